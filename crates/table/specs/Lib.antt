@@ -1,0 +1,6 @@
+pub mod Keys
+pub mod Items
+pub mod Operations
+pub mod Decisions
+pub mod Plain
+pub mod Histories

@@ -1,0 +1,17 @@
+//! Keys, items and operations of a cache, and the plain table that gives every operation its meaning.
+#![tactic(auto)]
+
+mod decisions;
+mod items;
+mod keys;
+mod operations;
+mod plain;
+
+pub use decisions::decide;
+pub use items::{Item, LIMIT};
+pub use keys::{Key, is_key};
+pub use operations::{Call, Change, Op, Reply};
+pub use plain::{Table, TableFault};
+
+#[cfg(test)]
+mod tests;

@@ -1,0 +1,112 @@
+//! The plain table: one map of items, and the count of its operations.
+ghost use Rattle.std.specs.Prelude.{◌≡◌, ◌↔◌, ◌-◌, ◌^◌, IfOk, OnOk, OnErr, IsErrOf, IsTrue};
+ghost use Rattle.std.specs.Option.{option_copied};
+ghost use Rattle.table.specs.declared.plain.TableFault.TheVariants.{Memory};
+ghost use Rattle.table.specs.Operations.{Fits, is_update};
+ghost use Rattle.table.specs.Plain.{opening, apply, changed, items_of, item_at};
+
+use crate::{Change, Item, Key, Op, Reply, decide};
+use std::alloc::{AllocError, AllocFailed, Global};
+use std::collections::BTreeMap;
+use std::marker::Model;
+use thiserror::Error;
+
+/// Why a table refuses a call.
+#[derive(Clone, Copy, Debug, PartialEq, Eq, Error)]
+pub enum TableFault {
+    #[error("out of memory")]
+    Memory,
+    #[error("all numbers are taken")]
+    Exhausted,
+}
+
+impl From<AllocError> for TableFault {
+    ghost from_gives = { λ _ e. e ≡ Memory };
+
+    fn from(_e: AllocError) -> TableFault {
+        TableFault::Memory
+    }
+}
+
+impl<T: Drop> From<AllocFailed<T>> for TableFault {
+    ghost from_gives = { λ _ e. e ≡ Memory };
+
+    fn from(_e: AllocFailed<T>) -> TableFault {
+        TableFault::Memory
+    }
+}
+
+/// One map from keys to items, and a count of the operations so far that take a number.
+/// It is the reference: whatever a chain of servers answers is what one such table would.
+#[derive(Drop)]
+pub struct Table {
+    items: BTreeMap<Key, Item>,
+    count: u64,
+}
+
+impl Model for Table {
+    ghost use Rattle.table.specs.Plain.{PlainTable, coded_table, items_of};
+
+    ghost Value = { PlainTable };
+
+    ghost coded = { coded_table };
+
+    ghost view = { λ t. record { items = items_of t.items.entries; count = t.count } };
+}
+
+impl Table {
+    /// The empty table, with count 0. It allocates nothing.
+    pub fn new(alloc: Global) -> Table
+        ensures { result ≡ opening }
+    {
+        Table {
+            items: BTreeMap::new(alloc),
+            count: 0,
+        }
+    }
+
+    /// Carries out one operation on one key, in time logarithmic in the number of keys.
+    pub fn call(&mut self, key: &Key, op: &Op) -> Result<Reply, TableFault>
+        requires fits { Fits op.now }
+        ensures reply { IfOk result (λ reply. reply ≡ (apply self.old key.now op.now).0) }
+        ensures table { OnOk result (self.new ≡ (apply self.old key.now op.now).1) }
+        // Only an update takes a number, and only after 2^64 - 1 of them none is left.
+        ensures exhausted { IsErrOf result TableFault.Exhausted ↔ (IsTrue (is_update op.now) × (self.old.count ≡ 2 ^ 64 - 1)) }
+        ensures unchanged { OnErr result (self.new ≡ self.old) }
+    {
+        if let Op::Read = op {
+            let (reply, _) = decide(find(&self.items, key), op, 1)?;
+            return Ok(reply);
+        }
+        if self.count == u64::MAX {
+            return Err(TableFault::Exhausted);
+        }
+        let number = self.count + 1;
+        let (reply, change) = decide(find(&self.items, key), op, number)?;
+        carry_out(&mut self.items, key, change)?;
+        self.count = number;
+        Ok(reply)
+    }
+}
+
+fn find<'a>(items: &'a BTreeMap<Key, Item>, key: &Key) -> Option<&'a Item>
+    ensures { option_copied result ≡ item_at (items_of items.now.entries) key.now }
+{
+    items.get(key)
+}
+
+fn carry_out(items: &mut BTreeMap<Key, Item>, key: &Key, change: Change) -> Result<(), AllocError>
+    ensures ok { OnOk result (items_of items.new.entries ≡ changed (items_of items.old.entries) key.now change) }
+    ensures err { OnErr result (items.new.entries ≡ items.old.entries) }
+{
+    match change {
+        Change::Keep => {}
+        Change::Put(item) => {
+            items.insert(key.clone()?, item)?;
+        }
+        Change::Drop => {
+            items.remove(key);
+        }
+    }
+    Ok(())
+}
