@@ -1,8 +1,8 @@
 //! The plain table: one map of items, and the count of its operations.
-ghost use Rattle.std.specs.Prelude.{◌≡◌, ◌↔◌, ◌-◌, ◌^◌, IfOk, OnOk, OnErr, IsErrOf, IsTrue};
+ghost use Rattle.std.specs.Prelude.{◌≡◌, ◌↔◌, ◌-◌, ◌^◌, IfOk, OnOk, OnErr, IsErrOf, IsTrue, not};
 ghost use Rattle.std.specs.Option.{option_copied};
 ghost use Rattle.table.specs.declared.plain.TableFault.TheVariants.{Memory};
-ghost use Rattle.table.specs.Operations.{Fits, is_update};
+ghost use Rattle.table.specs.Operations.{Fits, is_update, is_value};
 ghost use Rattle.table.specs.Plain.{opening, apply, changed, items_of, item_at};
 
 use crate::{Change, Item, Key, Op, Reply, decide};
@@ -70,6 +70,8 @@ impl Table {
         requires fits { Fits op.now }
         ensures reply { IfOk result (λ reply. reply ≡ (apply self.old key.now op.now).0) }
         ensures table { OnOk result (self.new ≡ (apply self.old key.now op.now).1) }
+        // An item is shown exactly to a read.
+        ensures kind { IfOk result (λ reply. is_value reply ≡ not (is_update op.now)) }
         // Only an update takes a number, and only after 2^64 - 1 of them none is left.
         ensures exhausted { IsErrOf result TableFault.Exhausted ↔ (IsTrue (is_update op.now) × (self.old.count ≡ 2 ^ 64 - 1)) }
         ensures unchanged { OnErr result (self.new ≡ self.old) }

@@ -1,0 +1,11 @@
+pub mod FieldLaws
+pub mod First
+pub mod GrammarBlocks
+pub mod GrammarFields
+pub mod GrammarLaws
+pub mod GrammarLines
+pub mod GrammarWords
+pub mod KnownLaws
+pub mod LineLaws
+pub mod Numbers
+pub mod StreamLaws

@@ -1,0 +1,5 @@
+use Rattle.proto.proofs.GrammarLaws.{found_is_spelled}
+use Rattle.proto.proofs.laws.found_is_spelled.Goals as goal
+
+pub returns : goal.returns
+returns c = found_is_spelled

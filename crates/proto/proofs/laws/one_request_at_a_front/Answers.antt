@@ -1,0 +1,5 @@
+use Rattle.proto.proofs.GrammarLaws.{one_request_at_a_front}
+use Rattle.proto.proofs.laws.one_request_at_a_front.Goals as goal
+
+pub returns : goal.returns
+returns c = one_request_at_a_front

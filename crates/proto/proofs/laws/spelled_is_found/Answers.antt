@@ -1,0 +1,5 @@
+use Rattle.proto.proofs.GrammarLaws.{spelled_is_found}
+use Rattle.proto.proofs.laws.spelled_is_found.Goals as goal
+
+pub returns : goal.returns
+returns c = spelled_is_found

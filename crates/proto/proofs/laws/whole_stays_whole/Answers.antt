@@ -1,0 +1,5 @@
+use Rattle.proto.proofs.GrammarLaws.{whole_stays_whole}
+use Rattle.proto.proofs.laws.whole_stays_whole.Goals as goal
+
+pub returns : goal.returns
+returns c = whole_stays_whole

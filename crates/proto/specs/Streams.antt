@@ -1,0 +1,65 @@
+-- Whole streams: their requests, their turns and the texts of these; and the turns that a session has still to give.
+use Rattle.std.specs.Prelude.{◌≡◌, ℕ, zero, suc, Bool, List, [], ◌∷◌, ◌++◌, length, drop, Option, None, Some, MatchOption, if◌then◌else◌}
+use Rattle.std.specs.List.{flat_map}
+use Rattle.table.specs.declared.operations.Call.{Call}
+use Rattle.table.specs.declared.operations.Reply.{Reply}
+use Rattle.proto.specs.declared.requests.Request.{Request}
+use Rattle.proto.specs.Requests.{Front, front, is_last}
+use Rattle.proto.specs.Turns.{Turn, Faulty, Calls, looks, turns_of, fault_text, text}
+use Rattle.proto.specs.Sessions.{Held, fresh, fed, next_of}
+
+-- a request at the front, and those after it
+abbrev pub and_later : Front → (ℕ → List Request) → List Request
+and_later None later = []
+and_later (Some found) later = found.0 ∷ (if is_last found.0 then [] else later found.1)
+
+-- the requests that follow one another from the front, at most so many
+abbrev pub requests_upto : ℕ → List ℕ → List Request
+requests_upto zero bytes = []
+requests_upto (suc k) bytes = and_later (front bytes) (λ n. requests_upto k (drop n bytes))
+
+-- the requests of a stream: each takes a byte at least
+abbrev pub requests : List ℕ → List Request
+requests bytes = requests_upto (length bytes) bytes
+
+-- the turns of a stream
+abbrev pub turns : List ℕ → List Turn
+turns bytes = flat_map turns_of (requests bytes)
+
+-- what is written for turns, each call's text with its reply, up to the first call without one
+abbrev pub texts : List Turn → List Reply → List ℕ
+texts [] replies = []
+texts (Faulty fault ∷ ts) replies = fault_text fault ++ texts ts replies
+texts (Calls call form ∷ ts) [] = []
+texts (Calls call form ∷ ts) (reply ∷ replies) = text form reply ++ texts ts replies
+
+-- the turns that a session has still to give, if it is fed with no more
+abbrev pub to_come : Held → List Turn
+to_come h = if h.closed then [] else looks h.later h.unique ++ turns h.unread
+
+-- The session gives its first turn, and leaves the others: whatever bytes may follow, and however they will be cut.
+abbrev pub GivesFirst : Held → Option Turn → Held → Type 0
+GivesFirst h None left = (left ≡ h) × (to_come h ≡ [])
+GivesFirst h (Some turn) left = (more : List ℕ) → to_come (fed h more) ≡ turn ∷ to_come (fed left more)
+
+-- what may be done with a session whose calls are answered as they come
+pub data Action : Type 0 where
+  Feed : (piece : List ℕ) → Action
+  Next : Action
+
+-- the turn that was given stands in front of the others
+abbrev pub with_turn : Option Turn → List Turn → List Turn
+with_turn None turns = turns
+with_turn (Some turn) turns = turn ∷ turns
+
+-- the turns that a session gives along these actions, and what it holds in the end
+abbrev pub driven : Held → List Action → List Turn × Held
+driven h [] = ([], h)
+driven h (Feed piece ∷ actions) = driven (fed h piece) actions
+driven h (Next ∷ actions) = let given = next_of h in let rest = driven given.1 actions in (with_turn given.0 rest.0, rest.1)
+
+-- the bytes that these actions feed, as one stream
+abbrev pub stream_of : List Action → List ℕ
+stream_of [] = []
+stream_of (Feed piece ∷ actions) = piece ++ stream_of actions
+stream_of (Next ∷ actions) = stream_of actions

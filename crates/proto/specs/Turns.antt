@@ -1,0 +1,88 @@
+-- Turns: what a request asks of the table, one call after another, and what is written for each.
+use Rattle.std.specs.Prelude.{ℕ, Bool, true, false, List, [], ◌∷◌, ◌++◌, Option, None, Some, if◌then◌else◌, decimal, length, codes}
+use Rattle.table.specs.declared.items.Item.{Item}
+use Rattle.table.specs.declared.operations.Call.{Call}
+use Rattle.table.specs.declared.operations.Op.TheVariants.{Read}
+use Rattle.table.specs.declared.operations.Reply.{Reply}
+use Rattle.table.specs.declared.operations.Reply.TheVariants.{Stored, Value}
+use Rattle.proto.specs.Words.{space, crlf}
+use Rattle.proto.specs.declared.requests.Fault.{Fault}
+use Rattle.proto.specs.declared.requests.Fault.TheVariants.{Command, Format, DataChunk, TooLarge, LineTooLong, Expiry}
+use Rattle.proto.specs.declared.requests.Request.{Request}
+use Rattle.proto.specs.declared.requests.Request.TheVariants.{Store, Get, Bad}
+use Rattle.proto.specs.declared.texts.Look.{Look}
+use Rattle.proto.specs.declared.texts.Form.{Form}
+use Rattle.proto.specs.declared.texts.Form.TheVariants.{Status, Show}
+
+-- A turn of a stream: a fault, or a call with the form of its answer.
+pub data Turn : Type 0 where
+  Faulty : (fault : Fault) → Turn
+  Calls : (call : Call) (form : Form) → Turn
+
+-- the call that a turn opens
+abbrev pub call_of : Option Turn → Option Call
+call_of None = None
+call_of (Some (Faulty fault)) = None
+call_of (Some (Calls call form)) = Some call
+
+-- whether no key is left
+abbrev pub is_last_of : List (List ℕ) → Bool
+is_last_of [] = true
+is_last_of (key ∷ keys) = false
+
+-- a read of one key of a get, before these keys
+abbrev pub look : List ℕ → Bool → List (List ℕ) → Turn
+look key unique later = Calls (record { key = key; op = Read }) (Show (record { key = key; unique = unique; last = is_last_of later }))
+
+-- one read for each key, in order
+abbrev pub looks : List (List ℕ) → Bool → List Turn
+looks [] unique = []
+looks (key ∷ keys) unique = look key unique keys ∷ looks keys unique
+
+-- the turns of a request
+abbrev pub turns_of : Request → List Turn
+turns_of (Store key op) = Calls (record { key = key; op = op }) Status ∷ []
+turns_of (Get keys unique) = looks keys unique
+turns_of (Bad fault) = Faulty fault ∷ []
+
+-- a fault's line (protocol.txt, "Error strings"; the texts after the first word are this project's)
+abbrev pub fault_text : Fault → List ℕ
+fault_text Command = codes "ERROR\r\n"
+fault_text Format = codes "CLIENT_ERROR bad command line format\r\n"
+fault_text DataChunk = codes "CLIENT_ERROR bad data chunk\r\n"
+fault_text TooLarge = codes "SERVER_ERROR object too large for cache\r\n"
+fault_text LineTooLong = codes "CLIENT_ERROR line too long\r\n"
+fault_text Expiry = codes "CLIENT_ERROR expiry is not supported\r\n"
+
+-- a number after a space
+abbrev pub number_text : ℕ → List ℕ
+number_text n = space ∷ decimal n
+
+-- the unique, where it is shown
+abbrev pub unique_text : Bool → ℕ → List ℕ
+unique_text unique n = if unique then number_text n else []
+
+-- VALUE <key> <flags> <bytes> [<unique>] (protocol.txt, "Retrieval command")
+abbrev pub value_line : List ℕ → Bool → Item → List ℕ
+value_line key unique item =
+    codes "VALUE " ++ key ++ number_text item.flags ++ number_text (length item.bytes) ++ unique_text unique item.unique ++ crlf
+
+-- the line of an item, its data, and CR LF
+abbrev pub value_text : List ℕ → Bool → Item → List ℕ
+value_text key unique item = value_line key unique item ++ item.bytes ++ crlf
+
+-- what is written for a read's item, or for none
+abbrev pub item_text : List ℕ → Bool → Option Item → List ℕ
+item_text key unique None = []
+item_text key unique (Some item) = value_text key unique item
+
+-- the end of a get, after its last key
+abbrev pub end_text : Bool → List ℕ
+end_text last = if last then codes "END\r\n" else []
+
+-- what is written for a reply, by the form of the answer
+abbrev pub text : Form → Reply → List ℕ
+text Status Stored = codes "STORED\r\n"
+text Status (Value item) = []
+text (Show look) Stored = []
+text (Show look) (Value item) = item_text look.key look.unique item ++ end_text look.last

@@ -1,0 +1,22 @@
+//! Laws of streams: a session gives the turns of its bytes, however they were cut.
+ghost use Rattle.std.specs.Prelude.{◌≡◌, ◌<◌, ◌++◌, List, Some, length};
+ghost use Rattle.proto.specs.declared.requests.Fault.{Fault};
+ghost use Rattle.proto.specs.Turns.{Faulty};
+ghost use Rattle.proto.specs.Sessions.{Held, fresh, next_of};
+ghost use Rattle.proto.specs.Streams.{Action, GivesFirst, driven, stream_of, to_come, turns};
+
+/// Each step of a session gives the first of the turns that are to come, and leaves the others, whatever bytes may follow.
+pub fn next_gives_first()
+    ensures { (h : Held) → GivesFirst h (next_of h).0 (next_of h).1 }
+{}
+
+/// A fault takes a byte at least.
+pub fn faults_take_bytes()
+    ensures { (h : Held) (fault : Fault) → (next_of h).0 ≡ Some (Faulty fault) → length (next_of h).1.unread < length h.unread }
+{}
+
+/// The turns that a session gave, and those that it has still to give, are those of all its bytes as one stream:
+/// they do not depend on how the stream was cut, nor on when the session was asked.
+pub fn any_cutting()
+    ensures { (actions : List Action) → (driven fresh actions).0 ++ to_come (driven fresh actions).1 ≡ turns (stream_of actions) }
+{}

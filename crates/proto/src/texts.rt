@@ -1,0 +1,116 @@
+//! Texts: what is written for faults and replies.
+ghost use Rattle.std.specs.Prelude.{◌≡◌, ◌+◌, ◌≤◌, ◌++◌, length, OnOk, OnErr};
+ghost use Rattle.proto.specs.Turns.{fault_text, text, end_text, value_text, value_line, unique_text, number_text};
+
+use crate::Fault;
+use bytes::BytesMut;
+use itoa::Buffer;
+use std::alloc::AllocError;
+use table::{Item, Key, Reply};
+
+/// How a read of one key is shown.
+#[derive(Debug, Drop)]
+pub struct Look {
+    pub key: Key,
+    /// Whether the item's unique is shown, as for `gets`.
+    pub unique: bool,
+    /// Whether it is the last key of its get, so that `END` follows.
+    pub last: bool,
+}
+
+/// The form in which a call is answered.
+#[derive(Debug, Drop)]
+pub enum Form {
+    /// One line that says how an update went.
+    Status,
+    /// The block of a key's item, if it has one.
+    Show(Look),
+}
+
+/// Writes a fault's line.
+pub fn write_fault(out: &mut BytesMut, fault: Fault) -> Result<(), AllocError>
+    ensures ok { OnOk result (out.new.items ≡ out.old.items ++ fault_text fault) }
+    ensures err { OnErr result (out.new.items ≡ out.old.items) }
+{
+    out.extend_from_slice(fault_line(fault))
+}
+
+fn fault_line(fault: Fault) -> &'static [u8]
+    ensures { result.now ≡ fault_text fault }
+{
+    match fault {
+        Fault::Command => b"ERROR\r\n",
+        Fault::Format => b"CLIENT_ERROR bad command line format\r\n",
+        Fault::DataChunk => b"CLIENT_ERROR bad data chunk\r\n",
+        Fault::TooLarge => b"SERVER_ERROR object too large for cache\r\n",
+        Fault::LineTooLong => b"CLIENT_ERROR line too long\r\n",
+        Fault::Expiry => b"CLIENT_ERROR expiry is not supported\r\n",
+    }
+}
+
+/// Writes what an answered call shows, straight to the output.
+pub fn write_reply(out: &mut BytesMut, form: &Form, reply: &Reply) -> Result<(), AllocError>
+    ensures ok { OnOk result (out.new.items ≡ out.old.items ++ text form.now reply.now) }
+    ensures err { OnErr result (out.new.items ≡ out.old.items) }
+{
+    match (form, reply) {
+        (Form::Status, Reply::Stored) => out.extend_from_slice(b"STORED\r\n"),
+        (Form::Show(look), Reply::Value(Some(item))) => write_value(out, look, item),
+        (Form::Show(look), Reply::Value(None)) => out.extend_from_slice(end_line(look.last)),
+        _ => Ok(()),
+    }
+}
+
+fn write_value(out: &mut BytesMut, look: &Look, item: &Item) -> Result<(), AllocError>
+    ensures ok { OnOk result (out.new.items ≡ out.old.items ++ (value_text look.now.key look.now.unique item.now ++ end_text look.now.last)) }
+    ensures err { OnErr result (out.new.items ≡ out.old.items) }
+{
+    let key = look.key.bytes();
+    let data = item.bytes.as_slice();
+    out.reserve(key.len() + data.len() + 160)?;
+    put_value_line(out, key, look.unique, item);
+    out.extend_reserved(data);
+    out.extend_reserved(b"\r\n");
+    out.extend_reserved(end_line(look.last));
+    Ok(())
+}
+
+// The line before an item's data. There is room for it, so that nothing can be refused halfway.
+fn put_value_line(out: &mut BytesMut, key: &[u8], unique: bool, item: &Item)
+    requires room { length key.now + 131 ≤ out.old.spare }
+    ensures text { out.new.items ≡ out.old.items ++ value_line key.now unique item.now }
+    ensures room { out.old.spare ≤ out.new.spare + length key.now + 131 }
+{
+    out.extend_reserved(b"VALUE ");
+    out.extend_reserved(key);
+    put_number(out, u64::from(item.flags));
+    put_number(out, item.bytes.len() as u64);
+    put_unique(out, unique, item.unique);
+    out.extend_reserved(b"\r\n");
+}
+
+fn put_unique(out: &mut BytesMut, unique: bool, n: u64)
+    requires room { 41 ≤ out.old.spare }
+    ensures text { out.new.items ≡ out.old.items ++ unique_text unique n }
+    ensures room { out.old.spare ≤ out.new.spare + 41 }
+{
+    if unique {
+        put_number(out, n);
+    }
+}
+
+// A number after a space.
+fn put_number(out: &mut BytesMut, n: u64)
+    requires room { 41 ≤ out.old.spare }
+    ensures text { out.new.items ≡ out.old.items ++ number_text n }
+    ensures room { out.old.spare ≤ out.new.spare + 41 }
+{
+    out.extend_reserved(b" ");
+    out.extend_reserved(Buffer::new().format(n).as_bytes());
+}
+
+fn end_line(last: bool) -> &'static [u8]
+    ensures { result.now ≡ end_text last }
+{
+    if last { b"END\r\n" } else { b"" }
+}
