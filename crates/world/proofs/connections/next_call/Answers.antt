@@ -1,0 +1,18 @@
+use Rattle.std.proofs.Common.{◌≡◌, ◌∙◌, sym}
+use Rattle.proto.specs.declared.sessions.Step.TheVariants.{Emit}
+use Rattle.proto.specs.Sessions.{next_of, step_of}
+use Rattle.world.proofs.FaultLaws.{passed_step, shorter_step}
+use Rattle.world.proofs.connections.next_call.Goals as goal
+
+pub passing-smaller : goal.passing-smaller
+passing-smaller c =
+    let fault : Emit ≡ step_of c.passing.session.closed (next_of c.passing.session).0 = sym c.in-Emit.is ∙ c.in_ok-key.ensures.step in
+    shorter_step c.faults_take_bytes.ensures c.passing.session c.next.new.self fault c.in_ok-key.ensures.left
+
+pub passing-preserved : goal.passing-preserved
+passing-preserved c =
+    let fault : Emit ≡ step_of c.passing.session.closed (next_of c.passing.session).0 = sym c.in-Emit.is ∙ c.in_ok-key.ensures.step in
+    record {
+      same = passed_step c.faults_take_bytes.ensures c.passing.session c.next.new.self fault c.in_ok-key.ensures.left ∙ c.passing.invariant.same;
+      idle = rw c.in-Emit.is at c.in_ok-key.ensures.opens;
+    }

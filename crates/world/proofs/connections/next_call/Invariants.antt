@@ -1,0 +1,13 @@
+use Rattle.std.proofs.Common.{◌≡◌, length, None}
+use Rattle.world.specs.Connections.{past_faults}
+use Rattle.world.proofs.connections.next_call.Given as goal
+
+-- what stands behind the faults that are left is what stood behind all of them
+abbrev pub invariant-passing : goal.invariant-passing
+invariant-passing l = record {
+  same : past_faults l.session ≡ past_faults l.initial.session;
+  idle : l.session.asked ≡ None;
+}
+
+abbrev pub decreases-passing : goal.decreases-passing
+decreases-passing l = length l.session.unread

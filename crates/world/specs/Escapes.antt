@@ -1,0 +1,67 @@
+-- Escapes: any bytes as printable text, and back.
+use Rattle.std.specs.Prelude.{ℕ, zero, suc, ◌+◌, ◌-◌, ◌*◌, ◌/◌, ◌%◌, Bool, ◌&&◌, nat_le, nat_lt, ◌==◌, List, [], ◌∷◌, length, Option, None, Some, option_map, option_and_then, if◌then◌else◌, codes}
+use Rattle.std.specs.Char.{digit_char}
+
+-- the text that spells a byte
+abbrev pub escape : ℕ → List ℕ
+escape b =
+    if b == 92 then codes "\\\\"
+    else if b == 13 then codes "\\r"
+    else if b == 10 then codes "\\n"
+    else if nat_le 32 b && nat_le b 126 then b ∷ []
+    else 92 ∷ 120 ∷ digit_char (b / 16) ∷ digit_char (b % 16) ∷ []
+
+-- a lower case hexadecimal digit
+abbrev pub hex_digit : ℕ → Option ℕ
+hex_digit c =
+    if nat_le 48 c && nat_le c 57 then Some (c - 48)
+    else if nat_le 97 c && nat_le c 102 then Some (c - 97 + 10)
+    else None
+
+-- the byte that two such digits spell, and what stands behind them
+abbrev pub hex_byte : List ℕ → Option (ℕ × List ℕ)
+hex_byte [] = None
+hex_byte (high ∷ []) = None
+hex_byte (high ∷ low ∷ later) = option_and_then (λ h. option_map (λ l. (h * 16 + l, later)) (hex_digit low)) (hex_digit high)
+
+-- the byte that stands behind a backslash, and what stands behind it: `\\`, `\r`, `\n` or `\xHH`
+abbrev pub escaped_byte : List ℕ → Option (ℕ × List ℕ)
+escaped_byte [] = None
+escaped_byte (letter ∷ later) =
+    if letter == 92 then Some (92, later)
+    else if letter == 114 then Some (13, later)
+    else if letter == 110 then Some (10, later)
+    else if letter == 120 then hex_byte later
+    else None
+
+-- the byte that the front of a text spells, and what stands behind it: bytes 32 to 126 but the backslash stand for themselves
+abbrev pub front_byte : List ℕ → Option (ℕ × List ℕ)
+front_byte [] = None
+front_byte (first ∷ later) =
+    if first == 92 then escaped_byte later
+    else if nat_le 32 first && nat_le first 126 then Some (first, later)
+    else None
+
+-- a byte, and those that what stands behind it spells
+abbrev pub and_later : Option (ℕ × List ℕ) → (List ℕ → Option (List ℕ)) → Option (List ℕ)
+and_later None spelled = None
+and_later (Some front) spelled = option_map (λ bytes. front.0 ∷ bytes) (spelled front.1)
+
+-- the bytes that a text spells, at most so many
+abbrev pub unescape_upto : ℕ → List ℕ → Option (List ℕ)
+unescape_upto zero text = Some []
+unescape_upto (suc n) [] = Some []
+unescape_upto (suc n) (first ∷ later) = and_later (front_byte (first ∷ later)) (unescape_upto n)
+
+-- the bytes that a text spells: none has more than the text
+abbrev pub unescape : List ℕ → Option (List ℕ)
+unescape text = unescape_upto (length text) text
+
+-- the byte, where nothing stands behind it
+abbrev pub alone : Option (ℕ × List ℕ) → Option ℕ
+alone None = None
+alone (Some front) = if length front.1 == 0 then Some front.0 else None
+
+-- the one byte that a text spells
+abbrev pub one_byte : List ℕ → Option ℕ
+one_byte text = alone (front_byte text)

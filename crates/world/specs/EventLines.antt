@@ -1,0 +1,46 @@
+-- The lines of a schedule behind its head: one event each.
+use Rattle.std.specs.Prelude.{ℕ, List, [], ◌∷◌, replicate, Option, None, Some, option_map, option_and_then, if◌then◌else◌, codes, bytes_eq}
+use Rattle.world.specs.declared.events.Event.{Event}
+use Rattle.world.specs.declared.events.Event.TheVariants.{Piece, Begin, Work, Hand}
+use Rattle.world.specs.Cuts.{space, cut}
+use Rattle.world.specs.Numbers.{number_in}
+use Rattle.world.specs.Escapes.{unescape, one_byte}
+
+-- a connection: 0 to 999
+abbrev pub connection : List ℕ → Option ℕ
+connection field = number_in 0 1000 field
+
+-- the bytes that a TEXT spells, where it has a byte at least
+abbrev pub text_of : List ℕ → Option (List ℕ)
+text_of [] = None
+text_of (b ∷ bs) = unescape (b ∷ bs)
+
+-- `C TEXT` behind `piece`: the bytes of TEXT
+abbrev pub piece_line : List ℕ → Option Event
+piece_line rest = option_and_then (λ c. option_and_then (λ number. option_map (λ bytes. Piece number bytes) (text_of c.1)) (connection c.0)) (cut space rest)
+
+-- so many copies of one byte, where all three are there
+abbrev pub filled : Option ℕ → Option ℕ → Option ℕ → Option Event
+filled (Some number) (Some count) (Some byte) = Some (Piece number (replicate count byte))
+filled (Some number) (Some count) None = None
+filled (Some number) None byte = None
+filled None count byte = None
+
+-- `C N TEXT` behind `fill`: N copies of the one byte of TEXT, N from 1 to 2000000
+abbrev pub fill_line : List ℕ → Option Event
+fill_line rest = option_and_then (λ c. option_and_then (λ d. filled (connection c.0) (number_in 1 2000001 d.0) (one_byte d.1)) (cut space c.1)) (cut space rest)
+
+-- `C` behind `begin`, `work` or `hand`
+abbrev pub call_line : List ℕ → List ℕ → Option Event
+call_line word rest = option_and_then (λ number.
+    if bytes_eq word (codes "begin") then Some (Begin number)
+    else if bytes_eq word (codes "work") then Some (Work number)
+    else if bytes_eq word (codes "hand") then Some (Hand number)
+    else None) (connection rest)
+
+-- the event that a line spells: a word, a space, and what stands behind it
+abbrev pub event_line : List ℕ → Option Event
+event_line line = option_and_then (λ c.
+    if bytes_eq c.0 (codes "piece") then piece_line c.1
+    else if bytes_eq c.0 (codes "fill") then fill_line c.1
+    else call_line c.0 c.1) (cut space line)

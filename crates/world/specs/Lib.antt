@@ -1,0 +1,12 @@
+pub mod Cuts
+pub mod Numbers
+pub mod Escapes
+pub mod HeadLines
+pub mod EventLines
+pub mod Schedules
+pub mod Transcripts
+pub mod Printing
+pub mod Connections
+pub mod Lawful
+pub mod Worlds
+pub mod Quiet

@@ -1,0 +1,53 @@
+-- Schedules: what the lines of a text say, in turn, and the first of them that is bad.
+use Rattle.std.specs.Prelude.{◌≡◌, ℕ, ◌+◌, List, [], ◌∷◌, length, drop, Option, None, Some, Result, Ok, Err, ok_or}
+use Rattle.world.specs.declared.events.Event.{Event}
+use Rattle.world.specs.declared.schedules.ScheduleFault.{ScheduleFault}
+use Rattle.world.specs.declared.schedules.ScheduleFault.TheVariants.{Memory, BadLine}
+use Rattle.world.specs.Cuts.{lines, counted_from}
+use Rattle.world.specs.HeadLines.{servers_line, homes_line}
+use Rattle.world.specs.EventLines.{event_line}
+
+-- what a schedule says: the number of servers, the home of each connection, and the events
+pub record ScheduleShown : Type 0 where
+  pub count : ℕ
+  pub homes : List ℕ
+  pub events : List Event
+
+-- what the first of some numbered lines says; else the number of the bad line: its own, or `end` where there is none
+abbrev pub first_says : {X : Type 0} → (List ℕ → Option X) → ℕ → List (ℕ × List ℕ) → Result X ℕ
+first_says says end [] = Err end
+first_says says end (line ∷ later) = ok_or (says line.1) line.0
+
+-- an event in front of those of later lines, or the number of the line that spells none
+abbrev pub and_later : Option Event → ℕ → Result (List Event) ℕ → Result (List Event) ℕ
+and_later None n later = Err n
+and_later (Some event) n (Ok events) = Ok (event ∷ events)
+and_later (Some event) n (Err bad) = Err bad
+
+-- the events of some numbered lines, or the number of the first bad one
+abbrev pub events_of : List (ℕ × List ℕ) → Result (List Event) ℕ
+events_of [] = Ok []
+events_of (line ∷ later) = and_later (event_line line.1) line.0 (events_of later)
+
+-- what follows where nothing was bad
+abbrev pub and_then : {X Y : Type 0} → Result X ℕ → (X → Result Y ℕ) → Result Y ℕ
+and_then (Ok x) next = next x
+and_then (Err bad) next = Err bad
+
+-- the schedule of the lines that count: the first is `servers N`, the second `homes H ..`, each further line an event
+abbrev pub schedule_of_lines : ℕ → List (ℕ × List ℕ) → Result ScheduleShown ℕ
+schedule_of_lines end counted =
+    and_then (first_says servers_line end counted) (λ count.
+    and_then (first_says (homes_line count) end (drop 1 counted)) (λ homes.
+    and_then (events_of (drop 2 counted)) (λ events.
+    Ok (record { count = count; homes = homes; events = events }))))
+
+-- the schedule of a text, or the number of its first bad line, counting all lines from 1.
+-- Where a text ends before `servers` or `homes`, that is the number of its lines plus one
+abbrev pub schedule_of : List ℕ → Result ScheduleShown ℕ
+schedule_of text = schedule_of_lines (length (lines text) + 1) (counted_from 1 (lines text))
+
+-- the fault names the bad line; a want of memory says nothing of the text
+abbrev pub Names : {X : Type 0} → Result X ℕ → ScheduleFault → Type 0
+Names reading Memory = Unit {0}
+Names reading (BadLine n) = reading ≡ Err n

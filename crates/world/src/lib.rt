@@ -1,0 +1,21 @@
+//! The world: schedules of events, what they do, and what a run of them shows.
+#![tactic(auto)]
+
+mod connections;
+mod cuts;
+mod escapes;
+mod event_lines;
+mod events;
+mod head_lines;
+mod lines;
+mod numbers;
+mod printing;
+mod scenes;
+mod schedules;
+mod transcripts;
+
+pub use events::Event;
+pub use printing::print_transcript;
+pub use scenes::{SceneFault, run};
+pub use schedules::{Schedule, ScheduleFault, read_schedule};
+pub use transcripts::{CallTranscript, ConnectionTranscript, Transcript};
