@@ -1,5 +1,5 @@
 -- A block behind a line: which bytes it is, and what becomes of it.
-use Rattle.std.proofs.Common.{◌≡◌, ◌≢◌, ℕ, zero, suc, ◌+◌, ◌-◌, ◌<◌, ◌≤◌, Bool, true, false, cond, not, List, [], ◌∷◌, ◌++◌, length, take, drop, Option, None, Some, refl, ap, sym, ◌∙◌, subst, arith, nat_lt, length-append, length-take, length-drop, append_assoc, take_at, drop_at, drop-drop, take-add}
+use Rattle.std.proofs.Common.{◌≡◌, ◌≢◌, ℕ, ◌+◌, ◌-◌, ◌<◌, ◌≤◌, Bool, true, false, cond, not, List, ◌++◌, length, take, drop, None, Some, refl, ap, sym, ◌∙◌, subst, arith, nat_lt, length-append, length-take, length-drop, append_assoc, take_at, drop_at, take-add}
 use Rattle.std.specs.Prelude.{IsTrue}
 use Rattle.std.specs.List.{slice_range}
 use Rattle.std.specs.Str.{bytes_eq}
@@ -14,9 +14,8 @@ use Rattle.proto.specs.declared.requests.Request.TheVariants.{Store, Bad}
 use Rattle.proto.specs.declared.lines.Asked.TheVariants.{Behind}
 use Rattle.proto.specs.declared.lines.Block.{Block}
 use Rattle.proto.specs.declared.lines.Fate.{Fate}
-use Rattle.proto.specs.declared.lines.Fate.TheVariants.{Put, Refuse}
 use Rattle.proto.specs.Requests.{fate_of, finished, completed}
-use Rattle.proto.specs.Grammar.{IsLine, IsBlock, AreSet, Spells, set_word}
+use Rattle.proto.specs.Grammar.{IsBlock, AreSet, Spells}
 use Rattle.proto.proofs.GrammarWords.{IsBehind}
 
 -- what is made of a block: it is refused for its size first, then for its expiry time, then for its ends
@@ -84,7 +83,7 @@ block_at bytes block n inside h =
       is_line = h.is_line;
       are_set = subst (λ k. AreSet h.fields h.key h.flags h.exptime k) (sym count) h.are_set;
       two = length_range bytes (n + block.size) 2 inside;
-      spelled = three_parts bytes n block.size
+      spelled = three_parts bytes n block.size;
     }
 
 finished_at : (bytes : List ℕ) (block : Block) (n : ℕ) → n + block.size + 2 ≤ length bytes → (h : IsBehind (take n bytes) block)

@@ -1,7 +1,7 @@
 -- What stands at the front of a stream, and what the grammar says of it.
-use Rattle.std.proofs.Common.{lit≤, ◌≡◌, ℕ, ◌+◌, ◌≤◌, ◌<◌, inl, inr, Bool, true, false, cond, List, [], ◌∷◌, ◌++◌, length, take, drop, Option, None, Some, refl, ap, sym, ◌∙◌, subst, arith, nat_le, length-append, length-take, append_assoc, take-append-drop, take_at}
+use Rattle.std.proofs.Common.{lit≤, ◌≡◌, ℕ, ◌+◌, ◌≤◌, inl, inr, Bool, true, false, cond, List, [], ◌∷◌, ◌++◌, length, take, drop, Option, None, Some, refl, ap, sym, ◌∙◌, subst, arith, nat_le, length-append, length-take, append_assoc, take-append-drop, take_at}
 use Rattle.std.specs.Prelude.{not, IsTrue, ◌==◌}
-use Rattle.std.specs.List.{list_all, join_with_byte}
+use Rattle.std.specs.List.{join_with_byte}
 use Rattle.std.proofs.lemmas.Bool.{and_parts, and_from, leb-true}
 use Rattle.std.proofs.lemmas.List.Folds.{list_all-append}
 use Rattle.table.specs.declared.operations.Op.TheVariants.{Read, Set}
@@ -11,14 +11,14 @@ use Rattle.proto.specs.declared.requests.Request.{Request}
 use Rattle.proto.specs.declared.requests.Request.TheVariants.{Store, Get, Bad}
 use Rattle.proto.specs.declared.lines.Asked.{Asked}
 use Rattle.proto.specs.declared.lines.Asked.TheVariants.{Whole, Behind}
-use Rattle.proto.specs.Requests.{fate_of, finished, by_word, by_line, by_end, by_asked, asked_at, completed, Front, front}
-use Rattle.proto.specs.Grammar.{has_no_lf, is_field, IsLine, IsBlock, IsBareLine, get_word, set_word, Spells}
-use Rattle.proto.proofs.GrammarLines.{FrontLine, line_at_first_lf, no_lf_in_front, asked_of_text, asked_of_long, by_cr, by_line_cr, by_line_bare}
+use Rattle.proto.specs.Requests.{fate_of, finished, by_word, by_line, by_end, by_asked, asked_at, Front, front}
+use Rattle.proto.specs.Grammar.{has_no_lf, IsLine, IsBlock, IsBareLine, get_word, set_word, Spells}
+use Rattle.proto.proofs.GrammarLines.{FrontLine, line_at_first_lf, none_by_first_lf, asked_of_text, asked_of_long, by_cr, by_line_cr, by_line_bare}
 use Rattle.proto.proofs.GrammarFields.{fields_of_joined, joined_fields, no_lf_in_joined, fields_are, some_field}
 use Rattle.proto.proofs.GrammarWords.{Asks, asks_by_word, by_get_word, by_set_word, by_other_word, get_of, get_misfit, set_of, set_misfit}
 use Rattle.proto.proofs.GrammarBlocks.{IsFound, completed_spelled, completed_again, finished_large, finished_expiry, finished_store, finished_chunk}
 
--- a text that has no LF before a CR has none with it
+-- a CR at the end of a text is no LF
 no_lf_before_cr : (t : List ℕ) → IsTrue (has_no_lf (t ++ cr ∷ [])) → IsTrue (has_no_lf t)
 no_lf_before_cr t h = (and_parts (has_no_lf t) (has_no_lf (cr ∷ [])) (sym (list_all-append (λ b. not (b == lf)) t (cr ∷ [])) ∙ h)).0
 
@@ -31,12 +31,12 @@ text_asks bytes text n h =
     let count : length (take n bytes) ≤ line_limit = let a = h.short in omega (arith, length-take n bytes) in
     elim (by_cr text) [
       | inl found ↦
-        let before = found.0 in
-        let single : IsTrue (has_no_lf before) = no_lf_before_cr before (subst (λ t. IsTrue (has_no_lf t)) found.1 h.single) in
-        let spelled : take n bytes ≡ join_with_byte space (fields_of before) ++ crlf =
-        h.text_is ∙ (ap (λ t. t ++ lf ∷ []) found.1 ∙ (append_assoc before (cr ∷ []) (lf ∷ []) ∙ ap (λ t. t ++ crlf) (sym (joined_fields before)))) in
-        subst (λ a. Asks a (take n bytes)) (sym (ap by_line found.1 ∙ by_line_cr before))
-        (asks_by_word (fields_of before) (take n bytes) (some_field before) (record { spelled = spelled; separate = fields_are before single; short = count }))
+          let before = found.0 in
+          let single : IsTrue (has_no_lf before) = no_lf_before_cr before (subst (λ t. IsTrue (has_no_lf t)) found.1 h.single) in
+          let spelled : take n bytes ≡ join_with_byte space (fields_of before) ++ crlf =
+          h.text_is ∙ (ap (λ t. t ++ lf ∷ []) found.1 ∙ (append_assoc before (cr ∷ []) (lf ∷ []) ∙ ap (λ t. t ++ crlf) (sym (joined_fields before)))) in
+          subst (λ a. Asks a (take n bytes)) (sym (ap by_line found.1 ∙ by_line_cr before))
+          (asks_by_word (fields_of before) (take n bytes) (some_field before) (record { spelled = spelled; separate = fields_are before single; short = count }))
       | inr bare ↦ subst (λ a. Asks a (take n bytes)) (sym bare.1) (inl (record { text = text; ends = h.text_is; single = h.single; bare = bare.0; short = count }))
     ]
 
@@ -50,6 +50,7 @@ some_limit : 1 ≤ line_limit
 unfolding line_limit
 some_limit = lit≤ tt
 
+-- by the place of the first LF
 asks_by_end : (bytes : List ℕ) (place : Option ℕ) (line : Asked × ℕ) → first_lf (take line_limit bytes) ≡ place → by_end line_limit bytes place ≡ Some line → AsksAt bytes line
 asks_by_end bytes (Some i) line e is =
     let same : (by_line (take i bytes), i + 1) ≡ line = cc in
@@ -62,8 +63,9 @@ asks_by_end bytes None line e is = by_length (nat_le line_limit (length bytes)) 
     by_length true long found =
         let same : (Whole (Bad LineTooLong), line_limit) ≡ line = cc in
         let enough : line_limit ≤ length bytes = leb-true line_limit (length bytes) long in
-        subst (AsksAt bytes) same (record { inside = enough; some = some_limit; asks = (omega (arith, length-take line_limit bytes), no_lf_in_front line_limit bytes e) })
+        subst (AsksAt bytes) same (record { inside = enough; some = some_limit; asks = (omega (arith, length-take line_limit bytes), none_by_first_lf (take line_limit bytes) e) })
 
+-- by what the line at the front asks for
 found_by_asked : (bytes : List ℕ) (asked : Option (Asked × ℕ)) (found : Request × ℕ) → asked_at bytes ≡ asked → by_asked bytes asked ≡ Some found → IsFound bytes found
 found_by_asked bytes None found e is = cc
 found_by_asked bytes (Some (Whole request, n)) found e is =
@@ -106,6 +108,7 @@ block_found key flags exptime block ends bytes more h =
     ap (by_asked (h.line ++ block ++ ends ++ more)) (ap asked_at (sym regrouped) ∙ asked) ∙ completed_again fate block ends h.line more h.two in
     subst (λ b. front (b ++ more) ≡ Some (finished fate block ends, length b)) (sym h.spelled) found
 
+-- a line feed with no CR before it
 bare_found : (bytes more : List ℕ) → IsBareLine bytes → front (bytes ++ more) ≡ Some (Bad Command, length bytes)
 bare_found bytes more h =
     let count : length bytes ≡ length h.text + 1 = ap length h.ends ∙ length-append h.text (lf ∷ []) in
@@ -114,7 +117,7 @@ bare_found bytes more h =
     ap (λ b. asked_at (b ++ more)) h.ends ∙ (asked_of_text line_limit h.text more h.single (omega arith) ∙ ap (λ a. Some (a, length h.text + 1)) (by_line_bare h.text h.bare)) in
     ap (by_asked (bytes ++ more)) asked ∙ ap (λ k. Some (Bad Command, k)) (sym count)
 
--- a block of which this becomes
+-- a block that becomes this request
 block_as : (key : List ℕ) (flags : ℕ) (exptime block ends bytes more : List ℕ) (request : Request) → IsBlock key flags exptime block ends bytes
     → finished (fate_of key flags exptime (length block)) block ends ≡ request → front (bytes ++ more) ≡ Some (request, length bytes)
 block_as key flags exptime block ends bytes more request h is = block_found key flags exptime block ends bytes more h ∙ ap (λ r. Some (r, length bytes)) is
@@ -125,13 +128,13 @@ spelled_is_found (Get keys unique) spelling more s = line_found (get_word unique
 spelled_is_found (Store key (Set flags block)) spelling more s = block_as key flags s.0 block crlf spelling more _ s.1 (finished_store key flags s.0 block s.2 s.3)
 spelled_is_found (Store key Read) spelling more s = absurd s
 spelled_is_found (Bad Command) spelling more s = elim s [
-    | inl bare ↦ bare_found spelling more bare
-    | inr other ↦ line_found other.0 other.1 spelling more (Bad Command) other.2 (by_other_word other.0 other.1 other.3)
-  ]
+  | inl bare ↦ bare_found spelling more bare
+  | inr other ↦ line_found other.0 other.1 spelling more (Bad Command) other.2 (by_other_word other.0 other.1 other.3)
+]
 spelled_is_found (Bad Format) spelling more s = elim s.1 [
-    | inl get ↦ line_found (get_word get.0) s.0 spelling more (Bad Format) get.1 (by_get_word get.0 s.0 ∙ get_misfit get.0 s.0 get.2)
-    | inr set ↦ line_found set_word s.0 spelling more (Bad Format) set.0 (by_set_word s.0 ∙ set_misfit s.0 set.1)
-  ]
+  | inl get ↦ line_found (get_word get.0) s.0 spelling more (Bad Format) get.1 (by_get_word get.0 s.0 ∙ get_misfit get.0 s.0 get.2)
+  | inr set ↦ line_found set_word s.0 spelling more (Bad Format) set.0 (by_set_word s.0 ∙ set_misfit s.0 set.1)
+]
 spelled_is_found (Bad TooLarge) spelling more s = block_as s.0 s.1 s.2 s.3 s.4 spelling more _ s.5 (finished_large s.0 s.1 s.2 s.3 s.4 s.6)
 spelled_is_found (Bad Expiry) spelling more s = block_as s.0 s.1 s.2 s.3 s.4 spelling more _ s.5 (finished_expiry s.0 s.1 s.2 s.3 s.4 s.6 s.7)
 spelled_is_found (Bad DataChunk) spelling more s = block_as s.0 s.1 s.2 s.3 s.4 spelling more _ s.5 (finished_chunk s.0 s.1 s.2 s.3 s.4 s.6 s.7 s.8)

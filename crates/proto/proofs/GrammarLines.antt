@@ -1,7 +1,7 @@
 -- The line at the front of a stream, by its first line feed.
-use Rattle.std.proofs.Common.{◌≡◌, ◌≢◌, ℕ, zero, suc, ◌+◌, ◌-◌, ◌<◌, ◌≤◌, ◌⊎◌, inl, inr, Bool, true, false, cond, List, [], ◌∷◌, ◌++◌, length, take, get_or, Option, None, Some, refl, ap, sym, ◌∙◌, arith, nat_lt, nat_le, length-append, length-take, append_assoc, take_at, get_or-take}
+use Rattle.std.proofs.Common.{◌≡◌, ◌≢◌, ℕ, zero, suc, ◌+◌, ◌-◌, ◌<◌, ◌≤◌, ◌⊎◌, inl, inr, Bool, true, false, cond, List, [], ◌∷◌, ◌++◌, length, take, get_or, None, Some, refl, ap, sym, ◌∙◌, arith, nat_lt, nat_le, length-append, length-take, append_assoc, take_at, get_or-take}
 use Rattle.std.specs.Prelude.{◌==◌, ◌&&◌, not, IsTrue, slice_index}
-use Rattle.std.specs.List.{list_all, position, prefix_len, position_or_len}
+use Rattle.std.specs.List.{list_all, prefix_len, position_or_len}
 use Rattle.std.proofs.lemmas.Bool.{and_parts, and_from, eqb-true, not_from_false, leb-true, le-leb, eq-eqb, cond-false}
 use Rattle.std.proofs.lemmas.Bool.Decides.{nat_tests}
 use Rattle.std.proofs.lemmas.List.{take_more, take_all, get_or_at}
@@ -41,6 +41,7 @@ all_below p t zero h each = refl
 all_below p [] (suc i) h each = refl
 all_below p (x ∷ t) (suc i) h each = and_from (p x) (list_all p (take i t)) (each 0 (omega arith)) (all_below p t i (omega arith) (λ k below. each (suc k) (omega arith)))
 
+-- the first LF stands behind a text without one
 first_lf_at : (t rest : List ℕ) → IsTrue (has_no_lf t) → first_lf (t ++ lf ∷ rest) ≡ Some (length t)
 first_lf_at t rest none =
     let place : position_or_len (λ b. b == lf) (t ++ lf ∷ rest) ≡ length t = prefix_up_to (λ b. not (b == lf)) t lf rest none refl in
@@ -53,7 +54,8 @@ first_lf_none t none =
     let past : nat_lt (length t) (length t) ≡ false = grind (arith, nat_tests) in
     rw (place, past) refl
 
-none_by_first_lf : (t : List ℕ) → first_lf t ≡ None → IsTrue (has_no_lf t)
+-- where no first LF is, there is none
+pub none_by_first_lf : (t : List ℕ) → first_lf t ≡ None → IsTrue (has_no_lf t)
 none_by_first_lf t e = by_test (nat_lt (position_or_len (λ b. b == lf) t) (length t)) refl e
   where
     by_test : (b : Bool) → nat_lt (position_or_len (λ b. b == lf) t) (length t) ≡ b → cond b (Some (position_or_len (λ b. b == lf) t)) None ≡ None → IsTrue (has_no_lf t)
@@ -84,14 +86,14 @@ asked_of_long most t more none long =
     let enough : nat_le most (length (t ++ more)) ≡ true = grind (arith, nat_tests, length-append t more) in
     ap (by_end most (t ++ more)) place ∙ rw enough refl
 
--- A line at the front: a text without LF, and its LF.
+-- A line of n bytes at the front: a text without LF, and its LF.
 pub record FrontLine (most : ℕ) (bytes : List ℕ) (text : List ℕ) (n : ℕ) : Type 0 where
   pub text_is : take n bytes ≡ text ++ lf ∷ []
   pub single : IsTrue (has_no_lf text)
-  pub count : length text + 1 ≡ n
   pub short : n ≤ most
   pub inside : n ≤ length bytes
 
+-- the line up to the first LF
 pub line_at_first_lf : (most : ℕ) (bytes : List ℕ) (i : ℕ) → first_lf (take most bytes) ≡ Some i → FrontLine most bytes (take i bytes) (i + 1)
 line_at_first_lf most bytes i e =
     let found = position-Some (λ b. b == lf) (take most bytes) i 0 e in
@@ -104,15 +106,11 @@ line_at_first_lf most bytes i e =
     record {
       text_is = take_more bytes i 0 inside ∙ ap (λ b. take i bytes ++ b ∷ []) is_lf;
       single = all_below (λ b. not (b == lf)) bytes i (omega arith) each;
-      count = omega (arith, length-take i bytes);
       short = omega arith;
-      inside = omega arith
+      inside = omega arith;
     }
 
--- without an LF in so many bytes
-pub no_lf_in_front : (most : ℕ) (bytes : List ℕ) → first_lf (take most bytes) ≡ None → IsTrue (has_no_lf (take most bytes))
-no_lf_in_front most bytes e = none_by_first_lf (take most bytes) e
-
+-- the test of `by_line`, where a CR stands at the end
 cr_at_end : (t : List ℕ) → nat_le 1 (length (t ++ cr ∷ [])) && slice_index (t ++ cr ∷ []) (length (t ++ cr ∷ []) - 1) == cr ≡ true
 cr_at_end t =
     let count : length (t ++ cr ∷ []) ≡ length t + 1 = length-append t (cr ∷ []) in
@@ -140,5 +138,6 @@ by_cr t = by_test (nat_le 1 (length t) && slice_index t (length t - 1) == cr) re
         inl (take (length t - 1) t, sym whole ∙ (take_more t (length t - 1) 0 (omega arith) ∙ ap (λ b. take (length t - 1) t ++ b ∷ []) last))
     by_test false e = inr (λ front is. let yes : nat_le 1 (length t) && slice_index t (length t - 1) == cr ≡ true = rw is (cr_at_end front) in cc, cond-false _ _ _ e)
 
+-- a text that doesn't asks for nothing known
 pub by_line_bare : (t : List ℕ) → ((front : List ℕ) → t ≢ front ++ cr ∷ []) → by_line t ≡ Whole (Bad Command)
 by_line_bare t bare = elim (by_cr t) [ inl found ↦ absurd (bare found.0 found.1) | inr other ↦ other.1 ]

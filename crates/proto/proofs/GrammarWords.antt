@@ -1,9 +1,9 @@
 -- What a line asks for, by its fields.
-use Rattle.std.proofs.Common.{◌≡◌, ◌≢◌, ℕ, zero, suc, ◌+◌, ◌-◌, ◌<◌, ◌≤◌, ◌⊎◌, inl, inr, Bool, true, false, cond, List, [], ◌∷◌, ◌++◌, length, Option, None, Some, refl, ap, sym, ◌∙◌, subst, arith, nat_le}
-use Rattle.std.specs.Prelude.{◌^◌, ◌&&◌, ◌||◌, not, IsTrue, is_some, unwrap_or, codes}
+use Rattle.std.proofs.Common.{◌≡◌, ℕ, ◌≤◌, ◌⊎◌, inl, inr, Bool, true, false, List, [], ◌∷◌, length, Option, None, Some, refl, ap, sym, ◌∙◌, subst, arith, nat_le}
+use Rattle.std.specs.Prelude.{◌^◌, ◌&&◌, IsTrue, is_some, unwrap_or}
 use Rattle.std.specs.List.{list_all}
 use Rattle.std.specs.Str.{bytes_eq}
-use Rattle.std.proofs.lemmas.Bool.{and_parts, and_from, or_parts, or_from, leb-true, le-leb, cond-true, cond-false, false_from_ne_true}
+use Rattle.std.proofs.lemmas.Bool.{and_parts, and_from, or_parts, or_from, leb-true, le-leb, cond-true, cond-false}
 use Rattle.std.proofs.lemmas.Slice.Eq.{bytes_eq-Decides}
 use Rattle.table.specs.Keys.{IsKey, is_key}
 use Rattle.proto.specs.Words.{number_of, is_exptime}
@@ -15,6 +15,7 @@ use Rattle.proto.specs.declared.lines.Block.{Block}
 use Rattle.proto.specs.Requests.{fate_of, block_of, set_fields, get_fields, by_word}
 use Rattle.proto.specs.Grammar.{IsLine, get_word, set_word, is_command, AreKeys, AreSet, Spells}
 
+-- what an option holds, if it holds something
 some_of : (o : Option ℕ) → is_some o ≡ true → o ≡ Some (unwrap_or o 0)
 some_of None h = cc
 some_of (Some n) h = refl
@@ -27,6 +28,7 @@ pub record AreSomeSet (fields : List (List ℕ)) : Type 0 where
   pub size : ℕ
   pub are : AreSet fields key flags exptime size
 
+-- four fields that fit
 by_four : (key f e s : List ℕ) (flags size : ℕ) → IsKey key → number_of (2 ^ 32) f ≡ Some flags → IsTrue (is_exptime e) → number_of (2 ^ 32) s ≡ Some size
     → set_fields (key ∷ f ∷ e ∷ s ∷ []) ≡ block_of key flags e size
 by_four key f e s flags size hk hf he hs = rw (hk, hf, he, hs) refl
@@ -49,7 +51,7 @@ set_cases (key ∷ f ∷ e ∷ s ∷ []) = by_test (is_key key && is_some (numbe
           flags = unwrap_or (number_of (2 ^ 32) f) 0;
           exptime = e;
           size = unwrap_or (number_of (2 ^ 32) s) 0;
-          are = record { flags_field = f; size_field = s; four = refl; key_is = first.0; flags_is = some_of _ first.1; exptime_is = third.1; size_is = some_of _ last.1 }
+          are = record { flags_field = f; size_field = s; four = refl; key_is = first.0; flags_is = some_of _ first.1; exptime_is = third.1; size_is = some_of _ last.1 };
         })
     by_test false h = inr (cond-false _ _ _ h)
 set_cases [] = inr refl
@@ -58,6 +60,7 @@ set_cases (a ∷ b ∷ []) = inr refl
 set_cases (a ∷ b ∷ c ∷ []) = inr refl
 set_cases (a ∷ b ∷ c ∷ d ∷ e ∷ fs) = inr refl
 
+-- fields that are no `set`'s have the wrong format, and no others have
 pub set_misfit : (fields : List (List ℕ)) → ((key : List ℕ) (flags : ℕ) (exptime : List ℕ) (size : ℕ) → AreSet fields key flags exptime size → ⊥) → set_fields fields ≡ Whole (Bad Format)
 set_misfit fields none = elim (set_cases fields) [ inl s ↦ absurd (none s.key s.flags s.exptime s.size s.are) | inr e ↦ e ]
 
@@ -76,6 +79,7 @@ get_cases unique fields = by_test (nat_le 1 (length fields) && list_all is_key f
     by_test true h = let parts = and_parts (nat_le 1 (length fields)) (list_all is_key fields) h in inl (record { some = leb-true 1 (length fields) parts.0; each = parts.1 })
     by_test false h = inr (cond-false _ _ _ h)
 
+-- fields that aren't keys have the wrong format, and no others have
 pub get_misfit : (unique : Bool) (fields : List (List ℕ)) → (AreKeys fields → ⊥) → get_fields unique fields ≡ Whole (Bad Format)
 get_misfit unique fields none = elim (get_cases unique fields) [ inl keys ↦ absurd (none keys) | inr e ↦ e ]
 
@@ -96,6 +100,7 @@ by_other_word word fields h =
     let first = or_parts (bytes_eq word (get_word false)) (bytes_eq word (get_word true)) last.0 in
     cond-false _ _ _ first.0 ∙ (cond-false _ _ _ first.1 ∙ cond-false _ _ _ last.1)
 
+-- a word is one of the commands, or none
 word_cases : (word : List ℕ) → ((unique : Bool) × (word ≡ get_word unique)) ⊎ ((word ≡ set_word) ⊎ (is_command word ≡ false))
 word_cases word = by_tests (bytes_eq word (get_word false)) (bytes_eq word (get_word true)) (bytes_eq word set_word) refl refl refl
   where
@@ -123,21 +128,21 @@ Asks (Behind block) bytes = IsBehind bytes block
 
 asks_get : (unique : Bool) (fields : List (List ℕ)) (bytes : List ℕ) → IsLine (get_word unique ∷ fields) bytes → Asks (get_fields unique fields) bytes
 asks_get unique fields bytes line = elim (get_cases unique fields) [
-    | inl keys ↦ subst (λ a. Asks a bytes) (sym (get_of unique fields keys)) (line, keys)
-    | inr e ↦ subst (λ a. Asks a bytes) (sym e) (fields, inl (unique, line, no_keys unique fields e))
-  ]
+  | inl keys ↦ subst (λ a. Asks a bytes) (sym (get_of unique fields keys)) (line, keys)
+  | inr e ↦ subst (λ a. Asks a bytes) (sym e) (fields, inl (unique, line, no_keys unique fields e))
+]
 
 asks_set : (fields : List (List ℕ)) (bytes : List ℕ) → IsLine (set_word ∷ fields) bytes → Asks (set_fields fields) bytes
 asks_set fields bytes line = elim (set_cases fields) [
-    | inl s ↦ subst (λ a. Asks a bytes) (sym (set_of fields s.key s.flags s.exptime s.size s.are)) (record { fields = fields; key = s.key; flags = s.flags; exptime = s.exptime; is_line = line; are_set = s.are; fate_is = refl })
-    | inr e ↦ subst (λ a. Asks a bytes) (sym e) (fields, inr (line, no_set fields e))
-  ]
+  | inl s ↦ subst (λ a. Asks a bytes) (sym (set_of fields s.key s.flags s.exptime s.size s.are)) (record { fields = fields; key = s.key; flags = s.flags; exptime = s.exptime; is_line = line; are_set = s.are; fate_is = refl })
+  | inr e ↦ subst (λ a. Asks a bytes) (sym e) (fields, inr (line, no_set fields e))
+]
 
 -- a line asks for what its fields ask for
 pub asks_by_word : (fields : List (List ℕ)) (bytes : List ℕ) → 1 ≤ length fields → IsLine fields bytes → Asks (by_word fields) bytes
 asks_by_word [] bytes some line = absurd (omega arith)
 asks_by_word (word ∷ fields) bytes some line = elim (word_cases word) [
-    | inl get ↦ subst (λ w. Asks (by_word (w ∷ fields)) bytes) (sym get.1) (subst (λ a. Asks a bytes) (sym (by_get_word get.0 fields)) (asks_get get.0 fields bytes (subst (λ w. IsLine (w ∷ fields) bytes) get.1 line)))
-    | inr (inl set) ↦ subst (λ w. Asks (by_word (w ∷ fields)) bytes) (sym set) (asks_set fields bytes (subst (λ w. IsLine (w ∷ fields) bytes) set line))
-    | inr (inr other) ↦ subst (λ a. Asks a bytes) (sym (by_other_word word fields other)) (inr (word, fields, line, other))
-  ]
+  | inl get ↦ subst (λ w. Asks (by_word (w ∷ fields)) bytes) (sym get.1) (subst (λ a. Asks a bytes) (sym (by_get_word get.0 fields)) (asks_get get.0 fields bytes (subst (λ w. IsLine (w ∷ fields) bytes) get.1 line)))
+  | inr (inl set) ↦ subst (λ w. Asks (by_word (w ∷ fields)) bytes) (sym set) (asks_set fields bytes (subst (λ w. IsLine (w ∷ fields) bytes) set line))
+  | inr (inr other) ↦ subst (λ a. Asks a bytes) (sym (by_other_word word fields other)) (inr (word, fields, line, other))
+]

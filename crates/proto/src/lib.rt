@@ -15,3 +15,6 @@ pub use requests::{Fault, Keys, Request};
 pub use sessions::{ProtoFault, Session, Step};
 pub use streams::{any_cutting, faults_take_bytes, next_gives_first};
 pub use texts::{Form, Look};
+
+#[cfg(test)]
+mod tests;

@@ -55,36 +55,58 @@ fn data_may_have_one_mebibyte(rt: HostRuntime) -> Result<(), Fail> {
     Ok(())
 }
 
-#[test]
-fn a_set_is_decided_whatever_is_there(rt: HostRuntime) -> Result<(), Fail> {
-    let op = set(rt.alloc(), 5, b"xyz")?;
-    assert!(rt; op.fits());
-    let old = item(rt.alloc(), 1, b"old", 3)?;
-    for before in [None, Some(&old)] {
-        let (reply, change) = decide(before, &op, 7)?;
-        assert!(rt; reply == Reply::Stored);
-        assert!(rt; change == Change::Put(item(rt.alloc(), 5, b"xyz", 7)?));
+// What a reply shows of an item: its flags, its data's length and its unique.
+fn shown(reply: &Reply) -> Option<(u32, usize, u64)> {
+    match reply {
+        Reply::Value(Some(item)) => Some((item.flags, item.bytes.len(), item.unique)),
+        _ => None,
     }
-    let (reply, change) = decide(Some(&old), &Op::Read, 7)?;
-    assert!(rt; reply == Reply::Value(Some(item(rt.alloc(), 1, b"old", 3)?)));
-    assert!(rt; change == Change::Keep);
-    Ok(())
+}
+
+fn is_stored(reply: &Reply) -> bool {
+    matches!(reply, Reply::Stored)
+}
+
+// A call that fits, on the key of these bytes.
+fn call(alloc: Global, table: &mut Table, key: &[u8], op: &Op) -> Result<Reply, Fail> {
+    let key = Key::new(alloc, key)?.ok_or("a key")?;
+    if !op.fits() {
+        return Err("an operation that fits".into());
+    }
+    Ok(table.call(&key, op)?)
 }
 
 #[test]
 fn a_table_numbers_its_updates(rt: HostRuntime) -> Result<(), Fail> {
     let mut table = Table::new(rt.alloc());
-    let a = Key::new(rt.alloc(), b"a")?.ok_or("a key")?;
-    let b = Key::new(rt.alloc(), b"b")?.ok_or("a key")?;
     let op = set(rt.alloc(), 5, b"xyz")?;
-    assert!(rt; op.fits());
-    assert!(rt; table.call(&a, &Op::Read)? == Reply::Value(None));
-    assert!(rt; table.call(&a, &op)? == Reply::Stored);
-    assert!(rt; table.call(&b, &op)? == Reply::Stored);
-    let wanted = item(rt.alloc(), 5, b"xyz", 2)?;
-    assert!(rt; table.call(&b, &Op::Read)? == Reply::Value(Some(wanted)));
-    assert!(rt; table.call(&a, &op)? == Reply::Stored);
-    let wanted = item(rt.alloc(), 5, b"xyz", 3)?;
-    assert!(rt; table.call(&a, &Op::Read)? == Reply::Value(Some(wanted)));
+    let empty = call(rt.alloc(), &mut table, b"a", &Op::Read)?;
+    assert!(rt; matches!(empty, Reply::Value(None)));
+    for (key, unique) in [(b"a", 1), (b"b", 2), (b"a", 3)] {
+        let reply = call(rt.alloc(), &mut table, key, &op)?;
+        assert!(rt; is_stored(&reply));
+        let reply = call(rt.alloc(), &mut table, key, &Op::Read)?;
+        assert_eq!(rt; shown(&reply), Some((5, 3, unique)));
+    }
     Ok(())
+}
+
+#[test]
+fn a_decision_shares_the_data(rt: HostRuntime) -> Result<(), Fail> {
+    let op = set(rt.alloc(), 5, b"xyz")?;
+    let item = item(rt.alloc(), 5, b"xyz", 7)?;
+    let (reply, change) = decided(&op, None, 7)?;
+    assert!(rt; is_stored(&reply));
+    assert!(rt; change == Change::Put(item.clone()?));
+    let (reply, change) = decided(&Op::Read, Some(&item), 8)?;
+    assert_eq!(rt; shown(&reply), Some((5, 3, 7)));
+    assert!(rt; change == Change::Keep);
+    Ok(())
+}
+
+fn decided(op: &Op, item: Option<&Item>, number: u64) -> Result<(Reply, Change), Fail> {
+    if !op.fits() || number == 0 {
+        return Err("an operation that fits".into());
+    }
+    Ok(decide(item, op, number)?)
 }

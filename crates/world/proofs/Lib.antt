@@ -4,3 +4,4 @@ pub mod Places
 pub mod Texts
 pub mod Digits
 pub mod Readings
+pub mod Spellings

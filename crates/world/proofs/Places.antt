@@ -1,5 +1,5 @@
 -- Bytes cut at the first place of a byte.
-use Rattle.std.proofs.Common.{cond, ◌≡◌, ℕ, zero, suc, ◌<◌, Bool, true, false, nat_eq, List, [], ◌∷◌, length, take, drop, get_or, map, Option, None, Some, option_map, refl, ap, sym, ◌∙◌, arith}
+use Rattle.std.proofs.Common.{cond, ◌≡◌, ℕ, zero, suc, ◌<◌, Bool, true, false, nat_eq, List, [], ◌∷◌, length, take, drop, get_or, Option, None, Some, option_map, refl, ap, arith}
 use Rattle.std.specs.Prelude.{MatchOption}
 use Rattle.std.specs.List.{onto_first}
 use Rattle.memchr.specs.Find.{IsFirstByte, is_byte}

@@ -1,5 +1,5 @@
 -- A text that is read byte by byte.
-use Rattle.std.proofs.Common.{◌≡◌, ℕ, zero, suc, ◌+◌, ◌-◌, ◌<◌, ◌≤◌, List, [], ◌∷◌, ◌++◌, length, Option, None, Some, option_map, refl, ap, sym, ◌∙◌, arith, append_assoc, append-nil}
+use Rattle.std.proofs.Common.{◌≡◌, ℕ, zero, suc, ◌<◌, List, [], ◌∷◌, ◌++◌, length, Option, None, Some, option_map, refl, ap, sym, arith, append_assoc, append-nil}
 use Rattle.world.specs.Escapes.{front_byte, and_later, unescape_upto, unescape}
 
 -- the bytes so far, and those of what is left

@@ -1,4 +1,4 @@
--- The text of a transcript.
+-- The text of a transcript (the format is this project's).
 use Rattle.std.specs.Prelude.{ℕ, ◌+◌, Bool, List, [], ◌∷◌, ◌++◌, length, is_some, count_by, flat_map, decimal, if◌then◌else◌, codes}
 use Rattle.world.specs.declared.transcripts.CallTranscript.{CallTranscript}
 use Rattle.world.specs.Cuts.{lf, parts}

@@ -19,3 +19,6 @@ pub use printing::print_transcript;
 pub use scenes::{SceneFault, run};
 pub use schedules::{Schedule, ScheduleFault, read_schedule};
 pub use transcripts::{CallTranscript, ConnectionTranscript, Transcript};
+
+#[cfg(test)]
+mod tests;

@@ -3,7 +3,7 @@ ghost use Rattle.std.specs.Prelude.{◌≡◌, ◌+◌, ℕ, IfErr, IfOk, OnOk, 
 ghost use Rattle.world.specs.declared.schedules.ScheduleFault.TheVariants.{Memory};
 ghost use Rattle.world.specs.EventLines.{event_line};
 ghost use Rattle.world.specs.HeadLines.{homes_line, servers_line};
-ghost use Rattle.world.specs.Schedules.{Names, events_of, first_says, schedule_of};
+ghost use Rattle.world.specs.Schedules.{Names, SpellsSchedule, events_of, first_says, schedule_of};
 
 use crate::Event;
 use crate::event_lines::event_line;
@@ -58,10 +58,12 @@ impl<T: Drop> From<AllocFailed<T>> for ScheduleFault {
     }
 }
 
-/// Reads a schedule from its text, in time linear in the text and in the bytes of its `fill` lines.
+/// Reads a schedule from its text (this project's format), in time linear in the text and in the
+/// bytes that its `fill` lines ask for. A text with a bad line gives `BadLine` or `Memory`.
 pub fn read_schedule(alloc: Global, text: &[u8]) -> Result<Schedule, ScheduleFault>
     ensures ok { IfOk result (λ schedule. schedule_of text.now ≡ Ok schedule) }
     ensures bad_line { IfErr result (Names (schedule_of text.now)) }
+    ensures spelled { IfOk result (SpellsSchedule text.now) }
 {
     let mut lines = Lines::new(text);
     let count = read_servers(&mut lines)?;

@@ -1,6 +1,6 @@
-use Rattle.std.proofs.Common.{◌≡◌, ◌+◌, ◌-◌, ◌<◌, ◌++◌, ◌∷◌, [], ℕ, suc, length, None, Some, arith, sym, ◌∙◌, ap, length-append}
+use Rattle.std.proofs.Common.{◌≡◌, ◌+◌, ◌-◌, ◌<◌, ◌++◌, ◌∷◌, [], length, arith, sym, ◌∙◌, length-append}
 use Rattle.std.proofs.lemmas.Bool.Decides.{nat_tests}
-use Rattle.world.proofs.Texts.{read_on-front, read_on-none, read_on-end, read_on-all}
+use Rattle.world.proofs.Texts.{read_on-front, read_on-none, read_on-end}
 use Rattle.world.proofs.escapes.unescape.Goals as goal
 
 pub returns-in_default : goal.returns-in_default

@@ -1,4 +1,4 @@
-use Rattle.std.proofs.Common.{◌≡◌, ◌+◌, ◌-◌, ◌≤◌, length, vec_len}
+use Rattle.std.proofs.Common.{◌≡◌, ◌+◌, ◌-◌, ◌≤◌, length}
 use Rattle.world.specs.Escapes.{unescape}
 use Rattle.world.proofs.Texts.{read_on}
 use Rattle.world.proofs.escapes.unescape.Given as goal
