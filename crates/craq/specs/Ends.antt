@@ -1,0 +1,26 @@
+-- How the counts of a source and a sink go on, and what a write that fails leaves.
+use Rattle.std.specs.Prelude.{ℕ, ◌+◌, ◌==◌, ◌&&◌, ◌||◌, ◌≤◌, nat_le, List, length, take, Bool, Result, Ok, Err, Option, if◌then◌else◌}
+use Rattle.std.specs.Io.KnownBytes.{Appends}
+
+-- none of the bytes of a slice that isn't empty
+abbrev pub is_none_of : ℕ → List ℕ → Bool
+is_none_of n bytes = n == 0 && nat_le 1 (length bytes)
+
+-- the failures of a sink after a write: one more where it answers an error, or takes no byte of a slice that isn't empty
+abbrev pub failures_after_write : {E : Type 0} → Result ℕ E → List ℕ → ℕ → ℕ
+failures_after_write (Ok n) bytes failures = if is_none_of n bytes then failures + 1 else failures
+failures_after_write (Err e) bytes failures = failures + 1
+
+-- the failures of a source after a read: one more where it answers an error
+abbrev pub failures_after_read : {E : Type 0} → Result ℕ E → ℕ → ℕ
+failures_after_read (Ok n) failures = failures
+failures_after_read (Err e) failures = failures + 1
+
+-- whether the input of a source has ended, after a read: it had, or the read gave nothing for a slice that isn't empty
+abbrev pub ended_after_read : {E : Type 0} → Result ℕ E → List ℕ → Bool → Bool
+ended_after_read (Ok n) bytes ended = ended || is_none_of n bytes
+ended_after_read (Err e) bytes ended = ended
+
+-- a beginning of the bytes was appended
+abbrev pub AppendsBeginning : Option (List ℕ) → Option (List ℕ) → List ℕ → Type 0
+AppendsBeginning old new bytes = (n : ℕ) × (n ≤ length bytes) × Appends old new (take n bytes)

@@ -1,0 +1,37 @@
+-- The faults of a scenario: their exit statuses, their lines, and the faults that they come from.
+use Rattle.std.specs.Prelude.{ℕ, List, ◌++◌, codes, decimal}
+use Rattle.craq.specs.declared.faults.ScenarioFault.{ScenarioFault}
+use Rattle.craq.specs.declared.faults.ScenarioFault.TheVariants.{Memory, Unreadable, BadLine, Run}
+use Rattle.craq.specs.declared.reading.ReadFault.{ReadFault}
+use Rattle.craq.specs.declared.reading.ReadFault.TheVariants as reading
+use Rattle.world.specs.declared.schedules.ScheduleFault.{ScheduleFault}
+use Rattle.world.specs.declared.schedules.ScheduleFault.TheVariants as schedules
+use Rattle.world.specs.declared.scenes.SceneFault.{SceneFault}
+use Rattle.world.specs.declared.scenes.SceneFault.TheVariants as scenes
+
+-- the exit status: 3 for want of memory, else 1
+abbrev pub status_of : ScenarioFault → ℕ
+status_of Memory = 3
+status_of Unreadable = 1
+status_of (BadLine number) = 1
+status_of Run = 1
+
+-- the line that tells the fault, with the name of the schedule's file
+abbrev pub line_of : List ℕ → ScenarioFault → List ℕ
+line_of name Memory = codes "craq: out of memory\n"
+line_of name Unreadable = codes "craq: cannot read " ++ name ++ codes "\n"
+line_of name (BadLine number) = codes "craq: line " ++ decimal number ++ codes ": bad schedule line\n"
+line_of name Run = codes "craq: run failed\n"
+
+abbrev pub of_reading : ReadFault → ScenarioFault
+of_reading reading.Memory = Memory
+of_reading reading.Read = Unreadable
+
+abbrev pub of_schedule : ScheduleFault → ScenarioFault
+of_schedule schedules.Memory = Memory
+of_schedule (schedules.BadLine number) = BadLine number
+
+abbrev pub of_scene : SceneFault → ScenarioFault
+of_scene scenes.Memory = Memory
+of_scene scenes.BadCount = Run
+of_scene scenes.BadHomes = Run

@@ -1,0 +1,5 @@
+pub mod Ends
+pub mod Words
+pub mod Commands
+pub mod Faults
+pub mod Scenarios

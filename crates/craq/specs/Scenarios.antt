@@ -1,0 +1,19 @@
+-- What a scenario shows of the schedule that it read.
+use Rattle.std.specs.Prelude.{◌≡◌, ◌⊎◌, ℕ, List, Option, Ok}
+use Rattle.std.specs.Io.KnownBytes.{Appends, Consumes}
+use Rattle.world.specs.Schedules.{ScheduleShown, schedule_of}
+use Rattle.world.specs.Worlds.{run_of}
+use Rattle.world.specs.Quiet.{transcript_of}
+use Rattle.world.specs.Printing.{transcript_text}
+
+-- done, a run fault, or want of memory
+abbrev pub IsScenarioStatus : ℕ → Type 0
+IsScenarioStatus n = (n ≡ 0) ⊎ ((n ≡ 1) ⊎ (n ≡ 3))
+
+-- the text is a schedule, and these bytes are the text of what its run shows
+abbrev pub Replays : List ℕ → List ℕ → Type 0
+Replays text shown = (s : ScheduleShown) × (schedule_of text ≡ Ok s) × (shown ≡ transcript_text (transcript_of (run_of s.homes s.events)))
+
+-- a schedule was read from the source, and the text of its transcript was written to the sink
+abbrev pub Shows : Option (List ℕ) → Option (List ℕ) → Option (List ℕ) → Option (List ℕ) → Type 0
+Shows given left held holds = (text : List ℕ) × (shown : List ℕ) × Replays text shown × Consumes given left text × Appends held holds shown

@@ -1,0 +1,81 @@
+//! The command `scenario`: a schedule in, its transcript out.
+ghost use Rattle.std.specs.Prelude.{◌≡◌, ◌≢◌, ◌<◌, OnOk, OnErr, IfOk, IfErr, IsErrOf, true};
+ghost use Rattle.std.specs.Io.KnownBytes.{Appends};
+ghost use Rattle.craq.specs.Ends.{AppendsBeginning};
+ghost use Rattle.craq.specs.Faults.{status_of, line_of};
+ghost use Rattle.craq.specs.Scenarios.{IsScenarioStatus, Replays, Shows};
+ghost use Rattle.craq.specs.declared.faults.ScenarioFault.{ScenarioFault};
+ghost use Rattle.craq.specs.declared.faults.ScenarioFault.TheVariants.{Unreadable, Run};
+
+use crate::faults::{DONE, FAILED, ScenarioFault};
+use crate::reading::read_to_end;
+use crate::sinks::Sink;
+use crate::sources::Source;
+use crate::writing::write_all;
+use std::alloc::Global;
+use world::{print_transcript, read_schedule, run};
+
+/// Replays the schedule that the source holds, prints the transcript to the sink, and answers the exit status.
+/// The line of a fault goes to `errors`.
+pub fn scenario<R: Source, W: Sink, X: Sink>(
+    alloc: Global,
+    name: &str,
+    source: &mut R,
+    sink: &mut W,
+    errors: &mut X,
+) -> u8
+    ensures status { IsScenarioStatus result }
+
+    // Done: all was read, and all was written.
+    ensures shown { result ≡ DONE → Shows (R.remaining source.old) (R.remaining source.new) (W.contents sink.old) (W.contents sink.new) }
+    ensures ended { result ≡ DONE → R.has_ended source.new ≡ true }
+    ensures read { result ≡ DONE → R.failures source.new ≡ R.failures source.old }
+    ensures written { result ≡ DONE → W.failures sink.new ≡ W.failures sink.old }
+    ensures silent { result ≡ DONE → errors.new ≡ errors.old }
+
+    // Else the status is that of a fault, which one line tells where the errors can be written.
+    ensures fault { result ≢ DONE → (fault : ScenarioFault) × (result ≡ status_of fault) × (X.failures errors.new ≡ X.failures errors.old → Appends (X.contents errors.old) (X.contents errors.new) (line_of name.now fault)) }
+    ensures unreadable { R.failures source.old < R.failures source.new → (result ≡ FAILED) × (X.failures errors.new ≡ X.failures errors.old → Appends (X.contents errors.old) (X.contents errors.new) (line_of name.now Unreadable)) }
+    ensures unwritten { W.failures sink.old < W.failures sink.new → (result ≡ FAILED) × (X.failures errors.new ≡ X.failures errors.old → Appends (X.contents errors.old) (X.contents errors.new) (line_of name.now Run)) }
+    ensures untouched { result ≢ DONE → W.failures sink.new ≡ W.failures sink.old → sink.new ≡ sink.old }
+{
+    match replay(alloc, source, sink) {
+        Ok(()) => DONE,
+        Err(fault) => {
+            let _ = fault.tell(name, errors);
+            fault.status()
+        }
+    }
+}
+
+fn replay<R: Source, W: Sink>(
+    alloc: Global,
+    source: &mut R,
+    sink: &mut W,
+) -> Result<(), ScenarioFault>
+    ensures shown { OnOk result (Shows (R.remaining source.old) (R.remaining source.new) (W.contents sink.old) (W.contents sink.new)) }
+    ensures ended { OnOk result (R.has_ended source.new ≡ true) }
+    ensures read { OnOk result (R.failures source.new ≡ R.failures source.old) }
+    ensures written { OnOk result (W.failures sink.new ≡ W.failures sink.old) }
+    ensures unreadable { R.failures source.old < R.failures source.new → IsErrOf result ScenarioFault.Unreadable }
+    ensures unwritten { W.failures sink.old < W.failures sink.new → IsErrOf result ScenarioFault.Run }
+    ensures untouched { OnErr result (W.failures sink.new ≡ W.failures sink.old → sink.new ≡ sink.old) }
+{
+    let schedule = read_to_end(alloc, source)?;
+    let transcript = replayed(alloc, schedule.as_slice())?;
+    write_all(sink, transcript.as_slice())?;
+    Ok(())
+}
+
+fn replayed(alloc: Global, text: &[u8]) -> Result<Vec<u8>, ScenarioFault>
+    ensures { IfOk result (λ shown. Replays text.now shown.items) }
+{
+    let schedule = read_schedule(alloc, text)?;
+    let transcript = run(
+        alloc,
+        schedule.count,
+        schedule.homes.as_slice(),
+        schedule.events.as_slice(),
+    )?;
+    Ok(print_transcript(alloc, &transcript)?)
+}

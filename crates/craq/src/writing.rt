@@ -1,0 +1,28 @@
+//! Writing all of a text to a sink.
+ghost use Rattle.std.specs.Prelude.{◌≡◌, ◌+◌, OnOk, OnErr};
+ghost use Rattle.std.specs.Io.KnownBytes.{Appends};
+ghost use Rattle.craq.specs.Ends.{AppendsBeginning};
+
+use crate::sinks::Sink;
+
+/// A sink that failed.
+#[derive(Clone, Copy, Debug, PartialEq, Eq)]
+pub struct WriteFault;
+
+/// Writes all of the bytes. After a fault a beginning of them was written.
+pub fn write_all<W: Sink>(sink: &mut W, bytes: &[u8]) -> Result<(), WriteFault>
+    ensures written { OnOk result (Appends (W.contents sink.old) (W.contents sink.new) bytes.now) }
+    ensures none_failed { OnOk result (W.failures sink.new ≡ W.failures sink.old) }
+    ensures begun { OnErr result (AppendsBeginning (W.contents sink.old) (W.contents sink.new) bytes.now) }
+    ensures failed { OnErr result (W.failures sink.new ≡ W.failures sink.old + 1) }
+{
+    let mut at = 0;
+    while at < bytes.len() {
+        match sink.write(&bytes[at..]) {
+            Ok(0) => return Err(WriteFault),
+            Ok(n) => at += n,
+            Err(_) => return Err(WriteFault),
+        }
+    }
+    Ok(())
+}
