@@ -266,21 +266,28 @@ fn a_run_of_set_then_gets(rt: HostRuntime) -> Result<(), Fail> {
     Ok(())
 }
 
-fn refusal(alloc: Global, count: usize, homes: &[usize]) -> Option<SceneFault> {
-    run(alloc, count, homes, &[]).err()
+// Why there is no run over these homes, where there is none.
+fn refusal(alloc: Global, count: usize, homes: &[usize]) -> Result<Option<SceneFault>, Fail> {
+    match run(alloc, count, homes, &[]) {
+        Ok(_) => Ok(None),
+        Err(SceneFault::Memory) => Err(SceneFault::Memory.into()),
+        Err(fault) => Ok(Some(fault)),
+    }
 }
 
 #[test]
 fn runs_of_no_world(rt: HostRuntime) -> Result<(), Fail> {
     let homes = vec![in rt.alloc(); 0; 65]?;
-    assert!(rt; refusal(rt.alloc(), 1, &homes[..64]).is_none());
-    assert!(rt; refusal(rt.alloc(), 1, &[]).is_none());
-    assert_eq!(rt;
-        refusal(rt.alloc(), 1, homes.as_slice()),
-        Some(SceneFault::BadHomes)
-    );
-    assert_eq!(rt; refusal(rt.alloc(), 1, &[1]), Some(SceneFault::BadHomes));
-    assert_eq!(rt; refusal(rt.alloc(), 0, &[]), Some(SceneFault::BadCount));
-    assert_eq!(rt; refusal(rt.alloc(), 17, &[17]), Some(SceneFault::BadCount));
+    let rows: [(usize, &[usize], Option<SceneFault>); 6] = [
+        (1, &homes[..64], None),
+        (1, &[], None),
+        (1, homes.as_slice(), Some(SceneFault::BadHomes)),
+        (1, &[1], Some(SceneFault::BadHomes)),
+        (0, &[], Some(SceneFault::BadCount)),
+        (17, &[17], Some(SceneFault::BadCount)),
+    ];
+    for (count, homes, wanted) in rows {
+        assert_eq!(rt; refusal(rt.alloc(), count, homes)?, wanted);
+    }
     Ok(())
 }
