@@ -1,10 +1,12 @@
 -- What a scenario shows of the schedule that it read.
-use Rattle.std.specs.Prelude.{◌≡◌, ◌⊎◌, ℕ, List, Option, Ok}
+use Rattle.std.specs.Prelude.{◌≡◌, ◌⊎◌, ℕ, List, Option, Ok, Err}
 use Rattle.std.specs.Io.KnownBytes.{Appends, Consumes}
 use Rattle.world.specs.Schedules.{ScheduleShown, schedule_of}
 use Rattle.world.specs.Worlds.{run_of}
 use Rattle.world.specs.Quiet.{transcript_of}
 use Rattle.world.specs.Printing.{transcript_text}
+use Rattle.craq.specs.declared.faults.ScenarioFault.{ScenarioFault}
+use Rattle.craq.specs.declared.faults.ScenarioFault.TheVariants.{Memory, Unreadable, BadLine, Run}
 
 -- done, a run fault, or want of memory
 abbrev pub IsScenarioStatus : ℕ → Type 0
@@ -17,3 +19,17 @@ Replays text shown = (s : ScheduleShown) × (schedule_of text ≡ Ok s) × (show
 -- a schedule was read from the source, and the text of its transcript was written to the sink
 abbrev pub Shows : Option (List ℕ) → Option (List ℕ) → Option (List ℕ) → Option (List ℕ) → Type 0
 Shows given left held holds = (text : List ℕ) × (shown : List ℕ) × Replays text shown × Consumes given left text × Appends held holds shown
+
+-- a fault that names a line names the text's first bad line
+abbrev pub NamesLine : List ℕ → ScenarioFault → Type 0
+NamesLine text Memory = Unit {0}
+NamesLine text Unreadable = Unit {0}
+NamesLine text (BadLine number) = schedule_of text ≡ Err number
+NamesLine text Run = Unit {0}
+
+-- the same of the text that was read from the source
+abbrev pub NamesLineOf : Option (List ℕ) → Option (List ℕ) → ScenarioFault → Type 0
+NamesLineOf given left Memory = Unit {0}
+NamesLineOf given left Unreadable = Unit {0}
+NamesLineOf given left (BadLine number) = (text : List ℕ) × Consumes given left text × (schedule_of text ≡ Err number)
+NamesLineOf given left Run = Unit {0}

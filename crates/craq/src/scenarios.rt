@@ -1,9 +1,8 @@
 //! The command `scenario`: a schedule in, its transcript out.
-ghost use Rattle.std.specs.Prelude.{◌≡◌, ◌≢◌, ◌<◌, OnOk, OnErr, IfOk, IfErr, IsErrOf, true};
+ghost use Rattle.std.specs.Prelude.{◌≡◌, ◌≢◌, ◌<◌, ◌↔◌, OnOk, OnErr, IfOk, IfErr, IsErrOf, true};
 ghost use Rattle.std.specs.Io.KnownBytes.{Appends};
-ghost use Rattle.craq.specs.Ends.{AppendsBeginning};
 ghost use Rattle.craq.specs.Faults.{status_of, line_of};
-ghost use Rattle.craq.specs.Scenarios.{IsScenarioStatus, Replays, Shows};
+ghost use Rattle.craq.specs.Scenarios.{IsScenarioStatus, NamesLine, NamesLineOf, Replays, Shows};
 ghost use Rattle.craq.specs.declared.faults.ScenarioFault.{ScenarioFault};
 ghost use Rattle.craq.specs.declared.faults.ScenarioFault.TheVariants.{Unreadable, Run};
 
@@ -34,7 +33,7 @@ pub fn scenario<R: Source, W: Sink, X: Sink>(
     ensures silent { result ≡ DONE → errors.new ≡ errors.old }
 
     // Else the status is that of a fault, which one line tells where the errors can be written.
-    ensures fault { result ≢ DONE → (fault : ScenarioFault) × (result ≡ status_of fault) × (X.failures errors.new ≡ X.failures errors.old → Appends (X.contents errors.old) (X.contents errors.new) (line_of name.now fault)) }
+    ensures fault { result ≢ DONE → (fault : ScenarioFault) × (result ≡ status_of fault) × (fault ≡ Unreadable → R.failures source.old < R.failures source.new) × NamesLineOf (R.remaining source.old) (R.remaining source.new) fault × (X.failures errors.new ≡ X.failures errors.old → Appends (X.contents errors.old) (X.contents errors.new) (line_of name.now fault)) }
     ensures unreadable { R.failures source.old < R.failures source.new → (result ≡ FAILED) × (X.failures errors.new ≡ X.failures errors.old → Appends (X.contents errors.old) (X.contents errors.new) (line_of name.now Unreadable)) }
     ensures unwritten { W.failures sink.old < W.failures sink.new → (result ≡ FAILED) × (X.failures errors.new ≡ X.failures errors.old → Appends (X.contents errors.old) (X.contents errors.new) (line_of name.now Run)) }
     ensures untouched { result ≢ DONE → W.failures sink.new ≡ W.failures sink.old → sink.new ≡ sink.old }
@@ -57,8 +56,9 @@ fn replay<R: Source, W: Sink>(
     ensures ended { OnOk result (R.has_ended source.new ≡ true) }
     ensures read { OnOk result (R.failures source.new ≡ R.failures source.old) }
     ensures written { OnOk result (W.failures sink.new ≡ W.failures sink.old) }
-    ensures unreadable { R.failures source.old < R.failures source.new → IsErrOf result ScenarioFault.Unreadable }
+    ensures unreadable { IsErrOf result ScenarioFault.Unreadable ↔ (R.failures source.old < R.failures source.new) }
     ensures unwritten { W.failures sink.old < W.failures sink.new → IsErrOf result ScenarioFault.Run }
+    ensures bad_line { IfErr result (NamesLineOf (R.remaining source.old) (R.remaining source.new)) }
     ensures untouched { OnErr result (W.failures sink.new ≡ W.failures sink.old → sink.new ≡ sink.old) }
 {
     let schedule = read_to_end(alloc, source)?;
@@ -68,7 +68,9 @@ fn replay<R: Source, W: Sink>(
 }
 
 fn replayed(alloc: Global, text: &[u8]) -> Result<Vec<u8>, ScenarioFault>
-    ensures { IfOk result (λ shown. Replays text.now shown.items) }
+    ensures shown { IfOk result (λ shown. Replays text.now shown.items) }
+    ensures bad_line { IfErr result (NamesLine text.now) }
+    ensures readable { IfErr result (λ fault. fault ≢ ScenarioFault.Unreadable) }
 {
     let schedule = read_schedule(alloc, text)?;
     let transcript = run(
