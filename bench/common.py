@@ -1,9 +1,9 @@
-"""What the benchmarks share: sets as bytes, schedules as files, and the time of a run."""
+"""What the benchmarks share: sets as bytes, schedules as files, and the processor time of a run."""
 import os
+import resource
 import subprocess
 import sys
 import tempfile
-import time
 
 TOP = os.path.dirname(os.path.dirname(os.path.abspath(__file__)))
 PROGRAM = os.path.join(TOP, "crates", "craq", "out", "craq")
@@ -42,16 +42,21 @@ def in_pieces(text, ends, length, connection=0):
     return "".join(lines)
 
 
+def processor_seconds():
+    used = resource.getrusage(resource.RUSAGE_CHILDREN)
+    return used.ru_utime + used.ru_stime
+
+
 def seconds(schedule):
-    """The least of some runs of the program on this schedule."""
+    """The processor time of the program on this schedule, the least of some runs."""
     with tempfile.NamedTemporaryFile("w", suffix=".schedule") as file:
         file.write(schedule)
         file.flush()
         least = float("inf")
         for _ in range(RUNS):
-            start = time.perf_counter()
+            start = processor_seconds()
             done = subprocess.run([PROGRAM, "scenario", file.name], stdout=subprocess.DEVNULL)
-            least = min(least, time.perf_counter() - start)
+            least = min(least, processor_seconds() - start)
             if done.returncode != 0:
                 sys.exit("the program failed")
         return least

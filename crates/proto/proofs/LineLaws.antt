@@ -10,7 +10,7 @@ use Rattle.proto.specs.declared.lines.Asked.TheVariants.{Whole}
 use Rattle.proto.specs.declared.requests.Request.TheVariants.{Bad}
 use Rattle.proto.specs.declared.requests.Fault.TheVariants.{LineTooLong}
 use Rattle.proto.specs.Words.{lf, first_lf}
-use Rattle.proto.specs.Requests.{asked_within, by_end, by_line}
+use Rattle.proto.specs.Requests.{asked_within, by_end}
 
 -- the first place that passes stays when more comes
 first_kept : (p : ℕ → Bool) (xs ys : List ℕ) → position_or_len p xs < length xs → position_or_len p (xs ++ ys) ≡ position_or_len p xs

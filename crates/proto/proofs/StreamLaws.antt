@@ -9,7 +9,7 @@ use Rattle.proto.specs.declared.texts.Form.{Form}
 use Rattle.proto.specs.Requests.{Front, front, is_last}
 use Rattle.proto.specs.Grammar.{Spells}
 use Rattle.proto.specs.Turns.{Turn, Faulty, turns_of, fault_text}
-use Rattle.proto.specs.Sessions.{Held, fresh, fed, next_of, by_front}
+use Rattle.proto.specs.Sessions.{Held, fed, next_of, by_front}
 use Rattle.proto.specs.Streams.{and_later, requests, requests_upto, turns, to_come, GivesFirst, Action, Feed, Next, driven, with_turn, stream_of}
 use Rattle.proto.proofs.GrammarLaws.{found_is_spelled, whole_stays_whole}
 

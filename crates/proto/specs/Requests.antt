@@ -12,7 +12,6 @@ use Rattle.proto.specs.declared.requests.Request.{Request}
 use Rattle.proto.specs.declared.requests.Request.TheVariants.{Store, Get, Bad}
 use Rattle.proto.specs.declared.lines.Asked.{Asked}
 use Rattle.proto.specs.declared.lines.Asked.TheVariants.{Whole, Behind}
-use Rattle.proto.specs.declared.lines.Block.{Block}
 use Rattle.proto.specs.declared.lines.Fate.{Fate}
 use Rattle.proto.specs.declared.lines.Fate.TheVariants.{Put, Refuse}
 use Rattle.proto.specs.declared.front.Pending.{Pending}

@@ -1,9 +1,7 @@
 -- What a session holds, and what each of its calls makes of it.
 use Rattle.std.specs.Prelude.{◌≡◌, ℕ, Bool, true, false, List, [], ◌∷◌, ◌++◌, drop, Option, None, Some, if◌then◌else◌}
 use Rattle.table.specs.Operations.{Fits, is_value}
-use Rattle.table.specs.declared.operations.Op.{Op}
 use Rattle.table.specs.declared.operations.Op.TheVariants.{Read, Set}
-use Rattle.table.specs.declared.operations.Call.{Call as Operation}
 use Rattle.table.specs.declared.operations.Reply.{Reply}
 use Rattle.proto.specs.declared.requests.Request.{Request}
 use Rattle.proto.specs.declared.requests.Request.TheVariants.{Store, Get, Bad}

@@ -1,12 +1,11 @@
 -- Whole streams: their requests, their turns and the texts of these; and the turns that a session has still to give.
-use Rattle.std.specs.Prelude.{◌≡◌, ℕ, zero, suc, Bool, List, [], ◌∷◌, ◌++◌, length, drop, Option, None, Some, MatchOption, if◌then◌else◌}
+use Rattle.std.specs.Prelude.{◌≡◌, ℕ, zero, suc, List, [], ◌∷◌, ◌++◌, length, drop, Option, None, Some, if◌then◌else◌}
 use Rattle.std.specs.List.{flat_map}
-use Rattle.table.specs.declared.operations.Call.{Call}
 use Rattle.table.specs.declared.operations.Reply.{Reply}
 use Rattle.proto.specs.declared.requests.Request.{Request}
 use Rattle.proto.specs.Requests.{Front, front, is_last}
 use Rattle.proto.specs.Turns.{Turn, Faulty, Calls, looks, turns_of, fault_text, text}
-use Rattle.proto.specs.Sessions.{Held, fresh, fed, next_of}
+use Rattle.proto.specs.Sessions.{Held, fed, next_of}
 
 -- a request at the front, and those after it
 abbrev pub and_later : Front → (ℕ → List Request) → List Request

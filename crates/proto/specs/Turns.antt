@@ -10,7 +10,6 @@ use Rattle.proto.specs.declared.requests.Fault.{Fault}
 use Rattle.proto.specs.declared.requests.Fault.TheVariants.{Command, Format, DataChunk, TooLarge, LineTooLong, Expiry}
 use Rattle.proto.specs.declared.requests.Request.{Request}
 use Rattle.proto.specs.declared.requests.Request.TheVariants.{Store, Get, Bad}
-use Rattle.proto.specs.declared.texts.Look.{Look}
 use Rattle.proto.specs.declared.texts.Form.{Form}
 use Rattle.proto.specs.declared.texts.Form.TheVariants.{Status, Show}
 

@@ -65,16 +65,16 @@ fn completed(alloc: Global, block: &Block, line: usize, bytes: &[u8]) -> Result<
 }
 
 // The request of a whole block: its data gets a block of its own, so that an item keeps no buffer alive.
-fn finished(alloc: Global, fate: &Fate, data: &[u8], ends: &[u8]) -> Result<Request, AllocError>
-    requires { IsWithin fate.now (length data.now) }
-    ensures value { IfOk result (λ request. request ≡ finished fate.now data.now ends.now) }
+fn finished(alloc: Global, fate: &Fate, block: &[u8], ends: &[u8]) -> Result<Request, AllocError>
+    requires { IsWithin fate.now (length block.now) }
+    ensures value { IfOk result (λ request. request ≡ finished fate.now block.now ends.now) }
     ensures whole { IfOk result IsWhole }
 {
     match fate {
         Fate::Refuse(fault) => Ok(Request::Bad(*fault)),
         Fate::Put(key, flags) => {
             if ends == b"\r\n".as_slice() {
-                let op = Op::Set(*flags, Bytes::copy_from_slice(alloc, data)?);
+                let op = Op::Set(*flags, Bytes::copy_from_slice(alloc, block)?);
                 Ok(Request::Store(key.clone()?, op))
             } else {
                 Ok(Request::Bad(Fault::DataChunk))
