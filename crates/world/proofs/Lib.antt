@@ -5,3 +5,11 @@ pub mod Texts
 pub mod Digits
 pub mod Readings
 pub mod Spellings
+pub mod Standing
+pub mod LegalLists
+pub mod WorkedOrder
+pub mod OneOrder
+pub mod QuietWorlds
+pub mod TurnLists
+pub mod CoursesAlong
+pub mod CoursesRun

@@ -2,7 +2,7 @@
 use Rattle.std.specs.Prelude.{ℕ, zero, suc, List, [], ◌∷◌, ◌++◌, length, Option, None, Some, slice_get}
 use Rattle.table.specs.declared.operations.Call.{Call}
 use Rattle.table.specs.declared.operations.Reply.{Reply}
-use Rattle.proto.specs.Turns.{Turn, Faulty, Calls}
+use Rattle.proto.specs.Turns.{Faulty, Calls}
 use Rattle.proto.specs.Sessions.{Held, Given, fed, next_of, answered_by}
 use Rattle.proto.specs.Sessions.{fresh as new_session}
 use Rattle.world.specs.declared.connections.Stage.{Stage}

@@ -1,5 +1,5 @@
 -- What holds of a connection's fields at every moment: its open call is its session's.
-use Rattle.std.specs.Prelude.{◌≡◌, ◌+◌, Bool, not, List, length, Option, None, Some, slice_get}
+use Rattle.std.specs.Prelude.{◌≡◌, ◌+◌, not, List, length, Option, None, Some, slice_get}
 use Rattle.table.specs.Operations.{is_update, is_value}
 use Rattle.table.specs.declared.operations.Call.{Call}
 use Rattle.table.specs.declared.operations.Reply.{Reply}

@@ -10,3 +10,6 @@ pub mod Connections
 pub mod Lawful
 pub mod Worlds
 pub mod Quiet
+pub mod Calls
+pub mod Orders
+pub mod Sent

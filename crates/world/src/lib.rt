@@ -7,6 +7,7 @@ mod escapes;
 mod event_lines;
 mod events;
 mod head_lines;
+mod laws;
 mod lines;
 mod numbers;
 mod printing;
@@ -15,6 +16,7 @@ mod schedules;
 mod transcripts;
 
 pub use events::Event;
+pub use laws::{calls, none_forgotten, one_order, sent};
 pub use printing::print_transcript;
 pub use scenes::{SceneFault, run};
 pub use schedules::{Schedule, ScheduleFault, read_schedule};

@@ -1,12 +1,17 @@
 //! Scenes: a world that events change, and the run of a whole schedule.
-ghost use Rattle.std.specs.Prelude.{◌≡◌, ◌≢◌, ◌↔◌, false, nat_lt, OnOk, IfOk, IfErr, IsErrOf, map};
+ghost use Rattle.std.specs.Prelude.{◌≡◌, ◌≢◌, ◌↔◌, ℕ, true, false, nat_lt, List, length, take, map, Some, slice_get, OnOk, IfOk, IfErr, IsErrOf};
 ghost use Rattle.std.specs.List.{list_all};
+ghost use Rattle.proto.specs.Streams.{turns};
 ghost use Rattle.world.specs.declared.scenes.SceneFault.TheVariants.{Memory};
-ghost use Rattle.world.specs.Connections.{came, begun, handed, changed_at, fresh};
+ghost use Rattle.world.specs.Connections.{Connection, came, begun, handed, changed_at, fresh};
 ghost use Rattle.world.specs.Worlds.{worked_at, run_of};
-ghost use Rattle.world.specs.Quiet.{are_homes, connection_shown, transcript_of};
+ghost use Rattle.world.specs.Calls.{CallId, IsBegun, IsAnswered};
+ghost use Rattle.world.specs.Orders.{Entry, IsLinearization};
+ghost use Rattle.world.specs.Sent.{course_of, sent_bytes, calls_of};
+ghost use Rattle.world.specs.Quiet.{are_homes, is_quiet, connection_shown, transcript_of};
 
 use crate::connections::Connection;
+use crate::laws::{calls, none_forgotten, one_order, sent};
 use crate::{ConnectionTranscript, Event, Transcript};
 use proto::ProtoFault;
 use std::alloc::{AllocError, AllocFailed, Global};
@@ -137,10 +142,28 @@ pub fn run(
     events: &[Event],
 ) -> Result<Transcript, SceneFault>
     ensures transcript { IfOk result (λ t. t ≡ transcript_of (run_of homes.now events.now)) }
+    // One order of calls, each answered as by a single table.
+    ensures order { (h : List Entry) × IsLinearization homes.now events.now h }
+    // Each connection has been sent the texts of its stream's turns up to its place, however the stream was cut.
+    ensures sent { (c : ℕ) (k : Connection) → slice_get (run_of homes.now events.now).connections c ≡ Some k →
+        k.session.out ≡ sent_bytes (course_of homes.now events.now c) k.replies }
+    // The calls that it has begun are the first among the turns of its stream.
+    ensures calls { (c : ℕ) (k : Connection) → slice_get (run_of homes.now events.now).connections c ≡ Some k →
+        k.calls ≡ take (length k.calls) (calls_of (turns (course_of homes.now events.now c).stream)) }
+    // Those up to its place are answered, and no others.
+    ensures answered { (c : ℕ) (k : Connection) → slice_get (run_of homes.now events.now).connections c ≡ Some k →
+        length k.replies ≡ length (calls_of (take (course_of homes.now events.now c).place (turns (course_of homes.now events.now c).stream))) }
+    // In a quiet world each begun call has a reply.
+    ensures none_forgotten { is_quiet (run_of homes.now events.now) ≡ true → (x : CallId) →
+        IsBegun (run_of homes.now events.now) x → IsAnswered (run_of homes.now events.now) x }
     ensures bad_count { IsErrOf result SceneFault.BadCount ↔ (count ≢ 1) }
     // At most 64 homes, each the number of a server.
     ensures bad_homes { IsErrOf result SceneFault.BadHomes ↔ ((count ≡ 1) × (are_homes count homes.now ≡ false)) }
 {
+    one_order();
+    sent();
+    calls();
+    none_forgotten();
     if count != 1 {
         return Err(SceneFault::BadCount);
     }

@@ -1,0 +1,110 @@
+-- Turns in lists that grow at their end, and what a session's step does to its output.
+use Rattle.std.proofs.Common.{◌≡◌, ℕ, Bool, true, false, cond, List, [], ◌∷◌, ◌++◌, length, Option, None, Some, refl, sym, ap, arith, append_assoc, append-nil}
+use Rattle.table.specs.declared.operations.Call.{Call}
+use Rattle.table.specs.declared.operations.Reply.{Reply}
+use Rattle.proto.specs.declared.requests.Fault.{Fault}
+use Rattle.proto.specs.declared.requests.Request.{Request}
+use Rattle.proto.specs.declared.requests.Request.TheVariants.{Store, Get, Bad}
+use Rattle.proto.specs.declared.texts.Form.{Form}
+use Rattle.proto.specs.Requests.{Front, front}
+use Rattle.proto.specs.Turns.{Turn, Faulty, Calls, fault_text, text}
+use Rattle.proto.specs.Sessions.{Held, Given, fed, by_keys, by_request, by_front, by_later, next_of, answered_by}
+use Rattle.proto.specs.Streams.{texts, to_come}
+use Rattle.world.specs.Sent.{calls_of}
+
+-- the calls among turns, with more of them behind
+pub calls_of_more : (xs ys : List Turn) → calls_of (xs ++ ys) ≡ calls_of xs ++ calls_of ys
+calls_of_more [] ys = refl
+calls_of_more (Faulty fault ∷ xs) ys = calls_of_more xs ys
+calls_of_more (Calls call form ∷ xs) ys = ap (λ calls. call ∷ calls) (calls_of_more xs ys)
+
+-- a fault behind turns whose calls are answered
+pub texts_fault : (fault : Fault) (ts : List Turn) (rs : List Reply) → length rs ≡ length (calls_of ts) → texts (ts ++ Faulty fault ∷ []) rs ≡ texts ts rs ++ fault_text fault
+texts_fault fault [] rs h = append-nil (fault_text fault)
+texts_fault fault (Faulty g ∷ ts) rs h = rw (texts_fault fault ts rs h) (sym (append_assoc (fault_text g) (texts ts rs) (fault_text fault)))
+texts_fault fault (Calls call form ∷ ts) [] h = absurd (omega (arith, h))
+texts_fault fault (Calls call form ∷ ts) (r ∷ rs) h = rw (texts_fault fault ts rs (omega (arith, h))) (sym (append_assoc (text form r) (texts ts rs) (fault_text fault)))
+
+-- an answered call behind them
+pub texts_call : (call : Call) (form : Form) (reply : Reply) (ts : List Turn) (rs : List Reply) → length rs ≡ length (calls_of ts)
+    → texts (ts ++ Calls call form ∷ []) (rs ++ reply ∷ []) ≡ texts ts rs ++ text form reply
+texts_call call form reply [] [] h = append-nil (text form reply)
+texts_call call form reply [] (r ∷ rs) h = absurd (omega (arith, h))
+texts_call call form reply (Faulty g ∷ ts) rs h = rw (texts_call call form reply ts rs h) (sym (append_assoc (fault_text g) (texts ts rs) (text form reply)))
+texts_call call form reply (Calls other shape ∷ ts) [] h = absurd (omega (arith, h))
+texts_call call form reply (Calls other shape ∷ ts) (r ∷ rs) h = rw (texts_call call form reply ts rs (omega (arith, h))) (sym (append_assoc (text shape r) (texts ts rs) (text form reply)))
+
+-- what a step writes behind this output, and which call it opens
+abbrev pub Writes : List ℕ → Given → Type 0
+Writes out (None, left) = Unit {0}
+Writes out (Some (Faulty fault), left) = left.out ≡ out ++ fault_text fault
+Writes out (Some (Calls call form), left) = (left.out ≡ out) × (left.asked ≡ Some form)
+
+keys_write : (keys : List (List ℕ)) (unique : Bool) (h : Held) → Writes h.out (by_keys keys unique h)
+keys_write [] unique h = tt
+keys_write (key ∷ keys) unique h = (refl, refl)
+
+request_writes : (request : Request) (h : Held) → Writes h.out (by_request request h)
+request_writes (Bad fault) h = refl
+request_writes (Get keys unique) h = keys_write keys unique h
+request_writes (Store key op) h = (refl, refl)
+
+front_writes : (found : Front) (h : Held) → Writes h.out (by_front found h)
+front_writes None h = tt
+front_writes (Some found) h = request_writes found.0 _
+
+later_writes : (keys : List (List ℕ)) (h : Held) → Writes h.out (by_later keys h)
+later_writes [] h = front_writes (front h.unread) h
+later_writes (key ∷ keys) h = keys_write (key ∷ keys) h.unique h
+
+pub next_writes : (h : Held) → Writes h.out (next_of h)
+next_writes h = by_closed h.closed
+  where
+    by_closed : (b : Bool) → Writes h.out (cond b (None, h) (by_later h.later h))
+    by_closed true = tt
+    by_closed false = later_writes h.later h
+
+pub fed_none : (h : Held) → fed h [] ≡ h
+fed_none h = by_closed h.closed
+  where
+    by_closed : (b : Bool) → cond b h (record h { unread = h.unread ++ [] }) ≡ h
+    by_closed true = refl
+    by_closed false = ap (λ unread. record h { unread = unread }) (append-nil h.unread)
+
+pub fed_twice : (h : Held) (xs ys : List ℕ) → fed (fed h xs) ys ≡ fed h (xs ++ ys)
+fed_twice h xs ys = by_closed h.unread h.later h.unique h.asked h.out h.closed
+  where
+    by_closed : (unread : List ℕ) (later : List (List ℕ)) (unique : Bool) (asked : Option Form) (out : List ℕ) (closed : Bool)
+        → let h : Held = record { unread = unread; later = later; unique = unique; asked = asked; out = out; closed = closed } in fed (fed h xs) ys ≡ fed h (xs ++ ys)
+    by_closed unread later unique asked out true = refl
+    by_closed unread later unique asked out false = rw (append_assoc unread xs ys) refl
+
+pub fed_closed : (h : Held) (xs : List ℕ) → h.closed ≡ true → fed h xs ≡ h
+fed_closed h xs closed = rw closed refl
+
+pub fed_out : (h : Held) (xs : List ℕ) → (fed h xs).out ≡ h.out
+fed_out h xs = by_closed h.closed
+  where
+    by_closed : (b : Bool) → (cond b h (record h { unread = h.unread ++ xs })).out ≡ h.out
+    by_closed true = refl
+    by_closed false = refl
+
+pub fed_asked : (h : Held) (xs : List ℕ) → (fed h xs).asked ≡ h.asked
+fed_asked h xs = by_closed h.closed
+  where
+    by_closed : (b : Bool) → (cond b h (record h { unread = h.unread ++ xs })).asked ≡ h.asked
+    by_closed true = refl
+    by_closed false = refl
+
+pub answered_out : (asked : Option Form) (form : Form) (h : Held) (reply : Reply) → asked ≡ Some form → (answered_by asked h reply).out ≡ h.out ++ text form reply
+answered_out asked form h reply e = rw e refl
+
+-- an answer changes nothing of the turns to come
+pub answered_to_come : (asked : Option Form) (h : Held) (reply : Reply) (more : List ℕ) → to_come (fed (answered_by asked h reply) more) ≡ to_come (fed h more)
+answered_to_come None h reply more = refl
+answered_to_come (Some form) h reply more = by_closed h.unread h.later h.unique h.asked h.out h.closed
+  where
+    by_closed : (unread : List ℕ) (later : List (List ℕ)) (unique : Bool) (asked : Option Form) (out : List ℕ) (closed : Bool)
+        → let h : Held = record { unread = unread; later = later; unique = unique; asked = asked; out = out; closed = closed } in to_come (fed (answered_by (Some form) h reply) more) ≡ to_come (fed h more)
+    by_closed unread later unique asked out true = refl
+    by_closed unread later unique asked out false = refl

@@ -1,0 +1,74 @@
+-- What a connection has been sent: a function of its whole stream, which doesn't know where that was cut.
+use Rattle.std.specs.Prelude.{ℕ, zero, suc, ◌+◌, Bool, ◌==◌, List, [], ◌∷◌, ◌++◌, take, drop, Option, None, Some, if◌then◌else◌, slice_get}
+use Rattle.table.specs.declared.operations.Call.{Call}
+use Rattle.table.specs.declared.operations.Reply.{Reply}
+use Rattle.proto.specs.Turns.{Turn, Faulty, Calls}
+use Rattle.proto.specs.Streams.{turns, texts}
+use Rattle.world.specs.declared.events.Event.{Event}
+use Rattle.world.specs.declared.events.Event.TheVariants.{Piece, Begin, Work, Hand}
+use Rattle.world.specs.declared.connections.Stage.{Stage}
+use Rattle.world.specs.declared.connections.Stage.TheVariants.{Idle, Begun, Replied}
+use Rattle.world.specs.Connections.{Connection}
+use Rattle.world.specs.Worlds.{World, happens, opening_world}
+
+-- A connection's course: its stream, which is its pieces that had effect, joined; and the place that it has reached in the turns of that stream.
+pub record Course : Type 0 where
+  pub stream : List ℕ
+  pub place : ℕ
+
+-- the course of a connection before any event
+abbrev pub outset : Course
+outset = record { stream = []; place = 0 }
+
+-- how many faults stand at the front of turns
+abbrev pub faults_next : List Turn → ℕ
+faults_next [] = zero
+faults_next (Faulty fault ∷ ts) = suc (faults_next ts)
+faults_next (Calls call form ∷ ts) = zero
+
+-- a piece comes at the stream's end, unless the session is closed
+abbrev pub on_piece : List ℕ → Bool → Course → Course
+on_piece bytes closed m = if closed then m else record m { stream = m.stream ++ bytes }
+
+-- a begin where no call is open moves the place over the faults that stand next among the turns of what has come
+abbrev pub on_begin : Stage → Course → Course
+on_begin Idle m = record m { place = m.place + faults_next (drop m.place (turns m.stream)) }
+on_begin Begun m = m
+on_begin (Replied reply) m = m
+
+-- a hand where a reply waits moves it over one call
+abbrev pub on_hand : Stage → Course → Course
+on_hand Idle m = m
+on_hand Begun m = m
+on_hand (Replied reply) m = record m { place = m.place + 1 }
+
+-- the course of the c-th connection, which is k before the event, after it
+abbrev pub course_after : ℕ → Connection → Event → Course → Course
+course_after c k (Piece d bytes) m = if c == d then on_piece bytes k.session.closed m else m
+course_after c k (Begin d) m = if c == d then on_begin k.stage m else m
+course_after c k (Work d) m = m
+course_after c k (Hand d) m = if c == d then on_hand k.stage m else m
+
+-- the same, where the connection may not be there
+abbrev pub course_of_any : ℕ → Option Connection → Event → Course → Course
+course_of_any c None e m = m
+course_of_any c (Some k) e m = course_after c k e m
+
+-- its course after these events, one after another
+abbrev pub course_from : ℕ → World → Course → List Event → Course
+course_from c w m [] = m
+course_from c w m (e ∷ es) = course_from c (happens w e) (course_of_any c (slice_get w.connections c) e m) es
+
+-- its course after a schedule
+abbrev pub course_of : List ℕ → List Event → ℕ → Course
+course_of homes events c = course_from c (opening_world homes) outset events
+
+-- the texts of the turns up to the place, each call's with its reply
+abbrev pub sent_bytes : Course → List Reply → List ℕ
+sent_bytes m replies = texts (take m.place (turns m.stream)) replies
+
+-- the calls among turns
+abbrev pub calls_of : List Turn → List Call
+calls_of [] = []
+calls_of (Faulty fault ∷ ts) = calls_of ts
+calls_of (Calls call form ∷ ts) = call ∷ calls_of ts
