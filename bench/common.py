@@ -1,5 +1,6 @@
 """What the benchmarks share: sets as bytes, schedules as files, and the processor time of a run."""
 import os
+import re
 import resource
 import subprocess
 import sys
@@ -60,3 +61,13 @@ def seconds(schedule):
             if done.returncode != 0:
                 sys.exit("the program failed")
         return least
+
+
+def instructions(schedule):
+    """How many instructions the program takes on this schedule, by valgrind: the same at each run, whatever else runs."""
+    with tempfile.NamedTemporaryFile("w", suffix=".schedule") as file:
+        file.write(schedule)
+        file.flush()
+        words = ["valgrind", "--tool=callgrind", "--callgrind-out-file=/dev/null", PROGRAM, "scenario", file.name]
+        done = subprocess.run(words, stdout=subprocess.DEVNULL, stderr=subprocess.PIPE, text=True)
+        return int(re.search(r"Collected : (\d+)", done.stderr).group(1))
