@@ -1,5 +1,6 @@
 pub mod Keys
 pub mod Items
+pub mod Numbers
 pub mod Operations
 pub mod Decisions
 pub mod Plain

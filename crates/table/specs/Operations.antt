@@ -1,22 +1,46 @@
--- Which operations fit, which take a number, and which replies they can have.
-use Rattle.std.specs.Prelude.{◌≤◌, length, Bool, true, false}
+-- Which operations fit, where they aim, which take a number, and which replies they can have.
+use Rattle.std.specs.Prelude.{◌≡◌, ◌≤◌, length, Bool, true, false, IsTrue}
 use Rattle.table.specs.Items.{limit}
+use Rattle.table.specs.declared.operations.Target.{Target}
+use Rattle.table.specs.declared.operations.Target.TheVariants.{One, All}
 use Rattle.table.specs.declared.operations.Op.{Op}
-use Rattle.table.specs.declared.operations.Op.TheVariants.{Read, Set}
+use Rattle.table.specs.declared.operations.Op.TheVariants.{Read, Set, Add, Replace, Append, Prepend, Cas, Incr, Decr, Delete, Flush}
 use Rattle.table.specs.declared.operations.Reply.{Reply}
-use Rattle.table.specs.declared.operations.Reply.TheVariants.{Stored, Value}
+use Rattle.table.specs.declared.operations.Reply.TheVariants.{Stored, NotStored, Exists, NotFound, Deleted, Number, Value, TooLarge, NotNumber, Flushed}
 
 -- the operation's data is within the limit
 abbrev pub Fits : Op → Type 0
 Fits Read = Unit {0}
 Fits (Set flags bytes) = length bytes ≤ limit
+Fits (Add flags bytes) = length bytes ≤ limit
+Fits (Replace flags bytes) = length bytes ≤ limit
+Fits (Append bytes) = length bytes ≤ limit
+Fits (Prepend bytes) = length bytes ≤ limit
+Fits (Cas flags bytes unique) = length bytes ≤ limit
+Fits (Incr amount) = Unit {0}
+Fits (Decr amount) = Unit {0}
+Fits Delete = Unit {0}
+Fits Flush = Unit {0}
+
+-- an operation on all keys at once, and not on one
+abbrev pub is_flush : Op → Bool
+is_flush Flush = true
+is_flush op = false
+
+abbrev pub is_all : Target → Bool
+is_all (One key) = false
+is_all All = true
+
+-- the operation aims at all keys exactly where it is a flush
+abbrev pub Suits : Target → Op → Type 0
+Suits target op = is_flush op ≡ is_all target
 
 -- an operation that takes a number: every one but a read (this project's rule)
 abbrev pub is_update : Op → Bool
 is_update Read = false
-is_update (Set flags bytes) = true
+is_update op = true
 
 -- a reply that shows a key's item, as a read has it and no other operation
 abbrev pub is_value : Reply → Bool
-is_value Stored = false
 is_value (Value item) = true
+is_value reply = false

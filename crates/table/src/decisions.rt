@@ -1,29 +1,53 @@
 //! What one operation answers, and what it does with the item at its key.
-ghost use Rattle.std.specs.Prelude.{◌≡◌, ◌≤◌, IfOk};
+ghost use Rattle.std.specs.Prelude.{◌≡◌, ◌≤◌, ◌++◌, ◌+◌, ◌<◌, ◌^◌, decimal, length, IfOk};
 ghost use Rattle.std.specs.Option.{option_copied};
+ghost use Rattle.table.specs.Items.{limit};
 ghost use Rattle.table.specs.Operations.{Fits};
-ghost use Rattle.table.specs.Decisions.{decision};
+ghost use Rattle.table.specs.Decisions.{decision, put, grown, raised, lowered, counted};
+ghost use Rattle.table.specs.Numbers.{counter_of};
 
-use crate::{Change, Item, Op, Reply};
-use std::alloc::AllocError;
+use crate::numbers::counter;
+use crate::{Change, Item, LIMIT, Op, Reply};
+use bytes::Bytes;
+use itoa::Buffer;
+use std::alloc::{AllocError, AllocFailed, Global};
 
 /// The reply to an operation at a key that has this item or none, and the change that it makes.
-/// An item that is put has the number as its unique. No data is copied.
-pub fn decide(item: Option<&Item>, op: &Op, number: u64) -> Result<(Reply, Change), AllocError>
+/// An item that is put has the number as its unique. The operation's data is not copied, save where it is joined with the item's.
+pub fn decide(
+    alloc: Global,
+    item: Option<&Item>,
+    op: &Op,
+    number: u64,
+) -> Result<(Reply, Change), AllocError>
     requires fits { Fits op.now }
     requires numbered { 1 ≤ number }
     ensures decided { IfOk result (λ d. (d.0, d.1) ≡ decision (option_copied item.entry) op.now number) }
 {
-    match op {
-        Op::Read => Ok((Reply::Value(copy_of(item)?), Change::Keep)),
-        Op::Set(flags, bytes) => {
-            let item = Item {
-                flags: *flags,
-                bytes: bytes.clone()?,
-                unique: number,
-            };
-            Ok((Reply::Stored, Change::Put(item)))
+    match (op, item) {
+        (Op::Read, item) => Ok((Reply::Value(copy_of(item)?), Change::Keep)),
+        (Op::Set(flags, data), _) | (Op::Add(flags, data), None) | (Op::Replace(flags, data), Some(_)) => {
+            Ok((Reply::Stored, put(*flags, data.clone()?, number)))
         }
+        (Op::Add(..), Some(_)) | (Op::Replace(..) | Op::Append(_) | Op::Prepend(_), None) => {
+            Ok((Reply::NotStored, Change::Keep))
+        }
+        (Op::Append(data), Some(old)) => grown(alloc, old.flags, &old.bytes, data, number),
+        (Op::Prepend(data), Some(old)) => grown(alloc, old.flags, data, &old.bytes, number),
+        (Op::Cas(flags, data, unique), Some(old)) => {
+            if old.unique == *unique {
+                Ok((Reply::Stored, put(*flags, data.clone()?, number)))
+            } else {
+                Ok((Reply::Exists, Change::Keep))
+            }
+        }
+        (Op::Incr(amount), Some(old)) => raised(alloc, old, *amount, number),
+        (Op::Decr(amount), Some(old)) => lowered(alloc, old, *amount, number),
+        (Op::Delete, Some(_)) => Ok((Reply::Deleted, Change::Drop)),
+        (Op::Cas(..) | Op::Incr(_) | Op::Decr(_) | Op::Delete, None) => {
+            Ok((Reply::NotFound, Change::Keep))
+        }
+        (Op::Flush, _) => Ok((Reply::Flushed, Change::Clear)),
     }
 }
 
@@ -34,4 +58,92 @@ fn copy_of(item: Option<&Item>) -> Result<Option<Item>, AllocError>
         Some(item) => Ok(Some(item.clone()?)),
         None => Ok(None),
     }
+}
+
+fn put(flags: u32, bytes: Bytes, number: u64) -> Change
+    ensures { result ≡ put flags bytes number }
+{
+    Change::Put(Item {
+        flags,
+        bytes,
+        unique: number,
+    })
+}
+
+// An item of these two pieces of data, one after the other, where it isn't too large.
+fn grown(
+    alloc: Global,
+    flags: u32,
+    front: &Bytes,
+    back: &Bytes,
+    number: u64,
+) -> Result<(Reply, Change), AllocError>
+    ensures { IfOk result (λ d. (d.0, d.1) ≡ grown flags (front.now ++ back.now) number) }
+{
+    let room = front.len() <= LIMIT && back.len() <= LIMIT - front.len();
+    if !room {
+        return Ok((Reply::TooLarge, Change::Keep));
+    }
+    let data = joined(alloc, front.as_slice(), back.as_slice())?;
+    Ok((Reply::Stored, put(flags, data, number)))
+}
+
+// One block of both pieces, each copied once.
+fn joined(alloc: Global, front: &[u8], back: &[u8]) -> Result<Bytes, AllocError>
+    requires { length front.now + length back.now ≤ 1048576 }
+    ensures { IfOk result (λ bytes. bytes ≡ front.now ++ back.now) }
+{
+    let mut data = Vec::with_capacity(alloc, front.len() + back.len())?;
+    data.extend_from_slice(front)?;
+    data.extend_from_slice(back)?;
+    block(data)
+}
+
+fn block(data: Vec<u8>) -> Result<Bytes, AllocError>
+    ensures { IfOk result (λ block. block ≡ data.items) }
+{
+    match Bytes::from_vec(data) {
+        Ok(block) => Ok(block),
+        Err(AllocFailed { .. }) => Err(AllocError),
+    }
+}
+
+fn raised(
+    alloc: Global,
+    old: &Item,
+    amount: u64,
+    number: u64,
+) -> Result<(Reply, Change), AllocError>
+    ensures { IfOk result (λ d. (d.0, d.1) ≡ raised old.now.flags (counter_of old.now.bytes) amount number) }
+{
+    match counter(old.bytes.as_slice()) {
+        Some(value) => counted(alloc, old.flags, value.wrapping_add(amount), number),
+        None => Ok((Reply::NotNumber, Change::Keep)),
+    }
+}
+
+fn lowered(
+    alloc: Global,
+    old: &Item,
+    amount: u64,
+    number: u64,
+) -> Result<(Reply, Change), AllocError>
+    ensures { IfOk result (λ d. (d.0, d.1) ≡ lowered old.now.flags (counter_of old.now.bytes) amount number) }
+{
+    match counter(old.bytes.as_slice()) {
+        Some(value) => counted(alloc, old.flags, value.saturating_sub(amount), number),
+        None => Ok((Reply::NotNumber, Change::Keep)),
+    }
+}
+
+fn counted(
+    alloc: Global,
+    flags: u32,
+    value: u64,
+    number: u64,
+) -> Result<(Reply, Change), AllocError>
+    ensures { IfOk result (λ d. (d.0, d.1) ≡ counted flags value number) }
+{
+    let digits = Bytes::copy_from_slice(alloc, Buffer::new().format(value).as_bytes())?;
+    Ok((Reply::Number(value), put(flags, digits, number)))
 }

@@ -4,13 +4,15 @@
 mod decisions;
 mod items;
 mod keys;
+mod numbers;
 mod operations;
 mod plain;
 
 pub use decisions::decide;
 pub use items::{Item, LIMIT};
 pub use keys::{Key, is_key};
-pub use operations::{Call, Change, Op, Reply};
+pub use numbers::{counter, number};
+pub use operations::{Call, Change, Op, Reply, Target};
 pub use plain::{Table, TableFault};
 
 #[cfg(test)]

@@ -1,4 +1,4 @@
-use crate::{Change, Item, Key, LIMIT, Op, Reply, Table, decide};
+use crate::{Change, Item, Key, LIMIT, Op, Reply, Table, Target, decide};
 use bytes::Bytes;
 use std::alloc::Global;
 use std::test::Fail;
@@ -70,10 +70,15 @@ fn is_stored(reply: &Reply) -> bool {
 // A call that fits, on the key of these bytes.
 fn call(alloc: Global, table: &mut Table, key: &[u8], op: &Op) -> Result<Reply, Fail> {
     let key = Key::new(alloc, key)?.ok_or("a key")?;
-    if !op.fits() {
+    asked(table, &Target::One(key), op)
+}
+
+// A call that fits and suits.
+fn asked(table: &mut Table, target: &Target, op: &Op) -> Result<Reply, Fail> {
+    if !op.fits() || !op.suits(target) {
         return Err("an operation that fits".into());
     }
-    Ok(table.call(&key, op)?)
+    Ok(table.call(target, op)?)
 }
 
 #[test]
@@ -95,18 +100,18 @@ fn a_table_numbers_its_updates(rt: HostRuntime) -> Result<(), Fail> {
 fn a_decision_shares_the_data(rt: HostRuntime) -> Result<(), Fail> {
     let op = set(rt.alloc(), 5, b"xyz")?;
     let item = item(rt.alloc(), 5, b"xyz", 7)?;
-    let (reply, change) = decided(&op, None, 7)?;
+    let (reply, change) = decided(rt.alloc(), &op, None, 7)?;
     assert!(rt; is_stored(&reply));
     assert!(rt; change == Change::Put(item.clone()?));
-    let (reply, change) = decided(&Op::Read, Some(&item), 8)?;
+    let (reply, change) = decided(rt.alloc(), &Op::Read, Some(&item), 8)?;
     assert_eq!(rt; shown(&reply), Some((5, 3, 7)));
     assert!(rt; change == Change::Keep);
     Ok(())
 }
 
-fn decided(op: &Op, item: Option<&Item>, number: u64) -> Result<(Reply, Change), Fail> {
+fn decided(alloc: Global, op: &Op, item: Option<&Item>, number: u64) -> Result<(Reply, Change), Fail> {
     if !op.fits() || number == 0 {
         return Err("an operation that fits".into());
     }
-    Ok(decide(item, op, number)?)
+    Ok(decide(alloc, item, op, number)?)
 }

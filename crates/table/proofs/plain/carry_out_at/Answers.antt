@@ -1,5 +1,5 @@
 use Rattle.table.proofs.Maps.{one_put, one_removed}
-use Rattle.table.proofs.plain.carry_out.Goals as goal
+use Rattle.table.proofs.plain.carry_out_at.Goals as goal
 
 pub returns-in_ok-insert-in-Put-clause-ok : goal.returns-in_ok-insert-in-Put-clause-ok
 returns-in_ok-insert-in-Put-clause-ok c =
