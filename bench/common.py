@@ -17,14 +17,27 @@ def build():
     subprocess.run([os.path.join(TOP, "craq"), "--help"], stderr=subprocess.DEVNULL, check=False)
 
 
-def pipelined_sets(size, data=100):
-    """At least `size` bytes of sets with so many bytes of data each: the bytes, and where each request ends."""
+def pipelined(requests):
+    """These requests one behind the other: the bytes, and where each request ends."""
     text, ends = bytearray(), []
-    while len(text) < size:
-        text += b"set key%05d 0 0 %d\r\n" % (len(ends) % 100000, data)
-        text += b"x" * data + b"\r\n"
+    for request in requests:
+        text += request
         ends.append(len(text))
     return bytes(text), ends
+
+
+def set_of(number, size):
+    return b"set key%05d 0 0 %d\r\n" % (number % 100000, size) + b"x" * size + b"\r\n"
+
+
+def pipelined_sets(count, size=100):
+    """So many sets with so many bytes of data each, on keys of their own."""
+    return pipelined(set_of(number, size) for number in range(count))
+
+
+def pipelined_gets(count, size=100):
+    """A set with so many bytes of data, and so many gets of it."""
+    return pipelined([set_of(0, size)] + [b"get key00000\r\n"] * count)
 
 
 def escaped(piece):

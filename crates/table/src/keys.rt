@@ -47,6 +47,18 @@ impl Key {
         }))
     }
 
+    /// The same of bytes that it shares: it copies and allocates nothing.
+    pub fn from_bytes(bytes: Bytes) -> Option<Key>
+        ensures bytes { IfSome result (λ key. key ≡ bytes) }
+        ensures valid { IsSome result ↔ IsKey bytes }
+    {
+        if is_key(bytes.as_slice()) {
+            Some(Key { bytes })
+        } else {
+            None
+        }
+    }
+
     /// The bytes of the key.
     pub fn bytes(&self) -> &[u8]
         ensures bytes { result.now ≡ self.now }

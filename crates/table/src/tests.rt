@@ -115,3 +115,158 @@ fn decided(alloc: Global, op: &Op, item: Option<&Item>, number: u64) -> Result<(
     }
     Ok(decide(alloc, item, op, number)?)
 }
+
+fn block(alloc: Global, data: &[u8]) -> Result<Bytes, Fail> {
+    Ok(Bytes::copy_from_slice(alloc, data)?)
+}
+
+// A table after these operations on the key `a`, each with the reply that it must have.
+fn after(alloc: Global, rows: Vec<(Op, Reply)>) -> Result<Table, Fail> {
+    let mut table = Table::new(alloc);
+    for (op, wanted) in rows {
+        if call(alloc, &mut table, b"a", &op)? != wanted {
+            return Err("another reply".into());
+        }
+    }
+    Ok(table)
+}
+
+// What is at a key: flags, data and unique.
+fn holds(alloc: Global, table: &mut Table, key: &[u8], flags: u32, data: &[u8], unique: u64) -> Result<bool, Fail> {
+    let wanted = item(alloc, flags, data, unique)?;
+    Ok(call(alloc, table, key, &Op::Read)? == Reply::Value(Some(wanted)))
+}
+
+#[test]
+fn add_and_replace(rt: HostRuntime) -> Result<(), Fail> {
+    let alloc = rt.alloc();
+    let rows = vec![in alloc;
+        (Op::Replace(1, block(alloc, b"1")?), Reply::NotStored),
+        (Op::Add(2, block(alloc, b"2")?), Reply::Stored),
+        (Op::Add(3, block(alloc, b"3")?), Reply::NotStored),
+        (Op::Replace(4, block(alloc, b"4")?), Reply::Stored),
+    ]?;
+    let mut table = after(alloc, rows)?;
+    assert!(rt; holds(alloc, &mut table, b"a", 4, b"4", 4)?);
+    Ok(())
+}
+
+#[test]
+fn append_and_prepend(rt: HostRuntime) -> Result<(), Fail> {
+    let alloc = rt.alloc();
+    let rows = vec![in alloc;
+        (Op::Append(block(alloc, b"z")?), Reply::NotStored),
+        (Op::Prepend(block(alloc, b"z")?), Reply::NotStored),
+        (set(alloc, 3, b"m")?, Reply::Stored),
+        (Op::Append(block(alloc, b"no")?), Reply::Stored),
+        (Op::Prepend(block(alloc, b"<")?), Reply::Stored),
+    ]?;
+    let mut table = after(alloc, rows)?;
+    assert!(rt; holds(alloc, &mut table, b"a", 3, b"<mno", 5)?);
+    Ok(())
+}
+
+#[test]
+fn an_item_does_not_outgrow_the_limit(rt: HostRuntime) -> Result<(), Fail> {
+    let alloc = rt.alloc();
+    let rows = vec![in alloc;
+        (set_of_size(alloc, LIMIT - 1)?, Reply::Stored),
+        (Op::Append(block(alloc, b"y")?), Reply::Stored),
+        (Op::Append(block(alloc, b"y")?), Reply::TooLarge),
+        (Op::Prepend(block(alloc, b"y")?), Reply::TooLarge),
+    ]?;
+    let mut table = after(alloc, rows)?;
+    let reply = call(alloc, &mut table, b"a", &Op::Read)?;
+    assert_eq!(rt; shown(&reply), Some((0, LIMIT, 2)));
+    Ok(())
+}
+
+#[test]
+fn cas_outcomes(rt: HostRuntime) -> Result<(), Fail> {
+    let alloc = rt.alloc();
+    let rows = vec![in alloc;
+        (Op::Cas(0, block(alloc, b"9")?, 1), Reply::NotFound),
+        (set(alloc, 0, b"1")?, Reply::Stored),
+        (set(alloc, 0, b"1")?, Reply::Stored),
+        (Op::Cas(0, block(alloc, b"9")?, 2), Reply::Exists),
+        (Op::Cas(7, block(alloc, b"9")?, 3), Reply::Stored),
+    ]?;
+    let mut table = after(alloc, rows)?;
+    assert!(rt; holds(alloc, &mut table, b"a", 7, b"9", 5)?);
+    Ok(())
+}
+
+#[test]
+fn counters_wrap_and_stop(rt: HostRuntime) -> Result<(), Fail> {
+    let alloc = rt.alloc();
+    let rows = vec![in alloc;
+        (Op::Incr(1), Reply::NotFound),
+        (Op::Decr(1), Reply::NotFound),
+        (set(alloc, 7, b"18446744073709551615")?, Reply::Stored),
+        (Op::Incr(1), Reply::Number(0)),
+        (Op::Incr(u64::MAX), Reply::Number(u64::MAX)),
+        (set(alloc, 7, b"00000000000000000010")?, Reply::Stored),
+        (Op::Decr(3), Reply::Number(7)),
+        (Op::Decr(8), Reply::Number(0)),
+    ]?;
+    let mut table = after(alloc, rows)?;
+    assert!(rt; holds(alloc, &mut table, b"a", 7, b"0", 8)?);
+    Ok(())
+}
+
+#[test]
+fn not_a_number(rt: HostRuntime) -> Result<(), Fail> {
+    let alloc = rt.alloc();
+    let texts: [&[u8]; 5] = [b"abc", b"", b"18446744073709551616", b"000000000000000000001", b"-1"];
+    for text in texts {
+        let rows = vec![in alloc;
+            (set(alloc, 0, text)?, Reply::Stored),
+            (Op::Incr(1), Reply::NotNumber),
+            (Op::Decr(1), Reply::NotNumber),
+        ]?;
+        let mut table = after(alloc, rows)?;
+        assert!(rt; holds(alloc, &mut table, b"a", 0, text, 1)?);
+    }
+    Ok(())
+}
+
+#[test]
+fn delete(rt: HostRuntime) -> Result<(), Fail> {
+    let alloc = rt.alloc();
+    let rows = vec![in alloc;
+        (Op::Delete, Reply::NotFound),
+        (set(alloc, 0, b"")?, Reply::Stored),
+        (Op::Delete, Reply::Deleted),
+        (Op::Read, Reply::Value(None)),
+        (set(alloc, 0, b"x")?, Reply::Stored),
+    ]?;
+    let mut table = after(alloc, rows)?;
+    assert!(rt; holds(alloc, &mut table, b"a", 0, b"x", 4)?);
+    Ok(())
+}
+
+#[test]
+fn flush_all(rt: HostRuntime) -> Result<(), Fail> {
+    let alloc = rt.alloc();
+    let mut table = after(alloc, vec![in alloc; (set(alloc, 0, b"1")?, Reply::Stored)]?)?;
+    let stored = call(alloc, &mut table, b"b", &set(alloc, 0, b"2")?)?;
+    assert!(rt; is_stored(&stored));
+    assert!(rt; asked(&mut table, &Target::All, &Op::Flush)? == Reply::Flushed);
+    for key in [b"a", b"b"] {
+        assert!(rt; call(alloc, &mut table, key, &Op::Read)? == Reply::Value(None));
+    }
+    let stored = call(alloc, &mut table, b"a", &set(alloc, 0, b"3")?)?;
+    assert!(rt; is_stored(&stored));
+    assert!(rt; holds(alloc, &mut table, b"a", 0, b"3", 4)?);
+    Ok(())
+}
+
+#[test]
+fn only_a_flush_is_of_all_keys(rt: HostRuntime) -> Result<(), Fail> {
+    let key = Key::new(rt.alloc(), b"a")?.ok_or("a key")?;
+    let one = Target::One(key);
+    assert!(rt; Op::Flush.suits(&Target::All) && !Op::Flush.suits(&one));
+    assert!(rt; Op::Delete.suits(&one) && !Op::Delete.suits(&Target::All));
+    assert!(rt; Op::Delete.is_update() && !Op::Read.is_update());
+    Ok(())
+}

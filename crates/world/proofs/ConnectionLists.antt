@@ -33,8 +33,8 @@ past_worked t ks c past = rw (slice_get_past ks c past) refl
 
 -- a call that waits is worked
 pub call_worked : (t : PlainTable) (ks : List Connection) (c : ℕ) (old new : Connection) (call : Call) (t2 : PlainTable) → c < length ks → old ≡ get_or ks c old → Some call ≡ to_work old.stage old
-    → t2 ≡ (apply t call.key call.op).1 → new ≡ replied (apply t call.key call.op).0 old → worked_at t ks c ≡ record { table = t2; connections = set ks c new }
+    → t2 ≡ (apply t call.target call.op).1 → new ≡ replied (apply t call.target call.op).0 old → worked_at t ks c ≡ record { table = t2; connections = set ks c new }
 call_worked t ks c old new call t2 below at_c is table_is new_is =
     let here : slice_get ks c ≡ Some old = slice_get_read ks (length ks) c old refl below at_c in
-    let written = set_changed ks c (replied (apply t call.key call.op).0) old new below at_c new_is in
+    let written = set_changed ks c (replied (apply t call.target call.op).0) old new below at_c new_is in
     rw (here, ← is, written, table_is) refl

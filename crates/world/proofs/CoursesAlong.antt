@@ -7,7 +7,7 @@ use Rattle.proto.specs.declared.requests.Fault.{Fault}
 use Rattle.proto.specs.declared.texts.Form.{Form}
 use Rattle.proto.specs.Turns.{Turn, Faulty, Calls, fault_text, text}
 use Rattle.proto.specs.Sessions.{Held, Given, fed, next_of}
-use Rattle.proto.specs.Streams.{turns, texts, to_come, GivesFirst}
+use Rattle.proto.specs.Streams.{turns, texts, to_come, with_turn, most_faults, GivesFirst}
 use Rattle.world.specs.declared.connections.Stage.{Stage}
 use Rattle.world.specs.declared.connections.Stage.TheVariants.{Idle, Begun, Replied}
 use Rattle.world.specs.Connections.{Connection, came, behind, past_faults_upto, begun_by, begun, replied, handed}
@@ -77,31 +77,31 @@ Splits stream before h = (more : List ℕ) → turns (stream ++ more) ≡ before
 
 -- what is to come begins with the turn that was given
 given_first : (h left : Held) (turn : Turn) → GivesFirst h (Some turn) left → to_come h ≡ turn ∷ to_come left
-given_first h left turn first = ap to_come (sym (fed_none h)) ∙ first [] ∙ ap (λ l. turn ∷ to_come l) (fed_none left)
+given_first h left turn first = ap to_come (sym (fed_none h)) ∙ first.first [] ∙ ap (λ l. turn ∷ to_come l) (fed_none left)
 
 more_calls : (fault : Fault) (before : List Turn) → calls_of (before ++ Faulty fault ∷ []) ≡ calls_of before
 more_calls fault before = calls_of_more before (Faulty fault ∷ []) ∙ append-nil (calls_of before)
 
 by_turn : (stream : List ℕ) (rs : List Reply) (before : List Turn) (h : Held) (r later : Given) → GivesFirst h r.0 r.1 → Writes h.out r
-    → ((fault : Fault) → r.0 ≡ Some (Faulty fault) → length r.1.unread < length h.unread)
+    → ((fault : Fault) → r.0 ≡ Some (Faulty fault) → most_faults r.1 < most_faults h)
     → h.out ≡ texts before rs → length rs ≡ length (calls_of before) → Splits stream before h
-    → ((past : List Turn) → length r.1.unread < length h.unread → r.1.out ≡ texts past rs → length rs ≡ length (calls_of past) → Splits stream past r.1 → Passed stream rs past (faults_next (to_come r.1)) later)
+    → ((past : List Turn) → most_faults r.1 < most_faults h → r.1.out ≡ texts past rs → length rs ≡ length (calls_of past) → Splits stream past r.1 → Passed stream rs past (faults_next (to_come r.1)) later)
     → Passed stream rs before (faults_next (to_come h)) (behind r later)
 by_turn stream rs before h (None, left) later first writes shorter said answered split ih = record {
   past = before;
   open_turn = [];
-  place = rw first.1 (omega arith);
-  said = rw first.0 said;
+  place = rw (first.none refl) (omega arith);
+  said = writes ∙ said;
   same = refl;
   opened = refl;
-  split = λ more. rw first.0 (split more);
+  split = λ more. split more ∙ ap (λ ts. before ++ ts) (first.first more);
 }
 by_turn stream rs before h (Some (Faulty fault), left) later first writes shorter said answered split ih =
     let calls = more_calls fault before in
     let further = ih (before ++ Faulty fault ∷ []) (shorter fault refl)
     (writes ∙ ap (λ out. out ++ fault_text fault) said ∙ sym (texts_fault fault before rs answered))
     (answered ∙ ap length (sym calls))
-    (λ more. rw (append_assoc before (Faulty fault ∷ []) (to_come (fed left more))) (split more ∙ ap (λ ts. before ++ ts) (first more))) in
+    (λ more. rw (append_assoc before (Faulty fault ∷ []) (to_come (fed left more))) (split more ∙ ap (λ ts. before ++ ts) (first.first more))) in
     record {
       past = further.past;
       open_turn = further.open_turn;
@@ -118,10 +118,10 @@ by_turn stream rs before h (Some (Calls call form), left) later first writes sho
   said = writes.0 ∙ said;
   same = refl;
   opened = (refl, writes.1);
-  split = λ more. split more ∙ ap (λ ts. before ++ ts) (first more);
+  split = λ more. split more ∙ ap (λ ts. before ++ ts) (first.first more);
 }
 
-passed : NextGivesFirst → FaultsTakeBytes → (stream : List ℕ) (rs : List Reply) (n : ℕ) (before : List Turn) (h : Held) → length h.unread < n
+passed : NextGivesFirst → FaultsTakeBytes → (stream : List ℕ) (rs : List Reply) (n : ℕ) (before : List Turn) (h : Held) → most_faults h < n
     → h.out ≡ texts before rs → length rs ≡ length (calls_of before) → Splits stream before h → Passed stream rs before (faults_next (to_come h)) (past_faults_upto n h)
 passed law takes stream rs zero before h enough said answered split = absurd (omega arith)
 passed law takes stream rs (suc n) before h enough said answered split =
@@ -168,7 +168,7 @@ along_begin law takes Idle k m e a =
     let whole : turns m.stream ≡ a.past ++ to_come k.session = ap turns (sym (append-nil m.stream)) ∙ split [] ∙ ap (λ h. a.past ++ to_come h) (fed_none k.session) in
     let ahead : drop m.place (turns m.stream) ≡ to_come k.session = rw (← a.place, whole) (drop-append_seam a.past (to_come k.session)) in
     let called : k.calls ≡ calls_of a.past = a.called ∙ ap (λ ts. calls_of a.past ++ calls_of ts) none ∙ append-nil (calls_of a.past) in
-    by_step m k a.past _ e (rw ahead (passed law takes m.stream k.replies (suc (length k.session.unread)) a.past k.session (omega arith) a.said a.answered split)) a.place a.answered called
+    by_step m k a.past _ e (rw ahead (passed law takes m.stream k.replies (suc (most_faults k.session)) a.past k.session (omega arith) a.said a.answered split)) a.place a.answered called
 along_begin law takes Begun k m e a = a
 along_begin law takes (Replied reply) k m e a = a
 

@@ -1,14 +1,18 @@
 -- Turns in lists that grow at their end, and what a session's step does to its output.
-use Rattle.std.proofs.Common.{◌≡◌, ℕ, Bool, true, false, cond, List, [], ◌∷◌, ◌++◌, length, Option, None, Some, refl, sym, ap, arith, append_assoc, append-nil}
+use Rattle.std.proofs.Common.{◌≡◌, ℕ, zero, suc, ◌-◌, ◌==◌, Bool, true, false, cond, List, [], ◌∷◌, ◌++◌, length, length-append, drop, Option, None, Some, refl, sym, ap, arith, append_assoc, append-nil}
+use Rattle.std.proofs.Math.Seq.{drop-nil}
 use Rattle.table.specs.declared.operations.Call.{Call}
 use Rattle.table.specs.declared.operations.Reply.{Reply}
 use Rattle.proto.specs.declared.requests.Fault.{Fault}
 use Rattle.proto.specs.declared.requests.Request.{Request}
-use Rattle.proto.specs.declared.requests.Request.TheVariants.{Store, Get, Bad}
+use Rattle.proto.specs.declared.requests.Request.TheVariants.{Store, Get, Arith, Delete, Flush, Quit, Bad}
+use Rattle.proto.specs.declared.front.Passing.{Passing}
+use Rattle.proto.specs.declared.front.Found.{Found}
+use Rattle.proto.specs.declared.front.Found.TheVariants.{Request as Requested, Refused, Nothing}
 use Rattle.proto.specs.declared.texts.Form.{Form}
-use Rattle.proto.specs.Requests.{Front, front}
+use Rattle.proto.specs.Fronts.{found_at}
 use Rattle.proto.specs.Turns.{Turn, Faulty, Calls, fault_text, text}
-use Rattle.proto.specs.Sessions.{Held, Given, fed, by_keys, by_request, by_front, by_later, next_of, answered_by}
+use Rattle.proto.specs.Sessions.{Held, Given, kept, passed, fed, by_keys, by_request, by_found, by_passing, by_later, next_of, answered_by}
 use Rattle.proto.specs.Streams.{texts, to_come}
 use Rattle.world.specs.Sent.{calls_of}
 
@@ -36,48 +40,87 @@ texts_call call form reply (Calls other shape ∷ ts) (r ∷ rs) h = rw (texts_c
 
 -- what a step writes behind this output, and which call it opens
 abbrev pub Writes : List ℕ → Given → Type 0
-Writes out (None, left) = Unit {0}
+Writes out (None, left) = left.out ≡ out
 Writes out (Some (Faulty fault), left) = left.out ≡ out ++ fault_text fault
 Writes out (Some (Calls call form), left) = (left.out ≡ out) × (left.asked ≡ Some form)
 
 keys_write : (keys : List (List ℕ)) (unique : Bool) (h : Held) → Writes h.out (by_keys keys unique h)
-keys_write [] unique h = tt
+keys_write [] unique h = refl
 keys_write (key ∷ keys) unique h = (refl, refl)
 
 request_writes : (request : Request) (h : Held) → Writes h.out (by_request request h)
-request_writes (Bad fault) h = refl
+request_writes (Store key op silent) h = (refl, refl)
 request_writes (Get keys unique) h = keys_write keys unique h
-request_writes (Store key op) h = (refl, refl)
+request_writes (Arith key op silent) h = (refl, refl)
+request_writes (Delete key silent) h = (refl, refl)
+request_writes (Flush silent) h = (refl, refl)
+request_writes Quit h = refl
+request_writes (Bad fault) h = refl
 
-front_writes : (found : Front) (h : Held) → Writes h.out (by_front found h)
-front_writes None h = tt
-front_writes (Some found) h = request_writes found.0 _
+found_writes : (found : Found) (h : Held) → Writes h.out (by_found found h)
+found_writes (Requested request n) h = request_writes request _
+found_writes (Refused passing) h = refl
+found_writes Nothing h = refl
+
+passing_writes : (passing : Option Passing) (h : Held) → Writes h.out (by_passing passing h)
+passing_writes None h = found_writes (found_at h.unread) h
+passing_writes (Some p) h = by_left (p.left == 0)
+  where
+    by_left : (b : Bool) → Writes h.out (cond b (by_request (Bad p.fault) (record h { passing = None })) (None, h))
+    by_left true = refl
+    by_left false = refl
 
 later_writes : (keys : List (List ℕ)) (h : Held) → Writes h.out (by_later keys h)
-later_writes [] h = front_writes (front h.unread) h
+later_writes [] h = passing_writes h.passing h
 later_writes (key ∷ keys) h = keys_write (key ∷ keys) h.unique h
 
 pub next_writes : (h : Held) → Writes h.out (next_of h)
 next_writes h = by_closed h.closed
   where
     by_closed : (b : Bool) → Writes h.out (cond b (None, h) (by_later h.later h))
-    by_closed true = tt
+    by_closed true = refl
     by_closed false = later_writes h.later h
 
+-- what two pieces leave of a block that is passed over, at once or one after the other
+drop_twice : (n : ℕ) (xs ys : List ℕ) → drop n (xs ++ ys) ≡ drop n xs ++ drop (n - length xs) ys
+drop_twice zero xs ys = let whole : zero - length xs ≡ zero = omega arith in rw whole refl
+drop_twice (suc n) [] ys = let all : suc n - length {A = ℕ} [] ≡ suc n = omega arith in rw all refl
+drop_twice (suc n) (x ∷ xs) ys = let less : suc n - length (x ∷ xs) ≡ n - length xs = omega arith in rw less (drop_twice n xs ys)
+
+left_twice : (n : ℕ) (xs ys : List ℕ) → (n - length xs) - length ys ≡ n - length (xs ++ ys)
+left_twice n xs ys = rw (length-append xs ys) (omega arith)
+
+kept_none : (passing : Option Passing) → kept passing [] ≡ []
+kept_none None = refl
+kept_none (Some p) = drop-nil p.left
+
+passed_none : (passing : Option Passing) → passed passing [] ≡ passing
+passed_none None = refl
+passed_none (Some p) = let same : p.left - zero ≡ p.left = omega arith in ap (λ left. Some (record p { left = left })) same
+
+kept_twice : (passing : Option Passing) (xs ys : List ℕ) → kept passing (xs ++ ys) ≡ kept passing xs ++ kept (passed passing xs) ys
+kept_twice None xs ys = refl
+kept_twice (Some p) xs ys = drop_twice p.left xs ys
+
+passed_twice : (passing : Option Passing) (xs ys : List ℕ) → passed (passed passing xs) ys ≡ passed passing (xs ++ ys)
+passed_twice None xs ys = refl
+passed_twice (Some p) xs ys = ap (λ left. Some (record p { left = left })) (left_twice p.left xs ys)
+
 pub fed_none : (h : Held) → fed h [] ≡ h
-fed_none h = by_closed h.closed
+fed_none h = by_fields h.unread h.passing h.later h.unique h.asked h.out h.closed
   where
-    by_closed : (b : Bool) → cond b h (record h { unread = h.unread ++ [] }) ≡ h
-    by_closed true = refl
-    by_closed false = ap (λ unread. record h { unread = unread }) (append-nil h.unread)
+    by_fields : (unread : List ℕ) (passing : Option Passing) (later : List (List ℕ)) (unique : Bool) (asked : Option Form) (out : List ℕ) (closed : Bool)
+        → let h : Held = record { unread = unread; passing = passing; later = later; unique = unique; asked = asked; out = out; closed = closed } in fed h [] ≡ h
+    by_fields unread passing later unique asked out true = refl
+    by_fields unread passing later unique asked out false = rw (kept_none passing, passed_none passing, append-nil unread) refl
 
 pub fed_twice : (h : Held) (xs ys : List ℕ) → fed (fed h xs) ys ≡ fed h (xs ++ ys)
-fed_twice h xs ys = by_closed h.unread h.later h.unique h.asked h.out h.closed
+fed_twice h xs ys = by_fields h.unread h.passing h.later h.unique h.asked h.out h.closed
   where
-    by_closed : (unread : List ℕ) (later : List (List ℕ)) (unique : Bool) (asked : Option Form) (out : List ℕ) (closed : Bool)
-        → let h : Held = record { unread = unread; later = later; unique = unique; asked = asked; out = out; closed = closed } in fed (fed h xs) ys ≡ fed h (xs ++ ys)
-    by_closed unread later unique asked out true = refl
-    by_closed unread later unique asked out false = rw (append_assoc unread xs ys) refl
+    by_fields : (unread : List ℕ) (passing : Option Passing) (later : List (List ℕ)) (unique : Bool) (asked : Option Form) (out : List ℕ) (closed : Bool)
+        → let h : Held = record { unread = unread; passing = passing; later = later; unique = unique; asked = asked; out = out; closed = closed } in fed (fed h xs) ys ≡ fed h (xs ++ ys)
+    by_fields unread passing later unique asked out true = refl
+    by_fields unread passing later unique asked out false = rw (passed_twice passing xs ys, kept_twice passing xs ys, append_assoc unread (kept passing xs) (kept (passed passing xs) ys)) refl
 
 pub fed_closed : (h : Held) (xs : List ℕ) → h.closed ≡ true → fed h xs ≡ h
 fed_closed h xs closed = rw closed refl
@@ -85,14 +128,14 @@ fed_closed h xs closed = rw closed refl
 pub fed_out : (h : Held) (xs : List ℕ) → (fed h xs).out ≡ h.out
 fed_out h xs = by_closed h.closed
   where
-    by_closed : (b : Bool) → (cond b h (record h { unread = h.unread ++ xs })).out ≡ h.out
+    by_closed : (b : Bool) → (cond b h (record h { unread = h.unread ++ kept h.passing xs; passing = passed h.passing xs })).out ≡ h.out
     by_closed true = refl
     by_closed false = refl
 
 pub fed_asked : (h : Held) (xs : List ℕ) → (fed h xs).asked ≡ h.asked
 fed_asked h xs = by_closed h.closed
   where
-    by_closed : (b : Bool) → (cond b h (record h { unread = h.unread ++ xs })).asked ≡ h.asked
+    by_closed : (b : Bool) → (cond b h (record h { unread = h.unread ++ kept h.passing xs; passing = passed h.passing xs })).asked ≡ h.asked
     by_closed true = refl
     by_closed false = refl
 
@@ -102,9 +145,9 @@ answered_out asked form h reply e = rw e refl
 -- an answer changes nothing of the turns to come
 pub answered_to_come : (asked : Option Form) (h : Held) (reply : Reply) (more : List ℕ) → to_come (fed (answered_by asked h reply) more) ≡ to_come (fed h more)
 answered_to_come None h reply more = refl
-answered_to_come (Some form) h reply more = by_closed h.unread h.later h.unique h.asked h.out h.closed
+answered_to_come (Some form) h reply more = by_fields h.unread h.passing h.later h.unique h.asked h.out h.closed
   where
-    by_closed : (unread : List ℕ) (later : List (List ℕ)) (unique : Bool) (asked : Option Form) (out : List ℕ) (closed : Bool)
-        → let h : Held = record { unread = unread; later = later; unique = unique; asked = asked; out = out; closed = closed } in to_come (fed (answered_by (Some form) h reply) more) ≡ to_come (fed h more)
-    by_closed unread later unique asked out true = refl
-    by_closed unread later unique asked out false = refl
+    by_fields : (unread : List ℕ) (passing : Option Passing) (later : List (List ℕ)) (unique : Bool) (asked : Option Form) (out : List ℕ) (closed : Bool)
+        → let h : Held = record { unread = unread; passing = passing; later = later; unique = unique; asked = asked; out = out; closed = closed } in to_come (fed (answered_by (Some form) h reply) more) ≡ to_come (fed h more)
+    by_fields unread passing later unique asked out true = refl
+    by_fields unread passing later unique asked out false = refl

@@ -35,7 +35,7 @@ entry_at k c reply call = record { id = record { connection = c; place = length 
 
 abbrev pub of_call : World → ℕ → Connection → Option Call → List Entry
 of_call w c k None = []
-of_call w c k (Some call) = entry_at k c (apply w.table call.key call.op).0 call ∷ []
+of_call w c k (Some call) = entry_at k c (apply w.table call.target call.op).0 call ∷ []
 
 abbrev pub entries_of : World → ℕ → Option Connection → List Entry
 entries_of w c None = []
@@ -133,9 +133,9 @@ grown k old e reply one before is =
 
 -- a call that waits is worked
 one_worked : (w : World) (h : List Entry) (c : ℕ) (k : Connection) (call : Call) → slice_get w.connections c ≡ Some k → given k ≡ k.replies → slice_get k.calls (length k.replies) ≡ Some call
-    → Holds w h → Holds (worked w c (Some call)) (h ++ entry_at k c (apply w.table call.key call.op).0 call ∷ [])
+    → Holds w h → Holds (worked w c (Some call)) (h ++ entry_at k c (apply w.table call.target call.op).0 call ∷ [])
 one_worked w h c k call at_c before is holds =
-    let reply : Reply = (apply w.table call.key call.op).0 in
+    let reply : Reply = (apply w.table call.target call.op).0 in
     let new : Entry = entry_at k c reply call in
     let nowhere = is_new w h c k at_c before holds in
     record {

@@ -5,6 +5,7 @@ use Rattle.table.specs.declared.operations.Reply.{Reply}
 use Rattle.proto.specs.Turns.{Faulty, Calls}
 use Rattle.proto.specs.Sessions.{Held, Given, fed, next_of, answered_by}
 use Rattle.proto.specs.Sessions.{fresh as new_session}
+use Rattle.proto.specs.Streams.{most_faults}
 use Rattle.world.specs.declared.connections.Stage.{Stage}
 use Rattle.world.specs.declared.connections.Stage.TheVariants.{Idle, Begun, Replied}
 
@@ -36,9 +37,9 @@ abbrev pub past_faults_upto : ℕ → Held → Given
 past_faults_upto zero h = (None, h)
 past_faults_upto (suc n) h = behind (next_of h) (past_faults_upto n (next_of h).1)
 
--- the same behind all of them: each takes a byte at least
+-- the same behind all of them
 abbrev pub past_faults : Held → Given
-past_faults h = past_faults_upto (suc (length h.unread)) h
+past_faults h = past_faults_upto (suc (most_faults h)) h
 
 -- a call that stands in turn begins
 abbrev pub begun_by : Given → Connection → Connection

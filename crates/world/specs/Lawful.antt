@@ -12,7 +12,7 @@ use Rattle.world.specs.declared.connections.Stage.TheVariants.{Idle, Begun, Repl
 -- the session has this call open
 abbrev pub HasOpen : Option Call → Option Form → Type 0
 HasOpen None asked = ⊥
-HasOpen (Some call) asked = IsOpen (Calls call.key call.op) asked
+HasOpen (Some call) asked = IsOpen (Calls call.target call.op) asked
 
 abbrev pub IsLawful : Stage → List Call → List Reply → Option Form → Type 0
 IsLawful Idle calls replies asked = (asked ≡ None) × (length calls ≡ length replies)

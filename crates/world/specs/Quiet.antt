@@ -23,8 +23,8 @@ is_quiet w = list_all (λ k. not (waits k.stage)) w.connections
 -- the calls with the replies to the first of them; a reply that still waits counts as none
 abbrev pub calls_shown : List Call → List Reply → List CallTranscript
 calls_shown [] replies = []
-calls_shown (call ∷ calls) [] = record { key = call.key; op = call.op; reply = None } ∷ calls_shown calls []
-calls_shown (call ∷ calls) (reply ∷ replies) = record { key = call.key; op = call.op; reply = Some reply } ∷ calls_shown calls replies
+calls_shown (call ∷ calls) [] = record { target = call.target; op = call.op; reply = None } ∷ calls_shown calls []
+calls_shown (call ∷ calls) (reply ∷ replies) = record { target = call.target; op = call.op; reply = Some reply } ∷ calls_shown calls replies
 
 abbrev pub connection_shown : Connection → ConnectionShown
 connection_shown k = record { home = k.home; calls = calls_shown k.calls k.replies; sent = k.session.out }

@@ -20,7 +20,7 @@ opening_world homes = record { table = opening; connections = map fresh homes }
 abbrev pub worked : World → ℕ → Option Call → World
 worked w c None = w
 worked w c (Some call) =
-    let done = apply w.table call.key call.op in
+    let done = apply w.table call.target call.op in
     record { table = done.1; connections = changed_at w.connections c (replied done.0) }
 
 -- the c-th connection's call is worked, where one waits for it

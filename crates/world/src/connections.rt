@@ -48,7 +48,7 @@ impl Model for Connection {
 impl Connection {
     ghost use Rattle.std.specs.Prelude.{◌≡◌, OnOk, IfOk, IfErr, IfSome};
     ghost use Rattle.std.specs.Option.{option_copied};
-    ghost use Rattle.table.specs.Operations.{Fits};
+    ghost use Rattle.table.specs.Operations.{Fits, Suits};
     ghost use Rattle.world.specs.Connections.{fresh, came, begun, to_work, replied, handed};
     ghost use Rattle.world.specs.Lawful.{MayHave};
     ghost use Rattle.world.specs.Quiet.{waits, connection_shown};
@@ -96,6 +96,7 @@ impl Connection {
     pub fn to_work(&self) -> Option<&Call>
         ensures call { option_copied result ≡ to_work self.now.stage self.now }
         ensures fits { IfSome result (λ call. Fits call.now.op) }
+        ensures aimed { IfSome result (λ call. Suits call.now.target call.now.op) }
     {
         match self.stage {
             Stage::Begun => self.calls.get(self.replies.len()),
@@ -156,7 +157,7 @@ fn next_call(session: &mut Session) -> Result<Option<Call>, ProtoFault>
     proto::faults_take_bytes();
     'passing: loop {
         match session.next()? {
-            Step::Call(key, op) => return Ok(Some(Call { key, op })),
+            Step::Call(target, op) => return Ok(Some(Call { target, op })),
             Step::Emit => {}
             Step::Wait | Step::Close => return Ok(None),
         }
@@ -176,7 +177,7 @@ fn call_transcripts(
     let mut replies = replies.into_iter();
     while let Some(call) = calls.next() {
         shown.push(CallTranscript {
-            key: call.key,
+            target: call.target,
             op: call.op,
             reply: replies.next(),
         })?;

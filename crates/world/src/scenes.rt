@@ -236,7 +236,7 @@ fn work(table: &mut Table, connections: &mut Vec<Connection>, c: usize) -> Resul
     if c < connections.len() {
         let connection = &mut connections[c];
         if let Some(call) = connection.to_work() {
-            let reply = table.call(&call.key, &call.op)?;
+            let reply = table.call(&call.target, &call.op)?;
             connection.replied(reply);
         }
     }

@@ -7,7 +7,7 @@ use crate::{
 use bytes::Bytes;
 use std::alloc::Global;
 use std::test::Fail;
-use table::{Key, Op, Reply};
+use table::{Key, Op, Reply, Target};
 
 fn piece(alloc: Global, connection: usize, data: &[u8]) -> Result<Event, Fail> {
     Ok(Event::Piece(connection, Bytes::copy_from_slice(alloc, data)?))
@@ -188,12 +188,12 @@ fn bad_event_lines(rt: HostRuntime) -> Result<(), Fail> {
 #[test]
 fn the_text_of_a_transcript(rt: HostRuntime) -> Result<(), Fail> {
     let call = CallTranscript {
-        key: Key::new(rt.alloc(), b"a")?.ok_or("a key")?,
+        target: Target::One(Key::new(rt.alloc(), b"a")?.ok_or("a key")?),
         op: Op::Read,
         reply: Some(Reply::Value(None)),
     };
     let open = CallTranscript {
-        key: Key::new(rt.alloc(), b"b")?.ok_or("a key")?,
+        target: Target::One(Key::new(rt.alloc(), b"b")?.ok_or("a key")?),
         op: Op::Read,
         reply: None,
     };

@@ -1,7 +1,7 @@
 //! Transcripts: what a run shows of its connections.
 
 use std::marker::Model;
-use table::{Key, Op, Reply};
+use table::{Op, Reply, Target};
 
 /// What a run shows. Contracts see lists in place of vectors.
 #[derive(Drop)]
@@ -42,9 +42,9 @@ impl Model for ConnectionTranscript {
 /// A begun call, with its reply or none.
 #[derive(Clone, Debug, PartialEq, Eq, Drop)]
 pub struct CallTranscript {
-    /// The key that it is on.
-    pub key: Key,
-    /// What it asks of the key.
+    /// The key that it is on, or all of them.
+    pub target: Target,
+    /// What it asks of the target.
     pub op: Op,
     /// What it was answered, once its reply was handed to the connection.
     pub reply: Option<Reply>,

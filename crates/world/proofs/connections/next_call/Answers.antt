@@ -6,13 +6,13 @@ use Rattle.world.proofs.connections.next_call.Goals as goal
 
 pub passing-smaller : goal.passing-smaller
 passing-smaller c =
-    let fault : Emit ≡ step_of c.passing.session.closed (next_of c.passing.session).0 = sym c.in-Emit.is ∙ c.in_ok-key.ensures.step in
-    shorter_step c.faults_take_bytes.ensures c.passing.session c.next.new.self fault c.in_ok-key.ensures.left
+    let fault : Emit ≡ step_of (next_of c.passing.session) = sym c.in-Emit.is ∙ c.in_ok-target.ensures.step in
+    shorter_step c.faults_take_bytes.ensures c.passing.session c.next.new.self fault c.in_ok-target.ensures.left
 
 pub passing-preserved : goal.passing-preserved
 passing-preserved c =
-    let fault : Emit ≡ step_of c.passing.session.closed (next_of c.passing.session).0 = sym c.in-Emit.is ∙ c.in_ok-key.ensures.step in
+    let fault : Emit ≡ step_of (next_of c.passing.session) = sym c.in-Emit.is ∙ c.in_ok-target.ensures.step in
     record {
-      same = passed_step c.faults_take_bytes.ensures c.passing.session c.next.new.self fault c.in_ok-key.ensures.left ∙ c.passing.invariant.same;
-      idle = rw c.in-Emit.is at c.in_ok-key.ensures.opens;
+      same = passed_step c.faults_take_bytes.ensures c.passing.session c.next.new.self fault c.in_ok-target.ensures.left ∙ c.passing.invariant.same;
+      idle = rw c.in-Emit.is at c.in_ok-target.ensures.opens;
     }

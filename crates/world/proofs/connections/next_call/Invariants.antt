@@ -1,4 +1,5 @@
-use Rattle.std.proofs.Common.{◌≡◌, length, None}
+use Rattle.std.proofs.Common.{◌≡◌, None}
+use Rattle.proto.specs.Streams.{most_faults}
 use Rattle.world.specs.Connections.{past_faults}
 use Rattle.world.proofs.connections.next_call.Given as goal
 
@@ -10,4 +11,4 @@ invariant-passing l = record {
 }
 
 abbrev pub decreases-passing : goal.decreases-passing
-decreases-passing l = length l.session.unread
+decreases-passing l = most_faults l.session
