@@ -20,6 +20,10 @@ Replays text shown = (s : ScheduleShown) × (schedule_of text ≡ Ok s) × (show
 abbrev pub Shows : Option (List ℕ) → Option (List ℕ) → Option (List ℕ) → Option (List ℕ) → Type 0
 Shows given left held holds = (text : List ℕ) × (shown : List ℕ) × Replays text shown × Consumes given left text × Appends held holds shown
 
+-- the text of what some schedule's run shows was written to the sink
+abbrev pub ShowsSome : Option (List ℕ) → Option (List ℕ) → Type 0
+ShowsSome held holds = (text : List ℕ) × (shown : List ℕ) × Replays text shown × Appends held holds shown
+
 -- a fault that names a line names the text's first bad line
 abbrev pub NamesLine : List ℕ → ScenarioFault → Type 0
 NamesLine text Memory = Unit {0}

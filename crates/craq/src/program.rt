@@ -1,38 +1,50 @@
 //! The program between its arguments, its files and its standard streams.
-ghost use Rattle.std.specs.Prelude.{◌≡◌, ◌<◌, ◌≤◌};
+ghost use Rattle.std.specs.Prelude.{◌≡◌, ◌≢◌, ◌<◌, ◌≤◌, ℕ, List, string_bytes};
+ghost use Rattle.std.specs.Io.KnownBytes.{Appends};
+ghost use Rattle.std.specs.IoError.{error_kind};
+ghost use Rattle.craq.specs.Faults.{status_of, line_of};
+ghost use Rattle.craq.specs.Scenarios.{IsScenarioStatus, ShowsSome};
+ghost use Rattle.craq.specs.declared.faults.ScenarioFault.{ScenarioFault};
 
 use crate::commands::{Command, UsageFault};
 use crate::failures::Failures;
-use crate::faults::{MEMORY, ScenarioFault, USAGE};
+use crate::faults::{DONE, MEMORY, ScenarioFault, USAGE};
 use crate::scenarios::scenario;
-use crate::sinks::CountedWriter;
+use crate::sinks::Sink;
 use crate::sources::CountedReader;
 use crate::words::command;
-use std::io::{ErrorKind, Write};
+use crate::writing::write_all;
+use std::io::ErrorKind;
 use std::marker::Brand;
 use std::rt::{Env, Files};
 use std::sync::ledger::{Blank, Ledger};
 use std::{env, fs, io};
 
 /// Does what the program's arguments ask for, and answers its exit status.
-pub fn run<R: Env + Files + AllocGlobal, W: Write + Drop, X: Write + Drop>(
+pub fn run<R: Env + Files + AllocGlobal, W: Sink, X: Sink>(
     rt: &R,
-    output: W,
-    mut errors: X,
+    output: &mut W,
+    errors: &mut X,
 ) -> u8
-    ensures { result ≤ 3 }
+    ensures status { result ≤ 3 }
+    // Done: the output got the text of what a schedule's run shows, and the errors got nothing.
+    ensures shown { result ≡ DONE → ShowsSome (W.contents output.old) (W.contents output.new) }
+    ensures written { result ≡ DONE → W.failures output.new ≡ W.failures output.old }
+    ensures silent { result ≡ DONE → errors.new ≡ errors.old }
+    // Else, but for a usage fault, one line tells the fault where the errors can be written.
+    ensures fault { result ≢ DONE → result ≢ USAGE → (name : List ℕ) × (fault : ScenarioFault) × (result ≡ status_of fault) × (X.failures errors.new ≡ X.failures errors.old → Appends (X.contents errors.old) (X.contents errors.new) (line_of name fault)) }
+    ensures untouched { result ≢ DONE → W.failures output.new ≡ W.failures output.old → output.new ≡ output.old }
 {
     match asked(rt) {
         Ok(Command::Scenario { file }) => {
-            let blanks = (Blank::new(1), Blank::new(1), Blank::new(1));
-            replay_file::<R, W, X, Brand, Brand, Brand>(rt, file, output, errors, blanks)
+            replay_file::<R, W, X, Brand>(rt, file, output, errors, Blank::new(1))
         }
         Err(UsageFault::Usage(text)) => {
-            let _ = errors.write_all(text.as_bytes());
+            let _ = write_all(errors, text.as_bytes());
             USAGE
         }
         Err(UsageFault::Memory) => {
-            let _ = errors.write_all(b"craq: out of memory\n");
+            let _ = ScenarioFault::Memory.tell("", errors);
             MEMORY
         }
     }
@@ -58,37 +70,41 @@ fn arguments<R: Env + AllocGlobal>(rt: &R) -> Result<Vec<String>, UsageFault> {
     }
 }
 
-fn replay_file<
-    R: Files + AllocGlobal,
-    W: Write + Drop,
-    X: Write + Drop,
-    K: Ledger,
-    L: Ledger,
-    M: Ledger,
->(rt: &R, file: String, output: W, errors: X, blanks: (Blank, Blank, Blank)) -> u8
-    requires names { (blanks.0.name ≡ K.name) × (blanks.1.name ≡ L.name) × (blanks.2.name ≡ M.name) }
-    requires parts { (blanks.0.parts ≡ K.parts) × (blanks.1.parts ≡ L.parts) × (blanks.2.parts ≡ M.parts) }
-    requires some { (0 < K.parts) × (0 < L.parts) × (0 < M.parts) }
-    ensures { result ≤ 3 }
+fn replay_file<R: Files + AllocGlobal, W: Sink, X: Sink, L: Ledger>(
+    rt: &R,
+    file: String,
+    output: &mut W,
+    errors: &mut X,
+    blank: Blank,
+) -> u8
+    requires name { blank.name ≡ L.name }
+    requires parts { blank.parts ≡ L.parts }
+    requires some { 0 < L.parts }
+    ensures status { IsScenarioStatus result }
+    ensures shown { result ≡ DONE → ShowsSome (W.contents output.old) (W.contents output.new) }
+    ensures written { result ≡ DONE → W.failures output.new ≡ W.failures output.old }
+    ensures silent { result ≡ DONE → errors.new ≡ errors.old }
+    ensures fault { result ≢ DONE → (fault : ScenarioFault) × (result ≡ status_of fault) × (X.failures errors.new ≡ X.failures errors.old → Appends (X.contents errors.old) (X.contents errors.new) (line_of (string_bytes file) fault)) }
+    ensures untouched { result ≢ DONE → W.failures output.new ≡ W.failures output.old → output.new ≡ output.old }
 {
-    let (of_source, of_sink, of_errors) = blanks;
     let file = file.as_str();
-    let mut sink = CountedWriter::new(output, Failures::<L>::new(of_sink));
-    let mut errors = CountedWriter::new(errors, Failures::<M>::new(of_errors));
     match fs::open(rt, file) {
         Ok(opened) => {
-            let mut source = CountedReader::new(opened, Failures::<K>::new(of_source));
-            scenario(rt.alloc(), file, &mut source, &mut sink, &mut errors)
+            let mut source = CountedReader::new(opened, Failures::<L>::new(blank));
+            scenario(rt.alloc(), file, &mut source, output, errors)
         }
         Err(e) => {
             let fault = fault_of(&e);
-            let _ = fault.tell(file, &mut errors);
+            let _ = fault.tell(file, errors);
             fault.status()
         }
     }
 }
 
-fn fault_of(error: &io::Error) -> ScenarioFault {
+fn fault_of(error: &io::Error) -> ScenarioFault
+    ensures memory { error_kind error.now ≡ ErrorKind.OutOfMemory → result ≡ ScenarioFault.Memory }
+    ensures other { error_kind error.now ≢ ErrorKind.OutOfMemory → result ≡ ScenarioFault.Unreadable }
+{
     if error.kind() == ErrorKind::OutOfMemory {
         ScenarioFault::Memory
     } else {

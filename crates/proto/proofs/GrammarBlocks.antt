@@ -1,62 +1,68 @@
 -- A block behind a line: which bytes it is, and what becomes of it.
-use Rattle.std.proofs.Common.{◌≡◌, ◌≢◌, ℕ, ◌+◌, ◌-◌, ◌<◌, ◌≤◌, Bool, true, false, cond, not, List, ◌++◌, length, take, drop, None, Some, refl, ap, sym, ◌∙◌, subst, arith, nat_lt, length-append, length-take, length-drop, append_assoc, take_at, drop_at, take-add}
-use Rattle.std.specs.Prelude.{IsTrue}
+use Rattle.std.proofs.Common.{◌≡◌, ◌≢◌, ℕ, ◌+◌, ◌-◌, ◌<◌, ◌≤◌, Bool, true, false, cond, List, ◌++◌, length, take, drop, None, Some, refl, ap, sym, ◌∙◌, subst, arith, nat_lt, length-append, length-take, length-drop, append_assoc, take_at, drop_at, take-add}
 use Rattle.std.specs.List.{slice_range}
 use Rattle.std.specs.Str.{bytes_eq}
 use Rattle.std.proofs.lemmas.Bool.{ltb-true, ltb-false, lt-ltb, le-ltb, cond-true, cond-false, false_from_ne_true}
 use Rattle.std.proofs.lemmas.Slice.Eq.{bytes_eq-Decides}
 use Rattle.table.specs.Items.{limit}
-use Rattle.table.specs.declared.operations.Op.TheVariants.{Set}
-use Rattle.proto.specs.Words.{crlf, is_zero}
+use Rattle.proto.specs.Words.{crlf}
+use Rattle.proto.specs.Verbs.{op_of}
 use Rattle.proto.specs.declared.requests.Fault.TheVariants.{DataChunk, TooLarge, Expiry}
 use Rattle.proto.specs.declared.requests.Request.{Request}
 use Rattle.proto.specs.declared.requests.Request.TheVariants.{Store, Bad}
+use Rattle.proto.specs.declared.lines.StorageLine.{StorageLine}
 use Rattle.proto.specs.declared.lines.Asked.TheVariants.{Behind}
 use Rattle.proto.specs.declared.lines.Block.{Block}
 use Rattle.proto.specs.declared.lines.Fate.{Fate}
-use Rattle.proto.specs.Requests.{fate_of, finished, completed}
-use Rattle.proto.specs.Grammar.{IsBlock, AreSet, Spells}
+use Rattle.proto.specs.declared.lines.Fate.TheVariants.{Put, Refuse}
+use Rattle.proto.specs.Requests.{fate_of}
+use Rattle.proto.specs.Fronts.{finished, completed}
+use Rattle.proto.specs.Grammar.{IsBlock, Spells}
 use Rattle.proto.proofs.GrammarWords.{IsBehind}
 
--- what is made of a block: it is refused for its size first, then for its expiry time, then for its ends
-pub finished_large : (key : List ℕ) (flags : ℕ) (exptime block ends : List ℕ) → limit < length block → finished (fate_of key flags exptime (length block)) block ends ≡ Bad TooLarge
-finished_large key flags exptime block ends large = ap (λ f. finished f block ends) (cond-true _ _ _ (lt-ltb limit (length block) large))
+-- what is made of a block of this line, if it is as large as the line says
+abbrev made : List ℕ → StorageLine → List ℕ → List ℕ → Request
+made key line block ends = finished (fate_of key line) block ends
 
-pub finished_expiry : (key : List ℕ) (flags : ℕ) (exptime block ends : List ℕ) → length block ≤ limit → is_zero exptime ≡ false → finished (fate_of key flags exptime (length block)) block ends ≡ Bad Expiry
-finished_expiry key flags exptime block ends small late =
-    ap (λ f. finished f block ends) (cond-false _ _ _ (le-ltb limit (length block) small) ∙ cond-true _ _ _ (ap not late))
+-- it is refused for its size first, then for its expiry time, then for its ends
+pub made_large : (key : List ℕ) (line : StorageLine) (block ends : List ℕ) → length block ≡ line.size → limit < length block → made key line block ends ≡ Bad TooLarge
+made_large key line block ends same large = ap (λ f. finished f block ends) (cond-true _ _ _ (lt-ltb limit line.size (omega arith)))
 
-finished_put : (key : List ℕ) (flags : ℕ) (exptime block ends : List ℕ) → length block ≤ limit → IsTrue (is_zero exptime)
-    → finished (fate_of key flags exptime (length block)) block ends ≡ cond (bytes_eq ends crlf) (Store key (Set flags block)) (Bad DataChunk)
-finished_put key flags exptime block ends small none =
-    ap (λ f. finished f block ends) (cond-false _ _ _ (le-ltb limit (length block) small) ∙ cond-false _ _ _ (ap not none))
+made_small : (key : List ℕ) (line : StorageLine) (block ends : List ℕ) → length block ≡ line.size → length block ≤ limit → made key line block ends ≡ finished (cond line.expires (Refuse Expiry) (Put key line.verb line.silent)) block ends
+made_small key line block ends same small = ap (λ f. finished f block ends) (cond-false _ _ _ (le-ltb limit line.size (omega arith)))
 
-pub finished_store : (key : List ℕ) (flags : ℕ) (exptime block : List ℕ) → length block ≤ limit → IsTrue (is_zero exptime) → finished (fate_of key flags exptime (length block)) block crlf ≡ Store key (Set flags block)
-finished_store key flags exptime block small none = finished_put key flags exptime block crlf small none
+pub made_expiry : (key : List ℕ) (line : StorageLine) (block ends : List ℕ) → length block ≡ line.size → length block ≤ limit → line.expires ≡ true → made key line block ends ≡ Bad Expiry
+made_expiry key line block ends same small late = made_small key line block ends same small ∙ ap (λ f. finished f block ends) (cond-true _ _ _ late)
 
-pub finished_chunk : (key : List ℕ) (flags : ℕ) (exptime block ends : List ℕ) → length block ≤ limit → IsTrue (is_zero exptime) → ends ≢ crlf → finished (fate_of key flags exptime (length block)) block ends ≡ Bad DataChunk
-finished_chunk key flags exptime block ends small none other =
-    finished_put key flags exptime block ends small none ∙ cond-false _ _ _ (false_from_ne_true _ (λ same. other ((bytes_eq-Decides ends crlf).0 same)))
+made_put : (key : List ℕ) (line : StorageLine) (block ends : List ℕ) → length block ≡ line.size → length block ≤ limit → line.expires ≡ false
+    → made key line block ends ≡ cond (bytes_eq ends crlf) (Store key (op_of line.verb block) line.silent) (Bad DataChunk)
+made_put key line block ends same small none = made_small key line block ends same small ∙ ap (λ f. finished f block ends) (cond-false _ _ _ none)
+
+pub made_store : (key : List ℕ) (line : StorageLine) (block : List ℕ) → length block ≡ line.size → length block ≤ limit → line.expires ≡ false → made key line block crlf ≡ Store key (op_of line.verb block) line.silent
+made_store key line block same small none = made_put key line block crlf same small none
+
+pub made_chunk : (key : List ℕ) (line : StorageLine) (block ends : List ℕ) → length block ≡ line.size → length block ≤ limit → line.expires ≡ false → ends ≢ crlf → made key line block ends ≡ Bad DataChunk
+made_chunk key line block ends same small none other = made_put key line block ends same small none ∙ cond-false _ _ _ (false_from_ne_true _ (λ is. other ((bytes_eq-Decides ends crlf).0 is)))
 
 -- what is made of a block is what it spells
-pub finished_spelled : (key : List ℕ) (flags : ℕ) (exptime block ends bytes : List ℕ) → IsBlock key flags exptime block ends bytes → Spells (finished (fate_of key flags exptime (length block)) block ends) bytes
-finished_spelled key flags exptime block ends bytes h = by_tests (nat_lt limit (length block)) (is_zero exptime) (bytes_eq ends crlf) refl refl refl
+pub made_spelled : (key : List ℕ) (line : StorageLine) (block ends bytes : List ℕ) → IsBlock key line block ends bytes → Spells (made key line block ends) bytes
+made_spelled key line block ends bytes h = by_tests (nat_lt limit (length block)) line.expires (bytes_eq ends crlf) refl refl refl
   where
-    by_tests : (large none same : Bool) → nat_lt limit (length block) ≡ large → is_zero exptime ≡ none → bytes_eq ends crlf ≡ same → Spells (finished (fate_of key flags exptime (length block)) block ends) bytes
-    by_tests true none same l z s =
+    by_tests : (large late same : Bool) → nat_lt limit (length block) ≡ large → line.expires ≡ late → bytes_eq ends crlf ≡ same → Spells (made key line block ends) bytes
+    by_tests true late same l x s =
         let over = ltb-true limit (length block) l in
-        subst (λ r. Spells r bytes) (sym (finished_large key flags exptime block ends over)) (key, flags, exptime, block, ends, h, over)
-    by_tests false false same l z s =
+        subst (λ r. Spells r bytes) (sym (made_large key line block ends h.size_is over)) (key, line, block, ends, h, over)
+    by_tests false true same l x s =
         let small = ltb-false limit (length block) l in
-        subst (λ r. Spells r bytes) (sym (finished_expiry key flags exptime block ends small z)) (key, flags, exptime, block, ends, h, small, z)
-    by_tests false true true l z s =
+        subst (λ r. Spells r bytes) (sym (made_expiry key line block ends h.size_is small x)) (key, line, block, ends, h, small, x)
+    by_tests false false true l x s =
         let small = ltb-false limit (length block) l in
         let is : ends ≡ crlf = (bytes_eq-Decides ends crlf).0 s in
-        subst (λ r. Spells r bytes) (sym (finished_put key flags exptime block ends small z ∙ cond-true _ _ _ s)) (exptime, subst (λ e. IsBlock key flags exptime block e bytes) is h, small, z)
-    by_tests false true false l z s =
+        subst (λ r. Spells r bytes) (sym (made_put key line block ends h.size_is small x ∙ cond-true _ _ _ s)) (line, block, subst (λ e. IsBlock key line block e bytes) is h, small, x, refl, refl)
+    by_tests false false false l x s =
         let small = ltb-false limit (length block) l in
         let other : ends ≢ crlf = λ is. let same : bytes_eq ends crlf ≡ true = (bytes_eq-Decides ends crlf).1 is in cc in
-        subst (λ r. Spells r bytes) (sym (finished_put key flags exptime block ends small z ∙ cond-false _ _ _ s)) (key, flags, exptime, block, ends, h, small, z, other)
+        subst (λ r. Spells r bytes) (sym (made_put key line block ends h.size_is small x ∙ cond-false _ _ _ s)) (key, line, block, ends, h, small, x, other)
 
 -- bytes n to n + size
 range_is : (bytes : List ℕ) (n size : ℕ) → slice_range bytes n (n + size) ≡ take size (drop n bytes)
@@ -73,26 +79,25 @@ length_range : (bytes : List ℕ) (n size : ℕ) → n + size ≤ length bytes �
 length_range bytes n size h = ap length (range_is bytes n size) ∙ omega (arith, length-take size (drop n bytes), length-drop n bytes)
 
 -- the bytes up to the end of a block that has come
-block_at : (bytes : List ℕ) (block : Block) (n : ℕ) → n + block.size + 2 ≤ length bytes → (h : IsBehind (take n bytes) block)
-    → IsBlock h.key h.flags h.exptime (slice_range bytes n (n + block.size)) (slice_range bytes (n + block.size) (n + block.size + 2)) (take (n + block.size + 2) bytes)
-block_at bytes block n inside h =
-    let count : length (slice_range bytes n (n + block.size)) ≡ block.size = length_range bytes n block.size (omega arith) in
+block_at : (bytes : List ℕ) (block : Block) (n : ℕ) (h : IsBehind (take n bytes) block) → n + h.line.size + 2 ≤ length bytes
+    → IsBlock h.key h.line (slice_range bytes n (n + h.line.size)) (slice_range bytes (n + h.line.size) (n + h.line.size + 2)) (take (n + h.line.size + 2) bytes)
+block_at bytes block n h inside =
     record {
+      storing = h.storing;
       fields = h.fields;
-      line = take n bytes;
+      text = take n bytes;
       is_line = h.is_line;
-      are_set = subst (λ k. AreSet h.fields h.key h.flags h.exptime k) (sym count) h.are_set;
-      two = length_range bytes (n + block.size) 2 inside;
-      spelled = three_parts bytes n block.size;
+      are_storage = h.are_storage;
+      size_is = length_range bytes n h.line.size (omega arith);
+      two = length_range bytes (n + h.line.size) 2 inside;
+      spelled = three_parts bytes n h.line.size;
     }
 
-finished_at : (bytes : List ℕ) (block : Block) (n : ℕ) → n + block.size + 2 ≤ length bytes → (h : IsBehind (take n bytes) block)
+finished_at : (bytes : List ℕ) (block : Block) (n : ℕ) → n + block.size + 2 ≤ length bytes → IsBehind (take n bytes) block
     → Spells (finished block.fate (slice_range bytes n (n + block.size)) (slice_range bytes (n + block.size) (n + block.size + 2))) (take (n + block.size + 2) bytes)
 finished_at bytes block n inside h =
-    let count : length (slice_range bytes n (n + block.size)) ≡ block.size = length_range bytes n block.size (omega arith) in
-    let fate : fate_of h.key h.flags h.exptime (length (slice_range bytes n (n + block.size))) ≡ block.fate = ap (fate_of h.key h.flags h.exptime) count ∙ sym h.fate_is in
-    subst (λ f. Spells (finished f (slice_range bytes n (n + block.size)) (slice_range bytes (n + block.size) (n + block.size + 2))) (take (n + block.size + 2) bytes)) fate
-    (finished_spelled h.key h.flags h.exptime _ _ _ (block_at bytes block n inside h))
+    subst (λ (b : Block). n + b.size + 2 ≤ length bytes → Spells (finished b.fate (slice_range bytes n (n + b.size)) (slice_range bytes (n + b.size) (n + b.size + 2))) (take (n + b.size + 2) bytes)) h.block_is
+    (λ come. made_spelled h.key h.line _ _ _ (block_at bytes block n h come)) inside
 
 -- what is found is spelled by so many bytes
 pub record IsFound (bytes : List ℕ) (found : Request × ℕ) : Type 0 where

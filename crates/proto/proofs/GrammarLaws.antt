@@ -4,19 +4,24 @@ use Rattle.std.specs.Prelude.{not, IsTrue, ◌==◌}
 use Rattle.std.specs.List.{join_with_byte}
 use Rattle.std.proofs.lemmas.Bool.{and_parts, and_from, leb-true}
 use Rattle.std.proofs.lemmas.List.Folds.{list_all-append}
-use Rattle.table.specs.declared.operations.Op.TheVariants.{Read, Set}
+use Rattle.table.specs.declared.operations.Op.TheVariants.{Read, Set, Add, Replace, Append, Prepend, Cas, Incr, Decr, Delete, Flush}
 use Rattle.proto.specs.Words.{lf, cr, space, crlf, line_limit, first_lf, fields_of}
+use Rattle.proto.specs.Verbs.{op_of}
 use Rattle.proto.specs.declared.requests.Fault.TheVariants.{Command, Format, DataChunk, TooLarge, LineTooLong, Expiry}
 use Rattle.proto.specs.declared.requests.Request.{Request}
-use Rattle.proto.specs.declared.requests.Request.TheVariants.{Store, Get, Bad}
+use Rattle.proto.specs.declared.requests.Request.TheVariants as requests
+use Rattle.proto.specs.declared.lines.Word.{Word}
+use Rattle.proto.specs.declared.lines.Word.TheVariants as words
+use Rattle.proto.specs.declared.lines.StorageLine.{StorageLine}
 use Rattle.proto.specs.declared.lines.Asked.{Asked}
 use Rattle.proto.specs.declared.lines.Asked.TheVariants.{Whole, Behind}
-use Rattle.proto.specs.Requests.{fate_of, finished, by_word, by_line, by_end, by_asked, asked_at, Front, front}
-use Rattle.proto.specs.Grammar.{has_no_lf, IsLine, IsBlock, IsBareLine, get_word, set_word, Spells}
+use Rattle.proto.specs.Requests.{fate_of, block_of, word_of, asked_of, or_misfit, by_word, by_fields, by_line, by_end, asked_at}
+use Rattle.proto.specs.Fronts.{finished, by_asked, Front, front}
+use Rattle.proto.specs.Grammar.{has_no_lf, IsLine, IsBlock, IsBareLine, spelling, get_word, noreply, Spells}
 use Rattle.proto.proofs.GrammarLines.{FrontLine, line_at_first_lf, none_by_first_lf, asked_of_text, asked_of_long, by_cr, by_line_cr, by_line_bare}
 use Rattle.proto.proofs.GrammarFields.{fields_of_joined, joined_fields, no_lf_in_joined, fields_are, some_field}
-use Rattle.proto.proofs.GrammarWords.{Asks, asks_by_word, by_get_word, by_set_word, by_other_word, get_of, get_misfit, set_of, set_misfit}
-use Rattle.proto.proofs.GrammarBlocks.{IsFound, completed_spelled, completed_again, finished_large, finished_expiry, finished_store, finished_chunk}
+use Rattle.proto.proofs.GrammarWords.{Asks, asks_by_fields, word_found, unknown_asked, misfit_asked, get_asked, store_asked, incr_asked, decr_asked, delete_asked, flush_asked}
+use Rattle.proto.proofs.GrammarBlocks.{IsFound, completed_spelled, completed_again, made_large, made_expiry, made_store, made_chunk}
 
 -- a CR at the end of a text is no LF
 no_lf_before_cr : (t : List ℕ) → IsTrue (has_no_lf (t ++ cr ∷ [])) → IsTrue (has_no_lf t)
@@ -36,7 +41,7 @@ text_asks bytes text n h =
           let spelled : take n bytes ≡ join_with_byte space (fields_of before) ++ crlf =
           h.text_is ∙ (ap (λ t. t ++ lf ∷ []) found.1 ∙ (append_assoc before (cr ∷ []) (lf ∷ []) ∙ ap (λ t. t ++ crlf) (sym (joined_fields before)))) in
           subst (λ a. Asks a (take n bytes)) (sym (ap by_line found.1 ∙ by_line_cr before))
-          (asks_by_word (fields_of before) (take n bytes) (some_field before) (record { spelled = spelled; separate = fields_are before single; short = count }))
+          (asks_by_fields (fields_of before) (take n bytes) (some_field before) (record { spelled = spelled; separate = fields_are before single; short = count }))
       | inr bare ↦ subst (λ a. Asks a (take n bytes)) (sym bare.1) (inl (record { text = text; ends = h.text_is; single = h.single; bare = bare.0; short = count }))
     ]
 
@@ -58,10 +63,10 @@ asks_by_end bytes (Some i) line e is =
     subst (AsksAt bytes) same (record { inside = h.inside; some = omega arith; asks = text_asks bytes (take i bytes) (i + 1) h })
 asks_by_end bytes None line e is = by_length (nat_le line_limit (length bytes)) refl is
   where
-    by_length : (b : Bool) → nat_le line_limit (length bytes) ≡ b → cond b (Some (Whole (Bad LineTooLong), line_limit)) None ≡ Some line → AsksAt bytes line
+    by_length : (b : Bool) → nat_le line_limit (length bytes) ≡ b → cond b (Some (Whole (requests.Bad LineTooLong), line_limit)) None ≡ Some line → AsksAt bytes line
     by_length false long none = cc
     by_length true long found =
-        let same : (Whole (Bad LineTooLong), line_limit) ≡ line = cc in
+        let same : (Whole (requests.Bad LineTooLong), line_limit) ≡ line = cc in
         let enough : line_limit ≤ length bytes = leb-true line_limit (length bytes) long in
         subst (AsksAt bytes) same (record { inside = enough; some = some_limit; asks = (omega (arith, length-take line_limit bytes), none_by_first_lf (take line_limit bytes) e) })
 
@@ -81,65 +86,84 @@ pub found_is_spelled : (bytes : List ℕ) (found : Request × ℕ) → front byt
 found_is_spelled bytes found e = let h = found_by_asked bytes (asked_at bytes) found refl e in (h.inside, h.some, h.spelled)
 
 -- a line at the front asks for what its fields ask for, whatever follows
-line_asked : (word : List ℕ) (fields : List (List ℕ)) (bytes more : List ℕ) → IsLine (word ∷ fields) bytes → asked_at (bytes ++ more) ≡ Some (by_word (word ∷ fields), length bytes)
-line_asked word fields bytes more h =
-    let joined = join_with_byte space (word ∷ fields) in
+line_asked : (field : List ℕ) (fields : List (List ℕ)) (bytes more : List ℕ) → IsLine (field ∷ fields) bytes → asked_at (bytes ++ more) ≡ Some (by_fields (field ∷ fields), length bytes)
+line_asked field fields bytes more h =
+    let joined = join_with_byte space (field ∷ fields) in
     let is : bytes ≡ (joined ++ cr ∷ []) ++ lf ∷ [] = h.spelled ∙ sym (append_assoc joined (cr ∷ []) (lf ∷ [])) in
-    let single : IsTrue (has_no_lf (joined ++ cr ∷ [])) = no_lf_with_cr joined (no_lf_in_joined (word ∷ fields) h.separate) in
+    let single : IsTrue (has_no_lf (joined ++ cr ∷ [])) = no_lf_with_cr joined (no_lf_in_joined (field ∷ fields) h.separate) in
     let count : length bytes ≡ length (joined ++ cr ∷ []) + 1 = ap length is ∙ length-append (joined ++ cr ∷ []) (lf ∷ []) in
     let short : length bytes ≤ line_limit = h.short in
-    let asks : by_line (joined ++ cr ∷ []) ≡ by_word (word ∷ fields) = by_line_cr joined ∙ ap by_word (fields_of_joined word fields h.separate) in
-    ap (λ b. asked_at (b ++ more)) is ∙ (asked_of_text line_limit (joined ++ cr ∷ []) more single (omega arith) ∙ (ap (λ a. Some (a, length (joined ++ cr ∷ []) + 1)) asks ∙ ap (λ k. Some (by_word (word ∷ fields), k)) (sym count)))
+    let asks : by_line (joined ++ cr ∷ []) ≡ by_fields (field ∷ fields) = by_line_cr joined ∙ ap by_fields (fields_of_joined field fields h.separate) in
+    ap (λ b. asked_at (b ++ more)) is ∙ (asked_of_text line_limit (joined ++ cr ∷ []) more single (omega arith) ∙ (ap (λ a. Some (a, length (joined ++ cr ∷ []) + 1)) asks ∙ ap (λ k. Some (by_fields (field ∷ fields), k)) (sym count)))
 
--- a line that asks for a whole request
-line_found : (word : List ℕ) (fields : List (List ℕ)) (bytes more : List ℕ) (request : Request) → IsLine (word ∷ fields) bytes → by_word (word ∷ fields) ≡ Whole request → front (bytes ++ more) ≡ Some (request, length bytes)
-line_found word fields bytes more request h whole = ap (by_asked (bytes ++ more)) (line_asked word fields bytes more h ∙ ap (λ a. Some (a, length bytes)) whole)
+-- a line whose first field is a command word, or none
+word_asked : (word : Option Word) (field : List ℕ) (fields : List (List ℕ)) (bytes more : List ℕ) → IsLine (field ∷ fields) bytes → word_of field ≡ word → asked_at (bytes ++ more) ≡ Some (by_word word fields, length bytes)
+word_asked word field fields bytes more h is = line_asked field fields bytes more h ∙ ap (λ w. Some (by_word w fields, length bytes)) is
 
--- a line with a block behind it
-block_found : (key : List ℕ) (flags : ℕ) (exptime block ends bytes more : List ℕ) → IsBlock key flags exptime block ends bytes
-    → front (bytes ++ more) ≡ Some (finished (fate_of key flags exptime (length block)) block ends, length bytes)
-block_found key flags exptime block ends bytes more h =
-    let fate = fate_of key flags exptime (length block) in
-    let asks : by_word (set_word ∷ h.fields) ≡ Behind (record { size = length block; fate = fate }) = by_set_word h.fields ∙ set_of h.fields key flags exptime (length block) h.are_set in
-    let asked : asked_at (h.line ++ (block ++ ends ++ more)) ≡ Some (Behind (record { size = length block; fate = fate }), length h.line) =
-    line_asked set_word h.fields h.line (block ++ ends ++ more) h.is_line ∙ ap (λ a. Some (a, length h.line)) asks in
-    let regrouped : h.line ++ (block ++ ends ++ more) ≡ h.line ++ block ++ ends ++ more = simp append_assoc in
-    let found : front (h.line ++ block ++ ends ++ more) ≡ Some (finished fate block ends, length (h.line ++ block ++ ends)) =
-    ap (by_asked (h.line ++ block ++ ends ++ more)) (ap asked_at (sym regrouped) ∙ asked) ∙ completed_again fate block ends h.line more h.two in
-    subst (λ b. front (b ++ more) ≡ Some (finished fate block ends, length b)) (sym h.spelled) found
+-- a command whose fields ask for this, or for nothing
+command_asked : (word : Word) (fields : List (List ℕ)) (bytes more : List ℕ) (asked : Option Asked) → IsLine (spelling word ∷ fields) bytes → asked_of word fields ≡ asked → asked_at (bytes ++ more) ≡ Some (or_misfit asked, length bytes)
+command_asked word fields bytes more asked h is = word_asked (Some word) (spelling word) fields bytes more h (word_found word) ∙ ap (λ a. Some (or_misfit a, length bytes)) is
+
+-- a command that asks for a whole request
+command_found : (word : Word) (fields : List (List ℕ)) (bytes more : List ℕ) (request : Request) → IsLine (spelling word ∷ fields) bytes → asked_of word fields ≡ Some (Whole request) → front (bytes ++ more) ≡ Some (request, length bytes)
+command_found word fields bytes more request h is = ap (by_asked (bytes ++ more)) (command_asked word fields bytes more (Some (Whole request)) h is)
+
+-- a storage line with a block behind it
+block_found : (key : List ℕ) (line : StorageLine) (block ends bytes more : List ℕ) → IsBlock key line block ends bytes → front (bytes ++ more) ≡ Some (finished (fate_of key line) block ends, length bytes)
+block_found key line block ends bytes more h =
+    let asked : asked_at (h.text ++ (block ++ ends ++ more)) ≡ Some (Behind (block_of key line), length h.text) =
+    command_asked (words.Store h.storing) h.fields h.text (block ++ ends ++ more) (Some (Behind (block_of key line))) h.is_line (store_asked h.storing h.fields key line h.are_storage) in
+    let sized : asked_at (h.text ++ (block ++ ends ++ more)) ≡ Some (Behind (record { size = length block; fate = fate_of key line }), length h.text) = rw h.size_is asked in
+    let regrouped : h.text ++ (block ++ ends ++ more) ≡ h.text ++ block ++ ends ++ more = simp append_assoc in
+    let found : front (h.text ++ block ++ ends ++ more) ≡ Some (finished (fate_of key line) block ends, length (h.text ++ block ++ ends)) =
+    ap (by_asked (h.text ++ block ++ ends ++ more)) (ap asked_at (sym regrouped) ∙ sized) ∙ completed_again (fate_of key line) block ends h.text more h.two in
+    subst (λ b. front (b ++ more) ≡ Some (finished (fate_of key line) block ends, length b)) (sym h.spelled) found
+
+-- a block that becomes this request
+block_as : (key : List ℕ) (line : StorageLine) (block ends bytes more : List ℕ) (request : Request) → IsBlock key line block ends bytes
+    → finished (fate_of key line) block ends ≡ request → front (bytes ++ more) ≡ Some (request, length bytes)
+block_as key line block ends bytes more request h is = block_found key line block ends bytes more h ∙ ap (λ r. Some (r, length bytes)) is
 
 -- a line feed with no CR before it
-bare_found : (bytes more : List ℕ) → IsBareLine bytes → front (bytes ++ more) ≡ Some (Bad Command, length bytes)
+bare_found : (bytes more : List ℕ) → IsBareLine bytes → front (bytes ++ more) ≡ Some (requests.Bad Command, length bytes)
 bare_found bytes more h =
     let count : length bytes ≡ length h.text + 1 = ap length h.ends ∙ length-append h.text (lf ∷ []) in
     let short : length bytes ≤ line_limit = h.short in
-    let asked : asked_at (bytes ++ more) ≡ Some (Whole (Bad Command), length h.text + 1) =
+    let asked : asked_at (bytes ++ more) ≡ Some (Whole (requests.Bad Command), length h.text + 1) =
     ap (λ b. asked_at (b ++ more)) h.ends ∙ (asked_of_text line_limit h.text more h.single (omega arith) ∙ ap (λ a. Some (a, length h.text + 1)) (by_line_bare h.text h.bare)) in
-    ap (by_asked (bytes ++ more)) asked ∙ ap (λ k. Some (Bad Command, k)) (sym count)
-
--- a block that becomes this request
-block_as : (key : List ℕ) (flags : ℕ) (exptime block ends bytes more : List ℕ) (request : Request) → IsBlock key flags exptime block ends bytes
-    → finished (fate_of key flags exptime (length block)) block ends ≡ request → front (bytes ++ more) ≡ Some (request, length bytes)
-block_as key flags exptime block ends bytes more request h is = block_found key flags exptime block ends bytes more h ∙ ap (λ r. Some (r, length bytes)) is
+    ap (by_asked (bytes ++ more)) asked ∙ ap (λ k. Some (requests.Bad Command, k)) (sym count)
 
 -- What is spelled at the front is found, whatever follows.
 pub spelled_is_found : (request : Request) (spelling more : List ℕ) → Spells request spelling → front (spelling ++ more) ≡ Some (request, length spelling)
-spelled_is_found (Get keys unique) spelling more s = line_found (get_word unique) keys spelling more (Get keys unique) s.0 (by_get_word unique keys ∙ get_of unique keys s.1)
-spelled_is_found (Store key (Set flags block)) spelling more s = block_as key flags s.0 block crlf spelling more _ s.1 (finished_store key flags s.0 block s.2 s.3)
-spelled_is_found (Store key Read) spelling more s = absurd s
-spelled_is_found (Bad Command) spelling more s = elim s [
+spelled_is_found (requests.Get keys unique) spelling more s = command_found (get_word unique) keys spelling more _ s.0 (get_asked unique keys s.1)
+spelled_is_found (requests.Store key op silent) spelling more s =
+    let line = s.0 in
+    let is : requests.Store key (op_of line.verb s.1) line.silent ≡ requests.Store key op silent = rw (s.5, s.6) refl in
+    block_as key line s.1 crlf spelling more _ s.2 (made_store key line s.1 s.2.size_is s.3 s.4 ∙ is)
+spelled_is_found (requests.Arith key (Incr amount) silent) spelling more s = command_found words.Incr s.0 spelling more _ s.1 (incr_asked s.0 key amount silent s.2)
+spelled_is_found (requests.Arith key (Decr amount) silent) spelling more s = command_found words.Decr s.0 spelling more _ s.1 (decr_asked s.0 key amount silent s.2)
+spelled_is_found (requests.Arith key Read silent) spelling more s = absurd s
+spelled_is_found (requests.Arith key (Set flags block) silent) spelling more s = absurd s
+spelled_is_found (requests.Arith key (Add flags block) silent) spelling more s = absurd s
+spelled_is_found (requests.Arith key (Replace flags block) silent) spelling more s = absurd s
+spelled_is_found (requests.Arith key (Append block) silent) spelling more s = absurd s
+spelled_is_found (requests.Arith key (Prepend block) silent) spelling more s = absurd s
+spelled_is_found (requests.Arith key (Cas flags block unique) silent) spelling more s = absurd s
+spelled_is_found (requests.Arith key Delete silent) spelling more s = absurd s
+spelled_is_found (requests.Arith key Flush silent) spelling more s = absurd s
+spelled_is_found (requests.Delete key silent) spelling more s = command_found words.Delete s.0 spelling more _ s.1 (delete_asked s.0 key silent s.2)
+spelled_is_found (requests.Flush silent) spelling more s = command_found words.FlushAll (noreply silent) spelling more _ s (flush_asked silent)
+spelled_is_found requests.Quit spelling more s = command_found words.Quit [] spelling more _ s refl
+spelled_is_found (requests.Bad Command) spelling more s = elim s [
   | inl bare ↦ bare_found spelling more bare
-  | inr other ↦ line_found other.0 other.1 spelling more (Bad Command) other.2 (by_other_word other.0 other.1 other.3)
+  | inr other ↦ ap (by_asked (spelling ++ more)) (word_asked None other.0 other.1 spelling more other.2 (unknown_asked other.0 other.3))
 ]
-spelled_is_found (Bad Format) spelling more s = elim s.1 [
-  | inl get ↦ line_found (get_word get.0) s.0 spelling more (Bad Format) get.1 (by_get_word get.0 s.0 ∙ get_misfit get.0 s.0 get.2)
-  | inr set ↦ line_found set_word s.0 spelling more (Bad Format) set.0 (by_set_word s.0 ∙ set_misfit s.0 set.1)
-]
-spelled_is_found (Bad TooLarge) spelling more s = block_as s.0 s.1 s.2 s.3 s.4 spelling more _ s.5 (finished_large s.0 s.1 s.2 s.3 s.4 s.6)
-spelled_is_found (Bad Expiry) spelling more s = block_as s.0 s.1 s.2 s.3 s.4 spelling more _ s.5 (finished_expiry s.0 s.1 s.2 s.3 s.4 s.6 s.7)
-spelled_is_found (Bad DataChunk) spelling more s = block_as s.0 s.1 s.2 s.3 s.4 spelling more _ s.5 (finished_chunk s.0 s.1 s.2 s.3 s.4 s.6 s.7 s.8)
-spelled_is_found (Bad LineTooLong) spelling more s =
-    ap (by_asked (spelling ++ more)) (asked_of_long line_limit spelling more s.1 s.0) ∙ ap (λ k. Some (Bad LineTooLong, k)) (sym s.0)
+spelled_is_found (requests.Bad Format) spelling more s = ap (by_asked (spelling ++ more)) (command_asked s.0 s.1 spelling more None s.2 (misfit_asked s.0 s.1 s.3))
+spelled_is_found (requests.Bad TooLarge) spelling more s = block_as s.0 s.1 s.2 s.3 spelling more _ s.4 (made_large s.0 s.1 s.2 s.3 s.4.size_is s.5)
+spelled_is_found (requests.Bad Expiry) spelling more s = block_as s.0 s.1 s.2 s.3 spelling more _ s.4 (made_expiry s.0 s.1 s.2 s.3 s.4.size_is s.5 s.6)
+spelled_is_found (requests.Bad DataChunk) spelling more s = block_as s.0 s.1 s.2 s.3 spelling more _ s.4 (made_chunk s.0 s.1 s.2 s.3 s.4.size_is s.5 s.6 s.7)
+spelled_is_found (requests.Bad LineTooLong) spelling more s =
+    ap (by_asked (spelling ++ more)) (asked_of_long line_limit spelling more s.1 s.0) ∙ ap (λ k. Some (requests.Bad LineTooLong, k)) (sym s.0)
 
 -- what one and the same find is
 same_find : (r s : Request) (m n : ℕ) → ◌≡◌ {A = Front} (Some (r, m)) (Some (s, n)) → (r ≡ s) × (m ≡ n)

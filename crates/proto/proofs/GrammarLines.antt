@@ -11,7 +11,7 @@ use Rattle.proto.specs.Grammar.{has_no_lf}
 use Rattle.proto.specs.declared.requests.Fault.TheVariants.{Command, LineTooLong}
 use Rattle.proto.specs.declared.requests.Request.TheVariants.{Bad}
 use Rattle.proto.specs.declared.lines.Asked.TheVariants.{Whole}
-use Rattle.proto.specs.Requests.{asked_within, by_end, by_line, by_word}
+use Rattle.proto.specs.Requests.{asked_within, by_end, by_line, by_fields}
 
 -- the elements that pass, up to one that doesn't
 prefix_up_to : (p : ℕ → Bool) (t : List ℕ) (y : ℕ) (rest : List ℕ) → list_all p t ≡ true → p y ≡ false → prefix_len p (t ++ y ∷ rest) ≡ length t
@@ -118,7 +118,7 @@ cr_at_end t =
     and_from _ _ (le-leb 1 (length (t ++ cr ∷ [])) (omega arith)) (eq-eqb _ cr last)
 
 -- a text that ends in CR is judged by the fields before it
-pub by_line_cr : (t : List ℕ) → by_line (t ++ cr ∷ []) ≡ by_word (fields_of t)
+pub by_line_cr : (t : List ℕ) → by_line (t ++ cr ∷ []) ≡ by_fields (fields_of t)
 by_line_cr t =
     let count : length (t ++ cr ∷ []) - 1 ≡ length t = omega (arith, length-append t (cr ∷ [])) in
     let front : take (length (t ++ cr ∷ []) - 1) (t ++ cr ∷ []) ≡ t = take_at t (cr ∷ []) _ (sym count) in

@@ -7,5 +7,4 @@ pub mod GrammarLines
 pub mod GrammarWords
 pub mod KnownLaws
 pub mod LineLaws
-pub mod Numbers
 pub mod StreamLaws

@@ -1,14 +1,22 @@
 -- The request grammar: which bytes spell which request, by the protocol's cases.
-use Rattle.std.specs.Prelude.{◌≡◌, ◌≢◌, ℕ, ◌^◌, ◌≤◌, ◌<◌, ◌⊎◌, Bool, true, false, not, ◌==◌, ◌||◌, ◌&&◌, IsTrue, if◌then◌else◌, List, [], ◌∷◌, ◌++◌, length, Some, codes}
+use Rattle.std.specs.Prelude.{◌≡◌, ◌≢◌, ℕ, ◌^◌, ◌≤◌, ◌<◌, ◌⊎◌, Bool, true, false, not, ◌==◌, ◌&&◌, IsTrue, if◌then◌else◌, List, [], ◌∷◌, ◌++◌, length, Some, codes}
 use Rattle.std.specs.List.{list_all, join_with_byte}
-use Rattle.std.specs.Str.{bytes_eq}
 use Rattle.table.specs.Keys.{IsKey, is_key}
 use Rattle.table.specs.Items.{limit}
-use Rattle.table.specs.declared.operations.Op.TheVariants.{Read, Set}
-use Rattle.proto.specs.Words.{lf, cr, space, crlf, line_limit, number_of, is_exptime, is_zero}
+use Rattle.table.specs.Numbers.{number_of}
+use Rattle.table.specs.declared.operations.Op.TheVariants as ops
+use Rattle.proto.specs.Words.{lf, cr, space, crlf, line_limit, noreply_word, is_exptime, is_zero}
+use Rattle.proto.specs.Verbs.{op_of}
 use Rattle.proto.specs.declared.requests.Fault.TheVariants.{Command, Format, DataChunk, TooLarge, LineTooLong, Expiry}
 use Rattle.proto.specs.declared.requests.Request.{Request}
-use Rattle.proto.specs.declared.requests.Request.TheVariants.{Store, Get, Bad}
+use Rattle.proto.specs.declared.requests.Request.TheVariants as requests
+use Rattle.proto.specs.declared.lines.Word.{Word}
+use Rattle.proto.specs.declared.lines.Word.TheVariants.{Get, Gets, Store, Incr, Decr, Delete, FlushAll, Quit}
+use Rattle.proto.specs.declared.lines.Storing.{Storing}
+use Rattle.proto.specs.declared.lines.Storing.TheVariants.{Set, Add, Replace, Append, Prepend, Cas}
+use Rattle.proto.specs.declared.lines.Verb.{Verb}
+use Rattle.proto.specs.declared.lines.Verb.TheVariants as verbs
+use Rattle.proto.specs.declared.lines.StorageLine.{StorageLine}
 
 -- no LF among the bytes
 abbrev pub has_no_lf : List ℕ → Bool
@@ -25,38 +33,92 @@ pub record IsLine (fields : List (List ℕ)) (bytes : List ℕ) : Type 0 where
   pub short : length bytes ≤ line_limit
 
 -- the command words
-abbrev pub get_word : Bool → List ℕ
-get_word unique = if unique then codes "gets" else codes "get"
+abbrev pub spelling : Word → List ℕ
+spelling Get = codes "get"
+spelling Gets = codes "gets"
+spelling (Store Set) = codes "set"
+spelling (Store Add) = codes "add"
+spelling (Store Replace) = codes "replace"
+spelling (Store Append) = codes "append"
+spelling (Store Prepend) = codes "prepend"
+spelling (Store Cas) = codes "cas"
+spelling Incr = codes "incr"
+spelling Decr = codes "decr"
+spelling Delete = codes "delete"
+spelling FlushAll = codes "flush_all"
+spelling Quit = codes "quit"
 
-abbrev pub set_word : List ℕ
-set_word = codes "set"
+-- the word of a `get` that shows uniques or doesn't
+abbrev pub get_word : Bool → Word
+get_word unique = if unique then Gets else Get
 
-abbrev pub is_command : List ℕ → Bool
-is_command word = bytes_eq word (get_word false) || bytes_eq word (get_word true) || bytes_eq word set_word
+-- `noreply` at the end of a silent line, and nothing at that of another
+abbrev pub noreply : Bool → List (List ℕ)
+noreply silent = if silent then noreply_word ∷ [] else []
 
--- the fields of a `get`: keys, one at least
+-- get, gets: keys, one at least
 pub record AreKeys (fields : List (List ℕ)) : Type 0 where
   pub some : 1 ≤ length fields
   pub each : IsTrue (list_all is_key fields)
 
--- The fields of a `set`, with what they say: a key, flags, an expiry time, and the size of the block.
-pub record AreSet (fields : List (List ℕ)) (key : List ℕ) (flags : ℕ) (exptime : List ℕ) (size : ℕ) : Type 0 where
+-- What a storage word makes of the flags, and of the fields between the size and `noreply`: there `cas` has a unique, and the others nothing.
+-- An append and a prepend leave an item's flags.
+abbrev pub IsVerb : Storing → ℕ → List (List ℕ) → Verb → Type 0
+IsVerb Set flags own verb = (own ≡ []) × (verb ≡ verbs.Set flags)
+IsVerb Add flags own verb = (own ≡ []) × (verb ≡ verbs.Add flags)
+IsVerb Replace flags own verb = (own ≡ []) × (verb ≡ verbs.Replace flags)
+IsVerb Append flags own verb = (own ≡ []) × (verb ≡ verbs.Append)
+IsVerb Prepend flags own verb = (own ≡ []) × (verb ≡ verbs.Prepend)
+IsVerb Cas flags own verb = (field : List ℕ) × (unique : ℕ) × (own ≡ field ∷ []) × (number_of (2 ^ 64) field ≡ Some unique) × (verb ≡ verbs.Cas flags unique)
+
+-- set, add, replace, append, prepend: key flags exptime bytes [noreply]; cas: key flags exptime bytes unique [noreply]
+pub record AreStorage (storing : Storing) (fields : List (List ℕ)) (key : List ℕ) (line : StorageLine) : Type 0 where
   pub flags_field : List ℕ
+  pub exptime : List ℕ
   pub size_field : List ℕ
-  pub four : fields ≡ key ∷ flags_field ∷ exptime ∷ size_field ∷ []
+  pub own : List (List ℕ)
+  pub flags : ℕ
+  pub fields_are : fields ≡ key ∷ flags_field ∷ exptime ∷ size_field ∷ (own ++ noreply line.silent)
   pub key_is : IsKey key
   pub flags_is : number_of (2 ^ 32) flags_field ≡ Some flags
   pub exptime_is : IsTrue (is_exptime exptime)
-  pub size_is : number_of (2 ^ 32) size_field ≡ Some size
+  pub expires_is : line.expires ≡ not (is_zero exptime)
+  pub size_is : number_of (2 ^ 32) size_field ≡ Some line.size
+  pub verb_is : IsVerb storing flags own line.verb
 
--- A `set` line with a block behind it: `size` bytes of data, and two bytes more.
-pub record IsBlock (key : List ℕ) (flags : ℕ) (exptime : List ℕ) (block ends bytes : List ℕ) : Type 0 where
+-- incr, decr: key value [noreply]
+pub record AreCounter (fields : List (List ℕ)) (key : List ℕ) (amount : ℕ) (silent : Bool) : Type 0 where
+  pub amount_field : List ℕ
+  pub fields_are : fields ≡ key ∷ amount_field ∷ noreply silent
+  pub key_is : IsKey key
+  pub amount_is : number_of (2 ^ 64) amount_field ≡ Some amount
+
+-- delete: key [noreply]
+pub record AreDelete (fields : List (List ℕ)) (key : List ℕ) (silent : Bool) : Type 0 where
+  pub fields_are : fields ≡ key ∷ noreply silent
+  pub key_is : IsKey key
+
+-- the fields fit the command
+abbrev pub Fitting : Word → List (List ℕ) → Type 0
+Fitting Get fields = AreKeys fields
+Fitting Gets fields = AreKeys fields
+Fitting (Store storing) fields = (key : List ℕ) × (line : StorageLine) × AreStorage storing fields key line
+Fitting Incr fields = (key : List ℕ) × (amount : ℕ) × (silent : Bool) × AreCounter fields key amount silent
+Fitting Decr fields = (key : List ℕ) × (amount : ℕ) × (silent : Bool) × AreCounter fields key amount silent
+Fitting Delete fields = (key : List ℕ) × (silent : Bool) × AreDelete fields key silent
+Fitting FlushAll fields = (silent : Bool) × (fields ≡ noreply silent)
+Fitting Quit fields = fields ≡ []
+
+-- A storage line with its data block behind it, and two bytes more.
+pub record IsBlock (key : List ℕ) (line : StorageLine) (block ends bytes : List ℕ) : Type 0 where
+  pub storing : Storing
   pub fields : List (List ℕ)
-  pub line : List ℕ
-  pub is_line : IsLine (set_word ∷ fields) line
-  pub are_set : AreSet fields key flags exptime (length block)
+  pub text : List ℕ
+  pub is_line : IsLine (spelling (Store storing) ∷ fields) text
+  pub are_storage : AreStorage storing fields key line
+  pub size_is : length block ≡ line.size
   pub two : length ends ≡ 2
-  pub spelled : bytes ≡ line ++ block ++ ends
+  pub spelled : bytes ≡ text ++ block ++ ends
 
 -- a line feed with no CR before it, within the bytes that a line may have
 pub record IsBareLine (bytes : List ℕ) : Type 0 where
@@ -66,33 +128,39 @@ pub record IsBareLine (bytes : List ℕ) : Type 0 where
   pub bare : (front : List ℕ) → text ≢ front ++ cr ∷ []
   pub short : length bytes ≤ line_limit
 
--- a line whose first field is no command
+-- a line whose first field is no command word
 abbrev pub IsUnknown : List ℕ → Type 0
-IsUnknown bytes = (word : List ℕ) × (fields : List (List ℕ)) × IsLine (word ∷ fields) bytes × (is_command word ≡ false)
+IsUnknown bytes = (field : List ℕ) × (fields : List (List ℕ)) × IsLine (field ∷ fields) bytes × ((word : Word) → field ≢ spelling word)
 
 -- a command whose fields don't fit it
 abbrev pub IsMisfit : List ℕ → Type 0
-IsMisfit bytes = (fields : List (List ℕ))
-    × (((unique : Bool) × IsLine (get_word unique ∷ fields) bytes × (AreKeys fields → ⊥))
-    ⊎ (IsLine (set_word ∷ fields) bytes × ((key : List ℕ) (flags : ℕ) (exptime : List ℕ) (size : ℕ) → AreSet fields key flags exptime size → ⊥)))
+IsMisfit bytes = (word : Word) × (fields : List (List ℕ)) × IsLine (spelling word ∷ fields) bytes × (Fitting word fields → ⊥)
 
 -- these bytes, and no fewer, spell the request
 abbrev pub Spells : Request → List ℕ → Type 0
 -- get <key>*, gets <key>*
-Spells (Get keys unique) bytes = IsLine (get_word unique ∷ keys) bytes × AreKeys keys
--- set <key> <flags> <exptime> <bytes>, then the data block
-Spells (Store key (Set flags block)) bytes = (exptime : List ℕ) × IsBlock key flags exptime block crlf bytes × (length block ≤ limit) × IsTrue (is_zero exptime)
-Spells (Store key Read) bytes = ⊥
-Spells (Bad Command) bytes = IsBareLine bytes ⊎ IsUnknown bytes
-Spells (Bad Format) bytes = IsMisfit bytes
+Spells (requests.Get keys unique) bytes = IsLine (spelling (get_word unique) ∷ keys) bytes × AreKeys keys
+-- a storage line without an expiry time, and a block of data within the limit, with CR LF behind it
+Spells (requests.Store key op silent) bytes =
+    (line : StorageLine) × (block : List ℕ) × IsBlock key line block crlf bytes × (length block ≤ limit) × (line.expires ≡ false)
+    × (op_of line.verb block ≡ op) × (line.silent ≡ silent)
+-- incr <key> <value>, decr <key> <value>
+Spells (requests.Arith key (ops.Incr amount) silent) bytes = (fields : List (List ℕ)) × IsLine (spelling Incr ∷ fields) bytes × AreCounter fields key amount silent
+Spells (requests.Arith key (ops.Decr amount) silent) bytes = (fields : List (List ℕ)) × IsLine (spelling Decr ∷ fields) bytes × AreCounter fields key amount silent
+Spells (requests.Arith key other silent) bytes = ⊥
+-- delete <key>
+Spells (requests.Delete key silent) bytes = (fields : List (List ℕ)) × IsLine (spelling Delete ∷ fields) bytes × AreDelete fields key silent
+-- flush_all
+Spells (requests.Flush silent) bytes = IsLine (spelling FlushAll ∷ noreply silent) bytes
+-- quit
+Spells requests.Quit bytes = IsLine (spelling Quit ∷ []) bytes
+Spells (requests.Bad Command) bytes = IsBareLine bytes ⊎ IsUnknown bytes
+Spells (requests.Bad Format) bytes = IsMisfit bytes
 -- a block that is too large is passed over, whatever its expiry time and its last two bytes
-Spells (Bad TooLarge) bytes =
-    (key : List ℕ) × (flags : ℕ) × (exptime : List ℕ) × (block : List ℕ) × (ends : List ℕ) × IsBlock key flags exptime block ends bytes × (limit < length block)
+Spells (requests.Bad TooLarge) bytes = (key : List ℕ) × (line : StorageLine) × (block : List ℕ) × (ends : List ℕ) × IsBlock key line block ends bytes × (limit < length block)
 -- and so is one with an expiry time, whatever its last two bytes
-Spells (Bad Expiry) bytes =
-    (key : List ℕ) × (flags : ℕ) × (exptime : List ℕ) × (block : List ℕ) × (ends : List ℕ) × IsBlock key flags exptime block ends bytes × (length block ≤ limit)
-    × (is_zero exptime ≡ false)
-Spells (Bad DataChunk) bytes =
-    (key : List ℕ) × (flags : ℕ) × (exptime : List ℕ) × (block : List ℕ) × (ends : List ℕ) × IsBlock key flags exptime block ends bytes × (length block ≤ limit)
-    × IsTrue (is_zero exptime) × (ends ≢ crlf)
-Spells (Bad LineTooLong) bytes = (length bytes ≡ line_limit) × IsTrue (has_no_lf bytes)
+Spells (requests.Bad Expiry) bytes =
+    (key : List ℕ) × (line : StorageLine) × (block : List ℕ) × (ends : List ℕ) × IsBlock key line block ends bytes × (length block ≤ limit) × (line.expires ≡ true)
+Spells (requests.Bad DataChunk) bytes =
+    (key : List ℕ) × (line : StorageLine) × (block : List ℕ) × (ends : List ℕ) × IsBlock key line block ends bytes × (length block ≤ limit) × (line.expires ≡ false) × (ends ≢ crlf)
+Spells (requests.Bad LineTooLong) bytes = (length bytes ≡ line_limit) × IsTrue (has_no_lf bytes)

@@ -1,7 +1,8 @@
 pub mod Words
-pub mod Digits
 pub mod Keys
+pub mod Verbs
 pub mod Requests
+pub mod Fronts
 pub mod Grammar
 pub mod Turns
 pub mod Sessions

@@ -1,22 +1,29 @@
 -- What a session holds, and what each of its calls makes of it.
-use Rattle.std.specs.Prelude.{◌≡◌, ℕ, Bool, true, false, List, [], ◌∷◌, ◌++◌, drop, Option, None, Some, if◌then◌else◌}
-use Rattle.table.specs.Operations.{Fits, is_value}
-use Rattle.table.specs.declared.operations.Op.TheVariants.{Read, Set}
+use Rattle.std.specs.Prelude.{◌≡◌, ℕ, ◌-◌, ◌==◌, ◌≤◌, Bool, true, false, not, List, [], ◌∷◌, ◌++◌, length, drop, Option, None, Some, if◌then◌else◌}
+use Rattle.table.specs.Operations.{Fits, Suits, is_update, is_value}
+use Rattle.table.specs.declared.operations.Target.{Target}
+use Rattle.table.specs.declared.operations.Target.TheVariants.{One, All}
+use Rattle.table.specs.declared.operations.Op.{Op}
+use Rattle.table.specs.declared.operations.Op.TheVariants.{Delete as DeleteOp, Flush as FlushOp}
 use Rattle.table.specs.declared.operations.Reply.{Reply}
+use Rattle.proto.specs.declared.front.Passing.{Passing}
+use Rattle.proto.specs.declared.front.Found.{Found}
+use Rattle.proto.specs.declared.front.Found.TheVariants.{Request as Requested, Refused, Nothing}
 use Rattle.proto.specs.declared.requests.Request.{Request}
-use Rattle.proto.specs.declared.requests.Request.TheVariants.{Store, Get, Bad}
-use Rattle.proto.specs.declared.texts.Look.{Look}
+use Rattle.proto.specs.declared.requests.Request.TheVariants.{Store, Get, Arith, Delete, Flush, Quit, Bad}
 use Rattle.proto.specs.declared.texts.Form.{Form}
-use Rattle.proto.specs.declared.texts.Form.TheVariants.{Status, Show}
+use Rattle.proto.specs.declared.texts.Form.TheVariants.{Status, Silent, Show}
 use Rattle.proto.specs.declared.sessions.Step.{Step}
 use Rattle.proto.specs.declared.sessions.Step.TheVariants.{Call, Emit, Wait, Close}
-use Rattle.proto.specs.Requests.{Front, front, is_last}
-use Rattle.proto.specs.Turns.{Turn, Faulty, Calls, look, is_last_of, fault_text, text}
+use Rattle.proto.specs.Fronts.{found_at, is_last}
+use Rattle.proto.specs.Turns.{Turn, Faulty, Calls, look, is_last_of, form_of, fault_text, text}
 
--- What a session holds: the bytes that no request has taken yet, the keys that the get at hand has still to read and whether
--- it shows uniques, the form of the open call's answer, the output that was not yet taken, and whether it is closed.
+-- What a session holds: the bytes that no request has taken yet, the refused block that it passes over, the keys that the get
+-- at hand has still to read and whether it shows uniques, the form of the open call's answer, the output that was not yet taken,
+-- and whether it is closed.
 pub record Held : Type 0 where
   pub unread : List ℕ
+  pub passing : Option Passing
   pub later : List (List ℕ)
   pub unique : Bool
   pub asked : Option Form
@@ -25,15 +32,38 @@ pub record Held : Type 0 where
 
 -- at first: nothing
 abbrev pub fresh : Held
-fresh = record { unread = []; later = []; unique = false; asked = None; out = []; closed = false }
+fresh = record { unread = []; passing = None; later = []; unique = false; asked = None; out = []; closed = false }
 
--- more bytes at the end of the unread; a closed session takes none
+-- what of a piece is kept: a refused block's bytes aren't
+abbrev pub kept : Option Passing → List ℕ → List ℕ
+kept None piece = piece
+kept (Some p) piece = drop p.left piece
+
+-- they are counted
+abbrev pub passed : Option Passing → List ℕ → Option Passing
+passed None piece = None
+passed (Some p) piece = Some (record p { left = p.left - length piece })
+
+-- more bytes; a closed session takes none
 abbrev pub fed : Held → List ℕ → Held
-fed h piece = if h.closed then h else record h { unread = h.unread ++ piece }
+fed h piece = if h.closed then h else record h { unread = h.unread ++ kept h.passing piece; passing = passed h.passing piece }
+
+-- the refused block has still to come for as many bytes at least
+abbrev pub IsWithinPassing : Option Passing → List ℕ → Type 0
+IsWithinPassing None piece = ⊥
+IsWithinPassing (Some p) piece = length piece ≤ p.left
+
+-- the piece lies wholly inside a refused block that the session passes over
+abbrev pub IsInside : Held → List ℕ → Type 0
+IsInside h piece = (h.closed ≡ false) × IsWithinPassing h.passing piece
 
 -- A turn that a session gives, or none, and what it holds then.
 abbrev pub Given : Type 0
 Given = Option Turn × Held
+
+-- a call is open from now on
+abbrev pub opened : Target → Op → Form → Held → Given
+opened target op form h = (Some (Calls (record { target = target; op = op }) form), record h { asked = Some form })
 
 -- the read of this key is open, before the keys that are left
 abbrev pub looking : List ℕ → Held → Held
@@ -46,18 +76,28 @@ by_keys (key ∷ keys) unique h = (Some (look key unique keys), looking key (rec
 
 -- the first turn of this request, of which no byte is unread any more
 abbrev pub by_request : Request → Held → Given
-by_request (Bad fault) h = (Some (Faulty fault), record h { out = h.out ++ fault_text fault; closed = is_last (Bad fault) })
+by_request (Store key op silent) h = opened (One key) op (form_of silent) h
 by_request (Get keys unique) h = by_keys keys unique h
-by_request (Store key op) h = (Some (Calls (record { key = key; op = op }) Status), record h { asked = Some Status })
+by_request (Arith key op silent) h = opened (One key) op (form_of silent) h
+by_request (Delete key silent) h = opened (One key) DeleteOp (form_of silent) h
+by_request (Flush silent) h = opened All FlushOp (form_of silent) h
+by_request Quit h = (None, record h { closed = true })
+by_request (Bad fault) h = (Some (Faulty fault), record h { out = h.out ++ fault_text fault; closed = is_last (Bad fault) })
 
--- the first turn of the request at the front, if there is one
-abbrev pub by_front : Front → Held → Given
-by_front None h = (None, h)
-by_front (Some found) h = by_request found.0 (record h { unread = drop found.1 h.unread })
+-- the first turn of what stands at the front; from a refused block on that isn't whole, its bytes are passed over
+abbrev pub by_found : Found → Held → Given
+by_found (Requested request n) h = by_request request (record h { unread = drop n h.unread })
+by_found (Refused passing) h = (None, record h { unread = []; passing = Some passing })
+by_found Nothing h = (None, h)
 
--- the first turn of the keys that are left, or else of the request at the front
+-- the fault of a refused block, once all of it has been passed over; or else the first turn of what stands at the front
+abbrev pub by_passing : Option Passing → Held → Given
+by_passing None h = by_found (found_at h.unread) h
+by_passing (Some p) h = if p.left == 0 then by_request (Bad p.fault) (record h { passing = None }) else (None, h)
+
+-- the first turn of the keys that are left, or else of the bytes
 abbrev pub by_later : List (List ℕ) → Held → Given
-by_later [] h = by_front (front h.unread) h
+by_later [] h = by_passing h.passing h
 by_later (key ∷ keys) h = by_keys (key ∷ keys) h.unique h
 
 -- the next turn, and what the session holds then: a fault's line is written at once, a call is open from now on
@@ -65,10 +105,10 @@ abbrev pub next_of : Held → Given
 next_of h = if h.closed then (None, h) else by_later h.later h
 
 -- how the turn shows as a step
-abbrev pub step_of : Bool → Option Turn → Step
-step_of closed None = if closed then Close else Wait
-step_of closed (Some (Faulty fault)) = Emit
-step_of closed (Some (Calls call form)) = Call call.key call.op
+abbrev pub step_of : Given → Step
+step_of (None, left) = if left.closed then Close else Wait
+step_of (Some (Faulty fault), left) = Emit
+step_of (Some (Calls call form), left) = Call call.target call.op
 
 -- the open call is answered: its text is written
 abbrev pub answered_by : Option Form → Held → Reply → Held
@@ -78,6 +118,7 @@ answered_by (Some form) h reply = record h { asked = None; out = h.out ++ text f
 -- a read's answer shows an item, and no other call's does
 abbrev pub shows : Form → Bool
 shows Status = false
+shows Silent = false
 shows (Show look) = true
 
 -- a call is open, and the reply is one that it can have
@@ -85,10 +126,20 @@ abbrev pub CanAnswer : Option Form → Reply → Type 0
 CanAnswer None reply = ⊥
 CanAnswer (Some form) reply = is_value reply ≡ shows form
 
--- a call that a session hands out fits, and its answer's form is that of the operation
+-- the answer's form is that of the operation
+abbrev pub IsFormOf : Op → Option Form → Type 0
+IsFormOf op None = ⊥
+IsFormOf op (Some form) = shows form ≡ not (is_update op)
+
+-- A call that a session hands out: it fits, it suits its target, and it is answered in its operation's form.
+pub record IsOpenCall (target : Target) (op : Op) (asked : Option Form) : Type 0 where
+  pub fits : Fits op
+  pub aimed : Suits target op
+  pub form : IsFormOf op asked
+
+-- a step opens a call, or none
 abbrev pub IsOpen : Step → Option Form → Type 0
-IsOpen (Call key Read) asked = (l : Look) × (asked ≡ Some (Show l))
-IsOpen (Call key (Set flags bytes)) asked = (asked ≡ Some Status) × Fits (Set flags bytes)
+IsOpen (Call target op) asked = IsOpenCall target op asked
 IsOpen Emit asked = asked ≡ None
 IsOpen Wait asked = asked ≡ None
 IsOpen Close asked = asked ≡ None

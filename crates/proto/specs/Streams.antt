@@ -1,9 +1,11 @@
 -- Whole streams: their requests, their turns and the texts of these; and the turns that a session has still to give.
-use Rattle.std.specs.Prelude.{◌≡◌, ℕ, zero, suc, List, [], ◌∷◌, ◌++◌, length, drop, Option, None, Some, if◌then◌else◌}
+use Rattle.std.specs.Prelude.{◌≡◌, ℕ, zero, suc, ◌+◌, ◌==◌, List, [], ◌∷◌, ◌++◌, length, drop, Option, None, Some, is_some, if◌then◌else◌}
 use Rattle.std.specs.List.{flat_map}
 use Rattle.table.specs.declared.operations.Reply.{Reply}
+use Rattle.proto.specs.declared.front.Passing.{Passing}
 use Rattle.proto.specs.declared.requests.Request.{Request}
-use Rattle.proto.specs.Requests.{Front, front, is_last}
+use Rattle.proto.specs.declared.requests.Request.TheVariants.{Bad}
+use Rattle.proto.specs.Fronts.{Front, front, is_last}
 use Rattle.proto.specs.Turns.{Turn, Faulty, Calls, looks, turns_of, fault_text, text}
 use Rattle.proto.specs.Sessions.{Held, fed, next_of}
 
@@ -25,6 +27,10 @@ requests bytes = requests_upto (length bytes) bytes
 abbrev pub turns : List ℕ → List Turn
 turns bytes = flat_map turns_of (requests bytes)
 
+-- the turns of a request, and those behind it
+abbrev pub turns_before : Request → List Turn → List Turn
+turns_before request later = turns_of request ++ (if is_last request then [] else later)
+
 -- what is written for turns, each call's text with its reply, up to the first call without one
 abbrev pub texts : List Turn → List Reply → List ℕ
 texts [] replies = []
@@ -32,24 +38,34 @@ texts (Faulty fault ∷ ts) replies = fault_text fault ++ texts ts replies
 texts (Calls call form ∷ ts) [] = []
 texts (Calls call form ∷ ts) (reply ∷ replies) = text form reply ++ texts ts replies
 
+-- the turns that a session's bytes have still to give: where a refused block is being passed over, none before its end
+abbrev pub unread_turns : Option Passing → List ℕ → List Turn
+unread_turns None unread = turns unread
+unread_turns (Some p) unread = if p.left == 0 then turns_before (Bad p.fault) (turns unread) else []
+
 -- the turns that a session has still to give, if it is fed with no more
 abbrev pub to_come : Held → List Turn
-to_come h = if h.closed then [] else looks h.later h.unique ++ turns h.unread
-
--- The session gives its first turn, and leaves the others: whatever bytes may follow, and however they will be cut.
-abbrev pub GivesFirst : Held → Option Turn → Held → Type 0
-GivesFirst h None left = (left ≡ h) × (to_come h ≡ [])
-GivesFirst h (Some turn) left = (more : List ℕ) → to_come (fed h more) ≡ turn ∷ to_come (fed left more)
-
--- what may be done with a session whose calls are answered as they come
-pub data Action : Type 0 where
-  Feed : (piece : List ℕ) → Action
-  Next : Action
+to_come h = if h.closed then [] else looks h.later h.unique ++ unread_turns h.passing h.unread
 
 -- the turn that was given stands in front of the others
 abbrev pub with_turn : Option Turn → List Turn → List Turn
 with_turn None turns = turns
 with_turn (Some turn) turns = turn ∷ turns
+
+-- The session gives its first turn and leaves the others, whatever bytes may follow, and however they will be cut;
+-- and where it gives none, there was none.
+pub record GivesFirst (h : Held) (given : Option Turn) (left : Held) : Type 0 where
+  pub first : (more : List ℕ) → to_come (fed h more) ≡ with_turn given (to_come (fed left more))
+  pub none : given ≡ None → to_come h ≡ []
+
+-- at most so many faults are to come: each takes a byte at least, save the one whose block was passed over
+abbrev pub most_faults : Held → ℕ
+most_faults h = length h.unread + (if is_some h.passing then 1 else 0)
+
+-- what may be done with a session whose calls are answered as they come
+pub data Action : Type 0 where
+  Feed : (piece : List ℕ) → Action
+  Next : Action
 
 -- the turns that a session gives along these actions, and what it holds in the end
 abbrev pub driven : Held → List Action → List Turn × Held

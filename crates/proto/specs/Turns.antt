@@ -2,16 +2,19 @@
 use Rattle.std.specs.Prelude.{ℕ, Bool, true, false, List, [], ◌∷◌, ◌++◌, Option, None, Some, if◌then◌else◌, decimal, length, codes}
 use Rattle.table.specs.declared.items.Item.{Item}
 use Rattle.table.specs.declared.operations.Call.{Call}
-use Rattle.table.specs.declared.operations.Op.TheVariants.{Read}
+use Rattle.table.specs.declared.operations.Target.TheVariants.{One, All}
+use Rattle.table.specs.declared.operations.Op.{Op}
+use Rattle.table.specs.declared.operations.Op.TheVariants.{Read, Delete as DeleteOp, Flush as FlushOp}
 use Rattle.table.specs.declared.operations.Reply.{Reply}
-use Rattle.table.specs.declared.operations.Reply.TheVariants.{Stored, Value}
+use Rattle.table.specs.declared.operations.Reply.TheVariants.{Stored, NotStored, Exists, NotFound, Deleted, Number, Value, TooLarge as TooLargeReply, NotNumber, Flushed}
 use Rattle.proto.specs.Words.{space, crlf}
 use Rattle.proto.specs.declared.requests.Fault.{Fault}
 use Rattle.proto.specs.declared.requests.Fault.TheVariants.{Command, Format, DataChunk, TooLarge, LineTooLong, Expiry}
 use Rattle.proto.specs.declared.requests.Request.{Request}
-use Rattle.proto.specs.declared.requests.Request.TheVariants.{Store, Get, Bad}
+use Rattle.proto.specs.declared.requests.Request.TheVariants.{Store, Get, Arith, Delete, Flush, Quit, Bad}
+use Rattle.proto.specs.declared.texts.Look.{Look}
 use Rattle.proto.specs.declared.texts.Form.{Form}
-use Rattle.proto.specs.declared.texts.Form.TheVariants.{Status, Show}
+use Rattle.proto.specs.declared.texts.Form.TheVariants.{Status, Silent, Show}
 
 -- A turn of a stream: a fault, or a call with the form of its answer.
 pub data Turn : Type 0 where
@@ -31,17 +34,29 @@ is_last_of (key ∷ keys) = false
 
 -- a read of one key of a get, before these keys
 abbrev pub look : List ℕ → Bool → List (List ℕ) → Turn
-look key unique later = Calls (record { key = key; op = Read }) (Show (record { key = key; unique = unique; last = is_last_of later }))
+look key unique later = Calls (record { target = One key; op = Read }) (Show (record { key = key; unique = unique; last = is_last_of later }))
 
 -- one read for each key, in order
 abbrev pub looks : List (List ℕ) → Bool → List Turn
 looks [] unique = []
 looks (key ∷ keys) unique = look key unique keys ∷ looks keys unique
 
+-- how an update is answered: by a line, or by nothing where its line said `noreply` (protocol.txt, "Storage commands")
+abbrev pub form_of : Bool → Form
+form_of silent = if silent then Silent else Status
+
+-- one call on one key
+abbrev pub update : List ℕ → Op → Bool → Turn
+update key op silent = Calls (record { target = One key; op = op }) (form_of silent)
+
 -- the turns of a request
 abbrev pub turns_of : Request → List Turn
-turns_of (Store key op) = Calls (record { key = key; op = op }) Status ∷ []
+turns_of (Store key op silent) = update key op silent ∷ []
 turns_of (Get keys unique) = looks keys unique
+turns_of (Arith key op silent) = update key op silent ∷ []
+turns_of (Delete key silent) = update key DeleteOp silent ∷ []
+turns_of (Flush silent) = Calls (record { target = All; op = FlushOp }) (form_of silent) ∷ []
+turns_of Quit = []
 turns_of (Bad fault) = Faulty fault ∷ []
 
 -- a fault's line (protocol.txt, "Error strings"; the texts after the first word are this project's)
@@ -79,9 +94,32 @@ item_text key unique (Some item) = value_text key unique item
 abbrev pub end_text : Bool → List ℕ
 end_text last = if last then codes "END\r\n" else []
 
+-- the line of an update's reply (protocol.txt, "Storage commands", "Deletion", "Increment/Decrement" and "flush_all";
+-- that an item which would grow too large has the text of a fault is this project's rule)
+abbrev pub status_text : Reply → List ℕ
+status_text Stored = codes "STORED\r\n"
+status_text NotStored = codes "NOT_STORED\r\n"
+status_text Exists = codes "EXISTS\r\n"
+status_text NotFound = codes "NOT_FOUND\r\n"
+status_text Deleted = codes "DELETED\r\n"
+status_text (Number n) = decimal n ++ crlf
+status_text (Value item) = []
+status_text TooLargeReply = codes "SERVER_ERROR object too large for cache\r\n"
+status_text NotNumber = codes "CLIENT_ERROR cannot increment or decrement non-numeric value\r\n"
+status_text Flushed = codes "OK\r\n"
+
+-- a counter's new value
+abbrev pub is_number : Reply → Bool
+is_number (Number n) = true
+is_number reply = false
+
+-- what is written for a read's reply: the item, and behind the last key of a get its end
+abbrev pub look_text : Look → Reply → List ℕ
+look_text look (Value item) = item_text look.key look.unique item ++ end_text look.last
+look_text look reply = []
+
 -- what is written for a reply, by the form of the answer
 abbrev pub text : Form → Reply → List ℕ
-text Status Stored = codes "STORED\r\n"
-text Status (Value item) = []
-text (Show look) Stored = []
-text (Show look) (Value item) = item_text look.key look.unique item ++ end_text look.last
+text Status reply = status_text reply
+text Silent reply = []
+text (Show look) reply = look_text look reply

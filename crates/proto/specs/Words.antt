@@ -1,8 +1,7 @@
--- Bytes of lines, fields and numbers.
-use Rattle.std.specs.Prelude.{ℕ, Bool, false, nat_lt, nat_le, ◌==◌, ◌&&◌, List, [], ◌∷◌, length, Option, None, Some, if◌then◌else◌}
+-- Bytes of lines and fields.
+use Rattle.std.specs.Prelude.{ℕ, Bool, false, not, nat_le, ◌==◌, ◌&&◌, List, [], ◌∷◌, length, Option, None, Some, unwrap_or, if◌then◌else◌, codes}
 use Rattle.std.specs.List.{list_all, slice_split, position}
 use Rattle.std.specs.Char.{is_ascii_digit}
-use Rattle.std.specs.Str.Parse.{digits_value}
 
 -- line feed, carriage return, space
 abbrev pub lf : ℕ
@@ -26,15 +25,26 @@ line_limit = 2048
 abbrev pub first_lf : List ℕ → Option ℕ
 first_lf bytes = position (λ b. b == lf) bytes
 
+-- the place of the first space
+abbrev pub first_space : List ℕ → Option ℕ
+first_space text = position (λ b. b == space) text
+
+-- the end of the first field
+abbrev pub first_end : List ℕ → ℕ
+first_end text = unwrap_or (first_space text) (length text)
+
 -- the fields of a line's text, cut at each single space: two spaces together, or one at an end, make an empty field (this project's rule)
 abbrev pub fields_of : List ℕ → List (List ℕ)
 fields_of text = slice_split (λ b. b == space) text
 
--- the number that a field spells, where it is below the bound: digits, leading zeros allowed
-abbrev pub number_of : ℕ → List ℕ → Option ℕ
-number_of bound [] = None
-number_of bound (c ∷ cs) =
-    if list_all is_ascii_digit (c ∷ cs) && nat_lt (digits_value 10 (c ∷ cs)) bound then Some (digits_value 10 (c ∷ cs)) else None
+-- the fields of the text that is left, if there is one
+abbrev pub fields_left : Option (List ℕ) → List (List ℕ)
+fields_left None = []
+fields_left (Some text) = fields_of text
+
+-- the word for no reply (protocol.txt, "noreply")
+abbrev pub noreply_word : List ℕ
+noreply_word = codes "noreply"
 
 -- an expiry time: digits, or a minus and digits
 abbrev pub is_exptime : List ℕ → Bool
@@ -44,3 +54,7 @@ is_exptime (c ∷ cs) = if c == 45 then nat_le 1 (length cs) && list_all is_asci
 -- one that is made of the digit 0 alone
 abbrev pub is_zero : List ℕ → Bool
 is_zero field = list_all (λ c. c == 48) field
+
+-- whether an expiry time is asked for, if the field is one
+abbrev pub expiry_of : List ℕ → Option Bool
+expiry_of field = if is_exptime field then Some (not (is_zero field)) else None

@@ -1,84 +1,172 @@
 //! The request at the front of a stream.
-ghost use Rattle.std.specs.Prelude.{◌≡◌, ◌+◌, ◌≤◌, IfOk, IfSome, length};
-ghost use Rattle.proto.specs.Requests.{IsWhole, IsWithin, IsKnown, front, completed, finished};
+ghost use Rattle.std.specs.Prelude.{◌≡◌, ◌-◌, ◌≤◌, IfOk, None, Some, if◌then◌else◌, length, nat_lt};
+ghost use Rattle.table.specs.Items.{limit};
+ghost use Rattle.proto.specs.Fronts.{IsFront, IsKeyUpdate, IsKnown, IsWhole, IsWithin, finished, found_at, found_of};
+ghost use Rattle.proto.specs.Requests.{asked_at};
+ghost use Rattle.proto.specs.Verbs.{op_of};
 ghost use Rattle.proto.specs.declared.lines.Asked.TheVariants.{Behind};
+ghost use Rattle.proto.specs.declared.lines.Fate.TheVariants.{Put};
+ghost use Rattle.proto.specs.declared.requests.Request.TheVariants.{Bad};
 
-use crate::lines::{Asked, Block, Fate, asked_at};
+use crate::lines::{Asked, Block, Fate, Verb, asked_at};
 use crate::{Fault, Request};
 use bytes::Bytes;
 use std::alloc::{AllocError, Global};
-use table::Op;
+use table::{Key, Op};
 
-/// A request, and how many bytes spell it.
-pub type Front = Option<(Request, usize)>;
+/// What stands at the front of a stream.
+#[derive(Debug, Drop)]
+pub enum Found {
+    /// A request, and how many bytes spell it.
+    Request(Request, usize),
+    /// A refused block that isn't whole.
+    Refused(Passing),
+    /// Neither.
+    Nothing,
+}
 
-/// The block that the line at the front announces, and how many bytes the line has:
+/// A refused block, of which no byte is kept.
+#[derive(Clone, Copy, Debug)]
+pub struct Passing {
+    /// The fault that stands in its request's place.
+    pub fault: Fault,
+    /// How many bytes of it have still to come, the two behind its data among them.
+    pub left: usize,
+}
+
+/// A block that is to be put, and how many bytes the line before it has:
 /// what was found out about the front before all of the block had come.
 #[derive(Debug, Drop)]
 pub struct Pending {
-    pub block: Block,
+    pub key: Key,
+    pub verb: Verb,
+    pub silent: bool,
+    pub size: usize,
     pub line: usize,
 }
 
-/// The request at the front, if one is whole. It reads the line once, and then waits for its block by counting.
+/// What stands at the front. It reads a line once, and then waits for the block behind it by counting.
 pub fn front(
     alloc: Global,
     pending: &mut Option<Pending>,
     bytes: &[u8],
-) -> Result<Front, AllocError>
+) -> Result<Found, AllocError>
     requires known { IsKnown pending.old bytes.now }
     ensures known { IsKnown pending.new bytes.now }
-    ensures value { IfOk result (λ found. found ≡ front bytes.now) }
-    ensures within { IfOk result (λ found. IfSome found (λ f. f.1 ≤ length bytes.now)) }
-    ensures whole { IfOk result (λ found. IfSome found (λ f. IsWhole f.0)) }
+    ensures value { IfOk result (λ found. found ≡ found_at bytes.now) }
+    ensures front { IfOk result (λ found. IsFront found bytes.now) }
 {
-    if let Some(Pending { block, line }) = pending {
-        return completed(alloc, block, *line, bytes);
+    if let Some(announced) = pending.take() {
+        return announced_at(alloc, pending, announced, bytes);
     }
     let Some((asked, line)) = asked_at(alloc, bytes)? else {
-        return Ok(None);
+        return Ok(Found::Nothing);
     };
     match asked {
-        Asked::Whole(request) => Ok(Some((request, line))),
-        Asked::Behind(block) => {
-            let found = completed(alloc, &block, line, bytes)?;
-            *pending = Some(Pending { block, line });
-            Ok(found)
+        Asked::Whole(request) => Ok(Found::Request(request, line)),
+        Asked::Behind(block) => behind(alloc, pending, block, line, bytes),
+    }
+}
+
+// By the block that a line of so many bytes announces.
+fn behind(
+    alloc: Global,
+    pending: &mut Option<Pending>,
+    block: Block,
+    line: usize,
+    bytes: &[u8],
+) -> Result<Found, AllocError>
+    requires fresh { pending.old ≡ None }
+    requires asked { asked_at bytes.now ≡ Some (Behind block, line) }
+    requires line { line ≤ length bytes.now }
+    requires sound { IsWithin block.fate block.size }
+    ensures known { IsKnown pending.new bytes.now }
+    ensures value { IfOk result (λ found. found ≡ found_at bytes.now) }
+    ensures front { IfOk result (λ found. IsFront found bytes.now) }
+{
+    let Block { size, fate } = block;
+    match fate {
+        Fate::Refuse(fault) => Ok(refused(fault, line + size + 2, bytes.len())),
+        Fate::Put(key, verb, silent) => {
+            let announced = Pending {
+                key,
+                verb,
+                silent,
+                size,
+                line,
+            };
+            announced_at(alloc, pending, announced, bytes)
         }
     }
 }
 
-// The request of the block behind a line of so many bytes, if all of it has come.
-fn completed(alloc: Global, block: &Block, line: usize, bytes: &[u8]) -> Result<Front, AllocError>
-    requires line { line ≤ length bytes.now }
-    requires sound { IsWithin block.now.fate block.now.size }
-    ensures value { IfOk result (λ found. found ≡ completed bytes.now (Behind block.now) line) }
-    ensures within { IfOk result (λ found. IfSome found (λ f. f.1 ≤ length bytes.now)) }
-    ensures whole { IfOk result (λ found. IfSome found (λ f. IsWhole f.0)) }
+// A refused block that ends behind so many bytes, where this many have come.
+fn refused(fault: Fault, end: usize, come: usize) -> Found
+    ensures { result ≡ found_of (if nat_lt come end then None else Some (Bad fault, end)) (Some (record { fault = fault; left = end - come })) }
 {
-    if bytes.len() - line < block.size + 2 {
-        return Ok(None);
+    if come < end {
+        Found::Refused(Passing {
+            fault,
+            left: end - come,
+        })
+    } else {
+        Found::Request(Request::Bad(fault), end)
     }
-    let end = line + block.size;
-    let request = finished(alloc, &block.fate, &bytes[line..end], &bytes[end..end + 2])?;
-    Ok(Some((request, end + 2)))
+}
+
+// A block that is to be put: it is kept in mind until all of it has come.
+fn announced_at(
+    alloc: Global,
+    pending: &mut Option<Pending>,
+    announced: Pending,
+    bytes: &[u8],
+) -> Result<Found, AllocError>
+    requires fresh { pending.old ≡ None }
+    requires known { IsKnown (Some announced) bytes.now }
+    ensures known { IsKnown pending.new bytes.now }
+    ensures value { IfOk result (λ found. found ≡ found_at bytes.now) }
+    ensures front { IfOk result (λ found. IsFront found bytes.now) }
+{
+    if bytes.len() - announced.line < announced.size + 2 {
+        *pending = Some(announced);
+        return Ok(Found::Nothing);
+    }
+    let end = announced.line + announced.size;
+    let block = &bytes[announced.line..end];
+    let request = finished(alloc, announced, block, &bytes[end..end + 2])?;
+    Ok(Found::Request(request, end + 2))
 }
 
 // The request of a whole block: its data gets a block of its own, so that an item keeps no buffer alive.
-fn finished(alloc: Global, fate: &Fate, block: &[u8], ends: &[u8]) -> Result<Request, AllocError>
-    requires { IsWithin fate.now (length block.now) }
-    ensures value { IfOk result (λ request. request ≡ finished fate.now block.now ends.now) }
+fn finished(
+    alloc: Global,
+    announced: Pending,
+    block: &[u8],
+    ends: &[u8],
+) -> Result<Request, AllocError>
+    requires { length block.now ≤ limit }
+    ensures value { IfOk result (λ request. request ≡ finished (Put announced.key announced.verb announced.silent) block.now ends.now) }
     ensures whole { IfOk result IsWhole }
 {
-    match fate {
-        Fate::Refuse(fault) => Ok(Request::Bad(*fault)),
-        Fate::Put(key, flags) => {
-            if ends == b"\r\n".as_slice() {
-                let op = Op::Set(*flags, Bytes::copy_from_slice(alloc, block)?);
-                Ok(Request::Store(key.clone()?, op))
-            } else {
-                Ok(Request::Bad(Fault::DataChunk))
-            }
-        }
+    if ends != b"\r\n".as_slice() {
+        return Ok(Request::Bad(Fault::DataChunk));
+    }
+    let op = op_of(announced.verb, Bytes::copy_from_slice(alloc, block)?);
+    Ok(Request::Store(announced.key, op, announced.silent))
+}
+
+// The operation of a storage command on this data.
+fn op_of(verb: Verb, block: Bytes) -> Op
+    requires { length block ≤ limit }
+    ensures value { result ≡ op_of verb block }
+    ensures update { IsKeyUpdate result }
+{
+    match verb {
+        Verb::Set(flags) => Op::Set(flags, block),
+        Verb::Add(flags) => Op::Add(flags, block),
+        Verb::Replace(flags) => Op::Replace(flags, block),
+        Verb::Append => Op::Append(block),
+        Verb::Prepend => Op::Prepend(block),
+        Verb::Cas(flags, unique) => Op::Cas(flags, block, unique),
     }
 }

@@ -2,7 +2,7 @@
 ghost use Rattle.std.specs.Prelude.{◌≡◌, ℕ, ◌≤◌, List, ◌++◌, length, take, Option, Some};
 ghost use Rattle.proto.specs.declared.requests.Request.{Request};
 ghost use Rattle.proto.specs.Grammar.{Spells};
-ghost use Rattle.proto.specs.Requests.{front};
+ghost use Rattle.proto.specs.Fronts.{front};
 
 /// What is found at the front is spelled by exactly those bytes.
 pub fn found_is_spelled()

@@ -1,9 +1,13 @@
 //! Requests: what a client may ask for, and the faults that stand in a request's place.
-ghost use Rattle.std.specs.Prelude.{◌≡◌, ◌↔◌, [], ◌∷◌, IsTrue, IfOk, OnErr, MatchOption, map};
-ghost use Rattle.proto.specs.Keys.{keys_of};
+ghost use Rattle.std.specs.Prelude.{◌≡◌, ◌↔◌, [], ◌∷◌, IsTrue, IfOk, OnErr, MatchOption, true};
+ghost use Rattle.std.specs.List.{list_all};
+ghost use Rattle.table.specs.Keys.{is_key};
+ghost use Rattle.proto.specs.Keys.{keys_of, keys_in};
+ghost use Rattle.proto.specs.Words.{fields_of};
 
+use crate::fields::{Fields, first_end};
+use bytes::{Buf, Bytes};
 use std::alloc::{AllocError, Global};
-use std::collections::VecDeque;
 use std::marker::Model;
 use table::{Key, Op};
 
@@ -24,81 +28,102 @@ pub enum Fault {
     Expiry,
 }
 
-/// The keys of one request, in order. Contracts see a list of keys.
+/// The keys of one request, in order, as one text with a space between each two. Contracts see a list of keys.
 #[derive(Debug, Drop)]
 pub struct Keys {
-    keys: VecDeque<Key>,
+    text: Bytes,
 }
 
 impl Model for Keys {
-    ghost use Rattle.std.specs.Prelude.{List, ℕ};
+    ghost use Rattle.std.specs.Prelude.{◌≡◌, List, ℕ, true};
+    ghost use Rattle.std.specs.List.{list_all};
+    ghost use Rattle.table.specs.Keys.{is_key};
+    ghost use Rattle.proto.specs.Keys.{keys_in};
 
     ghost Value = { List (List ℕ) };
 
-    ghost view = { λ k. k.keys.items };
+    ghost view = { λ k. keys_in k.text };
+
+    ghost invariant = { λ k. list_all is_key (keys_in k.text) ≡ true };
 }
 
 impl Keys {
     /// No keys. It allocates nothing.
-    pub fn new(alloc: Global) -> Keys
+    pub fn new() -> Keys
         ensures { result ≡ [] }
     {
-        Keys {
-            keys: VecDeque::new(alloc),
-        }
+        Keys { text: Bytes::new() }
     }
 
-    /// The keys that these fields are, or `None` where one of them makes no key.
-    pub fn from_fields(alloc: Global, fields: &[&[u8]]) -> Result<Option<Keys>, AllocError>
-        ensures { IfOk result (λ keys. keys ≡ keys_of (map (λ field. field.now) fields.now)) }
+    /// The keys that the fields of a text are, or `None` where one of them makes no key. The text is copied once.
+    pub fn from_text(alloc: Global, text: &[u8]) -> Result<Option<Keys>, AllocError>
+        ensures { IfOk result (λ keys. keys ≡ keys_of (fields_of text.now)) }
     {
-        let mut keys = VecDeque::new(alloc);
-        for field in fields {
-            match Key::new(alloc, field)? {
-                Some(key) => keys.push_back(key)?,
-                None => return Ok(None),
-            }
+        if !are_keys(text) {
+            return Ok(None);
         }
-        Ok(Some(Keys { keys }))
+        let text = Bytes::copy_from_slice(alloc, text)?;
+        Ok(Some(Keys { text }))
     }
 
-    /// Takes the first key off, in constant time, with a copy that shares its bytes. A refusal changes nothing.
+    /// Takes the first key off, in time of its length, with a copy. Both share the text's bytes. A refusal changes nothing.
     pub fn pop(&mut self) -> Result<Option<(Key, Key)>, AllocError>
         ensures ok { IfOk result (λ o. MatchOption o ((self.old ≡ []) × (self.new ≡ [])) (λ p. (p.0 ≡ p.1) × (self.old ≡ p.0 ∷ self.new))) }
         ensures err { OnErr result (self.new ≡ self.old) }
     {
-        pop_key(&mut self.keys)
+        pop_key(&mut self.text)
     }
 
     /// Whether no key is left.
     pub fn is_empty(&self) -> bool
         ensures { IsTrue result ↔ (self.now ≡ []) }
     {
-        self.keys.is_empty()
+        self.text.is_empty()
     }
 }
 
-fn pop_key(keys: &mut VecDeque<Key>) -> Result<Option<(Key, Key)>, AllocError>
-    ensures ok { IfOk result (λ o. MatchOption o ((keys.old.items ≡ []) × (keys.new.items ≡ [])) (λ p. (p.0 ≡ p.1) × (keys.old.items ≡ p.0 ∷ keys.new.items))) }
-    ensures err { OnErr result (keys.new.items ≡ keys.old.items) }
+fn are_keys(text: &[u8]) -> bool
+    ensures { result ≡ list_all is_key (fields_of text.now) }
 {
-    let copy = match keys.front() {
-        Some(key) => key.clone()?,
-        None => return Ok(None),
-    };
-    match keys.pop_front() {
-        Some(key) => Ok(Some((key, copy))),
-        None => Ok(None),
+    let mut fields = Fields::of(text);
+    while let Some(field) = fields.next() {
+        if !table::is_key(field) {
+            return false;
+        }
     }
+    true
+}
+
+fn pop_key(text: &mut Bytes) -> Result<Option<(Key, Key)>, AllocError>
+    requires keys { list_all is_key (keys_in text.old) ≡ true }
+    ensures keys { list_all is_key (keys_in text.new) ≡ true }
+    ensures ok { IfOk result (λ o. MatchOption o ((keys_in text.old ≡ []) × (keys_in text.new ≡ [])) (λ p. (p.0 ≡ p.1) × (keys_in text.old ≡ p.0 ∷ keys_in text.new))) }
+    ensures err { OnErr result (text.new ≡ text.old) }
+{
+    let at = first_end(text.as_slice());
+    let Some(key) = Key::from_bytes(text.slice(0..at)?) else {
+        return Ok(None);
+    };
+    let copy = key.clone()?;
+    text.advance(text.len().min(at + 1));
+    Ok(Some((key, copy)))
 }
 
 /// What the bytes at the front of a stream spell.
 #[derive(Debug, Drop)]
 pub enum Request {
-    /// An update of one key (protocol.txt, "Storage commands").
-    Store(Key, Op),
+    /// An update of one key with a data block, and whether its reply is silent (protocol.txt, "Storage commands").
+    Store(Key, Op, bool),
     /// A read of each of these keys, and whether it shows uniques (protocol.txt, "Retrieval command").
     Get(Keys, bool),
+    /// A change of one key's counter, and whether its reply is silent (protocol.txt, "Increment/Decrement").
+    Arith(Key, Op, bool),
+    /// A deletion of one key, and whether its reply is silent (protocol.txt, "Deletion").
+    Delete(Key, bool),
+    /// A flush of all keys, and whether its reply is silent (protocol.txt, "flush_all").
+    Flush(bool),
+    /// The end of the stream (protocol.txt, "quit").
+    Quit,
     /// A fault in a request's place.
     Bad(Fault),
 }

@@ -1,18 +1,18 @@
 //! Laws of streams: a session gives the turns of its bytes, however they were cut.
-ghost use Rattle.std.specs.Prelude.{◌≡◌, ◌<◌, ◌++◌, List, Some, length};
+ghost use Rattle.std.specs.Prelude.{◌≡◌, ◌<◌, ◌++◌, List, Some};
 ghost use Rattle.proto.specs.declared.requests.Fault.{Fault};
 ghost use Rattle.proto.specs.Turns.{Faulty};
 ghost use Rattle.proto.specs.Sessions.{Held, fresh, next_of};
-ghost use Rattle.proto.specs.Streams.{Action, GivesFirst, driven, stream_of, to_come, turns};
+ghost use Rattle.proto.specs.Streams.{Action, GivesFirst, driven, most_faults, stream_of, to_come, turns};
 
 /// Each step of a session gives the first of the turns that are to come, and leaves the others, whatever bytes may follow.
 pub fn next_gives_first()
     ensures { (h : Held) → GivesFirst h (next_of h).0 (next_of h).1 }
 {}
 
-/// A fault takes a byte at least.
+/// A fault takes a byte at least, of the unread or of a block that was passed over.
 pub fn faults_take_bytes()
-    ensures { (h : Held) (fault : Fault) → (next_of h).0 ≡ Some (Faulty fault) → length (next_of h).1.unread < length h.unread }
+    ensures { (h : Held) (fault : Fault) → (next_of h).0 ≡ Some (Faulty fault) → most_faults (next_of h).1 < most_faults h }
 {}
 
 /// The turns that a session gave, and those that it has still to give, are those of all its bytes as one stream:

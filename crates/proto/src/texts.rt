@@ -1,6 +1,7 @@
 //! Texts: what is written for faults and replies.
-ghost use Rattle.std.specs.Prelude.{◌≡◌, ◌+◌, ◌≤◌, ◌++◌, length, OnOk, OnErr};
-ghost use Rattle.proto.specs.Turns.{fault_text, text, end_text, value_text, value_line, unique_text, number_text};
+ghost use Rattle.std.specs.Prelude.{◌≡◌, ◌+◌, ◌≤◌, ◌++◌, false, decimal, length, OnOk, OnErr};
+ghost use Rattle.proto.specs.Words.{crlf};
+ghost use Rattle.proto.specs.Turns.{fault_text, is_number, status_text, text, end_text, value_text, value_line, unique_text, number_text};
 
 use crate::Fault;
 use bytes::BytesMut;
@@ -23,6 +24,8 @@ pub struct Look {
 pub enum Form {
     /// One line that says how an update went.
     Status,
+    /// Nothing is written.
+    Silent,
     /// The block of a key's item, if it has one.
     Show(Look),
 }
@@ -54,11 +57,41 @@ pub fn write_reply(out: &mut BytesMut, form: &Form, reply: &Reply) -> Result<(),
     ensures err { OnErr result (out.new.items ≡ out.old.items) }
 {
     match (form, reply) {
-        (Form::Status, Reply::Stored) => out.extend_from_slice(b"STORED\r\n"),
+        (Form::Silent, _) => Ok(()),
+        (Form::Status, Reply::Number(n)) => write_number(out, *n),
+        (Form::Status, reply) => out.extend_from_slice(status_line(reply)),
         (Form::Show(look), Reply::Value(Some(item))) => write_value(out, look, item),
         (Form::Show(look), Reply::Value(None)) => out.extend_from_slice(end_line(look.last)),
-        _ => Ok(()),
+        (Form::Show(_), _) => Ok(()),
     }
+}
+
+// The line of a reply without a value.
+fn status_line(reply: &Reply) -> &'static [u8]
+    requires { is_number reply.now ≡ false }
+    ensures { result.now ≡ status_text reply.now }
+{
+    match reply {
+        Reply::Stored => b"STORED\r\n",
+        Reply::NotStored => b"NOT_STORED\r\n",
+        Reply::Exists => b"EXISTS\r\n",
+        Reply::NotFound => b"NOT_FOUND\r\n",
+        Reply::Deleted => b"DELETED\r\n",
+        Reply::TooLarge => b"SERVER_ERROR object too large for cache\r\n",
+        Reply::NotNumber => b"CLIENT_ERROR cannot increment or decrement non-numeric value\r\n",
+        Reply::Flushed => b"OK\r\n",
+        Reply::Number(_) | Reply::Value(_) => b"",
+    }
+}
+
+fn write_number(out: &mut BytesMut, n: u64) -> Result<(), AllocError>
+    ensures ok { OnOk result (out.new.items ≡ out.old.items ++ (decimal n ++ crlf)) }
+    ensures err { OnErr result (out.new.items ≡ out.old.items) }
+{
+    out.reserve(42)?;
+    out.extend_reserved(Buffer::new().format(n).as_bytes());
+    out.extend_reserved(b"\r\n");
+    Ok(())
 }
 
 fn write_value(out: &mut BytesMut, look: &Look, item: &Item) -> Result<(), AllocError>

@@ -1,5 +1,5 @@
 //! Connections: a client's session, its calls, and the replies to them.
-ghost use Rattle.std.specs.Prelude.{◌≡◌, OnErr, OnOk, IfOk, MatchOption, Some, None};
+ghost use Rattle.std.specs.Prelude.{◌≡◌, OnErr, OnOk, IfOk, IsErrOf, MatchOption, Some, None};
 ghost use Rattle.proto.specs.Turns.{call_of};
 ghost use Rattle.world.specs.Connections.{past_faults};
 ghost use Rattle.world.specs.Lawful.{HasOpen};
@@ -152,6 +152,7 @@ fn next_call(session: &mut Session) -> Result<Option<Call>, ProtoFault>
     ensures call { IfOk result (λ call. call ≡ call_of (past_faults session.old).0) }
     ensures left { OnOk result (session.new ≡ (past_faults session.old).1) }
     ensures opens { IfOk result (λ call. MatchOption call (session.new.asked ≡ None) (λ c. HasOpen (Some c) session.new.asked)) }
+    ensures only_memory { IsErrOf result ProtoFault.Closed → ⊥ }
     ensures err { OnErr result (session.new.asked ≡ None) }
 {
     proto::faults_take_bytes();
