@@ -26,7 +26,9 @@ pub fn decide(
 {
     match (op, item) {
         (Op::Read, item) => Ok((Reply::Value(copy_of(item)?), Change::Keep)),
-        (Op::Set(flags, data), _) | (Op::Add(flags, data), None) | (Op::Replace(flags, data), Some(_)) => {
+        (Op::Set(flags, data), _)
+        | (Op::Add(flags, data), None)
+        | (Op::Replace(flags, data), Some(_)) => {
             Ok((Reply::Stored, put(*flags, data.clone()?, number)))
         }
         (Op::Add(..), Some(_)) | (Op::Replace(..) | Op::Append(_) | Op::Prepend(_), None) => {
@@ -99,10 +101,10 @@ fn joined(alloc: Global, front: &[u8], back: &[u8]) -> Result<Bytes, AllocError>
     block(data)
 }
 
-fn block(data: Vec<u8>) -> Result<Bytes, AllocError>
-    ensures { IfOk result (λ block. block ≡ data.items) }
+fn block(bytes: Vec<u8>) -> Result<Bytes, AllocError>
+    ensures { IfOk result (λ block. block ≡ bytes.items) }
 {
-    match Bytes::from_vec(data) {
+    match Bytes::from_vec(bytes) {
         Ok(block) => Ok(block),
         Err(AllocFailed { .. }) => Err(AllocError),
     }

@@ -30,11 +30,11 @@ fn with_digit(value: u64, b: u8) -> Option<u64>
 }
 
 /// The number that data spells as a counter: 1 to 20 digits, with a value below 2^64 (this project's rule).
-pub fn counter(data: &[u8]) -> Option<u64>
-    ensures { result ≡ counter_of data.now }
+pub fn counter(bytes: &[u8]) -> Option<u64>
+    ensures { result ≡ counter_of bytes.now }
 {
-    if data.len() <= MOST_DIGITS {
-        number(data)
+    if bytes.len() <= MOST_DIGITS {
+        number(bytes)
     } else {
         None
     }

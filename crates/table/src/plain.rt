@@ -109,7 +109,11 @@ fn find_at<'a>(items: &'a BTreeMap<Key, Item>, key: &Key) -> Option<&'a Item>
     items.get(key)
 }
 
-fn carry_out(items: &mut BTreeMap<Key, Item>, target: &Target, change: Change) -> Result<(), AllocError>
+fn carry_out(
+    items: &mut BTreeMap<Key, Item>,
+    target: &Target,
+    change: Change,
+) -> Result<(), AllocError>
     ensures ok { OnOk result (items_of items.new.entries ≡ changed (items_of items.old.entries) target.now change) }
     ensures err { OnErr result (items.new.entries ≡ items.old.entries) }
 {
@@ -123,7 +127,11 @@ fn carry_out(items: &mut BTreeMap<Key, Item>, target: &Target, change: Change) -
     Ok(())
 }
 
-fn carry_out_at(items: &mut BTreeMap<Key, Item>, key: &Key, change: Change) -> Result<(), AllocError>
+fn carry_out_at(
+    items: &mut BTreeMap<Key, Item>,
+    key: &Key,
+    change: Change,
+) -> Result<(), AllocError>
     ensures ok { OnOk result (items_of items.new.entries ≡ changed_at (items_of items.old.entries) key.now change) }
     ensures err { OnErr result (items.new.entries ≡ items.old.entries) }
 {

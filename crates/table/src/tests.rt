@@ -109,7 +109,12 @@ fn a_decision_shares_the_data(rt: HostRuntime) -> Result<(), Fail> {
     Ok(())
 }
 
-fn decided(alloc: Global, op: &Op, item: Option<&Item>, number: u64) -> Result<(Reply, Change), Fail> {
+fn decided(
+    alloc: Global,
+    op: &Op,
+    item: Option<&Item>,
+    number: u64,
+) -> Result<(Reply, Change), Fail> {
     if !op.fits() || number == 0 {
         return Err("an operation that fits".into());
     }
@@ -132,7 +137,14 @@ fn after(alloc: Global, rows: Vec<(Op, Reply)>) -> Result<Table, Fail> {
 }
 
 // What is at a key: flags, data and unique.
-fn holds(alloc: Global, table: &mut Table, key: &[u8], flags: u32, data: &[u8], unique: u64) -> Result<bool, Fail> {
+fn holds(
+    alloc: Global,
+    table: &mut Table,
+    key: &[u8],
+    flags: u32,
+    data: &[u8],
+    unique: u64,
+) -> Result<bool, Fail> {
     let wanted = item(alloc, flags, data, unique)?;
     Ok(call(alloc, table, key, &Op::Read)? == Reply::Value(Some(wanted)))
 }
@@ -217,7 +229,13 @@ fn counters_wrap_and_stop(rt: HostRuntime) -> Result<(), Fail> {
 #[test]
 fn not_a_number(rt: HostRuntime) -> Result<(), Fail> {
     let alloc = rt.alloc();
-    let texts: [&[u8]; 5] = [b"abc", b"", b"18446744073709551616", b"000000000000000000001", b"-1"];
+    let texts: [&[u8]; 5] = [
+        b"abc",
+        b"",
+        b"18446744073709551616",
+        b"000000000000000000001",
+        b"-1",
+    ];
     for text in texts {
         let rows = vec![in alloc;
             (set(alloc, 0, text)?, Reply::Stored),
@@ -248,7 +266,10 @@ fn delete(rt: HostRuntime) -> Result<(), Fail> {
 #[test]
 fn flush_all(rt: HostRuntime) -> Result<(), Fail> {
     let alloc = rt.alloc();
-    let mut table = after(alloc, vec![in alloc; (set(alloc, 0, b"1")?, Reply::Stored)]?)?;
+    let mut table = after(
+        alloc,
+        vec![in alloc; (set(alloc, 0, b"1")?, Reply::Stored)]?,
+    )?;
     let stored = call(alloc, &mut table, b"b", &set(alloc, 0, b"2")?)?;
     assert!(rt; is_stored(&stored));
     assert!(rt; asked(&mut table, &Target::All, &Op::Flush)? == Reply::Flushed);
