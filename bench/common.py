@@ -17,27 +17,14 @@ def build():
     subprocess.run([os.path.join(TOP, "craq"), "--help"], stderr=subprocess.DEVNULL, check=False)
 
 
-def pipelined(requests):
-    """These requests one behind the other: the bytes, and where each request ends."""
+def pipelined_sets(size, data=100):
+    """At least `size` bytes of sets with so many bytes of data each: the bytes, and where each request ends."""
     text, ends = bytearray(), []
-    for request in requests:
-        text += request
+    while len(text) < size:
+        text += b"set key%05d 0 0 %d\r\n" % (len(ends) % 100000, data)
+        text += b"x" * data + b"\r\n"
         ends.append(len(text))
     return bytes(text), ends
-
-
-def set_of(number, size):
-    return b"set key%05d 0 0 %d\r\n" % (number % 100000, size) + b"x" * size + b"\r\n"
-
-
-def pipelined_sets(count, size=100):
-    """So many sets with so many bytes of data each, on keys of their own."""
-    return pipelined(set_of(number, size) for number in range(count))
-
-
-def pipelined_gets(count, size=100):
-    """A set with so many bytes of data, and so many gets of it."""
-    return pipelined([set_of(0, size)] + [b"get key00000\r\n"] * count)
 
 
 def escaped(piece):
@@ -61,26 +48,36 @@ def processor_seconds():
     return used.ru_utime + used.ru_stime
 
 
-def seconds(schedule):
-    """The processor time of the program on this schedule, the least of some runs."""
+def least(words):
+    """The processor time of these words, the least of some runs."""
+    least = float("inf")
+    for _ in range(RUNS):
+        start = processor_seconds()
+        done = subprocess.run(words, stdout=subprocess.DEVNULL)
+        least = min(least, processor_seconds() - start)
+        if done.returncode != 0:
+            sys.exit("the program failed")
+    return least
+
+
+def counted(words):
+    """How many instructions these words take, by valgrind: the same at each run, whatever else runs."""
+    valgrind = ["valgrind", "--tool=callgrind", "--callgrind-out-file=/dev/null", *words]
+    done = subprocess.run(valgrind, stdout=subprocess.DEVNULL, stderr=subprocess.PIPE, text=True)
+    return int(re.search(r"Collected : (\d+)", done.stderr).group(1))
+
+
+def on_file(schedule, measure):
+    """A measure of the program on this schedule."""
     with tempfile.NamedTemporaryFile("w", suffix=".schedule") as file:
         file.write(schedule)
         file.flush()
-        least = float("inf")
-        for _ in range(RUNS):
-            start = processor_seconds()
-            done = subprocess.run([PROGRAM, "scenario", file.name], stdout=subprocess.DEVNULL)
-            least = min(least, processor_seconds() - start)
-            if done.returncode != 0:
-                sys.exit("the program failed")
-        return least
+        return measure([PROGRAM, "scenario", file.name])
+
+
+def seconds(schedule):
+    return on_file(schedule, least)
 
 
 def instructions(schedule):
-    """How many instructions the program takes on this schedule, by valgrind: the same at each run, whatever else runs."""
-    with tempfile.NamedTemporaryFile("w", suffix=".schedule") as file:
-        file.write(schedule)
-        file.flush()
-        words = ["valgrind", "--tool=callgrind", "--callgrind-out-file=/dev/null", PROGRAM, "scenario", file.name]
-        done = subprocess.run(words, stdout=subprocess.DEVNULL, stderr=subprocess.PIPE, text=True)
-        return int(re.search(r"Collected : (\d+)", done.stderr).group(1))
+    return on_file(schedule, counted)

@@ -1,0 +1,44 @@
+//! The program `lone`: sets or gets, pipelined, through one session over a plain table. `bench/requests` times it.
+#![tactic(auto)]
+
+mod loads;
+mod rounds;
+
+use loads::Load;
+use rounds::serve;
+use std::env;
+use std::process::ExitCode;
+use std::rt::Env;
+
+fn main(rt: HostRuntime) -> ExitCode {
+    let Some(load) = asked(&rt) else {
+        let _ = eprintln!(rt;
+            "usage: lone sets|gets BYTES ROUNDS: rounds of 64 requests with values of so many bytes"
+        );
+        return ExitCode::from(2);
+    };
+    match serve(rt.alloc(), &load) {
+        Ok(written) => {
+            let _ = println!(rt; "{written} bytes");
+            ExitCode::SUCCESS
+        }
+        Err(fault) => {
+            let _ = eprintln!(rt; "lone: {fault}");
+            ExitCode::FAILURE
+        }
+    }
+}
+
+// The load that the program's arguments name.
+fn asked<R: Env + AllocGlobal>(rt: &R) -> Option<Load> {
+    let mut words = env::args(rt).ok()?;
+    words.next()?;
+    let gets = match words.next()?.as_str() {
+        "gets" => true,
+        "sets" => false,
+        _ => return None,
+    };
+    let size = words.next()?.as_str().parse::<u32>().ok()?;
+    let rounds = words.next()?.as_str().parse::<u32>().ok()?;
+    Some(Load { gets, size, rounds })
+}

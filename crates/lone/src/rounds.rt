@@ -1,0 +1,61 @@
+//! Rounds: requests that are fed at once, and answered one after another.
+ghost use Rattle.std.specs.Prelude.{◌≡◌, OnOk, None};
+
+use crate::loads::{Load, ROUND, gets, sets};
+use proto::{ProtoFault, Session, Step};
+use std::alloc::{AllocError, Global};
+use table::{Table, TableFault};
+use thiserror::Error;
+
+/// Why a load isn't served to its end.
+#[derive(Debug, Error, Drop)]
+pub enum LoadFault {
+    #[error("out of memory")]
+    Memory(#[from] AllocError),
+    #[error("session: {0}")]
+    Session(#[from] ProtoFault),
+    #[error("table: {0}")]
+    Table(#[from] TableFault),
+}
+
+/// Serves all rounds, and gives the number of bytes that were written.
+pub fn serve(alloc: Global, load: &Load) -> Result<u64, LoadFault> {
+    let mut session = Session::new(alloc);
+    let mut table = Table::new(alloc);
+    let mut written = round(&mut session, &mut table, sets(alloc, load.size)?.as_slice())?;
+    let bytes = if load.gets {
+        gets(alloc)?
+    } else {
+        sets(alloc, load.size)?
+    };
+    for _ in 0..load.rounds {
+        written = written.wrapping_add(round(&mut session, &mut table, bytes.as_slice())?);
+    }
+    Ok(written)
+}
+
+// One round: how many bytes it wrote.
+fn round(session: &mut Session, table: &mut Table, bytes: &[u8]) -> Result<u64, LoadFault>
+    requires { session.old.asked ≡ None }
+    ensures { OnOk result (session.new.asked ≡ None) }
+{
+    session.feed(bytes)?;
+    for _ in 0..ROUND {
+        answer(session, table)?;
+    }
+    let written = session.out().len();
+    session.taken(written);
+    Ok(written as u64)
+}
+
+// The next request, answered.
+fn answer(session: &mut Session, table: &mut Table) -> Result<(), LoadFault>
+    requires { session.old.asked ≡ None }
+    ensures { OnOk result (session.new.asked ≡ None) }
+{
+    if let Step::Call(target, op) = session.next()? {
+        let reply = table.call(&target, &op)?;
+        session.answer(&reply)?;
+    }
+    Ok(())
+}

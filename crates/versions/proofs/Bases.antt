@@ -1,0 +1,132 @@
+-- The base that records stand for.
+use Rattle.std.proofs.Common.{◌≡◌, ℕ, Bool, true, false, cond, List, [], ◌∷◌, ◌++◌, drop, Option, None, Some, refl, sym, ap, ◌∙◌, append-nil}
+use Rattle.std.proofs.lemmas.Map.Views.{tells_apart}
+use Rattle.std.specs.FinMap.{get-insert, get-remove, get-empty, same_map}
+use Rattle.std.specs.Ordering.{eq_by_cmp}
+use Rattle.std.specs.Cmp.Lexicographic.{nat_list_cmp_total}
+use Rattle.std.specs.Map.{keys_of}
+use Rattle.std.specs.Map.Calls.{RetainsPairs}
+use Rattle.std.specs.List.{IsDistinct}
+use Rattle.std.specs.BTreeMap.{is_at}
+use Rattle.std.specs.Cmp.{eq_by_cmp_equiv}
+use Rattle.std.proofs.lemmas.Map.{lookup-none}
+use Rattle.std.proofs.lemmas.Map.Entries.{none_past_head}
+use Rattle.std.proofs.lemmas.Map.Keys.{IsDistinct-tail}
+use Rattle.std.proofs.lemmas.Map.Lookups.{exact_bytes}
+use Rattle.table.specs.Keys.{key_cmp}
+use Rattle.table.specs.Plain.{Items, item_at, changed}
+use Rattle.table.specs.declared.items.Item.{Item}
+use Rattle.table.specs.declared.operations.Target.{Target}
+use Rattle.table.specs.declared.operations.Change.{Change}
+use Rattle.versions.specs.Entries.{set_key}
+use Rattle.versions.specs.Stores.{is_key_of, sets}
+use Rattle.versions.specs.declared.records.Record.{Record}
+use Rattle.versions.specs.Records.{record_at, item_in, numbers_in, with_item, base_of, item_after}
+use Rattle.versions.proofs.Logs.{item-changed}
+
+item_of_choice : (b : Bool) (r : Record) (o : Option Record) → cond b r.item (item_in o) ≡ item_in (cond b (Some r) o)
+item_of_choice true r o = refl
+item_of_choice false r o = refl
+
+item-with_item : (items : Items) (key : List ℕ) (item : Option Item) (q : List ℕ) → item_at (with_item items key item) q ≡ cond (eq_by_cmp key_cmp q key) item (item_at items q)
+item-with_item items key None q = get-remove nat_list_cmp_total items key q
+item-with_item items key (Some item) q = get-insert nat_list_cmp_total items key item q
+
+-- a key's item in the base is its record's
+pub item-base_of : (records : List (List ℕ × Record)) (q : List ℕ) → item_at (base_of records) q ≡ item_in (record_at records q)
+item-base_of [] q = get-empty key_cmp q
+item-base_of (e ∷ es) q =
+    item-with_item (base_of es) e.0 e.1.item q
+    ∙ ap (cond (eq_by_cmp key_cmp q e.0) e.1.item) (item-base_of es q)
+    ∙ item_of_choice (eq_by_cmp key_cmp q e.0) e.1 (record_at es q)
+
+pub same_base : (records others : List (List ℕ × Record)) → ((q : List ℕ) → item_in (record_at others q) ≡ item_in (record_at records q)) → base_of others ≡ base_of records
+same_base records others same = same_map nat_list_cmp_total exact_bytes _ _ (λ q. item-base_of others q ∙ same q ∙ sym (item-base_of records q))
+
+-- records that differ by a change stand for a base that does
+pub base-changed : (records others : List (List ℕ × Record)) (target : Target) (change : Change) → ((q : List ℕ) → item_in (record_at others q) ≡ item_after q target change (item_in (record_at records q))) → base_of others ≡ changed (base_of records) target change
+base-changed records others target change after = same_map nat_list_cmp_total exact_bytes _ _ (λ q.
+    item-base_of others q ∙ after q
+    ∙ sym (item-changed (base_of records) target change q ∙ ap (item_after q target change) (item-base_of records q)))
+
+-- ---- one record changes
+
+tie : (k q : List ℕ) → is_at (key_cmp k) q ≡ true → k ≡ q
+tie k q e = tells_apart exact_bytes k q e
+
+same_by : {A : Type 0} (f : List ℕ → A) (k q : List ℕ) (b : Bool) → (b ≡ true → k ≡ q) → cond b (f k) (f q) ≡ f q
+same_by f k q true h = ap f (h refl)
+same_by f k q false h = refl
+
+pub noted_by : (f : List ℕ → List ℕ) (n : ℕ) (k q : List ℕ) (b : Bool) → (b ≡ true → k ≡ q) → cond b (f k ++ n ∷ []) (f q) ≡ f q ++ cond b (n ∷ []) []
+noted_by f n k q true h = ap (λ x. f x ++ n ∷ []) (h refl)
+noted_by f n k q false h = sym (append-nil (f q))
+
+-- a number is added at a key
+pub noted_at : (f : List ℕ → List ℕ) (n : ℕ) (k q : List ℕ) → cond (is_at (key_cmp k) q) (f k ++ n ∷ []) (f q) ≡ f q ++ cond (is_at (key_cmp k) q) (n ∷ []) []
+noted_at f n k q = noted_by f n k q (is_at (key_cmp k) q) (tie k q)
+
+dropped_by : (f : List ℕ → List ℕ) (k q : List ℕ) (b : Bool) → (b ≡ true → k ≡ q) → cond b (drop 1 (f k)) (f q) ≡ cond b (drop 1 (f q)) (f q)
+dropped_by f k q true h = ap (λ x. drop 1 (f x)) (h refl)
+dropped_by f k q false h = refl
+
+-- the first number of a key is dropped
+pub dropped_at : (f : List ℕ → List ℕ) (k q : List ℕ) → cond (is_at (key_cmp k) q) (drop 1 (f k)) (f q) ≡ cond (is_at (key_cmp k) q) (drop 1 (f q)) (f q)
+dropped_at f k q = dropped_by f k q (is_at (key_cmp k) q) (tie k q)
+
+numbers_of_choice : (b : Bool) (r : Record) (o : Option Record) → cond b r.numbers (numbers_in o) ≡ numbers_in (cond b (Some r) o)
+numbers_of_choice true r o = refl
+numbers_of_choice false r o = refl
+
+-- a key's record is replaced
+abbrev pub Replaced : List (List ℕ × Record) → List (List ℕ × Record) → List ℕ → Record → Type 0
+Replaced es fs k w = (q : List ℕ) → record_at fs q ≡ cond (is_at (key_cmp k) q) (Some w) (record_at es q)
+
+pub items_stay : (es fs : List (List ℕ × Record)) (k : List ℕ) (w : Record) → w.item ≡ item_in (record_at es k) → Replaced es fs k w → (q : List ℕ) → item_in (record_at fs q) ≡ item_in (record_at es q)
+items_stay es fs k w is h q =
+    ap item_in (h q) ∙ sym (item_of_choice (is_at (key_cmp k) q) w (record_at es q))
+    ∙ ap (λ i. cond (is_at (key_cmp k) q) i (item_in (record_at es q))) is
+    ∙ same_by (λ x. item_in (record_at es x)) k q (is_at (key_cmp k) q) (tie k q)
+
+pub numbers_stay : (es fs : List (List ℕ × Record)) (k : List ℕ) (w : Record) → w.numbers ≡ numbers_in (record_at es k) → Replaced es fs k w → (q : List ℕ) → numbers_in (record_at fs q) ≡ numbers_in (record_at es q)
+numbers_stay es fs k w is h q =
+    ap numbers_in (h q) ∙ sym (numbers_of_choice (is_at (key_cmp k) q) w (record_at es q))
+    ∙ ap (λ i. cond (is_at (key_cmp k) q) i (numbers_in (record_at es q))) is
+    ∙ same_by (λ x. numbers_in (record_at es x)) k q (is_at (key_cmp k) q) (tie k q)
+
+-- ---- all items are taken away
+
+module _ {F : Type 0} (T : F → List ℕ → Record → Bool → Record → F → Type 0) (called : (f : F) (k : List ℕ) (v : Record) (b : Bool) (w : Record) (g : F) → T f k v b w g → (w.item ≡ None) × (w.numbers ≡ v.numbers) × (b ≡ false → v.numbers ≡ [])) where
+  no_item : (b : Bool) (w : Record) (o : Option Record) → w.item ≡ None → item_in o ≡ None → item_in (cond b (Some w) o) ≡ None
+  no_item true w o is h = is
+  no_item false w o is h = h
+
+  same_numbers : (b : Bool) (w v : Record) (o p : Option Record) → w.numbers ≡ v.numbers → numbers_in o ≡ numbers_in p → numbers_in (cond b (Some w) o) ≡ numbers_in (cond b (Some v) p)
+  same_numbers true w v o p is h = is
+  same_numbers false w v o p is h = h
+
+  no_numbers : (b : Bool) (v : Record) (o p : Option Record) → v.numbers ≡ [] → (b ≡ true → p ≡ None) → numbers_in o ≡ numbers_in p → numbers_in o ≡ numbers_in (cond b (Some v) p)
+  no_numbers true v o p is none h = h ∙ ap numbers_in (none refl) ∙ sym is
+  no_numbers false v o p is none h = h
+
+  -- what `retain` leaves, where the closure takes the item out and keeps what has numbers
+  pub cleared : (es kept : List (List ℕ × Record)) (f : F) → RetainsPairs T f es kept → IsDistinct (eq_by_cmp key_cmp) (keys_of es) → (q : List ℕ) → (item_in (record_at kept q) ≡ None) × (numbers_in (record_at kept q) ≡ numbers_in (record_at es q))
+  cleared [] kept f r d q = rw r (refl, refl)
+  cleared (e ∷ es) kept f r d q =
+      let p = called f e.0 e.1 r.0 r.1 r.2 r.4 in
+      let h = cleared es r.3 r.2 r.5 (IsDistinct-tail (eq_by_cmp key_cmp) e.0 (keys_of es) d) q in
+      rw r.6 (cleared_step r.0 r.1 e es r.3 q p.0 p.1 p.2 (λ t. lookup-none (is_at (key_cmp q)) es (none_past_head (eq_by_cmp_equiv nat_list_cmp_total) q e es d t)) h)
+    where
+      cleared_step : (b : Bool) (w : Record) (e : List ℕ × Record) (es rest : List (List ℕ × Record)) (q : List ℕ) → w.item ≡ None → w.numbers ≡ e.1.numbers → (b ≡ false → e.1.numbers ≡ []) → (is_at (key_cmp q) e.0 ≡ true → record_at es q ≡ None)
+          → (item_in (record_at rest q) ≡ None) × (numbers_in (record_at rest q) ≡ numbers_in (record_at es q))
+          → (item_in (record_at (cond b ((e.0, w) ∷ rest) rest) q) ≡ None) × (numbers_in (record_at (cond b ((e.0, w) ∷ rest) rest) q) ≡ numbers_in (record_at (e ∷ es) q))
+      cleared_step true w e es rest q item same gone none h = (no_item (is_at (key_cmp q) e.0) w (record_at rest q) item h.0, same_numbers (is_at (key_cmp q) e.0) w e.1 (record_at rest q) (record_at es q) same h.1)
+      cleared_step false w e es rest q item same gone none h = (h.0, no_numbers (is_at (key_cmp q) e.0) e.1 (record_at rest q) (record_at es q) (gone refl) none h.1)
+
+-- a key is at itself
+pub itself : (k : List ℕ) → is_at (key_cmp k) k ≡ true
+itself k = (eq_by_cmp_equiv nat_list_cmp_total).refl k
+
+-- a number is added at the key that an entry sets
+pub noted_key : (f : List ℕ → List ℕ) (n : ℕ) (k q : List ℕ) (target : Target) (change : Change) → Some k ≡ set_key target change → cond (is_at (key_cmp k) q) (f k ++ n ∷ []) (f q) ≡ f q ++ cond (sets q target change) (n ∷ []) []
+noted_key f n k q target change is = noted_at f n k q ∙ ap (λ o. f q ++ cond (is_key_of o q) (n ∷ []) []) is

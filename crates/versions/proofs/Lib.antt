@@ -1,0 +1,4 @@
+pub mod Lists
+pub mod Logs
+pub mod Bases
+pub mod Holding

@@ -1,0 +1,16 @@
+use Rattle.std.proofs.Common.{◌∙◌}
+use Rattle.versions.specs.Records.{numbers_in, record_at}
+use Rattle.versions.proofs.Bases.{dropped_at, itself}
+use Rattle.versions.proofs.changes.settle.Goals as goal
+
+pub settle-requires : goal.settle-requires
+settle-requires c = record { noted = c.requires.noted c.in-One-Put.key (rw (c.in-One-Put.is-0, c.in-One-Put.is-1) (itself c.in-One-Put.key)) }
+
+pub settle-requires-in-One-Drop : goal.settle-requires-in-One-Drop
+settle-requires-in-One-Drop c = record { noted = c.requires.noted c.in-One-Drop.key (rw (c.in-One-Drop.is-0, c.in-One-Drop.is-1) (itself c.in-One-Drop.key)) }
+
+pub returns-in-One-Put-clause-numbers : goal.returns-in-One-Put-clause-numbers
+returns-in-One-Put-clause-numbers c = λ q. rw (c.in-One-Put.is-0, c.in-One-Put.is-1) (c.settle.ensures.numbers q ∙ dropped_at (λ x. numbers_in (record_at c.args.records.now.entries x)) c.in-One-Put.key q)
+
+pub returns-in-One-Drop-clause-numbers : goal.returns-in-One-Drop-clause-numbers
+returns-in-One-Drop-clause-numbers c = λ q. rw (c.in-One-Drop.is-0, c.in-One-Drop.is-1) (c.settle-in-One-Drop.ensures.numbers q ∙ dropped_at (λ x. numbers_in (record_at c.args.records.now.entries x)) c.in-One-Drop.key q)

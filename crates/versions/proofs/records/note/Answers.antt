@@ -1,0 +1,21 @@
+use Rattle.std.proofs.Common.{sym, ap, ◌∙◌, None}
+use Rattle.std.specs.Option.{is_some}
+use Rattle.std.proofs.lemmas.Result.{on_err_weaker}
+use Rattle.versions.specs.Records.{item_in, numbers_in}
+use Rattle.versions.proofs.Bases.{items_stay, numbers_stay}
+use Rattle.versions.proofs.records.note.Goals as goal
+
+pub returns-in-Some-clause-items : goal.returns-in-Some-clause-items
+returns-in-Some-clause-items c =
+    let value = c.in-Some.ensures.value in
+    items_stay _ _ _ _ (ap item_in value) ((c.get_mut.follows.holds _).3 (sym (ap is_some value))).0
+
+pub returns-in-Some-clause-err : goal.returns-in-Some-clause-err
+returns-in-Some-clause-err c =
+    let value = c.in-Some.ensures.value in
+    on_err_weaker c.push.result (λ e. numbers_stay _ _ _ _ (e ∙ ap numbers_in value) ((c.get_mut.follows.holds _).3 (sym (ap is_some value))).0) c.push.ensures.err
+
+pub returns-in_ok-insert-in-None-clause-items : goal.returns-in_ok-insert-in-None-clause-items
+returns-in_ok-insert-in-None-clause-items c =
+    items_stay c.args.records.now.entries _ c.args.key.now (record { item = None; numbers = c.push-in-None.new.self }) (ap item_in c.in-None.ensures.value)
+    (λ q. rw (← c.in_ok-clone-in-None.ensures.cases, ← c.get_mut.follows.holds-at-none) (c.in_ok-insert-in-None.ensures.updates.0 q))

@@ -1,0 +1,81 @@
+-- How the fields of a store stand for what it holds: a record for each key, and the numbers of the clears.
+use Rattle.std.specs.Prelude.{◌≡◌, ℕ, ◌+◌, ◌-◌, length, Bool, nat_lt, List, [], ◌∷◌, Option, None, Some, if◌then◌else◌}
+use Rattle.std.specs.FinMap as map
+use Rattle.std.specs.Map.{lookup}
+use Rattle.std.specs.List.{slice_get}
+use Rattle.std.specs.Option.{option_and_then}
+use Rattle.std.specs.BTreeMap.{is_at}
+use Rattle.table.specs.Keys.{key_cmp}
+use Rattle.table.specs.Plain.{Items}
+use Rattle.table.specs.declared.items.Item.{Item}
+use Rattle.table.specs.declared.operations.Target.{Target}
+use Rattle.table.specs.declared.operations.Change.{Change}
+use Rattle.versions.specs.Entries.{LogEntry, item_put, is_clear}
+use Rattle.versions.specs.Numbers.{numbers_of}
+use Rattle.versions.specs.Stores.{IsStore, sets}
+use Rattle.versions.specs.declared.records.Record.{Record}
+
+-- the record of a key, or none
+abbrev pub record_at : List (List ℕ × Record) → List ℕ → Option Record
+record_at records key = lookup (is_at (key_cmp key)) records
+
+-- what a record has, and what stands for a key that has none
+abbrev pub item_in : Option Record → Option Item
+item_in None = None
+item_in (Some r) = r.item
+
+abbrev pub numbers_in : Option Record → List ℕ
+numbers_in None = []
+numbers_in (Some r) = r.numbers
+
+-- the same by the key
+abbrev pub base_item : List (List ℕ × Record) → List ℕ → Option Item
+base_item records key = item_in (record_at records key)
+
+abbrev pub key_numbers : List (List ℕ × Record) → List ℕ → List ℕ
+key_numbers records key = numbers_in (record_at records key)
+
+-- with this item at a key, or without one
+abbrev pub with_item : Items → List ℕ → Option Item → Items
+with_item items key None = map.remove items key
+with_item items key (Some item) = map.insert items key item
+
+-- the items of all records
+abbrev pub base_of : List (List ℕ × Record) → Items
+base_of [] = map.empty
+base_of (e ∷ es) = with_item (base_of es) e.0 e.1.item
+
+-- the item that the entry at this place puts, or none
+abbrev pub item_put_at : List LogEntry → ℕ → Option Item
+item_put_at es i = option_and_then (λ e. item_put e.change) (slice_get es i)
+
+-- a key's item, from the number of the last entry that set it and that of the last clear, if there are any
+abbrev pub item_from : Option Item → List LogEntry → ℕ → Option ℕ → Option ℕ → Option Item
+item_from base entries floor None None = base
+item_from base entries floor None (Some cleared) = None
+item_from base entries floor (Some set) None = item_put_at entries (set - floor - 1)
+item_from base entries floor (Some set) (Some cleared) =
+    if nat_lt set cleared then None else item_put_at entries (set - floor - 1)
+
+-- whether an entry sets a key, or clears all
+abbrev pub is_set : List ℕ → LogEntry → Bool
+is_set key e = sets key e.target e.change
+
+abbrev pub is_cleared : LogEntry → Bool
+is_cleared e = is_clear e.change
+
+-- the records and the clears name exactly the entries that set a key or clear all
+pub record IsIndex (records : List (List ℕ × Record)) (clears : List ℕ) (entries : List LogEntry) : Type 0 where
+  pub of_keys : (key : List ℕ) → key_numbers records key ≡ numbers_of (is_set key) entries
+  pub of_clears : clears ≡ numbers_of is_cleared entries
+
+-- a key's item after a change, from its item before it
+abbrev pub item_after : List ℕ → Target → Change → Option Item → Option Item
+item_after key target change item =
+    if is_clear change then None else (if sets key target change then item_put change else item)
+
+-- what a store keeps of its fields
+pub record IsHeld (records : List (List ℕ × Record)) (clears : List ℕ) (entries : List LogEntry) (floor acked last : ℕ) : Type 0 where
+  pub store : IsStore (record { base = base_of records; floor = floor; rest = entries; acked = acked })
+  pub index : IsIndex records clears entries
+  pub counted : last ≡ floor + length entries

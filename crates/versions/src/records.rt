@@ -1,0 +1,79 @@
+//! A record for each key that has an item in the base or entries above the floor.
+ghost use Rattle.std.specs.Prelude.{◌≡◌, ℕ, List, [], ◌∷◌, ◌++◌, drop, cond, OnOk, OnErr, IsSome, Some, None, false};
+ghost use Rattle.std.specs.BTreeMap.{is_at};
+ghost use Rattle.table.specs.Keys.{key_cmp};
+ghost use Rattle.versions.specs.Records.{record_at, base_item, key_numbers};
+
+use crate::numbers::Numbers;
+use std::alloc::{AllocError, Global};
+use std::collections::BTreeMap;
+use table::{Item, Key};
+
+/// The item that a key has in the base, or none, and the numbers of the entries above the floor that put or drop it.
+#[derive(Drop)]
+pub(crate) struct Record {
+    pub(crate) item: Option<Item>,
+    pub(crate) numbers: Numbers,
+}
+
+/// Adds the number of an entry that sets the key. A key without a record gets one, so that its item has a place later on.
+pub(crate) fn note(
+    alloc: Global,
+    records: &mut BTreeMap<Key, Record>,
+    key: &Key,
+    number: u64,
+) -> Result<(), AllocError>
+    ensures items { (q : List ℕ) → base_item records.new.entries q ≡ base_item records.old.entries q }
+    ensures numbers { OnOk result ((q : List ℕ) → key_numbers records.new.entries q ≡ cond (is_at (key_cmp key.now) q) (key_numbers records.old.entries key.now ++ number ∷ []) (key_numbers records.old.entries q)) }
+    ensures err { OnErr result ((q : List ℕ) → key_numbers records.new.entries q ≡ key_numbers records.old.entries q) }
+{
+    match records.get_mut(key) {
+        Some(record) => record.numbers.push(number),
+        None => {
+            let mut numbers = Numbers::new(alloc);
+            numbers.push(number)?;
+            records.insert(
+                key.clone()?,
+                Record {
+                    item: None,
+                    numbers,
+                },
+            )?;
+            Ok(())
+        }
+    }
+}
+
+/// Gives the key this item in the base, or none, and drops its first number. A record that is empty then is taken away.
+pub(crate) fn settle(records: &mut BTreeMap<Key, Record>, key: &Key, item: Option<Item>)
+    requires noted { IsSome (record_at records.old.entries key.now) }
+    ensures items { (q : List ℕ) → base_item records.new.entries q ≡ cond (is_at (key_cmp key.now) q) item (base_item records.old.entries q) }
+    ensures numbers { (q : List ℕ) → key_numbers records.new.entries q ≡ cond (is_at (key_cmp key.now) q) (drop 1 (key_numbers records.old.entries key.now)) (key_numbers records.old.entries q) }
+{
+    let Some(record) = records.get_mut(key) else {
+        return;
+    };
+    record.item = item;
+    record.numbers.drop_first();
+    if record.item.is_none() && record.numbers.is_empty() {
+        records.remove(key);
+    }
+}
+
+/// Takes all items out of the base, and with them each record that has no numbers.
+pub(crate) fn clear(records: &mut BTreeMap<Key, Record>)
+    ensures items { (q : List ℕ) → base_item records.new.entries q ≡ None }
+    ensures numbers { (q : List ℕ) → key_numbers records.new.entries q ≡ key_numbers records.old.entries q }
+{
+    records.retain(|_, record| take_item(record));
+}
+
+// Takes the item out, and tells whether the record is still needed.
+fn take_item(held: &mut Record) -> bool
+    ensures item { held.new.item ≡ None }
+    ensures numbers { held.new.numbers ≡ held.old.numbers }
+    ensures needed { result ≡ false → held.new.numbers ≡ [] }
+{
+    held.item = None;
+    !held.numbers.is_empty()
+}

@@ -1,0 +1,364 @@
+use crate::{Entry, Store};
+use bytes::Bytes;
+use std::alloc::Global;
+use std::collections::BTreeMap;
+use std::test::Fail;
+use table::{Change, Item, Key, LIMIT, Reply, Target};
+
+// What one number made of a key.
+#[derive(Drop)]
+struct Version {
+    number: u64,
+    item: Option<Item>,
+}
+
+// The plain body: each key's versions with their items, and the numbers of the clears. It forgets none.
+#[derive(Drop)]
+struct Plain {
+    versions: BTreeMap<Key, Vec<Version>>,
+    clears: Vec<u64>,
+    acked: u64,
+}
+
+impl Plain {
+    fn new(alloc: Global) -> Plain {
+        Plain {
+            versions: BTreeMap::new(alloc),
+            clears: Vec::new(alloc),
+            acked: 0,
+        }
+    }
+
+    fn set(
+        &mut self,
+        alloc: Global,
+        key: &Key,
+        number: u64,
+        item: Option<Item>,
+    ) -> Result<(), Fail> {
+        let version = Version { number, item };
+        match self.versions.get_mut(key) {
+            Some(versions) => versions.push(version)?,
+            None => {
+                let mut versions = Vec::new(alloc);
+                versions.push(version)?;
+                self.versions.insert(key.clone()?, versions)?;
+            }
+        }
+        Ok(())
+    }
+
+    // The last version up to `n`.
+    fn version(&self, key: &Key, n: u64) -> Option<&Version> {
+        let versions = self.versions.get(key)?;
+        let after = versions.partition_point(|version| version.number <= n);
+        versions.get(after.checked_sub(1)?)
+    }
+
+    fn cleared(&self, n: u64) -> u64 {
+        self.clears
+            .iter()
+            .rev()
+            .find(|number| **number <= n)
+            .copied()
+            .unwrap_or(0)
+    }
+
+    fn at(&self, key: &Key, n: u64) -> Option<&Item> {
+        let version = self.version(key, n)?;
+        if version.number < self.cleared(n) {
+            None
+        } else {
+            version.item.as_ref()
+        }
+    }
+
+    fn is_clean(&self, key: &Key) -> bool {
+        let set = match self.version(key, u64::MAX) {
+            Some(version) => version.number,
+            None => 0,
+        };
+        set <= self.acked && self.cleared(u64::MAX) <= self.acked
+    }
+}
+
+// A store, and the plain body beside it.
+#[derive(Drop)]
+struct Pair {
+    alloc: Global,
+    store: Store,
+    plain: Plain,
+}
+
+fn item(alloc: Global, number: u64) -> Result<Item, Fail> {
+    Ok(Item {
+        flags: 7,
+        bytes: Bytes::copy_from_slice(alloc, &number.to_be_bytes())?,
+        unique: number,
+    })
+}
+
+// An entry of an update at a key, in the ranges that an entry keeps.
+fn entry(number: u64, key: &Key, reply: Reply, change: Change) -> Result<Entry, Fail> {
+    let fits = match &change {
+        Change::Put(item) => item.unique == number && item.bytes.len() <= LIMIT,
+        Change::Keep | Change::Drop => true,
+        Change::Clear => false,
+    };
+    if number == 0 || !fits || matches!(reply, Reply::Value(_) | Reply::Flushed) {
+        return Err("an entry in its ranges".into());
+    }
+    let target = Target::One(key.clone()?);
+    Ok(Entry::new(number, 3, 1, target, reply, change))
+}
+
+fn push(store: &mut Store, entry: Entry) -> Result<(), Fail> {
+    let last = store.last();
+    if last == u64::MAX || entry.number() != last + 1 {
+        return Err("the next number".into());
+    }
+    store.push(entry)?;
+    Ok(())
+}
+
+impl Pair {
+    fn new(alloc: Global) -> Pair {
+        Pair {
+            alloc,
+            store: Store::new(alloc),
+            plain: Plain::new(alloc),
+        }
+    }
+
+    fn next(&self) -> u64 {
+        self.store.last().wrapping_add(1)
+    }
+
+    fn put(&mut self, key: &Key) -> Result<(), Fail> {
+        let number = self.next();
+        let item = item(self.alloc, number)?;
+        let change = Change::Put(item.clone()?);
+        push(&mut self.store, entry(number, key, Reply::Stored, change)?)?;
+        self.plain.set(self.alloc, key, number, Some(item))
+    }
+
+    fn delete(&mut self, key: &Key) -> Result<(), Fail> {
+        let number = self.next();
+        push(
+            &mut self.store,
+            entry(number, key, Reply::Deleted, Change::Drop)?,
+        )?;
+        self.plain.set(self.alloc, key, number, None)
+    }
+
+    // A refused update takes a number, and makes no version.
+    fn refuse(&mut self, key: &Key) -> Result<(), Fail> {
+        let number = self.next();
+        push(
+            &mut self.store,
+            entry(number, key, Reply::NotStored, Change::Keep)?,
+        )
+    }
+
+    fn clear(&mut self) -> Result<(), Fail> {
+        let number = self.next();
+        if number == 0 {
+            return Err("the next number".into());
+        }
+        let flush = Entry::new(number, 3, 1, Target::All, Reply::Flushed, Change::Clear);
+        push(&mut self.store, flush)?;
+        self.plain.clears.push(number)?;
+        Ok(())
+    }
+
+    fn ack(&mut self, n: u64) -> Result<(), Fail> {
+        if n < self.store.acked() || self.store.last() < n {
+            return Err("a number to acknowledge".into());
+        }
+        self.store.ack(n);
+        self.plain.acked = n;
+        Ok(())
+    }
+
+    fn drop_to(&mut self, n: u64) -> Result<(), Fail> {
+        if n < self.store.floor() || self.store.acked() < n {
+            return Err("a number to drop to".into());
+        }
+        self.store.drop_to(n);
+        Ok(())
+    }
+
+    // Whether both bodies show the same of a key, at a number that is still open too.
+    fn agree(&self, key: &Key, n: u64) -> Result<bool, Fail> {
+        if n < self.store.floor() || self.store.last() < n {
+            return Err("an open number".into());
+        }
+        Ok(
+            same(self.store.newest(key), self.plain.at(key, u64::MAX))
+                && same(self.store.at(key, n), self.plain.at(key, n))
+                && self.store.is_clean(key) == self.plain.is_clean(key),
+        )
+    }
+}
+
+fn same(a: Option<&Item>, b: Option<&Item>) -> bool {
+    match (a, b) {
+        (Some(a), Some(b)) => a == b,
+        (None, None) => true,
+        (Some(_), None) | (None, Some(_)) => false,
+    }
+}
+
+fn key(alloc: Global, name: &[u8]) -> Result<Key, Fail> {
+    Ok(Key::new(alloc, name)?.ok_or("a key")?)
+}
+
+// So many sets of one key, none of them acknowledged, and then each acknowledged and dropped.
+fn one_key(pair: &mut Pair, key: &Key, count: u64) -> Result<bool, Fail> {
+    let mut agreed = true;
+    for i in 0..count {
+        pair.put(key)?;
+        agreed &= pair.agree(key, i / 2)?;
+    }
+    for n in 1..=count {
+        pair.ack(n)?;
+        agreed &= pair.agree(key, n)?;
+        pair.drop_to(n)?;
+        agreed &= pair.agree(key, n)?;
+    }
+    Ok(agreed)
+}
+
+#[test]
+fn many_versions_of_one_key(rt: HostRuntime) -> Result<(), Fail> {
+    let mut pair = Pair::new(rt.alloc());
+    let key = key(rt.alloc(), b"a")?;
+    assert!(rt; one_key(&mut pair, &key, 10_000)?);
+    assert!(rt; pair.store.is_clean(&key));
+    assert_eq!(rt; pair.store.floor(), 10_000);
+    Ok(())
+}
+
+// A key for each number below 1,000.
+fn keys(alloc: Global, count: u32) -> Result<Vec<Key>, Fail> {
+    let mut keys = Vec::new(alloc);
+    for i in 0..count {
+        let name = format!(in alloc; "key{i}")?;
+        keys.push(key(alloc, name.as_bytes())?)?;
+    }
+    Ok(keys)
+}
+
+// What the i-th update of a key is: mostly a set, now and then a delete, a refused one or a clear.
+fn update(pair: &mut Pair, key: &Key, i: u64) -> Result<(), Fail> {
+    match i % 701 {
+        700 => pair.clear(),
+        r => match r % 5 {
+            3 => pair.delete(key),
+            4 => pair.refuse(key),
+            _ => pair.put(key),
+        },
+    }
+}
+
+// Whether both bodies agree on each of the keys, at the floor, at the last number and between them.
+fn all_agree(pair: &Pair, keys: &[Key]) -> Result<bool, Fail> {
+    let (floor, last) = (pair.store.floor(), pair.store.last());
+    let mut agreed = true;
+    for key in keys {
+        agreed &= pair.agree(key, floor)? && pair.agree(key, last)?;
+        agreed &= pair.agree(key, floor / 2 + last / 2)?;
+    }
+    Ok(agreed)
+}
+
+// Rounds of an update at every third key or so; some entries stay open behind each.
+fn many_keys(pair: &mut Pair, keys: &[Key], rounds: u64) -> Result<bool, Fail> {
+    let mut agreed = true;
+    for round in 0..rounds {
+        for (i, key) in keys.iter().enumerate() {
+            let i = (i as u64)
+                .wrapping_mul(7)
+                .wrapping_add(round.wrapping_mul(31));
+            if i % 3 != 1 {
+                update(pair, key, i)?;
+            }
+        }
+        agreed &= all_agree(pair, keys)?;
+        let acked = pair.store.acked() / 2 + pair.store.last() / 2;
+        pair.ack(acked)?;
+        agreed &= all_agree(pair, keys)?;
+        let floor = pair.store.floor() / 2 + acked / 2;
+        pair.drop_to(floor)?;
+        agreed &= all_agree(pair, keys)?;
+    }
+    Ok(agreed)
+}
+
+#[test]
+fn many_keys_and_clears(rt: HostRuntime) -> Result<(), Fail> {
+    let mut pair = Pair::new(rt.alloc());
+    let keys = keys(rt.alloc(), 1_000)?;
+    assert!(rt; many_keys(&mut pair, keys.as_slice(), 12)?);
+    Ok(())
+}
+
+#[test]
+fn a_clear_is_a_version_of_every_key(rt: HostRuntime) -> Result<(), Fail> {
+    let mut pair = Pair::new(rt.alloc());
+    let (a, b) = (key(rt.alloc(), b"a")?, key(rt.alloc(), b"b")?);
+    pair.put(&a)?;
+    pair.ack(1)?;
+    assert!(rt; pair.store.is_clean(&a));
+    pair.clear()?;
+    for key in [&a, &b] {
+        assert!(rt; !pair.store.is_clean(key));
+        assert!(rt; pair.store.newest(key).is_none());
+    }
+    pair.ack(2)?;
+    pair.drop_to(2)?;
+    assert!(rt; pair.store.is_clean(&a));
+    assert!(rt; pair.store.newest(&a).is_none());
+    Ok(())
+}
+
+#[test]
+fn open_entries_are_shown_in_order(rt: HostRuntime) -> Result<(), Fail> {
+    let mut pair = Pair::new(rt.alloc());
+    let key = key(rt.alloc(), b"a")?;
+    pair.put(&key)?;
+    pair.refuse(&key)?;
+    pair.delete(&key)?;
+    pair.ack(1)?;
+    pair.drop_to(1)?;
+    let target = Target::One(key);
+    let rows = [
+        (2, Reply::NotStored, Change::Keep),
+        (3, Reply::Deleted, Change::Drop),
+    ];
+    let entries = open_entries(rt.alloc(), &pair.store, 1)?;
+    assert_eq!(rt; entries.len(), 2);
+    for (entry, (number, reply, change)) in entries.iter().zip(rows.iter()) {
+        assert_eq!(rt; entry.number(), *number);
+        assert_eq!(rt; (entry.origin(), entry.id()), (3, 1));
+        assert!(rt; *entry.target() == target);
+        assert!(rt; entry.reply() == reply && entry.change() == change);
+    }
+    Ok(())
+}
+
+// Copies of the entries above a number.
+fn open_entries(alloc: Global, store: &Store, n: u64) -> Result<Vec<Entry>, Fail> {
+    if n < store.floor() || store.last() < n {
+        return Err("an open number".into());
+    }
+    let mut copies = Vec::new(alloc);
+    for entry in store.entries_after(n) {
+        let copy = entry.clone()?;
+        if copy != *entry {
+            return Err("an equal copy".into());
+        }
+        copies.push(copy)?;
+    }
+    Ok(copies)
+}
