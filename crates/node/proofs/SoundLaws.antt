@@ -1,0 +1,292 @@
+-- What every server keeps within a step: each change of a server keeps it.
+use Rattle.std.proofs.Common.{◌≡◌, ℕ, zero, suc, ◌+◌, ◌-◌, ◌<◌, ◌≤◌, ◌==◌, Bool, true, false, cond, List, [], ◌∷◌, ◌++◌, length, take, drop, get_or, Option, Some, None, refl, sym, ◌∙◌, arith, length-append, length-drop, length-set, length-take-le}
+use Rattle.std.specs.List.{find}
+use Rattle.std.proofs.lemmas.Option.{same_Some}
+use Rattle.table.specs.Operations.{is_update}
+use Rattle.std.specs.FinMap.{get-insert, get-remove, get-empty}
+use Rattle.std.specs.Cmp.Lexicographic.{nat_list_cmp_total}
+use Rattle.table.specs.Keys.{key_cmp}
+use Rattle.table.specs.Plain.{Items, item_at, changed}
+use Rattle.table.specs.declared.items.Item.{Item}
+use Rattle.table.specs.declared.operations.Call.{Call}
+use Rattle.table.specs.declared.operations.Target.{Target}
+use Rattle.table.specs.declared.operations.Target.TheVariants.{One, All}
+use Rattle.table.specs.declared.operations.Change.{Change}
+use Rattle.table.specs.declared.operations.Change.TheVariants.{Keep, Put, Drop, Clear}
+use Rattle.versions.specs.Entries.{LogEntry, IsEntry, PutsOwn}
+use Rattle.versions.specs.Stores.{StoreState, IsLog, IsStore, last_number, pushed, acked_to, dropped_to, items_after, items_at}
+use Rattle.node.specs.declared.servers.OpenUpdate.{OpenUpdate}
+use Rattle.node.specs.declared.servers.OpenRead.{OpenRead}
+use Rattle.node.specs.Views.{View, has, is_below}
+use Rattle.node.specs.Servers.{ServerState}
+use Rattle.node.specs.Numbering.{left_open, left_open_by, without_update, newly_acked, risen, appended, entered}
+use Rattle.node.specs.Reading.{asked, without_read}
+use Rattle.node.specs.Joining.{widened}
+use Rattle.node.specs.Steps.{least_open, trimmed}
+use Rattle.node.specs.Lawful.{IsCall, AreUpdates, AreReads, IsSound}
+use Rattle.node.proofs.ViewLaws.{has-union, below-union}
+
+-- ---- own calls
+
+pub updates_bound : (above : ℕ) (us : List OpenUpdate) (next_id : ℕ) → AreUpdates above us next_id → above < next_id
+updates_bound above [] next_id h = h
+updates_bound above (u ∷ us) next_id h = omega (arith, h.0, updates_bound u.id us next_id h.3)
+
+lower_updates : (low above : ℕ) (us : List OpenUpdate) (next_id : ℕ) → low ≤ above → AreUpdates above us next_id → AreUpdates low us next_id
+lower_updates low above [] next_id le h = omega (arith, h)
+lower_updates low above (u ∷ us) next_id le h = (omega (arith, h.0), h.1, h.2, h.3)
+
+kept_step : (b : Bool) (above : ℕ) (u : OpenUpdate) (us rest : List OpenUpdate) (next_id : ℕ) → AreUpdates above (u ∷ us) next_id → AreUpdates u.id rest next_id → AreUpdates above (cond b us (u ∷ rest)) next_id
+kept_step true above u us rest next_id h g = lower_updates above u.id us next_id (omega (arith, h.0)) h.3
+kept_step false above u us rest next_id h g = (h.0, h.1, h.2, g)
+
+-- fewer own calls wait
+pub updates-without : (above : ℕ) (us : List OpenUpdate) (next_id id : ℕ) → AreUpdates above us next_id → AreUpdates above (without_update us id) next_id
+updates-without above [] next_id id h = h
+updates-without above (u ∷ us) next_id id h = kept_step _ above u us _ next_id h (updates-without u.id us next_id id h.3)
+
+left_step : (b : Bool) (us : List OpenUpdate) (next_id id : ℕ) → AreUpdates 0 us next_id → AreUpdates 0 (cond b (without_update us id) us) next_id
+left_step true us next_id id h = updates-without 0 us next_id id h
+left_step false us next_id id h = h
+
+pub updates-left_open : (id : ℕ) (es : List LogEntry) (us : List OpenUpdate) (next_id : ℕ) → AreUpdates 0 us next_id → AreUpdates 0 (left_open id us es) next_id
+unfolding left_open
+updates-left_open id [] us next_id h = h
+updates-left_open id (e ∷ es) us next_id h = updates-left_open id es (left_open_by id us e) next_id (left_step _ us next_id e.id h)
+
+-- one more waits, under the next id
+pub updates-push : (above : ℕ) (us : List OpenUpdate) (u : OpenUpdate) → IsCall u.call → is_update u.call.op ≡ true → AreUpdates above us u.id → AreUpdates above (us ++ u ∷ []) (u.id + 1)
+updates-push above [] u call is h = (h, call, is, omega arith)
+updates-push above (v ∷ us) u call is h = (h.0, h.1, h.2, updates-push v.id us u call is h.3)
+
+-- ---- own reads
+
+pub reads_bound : (above mark : ℕ) (rs : List OpenRead) (next_ask acked : ℕ) → AreReads above mark rs next_ask acked → (above < next_ask) × (mark ≤ acked)
+reads_bound above mark [] next_ask acked h = h
+reads_bound above mark (r ∷ rs) next_ask acked h =
+    let g = reads_bound r.ask r.mark rs next_ask acked h.2 in (omega (arith, h.0, g.0), omega (arith, h.1, g.1))
+
+lower_reads : (a b m n : ℕ) (rs : List OpenRead) (next_ask acked : ℕ) → a ≤ b → m ≤ n → AreReads b n rs next_ask acked → AreReads a m rs next_ask acked
+lower_reads a b m n [] next_ask acked le leq h = (omega (arith, h.0), omega (arith, h.1))
+lower_reads a b m n (r ∷ rs) next_ask acked le leq h = (omega (arith, h.0), omega (arith, h.1), h.2)
+
+-- the acknowledged number may rise
+pub reads-acked : (above mark : ℕ) (rs : List OpenRead) (next_ask acked n : ℕ) → acked ≤ n → AreReads above mark rs next_ask acked → AreReads above mark rs next_ask n
+reads-acked above mark [] next_ask acked n le h = (h.0, omega (arith, h.1))
+reads-acked above mark (r ∷ rs) next_ask acked n le h = (h.0, h.1, reads-acked r.ask r.mark rs next_ask acked n le h.2)
+
+read_step : (b : Bool) (above mark : ℕ) (r : OpenRead) (rs rest : List OpenRead) (next_ask acked : ℕ) → AreReads above mark (r ∷ rs) next_ask acked → AreReads r.ask r.mark rest next_ask acked → AreReads above mark (cond b rs (r ∷ rest)) next_ask acked
+read_step true above mark r rs rest next_ask acked h g = lower_reads above r.ask mark r.mark rs next_ask acked (omega (arith, h.0)) h.1 h.2
+read_step false above mark r rs rest next_ask acked h g = (h.0, h.1, g)
+
+pub reads-without : (above mark : ℕ) (rs : List OpenRead) (next_ask acked ask : ℕ) → AreReads above mark rs next_ask acked → AreReads above mark (without_read rs ask) next_ask acked
+reads-without above mark [] next_ask acked ask h = h
+reads-without above mark (r ∷ rs) next_ask acked ask h = read_step _ above mark r rs _ next_ask acked h (reads-without r.ask r.mark rs next_ask acked ask h.2)
+
+pub reads-push : (above mark : ℕ) (rs : List OpenRead) (r : OpenRead) → AreReads above mark rs r.ask r.mark → AreReads above mark (rs ++ r ∷ []) (r.ask + 1) r.mark
+reads-push above mark [] r h = (h.0, h.1, (omega arith, omega arith))
+reads-push above mark (q ∷ rs) r h = (h.0, h.1, reads-push q.ask q.mark rs r h.2)
+
+-- the open read of an ask is among them: its mark is between the floor and the acknowledged number
+found_step : (b : Bool) (r q : OpenRead) (rest : Option OpenRead) (mark acked : ℕ) → (mark ≤ r.mark) → (r.mark ≤ acked) → (rest ≡ Some q → (mark ≤ q.mark) × (q.mark ≤ acked)) → cond b (Some r) rest ≡ Some q → (mark ≤ q.mark) × (q.mark ≤ acked)
+found_step true r q rest mark acked low high f h = let same : r ≡ q = same_Some r q h in rw (← same) (low, high)
+found_step false r q rest mark acked low high f h = f h
+
+pub read-found : (above mark : ℕ) (rs : List OpenRead) (next_ask acked ask : ℕ) (q : OpenRead) → AreReads above mark rs next_ask acked → find (λ r. r.ask == ask) rs ≡ Some q → (mark ≤ q.mark) × (q.mark ≤ acked)
+read-found above mark [] next_ask acked ask q h e = absurd cc
+read-found above mark (r ∷ rs) next_ask acked ask q h e =
+    found_step _ r q _ mark acked h.1 (reads_bound r.ask r.mark rs next_ask acked h.2).1
+    (λ g. let k = read-found r.ask r.mark rs next_ask acked ask q h.2 g in (omega (arith, k.0, h.1), k.1)) e
+
+-- the least of the acknowledged number and the marks is the first mark, or the acknowledged number
+pub least_first : (above mark : ℕ) (r : OpenRead) (rs : List OpenRead) (next_ask acked : ℕ) → AreReads above mark (r ∷ rs) next_ask acked → least_open acked (r ∷ rs) ≡ r.mark
+least_first above mark r [] next_ask acked h = omega (arith, h.2)
+least_first above mark r (q ∷ rs) next_ask acked h = omega (arith, h.2.1, least_first r.ask r.mark q rs next_ask acked h.2)
+
+pub least_within : (above mark : ℕ) (rs : List OpenRead) (next_ask acked : ℕ) → AreReads above mark rs next_ask acked → (mark ≤ least_open acked rs) × (least_open acked rs ≤ acked)
+least_within above mark [] next_ask acked h = (h.1, omega arith)
+least_within above mark (r ∷ rs) next_ask acked h = let g = least_within r.ask r.mark rs next_ask acked h.2 in (omega (arith, g.0, h.1), omega (arith, g.1))
+
+-- the first open read has it
+pub least_at_front : (above mark : ℕ) (rs : List OpenRead) (next_ask acked : ℕ) (r : OpenRead) → AreReads above mark rs next_ask acked → 0 < length rs → r ≡ get_or rs 0 r → (r.mark ≡ least_open acked rs) × (r.mark ≤ acked)
+least_at_front above mark [] next_ask acked r h some is = absurd (omega arith)
+least_at_front above mark (q ∷ rs) next_ask acked r h some is =
+    rw is (sym (least_first above mark q rs next_ask acked h), (reads_bound q.ask q.mark rs next_ask acked h.2).1)
+
+-- the floor may rise to it
+pub reads-least : (above mark : ℕ) (rs : List OpenRead) (next_ask acked : ℕ) → AreReads above mark rs next_ask acked → AreReads above (least_open acked rs) rs next_ask acked
+reads-least above mark [] next_ask acked h = (h.0, omega arith)
+reads-least above mark (r ∷ rs) next_ask acked h = (h.0, omega arith, h.2)
+
+-- ---- entries and items
+
+log-drop : (floor k n : ℕ) (es : List LogEntry) → n ≡ floor + k → IsLog floor es → IsLog n (drop k es)
+log-drop floor zero n es is log = let same : n ≡ floor = omega arith in rw same log
+log-drop floor (suc k) n [] is log = tt
+log-drop floor (suc k) n (e ∷ es) is log = log-drop (floor + 1) k n es (omega arith) log.2
+
+log-push : (floor : ℕ) (es : List LogEntry) (e : LogEntry) → IsEntry e → e.number ≡ floor + length es + 1 → IsLog floor es → IsLog floor (es ++ e ∷ [])
+log-push floor [] e valid next log = (valid, omega arith, tt)
+log-push floor (f ∷ es) e valid next log = (log.0, log.1, log-push (floor + 1) es e valid (omega arith) log.2)
+
+pub store-pushed : (s : StoreState) (e : LogEntry) → IsEntry e → e.number ≡ last_number s + 1 → IsStore s → IsStore (pushed s e)
+store-pushed s e valid next h = record {
+  log = log-push s.floor s.rest e valid next h.log;
+  floor_acked = h.floor_acked;
+  acked_held = let l : length (s.rest ++ e ∷ []) ≡ length s.rest + 1 = length-append s.rest (e ∷ []) in omega (arith, h.acked_held, l);
+}
+
+pub store-acked : (s : StoreState) (n : ℕ) → s.acked ≤ n → n ≤ last_number s → IsStore s → IsStore (acked_to s n)
+store-acked s n low high h = record { log = h.log; floor_acked = omega (arith, h.floor_acked); acked_held = high }
+
+pub store-dropped : (s : StoreState) (n : ℕ) → s.floor ≤ n → n ≤ s.acked → IsStore s → IsStore (dropped_to s n)
+store-dropped s n low high h = record {
+  log = log-drop s.floor (n - s.floor) n s.rest (omega arith) h.log;
+  floor_acked = high;
+  acked_held = let l : length (drop (n - s.floor) s.rest) ≡ length s.rest - (n - s.floor) = length-drop (n - s.floor) s.rest in omega (arith, h.acked_held, l);
+}
+
+-- each item was put under a number up to this one
+abbrev IsPutBy : Items → ℕ → Type 0
+IsPutBy items n = (key : List ℕ) (item : Item) → item_at items key ≡ Some item → item.unique ≤ n
+
+found_put : (b : Bool) (new item : Item) (old : Option Item) (n : ℕ) → new.unique ≤ n → (old ≡ Some item → item.unique ≤ n) → cond b (Some new) old ≡ Some item → item.unique ≤ n
+found_put true new item old n low f h = let same : new ≡ item = same_Some new item h in rw (← same) low
+found_put false new item old n low f h = f h
+
+found_left : (b : Bool) (item : Item) (old : Option Item) (n : ℕ) → (old ≡ Some item → item.unique ≤ n) → cond b None old ≡ Some item → item.unique ≤ n
+found_left true item old n f h = absurd cc
+found_left false item old n f h = f h
+
+put-changed : (items : Items) (target : Target) (change : Change) (floor number : ℕ) → number ≡ floor + 1 → PutsOwn number change → IsPutBy items floor → IsPutBy (changed items target change) (floor + 1)
+put-changed items (One k) Keep floor number is own h key item e = omega (arith, h key item e)
+put-changed items (One k) (Put new) floor number is own h key item e =
+    found_put _ new item _ (floor + 1) (omega (arith, own.0)) (λ (f : item_at items key ≡ Some item). omega (arith, h key item f)) (sym (get-insert nat_list_cmp_total items k new key) ∙ e)
+put-changed items (One k) Drop floor number is own h key item e =
+    found_left _ item _ (floor + 1) (λ (f : item_at items key ≡ Some item). omega (arith, h key item f)) (sym (get-remove nat_list_cmp_total items k key) ∙ e)
+put-changed items (One k) Clear floor number is own h key item e = let none = sym (get-empty key_cmp key) ∙ e in absurd cc
+put-changed items All Keep floor number is own h key item e = omega (arith, h key item e)
+put-changed items All (Put new) floor number is own h key item e = omega (arith, h key item e)
+put-changed items All Drop floor number is own h key item e = omega (arith, h key item e)
+put-changed items All Clear floor number is own h key item e = let none = sym (get-empty key_cmp key) ∙ e in absurd cc
+
+put-after : (floor n : ℕ) (es : List LogEntry) (items : Items) → n ≡ floor + length es → IsLog floor es → IsPutBy items floor → IsPutBy (items_after items es) n
+put-after floor n [] items is log h = λ key item e. omega (arith, h key item e)
+put-after floor n (e ∷ es) items is log h = put-after (floor + 1) n es (changed items e.target e.change) (omega arith) log.2 (put-changed items e.target e.change floor e.number log.1 log.0.put h)
+
+log-take : (floor k : ℕ) (es : List LogEntry) → IsLog floor es → IsLog floor (take k es)
+log-take floor zero es log = tt
+log-take floor (suc k) [] log = tt
+log-take floor (suc k) (e ∷ es) log = (log.0, log.1, log-take (floor + 1) k es log.2)
+
+-- at a number up to the last, each item was put under a number up to it
+pub put-at : (s : StoreState) (n : ℕ) → s.floor ≤ n → n ≤ last_number s → IsStore s → IsPutBy s.base s.floor → IsPutBy (items_at s n) n
+put-at s n low high h put =
+    let l : length (take (n - s.floor) s.rest) ≡ n - s.floor = length-take-le (n - s.floor) s.rest (omega arith) in
+    put-after s.floor n (take (n - s.floor) s.rest) s.base (omega (arith, l)) (log-take s.floor (n - s.floor) s.rest h.log) put
+
+-- ---- the changes of a server
+
+pub sound-widened : (s : ServerState) (v : View) → is_below v s.count ≡ true → has v s.id ≡ false → IsSound s → IsSound (widened s v)
+unfolding widened
+sound-widened s v below out h = record {
+  placed = h.placed;
+  counted = h.counted;
+  outside = has-union s.view v s.id ∙ rw (h.outside, out) refl;
+  within = below-union s.view v s.count h.within below;
+  store = h.store;
+  based = h.based;
+  seen = h.seen;
+  updates = h.updates;
+  reads = h.reads;
+}
+
+pub store-widened : (s : ServerState) (v : View) → (widened s v).store ≡ s.store
+unfolding widened
+store-widened s v = refl
+
+pub sound-appended : (s : ServerState) (e : LogEntry) → IsEntry e → e.number ≡ last_number s.store + 1 → IsSound s → IsSound (appended s e)
+unfolding appended
+sound-appended s e valid next h = record {
+  placed = h.placed;
+  counted = h.counted;
+  outside = h.outside;
+  within = h.within;
+  store = store-pushed s.store e valid next h.store;
+  based = h.based;
+  seen = length-set s.seen e.origin _ ∙ h.seen;
+  updates = h.updates;
+  reads = h.reads;
+}
+
+pub sound-risen : (s : ServerState) (n : ℕ) → s.store.acked ≤ n → n ≤ last_number s.store → IsSound s → IsSound (risen s n)
+unfolding risen
+sound-risen s n low high h = record {
+  placed = h.placed;
+  counted = h.counted;
+  outside = h.outside;
+  within = h.within;
+  store = store-acked s.store n low high h.store;
+  based = h.based;
+  seen = h.seen;
+  updates = updates-left_open s.id (newly_acked s n) s.pend s.next_id h.updates;
+  reads = reads-acked 0 s.store.floor s.asks s.next_ask s.store.acked n low h.reads;
+}
+
+pub sound-entered : (s : ServerState) (port : ℕ) (call : Call) → IsCall call → is_update call.op ≡ true → IsSound s → IsSound (entered s port call)
+unfolding entered
+sound-entered s port call fit is h = record {
+  placed = h.placed;
+  counted = h.counted;
+  outside = h.outside;
+  within = h.within;
+  store = h.store;
+  based = h.based;
+  seen = h.seen;
+  updates = updates-push 0 s.pend (record { id = s.next_id; port = port; call = call }) fit is h.updates;
+  reads = h.reads;
+}
+
+pub sound-asked : (s : ServerState) (port : ℕ) (key : List ℕ) → IsSound s → IsSound (asked s port key)
+unfolding asked
+sound-asked s port key h = record {
+  placed = h.placed;
+  counted = h.counted;
+  outside = h.outside;
+  within = h.within;
+  store = h.store;
+  based = h.based;
+  seen = h.seen;
+  updates = h.updates;
+  reads = reads-push 0 s.store.floor s.asks (record { ask = s.next_ask; port = port; key = key; mark = s.store.acked }) h.reads;
+}
+
+-- fewer reads wait
+pub sound-closed : (s : ServerState) (asks : List OpenRead) → AreReads 0 s.store.floor asks s.next_ask s.store.acked → IsSound s → IsSound (record s { asks = asks })
+sound-closed s asks reads h = record {
+  placed = h.placed;
+  counted = h.counted;
+  outside = h.outside;
+  within = h.within;
+  store = h.store;
+  based = h.based;
+  seen = h.seen;
+  updates = h.updates;
+  reads = reads;
+}
+
+pub sound-trimmed : (s : ServerState) → IsSound s → IsSound (trimmed s)
+unfolding trimmed
+sound-trimmed s h =
+    let between = least_within 0 s.store.floor s.asks s.next_ask s.store.acked h.reads in
+    record {
+      placed = h.placed;
+      counted = h.counted;
+      outside = h.outside;
+      within = h.within;
+      store = store-dropped s.store (least_open s.store.acked s.asks) between.0 between.1 h.store;
+      based = put-at s.store (least_open s.store.acked s.asks) between.0 (omega (arith, between.1, h.store.acked_held)) h.store h.based;
+      seen = h.seen;
+      updates = h.updates;
+      reads = reads-least 0 s.store.floor s.asks s.next_ask s.store.acked h.reads;
+    }

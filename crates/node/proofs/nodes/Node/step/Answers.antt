@@ -1,0 +1,4 @@
+use Rattle.node.proofs.nodes.Node.step.Goals as goal
+
+pub invariant_of-self-2 : goal.invariant_of-self-2
+invariant_of-self-2 c = λ goes_on. c.in_ok-outputs.ensures.lawful

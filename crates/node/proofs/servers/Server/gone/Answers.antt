@@ -1,0 +1,14 @@
+use Rattle.std.proofs.Common.{arith, sym, ap, ◌∙◌}
+use Rattle.node.specs.Servers.{ServerState}
+use Rattle.node.proofs.ViewLaws.{below-single, has-single_other}
+use Rattle.node.proofs.servers.Server.gone.Goals as goal
+
+pub join-requires-clause-below : goal.join-requires-clause-below
+join-requires-clause-below c =
+    let same = ap (λ (s : ServerState). s.count) c.self.view_is in
+    rw c.single.ensures (below-single c.args.j c.args.self.now.count (omega (arith, same, c.if-j-self.true)))
+
+pub join-requires-clause-outside : goal.join-requires-clause-outside
+join-requires-clause-outside c =
+    let same = ap (λ (s : ServerState). s.id) c.self.view_is in
+    rw c.single.ensures (has-single_other c.args.j c.args.self.now.id (λ e. c.if-j-self-2.true (sym e ∙ sym same)))

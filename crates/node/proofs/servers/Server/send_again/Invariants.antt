@@ -1,0 +1,7 @@
+use Rattle.std.proofs.Common.{◌≡◌, ◌++◌}
+use Rattle.std.specs.VecDeque.Iter.{deque_iter_rest}
+use Rattle.node.specs.Joining.{sent_again}
+use Rattle.node.proofs.servers.Server.send_again.Given as goal
+
+abbrev pub invariant-loop-update : goal.invariant-loop-update
+invariant-loop-update l = l.initial.outputs.items ++ sent_again l.self (deque_iter_rest l.initial.update-iterator) ≡ l.outputs.items ++ sent_again l.self (deque_iter_rest l.update-iterator)

@@ -1,0 +1,11 @@
+use Rattle.std.proofs.Common.{◌≡◌, drop}
+use Rattle.node.specs.Joining.{taken_all}
+use Rattle.node.specs.Lawful.{IsSound}
+use Rattle.node.proofs.servers.Server.take_all.Given as goal
+
+abbrev pub invariant-loop-i : goal.invariant-loop-i
+invariant-loop-i l = record {
+  rest : taken_all l.initial.self l.initial.self.pend ≡ taken_all l.self (drop l.i l.self.pend);
+  pend : l.self.pend ≡ l.initial.self.pend;
+  sound : IsSound l.self;
+}

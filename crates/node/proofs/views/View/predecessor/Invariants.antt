@@ -1,0 +1,9 @@
+use Rattle.std.proofs.Common.{◌≡◌, ◌≤◌}
+use Rattle.node.specs.Views.{predecessor}
+use Rattle.node.proofs.views.View.predecessor.Given as goal
+
+abbrev pub invariant-loop-k : goal.invariant-loop-k
+invariant-loop-k l = record { same : predecessor l.self l.i ≡ predecessor l.self l.k; below : l.k ≤ l.i }
+
+abbrev pub decreases-loop-k : goal.decreases-loop-k
+decreases-loop-k l = l.k

@@ -1,0 +1,116 @@
+-- The face of a server: what readers beside it see, and how a step changes it.
+use Rattle.std.specs.Prelude.{ℕ, Bool, true, not, ◌&&◌, nat_le, List, [], ◌∷◌, map, filter_map, is_some, Option, Some, None, refl, if◌then◌else◌}
+use Rattle.std.specs.Option.{option_copied}
+use Rattle.std.specs.Borrow.{Bor}
+use Rattle.std.specs.FinMap as maps
+use Rattle.std.specs.Coded.{Coded, code_by, coded×, coded_ℕ, coded_list, coded_option}
+use Rattle.table.specs.Keys.{key_cmp}
+use Rattle.table.specs.Items.{coded_item}
+use Rattle.table.specs.Plain.{Items}
+use Rattle.table.specs.declared.items.Item.{Item}
+use Rattle.table.specs.declared.operations.Target.{Target}
+use Rattle.table.specs.declared.operations.Target.TheVariants.{One, All}
+use Rattle.table.specs.declared.operations.Change.{Change}
+use Rattle.table.specs.declared.operations.Change.TheVariants.{Keep, Put, Drop, Clear}
+use Rattle.versions.specs.Entries.{LogEntry}
+use Rattle.versions.specs.Stores.{last_number, entries_after, value_at, is_clean}
+use Rattle.node.specs.declared.faces.Version.{Version}
+use Rattle.node.specs.declared.faces.FaceStep.{FaceStep}
+use Rattle.node.specs.declared.faces.FaceStep.TheVariants.{Set, Clear as ClearAll}
+use Rattle.node.specs.declared.messages.Input.{Input}
+use Rattle.node.specs.declared.looks.Look.{Look}
+use Rattle.node.specs.declared.looks.Look.TheVariants.{Clean, Dirty}
+use Rattle.node.specs.Servers.{ServerState}
+use Rattle.node.specs.Steps.{taken_in}
+
+-- versions by their keys
+abbrev pub Versions : Type 0
+Versions = maps.FinMap key_cmp Version
+
+-- A face: each key's newest version; the number of the last clear, which is a version without item of every key
+-- that has no later one, or 0; and the acknowledged number.
+pub record FaceState : Type 0 where
+  pub versions : Versions
+  pub cleared : ℕ
+  pub acked : ℕ
+
+abbrev pub coded_version : Coded Version
+coded_version = code_by (ℕ × Option Item) (coded× coded_ℕ (coded_option coded_item)) (λ v. (v.number, v.item)) (λ p. record { number = p.0; item = p.1 }) (λ _. refl)
+
+abbrev pub coded_face : Coded FaceState
+coded_face =
+    code_by (Versions × (ℕ × ℕ)) (coded× (maps.code (coded_list coded_ℕ) coded_version) (coded× coded_ℕ coded_ℕ))
+    (λ f. (f.versions, (f.cleared, f.acked))) (λ p. record { versions = p.0; cleared = p.1.0; acked = p.1.1 }) (λ _. refl)
+
+-- a look at a key: clean with its newest version's item where that version is acknowledged, clean without item where
+-- there is no version, and dirty otherwise
+abbrev pub look_at_version : ℕ → ℕ → Option Version → Look Item
+look_at_version cleared acked None = if nat_le cleared acked then Clean None else Dirty
+look_at_version cleared acked (Some v) = if nat_le v.number acked then Clean v.item else Dirty
+
+abbrev pub look_at : FaceState → List ℕ → Look Item
+look_at f key = look_at_version f.cleared f.acked (maps.get f.versions key)
+
+-- one change of the versions
+abbrev pub face_after : FaceState → FaceStep → FaceState
+face_after f (Set key version) = record f { versions = maps.insert f.versions key version }
+face_after f (ClearAll number) = record f { versions = maps.empty; cleared = number }
+
+abbrev pub face_after_all : FaceState → List FaceStep → FaceState
+face_after_all f [] = f
+face_after_all f (x ∷ xs) = face_after_all (face_after f x) xs
+
+-- a version without item counts as none as soon as it is acknowledged: these are the versions that a rise to n removes
+abbrev pub is_removed : ℕ → Option Version → Bool
+is_removed n None = true
+is_removed n (Some v) = not (is_some v.item) && nat_le v.number n
+
+-- the face with n as its acknowledged number: the versions without item up to n are taken away, and a clear up to n as well
+abbrev pub face_at : ℕ → FaceState → FaceState
+face_at n f =
+    record {
+      versions = maps.retain_keys f.versions (λ key. not (is_removed n (maps.get f.versions key)));
+      cleared = if nat_le f.cleared n then 0 else f.cleared;
+      acked = n;
+    }
+
+-- a change is done: its steps in order, and then the acknowledged number
+abbrev pub face_changed : FaceState → List FaceStep → ℕ → FaceState
+face_changed f steps acked = face_at acked (face_after_all f steps)
+
+-- the version that an entry makes of its key, or of every key
+abbrev pub face_step : ℕ → Target → Change → Option FaceStep
+face_step number (One key) Keep = None
+face_step number (One key) (Put item) = Some (Set key (record { number = number; item = Some item }))
+face_step number (One key) Drop = Some (Set key (record { number = number; item = None }))
+face_step number (One key) Clear = Some (ClearAll number)
+face_step number All Clear = Some (ClearAll number)
+face_step number All change = None
+
+abbrev pub face_steps : List LogEntry → List FaceStep
+face_steps es = filter_map (λ e. face_step e.number e.target e.change) es
+
+-- an item of the base is a version under the number that put it, which is its unique
+abbrev pub versions_of : Items → Versions
+versions_of items = maps.from_entries (map (λ e. (e.0, record { number = e.1.unique; item = Some e.1 })) (maps.entries items))
+
+-- the face of a server: the base's items, changed by the entries above the floor, at the acknowledged number
+abbrev pub face_of : ServerState → FaceState
+face_of s =
+    face_at s.store.acked (face_after_all (record { versions = versions_of s.store.base; cleared = 0; acked = s.store.floor }) (face_steps s.store.rest))
+
+-- how a step changes the face: by the entries that it appends, and to the acknowledged number after it
+abbrev pub steps_by : ServerState → Input → List FaceStep
+steps_by s input = face_steps (entries_after (taken_in s input).state.store (last_number s.store))
+
+abbrev pub acked_by : ServerState → Input → ℕ
+acked_by s input = (taken_in s input).state.store.acked
+
+-- what the server itself shows of a key: of a clean one its newest version
+abbrev pub peeked : ServerState → List ℕ → Look Item
+peeked s key = if is_clean s.store key then Clean (value_at s.store key (last_number s.store)) else Dirty
+
+-- a look that shows a copy of the item
+abbrev pub look_copied : {T : Type 0} → Look (Bor T) → Look T
+look_copied (Clean item) = Clean (option_copied item)
+look_copied Dirty = Dirty

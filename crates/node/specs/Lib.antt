@@ -1,0 +1,10 @@
+pub mod Views
+pub mod Servers
+pub mod Numbering
+pub mod Reading
+pub mod Joining
+pub mod Steps
+pub mod Faces
+pub mod Masters
+pub mod Lawful
+pub mod Nodes

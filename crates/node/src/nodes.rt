@@ -1,0 +1,119 @@
+//! Nodes: a server's step, stopped for good by a want of memory.
+ghost use Rattle.std.specs.Prelude.{◌≡◌, ◌≢◌, ◌↔◌, ◌<◌, ◌≤◌, true, false, IfOk, IfErr, OnOk, OnErr, IsOk, IsErrOf};
+ghost use Rattle.node.specs.declared.nodes.NodeFault.TheVariants.{Memory, BadCount};
+ghost use Rattle.node.specs.Steps as steps;
+ghost use Rattle.node.specs.Lawful.{IsInput, IsLawful, AreToOthers};
+ghost use Rattle.node.specs.Nodes.{running, fresh};
+ghost use Rattle.node.specs.Nodes as nodes;
+ghost use Rattle.node.specs.Faces.{peeked, look_copied};
+
+use crate::servers::Server;
+use crate::views::SERVERS;
+use crate::{Input, Look, Output};
+use std::alloc::{AllocError, Global};
+use std::marker::Model;
+use table::{Item, Key};
+use thiserror::Error;
+
+/// Why a node refuses a call.
+#[derive(Clone, Copy, Debug, PartialEq, Eq, Error)]
+pub enum NodeFault {
+    #[error("out of memory")]
+    Memory,
+    #[error("stopped")]
+    Stopped,
+    #[error("no such server")]
+    BadCount,
+}
+
+impl From<AllocError> for NodeFault {
+    ghost from_gives = { λ _ e. e ≡ Memory };
+
+    fn from(_e: AllocError) -> NodeFault {
+        NodeFault::Memory
+    }
+}
+
+/// One server of a chain. A step that is refused for want of memory stops it for good.
+#[derive(Drop)]
+pub struct Node {
+    server: Server,
+    stopped: bool,
+}
+
+impl Model for Node {
+    ghost use Rattle.std.specs.Prelude.{◌≡◌, false};
+    ghost use Rattle.std.specs.Coded.{codes};
+    ghost use Rattle.versions.specs.Stores.{coded_items};
+    ghost use Rattle.node.specs.Lawful.{IsLawful};
+    ghost use Rattle.node.specs.Nodes.{NodeState};
+
+    ghost Value = { NodeState };
+
+    ghost coded = { Prim.hlevel (codes, coded_items) };
+
+    ghost view = { λ n. record { server = n.server; stopped = n.stopped } };
+
+    ghost invariant = { λ n. n.stopped ≡ false → IsLawful n.server };
+}
+
+impl Node {
+    /// Server `id` of a chain of so many, before any input. Refused exactly where the chain has no such server, or more than 16.
+    /// It allocates nothing.
+    pub fn new(alloc: Global, id: u8, count: u8) -> Result<Node, NodeFault>
+        ensures fresh { IfOk result (λ node. node ≡ fresh id count) }
+        ensures accepted { IsOk result ↔ ((id < count) × (count ≤ 16)) }
+        ensures bad_count { IfErr result (λ fault. fault ≡ NodeFault.BadCount) }
+    {
+        if id >= count || count > SERVERS {
+            return Err(NodeFault::BadCount);
+        }
+        Ok(Node {
+            server: Server::new(alloc, id, count),
+            stopped: false,
+        })
+    }
+
+    /// One step. Its outputs stand in the order in which the rules give them.
+    /// It copies no item's data, and takes time logarithmic in the number of keys besides what it puts out.
+    pub fn step(&mut self, input: Input) -> Result<Vec<Output>, NodeFault>
+        requires input { IsInput input }
+        ensures state { OnOk result (self.new ≡ running (steps.step self.old.server input).state) }
+        ensures outputs { IfOk result (λ outputs. outputs.items ≡ (steps.step self.old.server input).outputs) }
+        // No message goes to the node itself, nor to a server that isn't of the chain.
+        ensures addressed { IfOk result (λ outputs. AreToOthers self.old.server.id self.old.server.count outputs.items) }
+        // Memory stops the node, and Stopped is answered exactly from then on.
+        ensures stopped { IsErrOf result NodeFault.Stopped ↔ (self.old.stopped ≡ true) }
+        ensures stops { OnErr result (self.new.stopped ≡ true) }
+        ensures fault { IfErr result (λ fault. fault ≢ NodeFault.BadCount) }
+    {
+        if self.stopped {
+            return Err(NodeFault::Stopped);
+        }
+        self.stopped = true;
+        let outputs = self.server.step(input)?;
+        self.stopped = false;
+        Ok(outputs)
+    }
+
+    /// A look at a key, while the node isn't stopped: clean with its item or none, or dirty. It allocates nothing,
+    /// and takes time logarithmic in the number of keys.
+    pub fn peek(&self, key: &Key) -> Look<&Item>
+        ensures { look_copied result ≡ peeked self.now.server key.now }
+    {
+        let store = &self.server.store;
+        if store.is_clean(key) {
+            Look::Clean(store.newest(key))
+        } else {
+            Look::Dirty
+        }
+    }
+
+    /// Whether it isn't stopped and no call of its own is open.
+    pub fn is_idle(&self) -> bool
+        ensures idle { result ≡ nodes.is_idle self.now }
+        ensures lawful { self.now.stopped ≡ false → IsLawful self.now.server }
+    {
+        !self.stopped && self.server.pend.is_empty() && self.server.asks.is_empty()
+    }
+}

@@ -1,0 +1,147 @@
+//! Reading: clean keys at once, dirty ones by asking the tail for its last number.
+ghost use Rattle.std.specs.Prelude.{◌≡◌, ◌<◌, ◌≤◌, ◌+◌, ◌++◌, ◌==◌, ℕ, List, position, Some, OnOk, IfOk, IsTrue};
+ghost use Rattle.std.specs.Option.{option_copied};
+ghost use Rattle.table.specs.declared.operations.Reply.TheVariants.{Value};
+ghost use Rattle.versions.specs.Stores.{last_number, value_at};
+ghost use Rattle.node.specs.Lawful.{IsSound};
+ghost use Rattle.node.specs.Reading as reading;
+
+use crate::servers::{OpenRead, Server, is_that};
+use crate::{Body, Output};
+use std::alloc::AllocError;
+use std::collections::VecDeque;
+use table::{Item, Key, Reply, Target};
+
+// The reply that shows this item, or none.
+pub(crate) fn value(item: Option<&Item>) -> Result<Reply, AllocError>
+    ensures { IfOk result (λ reply. reply ≡ Value (option_copied item.entry)) }
+{
+    match item {
+        Some(item) => Ok(Reply::Value(Some(item.clone()?))),
+        None => Ok(Reply::Value(None)),
+    }
+}
+
+// Takes the read of this ask out of the open ones, if it is one of them.
+fn take_out(asks: &mut VecDeque<OpenRead>, ask: u64) -> Option<OpenRead>
+    ensures found { result ≡ reading.open_read asks.old.items ask }
+    ensures left { asks.new.items ≡ reading.without_read asks.old.items ask }
+{
+    let i = place_of(asks, ask)?;
+    asks.remove(i)
+}
+
+// The place of the read of this ask. Reads are answered in order, so it mostly stands first.
+fn place_of(asks: &VecDeque<OpenRead>, ask: u64) -> Option<usize>
+    ensures { result ≡ position (λ r. r.ask == ask) asks.now.items }
+{
+    asks.iter().position(|read| read.ask == ask)
+}
+
+impl Server {
+    /// A read: a clean key's newest version is the answer; of a dirty key the tail is asked, where an ask is left.
+    pub(crate) fn read(
+        &mut self,
+        port: usize,
+        target: Target,
+        outputs: &mut Vec<Output>,
+    ) -> Result<(), AllocError>
+        requires chain { IsSound self.old }
+        ensures state { OnOk result (self.new ≡ (reading.read_of self.old port target).state) }
+        ensures outputs { OnOk result (outputs.new.items ≡ outputs.old.items ++ (reading.read_of self.old port target).outputs) }
+    {
+        let Target::One(key) = target else {
+            return Ok(());
+        };
+        if self.store.is_clean(&key) {
+            let reply = value(self.store.newest(&key))?;
+            outputs.push(Output::Reply(port, reply))?;
+            return Ok(());
+        }
+        self.ask(port, key, outputs)
+    }
+
+    // A read of a dirty key, where an ask is left: the tail is asked.
+    #[tactic(auto, unfolding(crate::specs::Servers::most, crate::specs::Reading::dirty_read, crate::specs::Reading::asked))]
+    fn ask(&mut self, port: usize, key: Key, outputs: &mut Vec<Output>) -> Result<(), AllocError>
+        requires chain { IsSound self.old }
+        ensures state { OnOk result (self.new ≡ (reading.dirty_read self.old port key).state) }
+        ensures outputs { OnOk result (outputs.new.items ≡ outputs.old.items ++ (reading.dirty_read self.old port key).outputs) }
+    {
+        if self.next_ask == u64::MAX {
+            return Ok(());
+        }
+        let ask = self.next_ask;
+        let tail = self.tail();
+        self.send(tail, Body::Query(ask, key.clone()?), outputs)?;
+        let mark = self.store.acked();
+        self.asks.push_back(OpenRead {
+            ask,
+            port,
+            key,
+            mark,
+        })?;
+        self.next_ask = ask + 1;
+        Ok(())
+    }
+
+    /// `Query` from server i: the tail answers its last number, whatever the key.
+    pub(crate) fn receive_query(
+        &self,
+        i: u8,
+        ask: u64,
+        outputs: &mut Vec<Output>,
+    ) -> Result<(), AllocError>
+        requires chain { IsSound self.now }
+        ensures { OnOk result (outputs.new.items ≡ outputs.old.items ++ (reading.receive_query self.now i ask).outputs) }
+    {
+        if self.is_tail() {
+            self.send(Some(i), Body::Answer(ask, self.store.last()), outputs)?;
+        }
+        Ok(())
+    }
+
+    /// `Answer` from server i: it counts from the tail alone.
+    pub(crate) fn receive_answer(
+        &mut self,
+        i: u8,
+        ask: u64,
+        n: u64,
+        outputs: &mut Vec<Output>,
+    ) -> Result<(), AllocError>
+        requires chain { IsSound self.old }
+        ensures state { OnOk result (self.new ≡ (reading.receive_answer self.old i ask n).state) }
+        ensures outputs { OnOk result (outputs.new.items ≡ outputs.old.items ++ (reading.receive_answer self.old i ask n).outputs) }
+    {
+        if !is_that(self.tail(), i) {
+            return Ok(());
+        }
+        self.answer(ask, n, outputs)
+    }
+
+    // The read of this ask, if it is open, is answered with the number `n`.
+    #[tactic(auto, unfolding(crate::specs::Reading::answered))]
+    fn answer(&mut self, ask: u64, n: u64, outputs: &mut Vec<Output>) -> Result<(), AllocError>
+        requires chain { IsSound self.old }
+        ensures state { OnOk result (self.new ≡ (reading.answered self.old ask n (reading.open_read self.old.asks ask)).state) }
+        ensures outputs { OnOk result (outputs.new.items ≡ outputs.old.items ++ (reading.answered self.old ask n (reading.open_read self.old.asks ask)).outputs) }
+    {
+        let Some(read) = open_read(&self.asks, ask) else {
+            return Ok(());
+        };
+        if n < read.mark || self.store.last() < n {
+            return Ok(());
+        }
+        let reply = value(self.store.at(&read.key, n))?;
+        outputs.push(Output::Reply(read.port, reply))?;
+        take_out(&mut self.asks, ask);
+        Ok(())
+    }
+}
+
+// The read of this ask, if it is open.
+fn open_read(asks: &VecDeque<OpenRead>, ask: u64) -> Option<&OpenRead>
+    ensures { option_copied result ≡ reading.open_read asks.now.items ask }
+{
+    asks.get(place_of(asks, ask)?)
+}

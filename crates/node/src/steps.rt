@@ -1,0 +1,149 @@
+//! One server's step: what each input does.
+ghost use Rattle.std.specs.Prelude.{◌≡◌, ◌<◌, ◌≤◌, ◌++◌, true, false, List, [], OnOk, IfOk};
+ghost use Rattle.node.specs.Lawful.{IsCall, IsBody, IsInput, IsSound, IsLawful, HoldsEntry, AreToOthers};
+ghost use Rattle.node.specs.Steps as steps;
+
+use crate::servers::Server;
+use crate::{Body, Input, Output, Peer, View};
+use std::alloc::AllocError;
+use table::Call;
+
+impl Server {
+    /// One step: what the input does, and then the floor.
+    pub(crate) fn step(&mut self, input: Input) -> Result<Vec<Output>, AllocError>
+        requires lawful { IsLawful self.old }
+        requires input { IsInput input }
+        ensures state { OnOk result (self.new ≡ (steps.step self.old input).state) }
+        ensures outputs { IfOk result (λ outputs. outputs.items ≡ (steps.step self.old input).outputs) }
+        ensures lawful { OnOk result (IsLawful self.new) }
+        ensures addressed { IfOk result (λ outputs. AreToOthers self.old.id self.old.count outputs.items) }
+    {
+        hold_entry(&input);
+        let mut outputs = Vec::new(self.alloc);
+        self.take_in(input, &mut outputs)?;
+        self.trim();
+        Ok(outputs)
+    }
+
+    // What an input does, but for the floor.
+    fn take_in(&mut self, input: Input, outputs: &mut Vec<Output>) -> Result<(), AllocError>
+        requires lawful { IsLawful self.old }
+        requires input { IsInput input }
+        ensures state { OnOk result (self.new ≡ (steps.taken_in self.old input).state) }
+        ensures outputs { OnOk result (outputs.new.items ≡ outputs.old.items ++ (steps.taken_in self.old input).outputs) }
+    {
+        match input {
+            Input::Call(port, call) => self.call(port, &call, outputs),
+            Input::From(i, peer) => self.from_peer(i, peer, outputs),
+            Input::Gone(j) => self.gone(j, outputs),
+        }
+    }
+
+    // An own call.
+    fn call(
+        &mut self,
+        port: usize,
+        call: &Call,
+        outputs: &mut Vec<Output>,
+    ) -> Result<(), AllocError>
+        requires chain { IsSound self.old }
+        requires call { IsCall call.now }
+        ensures state { OnOk result (self.new ≡ (steps.call self.old port call.now).state) }
+        ensures outputs { OnOk result (outputs.new.items ≡ outputs.old.items ++ (steps.call self.old port call.now).outputs) }
+    {
+        if call.op.is_update() {
+            self.update(port, call, outputs)
+        } else {
+            self.read(port, call.target.clone()?, outputs)
+        }
+    }
+
+    // The notice that server j has failed: it is joined, unless j is this server or none of the chain.
+    fn gone(&mut self, j: u8, outputs: &mut Vec<Output>) -> Result<(), AllocError>
+        requires chain { IsSound self.old }
+        ensures state { OnOk result (self.new ≡ (steps.gone self.old j).state) }
+        ensures outputs { OnOk result (outputs.new.items ≡ outputs.old.items ++ (steps.gone self.old j).outputs) }
+    {
+        if j < self.count && j != self.id {
+            self.join(View::single(j), outputs)
+        } else {
+            Ok(())
+        }
+    }
+
+    // The sender is another server of the chain, and the view names neither this server nor one that isn't of the chain.
+    fn is_heard(&self, i: u8, v: View) -> bool
+        requires chain { IsSound self.now }
+        ensures { result ≡ steps.is_heard self.now i v }
+    {
+        i < self.count && i != self.id && v.is_below(self.count) && !v.has(self.id)
+    }
+
+    // A message from server i: its view is joined first, and then it is judged whether its sender has failed.
+    fn from_peer(&mut self, i: u8, peer: Peer, outputs: &mut Vec<Output>) -> Result<(), AllocError>
+        requires lawful { IsLawful self.old }
+        requires body { IsBody peer.body }
+        ensures state { OnOk result (self.new ≡ (steps.from_peer self.old i peer).state) }
+        ensures outputs { OnOk result (outputs.new.items ≡ outputs.old.items ++ (steps.from_peer self.old i peer).outputs) }
+    {
+        if !self.is_heard(i, peer.view) {
+            return Ok(());
+        }
+        self.join(peer.view, outputs)?;
+        self.receive(i, peer.body, outputs)
+    }
+
+    // Nothing is received of a server that is known to have failed. A body that doesn't fit has no effect.
+    fn receive(&mut self, i: u8, body: Body, outputs: &mut Vec<Output>) -> Result<(), AllocError>
+        requires chain { IsSound self.old }
+        requires server { i < 16 }
+        requires body { IsBody body }
+        ensures state { OnOk result (self.new ≡ (steps.received self.old i body).state) }
+        ensures outputs { OnOk result (outputs.new.items ≡ outputs.old.items ++ (steps.received self.old i body).outputs) }
+    {
+        if self.view.has(i) {
+            return Ok(());
+        }
+        match body {
+            Body::Op(id, call) => self.receive_op(i, id, &call, outputs),
+            Body::Forward(entry) => self.receive_forward(i, entry, outputs),
+            Body::Ack(n) => self.receive_ack(i, n, outputs),
+            Body::Query(ask, _) => self.receive_query(i, ask, outputs),
+            Body::Answer(ask, n) => self.receive_answer(i, ask, n, outputs),
+        }
+    }
+
+    // The floor follows: marks never fall, so the first open read has the least.
+    #[tactic(auto, unfolding(crate::specs::Steps::trimmed))]
+    fn trim(&mut self)
+        requires chain { IsSound self.old }
+        ensures { self.new ≡ steps.trimmed self.old }
+    {
+        let least = self.least_open();
+        self.store.drop_to(least);
+    }
+
+    // The least of the acknowledged number and the marks of all open reads.
+    fn least_open(&self) -> u64
+        requires chain { IsSound self.now }
+        ensures least { result ≡ steps.least_open self.now.store.acked self.now.asks }
+        ensures low { self.now.store.floor ≤ result }
+        ensures high { result ≤ self.now.store.acked }
+    {
+        match self.asks.front() {
+            Some(read) => read.mark,
+            None => self.store.acked(),
+        }
+    }
+}
+
+// An entry keeps its ranges by its type.
+fn hold_entry(input: &Input)
+    ensures { HoldsEntry input.now }
+{
+    if let Input::From(_, peer) = input {
+        if let Body::Forward(entry) = &peer.body {
+            let _number = entry.number();
+        }
+    }
+}
