@@ -12,3 +12,6 @@ pub mod Retaking
 pub mod Rejoining
 pub mod Addresses
 pub mod StepAddresses
+pub mod FaceLaws
+pub mod Growth
+pub mod FaceChanges

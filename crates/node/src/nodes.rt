@@ -5,11 +5,11 @@ ghost use Rattle.node.specs.Steps as steps;
 ghost use Rattle.node.specs.Lawful.{IsInput, IsLawful, AreToOthers};
 ghost use Rattle.node.specs.Nodes.{running, fresh};
 ghost use Rattle.node.specs.Nodes as nodes;
-ghost use Rattle.node.specs.Faces.{peeked, look_copied};
+ghost use Rattle.node.specs.Faces.{peeked, look_copied, look_at, face_of, face_changed, steps_by, acked_by};
 
 use crate::servers::Server;
 use crate::views::SERVERS;
-use crate::{Input, Look, Output};
+use crate::{FaceChange, Input, Look, Output};
 use std::alloc::{AllocError, Global};
 use std::marker::Model;
 use table::{Item, Key};
@@ -96,10 +96,47 @@ impl Node {
         Ok(outputs)
     }
 
+    /// The same step, and how it changes the face that readers beside the node see: the steps in order, and then the
+    /// acknowledged number, with which the versions without item up to it are taken away.
+    /// It copies no item's data, and takes time logarithmic in the number of keys besides what it puts out and the steps.
+    pub fn step_face(&mut self, input: Input) -> Result<(Vec<Output>, FaceChange), NodeFault>
+        requires input { IsInput input }
+        ensures state { OnOk result (self.new ≡ running (steps.step self.old.server input).state) }
+        ensures outputs { IfOk result (λ found. found.0.items ≡ (steps.step self.old.server input).outputs) }
+        ensures addressed { IfOk result (λ found. AreToOthers self.old.server.id self.old.server.count found.0.items) }
+        ensures steps { IfOk result (λ found. found.1.steps.items ≡ steps_by self.old.server input) }
+        ensures acked { IfOk result (λ found. found.1.acked ≡ acked_by self.old.server input) }
+        // The change, done on the face before, gives the face after.
+        ensures face { IfOk result (λ found. face_changed (face_of self.old.server) found.1.steps.items found.1.acked ≡ face_of (steps.step self.old.server input).state) }
+        // Memory stops the node, and Stopped is answered exactly from then on.
+        ensures stopped { IsErrOf result NodeFault.Stopped ↔ (self.old.stopped ≡ true) }
+        ensures stops { OnErr result (self.new.stopped ≡ true) }
+        ensures fault { IfErr result (λ fault. fault ≢ NodeFault.BadCount) }
+    {
+        if self.stopped {
+            Err(NodeFault::Stopped)
+        } else {
+            self.stopped = true;
+            let (outputs, change) = self.server.step_face(input)?;
+            self.stopped = false;
+            Ok((outputs, change))
+        }
+    }
+
     /// A look at a key, while the node isn't stopped: clean with its item or none, or dirty. It allocates nothing,
     /// and takes time logarithmic in the number of keys.
     pub fn peek(&self, key: &Key) -> Look<&Item>
-        ensures { look_copied result ≡ peeked self.now.server key.now }
+        ensures newest { look_copied result ≡ peeked self.now.server key.now }
+        // It is the look at the face that readers beside the node see.
+        ensures face { self.now.stopped ≡ false → look_copied result ≡ look_at (face_of self.now.server) key.now }
+    {
+        self.look(key)
+    }
+
+    // The same, stopped or not.
+    fn look(&self, key: &Key) -> Look<&Item>
+        ensures newest { look_copied result ≡ peeked self.now.server key.now }
+        ensures lawful { self.now.stopped ≡ false → IsLawful self.now.server }
     {
         let store = &self.server.store;
         if store.is_clean(key) {

@@ -2,9 +2,10 @@
 ghost use Rattle.std.specs.Prelude.{◌≡◌, ◌<◌, ◌≤◌, ◌++◌, true, false, List, [], OnOk, IfOk};
 ghost use Rattle.node.specs.Lawful.{IsCall, IsBody, IsInput, IsSound, IsLawful, HoldsEntry, AreToOthers};
 ghost use Rattle.node.specs.Steps as steps;
+ghost use Rattle.node.specs.Faces.{face_changed, face_of, steps_by, acked_by};
 
 use crate::servers::Server;
-use crate::{Body, Input, Output, Peer, View};
+use crate::{Body, FaceChange, Input, Output, Peer, View};
 use std::alloc::AllocError;
 use table::Call;
 
@@ -23,6 +24,30 @@ impl Server {
         self.take_in(input, &mut outputs)?;
         self.trim();
         Ok(outputs)
+    }
+
+    /// The same step, and how it changes the face. It copies no item's data.
+    pub(crate) fn step_face(
+        &mut self,
+        input: Input,
+    ) -> Result<(Vec<Output>, FaceChange), AllocError>
+        requires lawful { IsLawful self.old }
+        requires input { IsInput input }
+        ensures state { OnOk result (self.new ≡ (steps.step self.old input).state) }
+        ensures outputs { IfOk result (λ found. found.0.items ≡ (steps.step self.old input).outputs) }
+        ensures lawful { OnOk result (IsLawful self.new) }
+        ensures addressed { IfOk result (λ found. AreToOthers self.old.id self.old.count found.0.items) }
+        ensures steps { IfOk result (λ found. found.1.steps.items ≡ steps_by self.old input) }
+        ensures acked { IfOk result (λ found. found.1.acked ≡ acked_by self.old input) }
+        ensures face { IfOk result (λ found. face_changed (face_of self.old) found.1.steps.items found.1.acked ≡ face_of (steps.step self.old input).state) }
+    {
+        hold_entry(&input);
+        let before = self.store.last();
+        let mut outputs = Vec::new(self.alloc);
+        self.take_in(input, &mut outputs)?;
+        let change = self.change_after(before)?;
+        self.trim();
+        Ok((outputs, change))
     }
 
     // What an input does, but for the floor.

@@ -1,0 +1,38 @@
+use Rattle.std.proofs.Common.{rules, ◌≡◌, ◌∙◌, ap, sym}
+use Rattle.versions.specs.Stores.{last_number}
+use Rattle.node.specs.Servers.{ServerState}
+use Rattle.node.specs.Steps.{taken_in, step}
+use Rattle.node.specs.Faces.{face_changed, face_of, face_steps, steps_by, acked_by}
+use Rattle.node.proofs.RuleLaws.{good-taken_in, lawful-trimmed}
+use Rattle.node.proofs.StepAddresses.{others_taken_in}
+use Rattle.node.proofs.Growth.{grows-taken_in, last-grown}
+use Rattle.node.proofs.FaceChanges.{face-changed}
+use Rattle.node.proofs.servers.Server.step_face.Goals as goal
+
+pub trim-requires : goal.trim-requires
+trim-requires c =
+    let good = good-taken_in c.args.self.now c.args.input c.requires.input c.hold_entry.ensures (record { sound = c.requires.lawful.sound; settled = c.requires.lawful.settled }) in
+    record { chain = rw c.in_ok-take_in.ensures.state good.sound }
+
+pub returns-clause-lawful : goal.returns-clause-lawful
+returns-clause-lawful c =
+    let good = good-taken_in c.args.self.now c.args.input c.requires.input c.hold_entry.ensures (record { sound = c.requires.lawful.sound; settled = c.requires.lawful.settled }) in
+    rw (c.trim.ensures, c.in_ok-take_in.ensures.state) (lawful-trimmed _ good)
+
+pub returns-clause-addressed : goal.returns-clause-addressed
+returns-clause-addressed c =
+    rw (c.in_ok-take_in.ensures.outputs, c.new-outputs.ensures.items) (others_taken_in c.args.self.now c.args.input (record { sound = c.requires.lawful.sound; settled = c.requires.lawful.settled }))
+
+pub change_after-requires : goal.change_after-requires
+change_after-requires c =
+    let before : c.last-before.result ≡ last_number c.args.self.now.store = search rules in
+    let between = last-grown c.args.self.now (taken_in c.args.self.now c.args.input).state (grows-taken_in c.args.self.now c.args.input) in
+    record { above = rw (before, c.in_ok-take_in.ensures.state) between }
+
+pub returns-clause-face : goal.returns-clause-face
+returns-clause-face c =
+    let by : c.in_ok-change.change.steps.items ≡ steps_by c.args.self.now c.args.input = search rules in
+    let to : c.in_ok-change.change.acked ≡ acked_by c.args.self.now c.args.input = search rules in
+    ap (λ xs. face_changed (face_of c.args.self.now) xs c.in_ok-change.change.acked) by
+    ∙ ap (λ n. face_changed (face_of c.args.self.now) (steps_by c.args.self.now c.args.input) n) to
+    ∙ face-changed c.args.self.now c.args.input c.requires.input c.hold_entry.ensures c.requires.lawful
