@@ -75,7 +75,8 @@ impl Node {
     }
 
     /// One step. Its outputs stand in the order in which the rules give them.
-    /// It copies no item's data, and takes time logarithmic in the number of keys besides what it puts out.
+    /// It copies no item's data. Each entry that it appends, passes or puts out takes time logarithmic in the number of keys. An own
+    /// open call is found by a scan from the oldest one: at once where answers come in order.
     pub fn step(&mut self, input: Input) -> Result<Vec<Output>, NodeFault>
         requires input { IsInput input }
         ensures state { OnOk result (self.new ≡ running (steps.step self.old.server input).state) }
