@@ -6,8 +6,8 @@ use Rattle.craq.specs.declared.reading.ReadFault.{ReadFault}
 use Rattle.craq.specs.declared.reading.ReadFault.TheVariants as reading
 use Rattle.world.specs.declared.schedules.ScheduleFault.{ScheduleFault}
 use Rattle.world.specs.declared.schedules.ScheduleFault.TheVariants as schedules
-use Rattle.world.specs.declared.scenes.SceneFault.{SceneFault}
-use Rattle.world.specs.declared.scenes.SceneFault.TheVariants as scenes
+use Rattle.world.specs.declared.faults.SceneFault.{SceneFault}
+use Rattle.world.specs.declared.faults.SceneFault.TheVariants as scenes
 
 -- the exit status: 3 for want of memory, else 1
 abbrev pub status_of : ScenarioFault → ℕ
@@ -35,3 +35,4 @@ abbrev pub of_scene : SceneFault → ScenarioFault
 of_scene scenes.Memory = Memory
 of_scene scenes.BadCount = Run
 of_scene scenes.BadHomes = Run
+of_scene scenes.Spoiled = Run

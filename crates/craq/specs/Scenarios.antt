@@ -14,7 +14,7 @@ IsScenarioStatus n = (n ≡ 0) ⊎ ((n ≡ 1) ⊎ (n ≡ 3))
 
 -- the text is a schedule, and these bytes are the text of what its run shows
 abbrev pub Replays : List ℕ → List ℕ → Type 0
-Replays text shown = (s : ScheduleShown) × (schedule_of text ≡ Ok s) × (shown ≡ transcript_text (transcript_of (run_of s.homes s.events)))
+Replays text shown = (s : ScheduleShown) × (schedule_of text ≡ Ok s) × (shown ≡ transcript_text (transcript_of (run_of s.count s.homes s.events)))
 
 -- a schedule was read from the source, and the text of its transcript was written to the sink
 abbrev pub Shows : Option (List ℕ) → Option (List ℕ) → Option (List ℕ) → Option (List ℕ) → Type 0

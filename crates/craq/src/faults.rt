@@ -130,7 +130,9 @@ impl From<SceneFault> for ScenarioFault {
     fn from(e: SceneFault) -> ScenarioFault {
         match e {
             SceneFault::Memory => ScenarioFault::Memory,
-            SceneFault::BadCount | SceneFault::BadHomes => ScenarioFault::Run,
+            SceneFault::BadCount | SceneFault::BadHomes | SceneFault::Spoiled => {
+                ScenarioFault::Run
+            },
         }
     }
 }

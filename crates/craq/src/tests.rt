@@ -119,7 +119,7 @@ fn a_fault_is_one_line_and_no_output(rt: HostRuntime) {
             b"craq: line 3: bad schedule line\n",
         ),
         (
-            b"servers 2\nhomes 0\n",
+            b"servers 17\nhomes 0\n",
             b"craq: line 1: bad schedule line\n",
         ),
         (

@@ -1,6 +1,5 @@
 -- The change of a step, done on the face before it, gives the face after it.
-use Rattle.std.proofs.Common.{◌≡◌, ℕ, zero, suc, ◌+◌, ◌-◌, ◌<◌, ◌≤◌, nat_le, Bool, true, false, not, cond, List, [], ◌∷◌, ◌++◌, length, take, drop, Option, None, Some, refl, sym, ap, ◌∙◌, arith, length-take-le, drop_at}
-use Rattle.std.specs.FinMap as maps
+use Rattle.std.proofs.Common.{◌≡◌, ℕ, zero, suc, ◌+◌, ◌-◌, ◌≤◌, nat_le, Bool, true, false, not, cond, List, [], ◌∷◌, ◌++◌, length, take, drop, Option, None, Some, refl, sym, ap, ◌∙◌, arith, length-take-le, drop_at}
 use Rattle.std.specs.FinMap.{same_map}
 use Rattle.std.specs.Cmp.Lexicographic.{nat_list_cmp_total}
 use Rattle.std.specs.Option.{option_map}
@@ -18,11 +17,11 @@ use Rattle.node.specs.declared.messages.Input.{Input}
 use Rattle.node.specs.Servers.{ServerState}
 use Rattle.node.specs.Steps.{taken_in, least_open, trimmed, step}
 use Rattle.node.specs.Lawful.{IsSound, IsLawful, IsInput, HoldsEntry}
-use Rattle.node.specs.Faces.{FaceState, face_after_all, face_at, face_changed, face_steps, face_of, steps_by, acked_by}
+use Rattle.node.specs.Faces.{FaceState, face_after_all, face_changed, face_steps, face_of, steps_by, acked_by}
 use Rattle.node.proofs.SoundLaws.{least_within}
 use Rattle.node.proofs.RuleLaws.{good-taken_in}
 use Rattle.node.proofs.Growth.{Grows, grows-taken_in}
-use Rattle.node.proofs.FaceLaws.{Slot, slot, number_in, item_in, slot_after, slot_by, slot_by_all, slot-all, item-all, IsSlot, slot-is, kept, kept_clear, slot_at, slot-face_at, based_version, face_based, item_based, slot_based, slot_of, slot-raw, slot_of-is}
+use Rattle.node.proofs.FaceLaws.{Slot, slot, number_in, item_in, slot_after, slot_by, slot_by_all, slot-all, item-all, slot-is, kept, kept_clear, slot_at, slot-face_at, based_version, face_based, item_based, slot_based, slot_of, slot-raw}
 
 -- ---- what an acknowledged number takes away stays away
 

@@ -6,12 +6,15 @@ pub mod SoundLaws
 pub mod DecisionLaws
 pub mod RuleLaws
 pub mod Firsts
+pub mod Orders
 pub mod Settling
 pub mod Repeats
 pub mod Retaking
 pub mod Rejoining
 pub mod Addresses
 pub mod StepAddresses
+pub mod Fitness
+pub mod StepFitness
 pub mod FaceLaws
 pub mod Growth
 pub mod FaceChanges

@@ -120,7 +120,7 @@ reads-least above mark (r ∷ rs) next_ask acked h = (h.0, omega arith, h.2)
 
 -- ---- entries and items
 
-log-drop : (floor k n : ℕ) (es : List LogEntry) → n ≡ floor + k → IsLog floor es → IsLog n (drop k es)
+pub log-drop : (floor k n : ℕ) (es : List LogEntry) → n ≡ floor + k → IsLog floor es → IsLog n (drop k es)
 log-drop floor zero n es is log = let same : n ≡ floor = omega arith in rw same log
 log-drop floor (suc k) n [] is log = tt
 log-drop floor (suc k) n (e ∷ es) is log = log-drop (floor + 1) k n es (omega arith) log.2

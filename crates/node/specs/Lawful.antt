@@ -98,3 +98,12 @@ IsToOther id count (Replied port reply) = Unit {0}
 abbrev pub AreToOthers : ℕ → ℕ → List Output → Type 0
 AreToOthers id count [] = Unit {0}
 AreToOthers id count (o ∷ os) = IsToOther id count o × AreToOthers id count os
+
+-- a message says what may be handed in: an operation that fits and suits its target, an entry, an ask of at least 1
+abbrev pub IsFit : Output → Type 0
+IsFit (To to peer) = IsBody peer.body × HasEntry peer.body
+IsFit (Replied port reply) = Unit {0}
+
+abbrev pub AreFit : List Output → Type 0
+AreFit [] = Unit {0}
+AreFit (o ∷ os) = IsFit o × AreFit os

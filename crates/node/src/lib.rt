@@ -3,6 +3,7 @@
 
 mod faces;
 mod joining;
+mod laws;
 mod looks;
 mod masters;
 mod messages;
@@ -14,6 +15,7 @@ mod steps;
 mod views;
 
 pub use faces::{FaceChange, FaceStep, Version};
+pub use laws::steps_are_lawful;
 pub use looks::Look;
 pub use masters::{Master, MasterFault};
 pub use messages::{Body, Input, Output, Peer};

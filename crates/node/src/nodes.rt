@@ -2,14 +2,14 @@
 ghost use Rattle.std.specs.Prelude.{◌≡◌, ◌≢◌, ◌↔◌, ◌<◌, ◌≤◌, true, false, IfOk, IfErr, OnOk, OnErr, IsOk, IsErrOf};
 ghost use Rattle.node.specs.declared.nodes.NodeFault.TheVariants.{Memory, BadCount};
 ghost use Rattle.node.specs.Steps as steps;
-ghost use Rattle.node.specs.Lawful.{IsInput, IsLawful, AreToOthers};
+ghost use Rattle.node.specs.Lawful.{IsInput, IsLawful, AreToOthers, AreFit};
 ghost use Rattle.node.specs.Nodes.{running, fresh};
 ghost use Rattle.node.specs.Nodes as nodes;
 ghost use Rattle.node.specs.Faces.{peeked, look_copied, look_at, face_of, face_changed, steps_by, acked_by};
 
 use crate::servers::Server;
 use crate::views::SERVERS;
-use crate::{FaceChange, Input, Look, Output};
+use crate::{FaceChange, Input, Look, Output, View};
 use std::alloc::{AllocError, Global};
 use std::marker::Model;
 use table::{Item, Key};
@@ -62,6 +62,7 @@ impl Node {
     /// It allocates nothing.
     pub fn new(alloc: Global, id: u8, count: u8) -> Result<Node, NodeFault>
         ensures fresh { IfOk result (λ node. node ≡ fresh id count) }
+        ensures lawful { IfOk result (λ node. IsLawful node.server) }
         ensures accepted { IsOk result ↔ ((id < count) × (count ≤ 16)) }
         ensures bad_count { IfErr result (λ fault. fault ≡ NodeFault.BadCount) }
     {
@@ -75,14 +76,18 @@ impl Node {
     }
 
     /// One step. Its outputs stand in the order in which the rules give them.
-    /// It copies no item's data. Each entry that it appends, passes or puts out takes time logarithmic in the number of keys. An own
-    /// open call is found by a scan from the oldest one: at once where answers come in order.
+    /// It copies no item's data. Each entry that it appends, passes or puts out takes time logarithmic in the number of keys, and an
+    /// own open call is found by a binary search. Answers come in order from servers that keep to the rules; after one that doesn't,
+    /// the open calls on the shorter side of the answered one are moved by one place.
     pub fn step(&mut self, input: Input) -> Result<Vec<Output>, NodeFault>
         requires input { IsInput input }
         ensures state { OnOk result (self.new ≡ running (steps.step self.old.server input).state) }
         ensures outputs { IfOk result (λ outputs. outputs.items ≡ (steps.step self.old.server input).outputs) }
         // No message goes to the node itself, nor to a server that isn't of the chain.
         ensures addressed { IfOk result (λ outputs. AreToOthers self.old.server.id self.old.server.count outputs.items) }
+        // Each message may be handed in where it goes.
+        ensures fit { IfOk result (λ outputs. AreFit outputs.items) }
+        ensures lawful { OnOk result (IsLawful self.new.server) }
         // Memory stops the node, and Stopped is answered exactly from then on.
         ensures stopped { IsErrOf result NodeFault.Stopped ↔ (self.old.stopped ≡ true) }
         ensures stops { OnErr result (self.new.stopped ≡ true) }
@@ -105,6 +110,8 @@ impl Node {
         ensures state { OnOk result (self.new ≡ running (steps.step self.old.server input).state) }
         ensures outputs { IfOk result (λ found. found.0.items ≡ (steps.step self.old.server input).outputs) }
         ensures addressed { IfOk result (λ found. AreToOthers self.old.server.id self.old.server.count found.0.items) }
+        ensures fit { IfOk result (λ found. AreFit found.0.items) }
+        ensures lawful { OnOk result (IsLawful self.new.server) }
         ensures steps { IfOk result (λ found. found.1.steps.items ≡ steps_by self.old.server input) }
         ensures acked { IfOk result (λ found. found.1.acked ≡ acked_by self.old.server input) }
         // The change, done on the face before, gives the face after.
@@ -145,6 +152,13 @@ impl Node {
         } else {
             Look::Dirty
         }
+    }
+
+    /// The servers that it knows to have failed.
+    pub fn view(&self) -> View
+        ensures { result ≡ self.now.server.view }
+    {
+        self.server.view
     }
 
     /// Whether it isn't stopped and no call of its own is open.

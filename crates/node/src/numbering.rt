@@ -1,8 +1,9 @@
 //! Numbering and forwarding: how an update gets its entry, how entries go down the chain, and how they are acknowledged.
-ghost use Rattle.std.specs.Prelude.{◌≡◌, ◌<◌, ◌≤◌, ◌+◌, ◌++◌, true, length, take, position, ◌==◌, ◌-◌, ◌^◌, OnOk, IfOk, IsTrue};
+ghost use Rattle.std.specs.Prelude.{◌≡◌, ◌<◌, ◌≤◌, ◌+◌, ◌++◌, true, length, map, take, position, ◌==◌, ◌-◌, ◌^◌, OnOk, IfOk, IsTrue};
 ghost use Rattle.std.specs.Option.{option_copied};
 ghost use Rattle.std.specs.VecDeque.Iter.{deque_iter_rest};
 ghost use Rattle.table.specs.Operations.{is_update};
+ghost use Rattle.versions.specs.Numbers.{IsRising};
 ghost use Rattle.versions.specs.Stores.{last_number};
 ghost use Rattle.node.specs.Servers as servers;
 ghost use Rattle.node.specs.Lawful.{IsCall, IsSound};
@@ -18,6 +19,7 @@ use versions::{Entry, Store};
 
 /// Takes the call of this id out of the open ones, if it is one of them.
 pub(crate) fn take_out(pend: &mut VecDeque<OpenUpdate>, id: u64) -> Option<OpenUpdate>
+    requires order { IsRising 0 (map (λ u. u.id) pend.old.items) }
     ensures found { result ≡ numbering.open_update pend.old.items id }
     ensures left { pend.new.items ≡ numbering.without_update pend.old.items id }
 {
@@ -25,11 +27,12 @@ pub(crate) fn take_out(pend: &mut VecDeque<OpenUpdate>, id: u64) -> Option<OpenU
     pend.remove(i)
 }
 
-// The place of the call of this id. Calls are answered in order, so it mostly stands first.
+// The place of the call of this id, by a binary search.
 fn place_of(pend: &VecDeque<OpenUpdate>, id: u64) -> Option<usize>
+    requires order { IsRising 0 (map (λ u. u.id) pend.now.items) }
     ensures { result ≡ position (λ u. u.id == id) pend.now.items }
 {
-    pend.iter().position(|update| update.id == id)
+    pend.binary_search_by_key(&id, |update| update.id).ok()
 }
 
 // Where the entry's call is an own one without a reply, its port gets the reply.
@@ -39,6 +42,7 @@ fn settle(
     entry: &Entry,
     outputs: &mut Vec<Output>,
 ) -> Result<(), AllocError>
+    requires order { IsRising 0 (map (λ u. u.id) pend.old.items) }
     ensures left { OnOk result (pend.new.items ≡ numbering.left_open_by id pend.old.items entry.now) }
     ensures replies { OnOk result (outputs.new.items ≡ outputs.old.items ++ numbering.reply_to id pend.old.items entry.now) }
 {
@@ -58,6 +62,7 @@ fn settle_first(
     count: u64,
     outputs: &mut Vec<Output>,
 ) -> Result<(), AllocError>
+    requires order { IsRising 0 (map (λ u. u.id) pend.old.items) }
     ensures left { OnOk result (pend.new.items ≡ numbering.left_open id pend.old.items (take count (deque_iter_rest entries.entry))) }
     ensures replies { OnOk result (outputs.new.items ≡ outputs.old.items ++ numbering.replies id pend.old.items (take count (deque_iter_rest entries.entry))) }
 {

@@ -1,7 +1,8 @@
 //! Reading: clean keys at once, dirty ones by asking the tail for its last number.
-ghost use Rattle.std.specs.Prelude.{◌≡◌, ◌<◌, ◌≤◌, ◌+◌, ◌++◌, ◌==◌, ℕ, List, position, Some, OnOk, IfOk, IsTrue};
+ghost use Rattle.std.specs.Prelude.{◌≡◌, ◌<◌, ◌≤◌, ◌+◌, ◌++◌, ◌==◌, ℕ, List, map, position, Some, OnOk, IfOk, IsTrue};
 ghost use Rattle.std.specs.Option.{option_copied};
 ghost use Rattle.table.specs.declared.operations.Reply.TheVariants.{Value};
+ghost use Rattle.versions.specs.Numbers.{IsRising};
 ghost use Rattle.versions.specs.Stores.{last_number, value_at};
 ghost use Rattle.node.specs.Lawful.{IsSound};
 ghost use Rattle.node.specs.Reading as reading;
@@ -24,6 +25,7 @@ pub(crate) fn value(item: Option<&Item>) -> Result<Reply, AllocError>
 
 // Takes the read of this ask out of the open ones, if it is one of them.
 fn take_out(asks: &mut VecDeque<OpenRead>, ask: u64) -> Option<OpenRead>
+    requires order { IsRising 0 (map (λ r. r.ask) asks.old.items) }
     ensures found { result ≡ reading.open_read asks.old.items ask }
     ensures left { asks.new.items ≡ reading.without_read asks.old.items ask }
 {
@@ -31,11 +33,12 @@ fn take_out(asks: &mut VecDeque<OpenRead>, ask: u64) -> Option<OpenRead>
     asks.remove(i)
 }
 
-// The place of the read of this ask. Reads are answered in order, so it mostly stands first.
+// The place of the read of this ask, by a binary search.
 fn place_of(asks: &VecDeque<OpenRead>, ask: u64) -> Option<usize>
+    requires order { IsRising 0 (map (λ r. r.ask) asks.now.items) }
     ensures { result ≡ position (λ r. r.ask == ask) asks.now.items }
 {
-    asks.iter().position(|read| read.ask == ask)
+    asks.binary_search_by_key(&ask, |read| read.ask).ok()
 }
 
 impl Server {
@@ -141,6 +144,7 @@ impl Server {
 
 // The read of this ask, if it is open.
 fn open_read(asks: &VecDeque<OpenRead>, ask: u64) -> Option<&OpenRead>
+    requires order { IsRising 0 (map (λ r. r.ask) asks.now.items) }
     ensures { option_copied result ≡ reading.open_read asks.now.items ask }
 {
     asks.get(place_of(asks, ask)?)

@@ -1,6 +1,6 @@
 //! One server's step: what each input does.
 ghost use Rattle.std.specs.Prelude.{◌≡◌, ◌<◌, ◌≤◌, ◌++◌, true, false, List, [], OnOk, IfOk};
-ghost use Rattle.node.specs.Lawful.{IsCall, IsBody, IsInput, IsSound, IsLawful, HoldsEntry, AreToOthers};
+ghost use Rattle.node.specs.Lawful.{IsCall, IsBody, IsInput, IsSound, IsLawful, HoldsEntry, AreToOthers, AreFit};
 ghost use Rattle.node.specs.Steps as steps;
 ghost use Rattle.node.specs.Faces.{face_changed, face_of, steps_by, acked_by};
 
@@ -18,6 +18,7 @@ impl Server {
         ensures outputs { IfOk result (λ outputs. outputs.items ≡ (steps.step self.old input).outputs) }
         ensures lawful { OnOk result (IsLawful self.new) }
         ensures addressed { IfOk result (λ outputs. AreToOthers self.old.id self.old.count outputs.items) }
+        ensures fit { IfOk result (λ outputs. AreFit outputs.items) }
     {
         hold_entry(&input);
         let mut outputs = Vec::new(self.alloc);
@@ -37,6 +38,7 @@ impl Server {
         ensures outputs { IfOk result (λ found. found.0.items ≡ (steps.step self.old input).outputs) }
         ensures lawful { OnOk result (IsLawful self.new) }
         ensures addressed { IfOk result (λ found. AreToOthers self.old.id self.old.count found.0.items) }
+        ensures fit { IfOk result (λ found. AreFit found.0.items) }
         ensures steps { IfOk result (λ found. found.1.steps.items ≡ steps_by self.old input) }
         ensures acked { IfOk result (λ found. found.1.acked ≡ acked_by self.old input) }
         ensures face { IfOk result (λ found. face_changed (face_of self.old) found.1.steps.items found.1.acked ≡ face_of (steps.step self.old input).state) }

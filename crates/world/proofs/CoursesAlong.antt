@@ -1,5 +1,6 @@
 -- A connection along its course: what it has begun, has answered and has been sent are its stream's turns.
 use Rattle.std.proofs.Common.{◌≡◌, ℕ, zero, suc, ◌+◌, ◌<◌, Bool, true, false, List, [], ◌∷◌, ◌++◌, length, take, drop, Option, None, Some, refl, sym, ap, ◌∙◌, arith, append_assoc, append-nil, length-append}
+use Rattle.std.proofs.lemmas.Bool.{cond_both}
 use Rattle.std.proofs.Math.Seq.{take-append_seam, drop-append_seam}
 use Rattle.table.specs.declared.operations.Call.{Call}
 use Rattle.table.specs.declared.operations.Reply.{Reply}
@@ -9,8 +10,8 @@ use Rattle.proto.specs.Turns.{Turn, Faulty, Calls, fault_text, text}
 use Rattle.proto.specs.Sessions.{Held, Given, fed, next_of}
 use Rattle.proto.specs.Streams.{turns, texts, to_come, with_turn, most_faults, GivesFirst}
 use Rattle.world.specs.declared.connections.Stage.{Stage}
-use Rattle.world.specs.declared.connections.Stage.TheVariants.{Idle, Begun, Replied}
-use Rattle.world.specs.Connections.{Connection, came, behind, past_faults_upto, begun_by, begun, replied, handed}
+use Rattle.world.specs.declared.connections.Stage.TheVariants.{Idle, Begun, Asked, Replied}
+use Rattle.world.specs.Connections.{Connection, came, behind, past_faults_upto, begun_by, begun, open_call, may_have, asked, replied, handed}
 use Rattle.world.specs.Sent.{Course, faults_next, on_piece, on_begin, on_hand, sent_bytes, calls_of}
 use Rattle.world.proofs.FaultLaws.{FaultsTakeBytes}
 use Rattle.world.proofs.TurnLists.{calls_of_more, texts_fault, texts_call, Writes, next_writes, fed_none, fed_twice, fed_closed, fed_out, fed_asked, answered_out, answered_to_come}
@@ -26,6 +27,7 @@ IsOpenTurn asked ts = (call : Call) × (form : Form) × (ts ≡ Calls call form 
 abbrev IsOpen : Stage → Option Form → List Turn → Type 0
 IsOpen Idle asked ts = ts ≡ []
 IsOpen Begun asked ts = IsOpenTurn asked ts
+IsOpen Asked asked ts = IsOpenTurn asked ts
 IsOpen (Replied reply) asked ts = IsOpenTurn asked ts
 
 -- a connection along its course: the turns that are past, the open one, and those to come
@@ -170,6 +172,7 @@ along_begin law takes Idle k m e a =
     let called : k.calls ≡ calls_of a.past = a.called ∙ ap (λ ts. calls_of a.past ++ calls_of ts) none ∙ append-nil (calls_of a.past) in
     by_step m k a.past _ e (rw ahead (passed law takes m.stream k.replies (suc (most_faults k.session)) a.past k.session (omega arith) a.said a.answered split)) a.place a.answered called
 along_begin law takes Begun k m e a = a
+along_begin law takes Asked k m e a = a
 along_begin law takes (Replied reply) k m e a = a
 
 -- the open call is answered
@@ -191,12 +194,23 @@ along_answer reply call form k m a one asked =
 pub along_hand : (s : Stage) (k : Connection) (m : Course) → k.stage ≡ s → Along k m → Along (handed s k) (on_hand s m)
 along_hand Idle k m e a = a
 along_hand Begun k m e a = a
+along_hand Asked k m e a = a
 along_hand (Replied reply) k m e a =
     let o : IsOpenTurn k.session.asked a.open_turn = rw e at a.opened in
     along_answer reply o.0 o.1 k m a o.2 o.3
 
-pub along_replied : (reply : Reply) (k : Connection) (m : Course) → k.stage ≡ Begun → Along k m → Along (replied reply k) m
-along_replied reply k m e a = record { past = a.past; open_turn = a.open_turn; place = a.place; said = a.said; answered = a.answered; called = a.called; opened = rw e at a.opened; split = a.split }
+-- another stage in which the same turn is open
+along_stage : (stage : Stage) (k : Connection) (m : Course) (a : Along k m) → IsOpen stage k.session.asked a.open_turn → Along (record k { stage = stage }) m
+along_stage stage k m a o = record { past = a.past; open_turn = a.open_turn; place = a.place; said = a.said; answered = a.answered; called = a.called; opened = o; split = a.split }
+
+pub along_asked : (k : Connection) (m : Course) → k.stage ≡ Begun → Along k m → Along (asked k) m
+along_asked k m e a = along_stage Asked k m a (rw e at a.opened)
+
+pub along_replied : (reply : Reply) (s : Stage) (k : Connection) (m : Course) → k.stage ≡ s → Along k m → Along (replied s reply k) m
+along_replied reply Idle k m e a = a
+along_replied reply Begun k m e a = a
+along_replied reply Asked k m e a = cond_both (may_have (open_call k) reply) (record k { stage = Replied reply }) k (λ x. Along x m) (λ t. along_stage (Replied reply) k m a (rw e at a.opened)) (λ t. a)
+along_replied reply (Replied first) k m e a = a
 
 -- the turns of the stream are the past ones, and then the others
 whole_of : (k : Connection) (m : Course) (a : Along k m) → turns m.stream ≡ a.past ++ (a.open_turn ++ to_come (fed k.session []))

@@ -1,5 +1,6 @@
 -- Connections: what a client's connection holds, and what each event at it does.
-use Rattle.std.specs.Prelude.{ℕ, zero, suc, List, [], ◌∷◌, ◌++◌, length, Option, None, Some, slice_get}
+use Rattle.std.specs.Prelude.{ℕ, zero, suc, Bool, true, false, not, List, [], ◌∷◌, ◌++◌, length, Option, None, Some, slice_get, if◌then◌else◌}
+use Rattle.table.specs.Operations.{is_update, is_value}
 use Rattle.table.specs.declared.operations.Call.{Call}
 use Rattle.table.specs.declared.operations.Reply.{Reply}
 use Rattle.proto.specs.Turns.{Faulty, Calls}
@@ -7,7 +8,7 @@ use Rattle.proto.specs.Sessions.{Held, Given, fed, next_of, answered_by}
 use Rattle.proto.specs.Sessions.{fresh as new_session}
 use Rattle.proto.specs.Streams.{most_faults}
 use Rattle.world.specs.declared.connections.Stage.{Stage}
-use Rattle.world.specs.declared.connections.Stage.TheVariants.{Idle, Begun, Replied}
+use Rattle.world.specs.declared.connections.Stage.TheVariants.{Idle, Begun, Asked, Replied}
 
 -- A connection: the server that it is at, what its session holds, its calls in the order in which they began,
 -- the replies to the first of them, and where the open call stands.
@@ -52,6 +53,7 @@ begun_by (Some (Calls call form), left) k = record k { session = left; calls = k
 abbrev pub begun : Stage → Connection → Connection
 begun Idle k = begun_by (past_faults k.session) k
 begun Begun k = k
+begun Asked k = k
 begun (Replied reply) k = k
 
 -- the open call is the first without a reply
@@ -62,16 +64,30 @@ open_call k = slice_get k.calls (length k.replies)
 abbrev pub to_work : Stage → Connection → Option Call
 to_work Idle k = None
 to_work Begun k = open_call k
+to_work Asked k = None
 to_work (Replied reply) k = None
 
--- the server's reply waits
-abbrev pub replied : Reply → Connection → Connection
-replied reply k = record k { stage = Replied reply }
+-- the call is with its server
+abbrev pub asked : Connection → Connection
+asked k = record k { stage = Asked }
+
+-- a call may have this reply: an item is shown exactly to a read
+abbrev pub may_have : Option Call → Reply → Bool
+may_have None reply = false
+may_have (Some call) reply = if is_update call.op then not (is_value reply) else is_value reply
+
+-- the server's reply to the call that is with it waits; no other reply has an effect
+abbrev pub replied : Stage → Reply → Connection → Connection
+replied Idle reply k = k
+replied Begun reply k = k
+replied Asked reply k = if may_have (open_call k) reply then record k { stage = Replied reply } else k
+replied (Replied first) reply k = k
 
 -- the waiting reply reaches the connection: the call is answered, and its text written
 abbrev pub handed : Stage → Connection → Connection
 handed Idle k = k
 handed Begun k = k
+handed Asked k = k
 handed (Replied reply) k = record k { session = answered_by k.session.asked k.session reply; replies = k.replies ++ reply ∷ []; stage = Idle }
 
 -- the c-th connection, if there is one, changes so

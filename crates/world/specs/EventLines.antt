@@ -1,14 +1,21 @@
--- The lines of a schedule behind its head: one event each.
+-- The lines of a schedule behind its head: an event each, or rounds of events.
 use Rattle.std.specs.Prelude.{ℕ, List, [], ◌∷◌, replicate, Option, None, Some, option_map, option_and_then, if◌then◌else◌, codes, bytes_eq}
 use Rattle.world.specs.declared.events.Event.{Event}
-use Rattle.world.specs.declared.events.Event.TheVariants.{Piece, Begin, Work, Hand}
+use Rattle.world.specs.declared.events.Event.TheVariants.{Piece, Begin, Work, Deliver, Fail, Tell, Hand}
+use Rattle.world.specs.declared.event_lines.EventLine.{EventLine}
+use Rattle.world.specs.declared.event_lines.EventLine.TheVariants.{One, Settle}
 use Rattle.world.specs.Cuts.{space, cut}
 use Rattle.world.specs.Numbers.{number_in}
 use Rattle.world.specs.Escapes.{unescape, one_byte}
+use Rattle.world.specs.Settling.{settled}
 
 -- a connection: 0 to 999
 abbrev pub connection : List ℕ → Option ℕ
 connection field = number_in 0 1000 field
+
+-- a server: 0 to 99
+abbrev pub server : List ℕ → Option ℕ
+server field = number_in 0 100 field
 
 -- the bytes that a TEXT spells, where it has a byte at least
 abbrev pub text_of : List ℕ → Option (List ℕ)
@@ -30,6 +37,10 @@ filled None count byte = None
 abbrev pub fill_line : List ℕ → Option Event
 fill_line rest = option_and_then (λ c. option_and_then (λ d. filled (connection c.0) (number_in 1 2000001 d.0) (one_byte d.1)) (cut space c.1)) (cut space rest)
 
+-- `I J`: two servers
+abbrev pub two_servers : List ℕ → Option (ℕ × ℕ)
+two_servers rest = option_and_then (λ c. option_and_then (λ i. option_map (λ j. (i, j)) (server c.1)) (server c.0)) (cut space rest)
+
 -- `C` behind `begin`, `work` or `hand`
 abbrev pub call_line : List ℕ → List ℕ → Option Event
 call_line word rest = option_and_then (λ number.
@@ -38,9 +49,27 @@ call_line word rest = option_and_then (λ number.
     else if bytes_eq word (codes "hand") then Some (Hand number)
     else None) (connection rest)
 
--- the event that a line spells: a word, a space, and what stands behind it
-abbrev pub event_line : List ℕ → Option Event
+-- the event behind a word: of a server, or of two of them, or of a connection
+abbrev pub word_line : List ℕ → List ℕ → Option Event
+word_line word rest =
+    if bytes_eq word (codes "piece") then piece_line rest
+    else if bytes_eq word (codes "fill") then fill_line rest
+    else if bytes_eq word (codes "deliver") then option_map (λ p. Deliver p.0 p.1) (two_servers rest)
+    else if bytes_eq word (codes "fail") then option_map Fail (server rest)
+    else if bytes_eq word (codes "tell") then option_map (λ p. Tell p.0 p.1) (two_servers rest)
+    else call_line word rest
+
+-- what a line spells: a word, a space, and what stands behind it; `K` behind `settle` is from 1 to 500
+abbrev pub event_line : List ℕ → Option EventLine
 event_line line = option_and_then (λ c.
-    if bytes_eq c.0 (codes "piece") then piece_line c.1
-    else if bytes_eq c.0 (codes "fill") then fill_line c.1
-    else call_line c.0 c.1) (cut space line)
+    if bytes_eq c.0 (codes "settle") then option_map Settle (number_in 1 501 c.1)
+    else option_map One (word_line c.0 c.1)) (cut space line)
+
+-- the events that it stands for, where there are so many servers and connections
+abbrev pub events_in : ℕ → ℕ → EventLine → List Event
+events_in count connections (One event) = event ∷ []
+events_in count connections (Settle rounds) = settled rounds count connections
+
+-- the events that a line stands for, where it is a line of events
+abbrev pub events_line : ℕ → ℕ → List ℕ → Option (List Event)
+events_line count connections line = option_map (events_in count connections) (event_line line)

@@ -13,9 +13,9 @@ abbrev pub numbers_below : ℕ → List (List ℕ) → Option (List ℕ)
 numbers_below high [] = Some []
 numbers_below high (field ∷ fields) = option_and_then (λ n. option_map (λ ns. n ∷ ns) (numbers_below high fields)) (number_in 0 high field)
 
--- the number of servers that `servers N` names: it is 1, as long as there are no chains
+-- the number of servers that `servers N` names: 1 to 16
 abbrev pub servers_line : List ℕ → Option ℕ
-servers_line line = option_and_then (λ c. if bytes_eq c.0 (codes "servers") then number_in 1 2 c.1 else None) (cut space line)
+servers_line line = option_and_then (λ c. if bytes_eq c.0 (codes "servers") then number_in 1 17 c.1 else None) (cut space line)
 
 -- the homes that `homes H ..` names: at most 64, each below the number of servers
 abbrev pub homes_line : ℕ → List ℕ → Option (List ℕ)

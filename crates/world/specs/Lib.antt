@@ -3,12 +3,15 @@ pub mod Numbers
 pub mod Escapes
 pub mod HeadLines
 pub mod EventLines
+pub mod Settling
 pub mod Schedules
 pub mod Transcripts
 pub mod Printing
 pub mod Connections
 pub mod Lawful
 pub mod Worlds
+pub mod Links
+pub mod Scenes
 pub mod Quiet
 pub mod Calls
 pub mod Orders

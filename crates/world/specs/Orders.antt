@@ -8,10 +8,10 @@ use Rattle.world.specs.Worlds.{run_of}
 use Rattle.world.specs.Calls.{CallId, begun_call, reply_to, IsAnswered}
 
 -- x precedes y: after some first k events x is answered, and y isn't begun
-pub record Precedes (homes : List ℕ) (events : List Event) (x y : CallId) : Type 0 where
+pub record Precedes (count : ℕ) (homes : List ℕ) (events : List Event) (x y : CallId) : Type 0 where
   pub k : ℕ
-  pub answered : IsAnswered (run_of homes (take k events)) x
-  pub not_begun : begun_call (run_of homes (take k events)) y ≡ None
+  pub answered : IsAnswered (run_of count homes (take k events)) x
+  pub not_begun : begun_call (run_of count homes (take k events)) y ≡ None
 
 -- An entry of an order: which call, what it asks, and a reply to it.
 pub record Entry : Type 0 where
@@ -26,15 +26,15 @@ pub record StandsAt (h : List Entry) (i : ℕ) (x : CallId) : Type 0 where
   pub same : entry.id ≡ x
 
 -- The order h is a linearization of the schedule:
-pub record IsLinearization (homes : List ℕ) (events : List Event) (h : List Entry) : Type 0 where
+pub record IsLinearization (count : ℕ) (homes : List ℕ) (events : List Event) (h : List Entry) : Type 0 where
   -- each reply in it is that of a single table, after all calls before it;
   pub legal : IsLegal (map (λ e. (e.call, e.reply)) h)
   -- each entry is a begun call, as it was begun;
-  pub begun : (i : ℕ) (e : Entry) → slice_get h i ≡ Some e → begun_call (run_of homes events) e.id ≡ Some e.call
+  pub begun : (i : ℕ) (e : Entry) → slice_get h i ≡ Some e → begun_call (run_of count homes events) e.id ≡ Some e.call
   -- no call stands in it twice;
   pub once : (i j : ℕ) (x : CallId) → StandsAt h i x → StandsAt h j x → i ≡ j
   -- each answered call stands in it, with the reply that it got;
-  pub answered : (x : CallId) (reply : Reply) → reply_to (run_of homes events) x ≡ Some reply
+  pub answered : (x : CallId) (reply : Reply) → reply_to (run_of count homes events) x ≡ Some reply
       → (i : ℕ) × (at : StandsAt h i x) × (at.entry.reply ≡ reply)
   -- where x precedes y and y stands in it, x stands earlier.
-  pub in_time : (x y : CallId) (j : ℕ) → Precedes homes events x y → StandsAt h j y → (i : ℕ) × (i < j) × StandsAt h i x
+  pub in_time : (x y : CallId) (j : ℕ) → Precedes count homes events x y → StandsAt h j y → (i : ℕ) × (i < j) × StandsAt h i x

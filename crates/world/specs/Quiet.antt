@@ -1,24 +1,40 @@
 -- The quiet world, and what is shown of a world.
-use Rattle.std.specs.Prelude.{ℕ, Bool, true, false, not, ◌&&◌, nat_le, nat_lt, List, [], ◌∷◌, length, map, None, Some}
+use Rattle.std.specs.Prelude.{ℕ, zero, suc, Bool, true, false, not, ◌&&◌, ◌||◌, ◌==◌, nat_le, nat_lt, List, [], ◌∷◌, length, map, None, Some}
 use Rattle.std.specs.List.{list_all}
 use Rattle.table.specs.declared.operations.Call.{Call}
 use Rattle.table.specs.declared.operations.Reply.{Reply}
 use Rattle.world.specs.declared.transcripts.CallTranscript.{CallTranscript}
 use Rattle.world.specs.declared.connections.Stage.{Stage}
-use Rattle.world.specs.declared.connections.Stage.TheVariants.{Idle, Begun, Replied}
+use Rattle.world.specs.declared.connections.Stage.TheVariants.{Idle, Begun, Asked, Replied}
 use Rattle.world.specs.Connections.{Connection}
-use Rattle.world.specs.Worlds.{World}
+use Rattle.world.specs.Worlds.{World, server, link, lives}
 use Rattle.world.specs.Transcripts.{ConnectionShown, TranscriptShown}
 
 -- a begun call waits for its work, or a reply for its hand
 abbrev pub waits : Stage → Bool
 waits Idle = false
 waits Begun = true
+waits Asked = false
 waits (Replied reply) = true
 
--- nothing waits
+-- the test holds of each number below this one
+abbrev pub all_below : ℕ → (ℕ → Bool) → Bool
+all_below zero test = true
+all_below (suc n) test = all_below n test && test n
+
+abbrev pub is_none : {X : Type 0} → List X → Bool
+is_none [] = true
+is_none (x ∷ xs) = false
+
+-- no link to server j holds a message, and its view is the set of the failed servers
+abbrev pub is_server_quiet : World → ℕ → Bool
+is_server_quiet w j = all_below (length w.servers) (λ i. is_none (link w i j)) && (server w j).view == w.failed
+
+-- nothing waits at living servers: no message for them, no failure that they don't know, no call or reply at their connections
 abbrev pub is_quiet : World → Bool
-is_quiet w = list_all (λ k. not (waits k.stage)) w.connections
+is_quiet w =
+    all_below (length w.servers) (λ j. not (lives w j) || is_server_quiet w j)
+    && list_all (λ k. not (lives w k.home && waits k.stage)) w.connections
 
 -- the calls with the replies to the first of them; a reply that still waits counts as none
 abbrev pub calls_shown : List Call → List Reply → List CallTranscript

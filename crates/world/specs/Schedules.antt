@@ -1,11 +1,11 @@
 -- Schedules: what the lines of a text say, in turn, and the first of them that is bad (the format is this project's).
-use Rattle.std.specs.Prelude.{◌≡◌, ℕ, ◌+◌, List, [], ◌∷◌, length, drop, Option, None, Some, Result, Ok, Err, ok_or, not, filter, map}
+use Rattle.std.specs.Prelude.{◌≡◌, ℕ, ◌+◌, List, [], ◌∷◌, ◌++◌, length, drop, Option, None, Some, Result, Ok, Err, ok_or, not, filter, map, flat_map}
 use Rattle.world.specs.declared.events.Event.{Event}
 use Rattle.world.specs.declared.schedules.ScheduleFault.{ScheduleFault}
 use Rattle.world.specs.declared.schedules.ScheduleFault.TheVariants.{Memory, BadLine}
 use Rattle.world.specs.Cuts.{is_passed_over, lines, counted_from}
 use Rattle.world.specs.HeadLines.{servers_line, homes_line}
-use Rattle.world.specs.EventLines.{event_line}
+use Rattle.world.specs.EventLines.{events_line}
 
 -- what a schedule says: the number of servers, the home of each connection, and the events
 pub record ScheduleShown : Type 0 where
@@ -18,28 +18,28 @@ abbrev pub first_says : {X : Type 0} → (List ℕ → Option X) → ℕ → Lis
 first_says says end [] = Err end
 first_says says end (line ∷ later) = ok_or (says line.1) line.0
 
--- an event in front of those of later lines, or the number of the line that spells none
-abbrev pub and_later : Option Event → ℕ → Result (List Event) ℕ → Result (List Event) ℕ
+-- a line's events in front of those of later lines, or the number of the line that spells none
+abbrev pub and_later : Option (List Event) → ℕ → Result (List Event) ℕ → Result (List Event) ℕ
 and_later None n later = Err n
-and_later (Some event) n (Ok events) = Ok (event ∷ events)
-and_later (Some event) n (Err bad) = Err bad
+and_later (Some events) n (Ok later) = Ok (events ++ later)
+and_later (Some events) n (Err bad) = Err bad
 
--- the events of some numbered lines, or the number of the first bad one
-abbrev pub events_of : List (ℕ × List ℕ) → Result (List Event) ℕ
-events_of [] = Ok []
-events_of (line ∷ later) = and_later (event_line line.1) line.0 (events_of later)
+-- the events of some numbered lines, or the number of the first bad one, where there are so many servers and connections
+abbrev pub events_of : ℕ → ℕ → List (ℕ × List ℕ) → Result (List Event) ℕ
+events_of count connections [] = Ok []
+events_of count connections (line ∷ later) = and_later (events_line count connections line.1) line.0 (events_of count connections later)
 
 -- what follows where nothing was bad
 abbrev pub and_then : {X Y : Type 0} → Result X ℕ → (X → Result Y ℕ) → Result Y ℕ
 and_then (Ok x) next = next x
 and_then (Err bad) next = Err bad
 
--- the schedule of the lines that count: the first is `servers N`, the second `homes H ..`, each further line an event
+-- the schedule of the lines that count: the first is `servers N`, the second `homes H ..`, each further line one of events
 abbrev pub schedule_of_lines : ℕ → List (ℕ × List ℕ) → Result ScheduleShown ℕ
 schedule_of_lines end counted =
     and_then (first_says servers_line end counted) (λ count.
     and_then (first_says (homes_line count) end (drop 1 counted)) (λ homes.
-    and_then (events_of (drop 2 counted)) (λ events.
+    and_then (events_of count (length homes) (drop 2 counted)) (λ events.
     Ok (record { count = count; homes = homes; events = events }))))
 
 -- the schedule of a text, or the number of its first bad line, counting all lines from 1.
@@ -51,15 +51,17 @@ schedule_of text = schedule_of_lines (length (lines text) + 1) (counted_from 1 (
 abbrev pub counted_lines : List (List ℕ) → List (List ℕ)
 counted_lines all = filter (λ line. not (is_passed_over line)) all
 
--- a text spells a schedule: its lines that count are a `servers` line, a `homes` line, and a line for each event, in order
+-- a text spells a schedule: its lines that count are a `servers` line, a `homes` line, and further lines, each of which stands for a part of its events, in order
 pub record SpellsSchedule (text : List ℕ) (schedule : ScheduleShown) : Type 0 where
   pub first : List ℕ
   pub second : List ℕ
   pub further : List (List ℕ)
+  pub parts : List (List Event)
   pub counted : counted_lines (lines text) ≡ first ∷ second ∷ further
   pub servers : servers_line first ≡ Some schedule.count
   pub homes : homes_line schedule.count second ≡ Some schedule.homes
-  pub events : map event_line further ≡ map Some schedule.events
+  pub each : map (events_line schedule.count (length schedule.homes)) further ≡ map Some parts
+  pub events : schedule.events ≡ flat_map (λ part. part) parts
 
 -- the fault names the bad line; a want of memory says nothing of the text
 abbrev pub Names : {X : Type 0} → Result X ℕ → ScheduleFault → Type 0

@@ -5,11 +5,11 @@ use Rattle.table.specs.declared.operations.Reply.{Reply}
 use Rattle.proto.specs.Turns.{Turn, Faulty, Calls}
 use Rattle.proto.specs.Streams.{turns, texts}
 use Rattle.world.specs.declared.events.Event.{Event}
-use Rattle.world.specs.declared.events.Event.TheVariants.{Piece, Begin, Work, Hand}
+use Rattle.world.specs.declared.events.Event.TheVariants.{Piece, Begin, Work, Deliver, Fail, Tell, Hand}
 use Rattle.world.specs.declared.connections.Stage.{Stage}
-use Rattle.world.specs.declared.connections.Stage.TheVariants.{Idle, Begun, Replied}
+use Rattle.world.specs.declared.connections.Stage.TheVariants.{Idle, Begun, Asked, Replied}
 use Rattle.world.specs.Connections.{Connection}
-use Rattle.world.specs.Worlds.{World, happens, opening_world}
+use Rattle.world.specs.Worlds.{World, lives, happens, opening_world}
 
 -- A connection's course: its stream, which is its pieces that had effect, joined; and the place that it has reached in the turns of that stream.
 pub record Course : Type 0 where
@@ -34,34 +34,39 @@ on_piece bytes closed m = if closed then m else record m { stream = m.stream ++ 
 abbrev pub on_begin : Stage → Course → Course
 on_begin Idle m = record m { place = m.place + faults_next (drop m.place (turns m.stream)) }
 on_begin Begun m = m
+on_begin Asked m = m
 on_begin (Replied reply) m = m
 
 -- a hand where a reply waits moves it over one call
 abbrev pub on_hand : Stage → Course → Course
 on_hand Idle m = m
 on_hand Begun m = m
+on_hand Asked m = m
 on_hand (Replied reply) m = record m { place = m.place + 1 }
 
--- the course of the c-th connection, which is k before the event, after it
+-- the course of the c-th connection, which is k before the event and whose home lives, after it
 abbrev pub course_after : ℕ → Connection → Event → Course → Course
 course_after c k (Piece d bytes) m = if c == d then on_piece bytes k.session.closed m else m
 course_after c k (Begin d) m = if c == d then on_begin k.stage m else m
 course_after c k (Work d) m = m
+course_after c k (Deliver i j) m = m
+course_after c k (Fail i) m = m
+course_after c k (Tell i j) m = m
 course_after c k (Hand d) m = if c == d then on_hand k.stage m else m
 
--- the same, where the connection may not be there
-abbrev pub course_of_any : ℕ → Option Connection → Event → Course → Course
-course_of_any c None e m = m
-course_of_any c (Some k) e m = course_after c k e m
+-- the same of any connection: at a failed home, no event has an effect on it
+abbrev pub course_of_any : World → ℕ → Option Connection → Event → Course → Course
+course_of_any w c None e m = m
+course_of_any w c (Some k) e m = if lives w k.home then course_after c k e m else m
 
 -- its course after these events, one after another
 abbrev pub course_from : ℕ → World → Course → List Event → Course
 course_from c w m [] = m
-course_from c w m (e ∷ es) = course_from c (happens w e) (course_of_any c (slice_get w.connections c) e m) es
+course_from c w m (e ∷ es) = course_from c (happens w e) (course_of_any w c (slice_get w.connections c) e m) es
 
 -- its course after a schedule
-abbrev pub course_of : List ℕ → List Event → ℕ → Course
-course_of homes events c = course_from c (opening_world homes) outset events
+abbrev pub course_of : ℕ → List ℕ → List Event → ℕ → Course
+course_of count homes events c = course_from c (opening_world count homes) outset events
 
 -- the texts of the turns up to the place, each call's with its reply
 abbrev pub sent_bytes : Course → List Reply → List ℕ

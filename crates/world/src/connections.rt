@@ -5,8 +5,7 @@ ghost use Rattle.world.specs.Connections.{past_faults};
 ghost use Rattle.world.specs.Lawful.{HasOpen};
 ghost use Rattle.world.specs.Quiet.{calls_shown};
 
-use crate::scenes::SceneFault;
-use crate::transcripts::{CallTranscript, ConnectionTranscript};
+use crate::{CallTranscript, ConnectionTranscript, SceneFault};
 use proto::{ProtoFault, Session, Step};
 use std::alloc::{AllocError, Global};
 use std::marker::Model;
@@ -20,6 +19,8 @@ pub enum Stage {
     Idle,
     /// It was begun, and not yet worked.
     Begun,
+    /// It is with the server.
+    Asked,
     /// Its reply waits for the connection.
     Replied(Reply),
 }
@@ -46,11 +47,10 @@ impl Model for Connection {
 }
 
 impl Connection {
-    ghost use Rattle.std.specs.Prelude.{◌≡◌, OnOk, IfOk, IfErr, IfSome};
+    ghost use Rattle.std.specs.Prelude.{◌≡◌, OnOk, IfOk, IfErr, IfSome, MatchOption};
     ghost use Rattle.std.specs.Option.{option_copied};
-    ghost use Rattle.table.specs.Operations.{Fits, Suits};
-    ghost use Rattle.world.specs.Connections.{fresh, came, begun, to_work, replied, handed};
-    ghost use Rattle.world.specs.Lawful.{MayHave};
+    ghost use Rattle.node.specs.Lawful.{IsCall};
+    ghost use Rattle.world.specs.Connections.{fresh, came, begun, open_call, to_work, asked, may_have, replied, handed};
     ghost use Rattle.world.specs.Quiet.{waits, connection_shown};
 
     /// A connection at this server. It allocates nothing.
@@ -92,31 +92,63 @@ impl Connection {
         Ok(())
     }
 
-    /// The call that was begun and not yet worked.
-    pub fn to_work(&self) -> Option<&Call>
-        ensures call { option_copied result ≡ to_work self.now.stage self.now }
-        ensures fits { IfSome result (λ call. Fits call.now.op) }
-        ensures aimed { IfSome result (λ call. Suits call.now.target call.now.op) }
+    /// The server that it is at.
+    pub fn home(&self) -> usize
+        ensures { result ≡ self.now.home }
     {
-        match self.stage {
-            Stage::Begun => self.calls.get(self.replies.len()),
-            _ => None,
-        }
+        self.home
+    }
+
+    /// The call that was begun and not yet worked is with the server from now on: a clone of it, which shares its data.
+    pub fn ask(&mut self) -> Result<Option<Call>, AllocError>
+        ensures call { IfOk result (λ call. call ≡ to_work self.old.stage self.old) }
+        ensures stage { IfOk result (λ call. MatchOption call (self.new ≡ self.old) (λ _. self.new ≡ asked self.old)) }
+        ensures fit { IfOk result (λ call. IfSome call IsCall) }
+    {
+        let Stage::Begun = self.stage else {
+            return Ok(None);
+        };
+        let Some(call) = self.open_call() else {
+            return Ok(None);
+        };
+        let call = call.clone()?;
+        self.stage = Stage::Asked;
+        Ok(Some(call))
     }
 
     /// Whether a call waits for its work, or a reply for its hand.
     pub fn waits(&self) -> bool
         ensures { result ≡ waits self.now.stage }
     {
-        !matches!(self.stage, Stage::Idle)
+        matches!(self.stage, Stage::Begun | Stage::Replied(_))
     }
 
-    /// The server's reply waits from now on.
+    /// The server's reply to the call that is with it waits from now on. No other reply has an effect.
     pub fn replied(&mut self, reply: Reply)
-        requires { MayHave (to_work self.old.stage self.old) reply }
-        ensures { self.new ≡ replied reply self.old }
+        ensures { self.new ≡ replied self.old.stage reply self.old }
     {
-        self.stage = Stage::Replied(reply);
+        if let Stage::Asked = self.stage
+            && self.may_have(&reply)
+        {
+            self.stage = Stage::Replied(reply);
+        }
+    }
+
+    // The open call is the first without a reply.
+    fn open_call(&self) -> Option<&Call>
+        ensures { option_copied result ≡ open_call self.now }
+    {
+        self.calls.get(self.replies.len())
+    }
+
+    // Whether the open call may have this reply: an item is shown exactly to a read.
+    fn may_have(&self, reply: &Reply) -> bool
+        ensures { result ≡ may_have (open_call self.now) reply.now }
+    {
+        match self.open_call() {
+            Some(call) => call.op.is_update() != matches!(reply, Reply::Value(_)),
+            None => false,
+        }
     }
 
     /// The waiting reply reaches the connection.
@@ -132,6 +164,13 @@ impl Connection {
             }
         }
         Ok(())
+    }
+
+    /// The bytes that it was sent.
+    pub fn sent(&self) -> &[u8]
+        ensures { result.now ≡ self.now.session.out }
+    {
+        self.session.out()
     }
 
     /// What is shown of it.

@@ -1,31 +1,79 @@
-//! The lines of a schedule behind its head: one event each.
-ghost use Rattle.std.specs.Prelude.{◌≡◌, IfOk};
-ghost use Rattle.world.specs.EventLines.{event_line, piece_line, fill_line, call_line, connection, text_of};
+//! The lines of a schedule behind its head: an event each, or rounds of events.
+ghost use Rattle.std.specs.Prelude.{◌≡◌, ◌++◌, IfOk, OnOk};
+ghost use Rattle.world.specs.EventLines.{event_line, events_in, word_line, piece_line, fill_line, call_line, two_servers, server, connection, text_of};
 
 use crate::Event;
 use crate::cuts::cut;
 use crate::escapes::{one_byte, unescape};
 use crate::numbers::number_in;
+use crate::settling::push_rounds;
 use bytes::Bytes;
 use std::alloc::{AllocError, Global};
 
 /// The numbers of connections in an event are below this.
 const CONNECTIONS: usize = 1000;
 
+/// The numbers of servers in an event are below this.
+const SERVERS: usize = 100;
+
 /// The most bytes of a `fill` line's piece.
 const MOST_FILLED: usize = 2_000_000;
 
-/// The event that a line spells, if it spells one.
-pub fn event_line(alloc: Global, line: &[u8]) -> Result<Option<Event>, AllocError>
-    ensures { IfOk result (λ event. event ≡ event_line line.now) }
+/// The most rounds of a `settle` line.
+const MOST_ROUNDS: usize = 500;
+
+/// What a line behind the head says.
+#[derive(Drop)]
+pub enum EventLine {
+    /// An event.
+    One(Event),
+    /// So many rounds of settling.
+    Settle(usize),
+}
+
+/// What a line says, if it is one of events.
+pub fn event_line(alloc: Global, line: &[u8]) -> Result<Option<EventLine>, AllocError>
+    ensures { IfOk result (λ said. said ≡ event_line line.now) }
 {
     let Some((word, rest)) = cut(b' ', line) else {
         return Ok(None);
     };
+    if word == b"settle".as_slice() {
+        Ok(number_in(1, MOST_ROUNDS + 1, rest).map(EventLine::Settle))
+    } else {
+        Ok(word_line(alloc, word, rest)?.map(EventLine::One))
+    }
+}
+
+/// Adds the events that a line stands for, in a chain of `count` servers with so many connections.
+pub fn push_events(
+    alloc: Global,
+    events: &mut Vec<Event>,
+    said: EventLine,
+    count: usize,
+    connections: usize,
+) -> Result<(), AllocError>
+    ensures { OnOk result (events.new.items ≡ events.old.items ++ events_in count connections said) }
+{
+    match said {
+        EventLine::One(event) => Ok(events.push(event)?),
+        EventLine::Settle(rounds) => push_rounds(alloc, events, rounds, count, connections),
+    }
+}
+
+fn word_line(alloc: Global, word: &[u8], rest: &[u8]) -> Result<Option<Event>, AllocError>
+    ensures { IfOk result (λ event. event ≡ word_line word.now rest.now) }
+{
     if word == b"piece".as_slice() {
         piece_line(alloc, rest)
     } else if word == b"fill".as_slice() {
         fill_line(alloc, rest)
+    } else if word == b"deliver".as_slice() {
+        Ok(two_servers(rest).map(|(i, j)| Event::Deliver(i, j)))
+    } else if word == b"fail".as_slice() {
+        Ok(server(rest).map(Event::Fail))
+    } else if word == b"tell".as_slice() {
+        Ok(two_servers(rest).map(|(i, j)| Event::Tell(i, j)))
     } else {
         Ok(call_line(word, rest))
     }
@@ -93,6 +141,19 @@ fn call_line(word: &[u8], rest: &[u8]) -> Option<Event>
     } else {
         None
     }
+}
+
+fn two_servers(rest: &[u8]) -> Option<(usize, usize)>
+    ensures { result ≡ two_servers rest.now }
+{
+    let (first, second) = cut(b' ', rest)?;
+    Some((server(first)?, server(second)?))
+}
+
+fn server(field: &[u8]) -> Option<usize>
+    ensures { result ≡ server field.now }
+{
+    number_in(0, SERVERS, field)
 }
 
 fn connection(field: &[u8]) -> Option<usize>

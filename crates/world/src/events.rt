@@ -2,7 +2,7 @@
 
 use bytes::Bytes;
 
-/// What may happen next. An event whose connection isn't there has no effect.
+/// What may happen next. An event that doesn't apply has no effect.
 #[derive(Clone, Debug, PartialEq, Eq, Drop)]
 pub enum Event {
     /// Bytes come to a connection.
@@ -11,6 +11,12 @@ pub enum Event {
     Begin(usize),
     /// The call that was begun goes to its server.
     Work(usize),
+    /// The first message of the link from one server to another is delivered.
+    Deliver(usize, usize),
+    /// A server fails.
+    Fail(usize),
+    /// A server is told that another has failed.
+    Tell(usize, usize),
     /// The reply that waits reaches the connection.
     Hand(usize),
 }

@@ -6,8 +6,8 @@ use crate::cuts::cut;
 use crate::numbers::number_in;
 use std::alloc::{AllocError, Global};
 
-/// The most servers of a schedule: one, as long as there are no chains.
-const MOST_SERVERS: usize = 1;
+/// The most servers of a schedule.
+const MOST_SERVERS: usize = 16;
 
 /// The most connections of a schedule.
 const MOST_HOMES: usize = 64;

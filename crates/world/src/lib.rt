@@ -1,4 +1,4 @@
-//! The world: schedules of events, what they do, and what a run of them shows.
+//! The world: schedules of events over a chain of servers, what they do, and what a run of them shows.
 #![tactic(auto)]
 
 mod connections;
@@ -6,21 +6,33 @@ mod cuts;
 mod escapes;
 mod event_lines;
 mod events;
+mod faults;
 mod head_lines;
 mod laws;
 mod lines;
+mod links;
 mod numbers;
 mod printing;
+mod quiet;
 mod scenes;
 mod schedules;
+mod servers;
+mod settling;
+mod steps;
 mod transcripts;
+mod worlds;
 
 pub use events::Event;
-pub use laws::{calls, none_forgotten, one_order, sent};
+pub use faults::SceneFault;
+pub use laws::{calls, one_order, sent};
 pub use printing::print_transcript;
-pub use scenes::{SceneFault, run};
+pub use scenes::{Scene, run};
 pub use schedules::{Schedule, ScheduleFault, read_schedule};
 pub use transcripts::{CallTranscript, ConnectionTranscript, Transcript};
 
 #[cfg(test)]
-mod tests;
+mod printing_tests;
+#[cfg(test)]
+mod scene_tests;
+#[cfg(test)]
+mod schedule_tests;

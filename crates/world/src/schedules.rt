@@ -1,12 +1,11 @@
 //! Schedules: the servers, the connections and the events of a run, read from their text.
-ghost use Rattle.std.specs.Prelude.{◌≡◌, ◌+◌, ℕ, IfErr, IfOk, OnOk, drop};
+ghost use Rattle.std.specs.Prelude.{◌≡◌, ◌+◌, ℕ, IfErr, IfOk, OnOk, drop, length};
 ghost use Rattle.world.specs.declared.schedules.ScheduleFault.TheVariants.{Memory};
-ghost use Rattle.world.specs.EventLines.{event_line};
 ghost use Rattle.world.specs.HeadLines.{homes_line, servers_line};
 ghost use Rattle.world.specs.Schedules.{Names, SpellsSchedule, events_of, first_says, schedule_of};
 
 use crate::Event;
-use crate::event_lines::event_line;
+use crate::event_lines::{event_line, push_events};
 use crate::head_lines::{homes_line, servers_line};
 use crate::lines::Lines;
 use std::alloc::{AllocError, AllocFailed, Global};
@@ -58,8 +57,9 @@ impl<T: Drop> From<AllocFailed<T>> for ScheduleFault {
     }
 }
 
-/// Reads a schedule from its text (this project's format), in time linear in the text and in the
-/// bytes that its `fill` lines ask for. A text with a bad line gives `BadLine` or `Memory`.
+/// Reads a schedule from its text (this project's format), in time linear in the text, in the
+/// bytes that its `fill` lines ask for and in the events that its `settle` lines stand for. A text
+/// with a bad line gives `BadLine` or `Memory`.
 pub fn read_schedule(alloc: Global, text: &[u8]) -> Result<Schedule, ScheduleFault>
     ensures ok { IfOk result (λ schedule. schedule_of text.now ≡ Ok schedule) }
     ensures bad_line { IfErr result (Names (schedule_of text.now)) }
@@ -68,7 +68,7 @@ pub fn read_schedule(alloc: Global, text: &[u8]) -> Result<Schedule, ScheduleFau
     let mut lines = Lines::new(text);
     let count = read_servers(&mut lines)?;
     let homes = read_homes(alloc, &mut lines, count)?;
-    let events = read_events(alloc, &mut lines)?;
+    let events = read_events(alloc, &mut lines, count, homes.len())?;
     Ok(Schedule {
         count,
         homes,
@@ -119,16 +119,21 @@ fn ended(lines: &Lines<'_>) -> ScheduleFault
     }
 }
 
-fn read_events(alloc: Global, lines: &mut Lines<'_>) -> Result<Vec<Event>, ScheduleFault>
-    ensures ok { IfOk result (λ events. events_of lines.old.counted ≡ Ok events.items) }
-    ensures bad_line { IfErr result (Names (events_of lines.old.counted)) }
+fn read_events(
+    alloc: Global,
+    lines: &mut Lines<'_>,
+    count: usize,
+    connections: usize,
+) -> Result<Vec<Event>, ScheduleFault>
+    ensures ok { IfOk result (λ events. events_of count connections lines.old.counted ≡ Ok events.items) }
+    ensures bad_line { IfErr result (Names (events_of count connections lines.old.counted)) }
 {
     let mut events = Vec::new(alloc);
     while let Some(line) = lines.next_counted() {
-        match event_line(alloc, line)? {
-            Some(event) => events.push(event)?,
-            None => return Err(ScheduleFault::BadLine(lines.taken())),
-        }
+        let Some(said) = event_line(alloc, line)? else {
+            return Err(ScheduleFault::BadLine(lines.taken()));
+        };
+        push_events(alloc, &mut events, said, count, connections)?;
     }
     Ok(events)
 }

@@ -1,7 +1,10 @@
-use Rattle.std.proofs.Common.{rules, tests, ◌==◌}
-use Rattle.std.proofs.lemmas.Iterator.Consumers.{YieldsList-from_deque}
-use Rattle.std.proofs.lemmas.Iterator.Search.{position_from_yields_List}
+use Rattle.std.proofs.Common.{rules, ◌∙◌}
+use Rattle.std.proofs.lemmas.List.Sorted.{answers_always}
+use Rattle.node.proofs.Orders.{searched}
 use Rattle.node.proofs.numbering.place_of.Goals as goal
 
 pub returns : goal.returns
-returns c = position_from_yields_List (λ u. u.id == c.args.id) _ _ c.position.result c.position.ensures.ran (YieldsList-from_deque c.args.pend.now.items c.iter.ensures.rest) (λ x b q k. search (rules, tests))
+returns c =
+    let found = c.binary_search_by_key.ensures in
+    let by = found.position (λ u. u.id) (answers_always _ _ _ (λ f a r g called. search rules)) in
+    c.ok.ensures.value ∙ searched (λ u. u.id) c.args.id 0 c.args.pend.now.items c.binary_search_by_key.result c.requires.order (rw (← c.args.pend.now.ok.0) found.bound) by

@@ -1,6 +1,7 @@
 use Rattle.std.proofs.Common.{arith}
 use Rattle.std.specs.VecDeque.Iter.{deque_iter_rest}
 use Rattle.node.proofs.Settling.{left_step, replies_step, left_end, replies_end, left_done, replies_done}
+use Rattle.node.proofs.Orders.{rising-left_open_by}
 use Rattle.node.proofs.numbering.settle_first.Goals as goal
 
 pub returns-in_default-clause-left : goal.returns-in_default-clause-left
@@ -14,6 +15,7 @@ loop-settled-preserved c =
     let before = c.loop-settled.invariant in
     let made = c.in_ok-settle.ensures in
     record {
+      order = rising-left_open_by c.args.id c.loop-settled.pend.items _ c.in-Some.entry.now made.left before.order;
       left = left_step c.args.id c.args.count c.loop-settled._settled c.loop-settled.pend.items (deque_iter_rest c.loop-settled.entries) _ _ c.in-Some.entry.now (deque_iter_rest c.next.new.self) c.loop-settled-test.true c.in-Some.ensures.steps made.left before.left;
       replies = replies_step c.args.id c.args.count c.loop-settled._settled c.loop-settled.pend.items (deque_iter_rest c.loop-settled.entries) _ _ _ _ c.in-Some.entry.now (deque_iter_rest c.next.new.self) c.loop-settled-test.true c.in-Some.ensures.steps made.left made.replies before.replies;
     }

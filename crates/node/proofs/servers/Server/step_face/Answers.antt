@@ -1,10 +1,10 @@
-use Rattle.std.proofs.Common.{rules, ◌≡◌, ◌∙◌, ap, sym}
+use Rattle.std.proofs.Common.{rules, ◌≡◌, ◌∙◌, ap}
 use Rattle.versions.specs.Stores.{last_number}
-use Rattle.node.specs.Servers.{ServerState}
-use Rattle.node.specs.Steps.{taken_in, step}
-use Rattle.node.specs.Faces.{face_changed, face_of, face_steps, steps_by, acked_by}
+use Rattle.node.specs.Steps.{taken_in}
+use Rattle.node.specs.Faces.{face_changed, face_of, steps_by, acked_by}
 use Rattle.node.proofs.RuleLaws.{good-taken_in, lawful-trimmed}
 use Rattle.node.proofs.StepAddresses.{others_taken_in}
+use Rattle.node.proofs.StepFitness.{fit_taken_in}
 use Rattle.node.proofs.Growth.{grows-taken_in, last-grown}
 use Rattle.node.proofs.FaceChanges.{face-changed}
 use Rattle.node.proofs.servers.Server.step_face.Goals as goal
@@ -36,3 +36,7 @@ returns-clause-face c =
     ap (λ xs. face_changed (face_of c.args.self.now) xs c.in_ok-change.change.acked) by
     ∙ ap (λ n. face_changed (face_of c.args.self.now) (steps_by c.args.self.now c.args.input) n) to
     ∙ face-changed c.args.self.now c.args.input c.requires.input c.hold_entry.ensures c.requires.lawful
+
+pub returns-clause-fit : goal.returns-clause-fit
+returns-clause-fit c =
+    rw (c.in_ok-take_in.ensures.outputs, c.new-outputs.ensures.items) (fit_taken_in c.args.self.now c.args.input c.requires.input c.hold_entry.ensures c.requires.lawful.sound)

@@ -1,0 +1,105 @@
+//! A chain of nodes, and the messages between them.
+
+use crate::{Input, Node, Output, Peer};
+use bytes::Bytes;
+use std::alloc::Global;
+use std::collections::VecDeque;
+use std::test::Fail;
+use table::{Call, Key, Op, Reply, Target};
+
+pub(super) fn key(alloc: Global, bytes: &[u8]) -> Result<Key, Fail> {
+    Ok(Key::new(alloc, bytes)?.ok_or("a key")?)
+}
+
+pub(super) fn on(alloc: Global, op: Op) -> Result<Call, Fail> {
+    Ok(Call {
+        target: Target::One(key(alloc, b"a")?),
+        op,
+    })
+}
+
+pub(super) fn set(alloc: Global, data: &[u8]) -> Result<Call, Fail> {
+    on(alloc, Op::Set(0, Bytes::copy_from_slice(alloc, data)?))
+}
+
+pub(super) fn get(alloc: Global) -> Result<Call, Fail> {
+    on(alloc, Op::Read)
+}
+
+// A chain of nodes: messages on their way in the order in which they were sent, and the replies so far.
+#[derive(Drop)]
+pub(super) struct Chain {
+    pub(super) nodes: Vec<Node>,
+    pub(super) sent: VecDeque<(u8, u8, Peer)>,
+    pub(super) replies: Vec<(usize, Reply)>,
+    pub(super) count: usize,
+}
+
+pub(super) fn chain_of(alloc: Global, count: u8) -> Result<Chain, Fail> {
+    let mut nodes = Vec::new(alloc);
+    for id in 0..count {
+        nodes.push(Node::new(alloc, id, count)?)?;
+    }
+    Ok(Chain {
+        nodes,
+        sent: VecDeque::new(alloc),
+        replies: Vec::new(alloc),
+        count: 0,
+    })
+}
+
+// One step of node i. Its messages and replies are kept.
+pub(super) fn step(chain: &mut Chain, i: u8, input: Input) -> Result<(), Fail> {
+    if !input.is_fit() {
+        return Err("an input that may be handed in".into());
+    }
+    let node = chain.nodes.get_mut(usize::from(i)).ok_or("a node")?;
+    for output in node.step(input)? {
+        match output {
+            Output::To(j, peer) => {
+                chain.sent.push_back((i, j, peer))?;
+                chain.count = chain.count.wrapping_add(1);
+            }
+            Output::Reply(port, reply) => chain.replies.push((port, reply))?,
+        }
+    }
+    Ok(())
+}
+
+// The first message from i to j comes.
+pub(super) fn deliver(chain: &mut Chain, i: u8, j: u8) -> Result<(), Fail> {
+    let place = chain
+        .sent
+        .iter()
+        .position(|sent| sent.0 == i && sent.1 == j)
+        .ok_or("a message")?;
+    let (_, _, peer) = chain.sent.remove(place).ok_or("a message")?;
+    step(chain, j, Input::From(i, peer))
+}
+
+// The first messages between these, one after the other.
+pub(super) fn deliver_all(chain: &mut Chain, links: &[(u8, u8)]) -> Result<(), Fail> {
+    for (i, j) in links {
+        deliver(chain, *i, *j)?;
+    }
+    Ok(())
+}
+
+// All messages come, in the order in which they were sent.
+pub(super) fn settle(chain: &mut Chain) -> Result<(), Fail> {
+    for _ in 0..100 {
+        let Some((i, j, peer)) = chain.sent.pop_front() else {
+            break;
+        };
+        step(chain, j, Input::From(i, peer))?;
+    }
+    Ok(())
+}
+
+// The data that the last reply shows.
+pub(super) fn shown(chain: &Chain) -> Option<&[u8]> {
+    match chain.replies.last() {
+        Some((_, Reply::Value(Some(item)))) => Some(item.bytes.as_slice()),
+        _ => None,
+    }
+}

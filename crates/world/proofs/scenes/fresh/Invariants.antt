@@ -1,6 +1,0 @@
-use Rattle.std.proofs.Common.{◌≡◌, map, take}
-use Rattle.world.specs.Connections.{fresh}
-use Rattle.world.proofs.scenes.fresh.Given as goal
-
-abbrev pub invariant-loop-home : goal.invariant-loop-home
-invariant-loop-home l = l.connections.items ≡ map fresh (take l.home-index l.homes)

@@ -1,0 +1,9 @@
+use Rattle.std.proofs.Common.{◌≡◌, length, map}
+use Rattle.world.specs.Worlds.{opening_servers}
+use Rattle.world.proofs.servers.Servers.new.Given as goal
+
+abbrev pub invariant-loop-id : goal.invariant-loop-id
+invariant-loop-id l = record {
+  servers : map (λ n. n.server) l.nodes.items ≡ opening_servers l.count l.id;
+  count : length l.nodes.items ≡ l.id;
+}

@@ -1,0 +1,7 @@
+use Rattle.std.proofs.Common.{◌≡◌, true, not, ◌||◌}
+use Rattle.world.specs.Worlds.{lives, link}
+use Rattle.world.specs.Quiet.{all_below, is_none}
+use Rattle.world.proofs.worlds.World.is_unreached.Given as goal
+
+abbrev pub invariant-loop-i : goal.invariant-loop-i
+invariant-loop-i l = all_below l.i (λ i. is_none (link l.self i l.j)) ≡ true

@@ -1,0 +1,24 @@
+use Rattle.std.proofs.Common.{◌≡◌, sym, ◌∙◌, subst, true, OnOk, Some, None}
+use Rattle.std.specs.Prelude.{slice_get}
+use Rattle.world.specs.Connections.{to_work, asked}
+use Rattle.world.specs.Worlds.{World}
+use Rattle.world.specs.Scenes.{is_served}
+use Rattle.world.proofs.ConnectionLists.{call_worked, none_worked}
+use Rattle.world.proofs.worlds.World.work.Goals as goal
+
+pub returns-in-Some-clause-ok : goal.returns-in-Some-clause-ok
+returns-in-Some-clause-ok c =
+    let served : is_served c.args.self.now (slice_get c.args.self.now.connections c.args.c) ≡ true = sym c.is_served.ensures ∙ c.if-not-is_served.false in
+    let old = c.index_mut-connection.result.now in
+    let call_is : Some c.in-Some.call ≡ to_work old.stage old = sym c.in-Some.is ∙ c.in_ok-call.ensures.call in
+    let asked_is : c.ask.new.self ≡ asked old = rw c.in-Some.is at c.in_ok-call.ensures.stage in
+    subst (λ (x : World). OnOk c.take.result (c.take.new.self ≡ x))
+    (call_worked _ _ c.self.view_is c.args.c c.home-home.result old c.ask.new.self c.in-Some.call served c.index_mut-connection.ensures.value c.home-home.ensures call_is asked_is) c.take.ensures.ok
+
+pub returns-in-None-clause-ok : goal.returns-in-None-clause-ok
+returns-in-None-clause-ok c =
+    let served : is_served c.args.self.now (slice_get c.args.self.now.connections c.args.c) ≡ true = sym c.is_served.ensures ∙ c.if-not-is_served.false in
+    let old = c.index_mut-connection.result.now in
+    let none : None ≡ to_work old.stage old = sym c.in-None.is ∙ c.in_ok-call.ensures.call in
+    let kept : c.ask.new.self ≡ old = rw c.in-None.is at c.in_ok-call.ensures.stage in
+    none_worked _ _ c.self.view_is c.args.c old c.ask.new.self served c.index_mut-connection.ensures.value none kept

@@ -1,0 +1,55 @@
+//! Faults: why there is no scene, or no event in one.
+ghost use Rattle.std.specs.Prelude.{◌≡◌};
+ghost use Rattle.world.specs.declared.faults.SceneFault.TheVariants.{Memory};
+
+use node::NodeFault;
+use proto::ProtoFault;
+use std::alloc::{AllocError, AllocFailed};
+use thiserror::Error;
+
+/// Why there is no scene, or no event in one.
+#[derive(Clone, Copy, Debug, PartialEq, Eq, Error)]
+pub enum SceneFault {
+    #[error("out of memory")]
+    Memory,
+    #[error("the number of servers is out of range")]
+    BadCount,
+    #[error("too many homes, or one that is no server")]
+    BadHomes,
+    #[error("an earlier event was refused")]
+    Spoiled,
+}
+
+impl From<AllocError> for SceneFault {
+    ghost from_gives = { λ _ e. e ≡ Memory };
+
+    fn from(_e: AllocError) -> SceneFault {
+        SceneFault::Memory
+    }
+}
+
+impl<T: Drop> From<AllocFailed<T>> for SceneFault {
+    ghost from_gives = { λ _ e. e ≡ Memory };
+
+    fn from(_e: AllocFailed<T>) -> SceneFault {
+        SceneFault::Memory
+    }
+}
+
+// A session refuses a connection's steps only for want of memory.
+impl From<ProtoFault> for SceneFault {
+    ghost from_gives = { λ _ e. e ≡ Memory };
+
+    fn from(_e: ProtoFault) -> SceneFault {
+        SceneFault::Memory
+    }
+}
+
+// A node of a scene that isn't spoiled was never stopped, and is of its chain: it refuses only for want of memory.
+impl From<NodeFault> for SceneFault {
+    ghost from_gives = { λ _ e. e ≡ Memory };
+
+    fn from(_e: NodeFault) -> SceneFault {
+        SceneFault::Memory
+    }
+}

@@ -1,0 +1,97 @@
+//! Quiet: whether nothing waits in a world, and what is shown of it.
+ghost use Rattle.std.specs.Prelude.{◌≡◌, ◌<◌, not, ◌&&◌, ◌||◌, length, map, slice_get, IfOk};
+ghost use Rattle.std.specs.List.{list_all};
+ghost use Rattle.world.specs.Worlds.{lives, link};
+ghost use Rattle.world.specs.Quiet.{all_below, is_none, is_server_quiet, waits, connection_shown, transcript_of};
+ghost use Rattle.world.specs.Quiet as quiet;
+ghost use Rattle.world.specs.Scenes.{sent_to};
+
+use crate::connections::Connection;
+use crate::worlds::World;
+use crate::{ConnectionTranscript, Transcript};
+use std::alloc::{AllocError, Global};
+
+impl World {
+    /// Whether nothing waits at living servers.
+    pub fn is_quiet(&self) -> bool
+        ensures { result ≡ quiet.is_quiet self.now }
+    {
+        self.are_servers_quiet() && self.are_connections_quiet()
+    }
+
+    // Whether no message waits for a living server, and no failure that it doesn't know.
+    #[tactic(auto, using(crate::proofs::AllBelow::all_more, crate::proofs::AllBelow::all_broken))]
+    fn are_servers_quiet(&self) -> bool
+        ensures { result ≡ all_below (length self.now.servers) (λ j. not (lives self.now j) || is_server_quiet self.now j) }
+    {
+        for j in 0..self.servers.len() {
+            if self.lives(j) && !self.is_server_quiet(j) {
+                return false;
+            }
+        }
+        true
+    }
+
+    #[tactic(auto, unfolding(crate::specs::Worlds::server))]
+    fn is_server_quiet(&self, j: usize) -> bool
+        requires server { j < length self.now.servers }
+        ensures { result ≡ is_server_quiet self.now j }
+    {
+        self.is_unreached(j) && self.servers.view(j) == self.failed
+    }
+
+    // Whether no link to server j holds a message.
+    #[tactic(auto, using(crate::proofs::AllBelow::all_more, crate::proofs::AllBelow::all_broken), unfolding(crate::specs::Worlds::link))]
+    fn is_unreached(&self, j: usize) -> bool
+        ensures { result ≡ all_below (length self.now.servers) (λ i. is_none (link self.now i j)) }
+    {
+        for i in 0..self.servers.len() {
+            if !self.links.is_empty(i, j) {
+                return false;
+            }
+        }
+        true
+    }
+
+    // Whether no call or reply waits at a connection of a living server.
+    fn are_connections_quiet(&self) -> bool
+        ensures { result ≡ list_all (λ k. not (lives self.now k.home && waits k.stage)) self.now.connections }
+    {
+        self.connections
+            .iter()
+            .all(|k| !(self.lives(k.home()) && k.waits()))
+    }
+
+    /// What the c-th connection was sent.
+    pub fn sent(&self, c: usize) -> &[u8]
+        requires connection { c < length self.now.connections }
+        ensures { result.now ≡ sent_to (slice_get self.now.connections c) }
+    {
+        self.connections[c].sent()
+    }
+
+    /// What is shown of it.
+    pub fn transcript(self, alloc: Global) -> Result<Transcript, AllocError>
+        ensures { IfOk result (λ t. t ≡ transcript_of self) }
+    {
+        let quiet = self.is_quiet();
+        Ok(Transcript {
+            connections: connection_transcripts(alloc, self.connections)?,
+            quiet,
+        })
+    }
+}
+
+fn connection_transcripts(
+    alloc: Global,
+    connections: Vec<Connection>,
+) -> Result<Vec<ConnectionTranscript>, AllocError>
+    ensures { IfOk result (λ v. v.items ≡ map connection_shown connections.items) }
+{
+    let mut shown = Vec::new(alloc);
+    let mut connections = connections.into_iter();
+    while let Some(connection) = connections.next() {
+        shown.push(connection.transcript(alloc)?)?;
+    }
+    Ok(shown)
+}
