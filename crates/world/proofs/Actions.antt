@@ -73,10 +73,6 @@ left (Some (Called port call)) = None
 left (Some (From i m)) = Some (From i m)
 left (Some (Gone j)) = Some (Gone j)
 
--- the view that a message brought is known
-abbrev pub IsJoined : ServerState → Peer → Type 0
-IsJoined s m = (k : ℕ) → has m.view k ≡ true → has s.view k ≡ true
-
 -- the update with this origin and id is one that may be taken: an own open call, or what an `Op` asks for
 abbrev pub IsWanted : Cause → ServerState → ℕ → ℕ → Call → Type 0
 IsWanted input s origin id call =
@@ -102,14 +98,15 @@ pub record IsPassed (input : Cause) (s : ServerState) (e : LogEntry) : Type 0 wh
   pub came : input ≡ Some (From from message)
   pub body : message.body ≡ Forward e
   pub previous : previous s ≡ Some from
-  pub joined : IsJoined s message
   pub next : e.number ≡ last_number s.store + 1
+  -- the message's view was joined
+  pub joined : (k : ℕ) → has message.view k ≡ true → has s.view k ≡ true
 
 -- the tail rises to its last number, and another to the number that its successor acknowledged
 abbrev pub IsReached : Cause → ServerState → ℕ → Type 0
 IsReached input s n =
     ((is_tail s ≡ true) × (n ≡ last_number s.store))
-    ⊎ ((i : ℕ) × (m : Peer) × (input ≡ Some (From i m)) × (m.body ≡ Ack n) × (next s ≡ Some i) × IsJoined s m)
+    ⊎ ((i : ℕ) × (m : Peer) × (input ≡ Some (From i m)) × (m.body ≡ Ack n) × (next s ≡ Some i) × ((k : ℕ) → has m.view k ≡ true → has s.view k ≡ true))
 
 -- a message that may be put out to server j
 abbrev pub MaySend : Cause → ServerState → ℕ → Body → Type 0
@@ -118,13 +115,13 @@ MaySend input s j (Forward e) = (next s ≡ Some j) × In e s.store.rest
 MaySend input s j (Ack n) = (previous s ≡ Some j) × (n ≡ s.store.acked)
 MaySend input s j (Query ask key) = (tail_of s ≡ Some j) × (is_tail s ≡ false) × (1 ≤ ask) × (port : ℕ) × (mark : ℕ) × In (record { ask = ask; port = port; key = key; mark = mark }) s.asks
 MaySend input s j (Answer ask n) =
-    (is_tail s ≡ true) × (n ≡ last_number s.store) × (has s.view j ≡ false) × (m : Peer) × (key : List ℕ) × (input ≡ Some (From j m)) × (m.body ≡ Query ask key) × IsJoined s m
+    (is_tail s ≡ true) × (n ≡ last_number s.store) × (has s.view j ≡ false) × (m : Peer) × (key : List ℕ) × (input ≡ Some (From j m)) × (m.body ≡ Query ask key)
 
 -- the number that answers an open read: the tail's last number, its own or one that it sent
 abbrev pub IsAnswered : Cause → ServerState → ℕ → ℕ → Type 0
 IsAnswered input s ask n =
     ((is_tail s ≡ true) × (n ≡ last_number s.store))
-    ⊎ ((t : ℕ) × (m : Peer) × (input ≡ Some (From t m)) × (m.body ≡ Answer ask n) × (tail_of s ≡ Some t) × IsJoined s m)
+    ⊎ ((t : ℕ) × (m : Peer) × (input ≡ Some (From t m)) × (m.body ≡ Answer ask n) × (tail_of s ≡ Some t))
 
 -- the view that an input brings
 abbrev pub IsBrought : Cause → View → Type 0

@@ -91,7 +91,7 @@ aimed t i j cause (Query ask key) s is n own sound known (to_tail, apart, low, p
       fit = low;
       entry = tt;
     }
-aimed t i j cause (Answer ask m) s is n own sound known (tail, last, out, peer, key, came, asked, joined) =
+aimed t i j cause (Answer ask m) s is n own sound known (tail, last, out, peer, key, came, asked) =
     let h = at_tail s tail in
     let from : IsKnown t i (Some (From j peer)) = rw came at known in
     let goes : Goes j i peer.view (count t) (Query ask key) = rw asked at (from.0.goes) in

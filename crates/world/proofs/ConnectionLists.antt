@@ -6,7 +6,7 @@ use Rattle.std.specs.Prelude.{slice_get}
 use Rattle.table.specs.declared.operations.Call.{Call}
 use Rattle.node.specs.declared.messages.Input.TheVariants.{Call as Called}
 use Rattle.world.specs.Connections.{Connection, changed_at, to_work, asked}
-use Rattle.world.specs.Worlds.{World, lives, where_home_lives, with_connection, takes, sent_in, worked}
+use Rattle.world.specs.Worlds.{World, where_home_lives, with_connection, takes, sent_in, worked}
 use Rattle.world.specs.Scenes.{is_served}
 
 -- a change written back, as the change of that place

@@ -1,14 +1,16 @@
 -- Lists of actions done one after another: what is known at their end, and how rules that are such lists follow each other.
-use Rattle.std.proofs.Common.{◌≡◌, ℕ, ◌<◌, List, [], ◌∷◌, ◌++◌, Option, Some, None, inl, inr, refl, sym, ap, subst, ◌∙◌, append_assoc, append-nil}
+use Rattle.std.proofs.Common.{◌≡◌, ℕ, ◌<◌, true, List, [], ◌∷◌, ◌++◌, Option, Some, None, inl, inr, refl, sym, ap, subst, ◌∙◌, append_assoc, append-nil}
 use Rattle.versions.specs.Entries.{LogEntry}
 use Rattle.node.specs.declared.messages.Body.{Body}
 use Rattle.node.specs.declared.messages.Body.TheVariants.{Op, Forward, Ack, Query, Answer}
 use Rattle.node.specs.declared.messages.Input.{Input}
 use Rattle.node.specs.declared.messages.Input.TheVariants.{Call as Called, From, Gone}
 use Rattle.node.specs.declared.messages.Output.{Output}
+use Rattle.node.specs.Views.{has}
 use Rattle.node.specs.Servers.{ServerState, Outcome, silent, putting, and_then, message_to}
 use Rattle.node.specs.Lawful.{IsSound}
 use Rattle.world.proofs.Actions.{Action, Widen, Append, Reach, Settle, Send, Finish, Trim, Enter, Ask, Show, act, does, Cause, left, IsMade, IsPassed, MaySend, Guard, AreGuarded, IsDone}
+use Rattle.world.proofs.LaterLaws.{grown_act}
 use Rattle.world.proofs.SoundActions.{sound_act, IsSeatOf, seat_act}
 
 -- ---- a list behind a list
@@ -49,14 +51,14 @@ made_left c s e h = record {
 }
 
 passed_left : (c : Cause) (s : ServerState) (e : LogEntry) → IsPassed (left c) s e → IsPassed c s e
-passed_left c s e h = record { from = h.from; message = h.message; came = came_left c _ h.came; body = h.body; previous = h.previous; joined = h.joined; next = h.next }
+passed_left c s e h = record { from = h.from; message = h.message; came = came_left c _ h.came; body = h.body; joined = h.joined; previous = h.previous; next = h.next }
 
 may_left : (c : Cause) (s : ServerState) (j : ℕ) (body : Body) → MaySend (left c) s j body → MaySend c s j body
 may_left c s j (Op id call) h = h
 may_left c s j (Forward e) h = h
 may_left c s j (Ack n) h = h
 may_left c s j (Query ask key) h = h
-may_left c s j (Answer ask n) h = (h.0, h.1, h.2, h.3, h.4, came_left c _ h.5, h.6, h.7)
+may_left c s j (Answer ask n) h = (h.0, h.1, h.2, h.3, h.4, came_left c _ h.5, h.6)
 
 pub guard_left : (c : Cause) (s : ServerState) (a : Action) → Guard (left c) s a → Guard c s a
 guard_left c s (Widen v) h = (elim h.0 [ inl g ↦ inl (g.0, g.1, came_left c _ g.2, g.3) | inr g ↦ inr (g.0, came_left c _ g.1, g.2) ], h.1, h.2)
@@ -64,7 +66,7 @@ guard_left c s (Append e) h = (h.0, elim h.1 [ inl m ↦ inl (made_left c s e m)
 guard_left c s (Reach n) h = (h.0, h.1, elim h.2 [ inl g ↦ inl g | inr g ↦ inr (g.0, g.1, came_left c _ g.2, g.3, g.4, g.5) ])
 guard_left c s (Settle e) h = h
 guard_left c s (Send j body) h = (may_left c s j body h.0, h.1)
-guard_left c s (Finish r n) h = (h.0, h.1, h.2, h.3, elim h.4 [ inl g ↦ inl g | inr g ↦ inr (g.0, g.1, came_left c _ g.2, g.3, g.4, g.5) ])
+guard_left c s (Finish r n) h = (h.0, h.1, h.2, h.3, elim h.4 [ inl g ↦ inl g | inr g ↦ inr (g.0, g.1, came_left c _ g.2, g.3, g.4) ])
 guard_left c s Trim h = tt
 guard_left c s (Enter port call) h = (came_left c _ h.0, h.1, h.2, h.3)
 guard_left c s (Ask port key) h = (h.0, came_left c _ h.1, h.2, h.3, h.4, h.5)
@@ -87,11 +89,17 @@ guarded_then (a ∷ xs) ys c s h g =
 
 seat_does : (xs : List Action) (s : ServerState) → IsSeatOf s (does s xs).state
 unfolding does
-seat_does [] s = record { id = refl; count = refl; views = λ k h. h }
+seat_does [] s = record { id = refl; count = refl }
 seat_does (a ∷ xs) s =
     let first = seat_act s a in
     let rest = seat_does xs (act s a).state in
-    record { id = rest.id ∙ first.id; count = rest.count ∙ first.count; views = λ k h. rest.views k (first.views k h) }
+    record { id = rest.id ∙ first.id; count = rest.count ∙ first.count }
+
+-- who was known to have failed still is
+view_does : (xs : List Action) (c : Cause) (s : ServerState) (k : ℕ) → AreGuarded c s xs → has s.view k ≡ true → has (does s xs).state.view k ≡ true
+unfolding does
+view_does [] c s k g h = h
+view_does (a ∷ xs) c s k g h = view_does xs (left c) (act s a).state k g.2 ((grown_act c s a g.1).view k h)
 
 -- ---- rules that are lists of actions
 
@@ -103,6 +111,9 @@ sound_after c s a h = subst (λ (r : Outcome). IsSound r.state) (sym h.same) (gu
 
 pub seat_after : (c : Cause) (s : ServerState) (a : Outcome) → IsDone c s a → IsSeatOf s a.state
 seat_after c s a h = subst (λ (r : Outcome). IsSeatOf s r.state) (sym h.same) (seat_does h.actions s)
+
+pub view_after : (c : Cause) (s : ServerState) (a : Outcome) (k : ℕ) → IsDone c s a → has s.view k ≡ true → has a.state.view k ≡ true
+view_after c s a k h g = subst (λ (r : Outcome). has r.state.view k ≡ true) (sym h.same) (view_does h.actions c s k h.guarded g)
 
 pub done_silent : (c : Cause) (s : ServerState) → IsSound s → IsDone c s (silent s)
 unfolding does

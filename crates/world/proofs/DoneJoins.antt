@@ -1,12 +1,14 @@
 -- Joining a view as a list of actions, step by step.
-use Rattle.std.proofs.Common.{◌≡◌, ℕ, suc, ◌≤◌, nat_lt, nat_eq, ◌==◌, ◌&&◌, ◌||◌, Bool, true, false, not, List, [], ◌∷◌, ◌++◌, Some, inl, refl, sym, ap, ◌∙◌, arith}
-use Rattle.std.proofs.lemmas.Bool.{cond_both, and_parts, eqb-true, eq-eqb, ltb-true}
+use Rattle.std.proofs.Common.{◌≡◌, ℕ, suc, ◌≤◌, nat_lt, ◌==◌, ◌&&◌, Bool, true, false, not, List, [], ◌∷◌, ◌++◌, Some, inl, refl, sym, subst, ap, ◌∙◌, arith}
+use Rattle.std.proofs.lemmas.Bool.{cond_both, and_parts, or_right, eq-eqb, eqb-true, ltb-true}
 use Rattle.table.specs.declared.operations.Reply.TheVariants.{Value}
 use Rattle.versions.specs.Entries.{LogEntry}
 use Rattle.versions.specs.Stores.{last_number, value_at, entries_after}
 use Rattle.node.specs.declared.servers.OpenUpdate.{OpenUpdate}
 use Rattle.node.specs.declared.servers.OpenRead.{OpenRead}
 use Rattle.node.specs.declared.messages.Body.TheVariants.{Op, Forward, Ack, Query}
+use Rattle.node.specs.declared.messages.Peer.{Peer}
+use Rattle.node.specs.declared.messages.Input.TheVariants.{From}
 use Rattle.node.specs.declared.messages.Output.{Output}
 use Rattle.node.specs.Views.{View, has, union, is_below, adds, head, tail, predecessor, is_that, is_same}
 use Rattle.node.specs.Servers.{ServerState, Outcome, head_of, tail_of, is_head, is_tail, previous, next, silent, putting, message_to, reply_at}
@@ -20,8 +22,8 @@ use Rattle.node.proofs.ViewLaws.{has-union}
 use Rattle.world.proofs.Neighbours.{previous_below, next_within, head_within, head_other, tail_within}
 use Rattle.world.proofs.OpenCalls.{update_in, reads_bound, asked_above}
 use Rattle.world.proofs.StoreChanges.{held_after}
-use Rattle.world.proofs.DoneActions.{done_as, done_silent, done_then, done_first, done_message, seat_after}
-use Rattle.world.proofs.SoundActions.{sound_widened}
+use Rattle.world.proofs.DoneActions.{done_as, view_after, done_silent, done_then, done_first, done_message}
+use Rattle.world.proofs.SoundActions.{sound_act}
 use Rattle.world.proofs.DoneRules.{made_guard, done_rise}
 
 -- ---- second: the own open calls
@@ -149,20 +151,20 @@ done_rejoined c old n m s h =
     let fifth = done_then c s _ (acked_to_predecessor old m) fourth (λ k. done_acked_to_predecessor (left c) old m _ k) in
     done_then c s _ (asks_renewed old) fifth (λ k. done_asks_renewed (left c) old _ k)
 
-or-true : (b : Bool) → (b || true) ≡ true
-or-true true = refl
-or-true false = refl
+twice_not : (b : Bool) → not (not b) ≡ true → b ≡ true
+twice_not true h = refl
+twice_not false h = absurd cc
 
-not-not : (b : Bool) → not (not b) ≡ true → b ≡ true
-not-not true h = refl
-not-not false h = absurd cc
+-- a view that adds nothing was known
+nothing_added : (u v : View) (k : ℕ) → not (adds u v) ≡ true → has v k ≡ true → has u k ≡ true
+unfolding adds
+nothing_added u v k h g =
+    let same : union u v ≡ u = eqb-true (union u v) u (twice_not _ h) in
+    subst (λ w. has w k ≡ true) same (rw (has-union u v k) (or_right _ _ g))
 
-has_either : (u v : View) (k : ℕ) → has v k ≡ true → has (union u v) k ≡ true
-has_either u v k g = has-union u v k ∙ rw g (or-true (has u k))
-
-in_widened : (s : ServerState) (v : View) (k : ℕ) → has v k ≡ true → has (widened s v).view k ≡ true
+known_widened : (s : ServerState) (v : View) (k : ℕ) → has v k ≡ true → has (widened s v).view k ≡ true
 unfolding widened
-in_widened s v k g = has_either s.view v k g
+known_widened s v k h = rw (has-union s.view v k) (or_right _ _ h)
 
 pub done_join : (c : Cause) (s : ServerState) (v : View) → IsSound s → IsBrought c v → has v s.id ≡ false → is_below v s.count ≡ true → IsDone c s (join s v)
 unfolding act
@@ -171,12 +173,13 @@ done_join c s v h brought out below = cond_both (not (adds s.view v)) _ _ (λ (a
     (λ f. done_first c s (Widen v) (rejoined s.view (last_number s.store) s.store.acked) h (brought, out, below)
     (λ k. done_rejoined (left c) s.view (last_number s.store) s.store.acked (widened s v) k))
 
-not_adding : (u v : View) → not (adds u v) ≡ true → union u v ≡ u
-unfolding adds
-not_adding u v t = eqb-true _ _ (not-not (nat_eq (union u v) u) t)
+-- all that the view names is known from then on
+pub join_knows : (c : Cause) (s : ServerState) (v : View) (k : ℕ) → IsSound s → IsBrought c v → has v s.id ≡ false → is_below v s.count ≡ true → has v k ≡ true → has (join s v).state.view k ≡ true
+unfolding act
+join_knows c s v k h brought out below g = cond_both (not (adds s.view v)) _ _ (λ (a : Outcome). has a.state.view k ≡ true)
+    (λ t. nothing_added s.view v k t g)
+    (λ f. view_after (left c) (widened s v) _ k (done_rejoined (left c) s.view (last_number s.store) s.store.acked (widened s v) (sound_act c s (Widen v) h (brought, out, below))) (known_widened s v k g))
 
--- what a joined view names is known
+-- whatever brought it
 pub known_after : (c : Cause) (s : ServerState) (v : View) → IsSound s → has v s.id ≡ false → is_below v s.count ≡ true → (k : ℕ) → has v k ≡ true → has (join s v).state.view k ≡ true
-known_after c s v h out below = cond_both (not (adds s.view v)) _ _ (λ (a : Outcome). (k : ℕ) → has v k ≡ true → has a.state.view k ≡ true)
-    (λ t k g. ap (λ (u : View). has u k) (sym (not_adding s.view v t)) ∙ has_either s.view v k g)
-    (λ f k g. (seat_after c (widened s v) _ (done_rejoined c s.view (last_number s.store) s.store.acked (widened s v) (sound_widened s v below out h))).views k (in_widened s v k g))
+known_after c s v h out below k = let m : Peer = record { view = v; body = Ack 0 } in join_knows (Some (From 0 m)) s v k h (inl (0, m, refl, refl)) out below

@@ -15,7 +15,7 @@ use Rattle.node.specs.Servers.{ServerState, Outcome, head_of, is_head, is_tail, 
 use Rattle.node.specs.Numbering.{left_open, replies, newly_acked, risen, rise, appended, passed_on, entry_of, is_taken, take_update, entered, is_room_for_update, called, update, receive_op, receive_forward, receive_ack}
 use Rattle.node.specs.Lawful.{IsCall, IsSound}
 use Rattle.world.proofs.Lists.{In, get_last}
-use Rattle.world.proofs.Actions.{Append, Reach, Settle, Enter, act, Cause, left, IsJoined, IsWanted, IsReached, Guard, IsDone}
+use Rattle.world.proofs.Actions.{Append, Reach, Settle, Enter, act, Cause, left, IsWanted, IsReached, Guard, IsDone}
 use Rattle.world.proofs.IdLaws.{that_is}
 use Rattle.world.proofs.Neighbours.{previous_below, next_within, head_within, head_other}
 use Rattle.world.proofs.StoreChanges.{held_between}
@@ -83,12 +83,12 @@ done_take_update c s origin id call h low wanted fit is first = cond_both (is_ta
 
 -- ---- the inputs and messages of updates
 
-done_called : (c : Cause) (s : ServerState) (id port : ℕ) (call : Call) → IsSound s → IsCall call → is_update call.op ≡ true → In (record { id = id; port = port; call = call }) s.pend → IsDone c s (called s id call)
+pub done_called : (c : Cause) (s : ServerState) (id port : ℕ) (call : Call) → IsSound s → IsCall call → is_update call.op ≡ true → In (record { id = id; port = port; call = call }) s.pend → IsDone c s (called s id call)
 done_called c s id port call h fit is waits = cond_both (is_head s) _ _ (λ (a : Outcome). IsDone c s a)
     (λ t. done_take_update c s s.id id call h (omega (arith, h.placed, h.counted)) (inl (refl, port, waits)) fit is t)
     (λ f. done_message c s (head_of s) (Op id call) h (λ j e. ((e, head_other s j f e, is, fit, port, waits), head_within s j e)))
 
-entered_in : (s : ServerState) (port : ℕ) (call : Call) → In (record { id = s.next_id; port = port; call = call }) (entered s port call).pend
+pub entered_in : (s : ServerState) (port : ℕ) (call : Call) → In (record { id = s.next_id; port = port; call = call }) (entered s port call).pend
 unfolding entered
 entered_in s port call = (length s.pend, get_last s.pend (record { id = s.next_id; port = port; call = call }))
 
@@ -99,22 +99,22 @@ done_update s port call h fit is = cond_both (is_room_for_update s) _ _ (λ (a :
     (λ k. done_called None (entered s port call) s.next_id port call k fit is (entered_in s port call)))
     (λ f. done_silent (Some (Called port call)) s h)
 
-module _ (s : ServerState) (i : ℕ) (m : Peer) (h : IsSound s) (known : IsJoined s m) where
+module _ (s : ServerState) (i : ℕ) (m : Peer) (h : IsSound s) where
   pub done_receive_op : (id : ℕ) (call : Call) → m.body ≡ Op id call → i < 16 → has s.view i ≡ false → IsCall call → IsDone (Some (From i m)) s (receive_op s i id call)
   done_receive_op id call is low lives fit = cond_both (is_head s && is_update call.op) _ _ (λ (a : Outcome). IsDone (Some (From i m)) s a)
       (λ t. (let parts = and_parts (is_head s) (is_update call.op) t in
       done_take_update (Some (From i m)) s i id call h low (inr (m, refl, is, lives)) fit parts.1 parts.0))
       (λ f. done_silent (Some (From i m)) s h)
 
-  pub done_receive_forward : (e : LogEntry) → m.body ≡ Forward e → IsEntry e → IsDone (Some (From i m)) s (receive_forward s i e)
-  done_receive_forward e is valid = cond_both (is_that (previous s) i && e.number == last_number s.store + 1) _ _ (λ (a : Outcome). IsDone (Some (From i m)) s a)
+  pub done_receive_forward : (e : LogEntry) → m.body ≡ Forward e → IsEntry e → ((k : ℕ) → has m.view k ≡ true → has s.view k ≡ true) → IsDone (Some (From i m)) s (receive_forward s i e)
+  done_receive_forward e is valid joined = cond_both (is_that (previous s) i && e.number == last_number s.store + 1) _ _ (λ (a : Outcome). IsDone (Some (From i m)) s a)
       (λ t. (let parts = and_parts (is_that (previous s) i) (e.number == last_number s.store + 1) t in
-      done_append_passed (Some (From i m)) s e h (valid, inr (record { from = i; message = m; came = refl; body = is; previous = that_is _ i parts.0; joined = known; next = eqb-true _ _ parts.1 }))))
+      done_append_passed (Some (From i m)) s e h (valid, inr (record { from = i; message = m; came = refl; body = is; joined = joined; previous = that_is _ i parts.0; next = eqb-true _ _ parts.1 }))))
       (λ f. done_silent (Some (From i m)) s h)
 
-  pub done_receive_ack : (n : ℕ) → m.body ≡ Ack n → IsDone (Some (From i m)) s (receive_ack s i n)
-  done_receive_ack n is = cond_both (is_that (next s) i && nat_lt s.store.acked n && nat_le n (last_number s.store)) _ _ (λ (a : Outcome). IsDone (Some (From i m)) s a)
+  pub done_receive_ack : (n : ℕ) → m.body ≡ Ack n → ((k : ℕ) → has m.view k ≡ true → has s.view k ≡ true) → IsDone (Some (From i m)) s (receive_ack s i n)
+  done_receive_ack n is joined = cond_both (is_that (next s) i && nat_lt s.store.acked n && nat_le n (last_number s.store)) _ _ (λ (a : Outcome). IsDone (Some (From i m)) s a)
       (λ t. (let parts = and_parts (is_that (next s) i && nat_lt s.store.acked n) (nat_le n (last_number s.store)) t in
       let first = and_parts (is_that (next s) i) (nat_lt s.store.acked n) parts.0 in
-      done_rise (Some (From i m)) s n h (ltb-true _ _ first.1) (leb-true _ _ parts.1) (inr (i, m, refl, is, that_is _ i first.0, known))))
+      done_rise (Some (From i m)) s n h (ltb-true _ _ first.1) (leb-true _ _ parts.1) (inr (i, m, refl, is, that_is _ i first.0, joined))))
       (λ f. done_silent (Some (From i m)) s h)

@@ -23,14 +23,14 @@ use Rattle.node.specs.Joining.{join}
 use Rattle.node.specs.Steps.{call, gone, receive, received, is_heard, from_peer, taken_in, trimmed, step}
 use Rattle.node.specs.Lawful.{IsCall, IsBody, IsInput, HasEntry, HoldsEntry, IsSound, IsSettled, IsLawful}
 use Rattle.world.proofs.Lists.{In, get_last}
-use Rattle.world.proofs.Actions.{Send, Finish, Trim, Ask, Show, act, Cause, left, IsJoined, IsDone}
+use Rattle.world.proofs.Actions.{Send, Finish, Trim, Ask, Show, act, Cause, left, IsDone}
 use Rattle.node.proofs.ViewLaws.{has-single_other, below-single}
 use Rattle.world.proofs.IdLaws.{that_is}
 use Rattle.world.proofs.Neighbours.{tail_within}
 use Rattle.world.proofs.OpenCalls.{reads_bound}
 use Rattle.world.proofs.DoneActions.{done_as, done_silent, done_then, done_one, done_first, done_message, seat_after}
 use Rattle.world.proofs.DoneRules.{message_same, done_update, done_receive_op, done_receive_forward, done_receive_ack}
-use Rattle.world.proofs.DoneJoins.{done_join, known_after}
+use Rattle.world.proofs.DoneJoins.{done_join, join_knows}
 
 -- ---- own reads
 
@@ -48,7 +48,7 @@ not_tail false f = refl
 dirty_elsewhere : (s : ServerState) (key : List ℕ) → IsSettled s → is_clean s.store key ≡ false → is_tail s ≡ false
 dirty_elsewhere s key settled dirty = not_tail (is_tail s) (λ t. both_ways _ dirty (clean_at_last s key (settled t).0))
 
-asked_in : (s : ServerState) (port : ℕ) (key : List ℕ) → In (record { ask = s.next_ask; port = port; key = key; mark = s.store.acked }) (asked s port key).asks
+pub asked_in : (s : ServerState) (port : ℕ) (key : List ℕ) → In (record { ask = s.next_ask; port = port; key = key; mark = s.store.acked }) (asked s port key).asks
 unfolding asked
 asked_in s port key = (length s.asks, get_last s.asks (record { ask = s.next_ask; port = port; key = key; mark = s.store.acked }))
 
@@ -102,12 +102,12 @@ found_read : (rs : List OpenRead) (ask : ℕ) (q : OpenRead) → open_read rs as
 found_read [] ask q h = absurd cc
 found_read (r ∷ rs) ask q h = found_step _ r q _ ask rs refl (λ g. found_read rs ask q g) h
 
-module _ (s : ServerState) (i : ℕ) (m : Peer) (h : IsSound s) (known : IsJoined s m) where
+module _ (s : ServerState) (i : ℕ) (m : Peer) (h : IsSound s) where
   done_finished : (n : ℕ) (r : OpenRead) → m.body ≡ Answer r.ask n → tail_of s ≡ Some i → open_read s.asks r.ask ≡ Some r → In r s.asks → IsDone (Some (From i m)) s (answered s r.ask n (Some r))
   unfolding answered act
   done_finished n r is from found waits = cond_both (nat_le r.mark n && nat_le n (last_number s.store)) _ _ (λ (a : Outcome). IsDone (Some (From i m)) s a)
       (λ t. (let parts = and_parts (nat_le r.mark n) (nat_le n (last_number s.store)) t in
-      done_one (Some (From i m)) s (Finish r n) h (found, waits, leb-true _ _ parts.0, leb-true _ _ parts.1, inr (i, m, refl, is, from, known))))
+      done_one (Some (From i m)) s (Finish r n) h (found, waits, leb-true _ _ parts.0, leb-true _ _ parts.1, inr (i, m, refl, is, from))))
       (λ f. done_silent (Some (From i m)) s h)
 
   done_answered : (ask n : ℕ) (r : Option OpenRead) → m.body ≡ Answer ask n → tail_of s ≡ Some i → open_read s.asks ask ≡ r → IsDone (Some (From i m)) s (answered s ask n r)
@@ -126,22 +126,22 @@ module _ (s : ServerState) (i : ℕ) (m : Peer) (h : IsSound s) (known : IsJoine
   done_receive_query : (ask : ℕ) (key : List ℕ) → m.body ≡ Query ask key → i < s.count → has s.view i ≡ false → IsDone (Some (From i m)) s (receive_query s i ask)
   unfolding act
   done_receive_query ask key is low lives = cond_both (is_tail s) _ _ (λ (a : Outcome). IsDone (Some (From i m)) s a)
-      (λ t. done_one (Some (From i m)) s (Send i (Answer ask (last_number s.store))) h ((t, refl, lives, m, key, refl, is, known), low))
+      (λ t. done_one (Some (From i m)) s (Send i (Answer ask (last_number s.store))) h ((t, refl, lives, m, key, refl, is), low))
       (λ f. done_silent (Some (From i m)) s h)
 
 -- ---- inputs
 
-done_receive : (s : ServerState) (i : ℕ) (m : Peer) (body : Body) → m.body ≡ body → IsSound s → IsJoined s m → i < s.count → has s.view i ≡ false → IsBody body → HasEntry body → IsDone (Some (From i m)) s (receive s i body)
-done_receive s i m (Op id made) is h known low lives fit valid = done_receive_op s i m h known id made is (omega (arith, h.counted)) lives fit
-done_receive s i m (Forward e) is h known low lives fit valid = done_receive_forward s i m h known e is valid
-done_receive s i m (Ack n) is h known low lives fit valid = done_receive_ack s i m h known n is
-done_receive s i m (Query ask key) is h known low lives fit valid = done_receive_query s i m h known ask key is low lives
-done_receive s i m (Answer ask n) is h known low lives fit valid = done_receive_answer s i m h known ask n is
+done_receive : (s : ServerState) (i : ℕ) (m : Peer) (body : Body) → m.body ≡ body → IsSound s → i < s.count → has s.view i ≡ false → IsBody body → HasEntry body → ((k : ℕ) → has m.view k ≡ true → has s.view k ≡ true) → IsDone (Some (From i m)) s (receive s i body)
+done_receive s i m (Op id made) is h low lives fit valid joined = done_receive_op s i m h id made is (omega (arith, h.counted)) lives fit
+done_receive s i m (Forward e) is h low lives fit valid joined = done_receive_forward s i m h e is valid joined
+done_receive s i m (Ack n) is h low lives fit valid joined = done_receive_ack s i m h n is joined
+done_receive s i m (Query ask key) is h low lives fit valid joined = done_receive_query s i m h ask key is low lives
+done_receive s i m (Answer ask n) is h low lives fit valid joined = done_receive_answer s i m h ask n is
 
-done_received : (s : ServerState) (i : ℕ) (m : Peer) → IsSound s → IsJoined s m → i < s.count → IsBody m.body → HasEntry m.body → IsDone (Some (From i m)) s (received s i m.body)
-done_received s i m h known low fit valid = cond_both (has s.view i) _ _ (λ (a : Outcome). IsDone (Some (From i m)) s a)
+pub done_received : (s : ServerState) (i : ℕ) (m : Peer) → IsSound s → i < s.count → IsBody m.body → HasEntry m.body → ((k : ℕ) → has m.view k ≡ true → has s.view k ≡ true) → IsDone (Some (From i m)) s (received s i m.body)
+done_received s i m h low fit valid joined = cond_both (has s.view i) _ _ (λ (a : Outcome). IsDone (Some (From i m)) s a)
     (λ t. done_silent (Some (From i m)) s h)
-    (λ f. done_receive s i m m.body refl h known low f fit valid)
+    (λ f. done_receive s i m m.body refl h low f fit valid joined)
 
 record Hears (s : ServerState) (i : ℕ) (v : View) : Type 0 where
   placed : i < s.count
@@ -160,7 +160,8 @@ done_from_peer s i m h fit valid = cond_both (is_heard s i m.view) _ _ (λ (a : 
     (λ t. (let hears = heard s i m.view t in
     let first = done_join (Some (From i m)) s m.view h (inl (i, m, refl, refl)) hears.outside hears.below in
     let seat = seat_after (Some (From i m)) s _ first in
-    done_then (Some (From i m)) s _ (λ u. received u i m.body) first (λ k. done_received (join s m.view).state i m k (λ x g. known_after (Some (From i m)) s m.view h hears.outside hears.below x g) (omega (arith, hears.placed, seat.count)) fit valid)))
+    done_then (Some (From i m)) s _ (λ u. received u i m.body) first (λ k. done_received (join s m.view).state i m k (omega (arith, hears.placed, seat.count)) fit valid
+    (λ x g. join_knows (Some (From i m)) s m.view x h (inl (i, m, refl, refl)) hears.outside hears.below g))))
     (λ f. done_silent (Some (From i m)) s h)
 
 done_gone : (s : ServerState) (j : ℕ) → IsSound s → IsDone (Some (Gone j)) s (gone s j)

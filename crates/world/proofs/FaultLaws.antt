@@ -1,12 +1,12 @@
 -- The turn behind the faults, one fault after another.
-use Rattle.std.proofs.Common.{◌≡◌, ℕ, zero, suc, ◌<◌, Bool, true, false, cond, Option, None, Some, refl, arith, sym, ◌∙◌}
+use Rattle.std.proofs.Common.{◌≡◌, ℕ, zero, suc, ◌<◌, Bool, true, false, cond, None, Some, refl, arith, sym, ◌∙◌}
 use Rattle.table.specs.declared.operations.Call.{Call}
 use Rattle.table.specs.declared.operations.Op.{Op}
 use Rattle.table.specs.declared.operations.Target.{Target}
 use Rattle.proto.specs.declared.requests.Fault.{Fault}
 use Rattle.proto.specs.declared.sessions.Step.{Step}
 use Rattle.proto.specs.declared.sessions.Step.TheVariants.{Call as Calling, Emit, Wait, Close}
-use Rattle.proto.specs.Turns.{Turn, Faulty, Calls, call_of}
+use Rattle.proto.specs.Turns.{Faulty, Calls, call_of}
 use Rattle.proto.specs.Sessions.{Held, Given, next_of, step_of}
 use Rattle.proto.specs.Streams.{most_faults}
 use Rattle.world.specs.Connections.{behind, past_faults_upto, past_faults}

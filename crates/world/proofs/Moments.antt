@@ -1,5 +1,5 @@
 -- A schedule's moments: behind its first k events stands a traced world, and each comes by moves of those before it.
-use Rattle.std.proofs.Common.{◌≡◌, ℕ, zero, suc, ◌<◌, ◌≤◌, List, [], ◌∷◌, ◌++◌, take, Option, Some, None, refl, arith, sym, ap, ◌∙◌, subst}
+use Rattle.std.proofs.Common.{◌≡◌, ℕ, zero, suc, ◌<◌, ◌≤◌, List, [], ◌∷◌, ◌++◌, take, Some, None, refl, arith, sym, ap, ◌∙◌, subst}
 use Rattle.std.specs.Prelude.{slice_get}
 use Rattle.std.proofs.lemmas.Option.{same_Some}
 use Rattle.world.specs.declared.events.Event.{Event}
@@ -55,34 +55,14 @@ moments laws (e ∷ es) t l all =
 
 -- ---- from moment to moment
 
-run-append : (es fs : List Event) (w : World) → run_from w (es ++ fs) ≡ run_from (run_from w es) fs
+pub run-append : (es fs : List Event) (w : World) → run_from w (es ++ fs) ≡ run_from (run_from w es) fs
 run-append [] fs w = refl
 run-append (e ∷ es) fs w = run-append es fs (happens w e)
 
-taken_more : (es : List Event) (k : ℕ) (e : Event) → slice_get es k ≡ Some e → take (suc k) es ≡ take k es ++ e ∷ []
+pub taken_more : (es : List Event) (k : ℕ) (e : Event) → slice_get es k ≡ Some e → take (suc k) es ≡ take k es ++ e ∷ []
 taken_more [] k e h = absurd cc
 taken_more (x ∷ es) zero e h = ap (λ y. y ∷ []) (same_Some x e h)
 taken_more (x ∷ es) (suc k) e h = ap (λ ys. x ∷ ys) (taken_more es k e h)
-
-none_taken : (es : List Event) (k : ℕ) → slice_get es k ≡ None → take (suc k) es ≡ take k es
-none_taken [] zero h = refl
-none_taken [] (suc k) h = refl
-none_taken (x ∷ es) zero h = absurd cc
-none_taken (x ∷ es) (suc k) h = ap (λ ys. x ∷ ys) (none_taken es k h)
-
--- the next moment is that of the next event, or the same where none is left
-next_moment : (t : Traced) (events : List Event) (m : Moments t events) (P : World → Type 0) (k : ℕ)
-    → ((j : ℕ) (e : Event) → (m.at (suc j)).world ≡ happens (m.at j).world e → P (m.at j).world → P (m.at (suc j)).world) → P (m.at k).world
-    → (o : Option Event) → slice_get events k ≡ o → P (m.at (suc k)).world
-next_moment t events m P k kept before None h = subst P (m.world k ∙ sym (ap (run_from t.world) (none_taken events k h)) ∙ sym (m.world (suc k))) before
-next_moment t events m P k kept before (Some e) h =
-    kept k e (m.world (suc k) ∙ ap (run_from t.world) (taken_more events k e h) ∙ run-append (take k events) (e ∷ []) t.world ∙ ap (λ w. happens w e) (sym (m.world k))) before
-
--- what each event keeps of worlds holds at every moment
-pub kept_along : (t : Traced) (events : List Event) (m : Moments t events) (P : World → Type 0)
-    → ((j : ℕ) (e : Event) → (m.at (suc j)).world ≡ happens (m.at j).world e → P (m.at j).world → P (m.at (suc j)).world) → P t.world → (k : ℕ) → P (m.at k).world
-kept_along t events m P kept first zero = subst P (sym (m.world 0)) first
-kept_along t events m P kept first (suc k) = next_moment t events m P k kept (kept_along t events m P kept first k) (slice_get events k) refl
 
 -- ---- from the outset
 

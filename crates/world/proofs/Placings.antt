@@ -103,7 +103,7 @@ module _ (name : LogEntry → CallId) (asked : CallId → Call) where
         ]),
         sorted rs (suc n) es,
       ) in
-      sorted_joined (reads_at name asked n 0 rs) _ (sorted_reads n 0 rs) behind (λ p q h g.
+      sorted_joined (reads_at name asked n 0 rs) (of_update name asked n e ∷ placed name asked rs (suc n) es) (sorted_reads n 0 rs) behind (λ p q h g.
       let s = read_source n 0 rs p h in
       let low : p.number ≡ n = rw s.4 s.3 in
       let high : suc n ≤ q.number = elim (in_more (of_update name asked n e) (placed name asked rs (suc n) es) q g) [ inl is ↦ rw is (omega arith) | inr later ↦ above rs (suc n) es q later ] in

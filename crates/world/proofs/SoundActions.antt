@@ -17,7 +17,7 @@ use Rattle.node.proofs.ViewLaws.{has-union, below-union}
 use Rattle.world.proofs.OpenCalls.{updates-left, updates-push, reads-acked, reads-without, reads-push, least_within, reads-least}
 use Rattle.world.proofs.StoreChanges.{store-pushed, store-acked, store-dropped, put-at}
 
-pub sound_widened : (s : ServerState) (v : View) → is_below v s.count ≡ true → has v s.id ≡ false → IsSound s → IsSound (widened s v)
+sound_widened : (s : ServerState) (v : View) → is_below v s.count ≡ true → has v s.id ≡ false → IsSound s → IsSound (widened s v)
 unfolding widened
 sound_widened s v below out h = record {
   placed = h.placed;
@@ -146,21 +146,20 @@ sound_act c s (Enter port call) h g = sound_entered s port call g.1 g.2 h
 sound_act c s (Ask port key) h g = sound_asked s port key h
 sound_act c s (Show port key) h g = h
 
--- where a server stands, and of how many; and what it knew, it knows
+-- where a server stands, and of how many
 pub record IsSeatOf (s t : ServerState) : Type 0 where
   pub id : t.id ≡ s.id
   pub count : t.count ≡ s.count
-  pub views : (k : ℕ) → has s.view k ≡ true → has t.view k ≡ true
 
 pub seat_act : (s : ServerState) (a : Action) → IsSeatOf s (act s a).state
 unfolding act widened appended trimmed entered asked
-seat_act s (Widen v) = record { id = refl; count = refl; views = λ k h. has-union s.view v k ∙ rw h refl }
-seat_act s (Append e) = record { id = refl; count = refl; views = λ k h. h }
-seat_act s (Reach n) = record { id = refl; count = refl; views = λ k h. h }
-seat_act s (Settle e) = record { id = refl; count = refl; views = λ k h. h }
-seat_act s (Send j body) = record { id = refl; count = refl; views = λ k h. h }
-seat_act s (Finish r n) = record { id = refl; count = refl; views = λ k h. h }
-seat_act s Trim = record { id = refl; count = refl; views = λ k h. h }
-seat_act s (Enter port call) = record { id = refl; count = refl; views = λ k h. h }
-seat_act s (Ask port key) = record { id = refl; count = refl; views = λ k h. h }
-seat_act s (Show port key) = record { id = refl; count = refl; views = λ k h. h }
+seat_act s (Widen v) = record { id = refl; count = refl }
+seat_act s (Append e) = record { id = refl; count = refl }
+seat_act s (Reach n) = record { id = refl; count = refl }
+seat_act s (Settle e) = record { id = refl; count = refl }
+seat_act s (Send j body) = record { id = refl; count = refl }
+seat_act s (Finish r n) = record { id = refl; count = refl }
+seat_act s Trim = record { id = refl; count = refl }
+seat_act s (Enter port call) = record { id = refl; count = refl }
+seat_act s (Ask port key) = record { id = refl; count = refl }
+seat_act s (Show port key) = record { id = refl; count = refl }

@@ -23,7 +23,7 @@ use Rattle.world.proofs.Traces.{Traced, count}
 use Rattle.world.proofs.Layers.{Goes, Carries, IsAddressed, Framed}
 use Rattle.world.proofs.Beginnings.{begins-length}
 use Rattle.world.proofs.IdLaws.{following_from, previous_from, previous_of}
-use Rattle.world.proofs.DoneJoins.{known_after}
+use Rattle.world.proofs.DoneJoins.{join_knows}
 use Rattle.world.proofs.Streaming.{forwarded_number, numbers, IsRun, Linked, Stream, LinkedBack, IsTold}
 use Rattle.world.proofs.Tellings.{tells_received, tells_trimmed}
 use Rattle.world.proofs.StepTellings.{informs_join, received_forward, received_ack, step_heard}
@@ -105,7 +105,7 @@ module _ (t u : Traced) (i a : ℕ) (m : Peer) (ms : List Peer) (h : Between t u
       let now : server u.world a ≡ trimmed r = h.own ∙ step_heard s i m hears in
       record {
         middle = j;
-        joined = known_after None s m.view lawful.sound outside below;
+        joined = λ k. join_knows (Some (From i m)) s m.view k lawful.sound (inl (i, m, refl, refl)) outside below;
         id = joins.id ∙ id;
         count = joins.count ∙ chain;
         view = ap (λ x. x.view) now ∙ (trimmed_parts r).0 ∙ tells.at.view;

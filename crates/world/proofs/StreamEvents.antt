@@ -60,14 +60,14 @@ streaming_still w w' h s = record {
       ];
 }
 
-still_self : (w : World) → IsStill w w
+pub still_self : (w : World) → IsStill w w
 still_self w = record { servers = λ x. refl; count = refl; links = λ x y. refl; failed = λ k h. h }
 
-still_connection : (w : World) (c : ℕ) (change : Connection → Connection) → IsStill w (with_connection w c change)
+pub still_connection : (w : World) (c : ℕ) (change : Connection → Connection) → IsStill w (with_connection w c change)
 unfolding with_connection server link
 still_connection w c change = record { servers = λ x. refl; count = refl; links = λ x y. refl; failed = λ k h. h }
 
-still_failing : (w : World) (i : ℕ) → IsStill w (record w { failed = union w.failed (single i) })
+pub still_failing : (w : World) (i : ℕ) → IsStill w (record w { failed = union w.failed (single i) })
 unfolding server link
 still_failing w i = record { servers = λ x. refl; count = refl; links = λ x y. refl; failed = λ k h. has-union w.failed (single i) k ∙ or_left _ _ h }
 
@@ -81,20 +81,20 @@ pub record Follows (t u : Traced) : Type 0 where
   pub servers : (k : ℕ) → k < count t → IsLawful (server t.world k)
 
 -- a world that differs from an earlier one in connections and links to server a alone
-record IsReady (w v : World) (a : ℕ) : Type 0 where
-  servers : (x : ℕ) → server v x ≡ server w x
-  count : length v.servers ≡ length w.servers
-  failed : v.failed ≡ w.failed
-  own : (y : ℕ) → HasLink w a y → HasLink v a y × (link v a y ≡ link w a y)
+pub record IsReady (w v : World) (a : ℕ) : Type 0 where
+  pub servers : (x : ℕ) → server v x ≡ server w x
+  pub count : length v.servers ≡ length w.servers
+  pub failed : v.failed ≡ w.failed
+  pub own : (y : ℕ) → HasLink w a y → HasLink v a y × (link v a y ≡ link w a y)
 
-to_work_is : (stage : Stage) (k : Connection) (x : Call) → to_work stage k ≡ Some x → open_call k ≡ Some x
+pub to_work_is : (stage : Stage) (k : Connection) (x : Call) → to_work stage k ≡ Some x → open_call k ≡ Some x
 to_work_is Idle k x e = absurd cc
 to_work_is Begun k x e = e
 to_work_is Asked k x e = absurd cc
 to_work_is (Replied reply) k x e = absurd cc
 
 module _ (t u : Traced) (h : Follows t u) (streaming : Streaming t.world) where
-  between : (v : World) (a : ℕ) (input : Input) → IsReady t.world v a → a < count t → IsInput input → HoldsEntry input → u.world ≡ takes v a input → Between t u a (step (server t.world a) input)
+  pub between : (v : World) (a : ℕ) (input : Input) → IsReady t.world v a → a < count t → IsInput input → HoldsEntry input → u.world ≡ takes v a input → Between t u a (step (server t.world a) input)
   between v a input r here fit valid e =
       let o = step (server v a) input in
       let p : IsStep v u.world a o = subst (λ x. IsStep v x a o) (sym e) (step_acted v a o (rw r.count here)) in
@@ -111,7 +111,7 @@ module _ (t u : Traced) (h : Follows t u) (streaming : Streaming t.world) where
         informs = informs_step (server t.world a) input (h.servers a here) fit valid;
       }
 
-  links_from : (v : World) (a : ℕ) (input : Input) → a < length v.servers → u.world ≡ takes v a input → (x y : ℕ) → x ≢ a → link u.world x y ≡ link v x y
+  pub links_from : (v : World) (a : ℕ) (input : Input) → a < length v.servers → u.world ≡ takes v a input → (x y : ℕ) → x ≢ a → link u.world x y ≡ link v x y
   links_from v a input here e x y other = ap (λ w. link w x y) e ∙ (step_acted v a (step (server v a) input) here).links x y other
 
   streaming_step : (v : World) (a : ℕ) (input : Input) → IsReady t.world v a → ((x y : ℕ) → link v x y ≡ link t.world x y) → a < count t → IsInput input → HoldsEntry input → u.world ≡ takes v a input → Streaming u.world
@@ -130,12 +130,12 @@ module _ (t u : Traced) (h : Follows t u) (streaming : Streaming t.world) where
         ];
       }
 
-  ready_self : (a : ℕ) → IsReady t.world t.world a
+  pub ready_self : (a : ℕ) → IsReady t.world t.world a
   ready_self a = record { servers = λ x. refl; count = refl; failed = refl; own = λ y k. (k, refl) }
 
   -- ---- deliveries
 
-  ready_taken : (i a : ℕ) (ms : List Peer) → i ≢ a → IsReady t.world (with_link t.world i a ms) a
+  pub ready_taken : (i a : ℕ) (ms : List Peer) → i ≢ a → IsReady t.world (with_link t.world i a ms) a
   unfolding with_link server
   ready_taken i a ms other = record {
     servers = λ x. refl;
@@ -144,7 +144,7 @@ module _ (t u : Traced) (h : Follows t u) (streaming : Streaming t.world) where
     own = λ y k. (has_link-with_link t.world i a a y ms k, elim (link_cases t.world i a a y ms) [ inl c ↦ absurd (other (sym c.0)) | inr e ↦ e ]);
   }
 
-  links_taken : (i a x y : ℕ) (ms : List Peer) → ((x ≡ i) × (y ≡ a)) ⊎ (link (with_link t.world i a ms) x y ≡ link t.world x y)
+  pub links_taken : (i a x y : ℕ) (ms : List Peer) → ((x ≡ i) × (y ≡ a)) ⊎ (link (with_link t.world i a ms) x y ≡ link t.world x y)
   links_taken i a x y ms = elim (link_cases t.world i a x y ms) [ inl c ↦ inl (c.0, c.1) | inr e ↦ inr e ]
 
   streaming_delivered : (i a : ℕ) (m : Peer) (ms : List Peer) → link t.world i a ≡ m ∷ ms → u.world ≡ takes (with_link t.world i a ms) a (From i m) → Streaming u.world
@@ -194,7 +194,7 @@ module _ (t u : Traced) (h : Follows t u) (streaming : Streaming t.world) where
       (λ both e. streaming_step t.world i (Gone j) (ready_self i) (λ x y. refl) (living_parts t.world i (and_parts (lives t.world i) (has_failed t.world j) both).0).0 tt tt e)
       (λ _ e. unchanged e)
 
-  ready_asked : (c a : ℕ) → IsReady t.world (with_connection t.world c asked) a
+  pub ready_asked : (c a : ℕ) → IsReady t.world (with_connection t.world c asked) a
   unfolding with_connection server
   ready_asked c a = record { servers = λ x. refl; count = refl; failed = refl; own = λ y k. (has_link-with_connection t.world c asked a y k, link-with_connection t.world c asked a y) }
 

@@ -113,7 +113,7 @@ pub record Between (t u : Traced) (a : ℕ) (o : Outcome) : Type 0 where
   pub sent : (y : ℕ) → y < count t → link u.world a y ≡ link t.world a y ++ sent_to y o.outputs
   pub informs : Informs (server t.world a) o
 
-some_or_not : (found : Option ℕ) (y : ℕ) → (found ≡ Some y) ⊎ (found ≡ Some y → ⊥)
+pub some_or_not : (found : Option ℕ) (y : ℕ) → (found ≡ Some y) ⊎ (found ≡ Some y → ⊥)
 some_or_not None y = inr (λ e. none-some y e)
 some_or_not (Some x) y = elim (cases_eq x y) [ inl same ↦ inl (ap Some same) | inr other ↦ inr (λ e. other (same_Some x y e)) ]
 

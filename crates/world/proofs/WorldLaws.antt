@@ -131,7 +131,7 @@ replied_cases Asked reply k e =
 replied_cases (Replied first) reply k e = inl refl
 
 -- one output, and those behind it
-answers_one : (c d : ℕ) (reply : Reply) (k k' : Connection) → Changes d (λ x. replied x.stage reply x) c k k' → Answers (Answered d reply ∷ []) c k k'
+pub answers_one : (c d : ℕ) (reply : Reply) (k k' : Connection) → Changes d (λ x. replied x.stage reply x) c k k' → Answers (Answered d reply ∷ []) c k k'
 answers_one c d reply k k' (inr h) = inl h.1
 answers_one c d reply k k' (inl h) =
     elim (replied_cases k.stage reply k refl) [

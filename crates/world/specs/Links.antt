@@ -1,5 +1,5 @@
 -- What stands on links, and what comes off them.
-use Rattle.std.specs.Prelude.{ℕ, List, [], ◌∷◌, ◌++◌, slice_index_or, slice_set}
+use Rattle.std.specs.Prelude.{ℕ, List, [], ◌∷◌, slice_index_or, slice_set}
 use Rattle.node.specs.declared.messages.Peer.{Peer}
 use Rattle.node.specs.Lawful.{IsBody}
 

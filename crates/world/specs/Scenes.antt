@@ -1,5 +1,5 @@
 -- Scenes: a world, and whether an event in it was refused.
-use Rattle.std.specs.Prelude.{ℕ, Bool, false, ◌&&◌, nat_le, List, [], Option, None, Some, slice_get}
+use Rattle.std.specs.Prelude.{ℕ, Bool, false, ◌&&◌, nat_le, List, [], Option, None, Some}
 use Rattle.world.specs.Connections.{Connection}
 use Rattle.world.specs.Worlds.{World, lives}
 

@@ -1,10 +1,13 @@
-//! Laws of every schedule: one order of calls, the bytes that connections are sent, and the calls that they begin.
-ghost use Rattle.std.specs.Prelude.{◌≡◌, ℕ, ◌≤◌, List, Some, length, take, slice_get};
+//! Laws of every schedule: one order of calls, none forgotten, the bytes that connections are sent, and the calls that they begin.
+ghost use Rattle.std.specs.Prelude.{◌≡◌, ℕ, ◌≤◌, ◌<◌, true, List, Some, length, take, slice_get};
 ghost use Rattle.proto.specs.Streams.{turns};
 ghost use Rattle.world.specs.declared.events.Event.{Event};
 ghost use Rattle.world.specs.Connections.{Connection};
 ghost use Rattle.world.specs.Worlds.{run_of};
+ghost use Rattle.node.specs.Servers.{most};
+ghost use Rattle.world.specs.Calls.{CallId, IsBegun, IsAnswered, has_living_home};
 ghost use Rattle.world.specs.Orders.{Entry, IsLinearization};
+ghost use Rattle.world.specs.Quiet.{is_quiet};
 ghost use Rattle.world.specs.Sent.{course_of, sent_bytes, calls_of};
 
 /// Every schedule over a chain of up to 16 servers, with failures at any event, has an order of its calls in which a single
@@ -32,3 +35,9 @@ pub fn calls()
     proto::next_gives_first();
     proto::faults_take_bytes();
 }
+
+/// In a quiet world each begun call of a connection at a living home has a reply, where the schedule has fewer than 2^64 - 1 events.
+pub fn none_forgotten()
+    ensures { (count : ℕ) (homes : List ℕ) (events : List Event) → count ≤ 16 → length events < most → is_quiet (run_of count homes events) ≡ true →
+        (x : CallId) → IsBegun (run_of count homes events) x → has_living_home (run_of count homes events) x ≡ true → IsAnswered (run_of count homes events) x }
+{}

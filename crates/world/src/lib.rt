@@ -24,7 +24,7 @@ mod worlds;
 
 pub use events::Event;
 pub use faults::SceneFault;
-pub use laws::{calls, one_order, sent};
+pub use laws::{calls, none_forgotten, one_order, sent};
 pub use printing::print_transcript;
 pub use scenes::{Scene, run};
 pub use schedules::{Schedule, ScheduleFault, read_schedule};

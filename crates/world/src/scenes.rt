@@ -2,15 +2,17 @@
 ghost use Rattle.std.specs.Prelude.{◌≡◌, ◌<◌, ◌≤◌, ℕ, List, Some, take, ◌↔◌, true, false, nat_lt, length, slice_get, OnOk, OnErr, IfOk, IfErr, IsErrOf};
 ghost use Rattle.std.specs.List.{list_all};
 ghost use Rattle.proto.specs.Streams.{turns};
+ghost use Rattle.node.specs.Servers.{most};
+ghost use Rattle.world.specs.Calls.{CallId, IsBegun, IsAnswered, has_living_home};
 ghost use Rattle.world.specs.Connections.{Connection};
 ghost use Rattle.world.specs.Orders.{Entry, IsLinearization};
 ghost use Rattle.world.specs.Sent.{course_of, sent_bytes, calls_of};
 ghost use Rattle.world.specs.Worlds.{opening_world, happens, run_of};
 ghost use Rattle.world.specs.Quiet as quiet;
-ghost use Rattle.world.specs.Quiet.{are_homes, transcript_of};
+ghost use Rattle.world.specs.Quiet.{are_homes, is_quiet, transcript_of};
 ghost use Rattle.world.specs.Scenes.{going, is_count, sent_to};
 
-use crate::laws::{calls, one_order, sent};
+use crate::laws::{calls, none_forgotten, one_order, sent};
 use crate::worlds::World;
 use crate::{Event, SceneFault, Transcript};
 use std::alloc::{AllocError, Global};
@@ -123,6 +125,9 @@ pub fn run(
     // Those up to its place are answered, and no others.
     ensures answered { (c : ℕ) (k : Connection) → slice_get (run_of count homes.now events.now).connections c ≡ Some k →
         length k.replies ≡ length (calls_of (take (course_of count homes.now events.now c).place (turns (course_of count homes.now events.now c).stream))) }
+    // In a quiet world each begun call of a connection at a living home has a reply.
+    ensures none_forgotten { count ≤ 16 → length events.now < most → is_quiet (run_of count homes.now events.now) ≡ true → (x : CallId) →
+        IsBegun (run_of count homes.now events.now) x → has_living_home (run_of count homes.now events.now) x ≡ true → IsAnswered (run_of count homes.now events.now) x }
     ensures bad_count { IsErrOf result SceneFault.BadCount ↔ (is_count count ≡ false) }
     // At most 64 homes, each the number of a server.
     ensures bad_homes { IsErrOf result SceneFault.BadHomes ↔ ((is_count count ≡ true) × (are_homes count homes.now ≡ false)) }
@@ -131,6 +136,7 @@ pub fn run(
     one_order();
     sent();
     calls();
+    none_forgotten();
     let mut scene = Scene::new(alloc, count, homes)?;
     for event in events {
         scene.event(event)?;

@@ -1,5 +1,5 @@
 use Rattle.std.proofs.Common.{◌≡◌, true, not, ◌||◌}
-use Rattle.world.specs.Worlds.{lives, link}
+use Rattle.world.specs.Worlds.{lives}
 use Rattle.world.specs.Quiet.{all_below, is_server_quiet}
 use Rattle.world.proofs.worlds.World.are_servers_quiet.Given as goal
 

@@ -1,5 +1,5 @@
-use Rattle.std.proofs.Common.{◌≡◌, true, not, ◌||◌}
-use Rattle.world.specs.Worlds.{lives, link}
+use Rattle.std.proofs.Common.{◌≡◌, true}
+use Rattle.world.specs.Worlds.{link}
 use Rattle.world.specs.Quiet.{all_below, is_none}
 use Rattle.world.proofs.worlds.World.is_unreached.Given as goal
 

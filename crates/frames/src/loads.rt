@@ -1,0 +1,66 @@
+//! Loads: what is done with which frames, and how often.
+
+use bytes::Bytes;
+use node::{Body, Peer, View};
+use std::alloc::{AllocError, Global};
+use table::{Call, Key, Op, Target};
+use thiserror::Error;
+use wire::{Frame, WireFault};
+
+/// How many frames a round has.
+pub const ROUND: u8 = 64;
+
+/// What is done with the frames.
+#[derive(Clone, Copy, Debug)]
+pub enum Work {
+    /// They are written at the end of one buffer, which is emptied after each round.
+    Write,
+    /// They are read, in pieces.
+    Read,
+    /// Their bytes are copied, as a measure of the other two.
+    Copy,
+}
+
+/// So many rounds of frames with data of so many bytes, read in pieces of so many.
+#[derive(Clone, Copy, Debug)]
+pub struct Load {
+    pub work: Work,
+    pub size: u32,
+    pub rounds: u32,
+    pub piece: u32,
+}
+
+/// What was done.
+#[derive(Clone, Copy, Debug)]
+pub struct Done {
+    pub bytes: u64,
+    pub frames: u64,
+}
+
+/// Why a load isn't carried out to its end.
+#[derive(Debug, Error, Drop)]
+pub enum LoadFault {
+    #[error("out of memory")]
+    Memory(#[from] AllocError),
+    #[error("wire: {0}")]
+    Wire(#[from] WireFault),
+    #[error("no such frame")]
+    Frame,
+}
+
+/// A set of so many bytes on its way to the head.
+pub fn message(alloc: Global, size: u32) -> Result<Frame, LoadFault> {
+    let data = vec![in alloc; b'x'; size as usize]?;
+    let Some(key) = Key::new(alloc, b"key0000001")? else {
+        return Err(LoadFault::Frame);
+    };
+    let op = Op::Set(7, Bytes::copy_from_slice(alloc, data.as_slice())?);
+    let call = Call {
+        target: Target::One(key),
+        op,
+    };
+    Ok(Frame::Peer(Peer {
+        view: View::empty(),
+        body: Body::Op(1, call),
+    }))
+}

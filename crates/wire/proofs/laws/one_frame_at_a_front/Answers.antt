@@ -1,0 +1,5 @@
+use Rattle.wire.proofs.FrontLaws.{one_frame}
+use Rattle.wire.proofs.laws.one_frame_at_a_front.Goals as goal
+
+pub returns : goal.returns
+returns c = one_frame

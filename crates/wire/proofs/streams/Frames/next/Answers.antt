@@ -1,0 +1,108 @@
+use Rattle.std.proofs.Common.{◌≡◌, ◌-◌, ℕ, length, drop, Ok, Err, refl, ap, sym, subst, ◌∙◌, arith}
+use Rattle.wire.specs.declared.fields.Stop.TheVariants.{Short, Malformed, Old}
+use Rattle.wire.specs.Grammar.{IsFirst, IsMalformed, IsOld, IsPartial}
+use Rattle.wire.specs.Fronts.{front}
+use Rattle.wire.specs.Streams.{Held, next_of, taken}
+use Rattle.wire.proofs.Readers.{IsBytes}
+use Rattle.wire.proofs.FrontLaws.{first_from, malformed_from, old_from, partial_from, frame_not_malformed, frame_not_old, front_takes, rest_behind, waiting, stopped_is, wanted_not_malformed, wanted_not_old}
+use Rattle.wire.proofs.streams.Frames.next.Goals as goal
+
+waited : (c : goal.Then-self-gt0) → IsPartial c.args.self.now.unread
+waited c =
+    partial_from c.args.self.now.unread c.self.inside.missing
+    (ap (λ (h : Held). front h.unread) (sym c.self.view_is) ∙ waiting c.self.inside.missing c.self.inside.unread.items c.if-self-gt0.true c.self.invariant)
+
+pub returns-then-self-gt0-clause-none : goal.returns-then-self-gt0-clause-none
+returns-then-self-gt0-clause-none c = waited c
+
+pub returns-then-self-gt0-clause-malformed : goal.returns-then-self-gt0-clause-malformed
+returns-then-self-gt0-clause-malformed c = (λ e. absurd cc, λ m. absurd ((waited c).not_malformed m))
+
+pub returns-then-self-gt0-clause-old_format : goal.returns-then-self-gt0-clause-old_format
+returns-then-self-gt0-clause-old_format c = (λ e. absurd cc, λ o. absurd ((waited c).not_old o))
+
+pub overflow_sub-taken : goal.overflow_sub-taken
+overflow_sub-taken c =
+    let less = front_takes c.as_slice.result.now c.in-Ok.frame c.in-Ok.rest.now c.in-Ok.ensures.gives in
+    let same = ap length c.as_slice.ensures in
+    let len = c.len.ensures.value in
+    omega arith
+
+-- the frame that was read, of the bytes as they lie
+first : (c : goal.After-advance) → IsFirst c.in-Ok.frame c.self.inside.unread.items c.in-Ok.rest.now
+first c =
+    first_from c.self.inside.unread.items c.in-Ok.frame c.in-Ok.rest.now
+    (subst IsBytes c.as_slice.ensures c.front.ensures.bytes)
+    (ap front (sym c.as_slice.ensures) ∙ c.in-Ok.ensures.gives)
+
+-- what is left
+left_is : (c : goal.After-advance) → c.advance.new.self.items ≡ c.in-Ok.rest.now
+left_is c =
+    c.advance.ensures.items ∙ ap (λ (n : ℕ). drop (n - length c.in-Ok.rest.now) c.self.inside.unread.items) c.len.ensures.value
+    ∙ rest_behind c.self.inside.unread.items c.in-Ok.frame c.in-Ok.rest.now (first c)
+
+pub returns-in-Ok-clause-frame : goal.returns-in-Ok-clause-frame
+returns-in-Ok-clause-frame c =
+    subst (λ (h : Held). IsFirst c.in-Ok.frame h.unread c.advance.new.self.items) c.self.view_is
+    (subst (λ rest. IsFirst c.in-Ok.frame c.self.inside.unread.items rest) (sym (left_is c)) (first c))
+
+pub returns-in-Ok-clause-left : goal.returns-in-Ok-clause-left
+returns-in-Ok-clause-left c = λ _.
+    let view : Held = record { unread = c.self.inside.unread.items; closed = c.self.inside.closed } in
+    ap (λ rest. record view { unread = rest }) (left_is c)
+    ∙ ap (λ r. (taken view r).1) (sym (ap front (sym c.as_slice.ensures) ∙ c.in-Ok.ensures.gives))
+    ∙ ap (λ (h : Held). (next_of h).1) c.self.view_is
+
+read_ok : (c : goal.After-advance) → front c.args.self.now.unread ≡ Ok (c.in-Ok.frame, c.in-Ok.rest.now)
+read_ok c = ap (λ (h : Held). front h.unread) (sym c.self.view_is) ∙ ap front (sym c.as_slice.ensures) ∙ c.in-Ok.ensures.gives
+
+pub returns-in-Ok-clause-malformed : goal.returns-in-Ok-clause-malformed
+returns-in-Ok-clause-malformed c = (λ e. absurd cc, λ m. absurd (frame_not_malformed _ _ (read_ok c) m))
+
+pub returns-in-Ok-clause-old_format : goal.returns-in-Ok-clause-old_format
+returns-in-Ok-clause-old_format c = (λ e. absurd cc, λ o. absurd (frame_not_old _ _ (read_ok c) o))
+
+held_bytes : (c : goal.In-Err-Memory) → c.as_slice.result.now ≡ c.args.self.now.unread
+held_bytes c = c.as_slice.ensures ∙ ap (λ (h : Held). h.unread) c.self.view_is
+
+pub returns-in-Err-Memory-clause-malformed : goal.returns-in-Err-Memory-clause-malformed
+returns-in-Err-Memory-clause-malformed c =
+    (λ e. absurd cc, λ m. absurd (wanted_not_malformed _ _ c.in-Err-Memory.field-0-is c.in-Err-Memory.ensures.gives (subst IsMalformed (sym (held_bytes c)) m)))
+
+pub returns-in-Err-Memory-clause-old_format : goal.returns-in-Err-Memory-clause-old_format
+returns-in-Err-Memory-clause-old_format c =
+    (λ e. absurd cc, λ o. absurd (wanted_not_old _ _ c.in-Err-Memory.field-0-is c.in-Err-Memory.ensures.gives (subst IsOld (sym (held_bytes c)) o)))
+
+read_short : (c : goal.After-self-1) → front c.args.self.now.unread ≡ Err (Short c.in-Err-Stopped-Short.missing)
+read_short c = ap (λ (h : Held). front h.unread) (sym c.self.view_is) ∙ ap front (sym c.as_slice.ensures) ∙ stopped_is _ _ (Short c.in-Err-Stopped-Short.missing) _ c.in-Err-Stopped-Short.field-0-is c.in-Err-Stopped-Short.field-0-0-is c.in-Err-Stopped-Short.ensures.gives
+
+pub returns-in-Err-Stopped-Short-clause-none : goal.returns-in-Err-Stopped-Short-clause-none
+returns-in-Err-Stopped-Short-clause-none c = partial_from c.args.self.now.unread c.in-Err-Stopped-Short.missing (read_short c)
+
+pub returns-in-Err-Stopped-Short-clause-malformed : goal.returns-in-Err-Stopped-Short-clause-malformed
+returns-in-Err-Stopped-Short-clause-malformed c = (λ e. absurd cc, λ m. absurd ((partial_from c.args.self.now.unread c.in-Err-Stopped-Short.missing (read_short c)).not_malformed m))
+
+pub returns-in-Err-Stopped-Short-clause-old_format : goal.returns-in-Err-Stopped-Short-clause-old_format
+returns-in-Err-Stopped-Short-clause-old_format c = (λ e. absurd cc, λ o. absurd ((partial_from c.args.self.now.unread c.in-Err-Stopped-Short.missing (read_short c)).not_old o))
+
+bad_is : (c : goal.After-self-in-Err-Stopped-Malformed-1) → IsMalformed c.args.self.now.unread
+bad_is c =
+    subst (λ (h : Held). IsMalformed h.unread) c.self.view_is
+    (malformed_from c.self.inside.unread.items (subst IsBytes c.as_slice.ensures c.front.ensures.bytes) (ap front (sym c.as_slice.ensures) ∙ stopped_is _ _ Malformed _ c.in-Err-Stopped-Malformed.field-0-is c.in-Err-Stopped-Malformed.field-0-0-is c.in-Err-Stopped-Malformed.ensures.gives))
+
+pub returns-in-Err-Stopped-Malformed-clause-malformed : goal.returns-in-Err-Stopped-Malformed-clause-malformed
+returns-in-Err-Stopped-Malformed-clause-malformed c = (λ e. bad_is c, λ m. refl)
+
+pub returns-in-Err-Stopped-Malformed-clause-old_format : goal.returns-in-Err-Stopped-Malformed-clause-old_format
+returns-in-Err-Stopped-Malformed-clause-old_format c = (λ e. absurd cc, λ o. absurd ((bad_is c).not_old o))
+
+old_is : (c : goal.After-self-in-Err-Stopped-Old-1) → IsOld c.args.self.now.unread
+old_is c =
+    subst (λ (h : Held). IsOld h.unread) c.self.view_is
+    (old_from c.self.inside.unread.items (ap front (sym c.as_slice.ensures) ∙ stopped_is _ _ Old _ c.in-Err-Stopped-Old.field-0-is c.in-Err-Stopped-Old.field-0-0-is c.in-Err-Stopped-Old.ensures.gives))
+
+pub returns-in-Err-Stopped-Old-clause-malformed : goal.returns-in-Err-Stopped-Old-clause-malformed
+returns-in-Err-Stopped-Old-clause-malformed c = (λ e. absurd cc, λ m. absurd (m.not_old (old_is c)))
+
+pub returns-in-Err-Stopped-Old-clause-old_format : goal.returns-in-Err-Stopped-Old-clause-old_format
+returns-in-Err-Stopped-Old-clause-old_format c = (λ e. old_is c, λ o. refl)

@@ -1,0 +1,5 @@
+pub mod Spellings
+pub mod Parts
+pub mod Grammar
+pub mod Fronts
+pub mod Streams

@@ -1,0 +1,167 @@
+-- The bytes of each frame, and which frames have bytes (this project's rule).
+use Rattle.std.specs.Prelude.{◌≡◌, ℕ, ◌<◌, ◌≤◌, ◌^◌, List, [], ◌∷◌, ◌++◌, length, true}
+use Rattle.std.specs.Int.{w16, w32, w64, to_be_bytes}
+use Rattle.table.specs.Keys.{IsKey}
+use Rattle.table.specs.Operations.{is_update}
+use Rattle.table.specs.declared.operations.Target.{Target}
+use Rattle.table.specs.declared.operations.Target.TheVariants.{One, All}
+use Rattle.table.specs.declared.operations.Op.{Op}
+use Rattle.table.specs.declared.operations.Op.TheVariants.{Read, Set, Add, Replace, Append, Prepend, Cas, Incr, Decr, Delete, Flush}
+use Rattle.table.specs.declared.operations.Reply.{Reply}
+use Rattle.table.specs.declared.operations.Reply.TheVariants.{Stored, NotStored, Exists, NotFound, Deleted, Number, Value, TooLarge, NotNumber, Flushed}
+use Rattle.table.specs.declared.operations.Change.{Change}
+use Rattle.table.specs.declared.operations.Change.TheVariants.{Keep, Put, Drop, Clear}
+use Rattle.versions.specs.Entries.{LogEntry, IsEntry}
+use Rattle.node.specs.Lawful.{IsCall}
+use Rattle.node.specs.declared.messages.Body.{Body}
+use Rattle.node.specs.declared.messages.Body.TheVariants as bodies
+use Rattle.wire.specs.declared.frames.Frame.{Frame}
+use Rattle.wire.specs.declared.frames.Frame.TheVariants.{Hello, Peer, Gone}
+
+-- a number of eight bytes, the most significant byte first
+abbrev pub long : ℕ → List ℕ
+long n = to_be_bytes w64 n
+
+-- a number of four bytes
+abbrev pub word : ℕ → List ℕ
+word n = to_be_bytes w32 n
+
+-- a key: a byte of length, and so many bytes
+abbrev pub key_spelling : List ℕ → List ℕ
+key_spelling key = length key ∷ key
+
+-- a length of 0 stands for all keys
+abbrev pub target_spelling : Target → List ℕ
+target_spelling (One key) = key_spelling key
+target_spelling All = 0 ∷ []
+
+-- an item's data: four bytes of length, and so many bytes
+abbrev pub block_spelling : List ℕ → List ℕ
+block_spelling bytes = word (length bytes) ++ bytes
+
+-- an operation: a code and what it takes; a read is never sent
+abbrev pub op_spelling : Op → List ℕ
+op_spelling Read = []
+op_spelling (Set flags bytes) = 1 ∷ (word flags ++ block_spelling bytes)
+op_spelling (Add flags bytes) = 2 ∷ (word flags ++ block_spelling bytes)
+op_spelling (Replace flags bytes) = 3 ∷ (word flags ++ block_spelling bytes)
+op_spelling (Append bytes) = 4 ∷ block_spelling bytes
+op_spelling (Prepend bytes) = 5 ∷ block_spelling bytes
+op_spelling (Cas flags bytes unique) = 6 ∷ (word flags ++ (long unique ++ block_spelling bytes))
+op_spelling (Incr amount) = 7 ∷ long amount
+op_spelling (Decr amount) = 8 ∷ long amount
+op_spelling Delete = 9 ∷ []
+op_spelling Flush = 10 ∷ []
+
+-- a reply: a code, and a counter's value; an item is never a reply to an update, so 7 stands for nothing
+abbrev pub reply_spelling : Reply → List ℕ
+reply_spelling Stored = 1 ∷ []
+reply_spelling NotStored = 2 ∷ []
+reply_spelling Exists = 3 ∷ []
+reply_spelling NotFound = 4 ∷ []
+reply_spelling Deleted = 5 ∷ []
+reply_spelling (Number n) = 6 ∷ long n
+reply_spelling (Value item) = []
+reply_spelling TooLarge = 8 ∷ []
+reply_spelling NotNumber = 9 ∷ []
+reply_spelling Flushed = 10 ∷ []
+
+-- a change: a code, and what is put; a put item's unique isn't spelled, since it is the entry's number
+abbrev pub change_spelling : Change → List ℕ
+change_spelling Keep = 0 ∷ []
+change_spelling (Put item) = 1 ∷ (word item.flags ++ block_spelling item.bytes)
+change_spelling Drop = 2 ∷ []
+change_spelling Clear = 3 ∷ []
+
+-- an entry: its number, origin, id, target, reply and change
+abbrev pub entry_spelling : LogEntry → List ℕ
+entry_spelling e =
+    long e.number ++ (e.origin ∷ (long e.id ++ (target_spelling e.target ++ (reply_spelling e.reply ++ change_spelling e.change))))
+
+-- the kind of a body
+abbrev pub kind_of : Body → ℕ
+kind_of (bodies.Op id call) = 1
+kind_of (bodies.Forward e) = 2
+kind_of (bodies.Ack n) = 3
+kind_of (bodies.Query ask key) = 4
+kind_of (bodies.Answer ask n) = 5
+
+-- a body without its kind
+abbrev pub body_spelling : Body → List ℕ
+body_spelling (bodies.Op id call) = long id ++ (target_spelling call.target ++ op_spelling call.op)
+body_spelling (bodies.Forward e) = entry_spelling e
+body_spelling (bodies.Ack n) = long n
+body_spelling (bodies.Query ask key) = long ask ++ key_spelling key
+body_spelling (bodies.Answer ask n) = long ask ++ long n
+
+-- a frame: format, kind, view and body
+abbrev pub spelling : Frame → List ℕ
+spelling (Hello id) = 2 ∷ 0 ∷ id ∷ []
+spelling (Peer peer) = 2 ∷ kind_of peer.body ∷ (to_be_bytes w16 peer.view ++ body_spelling peer.body)
+spelling (Gone id) = 2 ∷ 6 ∷ id ∷ []
+
+-- the ranges that no type keeps: ids and asks are at least 1; an operation is an update that fits and suits its target
+abbrev pub IsBodyInRange : Body → Type 0
+IsBodyInRange (bodies.Op id call) = (1 ≤ id) × IsCall call × (is_update call.op ≡ true)
+IsBodyInRange (bodies.Forward e) = Unit {0}
+IsBodyInRange (bodies.Ack n) = Unit {0}
+IsBodyInRange (bodies.Query ask key) = 1 ≤ ask
+IsBodyInRange (bodies.Answer ask n) = 1 ≤ ask
+
+-- a server has an id below 16; 16 is the master, who may greet and is never gone
+abbrev pub IsInRange : Frame → Type 0
+IsInRange (Hello id) = id ≤ 16
+IsInRange (Peer peer) = IsBodyInRange peer.body
+IsInRange (Gone id) = id < 16
+
+-- a target, where a frame is seen as plain data: its key is one, as the type of keys keeps it
+abbrev pub IsTarget : Target → Type 0
+IsTarget (One key) = IsKey key
+IsTarget All = Unit {0}
+
+-- an operation's numbers have room in their bytes
+abbrev pub HasWidths : Op → Type 0
+HasWidths Read = Unit {0}
+HasWidths (Set flags bytes) = flags < 2 ^ 32
+HasWidths (Add flags bytes) = flags < 2 ^ 32
+HasWidths (Replace flags bytes) = flags < 2 ^ 32
+HasWidths (Append bytes) = Unit {0}
+HasWidths (Prepend bytes) = Unit {0}
+HasWidths (Cas flags bytes unique) = (flags < 2 ^ 32) × (unique < 2 ^ 64)
+HasWidths (Incr amount) = amount < 2 ^ 64
+HasWidths (Decr amount) = amount < 2 ^ 64
+HasWidths Delete = Unit {0}
+HasWidths Flush = Unit {0}
+
+-- a reply's number has room in its bytes
+abbrev pub HasReplyWidth : Reply → Type 0
+HasReplyWidth (Number n) = n < 2 ^ 64
+HasReplyWidth reply = Unit {0}
+
+-- a put item's flags have room in their bytes
+abbrev pub HasChangeWidth : Change → Type 0
+HasChangeWidth (Put item) = item.flags < 2 ^ 32
+HasChangeWidth change = Unit {0}
+
+-- an entry as its type keeps it, with numbers that have room in their bytes
+pub record IsWireEntry (e : LogEntry) : Type 0 where
+  pub entry : IsEntry e
+  pub number : e.number < 2 ^ 64
+  pub id : e.id < 2 ^ 64
+  pub target : IsTarget e.target
+  pub reply : HasReplyWidth e.reply
+  pub change : HasChangeWidth e.change
+
+-- a body all of whose fields are in their ranges
+abbrev pub IsBody : Body → Type 0
+IsBody (bodies.Op id call) = (1 ≤ id) × (id < 2 ^ 64) × IsTarget call.target × IsCall call × (is_update call.op ≡ true) × HasWidths call.op
+IsBody (bodies.Forward e) = IsWireEntry e
+IsBody (bodies.Ack n) = n < 2 ^ 64
+IsBody (bodies.Query ask key) = (1 ≤ ask) × (ask < 2 ^ 64) × IsKey key
+IsBody (bodies.Answer ask n) = (1 ≤ ask) × (ask < 2 ^ 64) × (n < 2 ^ 64)
+
+-- a frame all of whose fields are in their ranges
+abbrev pub IsFrame : Frame → Type 0
+IsFrame (Hello id) = id ≤ 16
+IsFrame (Peer peer) = (peer.view < 2 ^ 16) × IsBody peer.body
+IsFrame (Gone id) = id < 16

@@ -1,0 +1,41 @@
+//! Frames: what servers tell each other on a connection.
+ghost use Rattle.std.specs.Prelude.{◌↔◌, IsTrue};
+ghost use Rattle.wire.specs.Spellings.{IsBodyInRange, IsInRange};
+
+use node::{Body, Peer};
+
+/// What stands on a connection between servers, one after another.
+#[derive(Clone, Debug, Drop)]
+pub enum Frame {
+    /// Who speaks here: a server by its id, below 16, or the master by 16. It stands first.
+    Hello(u8),
+    /// A message from one server to another.
+    Peer(Peer),
+    /// The master's notice that the server of this id, below 16, has failed.
+    Gone(u8),
+}
+
+impl Frame {
+    /// Whether all its fields are in their ranges, so that it has a spelling.
+    pub fn is_in_range(&self) -> bool
+        ensures { IsTrue result ↔ IsInRange self.now }
+    {
+        match self {
+            Frame::Hello(id) => *id <= 16,
+            Frame::Peer(peer) => is_body_in_range(&peer.body),
+            Frame::Gone(id) => *id < 16,
+        }
+    }
+}
+
+fn is_body_in_range(body: &Body) -> bool
+    ensures { IsTrue result ↔ IsBodyInRange body.now }
+{
+    match body {
+        Body::Op(id, call) => {
+            *id >= 1 && call.op.fits() && call.op.suits(&call.target) && call.op.is_update()
+        }
+        Body::Query(ask, _) | Body::Answer(ask, _) => *ask >= 1,
+        Body::Forward(_) | Body::Ack(_) => true,
+    }
+}

@@ -1,0 +1,35 @@
+//! Laws of the format: one spelling a frame, none a beginning of another, and what is read is what was written.
+ghost use Rattle.std.specs.Prelude.{◌≡◌, ◌↔◌, List, ℕ, ◌++◌};
+ghost use Rattle.std.specs.List.{AllByRecursion, flat_map};
+ghost use Rattle.wire.specs.declared.frames.Frame.{Frame};
+ghost use Rattle.wire.specs.Spellings.{IsFrame, spelling};
+ghost use Rattle.wire.specs.Grammar.{IsFirst, IsMalformed, frame};
+ghost use Rattle.wire.specs.Streams.{Action, driven, frames_in, fresh, stream_of};
+
+/// The format, field by field, spells each frame that is in range, by its one spelling, and nothing else.
+pub fn format_is_spelling()
+    ensures { (f : Frame) (bytes : List ℕ) → frame.Spells f bytes ↔ (IsFrame f × (bytes ≡ spelling f)) }
+{}
+
+/// No spelling begins another, and no bytes spell two frames: at most one frame stands at the front of a stream.
+pub fn one_frame_at_a_front()
+    ensures { (f g : Frame) (bytes more others : List ℕ) → IsFirst f bytes more → IsFirst g bytes others → (f ≡ g) × (more ≡ others) }
+{}
+
+/// Where a field is out of its range no frame is read, whatever comes behind it.
+pub fn bad_front_is_final()
+    ensures { (f : Frame) (bytes more rest : List ℕ) → IsMalformed bytes → IsFirst f (bytes ++ more) rest → ⊥ }
+{}
+
+/// The frames that a reader gave, and those that it has still to give, are those of all its bytes as one stream:
+/// they do not depend on how the stream was cut, nor on when the reader was asked.
+pub fn any_cutting()
+    ensures { (actions : List Action) →
+        (driven fresh actions).0 ++ frames_in (driven fresh actions).1.unread ≡ frames_in (stream_of actions) }
+{}
+
+/// What was written is read again, whatever follows it, and however all of it is cut.
+pub fn written_is_read()
+    ensures { (actions : List Action) (fs : List Frame) (more : List ℕ) → AllByRecursion IsFrame fs → stream_of actions ≡ flat_map spelling fs ++ more →
+        (driven fresh actions).0 ++ frames_in (driven fresh actions).1.unread ≡ fs ++ frames_in more }
+{}

@@ -1,0 +1,297 @@
+//! The bytes of frames. There is room for all of a frame before its first byte is written, so that nothing is refused halfway.
+ghost use Rattle.std.specs.Prelude.{◌≡◌, ◌+◌, ◌≤◌, ◌<◌, ◌++◌, ◌∷◌, true, false, length, IfOk, OnOk, OnErr, IsOkUnless};
+ghost use Rattle.table.specs.Items.{limit};
+ghost use Rattle.table.specs.Operations.{Fits, is_update, is_value};
+ghost use Rattle.wire.specs.Spellings.{IsBodyInRange, IsInRange, block_spelling, body_spelling, change_spelling, entry_spelling, key_spelling, kind_of, op_spelling, reply_spelling, spelling, target_spelling, long, word};
+
+use crate::{Frame, WireFault};
+use bytes::{Bytes, BytesMut};
+use node::{Body, View};
+use std::alloc::Global;
+use table::{Change, Key, Op, Reply, Target};
+use versions::Entry;
+
+/// The one spelling of a frame.
+pub fn encode(alloc: Global, frame: &Frame) -> Result<Vec<u8>, WireFault>
+    requires range { IsInRange frame.now }
+    ensures spelling { IfOk result (λ bytes. bytes.items ≡ spelling frame.now) }
+    ensures only_memory { IsOkUnless result WireFault.Memory }
+{
+    let mut out = BytesMut::new(alloc);
+    encode_onto(&mut out, frame)?;
+    Ok(out.into_vec()?)
+}
+
+/// The same at the end of a buffer, where many frames are to be written. An item's data is copied once.
+pub fn encode_onto(out: &mut BytesMut, frame: &Frame) -> Result<(), WireFault>
+    requires range { IsInRange frame.now }
+    ensures ok { OnOk result (out.new.items ≡ out.old.items ++ spelling frame.now) }
+    ensures only_memory { IsOkUnless result WireFault.Memory }
+    ensures err { OnErr result (out.new.items ≡ out.old.items) }
+{
+    out.reserve(size(frame))?;
+    put(out, frame);
+    Ok(())
+}
+
+// How many bytes a frame has.
+fn size(frame: &Frame) -> usize
+    requires range { IsInRange frame.now }
+    ensures { result ≡ length (spelling frame.now) }
+{
+    match frame {
+        Frame::Hello(_) | Frame::Gone(_) => 3,
+        Frame::Peer(peer) => 4 + body_size(&peer.body),
+    }
+}
+
+fn body_size(body: &Body) -> usize
+    requires range { IsBodyInRange body.now }
+    ensures size { result ≡ length (body_spelling body.now) }
+    ensures bound { result < 2000000 }
+{
+    match body {
+        Body::Op(_, call) => 8 + target_size(&call.target) + op_size(&call.op),
+        Body::Forward(entry) => {
+            17 + target_size(entry.target()) + reply_size(entry.reply()) + change_size(entry)
+        }
+        Body::Ack(_) => 8,
+        Body::Query(_, key) => 9 + key.bytes().len(),
+        Body::Answer(..) => 16,
+    }
+}
+
+fn target_size(target: &Target) -> usize
+    ensures size { result ≡ length (target_spelling target.now) }
+    ensures bound { result ≤ 251 }
+{
+    match target {
+        Target::One(key) => 1 + key.bytes().len(),
+        Target::All => 1,
+    }
+}
+
+fn op_size(op: &Op) -> usize
+    requires fits { Fits op.now }
+    requires update { is_update op.now ≡ true }
+    ensures size { result ≡ length (op_spelling op.now) }
+    ensures bound { result ≤ 17 + limit }
+{
+    match op {
+        Op::Set(_, bytes) | Op::Add(_, bytes) | Op::Replace(_, bytes) => 9 + bytes.len(),
+        Op::Append(bytes) | Op::Prepend(bytes) => 5 + bytes.len(),
+        Op::Cas(_, bytes, _) => 17 + bytes.len(),
+        Op::Incr(_) | Op::Decr(_) => 9,
+        Op::Delete | Op::Flush => 1,
+        Op::Read => 0,
+    }
+}
+
+fn reply_size(reply: &Reply) -> usize
+    requires no_item { is_value reply.now ≡ false }
+    ensures size { result ≡ length (reply_spelling reply.now) }
+    ensures bound { result ≤ 9 }
+{
+    match reply {
+        Reply::Number(_) => 9,
+        Reply::Value(_) => 0,
+        Reply::Stored
+        | Reply::NotStored
+        | Reply::Exists
+        | Reply::NotFound
+        | Reply::Deleted
+        | Reply::TooLarge
+        | Reply::NotNumber
+        | Reply::Flushed => 1,
+    }
+}
+
+fn change_size(entry: &Entry) -> usize
+    ensures size { result ≡ length (change_spelling entry.now.change) }
+    ensures bound { result ≤ 9 + limit }
+{
+    match entry.change() {
+        Change::Put(item) => 9 + item.bytes.len(),
+        Change::Keep | Change::Drop | Change::Clear => 1,
+    }
+}
+
+// Writes a frame.
+fn put(out: &mut BytesMut, frame: &Frame)
+    requires range { IsInRange frame.now }
+    requires room { length (spelling frame.now) ≤ out.old.spare }
+    ensures { out.new.items ≡ out.old.items ++ spelling frame.now }
+{
+    match frame {
+        Frame::Hello(id) => out.extend_reserved(&[2, 0, *id]),
+        Frame::Peer(peer) => {
+            out.extend_reserved(&[2, kind_of(&peer.body)]);
+            out.extend_reserved(&peer.view.bits().to_be_bytes());
+            put_body(out, &peer.body);
+        }
+        Frame::Gone(id) => out.extend_reserved(&[2, 6, *id]),
+    }
+}
+
+fn kind_of(body: &Body) -> u8
+    ensures { result ≡ kind_of body.now }
+{
+    match body {
+        Body::Op(..) => 1,
+        Body::Forward(_) => 2,
+        Body::Ack(_) => 3,
+        Body::Query(..) => 4,
+        Body::Answer(..) => 5,
+    }
+}
+
+fn put_body(out: &mut BytesMut, body: &Body)
+    requires range { IsBodyInRange body.now }
+    requires room { length (body_spelling body.now) ≤ out.old.spare }
+    ensures { out.new.items ≡ out.old.items ++ body_spelling body.now }
+{
+    match body {
+        Body::Op(id, call) => {
+            out.extend_reserved(&id.to_be_bytes());
+            put_target(out, &call.target);
+            put_op(out, &call.op);
+        }
+        Body::Forward(entry) => put_entry(out, entry),
+        Body::Ack(n) => out.extend_reserved(&n.to_be_bytes()),
+        Body::Query(ask, key) => {
+            out.extend_reserved(&ask.to_be_bytes());
+            put_key(out, key);
+        }
+        Body::Answer(ask, n) => {
+            out.extend_reserved(&ask.to_be_bytes());
+            out.extend_reserved(&n.to_be_bytes());
+        }
+    }
+}
+
+fn put_entry(out: &mut BytesMut, entry: &Entry)
+    requires room { length (entry_spelling entry.now) ≤ out.old.spare }
+    ensures { out.new.items ≡ out.old.items ++ entry_spelling entry.now }
+{
+    out.extend_reserved(&entry.number().to_be_bytes());
+    out.extend_reserved(&[entry.origin()]);
+    out.extend_reserved(&entry.id().to_be_bytes());
+    put_target(out, entry.target());
+    put_reply(out, entry.reply());
+    put_change(out, entry);
+}
+
+fn put_target(out: &mut BytesMut, target: &Target)
+    requires room { length (target_spelling target.now) ≤ out.old.spare }
+    ensures text { out.new.items ≡ out.old.items ++ target_spelling target.now }
+    ensures room { out.new.spare + length (target_spelling target.now) ≡ out.old.spare }
+{
+    match target {
+        Target::One(key) => put_key(out, key),
+        Target::All => out.extend_reserved(&[0]),
+    }
+}
+
+fn put_key(out: &mut BytesMut, key: &Key)
+    requires room { length (key_spelling key.now) ≤ out.old.spare }
+    ensures text { out.new.items ≡ out.old.items ++ key_spelling key.now }
+    ensures room { out.new.spare + length (key_spelling key.now) ≡ out.old.spare }
+{
+    let bytes = key.bytes();
+    out.extend_reserved(&[bytes.len() as u8]);
+    out.extend_reserved(bytes);
+}
+
+fn put_op(out: &mut BytesMut, op: &Op)
+    requires fits { Fits op.now }
+    requires room { length (op_spelling op.now) ≤ out.old.spare }
+    ensures { out.new.items ≡ out.old.items ++ op_spelling op.now }
+{
+    match op {
+        Op::Read => {}
+        Op::Set(flags, bytes) => put_flagged(out, 1, *flags, bytes),
+        Op::Add(flags, bytes) => put_flagged(out, 2, *flags, bytes),
+        Op::Replace(flags, bytes) => put_flagged(out, 3, *flags, bytes),
+        Op::Append(bytes) => {
+            out.extend_reserved(&[4]);
+            put_block(out, bytes);
+        }
+        Op::Prepend(bytes) => {
+            out.extend_reserved(&[5]);
+            put_block(out, bytes);
+        }
+        Op::Cas(flags, bytes, unique) => {
+            out.extend_reserved(&[6]);
+            out.extend_reserved(&flags.to_be_bytes());
+            out.extend_reserved(&unique.to_be_bytes());
+            put_block(out, bytes);
+        }
+        Op::Incr(amount) => put_number(out, 7, *amount),
+        Op::Decr(amount) => put_number(out, 8, *amount),
+        Op::Delete => out.extend_reserved(&[9]),
+        Op::Flush => out.extend_reserved(&[10]),
+    }
+}
+
+// A code, flags and data.
+fn put_flagged(out: &mut BytesMut, code: u8, flags: u32, bytes: &Bytes)
+    requires fits { length bytes.now ≤ limit }
+    requires room { 9 + length bytes.now ≤ out.old.spare }
+    ensures { out.new.items ≡ out.old.items ++ code ∷ (word flags ++ block_spelling bytes.now) }
+{
+    out.extend_reserved(&[code]);
+    out.extend_reserved(&flags.to_be_bytes());
+    put_block(out, bytes);
+}
+
+// A length, and so many bytes.
+fn put_block(out: &mut BytesMut, bytes: &Bytes)
+    requires fits { length bytes.now ≤ limit }
+    requires room { 4 + length bytes.now ≤ out.old.spare }
+    ensures { out.new.items ≡ out.old.items ++ block_spelling bytes.now }
+{
+    out.extend_reserved(&(bytes.len() as u32).to_be_bytes());
+    out.extend_reserved(bytes.as_slice());
+}
+
+// A code and a number.
+fn put_number(out: &mut BytesMut, code: u8, n: u64)
+    requires room { 9 ≤ out.old.spare }
+    ensures text { out.new.items ≡ out.old.items ++ code ∷ long n }
+    ensures room { out.new.spare + 9 ≡ out.old.spare }
+{
+    out.extend_reserved(&[code]);
+    out.extend_reserved(&n.to_be_bytes());
+}
+
+fn put_reply(out: &mut BytesMut, reply: &Reply)
+    requires no_item { is_value reply.now ≡ false }
+    requires room { length (reply_spelling reply.now) ≤ out.old.spare }
+    ensures text { out.new.items ≡ out.old.items ++ reply_spelling reply.now }
+    ensures room { out.new.spare + length (reply_spelling reply.now) ≡ out.old.spare }
+{
+    match reply {
+        Reply::Stored => out.extend_reserved(&[1]),
+        Reply::NotStored => out.extend_reserved(&[2]),
+        Reply::Exists => out.extend_reserved(&[3]),
+        Reply::NotFound => out.extend_reserved(&[4]),
+        Reply::Deleted => out.extend_reserved(&[5]),
+        Reply::Number(n) => put_number(out, 6, *n),
+        Reply::Value(_) => {}
+        Reply::TooLarge => out.extend_reserved(&[8]),
+        Reply::NotNumber => out.extend_reserved(&[9]),
+        Reply::Flushed => out.extend_reserved(&[10]),
+    }
+}
+
+fn put_change(out: &mut BytesMut, entry: &Entry)
+    requires room { length (change_spelling entry.now.change) ≤ out.old.spare }
+    ensures { out.new.items ≡ out.old.items ++ change_spelling entry.now.change }
+{
+    match entry.change() {
+        Change::Keep => out.extend_reserved(&[0]),
+        Change::Put(item) => put_flagged(out, 1, item.flags, &item.bytes),
+        Change::Drop => out.extend_reserved(&[2]),
+        Change::Clear => out.extend_reserved(&[3]),
+    }
+}
