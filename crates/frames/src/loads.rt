@@ -30,11 +30,12 @@ pub struct Load {
     pub piece: u32,
 }
 
-/// What was done.
+/// What was done: how many bytes and frames came out, and how many bytes of data stood in the frames that were read.
 #[derive(Clone, Copy, Debug)]
 pub struct Done {
     pub bytes: u64,
     pub frames: u64,
+    pub data: u64,
 }
 
 /// Why a load isn't carried out to its end.
@@ -46,6 +47,8 @@ pub enum LoadFault {
     Wire(#[from] WireFault),
     #[error("no such frame")]
     Frame,
+    #[error("not all frames were read")]
+    Missed,
 }
 
 /// A set of so many bytes on its way to the head.
@@ -63,4 +66,23 @@ pub fn message(alloc: Global, size: u32) -> Result<Frame, LoadFault> {
         view: View::empty(),
         body: Body::Op(1, call),
     }))
+}
+
+/// How many bytes of data a set holds. No other frame holds any here.
+pub fn data_of(frame: &Frame) -> usize {
+    match frame {
+        Frame::Peer(
+            Peer {
+                body: Body::Op(
+                    _,
+                    Call {
+                        op: Op::Set(_, data),
+                        ..
+                    },
+                ),
+                ..
+            },
+        ) => data.len(),
+        _ => 0,
+    }
 }

@@ -2,12 +2,12 @@
 ghost use Rattle.std.specs.Prelude.{◌<◌};
 ghost use Rattle.wire.specs.Spellings.{IsInRange};
 
-use crate::loads::{Done, Load, LoadFault, ROUND, Work, message};
+use crate::loads::{Done, Load, LoadFault, ROUND, Work, data_of, message};
 use bytes::BytesMut;
 use std::alloc::Global;
 use wire::{Frame, Frames, encode_onto};
 
-/// Carries out a load, and tells how many bytes and frames came out.
+/// Carries out a load, and tells how many bytes and frames came out. Reading other frames than were written is a fault.
 pub fn run(alloc: Global, load: &Load) -> Result<Done, LoadFault> {
     let frame = message(alloc, load.size)?;
     if !frame.is_in_range() || load.piece == 0 {
@@ -17,7 +17,14 @@ pub fn run(alloc: Global, load: &Load) -> Result<Done, LoadFault> {
     write_round(&mut stream, &frame)?;
     match load.work {
         Work::Write => write(&mut stream, &frame, load.rounds),
-        Work::Read => read(alloc, stream.as_slice(), load.rounds, load.piece as usize),
+        Work::Read => {
+            let done = read(alloc, stream.as_slice(), load.rounds, load.piece as usize)?;
+            if is_whole(&done, load) {
+                Ok(done)
+            } else {
+                Err(LoadFault::Missed)
+            }
+        }
         Work::Copy => copy(alloc, stream.as_slice(), load.rounds),
     }
 }
@@ -39,6 +46,7 @@ fn write(out: &mut BytesMut, frame: &Frame, rounds: u32) -> Result<Done, LoadFau
     let mut done = Done {
         bytes: 0,
         frames: 0,
+        data: 0,
     };
     for _ in 0..rounds {
         write_round(out, frame)?;
@@ -53,6 +61,7 @@ fn copy(alloc: Global, stream: &[u8], rounds: u32) -> Result<Done, LoadFault> {
     let mut done = Done {
         bytes: 0,
         frames: 0,
+        data: 0,
     };
     for _ in 0..rounds {
         out.clear();
@@ -70,25 +79,32 @@ fn read(alloc: Global, stream: &[u8], rounds: u32, piece: usize) -> Result<Done,
     let mut done = Done {
         bytes: 0,
         frames: 0,
+        data: 0,
     };
     for _ in 0..rounds {
         for part in stream.chunks(piece) {
             frames.feed(part)?;
             done.bytes = done.bytes.wrapping_add(part.len() as u64);
-            done.frames = done.frames.wrapping_add(whole(&mut frames, part.len())?);
+            take_whole(&mut frames, part.len(), &mut done)?;
         }
     }
     Ok(done)
 }
 
-// How many frames are whole now. Each of them ends in the piece of so many bytes that came last.
-fn whole(frames: &mut Frames, piece: usize) -> Result<u64, LoadFault> {
-    let mut count = 0_u64;
+// Takes off the frames that are whole now. Each of them ends in the piece of so many bytes that came last.
+fn take_whole(frames: &mut Frames, piece: usize, done: &mut Done) -> Result<(), LoadFault> {
     for _ in 0..piece {
-        if frames.next()?.is_none() {
+        let Some(frame) = frames.next()? else {
             break;
-        }
-        count = count.wrapping_add(1);
+        };
+        done.frames = done.frames.wrapping_add(1);
+        done.data = done.data.wrapping_add(data_of(&frame) as u64);
     }
-    Ok(count)
+    Ok(())
+}
+
+// Whether all frames of the load were read, with all their data.
+fn is_whole(done: &Done, load: &Load) -> bool {
+    let frames = u64::from(load.rounds).wrapping_mul(u64::from(ROUND));
+    done.frames == frames && done.data == frames.wrapping_mul(u64::from(load.size))
 }

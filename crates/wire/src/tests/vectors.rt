@@ -1,0 +1,177 @@
+//! The nine vectors, both ways.
+
+use crate::{Frame, Frames, encode, encode_onto};
+use bytes::{Bytes, BytesMut};
+use node::{Body, Peer, View};
+use std::alloc::Global;
+use std::process::Abort;
+use std::test::Fail;
+use table::{Call, Change, Item, Key, Op, Reply, Target};
+use versions::Entry;
+
+fn key(alloc: Global, bytes: &[u8]) -> Result<Key, Fail> {
+    Ok(Key::new(alloc, bytes)?.ok_or("a key")?)
+}
+
+pub(super) fn on(alloc: Global, bytes: &[u8], op: Op) -> Result<Call, Fail> {
+    Ok(Call {
+        target: Target::One(key(alloc, bytes)?),
+        op,
+    })
+}
+
+pub(super) fn says(view: u16, body: Body) -> Frame {
+    Frame::Peer(Peer {
+        view: View::from_bits(view),
+        body,
+    })
+}
+
+// The frame's spelling, of a frame in its ranges.
+pub(super) fn spelled(alloc: Global, frame: &Frame) -> Result<Vec<u8>, Fail> {
+    if !frame.is_in_range() {
+        return Err("a frame in its ranges".into());
+    }
+    Ok(encode(alloc, frame)?)
+}
+
+// The bytes of the vector at this place.
+pub(super) fn vector(place: usize) -> &'static [u8] {
+    match place {
+        0 => b"\x02\x00\x03",
+        1 => b"\x02\x03\x00\x00\x00\x00\x00\x00\x00\x00\x00\x01",
+        2 => b"\x02\x04\x00\x00\x00\x00\x00\x00\x00\x00\x00\x01\x01a",
+        3 => b"\x02\x05\x00\x00\x00\x00\x00\x00\x00\x00\x00\x01\x00\x00\x00\x00\x00\x00\x00\x00",
+        4 =>
+            b"\x02\x01\x00\x01\x00\x00\x00\x00\x00\x00\x00\x02\x01n\x07\x00\x00\x00\x00\x00\x00\x00\x01",
+        5 =>
+            b"\x02\x02\x00\x00\x00\x00\x00\x00\x00\x00\x00\x01\x00\x00\x00\x00\x00\x00\x00\x00\x01\x01a\x01\x01\x00\x00\x00\x05\x00\x00\x00\x03xyz",
+        6 => b"\x02\x06\x05",
+        7 => b"\x02\x01\x00\x00\x00\x00\x00\x00\x00\x00\x00\x03\x00\x0a",
+        _ =>
+            b"\x02\x02\x00\x00\x00\x00\x00\x00\x00\x00\x00\x04\x01\x00\x00\x00\x00\x00\x00\x00\x02\x00\x0a\x03",
+    }
+}
+
+// The frame of the vector at this place.
+fn frame_at(alloc: Global, place: usize) -> Result<Frame, Fail> {
+    match place {
+        0 => Ok(Frame::Hello(3)),
+        1 => Ok(says(0, Body::Ack(1))),
+        2 => Ok(says(0, Body::Query(1, key(alloc, b"a")?))),
+        3 => Ok(says(0, Body::Answer(1, 0))),
+        4 => Ok(says(1, Body::Op(2, on(alloc, b"n", Op::Incr(1))?))),
+        5 => Ok(says(0, Body::Forward(three_bytes_put(alloc)?))),
+        6 => Ok(Frame::Gone(5)),
+        7 => Ok(says(0, Body::Op(3, flush()))),
+        _ => Ok(says(0, Body::Forward(clear()))),
+    }
+}
+
+fn flush() -> Call {
+    Call {
+        target: Target::All,
+        op: Op::Flush,
+    }
+}
+
+// Entry 4, of server 1 and its call 2.
+fn clear() -> Entry {
+    Entry::new(4, 1, 2, Target::All, Reply::Flushed, Change::Clear)
+}
+
+// Entry 1, of server 0 and its call 1.
+fn three_bytes_put(alloc: Global) -> Result<Entry, Fail> {
+    let bytes = Bytes::copy_from_slice(alloc, b"xyz")?;
+    let target = Target::One(key(alloc, b"a")?);
+    let item = Item {
+        flags: 5,
+        bytes,
+        unique: 1,
+    };
+    Ok(Entry::new(1, 0, 1, target, Reply::Stored, Change::Put(item)))
+}
+
+// The vector at this place is what its frame is written as.
+fn check_written<R: Abort + AllocGlobal>(rt: &R, place: usize) -> Result<(), Fail> {
+    let frame = frame_at(rt.alloc(), place)?;
+    assert_eq!(rt;
+        spelled(rt.alloc(), &frame)?.as_slice(),
+        vector(place),
+        "vector {place}"
+    );
+    let mut out = BytesMut::new(rt.alloc());
+    put_behind(&mut out, &frame)?;
+    put_behind(&mut out, &frame)?;
+    assert_eq!(rt;
+        out.as_slice()
+            .get(vector(place).len()..)
+            .unwrap_or_default(),
+        vector(place)
+    );
+    Ok(())
+}
+
+#[test]
+fn vectors_are_written(rt: HostRuntime) -> Result<(), Fail> {
+    for place in 0..9 {
+        check_written(&rt, place)?;
+    }
+    Ok(())
+}
+
+fn put_behind(out: &mut BytesMut, frame: &Frame) -> Result<(), Fail> {
+    if !frame.is_in_range() {
+        return Err("a frame in its ranges".into());
+    }
+    Ok(encode_onto(out, frame)?)
+}
+
+// The entry of the message that some bytes spell.
+fn entry_of(alloc: Global, bytes: &[u8]) -> Result<Entry, Fail> {
+    let mut frames = Frames::new(alloc);
+    frames.feed(bytes)?;
+    match frames.next()? {
+        Some(
+            Frame::Peer(
+                Peer {
+                    body: Body::Forward(entry),
+                    ..
+                },
+            ),
+        ) => Ok(entry),
+        _ => Err("an entry".into()),
+    }
+}
+
+fn is_three_bytes_put(entry: &Entry) -> bool {
+    let Change::Put(item) = entry.change() else {
+        return false;
+    };
+    entry.number() == 1
+        && entry.origin() == 0
+        && entry.id() == 1
+        && *entry.reply() == Reply::Stored
+        && item.flags == 5
+        && item.unique == 1
+        && item.bytes.as_slice() == b"xyz".as_slice()
+}
+
+fn is_clear(entry: &Entry) -> bool {
+    entry.number() == 4
+        && entry.origin() == 1
+        && entry.id() == 2
+        && *entry.target() == Target::All
+        && *entry.reply() == Reply::Flushed
+        && *entry.change() == Change::Clear
+}
+
+// What is read is the frame of the vector, field by field.
+#[test]
+fn fields_are_read(rt: HostRuntime) -> Result<(), Fail> {
+    let entry = entry_of(rt.alloc(), vector(5))?;
+    assert!(rt; is_three_bytes_put(&entry));
+    let entry = entry_of(rt.alloc(), vector(8))?;
+    assert!(rt; is_clear(&entry));
+    Ok(())
+}
