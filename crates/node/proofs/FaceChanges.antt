@@ -1,5 +1,5 @@
 -- The change of a step, done on the face before it, gives the face after it.
-use Rattle.std.proofs.Common.{◌≡◌, ℕ, zero, suc, ◌+◌, ◌-◌, ◌≤◌, nat_le, Bool, true, false, not, cond, List, [], ◌∷◌, ◌++◌, length, take, drop, Option, None, Some, refl, sym, ap, ◌∙◌, arith, length-take-le, drop_at}
+use Rattle.std.proofs.Common.{◌≡◌, ℕ, ◌+◌, ◌-◌, ◌≤◌, nat_le, Bool, true, false, not, cond, List, [], ◌∷◌, ◌++◌, length, take, drop, Option, None, Some, refl, sym, ap, ◌∙◌, arith, length-take-le, drop_at}
 use Rattle.std.specs.FinMap.{same_map}
 use Rattle.std.specs.Cmp.Lexicographic.{nat_list_cmp_total}
 use Rattle.std.specs.Option.{option_map}
@@ -22,6 +22,7 @@ use Rattle.node.proofs.SoundLaws.{least_within}
 use Rattle.node.proofs.RuleLaws.{good-taken_in}
 use Rattle.node.proofs.Growth.{Grows, grows-taken_in}
 use Rattle.node.proofs.FaceLaws.{Slot, slot, number_in, item_in, slot_after, slot_by, slot_by_all, slot-all, item-all, slot-is, kept, kept_clear, slot_at, slot-face_at, based_version, face_based, item_based, slot_based, slot_of, slot-raw}
+use Rattle.versions.proofs.Logs.{log-take}
 
 -- ---- what an acknowledged number takes away stays away
 
@@ -111,11 +112,6 @@ settled : (n : ℕ) (s : Slot) → s.0 ≤ number_in s.0 s.1 → number_in s.0 s
 settled n s ordered le own = pair_of _ _ _ _ (no_clear n 0 (omega arith) ∙ sym (no_clear n s.0 (omega (arith, ordered, le)))) (settled_kept n s.0 s.1 le own)
 
 -- ---- the floor follows
-
-log-take : (floor k : ℕ) (es : List LogEntry) → IsLog floor es → IsLog floor (take k es)
-log-take floor zero es log = tt
-log-take floor (suc k) [] log = tt
-log-take floor (suc k) (e ∷ es) log = (log.0, log.1, log-take (floor + 1) k es log.2)
 
 settled_front : (s : ServerState) (q : List ℕ) (k m n : ℕ) → IsSound s → m ≡ s.store.floor + k → k ≤ length s.store.rest → m ≤ n
     → slot_at n (0, option_map based_version (item_at (items_after s.store.base (take k s.store.rest)) q)) ≡ slot_at n (slot_by_all q (take k s.store.rest) (0, option_map based_version (item_at s.store.base q)))

@@ -7,7 +7,7 @@ use Rattle.std.specs.Ordering.{eq_by_cmp}
 use Rattle.std.specs.Cmp.{eq_by_cmp_equiv}
 use Rattle.std.specs.Cmp.Lexicographic.{nat_list_cmp_total}
 use Rattle.std.specs.Option.{option_map}
-use Rattle.std.proofs.lemmas.Bool.{le-leb, lt-leb, leb-true}
+use Rattle.std.proofs.lemmas.Bool.{le-leb, lt-leb, leb-true, and_right}
 use Rattle.std.proofs.lemmas.List.{take_all}
 use Rattle.table.specs.Keys.{key_cmp}
 use Rattle.table.specs.Plain.{Items, item_at, changed}
@@ -136,15 +136,11 @@ slot-is q low high (e ∷ es) s is log h =
 none_below : (n acked : ℕ) (r : Bool) → acked < n → (nat_le n acked && r) ≡ false
 none_below n acked r above = rw (lt-leb n acked above) refl
 
-never : (b : Bool) → (b && false) ≡ false
-never true = refl
-never false = refl
-
 newer_step : (clear set : Bool) (number : ℕ) (item : Option Item) (acked : ℕ) (s : Slot) (r : Bool) → acked < number
     → (nat_le (number_in (slot_after clear set number item s).0 (slot_after clear set number item s).1) acked && not r) ≡ (nat_le (number_in s.0 s.1) acked && not ((set || clear) || r))
-newer_step true true number item acked s r above = none_below number acked (not r) above ∙ sym (never _)
-newer_step true false number item acked s r above = none_below number acked (not r) above ∙ sym (never _)
-newer_step false true number item acked s r above = none_below number acked (not r) above ∙ sym (never _)
+newer_step true true number item acked s r above = none_below number acked (not r) above ∙ sym (and_right _ false refl)
+newer_step true false number item acked s r above = none_below number acked (not r) above ∙ sym (and_right _ false refl)
+newer_step false true number item acked s r above = none_below number acked (not r) above ∙ sym (and_right _ false refl)
 newer_step false false number item acked s r above = refl
 
 both : (b : Bool) → b ≡ (b && true)

@@ -16,8 +16,8 @@ use Rattle.node.specs.Servers.{ServerState, Outcome, head_of, tail_of, is_head, 
 use Rattle.node.specs.Numbering.{open_update, left_open_by, replied, reply_to, replies, newly_acked, rise, appended, passed_on, is_taken, entry_of, take_update}
 use Rattle.node.specs.Joining.{sent_again, promoted_to_head, promoted_to_tail, forwarded, needed_above, caught_up, acked_to_predecessor, replies_to, asked_again, asks_renewed}
 use Rattle.node.specs.Lawful.{IsBody, HasEntry, AreUpdates, AreReads, IsSound, IsCall, AreFit}
-use Rattle.node.proofs.SoundLaws.{log-drop}
 use Rattle.node.proofs.RuleLaws.{entry_of-valid}
+use Rattle.versions.proofs.Logs.{log-drop}
 
 pub fit_append : (xs ys : List Output) → AreFit xs → AreFit ys → AreFit (xs ++ ys)
 fit_append [] ys h g = g

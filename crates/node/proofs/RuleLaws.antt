@@ -396,7 +396,7 @@ good-taken_in s (Called port made) fit valid g = good-call s port made fit g
 good-taken_in s (From i peer) fit valid g = good-from_peer s i peer fit valid g
 good-taken_in s (Gone j) fit valid g = good-gone s j g
 
-last-dropped : (s : StoreState) (n : ℕ) → s.floor ≤ n → n ≤ last_number s → last_number (dropped_to s n) ≡ last_number s
+pub last-dropped : (s : StoreState) (n : ℕ) → s.floor ≤ n → n ≤ last_number s → last_number (dropped_to s n) ≡ last_number s
 last-dropped s n low high = let l : length (drop (n - s.floor) s.rest) ≡ length s.rest - (n - s.floor) = length-drop (n - s.floor) s.rest in omega (arith, l)
 
 pub lawful-trimmed : (s : ServerState) → IsGood s → IsLawful (trimmed s)

@@ -1,5 +1,5 @@
 -- What every server keeps within a step: each change of a server keeps it.
-use Rattle.std.proofs.Common.{◌≡◌, ℕ, zero, suc, ◌+◌, ◌-◌, ◌<◌, ◌≤◌, ◌==◌, Bool, true, false, cond, List, [], ◌∷◌, ◌++◌, length, take, drop, get_or, Option, Some, None, refl, sym, ◌∙◌, arith, length-append, length-drop, length-set, length-take-le}
+use Rattle.std.proofs.Common.{◌≡◌, ℕ, ◌+◌, ◌-◌, ◌<◌, ◌≤◌, ◌==◌, Bool, true, false, cond, List, [], ◌∷◌, ◌++◌, length, take, drop, get_or, Option, Some, None, refl, sym, ◌∙◌, arith, length-append, length-drop, length-set, length-take-le}
 use Rattle.std.specs.List.{find}
 use Rattle.std.proofs.lemmas.Option.{same_Some}
 use Rattle.table.specs.Operations.{is_update}
@@ -25,6 +25,7 @@ use Rattle.node.specs.Joining.{widened}
 use Rattle.node.specs.Steps.{least_open, trimmed}
 use Rattle.node.specs.Lawful.{IsCall, AreUpdates, AreReads, IsSound}
 use Rattle.node.proofs.ViewLaws.{has-union, below-union}
+use Rattle.versions.proofs.Logs.{log-take, log-drop, log-push}
 
 -- ---- own calls
 
@@ -49,10 +50,14 @@ left_step : (b : Bool) (us : List OpenUpdate) (next_id id : ℕ) → AreUpdates 
 left_step true us next_id id h = updates-without 0 us next_id id h
 left_step false us next_id id h = h
 
+-- an acknowledged entry may close one
+pub updates-left : (id : ℕ) (us : List OpenUpdate) (next_id : ℕ) (e : LogEntry) → AreUpdates 0 us next_id → AreUpdates 0 (left_open_by id us e) next_id
+updates-left id us next_id e h = left_step _ us next_id e.id h
+
 pub updates-left_open : (id : ℕ) (es : List LogEntry) (us : List OpenUpdate) (next_id : ℕ) → AreUpdates 0 us next_id → AreUpdates 0 (left_open id us es) next_id
 unfolding left_open
 updates-left_open id [] us next_id h = h
-updates-left_open id (e ∷ es) us next_id h = updates-left_open id es (left_open_by id us e) next_id (left_step _ us next_id e.id h)
+updates-left_open id (e ∷ es) us next_id h = updates-left_open id es (left_open_by id us e) next_id (updates-left id us next_id e h)
 
 -- one more waits, under the next id
 pub updates-push : (above : ℕ) (us : List OpenUpdate) (u : OpenUpdate) → IsCall u.call → is_update u.call.op ≡ true → AreUpdates above us u.id → AreUpdates above (us ++ u ∷ []) (u.id + 1)
@@ -120,15 +125,6 @@ reads-least above mark (r ∷ rs) next_ask acked h = (h.0, omega arith, h.2)
 
 -- ---- entries and items
 
-pub log-drop : (floor k n : ℕ) (es : List LogEntry) → n ≡ floor + k → IsLog floor es → IsLog n (drop k es)
-log-drop floor zero n es is log = let same : n ≡ floor = omega arith in rw same log
-log-drop floor (suc k) n [] is log = tt
-log-drop floor (suc k) n (e ∷ es) is log = log-drop (floor + 1) k n es (omega arith) log.2
-
-log-push : (floor : ℕ) (es : List LogEntry) (e : LogEntry) → IsEntry e → e.number ≡ floor + length es + 1 → IsLog floor es → IsLog floor (es ++ e ∷ [])
-log-push floor [] e valid next log = (valid, omega arith, tt)
-log-push floor (f ∷ es) e valid next log = (log.0, log.1, log-push (floor + 1) es e valid (omega arith) log.2)
-
 pub store-pushed : (s : StoreState) (e : LogEntry) → IsEntry e → e.number ≡ last_number s + 1 → IsStore s → IsStore (pushed s e)
 store-pushed s e valid next h = record {
   log = log-push s.floor s.rest e valid next h.log;
@@ -174,11 +170,6 @@ put-after : (floor n : ℕ) (es : List LogEntry) (items : Items) → n ≡ floor
 put-after floor n [] items is log h = λ key item e. omega (arith, h key item e)
 put-after floor n (e ∷ es) items is log h = put-after (floor + 1) n es (changed items e.target e.change) (omega arith) log.2 (put-changed items e.target e.change floor e.number log.1 log.0.put h)
 
-log-take : (floor k : ℕ) (es : List LogEntry) → IsLog floor es → IsLog floor (take k es)
-log-take floor zero es log = tt
-log-take floor (suc k) [] log = tt
-log-take floor (suc k) (e ∷ es) log = (log.0, log.1, log-take (floor + 1) k es log.2)
-
 -- at a number up to the last, each item was put under a number up to it
 pub put-at : (s : StoreState) (n : ℕ) → s.floor ≤ n → n ≤ last_number s → IsStore s → IsPutBy s.base s.floor → IsPutBy (items_at s n) n
 put-at s n low high h put =
@@ -219,23 +210,9 @@ sound-appended s e valid next h = record {
   reads = h.reads;
 }
 
-pub sound-risen : (s : ServerState) (n : ℕ) → s.store.acked ≤ n → n ≤ last_number s.store → IsSound s → IsSound (risen s n)
-unfolding risen
-sound-risen s n low high h = record {
-  placed = h.placed;
-  counted = h.counted;
-  outside = h.outside;
-  within = h.within;
-  store = store-acked s.store n low high h.store;
-  based = h.based;
-  seen = h.seen;
-  updates = updates-left_open s.id (newly_acked s n) s.pend s.next_id h.updates;
-  reads = reads-acked 0 s.store.floor s.asks s.next_ask s.store.acked n low h.reads;
-}
-
-pub sound-entered : (s : ServerState) (port : ℕ) (call : Call) → IsCall call → is_update call.op ≡ true → IsSound s → IsSound (entered s port call)
-unfolding entered
-sound-entered s port call fit is h = record {
+-- other own calls wait
+pub sound-updates : (s : ServerState) (us : List OpenUpdate) (next_id : ℕ) → AreUpdates 0 us next_id → IsSound s → IsSound (record s { pend = us; next_id = next_id })
+sound-updates s us next_id updates h = record {
   placed = h.placed;
   counted = h.counted;
   outside = h.outside;
@@ -243,27 +220,13 @@ sound-entered s port call fit is h = record {
   store = h.store;
   based = h.based;
   seen = h.seen;
-  updates = updates-push 0 s.pend (record { id = s.next_id; port = port; call = call }) fit is h.updates;
+  updates = updates;
   reads = h.reads;
 }
 
-pub sound-asked : (s : ServerState) (port : ℕ) (key : List ℕ) → IsSound s → IsSound (asked s port key)
-unfolding asked
-sound-asked s port key h = record {
-  placed = h.placed;
-  counted = h.counted;
-  outside = h.outside;
-  within = h.within;
-  store = h.store;
-  based = h.based;
-  seen = h.seen;
-  updates = h.updates;
-  reads = reads-push 0 s.store.floor s.asks (record { ask = s.next_ask; port = port; key = key; mark = s.store.acked }) h.reads;
-}
-
--- fewer reads wait
-pub sound-closed : (s : ServerState) (asks : List OpenRead) → AreReads 0 s.store.floor asks s.next_ask s.store.acked → IsSound s → IsSound (record s { asks = asks })
-sound-closed s asks reads h = record {
+-- other own reads wait
+pub sound-reads : (s : ServerState) (rs : List OpenRead) (next_ask : ℕ) → AreReads 0 s.store.floor rs next_ask s.store.acked → IsSound s → IsSound (record s { asks = rs; next_ask = next_ask })
+sound-reads s rs next_ask reads h = record {
   placed = h.placed;
   counted = h.counted;
   outside = h.outside;
@@ -274,6 +237,40 @@ sound-closed s asks reads h = record {
   updates = h.updates;
   reads = reads;
 }
+
+pub sound-acked : (s : ServerState) (n : ℕ) → s.store.acked ≤ n → n ≤ last_number s.store → IsSound s → IsSound (record s { store = acked_to s.store n })
+sound-acked s n low high h = record {
+  placed = h.placed;
+  counted = h.counted;
+  outside = h.outside;
+  within = h.within;
+  store = store-acked s.store n low high h.store;
+  based = h.based;
+  seen = h.seen;
+  updates = h.updates;
+  reads = reads-acked 0 s.store.floor s.asks s.next_ask s.store.acked n low h.reads;
+}
+
+pub sound-risen : (s : ServerState) (n : ℕ) → s.store.acked ≤ n → n ≤ last_number s.store → IsSound s → IsSound (risen s n)
+unfolding risen
+sound-risen s n low high h =
+    sound-updates (record s { store = acked_to s.store n }) (left_open s.id s.pend (newly_acked s n)) s.next_id (updates-left_open s.id (newly_acked s n) s.pend s.next_id h.updates) (sound-acked s n low high h)
+
+pub sound-entered : (s : ServerState) (port : ℕ) (call : Call) → IsCall call → is_update call.op ≡ true → IsSound s → IsSound (entered s port call)
+unfolding entered
+sound-entered s port call fit is h =
+    let u : OpenUpdate = record { id = s.next_id; port = port; call = call } in
+    sound-updates s (s.pend ++ u ∷ []) (s.next_id + 1) (updates-push 0 s.pend u fit is h.updates) h
+
+pub sound-asked : (s : ServerState) (port : ℕ) (key : List ℕ) → IsSound s → IsSound (asked s port key)
+unfolding asked
+sound-asked s port key h =
+    let r : OpenRead = record { ask = s.next_ask; port = port; key = key; mark = s.store.acked } in
+    sound-reads s (s.asks ++ r ∷ []) (s.next_ask + 1) (reads-push 0 s.store.floor s.asks r h.reads) h
+
+-- fewer reads wait
+pub sound-closed : (s : ServerState) (asks : List OpenRead) → AreReads 0 s.store.floor asks s.next_ask s.store.acked → IsSound s → IsSound (record s { asks = asks })
+sound-closed s asks reads h = sound-reads s asks s.next_ask reads h
 
 pub sound-trimmed : (s : ServerState) → IsSound s → IsSound (trimmed s)
 unfolding trimmed

@@ -4,7 +4,7 @@ use Rattle.std.specs.Prelude.{◌==◌}
 use Rattle.std.specs.List.{flat_map, slice_range}
 use Rattle.std.proofs.Math.Seq.{drop-nil}
 use Rattle.std.proofs.lemmas.Bool.Decides.{nat_tests}
-use Rattle.std.proofs.lemmas.List.{drop-append-le, append-nil}
+use Rattle.std.proofs.lemmas.List.{drop-append-le, append-nil, drop_all}
 use Rattle.proto.specs.declared.front.Passing.{Passing}
 use Rattle.proto.specs.declared.lines.Asked.{Asked}
 use Rattle.proto.specs.declared.lines.Asked.TheVariants.{Whole, Behind}
@@ -113,11 +113,6 @@ drop_two : (n : ℕ) (xs ys : List ℕ) → drop n (xs ++ ys) ≡ drop n xs ++ d
 drop_two zero xs ys = let none : 0 - length xs ≡ 0 = omega arith in rw none refl
 drop_two (suc n) [] ys = let all : suc n - 0 ≡ suc n = omega arith in rw all refl
 drop_two (suc n) (x ∷ xs) ys = let rest : suc n - length (x ∷ xs) ≡ n - length xs = omega arith in rw rest (drop_two n xs ys)
-
-drop_all : (n : ℕ) (xs : List ℕ) → length xs ≤ n → drop n xs ≡ []
-drop_all n [] below = drop-nil n
-drop_all zero (x ∷ xs) below = absurd (omega arith)
-drop_all (suc n) (x ∷ xs) below = drop_all n xs (omega arith)
 
 -- a refused block that ends behind so many bytes, where this many have come
 abbrev whole_at : ℕ → ℕ → Fault → Front
@@ -283,7 +278,7 @@ passed_twice (Some p) xs ys =
     let same : p.left - length xs - length ys ≡ p.left - length (xs ++ ys) = omega (arith, length-append xs ys) in
     ap (λ left. Some (record p { left = left })) same
 
-fed_none : (h : Held) → fed h [] ≡ h
+pub fed_none : (h : Held) → fed h [] ≡ h
 fed_none h = by_closed h.unread h.passing h.later h.unique h.asked h.out h.closed
   where
     by_closed : (unread : List ℕ) (passing : Option Passing) (later : List (List ℕ)) (unique : Bool) (asked : Option Form) (out : List ℕ) (closed : Bool)
@@ -291,7 +286,7 @@ fed_none h = by_closed h.unread h.passing h.later h.unique h.asked h.out h.close
     by_closed unread passing later unique asked out true = refl
     by_closed unread passing later unique asked out false = rw (kept_none passing, passed_none passing, append-nil unread) refl
 
-fed_twice : (h : Held) (xs ys : List ℕ) → fed (fed h xs) ys ≡ fed h (xs ++ ys)
+pub fed_twice : (h : Held) (xs ys : List ℕ) → fed (fed h xs) ys ≡ fed h (xs ++ ys)
 fed_twice h xs ys = by_closed h.unread h.passing h.later h.unique h.asked h.out h.closed
   where
     by_closed : (unread : List ℕ) (passing : Option Passing) (later : List (List ℕ)) (unique : Bool) (asked : Option Form) (out : List ℕ) (closed : Bool)

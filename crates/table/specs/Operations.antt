@@ -1,12 +1,12 @@
 -- Which operations fit, where they aim, which take a number, and which replies they can have.
-use Rattle.std.specs.Prelude.{◌≡◌, ◌≤◌, length, Bool, true, false, IsTrue}
+use Rattle.std.specs.Prelude.{◌≡◌, ◌≤◌, length, Bool, true, false}
 use Rattle.table.specs.Items.{limit}
 use Rattle.table.specs.declared.operations.Target.{Target}
 use Rattle.table.specs.declared.operations.Target.TheVariants.{One, All}
 use Rattle.table.specs.declared.operations.Op.{Op}
 use Rattle.table.specs.declared.operations.Op.TheVariants.{Read, Set, Add, Replace, Append, Prepend, Cas, Incr, Decr, Delete, Flush}
 use Rattle.table.specs.declared.operations.Reply.{Reply}
-use Rattle.table.specs.declared.operations.Reply.TheVariants.{Stored, NotStored, Exists, NotFound, Deleted, Number, Value, TooLarge, NotNumber, Flushed}
+use Rattle.table.specs.declared.operations.Reply.TheVariants.{Value}
 
 -- the operation's data is within the limit
 abbrev pub Fits : Op → Type 0

@@ -9,10 +9,6 @@ use Rattle.versions.specs.Entries.{LogEntry}
 use Rattle.versions.specs.Stores.{IsLog}
 use Rattle.versions.specs.Numbers.{numbers_of, last_of, last_up_to, is_above, IsWithin, IsRising}
 
-pub last_of-push : (ns : List ℕ) (n : ℕ) → last_of (ns ++ n ∷ []) ≡ Some n
-last_of-push [] n = refl
-last_of-push (m ∷ ns) n = ap (λ o. Some (unwrap_or o m)) (last_of-push ns n)
-
 -- the last of a list is the one at its last place
 pub last_of-at : (ns : List ℕ) (n : ℕ) → 0 < length ns → n ≡ get_or ns (length ns - 1) n → last_of ns ≡ Some n
 last_of-at [] n some is = absurd (omega arith)

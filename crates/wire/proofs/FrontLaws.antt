@@ -112,12 +112,6 @@ frame_not_malformed bytes x e h = ok_not_err (front bytes) x Malformed e (malfor
 pub frame_not_old : (bytes : List ℕ) (x : Frame × List ℕ) → front bytes ≡ Ok x → IsOld bytes → ⊥
 frame_not_old bytes x e h = ok_not_err (front bytes) x Old e (old_to bytes h)
 
-pub malformed_not_old : (bytes : List ℕ) → front bytes ≡ Err Malformed → IsOld bytes → ⊥
-malformed_not_old bytes e h = bad_not_old (front bytes) e (old_to bytes h)
-
-pub old_not_malformed : (bytes : List ℕ) → front bytes ≡ Err Old → IsMalformed bytes → ⊥
-old_not_malformed bytes e h = bad_not_old (front bytes) (malformed_to bytes h) e
-
 -- ---- more bytes
 
 pub front_stays : (bytes more : List ℕ) (f : Frame) (rest : List ℕ) → front bytes ≡ Ok (f, rest) → front (bytes ++ more) ≡ Ok (f, rest ++ more)
@@ -224,10 +218,6 @@ rest_behind bytes f rest h =
 pub waiting : (k : ℕ) (bytes : List ℕ) → 0 < k → IsMissing k bytes → front bytes ≡ Err (Short k)
 waiting zero bytes lt h = absurd (omega arith)
 waiting (suc k) bytes lt h = h
-
-pub missing_from : (k : ℕ) (bytes : List ℕ) → front bytes ≡ Err (Short k) → IsMissing k bytes
-missing_from zero bytes e = tt
-missing_from (suc k) bytes e = e
 
 pub missing_fed : (k : ℕ) (bytes piece : List ℕ) → IsMissing k bytes → IsMissing (k - length piece) (bytes ++ piece)
 missing_fed k bytes piece h = by_left (k - length piece) refl

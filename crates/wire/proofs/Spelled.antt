@@ -183,9 +183,6 @@ cas_from op code text e s =
     subst (λ c. Behind c op text) (sym (eqb-true code 6 e))
     (subst (λ op. Behind 6 op text) (sym m.2) (record { spelled = ap (λ (t : List ℕ). 6 ∷ t) spelled; fits = h.1; widths = (s.3.0, u.3.0); update = refl; aimed = refl }))
 
-number_from : (n : ℕ) (t : List ℕ) → (number w64 any).Spells n t → (t ≡ long n) × (n < 2 ^ 64)
-number_from n t s = (s.2, s.0)
-
 operands_from : (code : ℕ) (op : Op) (text : List ℕ) → (format.operands code).Spells op text → Behind code op text
 operands_from code op text s0 =
     elim (by_test (code == 1) _ _ op text s0) [

@@ -1,11 +1,11 @@
 -- What each rule makes of the own updates, where no call is issued: none enters, none is sent, and what was seen grows.
-use Rattle.std.proofs.Common.{append_assoc, slice_index_or, ◌≡◌, ◌≢◌, ℕ, zero, suc, ◌+◌, ◌-◌, ◌<◌, ◌≤◌, nat_lt, nat_le, ◌==◌, ◌&&◌, max, Bool, true, false, cond, List, [], ◌∷◌, ◌++◌, length, Option, Some, None, refl, arith, ◌⊎◌, inl, inr, ap, sym, ◌∙◌}
-use Rattle.std.proofs.lemmas.Bool.{cases_eq, cond_both, and_parts, eq-eqb, eqb-true, ltb-true, leb-true}
+use Rattle.std.proofs.Common.{append_assoc, slice_index_or, ◌≡◌, ◌≢◌, ℕ, ◌+◌, ◌<◌, ◌≤◌, nat_lt, nat_le, ◌==◌, ◌&&◌, Bool, true, false, cond, List, [], ◌∷◌, ◌++◌, Option, Some, None, refl, arith, ◌⊎◌, inl, inr, ap, sym, ◌∙◌}
+use Rattle.std.proofs.lemmas.Bool.{cond_both, and_parts, eqb-true, ltb-true}
 use Rattle.table.specs.Operations.{is_update}
 use Rattle.table.specs.declared.operations.Call.{Call}
 use Rattle.table.specs.declared.operations.Reply.{Reply}
 use Rattle.versions.specs.Entries.{LogEntry, IsEntry}
-use Rattle.versions.specs.Stores.{last_number, is_clean, value_at}
+use Rattle.versions.specs.Stores.{last_number, value_at}
 use Rattle.table.specs.declared.operations.Reply.TheVariants.{Value}
 use Rattle.std.proofs.lemmas.Option.{same_Some}
 use Rattle.node.specs.declared.servers.OpenUpdate.{OpenUpdate}
@@ -14,7 +14,7 @@ use Rattle.node.specs.declared.messages.Body.{Body}
 use Rattle.node.specs.declared.messages.Body.TheVariants.{Op, Forward, Ack, Query, Answer}
 use Rattle.node.specs.declared.messages.Peer.{Peer}
 use Rattle.node.specs.declared.messages.Output.{Output}
-use Rattle.node.specs.declared.messages.Output.TheVariants.{To, Reply as Answered}
+use Rattle.node.specs.declared.messages.Output.TheVariants.{Reply as Answered}
 use Rattle.node.specs.Views.{has, is_that}
 use Rattle.node.specs.Servers.{ServerState, Outcome, most, seen_of, head_of, tail_of, is_head, is_tail, previous, next, silent, putting, and_then, message_to}
 use Rattle.node.specs.Numbering.{open_update, left_open_by, replied, reply_to, replies, newly_acked, risen, rise, appended, passed_on, entry_of, is_taken, take_update, receive_op, receive_forward, receive_ack}
@@ -22,7 +22,7 @@ use Rattle.node.specs.Reading.{receive_query, open_read, answered, receive_answe
 use Rattle.node.specs.Steps.{receive, received, trimmed}
 use Rattle.node.specs.Lawful.{IsCall, IsBody, HasEntry, IsSound}
 use Rattle.node.proofs.SoundLaws.{least_within, sound-appended}
-use Rattle.node.proofs.RuleLaws.{IsGood, entry_of-valid}
+use Rattle.node.proofs.RuleLaws.{entry_of-valid}
 use Rattle.world.proofs.IdLaws.{that_is}
 use Rattle.world.proofs.Streaming.{sent_to}
 use Rattle.world.proofs.ForwardRuns.{sent_to-append}

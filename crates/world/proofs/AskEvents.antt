@@ -19,11 +19,11 @@ use Rattle.world.proofs.Traces.{Traced, count, outset}
 use Rattle.world.proofs.Layers.{Later, Lawful}
 use Rattle.world.proofs.Outsets.{count_outset, server_outset, nothing_in}
 use Rattle.world.proofs.ForwardRuns.{in_sent}
-use Rattle.world.proofs.StreamSteps.{still_out}
 use Rattle.world.proofs.AskTellings.{inquires_step}
 use Rattle.world.proofs.Asking.{Tailed, IsOnItsWay, Asking, query_met, answer_met}
 use Rattle.world.proofs.Stepped.{Stepped, stepped_tells, stepped_works, stepped_delivers}
 use Rattle.world.proofs.Ways.{Way, Stays, Comes, Starts, Hands, Fails, Works, Delivers, Tells}
+use Rattle.world.proofs.LoggedLaws.{still_out}
 
 asking_connected : (w : World) (c : ℕ) (change : Connection → Connection) → Asking w → Asking (with_connection w c change)
 unfolding with_connection server link

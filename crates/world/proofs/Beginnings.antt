@@ -2,13 +2,10 @@
 use Rattle.std.proofs.Common.{◌≡◌, ℕ, zero, suc, ◌+◌, ◌≤◌, List, [], ◌∷◌, ◌++◌, length, take, drop, Some, refl, arith, inl, inr, zero-add}
 use Rattle.std.specs.Prelude.{slice_get}
 use Rattle.std.proofs.lemmas.Option.{same_Some, none-some as none_some}
-use Rattle.world.proofs.Lists.{Begins, get_front, pushed_cases}
+use Rattle.world.proofs.Lists.{Begins, pushed_cases}
 
 pub begins_same : {X : Type 0} (xs : List X) → Begins xs xs
 begins_same xs k x h = h
-
-pub begins_on : {X : Type 0} (xs ys zs : List X) → Begins xs ys → Begins ys zs → Begins xs zs
-begins_on xs ys zs a b k x h = b k x (a k x h)
 
 -- either list under another name
 pub begins_as : {X : Type 0} (us xs ys vs : List X) → us ≡ xs → Begins xs ys → vs ≡ ys → Begins us vs
@@ -16,9 +13,6 @@ begins_as us xs ys vs e b f = rw (e, f) b
 
 pub begins_nil : {X : Type 0} (xs : List X) → Begins [] xs
 begins_nil xs k x h = absurd (none_some x h)
-
-pub begins-append : {X : Type 0} (xs ys : List X) → Begins xs (xs ++ ys)
-begins-append xs ys k x h = get_front xs ys k x h
 
 -- a list with one more begins what has that one at its place
 pub begins-push : {X : Type 0} (xs ys : List X) (y : X) → Begins xs ys → slice_get ys (length xs) ≡ Some y → Begins (xs ++ y ∷ []) ys

@@ -15,7 +15,7 @@ use Rattle.node.specs.declared.messages.Input.TheVariants.{Call as Called}
 use Rattle.node.specs.Servers.{ServerState, Outcome, most}
 use Rattle.node.specs.Numbering.{entered, is_room_for_update, update}
 use Rattle.node.specs.Reading.{dirty_read, read_of}
-use Rattle.node.specs.Steps.{call, trimmed, step}
+use Rattle.node.specs.Steps.{trimmed, step}
 use Rattle.node.specs.Lawful.{IsCall, IsLawful}
 use Rattle.node.proofs.RuleLaws.{good-entered, updated}
 use Rattle.world.proofs.Lists.{In}

@@ -45,11 +45,6 @@ pub unserved_kept : (w : World) (c : ℕ) (change : Connection → Connection) �
 unfolding with_connection
 unserved_kept w c change unserved = ap (λ ks. record w { connections = ks }) (kept_unserved w w.connections c change unserved)
 
--- nor is its call worked
-pub unserved_unworked : (w : World) (c : ℕ) (o : Option Connection) → is_served w o ≡ false → w ≡ worked w c o
-unserved_unworked w c None unserved = refl
-unserved_unworked w c (Some k) unserved = rw unserved refl
-
 -- a served connection is the one that is read
 served_at : (w : World) (ks : List Connection) (c : ℕ) (old : Connection) → is_served w (slice_get ks c) ≡ true → old ≡ get_or ks c old → slice_get ks c ≡ Some old
 served_at w [] c old served at_c = cc

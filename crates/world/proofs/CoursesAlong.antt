@@ -8,13 +8,14 @@ use Rattle.proto.specs.declared.requests.Fault.{Fault}
 use Rattle.proto.specs.declared.texts.Form.{Form}
 use Rattle.proto.specs.Turns.{Turn, Faulty, Calls, fault_text, text}
 use Rattle.proto.specs.Sessions.{Held, Given, fed, next_of}
-use Rattle.proto.specs.Streams.{turns, texts, to_come, with_turn, most_faults, GivesFirst}
+use Rattle.proto.specs.Streams.{turns, texts, to_come, most_faults, GivesFirst}
 use Rattle.world.specs.declared.connections.Stage.{Stage}
 use Rattle.world.specs.declared.connections.Stage.TheVariants.{Idle, Begun, Asked, Replied}
 use Rattle.world.specs.Connections.{Connection, came, behind, past_faults_upto, begun_by, begun, open_call, may_have, asked, replied, handed}
 use Rattle.world.specs.Sent.{Course, faults_next, on_piece, on_begin, on_hand, sent_bytes, calls_of}
 use Rattle.world.proofs.FaultLaws.{FaultsTakeBytes}
-use Rattle.world.proofs.TurnLists.{calls_of_more, texts_fault, texts_call, Writes, next_writes, fed_none, fed_twice, fed_closed, fed_out, fed_asked, answered_out, answered_to_come}
+use Rattle.world.proofs.TurnLists.{calls_of_more, texts_fault, texts_call, Writes, next_writes, fed_closed, fed_out, fed_asked, answered_out, answered_to_come}
+use Rattle.proto.proofs.StreamLaws.{fed_none, fed_twice}
 
 -- each step of a session gives the first of the turns that are to come
 abbrev pub NextGivesFirst : Type 0

@@ -15,7 +15,7 @@ use Rattle.world.specs.declared.events.Event.{Event}
 use Rattle.world.specs.declared.events.Event.TheVariants.{Piece, Begin, Work, Deliver, Fail, Tell, Hand}
 use Rattle.world.specs.declared.connections.Stage.{Stage}
 use Rattle.world.specs.declared.connections.Stage.TheVariants.{Idle, Begun, Asked, Replied}
-use Rattle.world.specs.Connections.{Connection, changed_at, came, begun, asked, replied, open_call, to_work, handed, fresh}
+use Rattle.world.specs.Connections.{Connection, changed_at, came, begun, asked, open_call, to_work, handed, fresh}
 use Rattle.world.specs.Worlds.{World, server, link, with_server, with_link, with_connection, lives, has_failed, put, put_all, takes, where_home_lives, sent_in, worked, delivered, happens, run_from, run_of, opening_world}
 use Rattle.world.specs.Sent.{Course, outset, on_piece, on_begin, on_hand, course_after, course_of_any, course_from, course_of, sent_bytes, calls_of}
 use Rattle.world.proofs.FaultLaws.{FaultsTakeBytes}

@@ -20,11 +20,12 @@ use Rattle.world.proofs.Lists.{In}
 use Rattle.world.proofs.Actions.{Widen, Append, Finish, act, Cause, left, IsBrought, IsDone}
 use Rattle.node.proofs.ViewLaws.{has-union}
 use Rattle.world.proofs.Neighbours.{previous_below, next_within, head_within, head_other, tail_within}
-use Rattle.world.proofs.OpenCalls.{update_in, reads_bound, asked_above}
+use Rattle.world.proofs.OpenCalls.{update_in, asked_above}
 use Rattle.world.proofs.StoreChanges.{held_after}
 use Rattle.world.proofs.DoneActions.{done_as, view_after, done_silent, done_then, done_first, done_message}
 use Rattle.world.proofs.SoundActions.{sound_act}
 use Rattle.world.proofs.DoneRules.{made_guard, done_rise}
+use Rattle.node.proofs.SoundLaws.{reads_bound}
 
 -- ---- second: the own open calls
 

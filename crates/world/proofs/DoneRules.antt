@@ -19,8 +19,8 @@ use Rattle.world.proofs.Actions.{Append, Reach, Settle, Enter, act, Cause, left,
 use Rattle.world.proofs.IdLaws.{that_is}
 use Rattle.world.proofs.Neighbours.{previous_below, next_within, head_within, head_other}
 use Rattle.world.proofs.StoreChanges.{held_between}
-use Rattle.world.proofs.Decided.{entry_made}
 use Rattle.world.proofs.DoneActions.{done_as, done_silent, done_then, done_first, done_message}
+use Rattle.node.proofs.RuleLaws.{entry_of-valid}
 
 -- ---- rising
 
@@ -73,7 +73,7 @@ done_append_passed c s e h g = done_first c s (Append e) (λ t. passed_on t e) h
 -- the head may append the entry that it makes
 pub made_guard : (c : Cause) (s : ServerState) (origin id : ℕ) (call : Call) → origin < 16 → IsWanted c s origin id call → IsCall call → is_update call.op ≡ true → is_head s ≡ true → is_taken s origin id ≡ true → Guard c s (Append (entry_of s origin id call))
 made_guard c s origin id call low wanted fit is first may =
-    (entry_made s origin id call low fit is may, inl (record { origin = origin; id = id; call = call; wanted = wanted; fits = fit; update = is; head = first; taken = may; made = refl }))
+    (entry_of-valid s origin id call low fit is may, inl (record { origin = origin; id = id; call = call; wanted = wanted; fits = fit; update = is; head = first; taken = may; made = refl }))
 
 done_take_update : (c : Cause) (s : ServerState) (origin id : ℕ) (call : Call) → IsSound s → origin < 16 → IsWanted c s origin id call → IsCall call → is_update call.op ≡ true → is_head s ≡ true → IsDone c s (take_update s origin id call)
 unfolding take_update

@@ -1,14 +1,12 @@
 -- One server's step is a list of actions, each done by a sound server that knows what the action needs.
-use Rattle.std.proofs.Common.{◌≡◌, ℕ, suc, ◌-◌, ◌<◌, ◌≤◌, nat_lt, nat_le, ◌==◌, ◌&&◌, Bool, true, false, cond, not, List, [], ◌∷◌, length, Option, Some, None, inl, inr, refl, sym, ap, subst, ◌∙◌, arith, append-nil}
-use Rattle.std.specs.List.{list_any}
-use Rattle.std.proofs.lemmas.Bool.{cond_both, and_parts, both_ways, eqb-true, eqb-false, ltb-true, leb-true, not-true}
-use Rattle.std.proofs.lemmas.List.{drop_all}
+use Rattle.std.proofs.Common.{◌≡◌, ℕ, suc, ◌<◌, ◌≤◌, nat_lt, nat_le, ◌==◌, ◌&&◌, Bool, true, false, cond, not, List, [], ◌∷◌, length, Option, Some, None, inl, inr, refl, sym, ap, subst, ◌∙◌, arith, append-nil}
+use Rattle.std.proofs.lemmas.Bool.{cond_both, and_parts, both_ways, eqb-true, eqb-false, ltb-true, leb-true, not-true, false_from_ne_true}
 use Rattle.std.proofs.lemmas.Option.{same_Some}
 use Rattle.table.specs.Operations.{is_update}
 use Rattle.table.specs.declared.operations.Call.{Call}
 use Rattle.table.specs.declared.operations.Target.{Target}
 use Rattle.table.specs.declared.operations.Target.TheVariants.{One, All}
-use Rattle.versions.specs.Stores.{last_number, entries_after, is_clean, touches}
+use Rattle.versions.specs.Stores.{last_number, is_clean}
 use Rattle.node.specs.declared.servers.OpenRead.{OpenRead}
 use Rattle.node.specs.declared.messages.Body.{Body}
 use Rattle.node.specs.declared.messages.Body.TheVariants.{Op, Forward, Ack, Query, Answer}
@@ -16,7 +14,7 @@ use Rattle.node.specs.declared.messages.Peer.{Peer}
 use Rattle.node.specs.declared.messages.Input.{Input}
 use Rattle.node.specs.declared.messages.Input.TheVariants.{Call as Called, From, Gone}
 use Rattle.node.specs.declared.messages.Output.{Output}
-use Rattle.node.specs.Views.{View, has, single, is_below, is_that}
+use Rattle.node.specs.Views.{has, single, is_that}
 use Rattle.node.specs.Servers.{ServerState, Outcome, most, tail_of, is_tail, silent, putting, message_to}
 use Rattle.node.specs.Reading.{asked, dirty_read, read_of, receive_query, open_read, answered, receive_answer}
 use Rattle.node.specs.Joining.{join}
@@ -27,26 +25,16 @@ use Rattle.world.proofs.Actions.{Send, Finish, Trim, Ask, Show, act, Cause, left
 use Rattle.node.proofs.ViewLaws.{has-single_other, below-single}
 use Rattle.world.proofs.IdLaws.{that_is}
 use Rattle.world.proofs.Neighbours.{tail_within}
-use Rattle.world.proofs.OpenCalls.{reads_bound}
 use Rattle.world.proofs.DoneActions.{done_as, done_silent, done_then, done_one, done_first, done_message, seat_after}
 use Rattle.world.proofs.DoneRules.{message_same, done_update, done_receive_op, done_receive_forward, done_receive_ack}
 use Rattle.world.proofs.DoneJoins.{done_join, join_knows}
+use Rattle.node.proofs.SoundLaws.{reads_bound}
+use Rattle.node.proofs.RuleLaws.{clean_at_last, heard}
 
 -- ---- own reads
 
--- who has acknowledged everything has only clean keys
-clean_at_last : (s : ServerState) (key : List ℕ) → s.store.acked ≡ last_number s.store → is_clean s.store key ≡ true
-clean_at_last s key all =
-    let none : entries_after s.store s.store.acked ≡ [] = drop_all (s.store.acked - s.store.floor) s.store.rest (omega (arith, all)) in
-    ap (λ es. not (list_any (touches key) es)) none
-
--- so who reads a dirty key isn't the tail
-not_tail : (b : Bool) → (b ≡ true → ⊥) → b ≡ false
-not_tail true f = absurd (f refl)
-not_tail false f = refl
-
 dirty_elsewhere : (s : ServerState) (key : List ℕ) → IsSettled s → is_clean s.store key ≡ false → is_tail s ≡ false
-dirty_elsewhere s key settled dirty = not_tail (is_tail s) (λ t. both_ways _ dirty (clean_at_last s key (settled t).0))
+dirty_elsewhere s key settled dirty = false_from_ne_true (is_tail s) (λ t. both_ways _ dirty (clean_at_last s key (settled t).0))
 
 pub asked_in : (s : ServerState) (port : ℕ) (key : List ℕ) → In (record { ask = s.next_ask; port = port; key = key; mark = s.store.acked }) (asked s port key).asks
 unfolding asked
@@ -142,18 +130,6 @@ pub done_received : (s : ServerState) (i : ℕ) (m : Peer) → IsSound s → i <
 done_received s i m h low fit valid joined = cond_both (has s.view i) _ _ (λ (a : Outcome). IsDone (Some (From i m)) s a)
     (λ t. done_silent (Some (From i m)) s h)
     (λ f. done_receive s i m m.body refl h low f fit valid joined)
-
-record Hears (s : ServerState) (i : ℕ) (v : View) : Type 0 where
-  placed : i < s.count
-  below : is_below v s.count ≡ true
-  outside : has v s.id ≡ false
-
-heard : (s : ServerState) (i : ℕ) (v : View) → is_heard s i v ≡ true → Hears s i v
-heard s i v h =
-    let last_part = and_parts (nat_lt i s.count && not (i == s.id) && is_below v s.count) (not (has v s.id)) h in
-    let third_part = and_parts (nat_lt i s.count && not (i == s.id)) (is_below v s.count) last_part.0 in
-    let first_part = and_parts (nat_lt i s.count) (not (i == s.id)) third_part.0 in
-    record { placed = ltb-true _ _ first_part.0; below = third_part.1; outside = not-true _ last_part.1 }
 
 done_from_peer : (s : ServerState) (i : ℕ) (m : Peer) → IsSound s → IsBody m.body → HasEntry m.body → IsDone (Some (From i m)) s (from_peer s i m)
 done_from_peer s i m h fit valid = cond_both (is_heard s i m.view) _ _ (λ (a : Outcome). IsDone (Some (From i m)) s a)

@@ -81,11 +81,6 @@ stays_called (None, left) later call e = refl
 stays_called (Some (Faulty fault), left) later call e = cc
 stays_called (Some (Calls other form), left) later call e = refl
 
-pub called : (h : Held) (target : Target) (op : Op) → Calling target op ≡ step_of (next_of h) → (past_faults h ≡ next_of h) × (call_of (next_of h).0 ≡ Some (record { target = target; op = op }))
-called h target op e =
-    let call = called_by (next_of h) target op e in
-    (stays_called (next_of h) (past_faults_upto (most_faults h) (next_of h).1) (record { target = target; op = op }) call, call)
-
 nothing : (r : Given) (step : Step) → IsEnd step → step ≡ step_of r → r.0 ≡ None
 nothing (None, left) step end e = refl
 nothing (Some (Faulty fault), left) step end e = absurd (rw e at end)
@@ -94,8 +89,3 @@ nothing (Some (Calls call form), left) step end e = absurd (rw e at end)
 stays_ended : (r later : Given) → r.0 ≡ None → behind r later ≡ r
 stays_ended (None, left) later e = refl
 stays_ended (Some turn, left) later e = cc
-
-pub ended : (h : Held) (step : Step) → IsEnd step → step ≡ step_of (next_of h) → (past_faults h ≡ next_of h) × (call_of (next_of h).0 ≡ None)
-ended h step end e =
-    let none = nothing (next_of h) step end e in
-    (stays_ended (next_of h) (past_faults_upto (most_faults h) (next_of h).1) none, rw none refl)

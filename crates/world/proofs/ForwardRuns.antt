@@ -14,7 +14,7 @@ use Rattle.node.specs.Servers.{ServerState, message_to}
 use Rattle.world.specs.Connections.{Connection}
 use Rattle.world.specs.Worlds.{World, link, with_link, with_connection, put, put_all}
 use Rattle.world.proofs.Lists.{In}
-use Rattle.world.proofs.WorldLaws.{link_cases}
+use Rattle.world.proofs.WorldLaws.{link_cases, link-with_connection}
 use Rattle.world.proofs.Streaming.{forwarded_number, numbers, IsRun, sent_to}
 
 -- ---- runs
@@ -133,10 +133,6 @@ put_one w i j y m h = elim (cases_eq j y) [
 first_step : (b : Bool) (m : Peer) (old ms : List Peer) → (old ++ cond b (m ∷ []) []) ++ ms ≡ old ++ cond b (m ∷ ms) ms
 first_step true m old ms = append_assoc old (m ∷ []) ms
 first_step false m old ms = append_assoc old [] ms
-
-pub link-with_connection : (w : World) (c : ℕ) (change : Connection → Connection) (x y : ℕ) → link (with_connection w c change) x y ≡ link w x y
-unfolding link with_connection
-link-with_connection w c change x y = refl
 
 pub has_link-with_connection : (w : World) (c : ℕ) (change : Connection → Connection) (x y : ℕ) → HasLink w x y → HasLink (with_connection w c change) x y
 unfolding with_connection

@@ -1,25 +1,23 @@
 -- A new head takes its own open calls: behind that it has seen all its ids, as long as numbers are left.
-use Rattle.std.proofs.Common.{◌≡◌, ◌≢◌, ℕ, zero, suc, ◌+◌, ◌-◌, ◌<◌, ◌≤◌, nat_lt, ◌==◌, ◌&&◌, max, Bool, true, false, List, [], ◌∷◌, ◌++◌, length, Option, Some, None, refl, arith, inl, inr, ap, sym, subst, ◌∙◌, append-nil, ◌⊎◌}
+use Rattle.std.proofs.Common.{◌≡◌, ◌≢◌, ℕ, ◌+◌, ◌<◌, ◌≤◌, nat_lt, ◌==◌, true, List, [], ◌∷◌, ◌++◌, Option, Some, refl, arith, inl, inr, ap, sym, subst, ◌∙◌, ◌⊎◌}
 use Rattle.std.proofs.lemmas.Bool.{cases_eq, cases_Bool, cond_both, and_parts, and_from, eq-eqb, eqb-true, lt-ltb, both_ways}
-use Rattle.table.specs.Operations.{is_update}
 use Rattle.table.specs.declared.operations.Call.{Call}
-use Rattle.versions.specs.Entries.{LogEntry}
 use Rattle.versions.specs.Stores.{last_number}
 use Rattle.node.specs.declared.servers.OpenUpdate.{OpenUpdate}
 use Rattle.node.specs.declared.messages.Body.TheVariants.{Op}
 use Rattle.node.specs.declared.messages.Output.{Output}
 use Rattle.node.specs.Views.{View, head, is_that, is_same}
-use Rattle.node.specs.Servers.{ServerState, Outcome, most, seen_of, head_of, is_head, silent, putting, message_to}
-use Rattle.node.specs.Numbering.{appended, entry_of, is_taken, taken}
+use Rattle.node.specs.Servers.{ServerState, Outcome, most, seen_of, head_of, is_head, silent, message_to}
+use Rattle.node.specs.Numbering.{entry_of, is_taken, taken}
 use Rattle.node.specs.Joining.{taken_all, sent_again, promoted_to_head}
-use Rattle.node.specs.Lawful.{IsCall, AreUpdates, IsSound}
-use Rattle.node.proofs.SoundLaws.{updates_bound, sound-appended}
-use Rattle.node.proofs.RuleLaws.{entry_of-valid, sound-taken, same_is}
+use Rattle.node.specs.Lawful.{AreUpdates, IsSound}
+use Rattle.node.proofs.SoundLaws.{updates_bound}
+use Rattle.node.proofs.RuleLaws.{sound-taken, same_is}
 use Rattle.world.proofs.Streaming.{IsRun}
-use Rattle.world.proofs.ForwardRuns.{run_up, sent_there}
+use Rattle.world.proofs.ForwardRuns.{run_up}
 use Rattle.world.proofs.Tellings.{last_appended}
-use Rattle.world.proofs.Opening.{ids, AreOwn, Own, HasSeen, IsOpen, IsAnswered}
-use Rattle.world.proofs.OwnIds.{seen_same, seen_grows, IsNextOwn}
+use Rattle.world.proofs.Opening.{ids, Own, IsOpen, IsAnswered}
+use Rattle.world.proofs.OwnIds.{seen_same}
 use Rattle.world.proofs.Advances.{ops_to, ops_to-append, Advances, advances_then, advances_silent, advances_appended}
 
 -- ---- taking
@@ -115,26 +113,34 @@ pub record Promotes (old : View) (s : ServerState) (a : Outcome) : Type 0 where
 same_self : (a b : Option ℕ) (h : ℕ) → a ≡ Some h → b ≡ Some h → is_same a b ≡ true
 same_self a b h e g = rw (e, g) (eq-eqb h h refl)
 
-head_apart : (s : ServerState) (h : ℕ) → is_head s ≡ true → head_of s ≡ Some h → h ≢ s.id → ⊥
+pub head_apart : (s : ServerState) (h : ℕ) → is_head s ≡ true → head_of s ≡ Some h → h ≢ s.id → ⊥
 head_apart s h t is other = other (eqb-true h s.id (ap (λ o. is_that o s.id) (sym is) ∙ t))
+
+-- who takes in no call again, whatever it sends
+takes_nothing : (old : View) (s : ServerState) (os : List Output)
+    → (is_head s ≡ true → is_that (head old s.count) s.id ≡ true)
+    → ((h : ℕ) → h ≢ s.id → head old s.count ≡ Some h → head_of s ≡ Some h → ops_to h os ≡ [])
+    → ((h : ℕ) → h ≢ s.id → (head old s.count ≡ Some h → ⊥) → head_of s ≡ Some h → ops_to h os ≡ ids s.pend)
+    → Promotes old s (record { state = s; outputs = os })
+takes_nothing old s os led kept turned = record {
+  id = refl;
+  count = refl;
+  view = refl;
+  next = refl;
+  ask = refl;
+  open' = λ p w. inl w;
+  seen = λ o l. omega arith;
+  own = λ w. w;
+  first = λ w room at. inl (led at);
+  same = kept;
+  new = turned;
+}
 
 pub promotes : (old : View) (s : ServerState) → IsSound s → Promotes old s (promoted_to_head old s)
 unfolding promoted_to_head
 promotes old s h = cond_both (is_head s) _ _ (λ (a : Outcome). Promotes old s a)
     (λ t. cond_both (is_that (head old s.count) s.id) _ _ (λ (a : Outcome). Promotes old s a)
-    (λ u. record {
-      id = refl;
-      count = refl;
-      view = refl;
-      next = refl;
-      ask = refl;
-      open' = λ p w. inl w;
-      seen = λ o l. omega arith;
-      own = λ w. w;
-      first = λ w room at. inl u;
-      same = λ y other was is. refl;
-      new = λ y other was is. absurd (head_apart s y t is other);
-    })
+    (λ u. takes_nothing old s [] (λ at. u) (λ y other was is. refl) (λ y other was is. absurd (head_apart s y t is other)))
     (λ u. (let all = advances_taken_all s.pend s 0 h.updates h in
     record {
       id = all.id;
@@ -150,29 +156,5 @@ promotes old s h = cond_both (is_head s) _ _ (λ (a : Outcome). Promotes old s a
       new = λ y other was is. absurd (head_apart s y t is other);
     })))
     (λ f. cond_both (is_same (head old s.count) (head_of s)) _ _ (λ (a : Outcome). Promotes old s a)
-    (λ u. record {
-      id = refl;
-      count = refl;
-      view = refl;
-      next = refl;
-      ask = refl;
-      open' = λ p w. inl w;
-      seen = λ o l. omega arith;
-      own = λ w. w;
-      first = λ w room at. absurd (both_ways _ f at);
-      same = λ y other was is. refl;
-      new = λ y other was is. absurd (was (same_is (head old s.count) (head_of s) u ∙ is));
-    })
-    (λ u. record {
-      id = refl;
-      count = refl;
-      view = refl;
-      next = refl;
-      ask = refl;
-      open' = λ p w. inl w;
-      seen = λ o l. omega arith;
-      own = λ w. w;
-      first = λ w room at. absurd (both_ways _ f at);
-      same = λ y other was is. absurd (both_ways _ u (same_self (head old s.count) (head_of s) y was is));
-      new = λ y other was is. ops_again s y s.pend is;
-    }))
+    (λ u. takes_nothing old s [] (λ at. absurd (both_ways _ f at)) (λ y other was is. refl) (λ y other was is. absurd (was (same_is (head old s.count) (head_of s) u ∙ is))))
+    (λ u. takes_nothing old s (sent_again s s.pend) (λ at. absurd (both_ways _ f at)) (λ y other was is. absurd (both_ways _ u (same_self (head old s.count) (head_of s) y was is))) (λ y other was is. ops_again s y s.pend is)))

@@ -51,9 +51,6 @@ head_from v n j h = found_head v n j (head v n) refl h
 
 -- ---- tails and predecessors
 
-pub tail_is : (v : View) (n j : ℕ) → tail v n ≡ Some j → IsPrevious v n j
-tail_is v n j h = previous_is v n j h
-
 pub no_tail : (v : View) (n : ℕ) → tail v n ≡ None → (x : ℕ) → x < n → has v x ≡ true
 no_tail v n h x l = no_previous v n h x l
 

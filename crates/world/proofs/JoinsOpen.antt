@@ -1,22 +1,22 @@
 -- What a join makes of the own updates, and what it sends of them to the head.
-use Rattle.std.proofs.Common.{◌≡◌, ◌≢◌, ℕ, zero, suc, ◌+◌, ◌-◌, ◌<◌, ◌≤◌, nat_lt, ◌==◌, ◌&&◌, true, false, not, List, [], ◌∷◌, ◌++◌, Option, Some, None, refl, arith, inl, inr, ap, sym, subst, ◌∙◌, append-nil, ◌⊎◌}
-use Rattle.std.proofs.lemmas.Bool.{cond_both, and_parts, both_ways}
+use Rattle.std.proofs.Common.{◌≡◌, ◌≢◌, ℕ, ◌+◌, ◌<◌, ◌≤◌, nat_lt, ◌==◌, ◌&&◌, true, false, not, List, [], ◌∷◌, Some, refl, arith, inl, inr, ap, sym, subst, ◌∙◌, append-nil, ◌⊎◌}
+use Rattle.std.proofs.lemmas.Bool.{cond_both}
 use Rattle.versions.specs.Entries.{LogEntry}
 use Rattle.versions.specs.Stores.{last_number, entries_after}
 use Rattle.node.specs.declared.servers.OpenRead.{OpenRead}
 use Rattle.node.specs.declared.messages.Body.TheVariants.{Forward, Ack, Query}
-use Rattle.node.specs.Views.{View, head, tail, predecessor, successor, is_below, has, adds, is_that, is_same}
-use Rattle.node.specs.Servers.{ServerState, Outcome, seen_of, head_of, tail_of, is_head, is_tail, previous, next, silent, putting, and_then, message_to}
+use Rattle.node.specs.Views.{View, head, tail, predecessor, is_below, has, adds, is_that, is_same}
+use Rattle.node.specs.Servers.{ServerState, Outcome, seen_of, head_of, tail_of, is_head, is_tail, previous, next, and_then, message_to}
 use Rattle.node.specs.Joining.{widened, promoted_to_head, promoted_to_tail, forwarded, needed_above, caught_up, acked_to_predecessor, replies_to, asked_again, asks_renewed, rejoined, join}
 use Rattle.node.specs.Lawful.{IsSound}
-use Rattle.node.proofs.SoundLaws.{sound-widened, store-widened}
-use Rattle.node.proofs.RuleLaws.{made-promoted_to_head, made-promoted_to_tail, silent-caught_up, silent-acked_to_predecessor}
+use Rattle.node.proofs.SoundLaws.{sound-widened}
+use Rattle.node.proofs.RuleLaws.{made-promoted_to_head}
 use Rattle.world.proofs.Streaming.{IsRun}
 use Rattle.world.proofs.ForwardRuns.{run_up}
-use Rattle.world.proofs.Opening.{ids, Own, HasSeen, IsOpen, IsAnswered}
+use Rattle.world.proofs.Opening.{Own, HasSeen, IsOpen, IsAnswered}
 use Rattle.world.proofs.StaysOpen.{all_closed}
-use Rattle.world.proofs.Advances.{ops_to, ops_to-append, no_op, no_ops, Advances, open_then, advances_then, advances_silent, advances_put, advances_rise, advances_asks}
-use Rattle.world.proofs.HeadTakes.{HasRoom, Promotes, promotes}
+use Rattle.world.proofs.Advances.{ops_to, ops_to-append, no_op, no_ops, Advances, open_then, advances_silent, advances_put, advances_rise, advances_asks}
+use Rattle.world.proofs.HeadTakes.{HasRoom, promotes}
 
 pub record Serves (s : ServerState) (a : Outcome) : Type 0 where
   pub id : a.state.id ≡ s.id

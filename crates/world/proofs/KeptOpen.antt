@@ -1,5 +1,5 @@
 -- A step leaves each own call open, or puts out a reply to it that it may have.
-use Rattle.std.proofs.Common.{◌≡◌, ℕ, Bool, true, false, ◌==◌, zero, suc, List, [], ◌∷◌, ◌++◌, find, None, Some, refl, sym, subst, ◌∙◌, ◌⊎◌, inl, inr}
+use Rattle.std.proofs.Common.{◌≡◌, ℕ, Bool, true, false, ◌==◌, List, [], ◌∷◌, ◌++◌, find, Some, refl, sym, subst, ◌∙◌, ◌⊎◌, inl, inr}
 use Rattle.std.proofs.lemmas.Bool.{cases_Bool}
 use Rattle.std.proofs.lemmas.Option.{same_Some}
 use Rattle.table.specs.Operations.{is_value}
@@ -11,7 +11,7 @@ use Rattle.node.specs.declared.servers.OpenUpdate.{OpenUpdate}
 use Rattle.node.specs.declared.servers.OpenRead.{OpenRead}
 use Rattle.node.specs.declared.messages.Output.{Output}
 use Rattle.node.specs.declared.messages.Output.TheVariants.{Reply as Answered}
-use Rattle.node.specs.Servers.{ServerState, Outcome, and_then, without_first}
+use Rattle.node.specs.Servers.{ServerState, Outcome, and_then}
 use Rattle.node.specs.Numbering.{appended, entered, left_open_by, reply_to}
 use Rattle.node.specs.Reading.{asked}
 use Rattle.node.specs.Joining.{widened}
@@ -20,6 +20,7 @@ use Rattle.node.specs.Lawful.{IsSound}
 use Rattle.world.proofs.Lists.{In, in_front, in_behind}
 use Rattle.world.proofs.Addressed.{entry_in}
 use Rattle.world.proofs.Actions.{Action, Widen, Append, Reach, Settle, Send, Finish, Trim, Enter, Ask, Show, act, does, Cause, left, Guard, AreGuarded, IsDone}
+use Rattle.world.proofs.StaysOpen.{out_or_in}
 
 -- these outputs answer the call of a port, with an item or with none
 abbrev pub AnswersPort : ℕ → Bool → List Output → Type 0
@@ -51,25 +52,11 @@ open_then s a rule h g =
 pub open_still : (s : ServerState) (o : Outcome) → ((u : OpenUpdate) → In u s.pend → In u o.state.pend) → ((r : OpenRead) → In r s.asks → In r o.state.asks) → KeepsOpen s o
 open_still s o f g = record { updates = λ u i. inl (f u i); reads = λ r i. inl (g r i) }
 
--- ---- what is left of a list
-
-kept_step : {X : Type 0} (b : Bool) (test : X → Bool) (y x : X) (ys : List X) → test y ≡ b → In x (y ∷ ys) → (In x ys → In x (without_first test ys) ⊎ (find test ys ≡ Some x))
-    → In x (without_first test (y ∷ ys)) ⊎ (find test (y ∷ ys) ≡ Some x)
-kept_step true test y x ys t (zero, h) f = inr (rw t h)
-kept_step true test y x ys t (suc k, h) f = inl (rw t (k, h))
-kept_step false test y x ys t (zero, h) f = inl (rw t (0, h))
-kept_step false test y x ys t (suc k, h) f = elim (f (k, h)) [ inl g ↦ inl (rw t (suc g.0, g.1)) | inr g ↦ inr (rw t g) ]
-
--- what stood in a list stands in it still, or is the one that was taken out
-pub kept_without : {X : Type 0} (test : X → Bool) (xs : List X) (x : X) → In x xs → In x (without_first test xs) ⊎ (find test xs ≡ Some x)
-kept_without test [] x h = absurd (let e : None ≡ Some x = h.1 in cc)
-kept_without test (y ∷ xs) x h = kept_step (test y) test y x xs refl h (kept_without test xs x)
-
 -- ---- actions
 
 settled : (s : ServerState) (e : LogEntry) (u : OpenUpdate) → is_value e.reply ≡ false → In u s.pend → In u (left_open_by s.id s.pend e) ⊎ AnswersPort u.port false (reply_to s.id s.pend e)
 settled s e u plain i = elim (cases_Bool (e.origin == s.id)) [
-  | inl t ↦ elim (kept_without (λ (x : OpenUpdate). x.id == e.id) s.pend u i) [
+  | inl t ↦ elim (out_or_in (λ (x : OpenUpdate). x.id == e.id) s.pend u i) [
     | inl k ↦ inl (rw t k)
     | inr k ↦ inr (rw (t, k) (e.reply, (0, refl), plain))
   ]
@@ -78,7 +65,7 @@ settled s e u plain i = elim (cases_Bool (e.origin == s.id)) [
 
 finished : (s : ServerState) (q : OpenRead) (n : ℕ) (r : OpenRead) → find (λ (x : OpenRead). x.ask == q.ask) s.asks ≡ Some q → In r s.asks → In r (act s (Finish q n)).state.asks ⊎ AnswersPort r.port true (act s (Finish q n)).outputs
 unfolding act
-finished s q n r found i = elim (kept_without (λ (x : OpenRead). x.ask == q.ask) s.asks r i) [
+finished s q n r found i = elim (out_or_in (λ (x : OpenRead). x.ask == q.ask) s.asks r i) [
   | inl k ↦ inl k
   | inr k ↦ (let same : q ≡ r = same_Some q r (sym found ∙ k) in inr (Value (value_at s.store q.key n), (0, rw same refl), refl))
 ]

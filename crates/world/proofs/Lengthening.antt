@@ -1,6 +1,6 @@
 -- What a join leaves of the log: only a new head's own entries are added.
-use Rattle.std.proofs.Common.{◌≡◌, ℕ, ◌+◌, ◌<◌, ◌≤◌, nat_lt, ◌==◌, ◌&&◌, max, true, false, not, List, [], ◌∷◌, refl, arith, inl, inr, ap, sym, subst, ◌∙◌}
-use Rattle.std.proofs.lemmas.Bool.{cond_both, cases_Bool, both_ways, lt-ltb, cases_lt}
+use Rattle.std.proofs.Common.{◌≡◌, ℕ, ◌+◌, ◌<◌, ◌≤◌, nat_lt, ◌&&◌, true, false, not, List, [], ◌∷◌, refl, arith, inl, inr, ap, sym, subst, ◌∙◌}
+use Rattle.std.proofs.lemmas.Bool.{cond_both, cases_Bool, both_ways, cases_lt}
 use Rattle.std.specs.Prelude.{slice_index_or}
 use Rattle.table.specs.Operations.{is_update}
 use Rattle.table.specs.declared.operations.Call.{Call}
@@ -8,8 +8,8 @@ use Rattle.versions.specs.Stores.{last_number}
 use Rattle.node.specs.declared.servers.OpenUpdate.{OpenUpdate}
 use Rattle.node.specs.declared.messages.Body.TheVariants.{Op}
 use Rattle.node.specs.Views.{View, head, tail, is_that, is_same, is_below, has, adds}
-use Rattle.node.specs.Servers.{ServerState, Outcome, most, seen_of, head_of, tail_of, is_head, is_tail, silent}
-use Rattle.node.specs.Numbering.{entry_of, is_taken, taken, risen, take_update, receive_op}
+use Rattle.node.specs.Servers.{ServerState, Outcome, most, seen_of, head_of, tail_of, is_head, is_tail}
+use Rattle.node.specs.Numbering.{entry_of, is_taken, taken, risen, take_update}
 use Rattle.node.specs.Joining.{widened, taken_all, promoted_to_head, promoted_to_tail, caught_up, acked_to_predecessor, asks_renewed, rejoined, join}
 use Rattle.node.specs.Steps.{received}
 use Rattle.node.specs.Lawful.{IsCall, AreUpdates, IsSound}
@@ -17,7 +17,6 @@ use Rattle.node.proofs.SoundLaws.{sound-widened, updates_bound}
 use Rattle.node.proofs.RuleLaws.{sound-taken, silent-caught_up, silent-acked_to_predecessor}
 use Rattle.world.proofs.Tellings.{last_appended}
 use Rattle.world.proofs.OwnIds.{seen_same}
-use Rattle.world.proofs.Advances.{Advances}
 use Rattle.world.proofs.HeadTakes.{is_next, may_take, advances_taken, advances_taken_all}
 use Rattle.world.proofs.JoinsOpen.{is_head_at}
 use Rattle.world.proofs.OpenSteps.{seen_take}
@@ -33,9 +32,6 @@ record IsLike (s t : ServerState) : Type 0 where
 
 like_self : (s : ServerState) → IsLike s s
 like_self s = record { id = refl; count = refl; view = refl; next = refl; seen = refl; last = refl }
-
-like_then : (s t u : ServerState) → IsLike s t → IsLike t u → IsLike s u
-like_then s t u h g = record { id = g.id ∙ h.id; count = g.count ∙ h.count; view = g.view ∙ h.view; next = g.next ∙ h.next; seen = g.seen ∙ h.seen; last = g.last ∙ h.last }
 
 like_risen : (s : ServerState) (n : ℕ) → IsLike s (risen s n)
 unfolding risen

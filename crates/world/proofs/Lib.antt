@@ -38,7 +38,6 @@ pub mod LoggedEvents
 pub mod LoggedMoves
 pub mod OpenCalls
 pub mod StoreChanges
-pub mod Decided
 pub mod SoundActions
 pub mod DoneActions
 pub mod DoneRules
@@ -85,6 +84,7 @@ pub mod JoinTellings
 pub mod StepTellings
 pub mod StreamSteps
 pub mod StreamDeliveries
+pub mod Ways
 pub mod StreamEvents
 pub mod AtRest
 pub mod Opening
@@ -100,7 +100,6 @@ pub mod OpeningInputs
 pub mod OpeningEvents
 pub mod Totals
 pub mod Rooms
-pub mod Ways
 pub mod Paces
 pub mod KeptOpen
 pub mod CallsOpened

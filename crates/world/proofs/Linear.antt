@@ -180,6 +180,3 @@ pub stands : (t : Traced) (i : ℕ) (x : CallId) → StandsAt (order_of t) i x �
 stands t i x s =
     let p = mapped_get (λ (p : Placed). p.entry) (ranked t) i s.entry s.here in
     record { rank = p.0; here = p.1; same = ap (λ (e : Entry). e.id) p.2 ∙ s.same }
-
-pub stands_at : (t : Traced) (i : ℕ) (p : Placed) → slice_get (ranked t) i ≡ Some p → StandsAt (order_of t) i p.entry.id
-stands_at t i p h = record { entry = p.entry; here = get_mapped (λ (p : Placed). p.entry) (ranked t) i p h; same = refl }

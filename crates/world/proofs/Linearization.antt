@@ -1,5 +1,5 @@
 -- The order of a traced world is a linearization of its schedule.
-use Rattle.std.proofs.Common.{◌≡◌, ℕ, zero, suc, ◌+◌, ◌-◌, ◌<◌, ◌≤◌, List, [], ◌∷◌, length, take, Option, None, Some, refl, sym, ap, ◌∙◌, arith, subst, ◌⊎◌, inl, inr}
+use Rattle.std.proofs.Common.{◌≡◌, ℕ, ◌+◌, ◌-◌, ◌<◌, ◌≤◌, List, length, take, Option, None, Some, refl, sym, ap, ◌∙◌, arith, subst, ◌⊎◌, inl, inr}
 use Rattle.std.specs.Prelude.{slice_get, IsSome}
 use Rattle.std.proofs.lemmas.Bool.{both_ways, cases_order}
 use Rattle.std.proofs.lemmas.Option.{same_Some, slice_get_within}
@@ -16,6 +16,8 @@ use Rattle.world.proofs.Placing.{Placed, IsBefore, of_update, of_read, sorted_pl
 use Rattle.world.proofs.Placings.{sorted, update_found, read_placed}
 use Rattle.world.proofs.LegalOrder.{legal}
 use Rattle.world.proofs.Linear.{get_mapped, mapped_get, front, nothing_there, more_of, name_of, asked_of, named_is, asked_is, ranked, order_of, decided_committed, all_make, all_show, Sources, comes_from, stands, table_of}
+use Rattle.world.proofs.Fronts.{found_below}
+use Rattle.world.proofs.Since.{is_some}
 
 -- the id of a committed entry counts those of its origin
 id_committed : (t : Traced) → Lawful t → (k : ℕ) (e : LogEntry) → slice_get t.committed k ≡ Some e → e.id ≡ entries_of e.origin (take k t.committed) + 1
@@ -184,15 +186,6 @@ not_some : {X : Type 0} (o : Option X) → o ≡ None → IsSome o → ⊥
 not_some None e h = absurd cc
 not_some (Some x) e h = absurd cc
 
-is_some : {X : Type 0} (o : Option X) (x : X) → o ≡ Some x → IsSome o
-is_some None x e = absurd cc
-is_some (Some y) x e = refl
-
-some_within : {X : Type 0} (xs : List X) (k : ℕ) → k < length xs → (x : X) × (slice_get xs k ≡ Some x)
-some_within [] k l = absurd (omega arith)
-some_within (x ∷ xs) zero l = (x, refl)
-some_within (x ∷ xs) (suc k) l = some_within xs k (omega arith)
-
 -- an update or a read whose call wasn't begun at a moment stands late
 late_update : (past t : Traced) → Lawful past → Later past t → Newer past t → (y : CallId) → begun_call past.world y ≡ None → (k : ℕ) (e : LogEntry) → slice_get t.committed k ≡ Some e → name_of t e ≡ y
     → length past.committed ≤ k
@@ -215,7 +208,7 @@ late_read past t l later newer y none j r h id = (
     | inl is ↦ omega (arith, is)
     | inr other ↦ elim other [
       | inl less ↦
-          let old = some_within past.reads j less in
+          let old = found_below past.reads j less in
           let one = same_Some old.0 r (sym (later.reads j old.0 old.1) ∙ h) in
           let f = l.read.reads j old.0 old.1 in
           absurd (not_some _ none (is_some _ f.call (ap (begun_call past.world) (sym id ∙ ap (λ (r : AnsweredRead). r.id) (sym one)) ∙ f.begun)))

@@ -1,20 +1,8 @@
 -- Whom a server takes for its neighbours, its head and its tail.
-use Rattle.std.proofs.Common.{◌≡◌, ◌≢◌, ℕ, suc, ◌-◌, ◌<◌, true, false, Option, Some, None, refl, ap, ◌∙◌, arith}
-use Rattle.std.proofs.lemmas.Bool.{both_ways, eqb-true, eq-eqb}
-use Rattle.std.proofs.lemmas.Option.{same_Some}
-use Rattle.node.specs.Views.{is_that, is_same}
+use Rattle.std.proofs.Common.{◌≡◌, ◌≢◌, ℕ, suc, ◌-◌, ◌<◌, false, Some, arith}
 use Rattle.node.specs.Servers.{ServerState, head_of, tail_of, is_head, is_tail, previous, next}
 use Rattle.node.proofs.ViewLaws.{next_is, next_within_many, previous_is}
-
-pub same_is : (a b : Option ℕ) → is_same a b ≡ true → a ≡ b
-same_is None None h = refl
-same_is None (Some j) h = absurd cc
-same_is (Some i) None h = absurd cc
-same_is (Some i) (Some j) h = ap Some (eqb-true i j h)
-
-not_that : (found : Option ℕ) (i j : ℕ) → is_that found i ≡ false → found ≡ Some j → j ≢ i
-not_that None i j h e same = absurd cc
-not_that (Some k) i j h e same = let k_is : k ≡ j = same_Some k j e in both_ways _ h (eq-eqb k i (k_is ∙ same))
+use Rattle.node.proofs.Addresses.{to_head, to_tail}
 
 pub previous_below : (s : ServerState) (j : ℕ) → previous s ≡ Some j → j < s.id
 previous_below s j e = (previous_is s.view s.id j e).below
@@ -33,7 +21,7 @@ tail_within s j e = (previous_is s.view s.count j e).below
 
 -- who isn't the head takes another for it
 pub head_other : (s : ServerState) (j : ℕ) → is_head s ≡ false → head_of s ≡ Some j → j ≢ s.id
-head_other s j h e = not_that (head_of s) s.id j h e
+head_other s j h e = (to_head s j h e).1
 
 pub tail_other : (s : ServerState) (j : ℕ) → is_tail s ≡ false → tail_of s ≡ Some j → j ≢ s.id
-tail_other s j h e = not_that (tail_of s) s.id j h e
+tail_other s j h e = (to_tail s j h e).1

@@ -1,5 +1,5 @@
 -- In a quiet world each begun call of a connection whose home lives is answered.
-use Rattle.std.proofs.Common.{◌≡◌, ℕ, zero, suc, ◌+◌, ◌-◌, ◌<◌, ◌≤◌, Bool, true, false, not, ◌&&◌, ◌||◌, List, [], ◌∷◌, length, take, Option, Some, None, refl, sym, ap, subst, ◌∙◌, arith, inl, inr}
+use Rattle.std.proofs.Common.{◌≡◌, ℕ, zero, suc, ◌+◌, ◌-◌, ◌^◌, ◌<◌, ◌≤◌, Bool, true, false, not, ◌&&◌, ◌||◌, List, [], ◌∷◌, length, take, Option, Some, None, refl, sym, ap, subst, ◌∙◌, arith, lit<, inl, inr}
 use Rattle.std.specs.Prelude.{slice_get, IsSome}
 use Rattle.std.specs.Option.{option_and_then}
 use Rattle.std.specs.List.{list_all}
@@ -31,31 +31,51 @@ use Rattle.world.proofs.Ways.{Way, way}
 use Rattle.world.proofs.InStep.{open_calls, InStep, AllInStep, in_step_happens, in_step_outset}
 use Rattle.world.proofs.Stages.{AllOpen}
 use Rattle.world.proofs.StageEvents.{open_way, open_outset}
-use Rattle.world.proofs.Bounds.{Bounded, room, bounded_way, bounded_outset}
+use Rattle.world.proofs.Bounds.{Bounded, room, bounded_way, bounded_first, bounded_outset}
 use Rattle.world.proofs.Asking.{Asking}
 use Rattle.world.proofs.AskEvents.{asking_way, asking_outset}
 use Rattle.world.proofs.RestingCalls.{reads_closed, updates_closed}
 
 -- ---- what holds after k events
 
+-- the first event uses no number
+abbrev less_one : ℕ → ℕ
+less_one zero = zero
+less_one (suc k) = k
+
+below : (m n : ℕ) → n < m → n ≤ m - 1
+below m n h = omega (arith, h)
+
+at_most : (n : ℕ) → n < 2 ^ 64 → n ≤ most
+unfolding most
+at_most n h = below (2 ^ 64) n h
+
+one_below_most : 1 < most
+unfolding most
+one_below_most = lit< tt
+
+less_one_below : (k : ℕ) → k < most → less_one k + 1 < most
+less_one_below zero l = one_below_most
+less_one_below (suc k) l = omega (arith, l)
+
 record Running (k : ℕ) (t : Traced) : Type 0 where
   in_step : AllInStep t.world
-  bounded : Bounded k t.world
+  bounded : Bounded (less_one k) t.world
   waits : AllOpen t.world
   asking : Asking t.world
   streaming : Streaming t.world
   opening : Opening t.world
 
-running_next : (k : ℕ) (t u : Traced) (e : Event) → Follows t u → u.world ≡ happens t.world e → k + 1 < most → Running k t → Running (suc k) u
-running_next k t u e f next few r =
+running_next : (k : ℕ) (t u : Traced) (e : Event) → Follows t u → u.world ≡ happens t.world e → k < most → Bounded k u.world → Running k t → Running (suc k) u
+running_next k t u e f next few bounded r =
     let goes : Way t.world u.world = subst (λ w. Way t.world w) (sym next) (way t.world e) in
     record {
       in_step = subst AllInStep (sym next) (in_step_happens t.world e r.in_step);
-      bounded = bounded_way k t f.before f.servers r.bounded u.world goes;
-      waits = open_way t f.before f.servers r.waits u.world goes (room k t f.before r.bounded few);
+      bounded = bounded;
+      waits = open_way t f.before f.servers r.waits u.world goes (room (less_one k) t f.before r.bounded (less_one_below k few));
       asking = asking_way t u f.before f.later f.servers r.asking goes;
       streaming = streaming_happens t u f r.streaming e next;
-      opening = opening_happens t u f r.streaming r.opening (has_rooms t f.before (omega (arith, r.bounded.all, few))) e next;
+      opening = opening_happens t u f r.streaming r.opening (has_rooms t f.before (omega (arith, r.bounded.all, less_one_below k few))) e next;
     }
 
 running_first : (n : ℕ) (homes : List ℕ) → Running 0 (outset n homes)
@@ -71,7 +91,7 @@ running_first n homes = record {
 found_at : {X : Type 0} (xs : List X) (k : ℕ) → k < length xs → (x : X) × (slice_get xs k ≡ Some x)
 found_at xs k l = some_of (slice_get xs k) (get_within xs k l)
 
-module _ (n : ℕ) (homes : List ℕ) (events : List Event) (m : Moments (outset n homes) events) (short : length events < most) where
+module _ (n : ℕ) (homes : List ℕ) (few : n ≤ 16) (events : List Event) (m : Moments (outset n homes) events) (short : length events ≤ most) where
   follows : (k : ℕ) → Follows (m.at k) (m.at (suc k))
   follows k = record { before = m.lawful k; after = m.lawful (suc k); later = (m.goes k (suc k) (omega arith) None).later; servers = m.all k }
 
@@ -79,11 +99,17 @@ module _ (n : ℕ) (homes : List ℕ) (events : List Event) (m : Moments (outset
   next_world k e at =
       m.world (suc k) ∙ ap (λ es. run_from (outset n homes).world es) (taken_more events k e at) ∙ run-append (take k events) (e ∷ []) (outset n homes).world ∙ ap (λ w. happens w e) (sym (m.world k))
 
+  bounded_at : (k : ℕ) → Way (m.at k).world (m.at (suc k)).world → Running k (m.at k) → Bounded k (m.at (suc k)).world
+  bounded_at zero goes r = bounded_first n homes few (subst (λ t. Lawful t) m.start (m.lawful 0)) (m.at 1).world (subst (λ t. Way t.world (m.at 1).world) m.start goes)
+  bounded_at (suc k) goes r = bounded_way k (m.at (suc k)) (m.lawful (suc k)) (m.all (suc k)) r.bounded (m.at (suc (suc k))).world goes
+
   running : (k : ℕ) → k ≤ length events → Running k (m.at k)
   running zero l = subst (λ t. Running 0 t) (sym m.start) (running_first n homes)
   running (suc k) l =
       let e = found_at events k (omega (arith, l)) in
-      running_next k (m.at k) (m.at (suc k)) e.0 (follows k) (next_world k e.0 e.1) (omega (arith, l, short)) (running k (omega (arith, l)))
+      let next = next_world k e.0 e.1 in
+      let before = running k (omega (arith, l)) in
+      running_next k (m.at k) (m.at (suc k)) e.0 (follows k) next (omega (arith, l, short)) (bounded_at k (subst (λ w. Way (m.at k).world w) (sym next) (way (m.at k).world e.0)) before) before
 
 -- ---- a quiet world
 
@@ -132,7 +158,7 @@ module _ (k : ℕ) (t : Traced) (h : Lawful t) (servers : (i : ℕ) → i < coun
   all_answered x begun alive = answered_at x (slice_get t.world.connections x.connection) refl alive begun
 
 -- no call is forgotten
-pub none_forgotten : (n : ℕ) (homes : List ℕ) (events : List Event) → n ≤ 16 → length events < most → is_quiet (run_of n homes events) ≡ true
+pub none_forgotten : (n : ℕ) (homes : List ℕ) (events : List Event) → n ≤ 16 → length events < 2 ^ 64 → is_quiet (run_of n homes events) ≡ true
     → (x : CallId) → IsBegun (run_of n homes events) x → has_living_home (run_of n homes events) x ≡ true → IsAnswered (run_of n homes events) x
 none_forgotten n homes events few short quiet x begun alive =
     let m = all_moments n homes events few in
@@ -140,5 +166,5 @@ none_forgotten n homes events few short quiet x begun alive =
     let same : (m.at k).world ≡ run_of n homes events = m.world k ∙ ap (λ es. run_of n homes es) (take_all k events (omega arith)) in
     let back = sym same in
     subst (λ w. IsAnswered w x) same
-    (all_answered k (m.at k) (m.lawful k) (m.all k) (running n homes events m short k (omega arith)) (subst (λ w. is_quiet w ≡ true) back quiet) x
+    (all_answered k (m.at k) (m.lawful k) (m.all k) (running n homes few events m (at_most k short) k (omega arith)) (subst (λ w. is_quiet w ≡ true) back quiet) x
     (subst (λ w. IsBegun w x) back begun) (subst (λ w. has_living_home w x ≡ true) back alive))

@@ -1,14 +1,14 @@
 -- A connection's open call and its name.
 use Rattle.std.proofs.Common.{◌≡◌, ℕ, length, Some, ap, sym, ◌∙◌}
 use Rattle.std.specs.Prelude.{slice_get}
-use Rattle.std.specs.Option.{option_and_then}
 use Rattle.std.proofs.lemmas.Option.{same_Some}
 use Rattle.table.specs.declared.operations.Call.{Call}
 use Rattle.world.specs.Connections.{Connection, open_call}
 use Rattle.world.specs.Worlds.{World}
-use Rattle.world.specs.Calls.{CallId, begun_call}
+use Rattle.world.specs.Calls.{begun_call}
 use Rattle.world.proofs.Traces.{Traced, open_id, open_place}
 use Rattle.world.proofs.Layers.{IsWith}
+use Rattle.world.proofs.LaterMoves.{call_found}
 
 -- the place of the open call of a connection that stands there
 pub place_of : (w : World) (c : ℕ) (k : Connection) → slice_get w.connections c ≡ Some k → (open_id w c).place ≡ length k.replies
@@ -17,12 +17,8 @@ place_of w c k h = ap open_place h
 pub open_id_is : (w : World) (c : ℕ) (k : Connection) → slice_get w.connections c ≡ Some k → open_id w c ≡ record { connection = c; place = length k.replies }
 open_id_is w c k h = ap (λ n. record { connection = c; place = n }) (ap open_place h)
 
--- a call that stands at its place is begun
-pub begun_there : (w : World) (x : CallId) (k : Connection) (call : Call) → slice_get w.connections x.connection ≡ Some k → slice_get k.calls x.place ≡ Some call → begun_call w x ≡ Some call
-begun_there w x k call h g = ap (λ o. option_and_then (λ (k : Connection). slice_get k.calls x.place) o) h ∙ g
-
 pub open_begun : (w : World) (c : ℕ) (k : Connection) (call : Call) → slice_get w.connections c ≡ Some k → open_call k ≡ Some call → begun_call w (open_id w c) ≡ Some call
-open_begun w c k call h g = begun_there w (open_id w c) k call h (ap (λ n. slice_get k.calls n) (place_of w c k h) ∙ g)
+open_begun w c k call h g = call_found w (open_id w c) k call h (ap (λ n. slice_get k.calls n) (place_of w c k h) ∙ g)
 
 -- of one connection there is one open call
 pub same_connection : (w : World) (c : ℕ) (k l : Connection) → slice_get w.connections c ≡ Some k → slice_get w.connections c ≡ Some l → k ≡ l

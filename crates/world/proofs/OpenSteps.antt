@@ -1,33 +1,31 @@
 -- What a whole step makes of the own updates: a new one enters, and is taken or sent to the head.
-use Rattle.std.proofs.Common.{◌≡◌, ◌≢◌, ℕ, zero, suc, ◌+◌, ◌<◌, ◌≤◌, nat_lt, ◌==◌, ◌&&◌, ◌||◌, true, false, not, List, [], ◌∷◌, ◌++◌, Option, Some, None, refl, arith, inl, inr, ap, sym, subst, ◌∙◌, append-nil}
-use Rattle.std.proofs.lemmas.Bool.{cond_both, and_parts, both_ways, eqb-true, eqb-false, ltb-true, not-true, lt-ltb}
+use Rattle.std.proofs.Common.{◌≡◌, ℕ, ◌+◌, ◌<◌, ◌≤◌, nat_lt, ◌==◌, ◌&&◌, ◌||◌, true, false, not, List, refl, arith, inl, inr, ap, sym, subst, ◌∙◌, append-nil}
+use Rattle.std.proofs.lemmas.Bool.{cond_both, and_parts, both_ways, eqb-false, ltb-true, not-true}
 use Rattle.table.specs.Operations.{is_update}
 use Rattle.table.specs.declared.operations.Call.{Call}
 use Rattle.table.specs.declared.operations.Target.{Target}
 use Rattle.table.specs.declared.operations.Target.TheVariants.{One, All}
 use Rattle.versions.specs.Stores.{last_number, is_clean}
-use Rattle.node.specs.declared.messages.Body.{Body}
 use Rattle.node.specs.declared.messages.Body.TheVariants.{Op, Query}
 use Rattle.node.specs.declared.messages.Peer.{Peer}
 use Rattle.node.specs.declared.messages.Input.{Input}
 use Rattle.node.specs.declared.messages.Input.TheVariants.{Call as Called, From, Gone}
 use Rattle.node.specs.declared.messages.Output.{Output}
-use Rattle.node.specs.Views.{View, has, single, is_that}
-use Rattle.node.specs.Servers.{ServerState, Outcome, most, seen_of, head_of, tail_of, is_head, silent, putting, and_then, message_to}
-use Rattle.node.specs.Numbering.{appended, entry_of, is_taken, passed_on, take_update, entered, is_room_for_update, called, update}
-use Rattle.node.specs.Reading.{asked, dirty_read, read, read_of}
+use Rattle.node.specs.Views.{single}
+use Rattle.node.specs.Servers.{ServerState, Outcome, most, seen_of, head_of, tail_of, is_head, silent, putting, message_to}
+use Rattle.node.specs.Numbering.{appended, entry_of, is_taken, take_update, entered, is_room_for_update, update}
+use Rattle.node.specs.Reading.{asked, dirty_read, read_of}
 use Rattle.node.specs.Joining.{join}
 use Rattle.node.specs.Steps.{call, gone, received, is_heard, from_peer, taken_in, trimmed, step}
 use Rattle.node.specs.Lawful.{IsCall, IsInput, HoldsEntry, IsSound, IsLawful}
 use Rattle.node.proofs.ViewLaws.{has-single_other, below-single}
 use Rattle.node.proofs.SoundLaws.{sound-entered, sound-appended}
 use Rattle.node.proofs.RuleLaws.{IsGood, entry_of-valid, good-join, heard, good-taken_in}
-use Rattle.world.proofs.Streaming.{IsRun}
-use Rattle.world.proofs.Opening.{Own, HasSeen, IsOpen, IsAnswered}
-use Rattle.world.proofs.Lists.{In, in_front, get_last}
+use Rattle.world.proofs.Opening.{Own, HasSeen, IsOpen}
+use Rattle.world.proofs.Lists.{in_front}
 use Rattle.world.proofs.OwnIds.{own_entered, seen_same}
-use Rattle.world.proofs.Advances.{ops_to, no_op, Advances, advances_silent, advances_put, advances_passed_on, advances_take, IsNextIn, advances_received, advances_trimmed}
-use Rattle.world.proofs.HeadTakes.{HasRoom, may_take, is_next, ops_called}
+use Rattle.world.proofs.Advances.{no_op, advances_silent, advances_put, advances_passed_on, advances_take, IsNextIn, advances_received, advances_trimmed}
+use Rattle.world.proofs.HeadTakes.{HasRoom, may_take, ops_called, head_apart}
 use Rattle.world.proofs.JoinsOpen.{Serves, is_head_at, serves_then, serves_told, serves_join}
 
 -- an update that is taken is seen
@@ -70,9 +68,6 @@ room_at_head s room t =
     let left : nat_lt (last_number s.store) most ≡ true = rw t at two in
     ltb-true _ _ left
 
-head_is_other : (s : ServerState) (h : ℕ) → is_head s ≡ true → head_of s ≡ Some h → h ≢ s.id → ⊥
-head_is_other s h t is other = other (eqb-true h s.id (ap (λ o. is_that o s.id) (sym is) ∙ t))
-
 serves_taken : (s : ServerState) (port : ℕ) (made : Call) → IsSound s → IsCall made → is_update made.op ≡ true → Own s → HasSeen s → is_room_for_update s ≡ true → is_head s ≡ true
     → Serves s (take_update (entered s port made) (entered s port made).id s.next_id made)
 serves_taken s port made h fit update own first room t =
@@ -98,7 +93,7 @@ serves_taken s port made h fit update own first room t =
       seen = λ o l. omega (arith, g.seen o l, seen_entered s port made o);
       own = own2;
       first = λ _. omega (arith, own2.issued, own2.high, g.next, is.next, got, ap (λ o. seen_of a.state o) g.id);
-      same = λ y other was now m e. absurd (head_is_other s y t was other);
+      same = λ y other was now m e. absurd (head_apart s y t was other);
       new = λ y other was now. absurd (was (sym same_head ∙ now));
     }
 

@@ -1,6 +1,6 @@
 -- Which calls are open, and what is on its way to answer them: own updates by their ids, own reads by their asks.
-use Rattle.std.proofs.Common.{◌≡◌, ◌≢◌, ℕ, suc, ◌+◌, ◌<◌, ◌≤◌, true, false, List, [], ◌∷◌, ◌++◌, length, map, Some, ◌⊎◌}
-use Rattle.std.specs.Prelude.{if◌then◌else◌, ◌==◌, slice_get}
+use Rattle.std.proofs.Common.{◌≡◌, ◌≢◌, ℕ, ◌+◌, ◌<◌, ◌≤◌, true, false, List, [], ◌∷◌, ◌++◌, length, map, Some, ◌⊎◌}
+use Rattle.std.specs.Prelude.{if◌then◌else◌, ◌==◌}
 use Rattle.table.specs.declared.operations.Reply.{Reply}
 use Rattle.versions.specs.Entries.{LogEntry}
 use Rattle.versions.specs.Stores.{StoreState, entries_after}
@@ -12,9 +12,7 @@ use Rattle.node.specs.declared.messages.Peer.{Peer}
 use Rattle.node.specs.declared.messages.Output.{Output}
 use Rattle.node.specs.declared.messages.Output.TheVariants.{Reply as Answered}
 use Rattle.node.specs.Views.{has}
-use Rattle.node.specs.Servers.{ServerState, seen_of, head_of, tail_of, is_head}
-use Rattle.world.specs.declared.connections.Stage.TheVariants.{Asked}
-use Rattle.world.specs.Connections.{Connection}
+use Rattle.node.specs.Servers.{ServerState, seen_of, head_of, is_head}
 use Rattle.world.specs.Worlds.{World, server, link}
 use Rattle.world.proofs.Lists.{In}
 use Rattle.world.proofs.Streaming.{IsRun}
@@ -98,7 +96,3 @@ pub record Opening (w : World) : Type 0 where
   pub own : (o : ℕ) → o < length w.servers → Own (server w o)
   pub first : (o : ℕ) → o < length w.servers → HasSeen (server w o)
   pub ops : (o h : ℕ) → Headed w o h → Sends w o h
-
--- a call that is with its server is open there
-abbrev pub Staged : World → Type 0
-Staged w = (c : ℕ) (k : Connection) → slice_get w.connections c ≡ Some k → k.stage ≡ Asked → IsOpen (server w k.home) c

@@ -1,35 +1,34 @@
 -- Each event keeps what is known of own updates and of what is on its way to heads.
-use Rattle.std.proofs.Common.{◌≡◌, ◌≢◌, ℕ, ◌+◌, ◌<◌, ◌≤◌, ◌&&◌, true, false, List, [], ◌∷◌, ◌++◌, length, Option, Some, None, refl, sym, ap, subst, ◌∙◌, arith, inl, inr, ◌⊎◌}
-use Rattle.std.specs.Prelude.{slice_get}
-use Rattle.std.proofs.lemmas.Bool.{cases_eq, cond_both, and_parts}
-use Rattle.table.specs.declared.operations.Call.{Call}
+use Rattle.std.proofs.Common.{◌≡◌, ◌≢◌, ℕ, ◌+◌, ◌<◌, List, ◌∷◌, ◌++◌, length, refl, sym, ap, subst, ◌∙◌, arith, inl, inr}
+use Rattle.std.proofs.lemmas.Bool.{cases_eq}
 use Rattle.node.specs.declared.messages.Body.{Body}
 use Rattle.node.specs.declared.messages.Body.TheVariants.{Op, Forward, Ack, Query, Answer}
 use Rattle.node.specs.declared.messages.Peer.{Peer}
 use Rattle.node.specs.declared.messages.Input.{Input}
 use Rattle.node.specs.declared.messages.Input.TheVariants.{Call as Called, From, Gone}
 use Rattle.node.specs.Views.{has}
-use Rattle.node.specs.Servers.{ServerState, Outcome, opening, seen_of, head_of}
+use Rattle.node.specs.Servers.{ServerState, opening, seen_of, head_of}
 use Rattle.node.specs.Steps.{step}
 use Rattle.node.specs.Lawful.{IsInput, HoldsEntry}
 use Rattle.world.specs.declared.events.Event.{Event}
-use Rattle.world.specs.declared.events.Event.TheVariants.{Piece, Begin, Work, Deliver, Fail, Tell, Hand}
-use Rattle.world.specs.Connections.{Connection, open_call, to_work, asked}
-use Rattle.world.specs.Worlds.{World, server, link, lives, has_failed, takes, with_link, with_connection, sent_in, worked, delivered, happens}
+use Rattle.world.specs.Connections.{asked}
+use Rattle.world.specs.Worlds.{World, server, link, takes, with_link, with_connection, happens}
 use Rattle.world.proofs.Lists.{In}
 use Rattle.world.proofs.Traces.{Traced, count, outset}
 use Rattle.world.proofs.IdLaws.{living_parts}
 use Rattle.world.proofs.Outsets.{all_alike, count_outset, server_outset, link_outset}
 use Rattle.world.proofs.Streaming.{IsRun, Streaming}
-use Rattle.world.proofs.ForwardRuns.{run_up, same_link, link-with_connection}
+use Rattle.world.proofs.ForwardRuns.{run_up, same_link}
 use Rattle.world.proofs.StreamSteps.{has_link, Between}
 use Rattle.world.proofs.StreamDeliveries.{sender_apart}
-use Rattle.world.proofs.StreamEvents.{IsStill, still_self, still_connection, still_failing, Follows, IsReady, to_work_is, between, links_from, ready_self, ready_taken, links_taken, ready_asked}
+use Rattle.world.proofs.StreamEvents.{IsStill, still_self, still_connection, still_failing, Follows, IsReady, between, links_from, ready_self, ready_taken, links_taken, ready_asked}
 use Rattle.world.proofs.Opening.{op_id, op_ids, Own, HasSeen, Headed, Sends, Opening}
 use Rattle.world.proofs.JoinsOpen.{Serves}
 use Rattle.world.proofs.OpenSteps.{IsExpected, serves_step}
 use Rattle.world.proofs.OpeningSteps.{headed_other, seen_later, sends_other, sends_own}
 use Rattle.world.proofs.OpeningInputs.{HasRooms, expected, seen_there}
+use Rattle.world.proofs.WorldLaws.{link-with_connection}
+use Rattle.world.proofs.Ways.{Way, Stays, Comes, Starts, Hands, Fails, Works, Delivers, Tells, way}
 
 pub opening_still : (w w' : World) → IsStill w w' → Opening w → Opening w'
 opening_still w w' h s = record {
@@ -132,38 +131,22 @@ module _ (t u : Traced) (h : Follows t u) (streaming : Streaming t.world) (befor
   as_still : (w : World) → IsStill t.world w → u.world ≡ w → Opening u.world
   as_still w still e = subst (λ x. Opening x) (sym e) (opening_still t.world w still before)
 
-  unchanged : u.world ≡ t.world → Opening u.world
-  unchanged e = as_still t.world (still_self t.world) e
-
-  opening_deliver : (i a : ℕ) (ms : List Peer) → link t.world i a ≡ ms → u.world ≡ delivered t.world i a ms → Opening u.world
-  opening_deliver i a [] first = unchanged
-  opening_deliver i a (m ∷ ms) first = cond_both (lives t.world a) _ _ (λ w. u.world ≡ w → Opening u.world) (λ _ e. opening_delivered i a m ms first e) (λ _ e. unchanged e)
-
-  opening_tell : (i j : ℕ) → u.world ≡ happens t.world (Tell i j) → Opening u.world
-  opening_tell i j = cond_both (lives t.world i && has_failed t.world j) _ _ (λ w. u.world ≡ w → Opening u.world)
-      (λ both e. opening_step t.world i (Gone j) (ready_self t u h streaming i) (λ x y. refl) (living_parts t.world i (and_parts (lives t.world i) (has_failed t.world j) both).0).0 tt tt tt e)
-      (λ _ e. unchanged e)
-
-  opening_sent : (c : ℕ) (k : Connection) (call : Option Call) → slice_get t.world.connections c ≡ Some k → ((x : Call) → call ≡ Some x → open_call k ≡ Some x) → k.home < count t → u.world ≡ sent_in t.world c k.home call → Opening u.world
-  opening_sent c k None here is home = unchanged
-  opening_sent c k (Some call) here is home = λ e.
-      opening_step (with_connection t.world c asked) k.home (Called c call) (ready_asked t u h streaming c k.home) (λ x y. link-with_connection t.world c asked x y) home (h.before.framed.calls c (length k.replies) k call here (is call refl)) tt tt e
-
-  opening_worked : (c : ℕ) (found : Option Connection) → slice_get t.world.connections c ≡ found → u.world ≡ worked t.world c found → Opening u.world
-  opening_worked c None here = unchanged
-  opening_worked c (Some k) here = cond_both (lives t.world k.home) _ _ (λ w. u.world ≡ w → Opening u.world)
-      (λ on e. opening_sent c k (to_work k.stage k) here (λ x. to_work_is k.stage k x) (living_parts t.world k.home on).0 e)
-      (λ _ e. unchanged e)
+  opening_way : Way t.world u.world → Opening u.world
+  opening_way (Stays e) = as_still _ (still_self t.world) e
+  opening_way (Comes c bytes e) = as_still _ (still_connection t.world c _) e
+  opening_way (Starts c e) = as_still _ (still_connection t.world c _) e
+  opening_way (Hands c e) = as_still _ (still_connection t.world c _) e
+  opening_way (Fails i e) = as_still _ (still_failing t.world i) e
+  opening_way (Works r) =
+      let home = r.connection.home in
+      let fit = h.before.framed.calls r.c (length r.connection.replies) r.connection r.call r.here r.called in
+      opening_step (with_connection t.world r.c asked) home (Called r.c r.call) (ready_asked t u h streaming r.c home) (λ x y. link-with_connection t.world r.c asked x y) (living_parts t.world home r.lives).0 fit tt tt r.world
+  opening_way (Delivers r) = opening_delivered r.i r.j r.message r.later r.first r.world
+  opening_way (Tells r) = opening_step t.world r.i (Gone r.j) (ready_self t u h streaming r.i) (λ x y. refl) (living_parts t.world r.i r.lives).0 tt tt tt r.world
 
   -- each event keeps them
   pub opening_happens : (e : Event) → u.world ≡ happens t.world e → Opening u.world
-  opening_happens (Piece c bytes) = as_still _ (still_connection t.world c _)
-  opening_happens (Begin c) = as_still _ (still_connection t.world c _)
-  opening_happens (Work c) = opening_worked c (slice_get t.world.connections c) refl
-  opening_happens (Deliver i j) = opening_deliver i j (link t.world i j) refl
-  opening_happens (Fail i) = cond_both (lives t.world i) _ _ (λ w. u.world ≡ w → Opening u.world) (λ _. as_still _ (still_failing t.world i)) (λ _. unchanged)
-  opening_happens (Tell i j) = opening_tell i j
-  opening_happens (Hand c) = as_still _ (still_connection t.world c _)
+  opening_happens e is = opening_way (subst (λ w. Way t.world w) (sym is) (way t.world e))
 
 -- ---- the outset
 

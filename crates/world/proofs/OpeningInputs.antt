@@ -1,10 +1,9 @@
 -- What is known of the message that a server takes: an own entry that comes is its next one, and an update that comes is seen.
-use Rattle.std.proofs.Common.{◌≡◌, ◌≢◌, ℕ, suc, ◌+◌, ◌-◌, ◌<◌, ◌≤◌, true, false, List, [], ◌∷◌, ◌++◌, length, take, Option, Some, None, refl, sym, ap, subst, ◌∙◌, arith, inl, inr}
-use Rattle.std.specs.Prelude.{slice_index_or, slice_get}
+use Rattle.std.proofs.Common.{◌≡◌, ◌≢◌, ℕ, ◌+◌, ◌-◌, ◌<◌, ◌≤◌, true, false, List, length, take, Some, None, refl, sym, ap, subst, ◌∙◌, arith, inl}
+use Rattle.std.specs.Prelude.{slice_index_or}
 use Rattle.std.proofs.lemmas.Bool.{both_ways, false_from_ne_true}
 use Rattle.std.proofs.lemmas.List.{take_all}
 use Rattle.std.proofs.lemmas.Option.{slice_get_within}
-use Rattle.table.specs.Operations.{is_update}
 use Rattle.table.specs.declared.operations.Call.{Call}
 use Rattle.versions.specs.Entries.{LogEntry}
 use Rattle.versions.specs.Stores.{last_number}
@@ -12,12 +11,12 @@ use Rattle.node.specs.declared.messages.Body.{Body}
 use Rattle.node.specs.declared.messages.Body.TheVariants.{Op, Forward, Ack, Query, Answer}
 use Rattle.node.specs.declared.messages.Peer.{Peer}
 use Rattle.node.specs.declared.messages.Input.TheVariants.{From}
-use Rattle.node.specs.Views.{View, has, head}
+use Rattle.node.specs.Views.{has}
 use Rattle.node.specs.Servers.{ServerState, most, seen_of, head_of, is_head, previous}
 use Rattle.node.specs.Joining.{join}
 use Rattle.node.specs.Steps.{received, is_heard, trimmed, step}
 use Rattle.node.specs.Lawful.{IsCall, IsBody, IsSound, IsLawful}
-use Rattle.node.proofs.RuleLaws.{IsGood, heard, good-join, good-received}
+use Rattle.node.proofs.RuleLaws.{heard, good-join, good-received}
 use Rattle.world.specs.Worlds.{World, server, link}
 use Rattle.world.proofs.Lists.{In}
 use Rattle.world.proofs.Traces.{Traced, log, issued_by, count}

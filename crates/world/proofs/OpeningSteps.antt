@@ -1,5 +1,5 @@
 -- A step keeps what is on its way to heads: what others send stays, and the server's own goes on.
-use Rattle.std.proofs.Common.{◌≡◌, ◌≢◌, ℕ, suc, ◌+◌, ◌-◌, ◌<◌, ◌≤◌, true, false, List, [], ◌∷◌, ◌++◌, length, take, drop, Option, Some, None, refl, sym, ap, subst, ◌∙◌, arith, inl, inr, ◌⊎◌, append-nil}
+use Rattle.std.proofs.Common.{◌≡◌, ◌≢◌, ℕ, suc, ◌<◌, ◌≤◌, false, List, [], ◌∷◌, ◌++◌, length, take, drop, Some, refl, sym, ap, subst, ◌∙◌, arith, inl, inr, ◌⊎◌}
 use Rattle.std.proofs.lemmas.Bool.{cases_eq, cases_lt, both_ways}
 use Rattle.std.proofs.lemmas.List.{take-append-drop, take_all}
 use Rattle.versions.specs.Entries.{LogEntry}
@@ -7,21 +7,22 @@ use Rattle.node.specs.declared.messages.Body.{Body}
 use Rattle.node.specs.declared.messages.Body.TheVariants.{Op, Forward, Ack, Query, Answer}
 use Rattle.node.specs.declared.messages.Peer.{Peer}
 use Rattle.node.specs.Views.{has, head}
-use Rattle.node.specs.Servers.{ServerState, Outcome, seen_of, head_of, is_head}
+use Rattle.node.specs.Servers.{Outcome, seen_of, head_of}
 use Rattle.table.specs.declared.operations.Call.{Call}
-use Rattle.world.specs.Worlds.{World, server, link}
+use Rattle.world.specs.Worlds.{server, link}
 use Rattle.world.proofs.Lists.{In, Begins}
 use Rattle.world.proofs.Traces.{Traced, log, count}
-use Rattle.world.proofs.Layers.{Later, Goes, Framed, Lawful, entries_of}
-use Rattle.world.proofs.Beginnings.{begins-length, begins-take}
+use Rattle.world.proofs.Layers.{Goes, Framed, Lawful, entries_of}
+use Rattle.world.proofs.Beginnings.{begins-take}
 use Rattle.world.proofs.IdLaws.{head_of_is, head_from}
 use Rattle.world.proofs.EntryCounts.{entries-joined}
-use Rattle.world.proofs.Streaming.{IsRun, sent_to}
-use Rattle.world.proofs.ForwardRuns.{run-append, run_as}
-use Rattle.world.proofs.StreamSteps.{still_out, Between, some_or_not}
-use Rattle.world.proofs.Opening.{op_id, op_ids, Own, HasSeen, Headed, Sends}
+use Rattle.world.proofs.Streaming.{sent_to}
+use Rattle.world.proofs.ForwardRuns.{run-append}
+use Rattle.world.proofs.StreamSteps.{Between, some_or_not}
+use Rattle.world.proofs.Opening.{op_id, op_ids, Headed, Sends}
 use Rattle.world.proofs.Advances.{ops_to, op_ids-append}
 use Rattle.world.proofs.JoinsOpen.{Serves}
+use Rattle.world.proofs.LoggedLaws.{still_out}
 
 -- ---- what a lawful world tells
 

@@ -1,14 +1,14 @@
 -- The ids of own updates, as entries are appended and acknowledged.
-use Rattle.std.proofs.Common.{◌≡◌, ◌≢◌, ℕ, zero, suc, ◌+◌, ◌-◌, ◌<◌, ◌≤◌, max, Bool, true, false, cond, List, [], ◌∷◌, ◌++◌, length, map, take, drop, set, get_or, refl, arith, inl, inr, ap, sym, ◌∙◌, append_assoc}
+use Rattle.std.proofs.Common.{◌≡◌, ◌≢◌, ℕ, zero, suc, ◌+◌, ◌-◌, ◌<◌, ◌≤◌, max, Bool, true, false, cond, List, [], ◌∷◌, ◌++◌, length, take, drop, refl, arith, inl, inr, ap, sym, ◌∙◌}
 use Rattle.std.specs.Prelude.{◌==◌}
-use Rattle.std.proofs.lemmas.Bool.{cases_eq, eq-eqb, eqb-true, eqb-false, ne_eqb}
-use Rattle.std.proofs.lemmas.List.{length-set, get_or-set_same, get_or-set_other, append-nil, drop-drop, drop-append-le}
+use Rattle.std.proofs.lemmas.Bool.{cases_eq, eq-eqb, ne_eqb}
+use Rattle.std.proofs.lemmas.List.{get_or-set_same, get_or-set_other, append-nil, drop-drop, drop-append-le}
 use Rattle.table.specs.declared.operations.Call.{Call}
 use Rattle.versions.specs.Entries.{LogEntry}
-use Rattle.versions.specs.Stores.{StoreState, IsStore, last_number, entries_after, pushed, dropped_to}
+use Rattle.versions.specs.Stores.{IsStore, entries_after, dropped_to}
 use Rattle.node.specs.declared.servers.OpenUpdate.{OpenUpdate}
 use Rattle.node.specs.Servers.{ServerState, seen_of}
-use Rattle.node.specs.Numbering.{left_open, left_open_by, without_update, newly_acked, risen, appended, entered}
+use Rattle.node.specs.Numbering.{left_open, left_open_by, without_update, risen, appended, entered}
 use Rattle.node.specs.Steps.{trimmed, least_open}
 use Rattle.node.specs.Lawful.{IsSound}
 use Rattle.world.proofs.Streaming.{IsRun}

@@ -4,10 +4,7 @@ use Rattle.std.specs.Prelude.{MatchOption}
 use Rattle.std.specs.List.{onto_first}
 use Rattle.memchr.specs.Find.{IsFirstByte, is_byte}
 use Rattle.world.specs.Cuts.{lf, cut, lines, parts}
-
-pub not_true : (b : Bool) → (b ≡ true → ⊥) → b ≡ false
-not_true true h = absurd (h refl)
-not_true false h = refl
+use Rattle.std.proofs.lemmas.Bool.{false_from_ne_true}
 
 cut_here : (byte : ℕ) (bytes : List ℕ) (k : ℕ) → k < length bytes → ((j : ℕ) → j < k → nat_eq (get_or bytes j 0) byte ≡ false) → nat_eq (get_or bytes k 0) byte ≡ true
     → cut byte bytes ≡ Some (take k bytes, drop (suc k) bytes)
@@ -25,10 +22,10 @@ cut_nowhere byte (b ∷ bs) before =
 
 -- what a search for a byte finds is where the bytes are cut
 pub cut_from_first : (byte : ℕ) (bytes : List ℕ) (r : Option ℕ) → IsFirstByte (is_byte byte) bytes r → cut byte bytes ≡ option_map (λ at. (take at bytes, drop (suc at) bytes)) r
-cut_from_first byte bytes None h = cut_nowhere byte bytes (λ j below. not_true _ (h j (omega arith) below))
+cut_from_first byte bytes None h = cut_nowhere byte bytes (λ j below. false_from_ne_true _ (h j (omega arith) below))
 cut_from_first byte bytes (Some k) h =
     let low : k < length bytes = h.0.high in
-    cut_here byte bytes k low (λ j below. not_true _ (h.0.before j (omega arith) below)) h.1
+    cut_here byte bytes k low (λ j below. false_from_ne_true _ (h.0.before j (omega arith) below)) h.1
 
 abbrev onto : ℕ → List ℕ × List ℕ → List ℕ × List ℕ
 onto b c = (b ∷ c.0, c.1)

@@ -6,7 +6,7 @@ use Rattle.versions.specs.Entries.{LogEntry}
 use Rattle.node.specs.declared.servers.OpenUpdate.{OpenUpdate}
 use Rattle.node.specs.declared.servers.OpenRead.{OpenRead}
 use Rattle.node.specs.declared.messages.Peer.{Peer}
-use Rattle.node.specs.Views.{has, head, tail}
+use Rattle.node.specs.Views.{has}
 use Rattle.node.specs.Servers.{head_of, tail_of, seen_of}
 use Rattle.node.specs.Lawful.{IsLawful}
 use Rattle.world.specs.Worlds.{server, link, lives}

@@ -1,20 +1,19 @@
 -- Numbers are left as long as fewer updates were issued, of all servers together.
-use Rattle.std.proofs.Common.{◌≡◌, ◌≢◌, ℕ, zero, suc, ◌+◌, ◌-◌, ◌<◌, ◌≤◌, Bool, true, false, cond, List, [], ◌∷◌, ◌++◌, length, take, get_or, Some, refl, arith, inl, inr, ap, sym, ◌∙◌}
-use Rattle.std.specs.Prelude.{slice_get, ◌==◌}
-use Rattle.std.proofs.lemmas.Bool.{cases_eq, cases_lt, eq-eqb, ne_eqb}
+use Rattle.std.proofs.Common.{◌≡◌, ℕ, zero, suc, ◌+◌, ◌-◌, ◌<◌, ◌≤◌, List, [], ◌∷◌, ◌++◌, length, take, get_or, Some, refl, arith, inl, inr, ap, sym, ◌∙◌}
+use Rattle.std.specs.Prelude.{slice_get}
+use Rattle.std.proofs.lemmas.Bool.{cases_eq, cases_lt}
 use Rattle.std.proofs.lemmas.Option.{slice_get-get_or, slice_get_within}
 use Rattle.std.proofs.lemmas.List.{take_all}
 use Rattle.versions.specs.Entries.{LogEntry}
-use Rattle.versions.specs.Stores.{last_number}
-use Rattle.node.specs.Servers.{ServerState, most, seen_of}
+use Rattle.node.specs.Servers.{most, seen_of}
 use Rattle.world.specs.Worlds.{World, server}
 use Rattle.world.proofs.Traces.{Traced, log, issued_by, count}
 use Rattle.world.proofs.Layers.{Lawful, entries_of}
-use Rattle.world.proofs.EntryCounts.{entries-joined, entries-own, entries-other, entries-none}
+use Rattle.world.proofs.EntryCounts.{entries-own, entries-other, entries-none}
 use Rattle.world.proofs.Fronts.{found_below}
 use Rattle.world.proofs.StreamSteps.{last_is}
 use Rattle.world.proofs.OpeningInputs.{HasRooms}
-use Rattle.world.proofs.Totals.{total, total_low, total_one, total_two, entries_total}
+use Rattle.world.proofs.Totals.{total, total_one, total_two, entries_total}
 
 -- how many updates a server issued
 abbrev pub issued_at : World → ℕ → ℕ

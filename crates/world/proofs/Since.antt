@@ -10,9 +10,9 @@ use Rattle.node.specs.declared.messages.Input.TheVariants.{Call as Called, From,
 use Rattle.world.specs.Worlds.{server, link}
 use Rattle.world.specs.Calls.{CallId, begun_call}
 use Rattle.world.proofs.Lists.{In}
-use Rattle.world.proofs.Actions.{Action, Widen, Append, Reach, Settle, Send, Finish, Trim, Enter, Ask, Show, Cause, act}
+use Rattle.world.proofs.Actions.{Cause}
 use Rattle.world.proofs.Traces.{Traced, AnsweredRead, log, count, open_id}
-use Rattle.world.proofs.Layers.{IsNamed, Later, Newer, Lawful}
+use Rattle.world.proofs.Layers.{IsNamed, Newer, Lawful}
 use Rattle.world.proofs.Linear.{nothing_there}
 
 -- what a message on the link from i to j says of reads: its ask is one that was made, and an answer to a later read has no lower number
@@ -57,13 +57,7 @@ says_later t u v i j (Ack n) f h = tt
 says_later t u v i j (Query ask key) f h = let g = f i in omega (arith, h, g)
 says_later t u v i j (Answer ask n) f h = (let g = f j in omega (arith, h.0, g), h.1)
 
-pub known_since : (t u v : Traced) (i : ℕ) (c : Cause) → Later u v → IsKnownSince t u i c → IsKnownSince t v i (Rattle.world.proofs.Actions.left c)
-known_since t u v i None l h = tt
-known_since t u v i (Some (Called port call)) l h = tt
-known_since t u v i (Some (From j m)) l h = says_later t u v j i m.body l.asks h
-known_since t u v i (Some (Gone j)) l h = tt
-
-is_some : {X : Type 0} (o : Option X) (x : X) → o ≡ Some x → IsSome o
+pub is_some : {X : Type 0} (o : Option X) (x : X) → o ≡ Some x → IsSome o
 is_some None x e = absurd cc
 is_some (Some y) x e = refl
 

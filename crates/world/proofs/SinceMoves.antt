@@ -20,7 +20,6 @@ use Rattle.world.proofs.Beginnings.{begins-length}
 use Rattle.world.proofs.HeldLogs.{held_last}
 use Rattle.world.proofs.LastLiving.{alive, last_found}
 use Rattle.world.proofs.IdLaws.{that_is, previous_is}
-use Rattle.world.proofs.OpenCalls.{reads_bound}
 use Rattle.world.proofs.OpenLists.{reads_act}
 use Rattle.world.proofs.Actions.{Action, Widen, Append, Reach, Settle, Send, Finish, Trim, Enter, Ask, Show, Cause}
 use Rattle.world.proofs.Traces.{Traced, AnsweredRead, log, count, done}
@@ -28,6 +27,7 @@ use Rattle.world.proofs.TraceLaws.{new_entries, new_reads, count_done, server_do
 use Rattle.world.proofs.Layers.{IsNamed, IsKnown, IsAddressed, Later, Lawful}
 use Rattle.world.proofs.StepInputs.{IsStep, within, known_of}
 use Rattle.world.proofs.Since.{SaysSince, IsOldOrLater, Since, IsKnownSince, says_later}
+use Rattle.node.proofs.SoundLaws.{reads_bound}
 
 -- what was committed at a moment is no more than what a living server holds later
 held_since : (t u : Traced) (i : ℕ) → Later t u → Lawful u → lives u.world i ≡ true → length t.committed ≤ length (log u i)

@@ -1,5 +1,5 @@
 -- An open call stays open, or is answered.
-use Rattle.std.proofs.Common.{◌≡◌, ℕ, suc, Bool, true, false, cond, List, [], ◌∷◌, ◌++◌, Option, Some, None, refl, sym, ap, subst, ◌⊎◌, inl, inr}
+use Rattle.std.proofs.Common.{◌≡◌, ℕ, suc, Bool, true, false, cond, List, [], ◌∷◌, Option, Some, refl, sym, ap, subst, ◌⊎◌, inl, inr}
 use Rattle.std.specs.Prelude.{◌==◌, find}
 use Rattle.table.specs.declared.operations.Reply.{Reply}
 use Rattle.versions.specs.Entries.{LogEntry}
@@ -7,9 +7,8 @@ use Rattle.node.specs.declared.servers.OpenUpdate.{OpenUpdate}
 use Rattle.node.specs.declared.servers.OpenRead.{OpenRead}
 use Rattle.node.specs.declared.messages.Output.{Output}
 use Rattle.node.specs.declared.messages.Output.TheVariants.{Reply as Answered}
-use Rattle.node.specs.Servers.{ServerState, Outcome, without_first, message_to, previous}
-use Rattle.node.specs.Numbering.{open_update, without_update, left_open, left_open_by, replied, reply_to, replies, newly_acked, risen, rise, appended, entered}
-use Rattle.node.specs.Reading.{without_read, open_read, asked}
+use Rattle.node.specs.Servers.{ServerState, without_first, message_to, previous}
+use Rattle.node.specs.Numbering.{open_update, without_update, left_open, left_open_by, replied, reply_to, replies, newly_acked, risen, rise, appended}
 use Rattle.node.specs.Joining.{replies_to}
 use Rattle.node.specs.Steps.{trimmed}
 use Rattle.node.specs.declared.messages.Body.TheVariants.{Ack}

@@ -7,12 +7,12 @@ use Rattle.node.specs.declared.messages.Input.TheVariants.{Call as Called, From,
 use Rattle.node.specs.Steps.{step}
 use Rattle.world.specs.Connections.{asked}
 use Rattle.world.specs.Worlds.{World, server, link, takes, with_link, with_connection}
-use Rattle.world.proofs.WorldLaws.{link_cases}
+use Rattle.world.proofs.WorldLaws.{link_cases, link-with_connection}
 use Rattle.world.proofs.Traces.{Traced}
 use Rattle.world.proofs.Layers.{Lawful}
 use Rattle.world.proofs.IdLaws.{living_parts}
 use Rattle.world.proofs.Streaming.{sent_to}
-use Rattle.world.proofs.ForwardRuns.{HasLink, same_link, has_link-with_link, link-with_connection, has_link-with_connection}
+use Rattle.world.proofs.ForwardRuns.{HasLink, same_link, has_link-with_link, has_link-with_connection}
 use Rattle.world.proofs.StreamSteps.{step_acted, has_link}
 use Rattle.world.proofs.StreamDeliveries.{sender_apart}
 use Rattle.world.proofs.Ways.{servers_connected, servers_linked, Working, Delivering, Telling}

@@ -1,8 +1,6 @@
 -- Each event keeps the streams between servers, and they stand at the outset.
-use Rattle.std.proofs.Common.{◌≡◌, ◌≢◌, ℕ, ◌<◌, ◌&&◌, true, List, [], ◌∷◌, ◌++◌, length, Option, Some, None, refl, sym, ap, subst, ◌∙◌, arith, inl, inr, ◌⊎◌}
-use Rattle.std.specs.Prelude.{slice_get}
-use Rattle.std.proofs.lemmas.Bool.{cases_eq, cond_both, both_ways, and_parts, false_from_ne_true, or_left}
-use Rattle.table.specs.declared.operations.Call.{Call}
+use Rattle.std.proofs.Common.{◌≡◌, ◌≢◌, ℕ, ◌<◌, true, List, ◌∷◌, ◌++◌, length, refl, sym, ap, subst, ◌∙◌, arith, inl, inr, ◌⊎◌}
+use Rattle.std.proofs.lemmas.Bool.{cases_eq, both_ways, false_from_ne_true, or_left}
 use Rattle.versions.specs.Stores.{last_number}
 use Rattle.node.specs.declared.messages.Peer.{Peer}
 use Rattle.node.specs.declared.messages.Input.{Input}
@@ -11,22 +9,20 @@ use Rattle.node.specs.Views.{has, union, single}
 use Rattle.node.specs.Servers.{ServerState, Outcome, previous, next}
 use Rattle.node.specs.Steps.{step}
 use Rattle.node.specs.Lawful.{IsInput, HoldsEntry, IsLawful}
-use Rattle.world.specs.declared.connections.Stage.{Stage}
-use Rattle.world.specs.declared.connections.Stage.TheVariants.{Idle, Begun, Asked, Replied}
 use Rattle.world.specs.declared.events.Event.{Event}
-use Rattle.world.specs.declared.events.Event.TheVariants.{Piece, Begin, Work, Deliver, Fail, Tell, Hand}
-use Rattle.world.specs.Connections.{Connection, open_call, to_work, asked}
-use Rattle.world.specs.Worlds.{World, server, link, lives, has_failed, takes, with_link, with_connection, sent_in, worked, delivered, happens}
-use Rattle.world.proofs.WorldLaws.{link_cases}
+use Rattle.world.specs.Connections.{Connection, asked}
+use Rattle.world.specs.Worlds.{World, server, link, takes, with_link, with_connection, happens}
+use Rattle.world.proofs.WorldLaws.{link_cases, link-with_connection}
 use Rattle.world.proofs.Traces.{Traced, count, outset}
 use Rattle.world.proofs.Layers.{Later, Lawful}
 use Rattle.world.proofs.IdLaws.{has-union, living_parts}
 use Rattle.world.proofs.Outsets.{count_outset, server_outset, link_outset}
 use Rattle.world.proofs.Streaming.{numbers, sent_to, Linked, Stream, LinkedBack, IsTold, Streaming}
-use Rattle.world.proofs.ForwardRuns.{run_as, HasLink, same_link, has_link-with_link, link-with_connection, has_link-with_connection}
+use Rattle.world.proofs.ForwardRuns.{run_as, HasLink, same_link, has_link-with_link, has_link-with_connection}
 use Rattle.world.proofs.StepTellings.{informs_step}
 use Rattle.world.proofs.StreamSteps.{IsStep, step_acted, has_link, Between, forwards_other, forwards_own, acks_other, acks_own}
 use Rattle.world.proofs.StreamDeliveries.{sender_apart, forwards_delivered, acks_delivered}
+use Rattle.world.proofs.Ways.{Way, Stays, Comes, Starts, Hands, Fails, Works, Delivers, Tells, way}
 
 -- ---- what changes no server and no link
 
@@ -86,12 +82,6 @@ pub record IsReady (w v : World) (a : ℕ) : Type 0 where
   pub count : length v.servers ≡ length w.servers
   pub failed : v.failed ≡ w.failed
   pub own : (y : ℕ) → HasLink w a y → HasLink v a y × (link v a y ≡ link w a y)
-
-pub to_work_is : (stage : Stage) (k : Connection) (x : Call) → to_work stage k ≡ Some x → open_call k ≡ Some x
-to_work_is Idle k x e = absurd cc
-to_work_is Begun k x e = e
-to_work_is Asked k x e = absurd cc
-to_work_is (Replied reply) k x e = absurd cc
 
 module _ (t u : Traced) (h : Follows t u) (streaming : Streaming t.world) where
   pub between : (v : World) (a : ℕ) (input : Input) → IsReady t.world v a → a < count t → IsInput input → HoldsEntry input → u.world ≡ takes v a input → Between t u a (step (server t.world a) input)
@@ -182,42 +172,26 @@ module _ (t u : Traced) (h : Follows t u) (streaming : Streaming t.world) where
   as_still : (w : World) → IsStill t.world w → u.world ≡ w → Streaming u.world
   as_still w still e = subst (λ x. Streaming x) (sym e) (streaming_still t.world w still streaming)
 
-  unchanged : u.world ≡ t.world → Streaming u.world
-  unchanged e = as_still t.world (still_self t.world) e
-
-  streaming_deliver : (i a : ℕ) (ms : List Peer) → link t.world i a ≡ ms → u.world ≡ delivered t.world i a ms → Streaming u.world
-  streaming_deliver i a [] first = unchanged
-  streaming_deliver i a (m ∷ ms) first = cond_both (lives t.world a) _ _ (λ w. u.world ≡ w → Streaming u.world) (λ _ e. streaming_delivered i a m ms first e) (λ _ e. unchanged e)
-
-  streaming_tell : (i j : ℕ) → u.world ≡ happens t.world (Tell i j) → Streaming u.world
-  streaming_tell i j = cond_both (lives t.world i && has_failed t.world j) _ _ (λ w. u.world ≡ w → Streaming u.world)
-      (λ both e. streaming_step t.world i (Gone j) (ready_self i) (λ x y. refl) (living_parts t.world i (and_parts (lives t.world i) (has_failed t.world j) both).0).0 tt tt e)
-      (λ _ e. unchanged e)
-
   pub ready_asked : (c a : ℕ) → IsReady t.world (with_connection t.world c asked) a
   unfolding with_connection server
   ready_asked c a = record { servers = λ x. refl; count = refl; failed = refl; own = λ y k. (has_link-with_connection t.world c asked a y k, link-with_connection t.world c asked a y) }
 
-  streaming_sent : (c : ℕ) (k : Connection) (call : Option Call) → slice_get t.world.connections c ≡ Some k → ((x : Call) → call ≡ Some x → open_call k ≡ Some x) → k.home < count t → u.world ≡ sent_in t.world c k.home call → Streaming u.world
-  streaming_sent c k None here is home = unchanged
-  streaming_sent c k (Some call) here is home = λ e.
-      streaming_step (with_connection t.world c asked) k.home (Called c call) (ready_asked c k.home) (λ x y. link-with_connection t.world c asked x y) home (h.before.framed.calls c (length k.replies) k call here (is call refl)) tt e
-
-  streaming_worked : (c : ℕ) (found : Option Connection) → slice_get t.world.connections c ≡ found → u.world ≡ worked t.world c found → Streaming u.world
-  streaming_worked c None here = unchanged
-  streaming_worked c (Some k) here = cond_both (lives t.world k.home) _ _ (λ w. u.world ≡ w → Streaming u.world)
-      (λ on e. streaming_sent c k (to_work k.stage k) here (λ x. to_work_is k.stage k x) (living_parts t.world k.home on).0 e)
-      (λ _ e. unchanged e)
+  streaming_way : Way t.world u.world → Streaming u.world
+  streaming_way (Stays e) = as_still _ (still_self t.world) e
+  streaming_way (Comes c bytes e) = as_still _ (still_connection t.world c _) e
+  streaming_way (Starts c e) = as_still _ (still_connection t.world c _) e
+  streaming_way (Hands c e) = as_still _ (still_connection t.world c _) e
+  streaming_way (Fails i e) = as_still _ (still_failing t.world i) e
+  streaming_way (Works r) =
+      let home = r.connection.home in
+      let fit = h.before.framed.calls r.c (length r.connection.replies) r.connection r.call r.here r.called in
+      streaming_step (with_connection t.world r.c asked) home (Called r.c r.call) (ready_asked r.c home) (λ x y. link-with_connection t.world r.c asked x y) (living_parts t.world home r.lives).0 fit tt r.world
+  streaming_way (Delivers r) = streaming_delivered r.i r.j r.message r.later r.first r.world
+  streaming_way (Tells r) = streaming_step t.world r.i (Gone r.j) (ready_self r.i) (λ x y. refl) (living_parts t.world r.i r.lives).0 tt tt r.world
 
   -- each event keeps them
   pub streaming_happens : (e : Event) → u.world ≡ happens t.world e → Streaming u.world
-  streaming_happens (Piece c bytes) = as_still _ (still_connection t.world c _)
-  streaming_happens (Begin c) = as_still _ (still_connection t.world c _)
-  streaming_happens (Work c) = streaming_worked c (slice_get t.world.connections c) refl
-  streaming_happens (Deliver i j) = streaming_deliver i j (link t.world i j) refl
-  streaming_happens (Fail i) = cond_both (lives t.world i) _ _ (λ w. u.world ≡ w → Streaming u.world) (λ _. as_still _ (still_failing t.world i)) (λ _. unchanged)
-  streaming_happens (Tell i j) = streaming_tell i j
-  streaming_happens (Hand c) = as_still _ (still_connection t.world c _)
+  streaming_happens e is = streaming_way (subst (λ w. Way t.world w) (sym is) (way t.world e))
 
 -- ---- the outset
 

@@ -1,6 +1,6 @@
 -- A step keeps the streams between servers: those of others stay, and the server's own go on.
 use Rattle.std.proofs.Common.{◌≡◌, ◌≢◌, ℕ, suc, ◌<◌, ◌≤◌, false, List, [], ◌∷◌, ◌++◌, length, get_or, Option, Some, None, refl, sym, ap, subst, ◌∙◌, arith, inl, inr, ◌⊎◌}
-use Rattle.std.proofs.lemmas.Bool.{cases_eq, both_ways, false_from_ne_true}
+use Rattle.std.proofs.lemmas.Bool.{cases_eq}
 use Rattle.std.proofs.lemmas.List.{length-set}
 use Rattle.std.proofs.lemmas.Option.{same_Some, slice_get-get_or, none-some}
 use Rattle.versions.specs.Entries.{LogEntry}
@@ -21,6 +21,7 @@ use Rattle.world.proofs.IdLaws.{next_of, following_from, previous_of}
 use Rattle.world.proofs.Streaming.{forwarded_number, numbers, sent_to, Linked, Stream, LinkedBack, IsTold}
 use Rattle.world.proofs.ForwardRuns.{run-append, run_as, numbers-append, in_sent, HasLink, link-put_all_to, link-put_all_from}
 use Rattle.world.proofs.JoinTellings.{Informs}
+use Rattle.world.proofs.LoggedLaws.{still_out}
 
 -- ---- what a step leaves
 
@@ -73,9 +74,6 @@ last_is t h i l = held_last (log t i) (server t.world i).store (h.holds i l)
 
 pub last_later : (t u : Traced) → Logged t → Logged u → Later t u → (i : ℕ) → i < count t → last_number (server t.world i).store ≤ last_number (server u.world i).store
 last_later t u h g l i a = omega (arith, last_is t h i a, last_is u g i (rw l.count a), begins-length _ _ (l.logs i))
-
-pub still_out : (t u : Traced) → Later t u → (i k : ℕ) → has (server u.world i).view k ≡ false → has (server t.world i).view k ≡ false
-still_out t u l i k h = false_from_ne_true _ (λ e. both_ways _ h (l.views i k e))
 
 pub next_in : (t : Traced) → Framed t → (i : ℕ) → i < count t → next (server t.world i) ≡ successor (server t.world i).view (count t) i
 next_in t f i l = rw (f.id i l, f.chain i l) refl

@@ -1,6 +1,6 @@
 -- What each rule tells a server's neighbours while its view stays: the successor gets exactly the new entries,
 -- and the predecessor the acknowledged number, where that rose.
-use Rattle.std.proofs.Common.{◌≡◌, ℕ, ◌+◌, ◌-◌, ◌≤◌, nat_lt, nat_le, ◌==◌, ◌&&◌, true, List, [], ◌∷◌, ◌++◌, length, drop, Option, Some, None, refl, sym, ◌∙◌, arith, inl, inr, ◌⊎◌, length-append, length-drop}
+use Rattle.std.proofs.Common.{◌≡◌, ℕ, ◌+◌, ◌≤◌, nat_lt, nat_le, ◌==◌, ◌&&◌, true, List, [], ◌∷◌, ◌++◌, length, Option, Some, None, refl, sym, ◌∙◌, arith, inl, inr, ◌⊎◌, length-append}
 use Rattle.std.proofs.lemmas.Bool.{cond_both, and_parts, both_ways, eqb-true}
 use Rattle.table.specs.Operations.{is_update}
 use Rattle.table.specs.declared.operations.Call.{Call}
@@ -8,7 +8,7 @@ use Rattle.table.specs.declared.operations.Reply.{Reply}
 use Rattle.table.specs.declared.operations.Target.{Target}
 use Rattle.table.specs.declared.operations.Target.TheVariants.{One, All}
 use Rattle.versions.specs.Entries.{LogEntry}
-use Rattle.versions.specs.Stores.{StoreState, last_number, is_clean, dropped_to}
+use Rattle.versions.specs.Stores.{last_number, is_clean}
 use Rattle.node.specs.declared.servers.OpenUpdate.{OpenUpdate}
 use Rattle.node.specs.declared.servers.OpenRead.{OpenRead}
 use Rattle.node.specs.declared.messages.Body.{Body}
@@ -27,6 +27,7 @@ use Rattle.world.proofs.Lists.{In, in_front, in_behind}
 use Rattle.world.proofs.IdLaws.{at_tail, next_of}
 use Rattle.world.proofs.Streaming.{forwarded_number, IsRun}
 use Rattle.world.proofs.ForwardRuns.{run-append, numbers_to, numbers_to-append, number_there, no_number, no_numbers}
+use Rattle.node.proofs.RuleLaws.{last-dropped}
 
 -- the same place in the same view
 pub record IsAt (s t : ServerState) : Type 0 where
@@ -245,9 +246,6 @@ tells_receive s i (Answer ask n) = tells_receive_answer s i ask n
 
 pub tells_received : (s : ServerState) (i : ℕ) (body : Body) → Tells s (received s i body)
 tells_received s i body = cond_both (has s.view i) _ _ (λ (a : Outcome). Tells s a) (λ t. tells_silent s) (λ f. tells_receive s i body)
-
-last-dropped : (s : StoreState) (n : ℕ) → s.floor ≤ n → n ≤ last_number s → last_number (dropped_to s n) ≡ last_number s
-last-dropped s n low high = let l : length (drop (n - s.floor) s.rest) ≡ length s.rest - (n - s.floor) = length-drop (n - s.floor) s.rest in omega (arith, l)
 
 pub tells_trimmed : (s : ServerState) → IsSound s → Tells s (silent (trimmed s))
 unfolding trimmed

@@ -1,6 +1,6 @@
 -- A text that is read byte by byte.
 use Rattle.std.proofs.Common.{◌≡◌, ℕ, zero, suc, ◌<◌, List, [], ◌∷◌, ◌++◌, length, Option, None, Some, option_map, refl, ap, sym, arith, append_assoc, append-nil}
-use Rattle.world.specs.Escapes.{front_byte, and_later, unescape_upto, unescape}
+use Rattle.world.specs.Escapes.{front_byte, and_later, unescape_upto}
 
 -- the bytes so far, and those of what is left
 abbrev pub read_on : List ℕ → ℕ → List ℕ → Option (List ℕ)
@@ -31,11 +31,3 @@ pub read_on-end : (bytes : List ℕ) (room : ℕ) (rest : List ℕ) → length r
 read_on-end bytes zero [] empty = ap Some (sym (append-nil bytes))
 read_on-end bytes (suc n) [] empty = ap Some (sym (append-nil bytes))
 read_on-end bytes room (x ∷ xs) empty = absurd (omega arith)
-
--- its beginning
-pub read_on-all : (text : List ℕ) → read_on [] (length text) text ≡ unescape text
-read_on-all text = all (unescape text)
-  where
-    all : (o : Option (List ℕ)) → option_map (λ more. [] ++ more) o ≡ o
-    all None = refl
-    all (Some bytes) = refl

@@ -1,8 +1,7 @@
 -- Sums over the first numbers, and how many entries there are of all origins together.
-use Rattle.std.proofs.Common.{◌≡◌, ◌≢◌, ℕ, zero, suc, ◌+◌, ◌<◌, ◌≤◌, Bool, true, false, cond, List, [], ◌∷◌, length, Some, sym, refl, arith, inl, inr, ap, ◌∙◌}
+use Rattle.std.proofs.Common.{◌≡◌, ◌≢◌, ℕ, zero, suc, ◌+◌, ◌<◌, ◌≤◌, false, cond, List, [], ◌∷◌, length, Some, sym, refl, arith, inl, inr, ap}
 use Rattle.std.specs.Prelude.{slice_get, ◌==◌}
 use Rattle.std.proofs.lemmas.Bool.{cases_eq, eq-eqb, ne_eqb}
-use Rattle.std.proofs.lemmas.Option.{same_Some}
 use Rattle.versions.specs.Entries.{LogEntry}
 use Rattle.world.proofs.Layers.{entries_of}
 
@@ -34,11 +33,11 @@ total_two f g (suc n) i j apart l k h = elim (cases_eq i n) [
 ]
 
 -- where one grows by at most one, the sum does
-pub total_grows : (f g : ℕ → ℕ) (n a : ℕ) → ((o : ℕ) → o ≢ a → g o ≤ f o) → g a ≤ f a + 1 → total g n ≤ total f n + 1
-total_grows f g zero a h one = omega arith
-total_grows f g (suc n) a h one = elim (cases_eq n a) [
+pub total_grows : (f g : ℕ → ℕ) (k n a : ℕ) → ((o : ℕ) → o ≢ a → g o ≤ f o) → g a ≤ f a + k → total g n ≤ total f n + k
+total_grows f g k zero a h one = omega arith
+total_grows f g k (suc n) a h one = elim (cases_eq n a) [
   | inl same ↦ (let low = total_low g f n (λ o l. h o (λ e. omega (arith, l, e, same))) in omega (arith, low, one, ap g same, ap f same))
-  | inr other ↦ omega (arith, total_grows f g n a h one, h n other)
+  | inr other ↦ omega (arith, total_grows f g k n a h one, h n other)
 ]
 
 pub total_none : (f : ℕ → ℕ) (n : ℕ) → ((o : ℕ) → f o ≡ 0) → total f n ≡ 0

@@ -186,10 +186,6 @@ pub committed_done : (t : Traced) (i : ℕ) (a : Action) (k : ℕ) → last_livi
 unfolding done log
 committed_done t i a k h = rw h refl
 
-pub committed_kept : (t : Traced) (i : ℕ) (a : Action) → last_living t.world ≡ None → (done t i a).committed ≡ t.committed
-unfolding done
-committed_kept t i a h = rw h refl
-
 pub connection_done : (t : Traced) (i : ℕ) (a : Action) (c : ℕ) (k : Connection) → slice_get t.world.connections c ≡ Some k
     → (k' : Connection) × (slice_get (done t i a).world.connections c ≡ Some k') × Reconnected t i a c k k'
 unfolding done with_server

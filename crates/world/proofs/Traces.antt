@@ -1,10 +1,9 @@
 -- What a world forgets, in a record beside it: whole logs, which calls updates are, the committed entries, and the reads that were answered.
-use Rattle.std.proofs.Common.{ℕ, List, [], ◌∷◌, ◌++◌, length, take, replicate, Option, Some, None}
+use Rattle.std.proofs.Common.{ℕ, List, [], ◌∷◌, ◌++◌, length, replicate, Option, Some, None}
 use Rattle.std.specs.Prelude.{slice_get, slice_index_or, slice_set}
 use Rattle.table.specs.declared.items.Item.{Item}
-use Rattle.table.specs.Plain.{Items, item_at}
 use Rattle.versions.specs.Entries.{LogEntry}
-use Rattle.versions.specs.Stores.{last_number, value_at, items_after}
+use Rattle.versions.specs.Stores.{last_number, value_at}
 use Rattle.node.specs.declared.messages.Peer.{Peer}
 use Rattle.node.specs.Views.{union, single, predecessor}
 use Rattle.world.specs.Connections.{Connection}
@@ -104,7 +103,3 @@ failing t i =
 -- a chain before any event
 abbrev pub outset : ℕ → List ℕ → Traced
 outset n homes = record { world = opening_world n homes; logs = replicate n []; issued = replicate n []; committed = []; reads = [] }
-
--- the items after the first n committed entries
-abbrev pub items_of_first : Traced → ℕ → Items
-items_of_first t n = items_after (Rattle.table.specs.Plain.opening).items (take n t.committed)

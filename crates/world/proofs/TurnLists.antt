@@ -1,6 +1,5 @@
 -- Turns in lists that grow at their end, and what a session's step does to its output.
-use Rattle.std.proofs.Common.{◌≡◌, ℕ, zero, suc, ◌-◌, ◌==◌, Bool, true, false, cond, List, [], ◌∷◌, ◌++◌, length, length-append, drop, Option, None, Some, refl, sym, ap, arith, append_assoc, append-nil}
-use Rattle.std.proofs.Math.Seq.{drop-nil}
+use Rattle.std.proofs.Common.{◌≡◌, ℕ, ◌==◌, Bool, true, false, cond, List, [], ◌∷◌, ◌++◌, length, Option, None, Some, refl, sym, ap, arith, append_assoc, append-nil}
 use Rattle.table.specs.declared.operations.Call.{Call}
 use Rattle.table.specs.declared.operations.Reply.{Reply}
 use Rattle.proto.specs.declared.requests.Fault.{Fault}
@@ -80,47 +79,6 @@ next_writes h = by_closed h.closed
     by_closed : (b : Bool) → Writes h.out (cond b (None, h) (by_later h.later h))
     by_closed true = refl
     by_closed false = later_writes h.later h
-
--- what two pieces leave of a block that is passed over, at once or one after the other
-drop_twice : (n : ℕ) (xs ys : List ℕ) → drop n (xs ++ ys) ≡ drop n xs ++ drop (n - length xs) ys
-drop_twice zero xs ys = let whole : zero - length xs ≡ zero = omega arith in rw whole refl
-drop_twice (suc n) [] ys = let all : suc n - length {A = ℕ} [] ≡ suc n = omega arith in rw all refl
-drop_twice (suc n) (x ∷ xs) ys = let less : suc n - length (x ∷ xs) ≡ n - length xs = omega arith in rw less (drop_twice n xs ys)
-
-left_twice : (n : ℕ) (xs ys : List ℕ) → (n - length xs) - length ys ≡ n - length (xs ++ ys)
-left_twice n xs ys = rw (length-append xs ys) (omega arith)
-
-kept_none : (passing : Option Passing) → kept passing [] ≡ []
-kept_none None = refl
-kept_none (Some p) = drop-nil p.left
-
-passed_none : (passing : Option Passing) → passed passing [] ≡ passing
-passed_none None = refl
-passed_none (Some p) = let same : p.left - zero ≡ p.left = omega arith in ap (λ left. Some (record p { left = left })) same
-
-kept_twice : (passing : Option Passing) (xs ys : List ℕ) → kept passing (xs ++ ys) ≡ kept passing xs ++ kept (passed passing xs) ys
-kept_twice None xs ys = refl
-kept_twice (Some p) xs ys = drop_twice p.left xs ys
-
-passed_twice : (passing : Option Passing) (xs ys : List ℕ) → passed (passed passing xs) ys ≡ passed passing (xs ++ ys)
-passed_twice None xs ys = refl
-passed_twice (Some p) xs ys = ap (λ left. Some (record p { left = left })) (left_twice p.left xs ys)
-
-pub fed_none : (h : Held) → fed h [] ≡ h
-fed_none h = by_fields h.unread h.passing h.later h.unique h.asked h.out h.closed
-  where
-    by_fields : (unread : List ℕ) (passing : Option Passing) (later : List (List ℕ)) (unique : Bool) (asked : Option Form) (out : List ℕ) (closed : Bool)
-        → let h : Held = record { unread = unread; passing = passing; later = later; unique = unique; asked = asked; out = out; closed = closed } in fed h [] ≡ h
-    by_fields unread passing later unique asked out true = refl
-    by_fields unread passing later unique asked out false = rw (kept_none passing, passed_none passing, append-nil unread) refl
-
-pub fed_twice : (h : Held) (xs ys : List ℕ) → fed (fed h xs) ys ≡ fed h (xs ++ ys)
-fed_twice h xs ys = by_fields h.unread h.passing h.later h.unique h.asked h.out h.closed
-  where
-    by_fields : (unread : List ℕ) (passing : Option Passing) (later : List (List ℕ)) (unique : Bool) (asked : Option Form) (out : List ℕ) (closed : Bool)
-        → let h : Held = record { unread = unread; passing = passing; later = later; unique = unique; asked = asked; out = out; closed = closed } in fed (fed h xs) ys ≡ fed h (xs ++ ys)
-    by_fields unread passing later unique asked out true = refl
-    by_fields unread passing later unique asked out false = rw (passed_twice passing xs ys, kept_twice passing xs ys, append_assoc unread (kept passing xs) (kept (passed passing xs) ys)) refl
 
 pub fed_closed : (h : Held) (xs : List ℕ) → h.closed ≡ true → fed h xs ≡ h
 fed_closed h xs closed = rw closed refl

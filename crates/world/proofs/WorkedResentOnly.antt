@@ -9,7 +9,6 @@ use Rattle.proto.specs.Words.{line_limit}
 use Rattle.node.specs.Views.{has, union, single, is_below, adds, next_from, predecessor}
 use Rattle.node.specs.Servers.{most}
 use Rattle.node.specs.Numbering.{left_open, replies, risen, appended, passed_on, take_update, entered}
-use Rattle.node.specs.Reading.{answered}
 use Rattle.node.specs.Joining.{widened, taken_all, sent_again, forwarded, promoted_to_head, promoted_to_tail, caught_up, acked_to_predecessor, asks_renewed}
 use Rattle.node.specs.Steps.{trimmed}
 use Rattle.world.specs.declared.events.Event.TheVariants.{Deliver, Hand}

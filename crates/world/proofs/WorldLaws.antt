@@ -95,7 +95,7 @@ put_to w i j x y peer m h =
       | inr e ↦ inl (rw e at h)
     ]
 
-link-with_connection : (w : World) (c : ℕ) (change : Connection → Connection) (x y : ℕ) → link (with_connection w c change) x y ≡ link w x y
+pub link-with_connection : (w : World) (c : ℕ) (change : Connection → Connection) (x y : ℕ) → link (with_connection w c change) x y ≡ link w x y
 unfolding link with_connection
 link-with_connection w c change x y = refl
 

@@ -1,8 +1,9 @@
 -- Numbers: decimal, and without leading zeros.
-use Rattle.std.specs.Prelude.{ℕ, ◌+◌, ◌*◌, Bool, false, ◌&&◌, not, nat_le, nat_lt, ◌==◌, List, [], ◌∷◌, length, Option, None, Some, if◌then◌else◌}
+use Rattle.std.specs.Prelude.{ℕ, Bool, false, ◌&&◌, not, nat_le, nat_lt, ◌==◌, List, [], ◌∷◌, length, Option, None, Some, if◌then◌else◌}
 use Rattle.std.specs.List.{list_all}
-use Rattle.std.specs.Char.{digit_value, is_ascii_digit}
+use Rattle.std.specs.Char.{is_ascii_digit}
 use Rattle.std.specs.Str.Parse.{digits_value}
+pub use Rattle.table.specs.Numbers.{with_digit}
 
 -- one digit or more, and nothing else
 abbrev pub is_digits : List ℕ → Bool
@@ -23,7 +24,3 @@ number_in low high field =
 -- the number that digits spell, where it is below the bound
 abbrev pub value_below : ℕ → List ℕ → Option ℕ
 value_below bound field = if is_digits field && nat_lt (digits_value 10 field) bound then Some (digits_value 10 field) else None
-
--- a number with one more digit at its end, where it stays below the bound
-abbrev pub with_digit : ℕ → ℕ → ℕ → Option ℕ
-with_digit bound n c = if is_ascii_digit c && nat_lt (n * 10 + digit_value c) bound then Some (n * 10 + digit_value c) else None

@@ -1,10 +1,9 @@
 //! Laws of every schedule: one order of calls, none forgotten, the bytes that connections are sent, and the calls that they begin.
-ghost use Rattle.std.specs.Prelude.{◌≡◌, ℕ, ◌≤◌, ◌<◌, true, List, Some, length, take, slice_get};
+ghost use Rattle.std.specs.Prelude.{◌≡◌, ℕ, ◌^◌, ◌≤◌, ◌<◌, true, List, Some, length, take, slice_get};
 ghost use Rattle.proto.specs.Streams.{turns};
 ghost use Rattle.world.specs.declared.events.Event.{Event};
 ghost use Rattle.world.specs.Connections.{Connection};
 ghost use Rattle.world.specs.Worlds.{run_of};
-ghost use Rattle.node.specs.Servers.{most};
 ghost use Rattle.world.specs.Calls.{CallId, IsBegun, IsAnswered, has_living_home};
 ghost use Rattle.world.specs.Orders.{Entry, IsLinearization};
 ghost use Rattle.world.specs.Quiet.{is_quiet};
@@ -36,8 +35,9 @@ pub fn calls()
     proto::faults_take_bytes();
 }
 
-/// In a quiet world each begun call of a connection at a living home has a reply, where the schedule has fewer than 2^64 - 1 events.
+/// In a quiet world each begun call of a connection at a living home has a reply. A slice of events is shorter than 2^64,
+/// and so few events leave each server a number for the next call.
 pub fn none_forgotten()
-    ensures { (count : ℕ) (homes : List ℕ) (events : List Event) → count ≤ 16 → length events < most → is_quiet (run_of count homes events) ≡ true →
+    ensures { (count : ℕ) (homes : List ℕ) (events : List Event) → count ≤ 16 → length events < 2 ^ 64 → is_quiet (run_of count homes events) ≡ true →
         (x : CallId) → IsBegun (run_of count homes events) x → has_living_home (run_of count homes events) x ≡ true → IsAnswered (run_of count homes events) x }
 {}

@@ -2,7 +2,6 @@
 ghost use Rattle.std.specs.Prelude.{◌≡◌, ◌<◌, ◌≤◌, ℕ, List, Some, take, ◌↔◌, true, false, nat_lt, length, slice_get, OnOk, OnErr, IfOk, IfErr, IsErrOf};
 ghost use Rattle.std.specs.List.{list_all};
 ghost use Rattle.proto.specs.Streams.{turns};
-ghost use Rattle.node.specs.Servers.{most};
 ghost use Rattle.world.specs.Calls.{CallId, IsBegun, IsAnswered, has_living_home};
 ghost use Rattle.world.specs.Connections.{Connection};
 ghost use Rattle.world.specs.Orders.{Entry, IsLinearization};
@@ -126,7 +125,7 @@ pub fn run(
     ensures answered { (c : ℕ) (k : Connection) → slice_get (run_of count homes.now events.now).connections c ≡ Some k →
         length k.replies ≡ length (calls_of (take (course_of count homes.now events.now c).place (turns (course_of count homes.now events.now c).stream))) }
     // In a quiet world each begun call of a connection at a living home has a reply.
-    ensures none_forgotten { count ≤ 16 → length events.now < most → is_quiet (run_of count homes.now events.now) ≡ true → (x : CallId) →
+    ensures none_forgotten { count ≤ 16 → is_quiet (run_of count homes.now events.now) ≡ true → (x : CallId) →
         IsBegun (run_of count homes.now events.now) x → has_living_home (run_of count homes.now events.now) x ≡ true → IsAnswered (run_of count homes.now events.now) x }
     ensures bad_count { IsErrOf result SceneFault.BadCount ↔ (is_count count ≡ false) }
     // At most 64 homes, each the number of a server.

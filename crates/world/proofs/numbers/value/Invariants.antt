@@ -1,5 +1,5 @@
 use Rattle.std.proofs.Common.{◌≡◌, ◌^◌, drop}
-use Rattle.world.proofs.Digits.{read_on}
+use Rattle.table.proofs.Digits.{read_on}
 use Rattle.world.proofs.numbers.value.Given as goal
 
 abbrev pub invariant-loop-b : goal.invariant-loop-b
