@@ -1,14 +1,14 @@
 //! The store: the items at the floor, and the entries above it.
-ghost use Rattle.std.specs.Prelude.{◌≡◌, ◌≤◌, ◌+◌, ◌↔◌, OnOk, OnErr, IsSome, IfSome};
+ghost use Rattle.std.specs.Prelude.{◌≡◌, ◌≤◌, ◌+◌, ◌↔◌, OnOk, OnErr, IsTrue, IsSome, IfSome};
 ghost use Rattle.std.specs.Option.{option_copied};
 ghost use Rattle.std.specs.Iterator.Runs.{YieldsRefsInOrder};
 ghost use Rattle.std.specs.VecDeque.Iter.{deque_iter_rest, deque_iter_steps};
 ghost use Rattle.versions.specs.declared.stores.StoreFault.TheVariants.{Memory};
-ghost use Rattle.versions.specs.Stores.{IsStore, opening_store, last_number, value_at, is_clean, IsClean, entries_after, pushed, acked_to, dropped_to};
+ghost use Rattle.versions.specs.Stores.{IsStore, opening_store, last_number, value_at, IsClean, entries_after, pushed, acked_to, dropped_to};
 
 use crate::Entry;
 use crate::changes::{note, settle_first};
-use crate::lookups::{is_above, item_from, last_set};
+use crate::lookups::{is_above, item_from};
 use crate::numbers::Numbers;
 use crate::records::Record;
 use std::alloc::{AllocError, Global};
@@ -21,6 +21,7 @@ use thiserror::Error;
 /// Why a store refuses an entry.
 #[derive(Clone, Copy, Debug, PartialEq, Eq, Error)]
 pub enum StoreFault {
+    /// Memory is wanting; nothing has changed.
     #[error("out of memory")]
     Memory,
 }
@@ -34,6 +35,7 @@ impl From<AllocError> for StoreFault {
 }
 
 /// The items at a number, the floor, and the entries of the log above it. An item stands once: in the base, or in its entry.
+/// Contracts see the base, the floor, the entries above it and the acknowledged number (`StoreState`).
 #[derive(Drop)]
 pub struct Store {
     alloc: Global,
@@ -157,8 +159,8 @@ impl Store {
         )
     }
 
-    /// The version of a key at the number `n`: its item then, or none. Time is logarithmic in the number of keys and in the
-    /// number of versions of the key and of clears above the floor.
+    /// The version of a key at the number `n`: its item then, or none (CRAQ, "Chain Replication with Apportioned Queries").
+    /// Time is logarithmic in the number of keys and in the number of versions of the key and of clears above the floor.
     pub fn at(&self, key: &Key, n: u64) -> Option<&Item>
         requires above { self.now.floor ≤ n }
         requires known { n ≤ last_number self.now }
@@ -175,28 +177,28 @@ impl Store {
         )
     }
 
-    /// The entries above the number `n`, in order.
+    /// The entries above the number `n`, in order. In constant time.
     pub fn entries_after(&self, n: u64) -> Iter<'_, Entry>
         requires above { self.now.floor ≤ n }
         requires known { n ≤ last_number self.now }
         ensures rest { deque_iter_rest result ≡ entries_after self.now n }
-        // What a chain over them is proved by.
+        // By this a loop over them, or a chain of iterators, is proved.
         ensures runs { YieldsRefsInOrder (deque_iter_steps {X = Entry}) deque_iter_rest }
     {
         let first = (n - self.floor) as usize;
         self.entries.range(first..)
     }
 
-    /// Whether no entry above the acknowledged number puts, drops or clears the key. Time is logarithmic in the number of keys.
+    /// Whether no entry above the acknowledged number puts, drops or clears the key
+    /// (CRAQ, "Chain Replication with Apportioned Queries"). Time is logarithmic in the number of keys.
     pub fn is_clean(&self, key: &Key) -> bool
-        ensures { result ≡ is_clean self.now key.now }
+        ensures clean { IsTrue result ↔ IsClean self.now key.now }
     {
-        let set = last_set(&self.records, key);
-        !is_above(self.acked, set) && !is_above(self.acked, self.clears.last())
+        self.clean_version(key).is_some()
     }
 
-    /// The item of a key's newest version, or none, if no entry that isn't acknowledged touches the key.
-    /// One search: time is logarithmic in the number of keys.
+    /// The item of a key's newest version, or none, if no entry that isn't acknowledged touches the key
+    /// (CRAQ, "Chain Replication with Apportioned Queries"). One search: time is logarithmic in the number of keys.
     pub fn clean_version(&self, key: &Key) -> Option<Option<&Item>>
         ensures clean { IsSome result ↔ IsClean self.now key.now }
         ensures newest { IfSome result (λ item. option_copied item ≡ value_at self.now key.now (last_number self.now)) }

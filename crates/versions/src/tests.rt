@@ -248,7 +248,7 @@ fn many_versions_of_one_key(rt: HostRuntime) -> Result<(), Fail> {
     Ok(())
 }
 
-// A key for each number below 1,000.
+// A key for each number below the count.
 fn keys(alloc: Global, count: u32) -> Result<Vec<Key>, Fail> {
     let mut keys = Vec::new(alloc);
     for i in 0..count {
@@ -281,7 +281,7 @@ fn all_agree(pair: &Pair, keys: &[Key]) -> Result<bool, Fail> {
     Ok(agreed)
 }
 
-// Rounds of an update at every third key or so; some entries stay open behind each.
+// Rounds of an update at two keys of three; some entries stay open behind each.
 fn many_keys(pair: &mut Pair, keys: &[Key], rounds: u64) -> Result<bool, Fail> {
     let mut agreed = true;
     for round in 0..rounds {
