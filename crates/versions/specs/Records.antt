@@ -1,5 +1,5 @@
 -- How the fields of a store stand for what it holds: a record for each key, and the numbers of the clears.
-use Rattle.std.specs.Prelude.{◌≡◌, ℕ, ◌+◌, ◌-◌, length, Bool, nat_lt, List, [], ◌∷◌, Option, None, Some, if◌then◌else◌}
+use Rattle.std.specs.Prelude.{◌≡◌, ℕ, ◌+◌, ◌-◌, length, Bool, cond, nat_lt, List, [], ◌∷◌, Option, None, Some, if◌then◌else◌}
 use Rattle.std.specs.FinMap as map
 use Rattle.std.specs.Map.{lookup}
 use Rattle.std.specs.List.{slice_get}
@@ -44,6 +44,14 @@ SameItems old new = (q : List ℕ) → base_item new q ≡ base_item old q
 -- no key's numbers change
 abbrev pub SameNumbers : List (List ℕ × Record) → List (List ℕ × Record) → Type 0
 SameNumbers old new = (q : List ℕ) → key_numbers new q ≡ key_numbers old q
+
+-- a key has this item in the base, and no other key's item changes
+abbrev pub HasItem : List ℕ → Option Item → List (List ℕ × Record) → List (List ℕ × Record) → Type 0
+HasItem key item old new = (q : List ℕ) → base_item new q ≡ cond (is_at (key_cmp key) q) item (base_item old q)
+
+-- a key has these numbers, and no other key's change
+abbrev pub HasNumbers : List ℕ → List ℕ → List (List ℕ × Record) → List (List ℕ × Record) → Type 0
+HasNumbers key numbers old new = (q : List ℕ) → key_numbers new q ≡ cond (is_at (key_cmp key) q) numbers (key_numbers old q)
 
 -- with this item at a key, or without one
 abbrev pub with_item : Items → List ℕ → Option Item → Items

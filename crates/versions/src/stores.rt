@@ -10,6 +10,7 @@ use crate::Entry;
 use crate::changes::{note, settle_first};
 use crate::lookups::{is_above, item_from};
 use crate::numbers::Numbers;
+use crate::queues::give_back;
 use crate::records::Record;
 use std::alloc::{AllocError, Global};
 use std::collections::vec_deque::Iter;
@@ -17,6 +18,9 @@ use std::collections::{BTreeMap, VecDeque};
 use std::marker::Model;
 use table::{Item, Key};
 use thiserror::Error;
+
+// The room that the entries keep where none is left: enough for a chain under load, without a block of memory each time.
+const KEPT: usize = 1_024;
 
 /// Why a store refuses an entry.
 #[derive(Clone, Copy, Debug, PartialEq, Eq, Error)]
@@ -128,7 +132,7 @@ impl Store {
 
     /// Raises the floor to `n`: the items of the entries up to it move to the base. No item is copied, and no memory taken.
     /// Time is logarithmic in the number of keys for each entry; a clear among them takes time linear in the number of keys
-    /// that have a record, whose items it takes away.
+    /// that have a record, whose items it takes away. Where no entry is left, the room that many of them took is given back.
     pub fn drop_to(&mut self, n: u64)
         requires above { self.old.floor ≤ n }
         requires acked { n ≤ self.old.acked }
@@ -141,6 +145,7 @@ impl Store {
             &mut self.entries,
             count,
         );
+        give_back(&mut self.entries, KEPT);
         self.floor = n;
     }
 
