@@ -37,7 +37,7 @@ lowered flags None amount number = (NotNumber, Keep)
 lowered flags (Some old) amount number = counted flags (old - amount) number
 
 -- the reply and the change of an operation at a key that has this item or none, under this number
--- (protocol.txt, "Storage commands", "Retrieval command", "Deletion", "Increment/Decrement" and "flush_all";
+-- (protocol.txt, "Storage commands", "Retrieval command", "Deletion", "Increment/Decrement", and "Other commands" on flush_all;
 -- that an item's unique is its number, and what counts as a counter, are this project's rules)
 abbrev pub decision : Option Item → Op → ℕ → Decision
 decision item Read number = (Value item, Keep)

@@ -3,7 +3,7 @@ use Rattle.std.specs.Prelude.{ℕ, List, refl}
 use Rattle.std.specs.Coded.{Coded, code_by, coded×, coded_ℕ, coded_list}
 use Rattle.table.specs.declared.items.Item.{Item}
 
--- the most bytes of data that an item may hold
+-- the most bytes of data that an item may hold (this project's rule; memcached's default)
 abbrev pub limit : ℕ
 limit = 1048576
 

@@ -14,6 +14,7 @@ is_key_byte b = (nat_le 33 b && nat_le b 126) || (nat_le 128 b && nat_le b 255)
 abbrev pub is_key : List ℕ → Bool
 is_key bytes = nat_le 1 (length bytes) && nat_le (length bytes) 250 && list_all is_key_byte bytes
 
+-- the bytes make a key
 abbrev pub IsKey : List ℕ → Type 0
 IsKey bytes = IsTrue (is_key bytes)
 

@@ -27,11 +27,12 @@ abbrev pub is_flush : Op → Bool
 is_flush Flush = true
 is_flush op = false
 
+-- the target is all keys
 abbrev pub is_all : Target → Bool
 is_all (One key) = false
 is_all All = true
 
--- the operation aims at all keys exactly where it is a flush
+-- the operation aims at all keys exactly where it is a flush (this project's rule)
 abbrev pub Suits : Target → Op → Type 0
 Suits target op = is_flush op ≡ is_all target
 

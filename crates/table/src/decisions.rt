@@ -1,5 +1,5 @@
 //! What one operation answers, and what it does with the item at its key.
-ghost use Rattle.std.specs.Prelude.{◌≡◌, ◌≤◌, ◌++◌, ◌+◌, ◌<◌, ◌^◌, decimal, length, IfOk};
+ghost use Rattle.std.specs.Prelude.{◌≡◌, ◌≤◌, ◌++◌, ◌+◌, ◌<◌, length, IfOk};
 ghost use Rattle.std.specs.Option.{option_copied};
 ghost use Rattle.table.specs.Items.{limit};
 ghost use Rattle.table.specs.Operations.{Fits};
@@ -14,6 +14,7 @@ use std::alloc::{AllocError, AllocFailed, Global};
 
 /// The reply to an operation at a key that has this item or none, and the change that it makes.
 /// An item that is put has the number as its unique. The operation's data is not copied, save where it is joined with the item's.
+/// Refused only for want of memory.
 pub fn decide(
     alloc: Global,
     item: Option<&Item>,
@@ -92,7 +93,7 @@ fn grown(
 
 // One block of both pieces, each copied once.
 fn joined(alloc: Global, front: &[u8], back: &[u8]) -> Result<Bytes, AllocError>
-    requires { length front.now + length back.now ≤ 1048576 }
+    requires within_limit { length front.now + length back.now ≤ limit }
     ensures { IfOk result (λ bytes. bytes ≡ front.now ++ back.now) }
 {
     let mut data = Vec::with_capacity(alloc, front.len() + back.len())?;

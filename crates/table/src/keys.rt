@@ -1,5 +1,5 @@
 //! Keys: the names of items.
-ghost use Rattle.std.specs.Prelude.{◌≡◌, ◌↔◌, IfOk, IfSome, IsSome, IsTrue, Some, refl, nat_eq};
+ghost use Rattle.std.specs.Prelude.{◌≡◌, ◌↔◌, IfOk, IfSome, IsSome, Some, refl, nat_eq};
 ghost use Rattle.std.specs.List.{list_all};
 ghost use Rattle.std.specs.Ordering.{nat_cmp};
 ghost use Rattle.std.specs.Cmp.Lexicographic.{slice_cmp, nat_list_cmp_total, nat_list_eq_equiv, texts_po, texts_ties, pointwise};
@@ -11,7 +11,8 @@ use std::alloc::{AllocError, Global};
 use std::cmp::Ordering;
 use std::marker::Model;
 
-/// The name of an item: 1 to 250 bytes, none of them a blank or a control character.
+/// The name of an item: 1 to 250 bytes, none of them a blank or a control character
+/// (protocol.txt, "Keys"; that bytes from 128 on are allowed is this project's rule).
 /// Contracts see a key as its bytes. A clone shares them.
 #[derive(Debug, Drop)]
 pub struct Key {
@@ -35,6 +36,7 @@ impl Key {
     pub const MAX: usize = 250;
 
     /// The key of these bytes, or `None` exactly where they make no key. It copies them once.
+    /// Refused only for want of memory.
     pub fn new(alloc: Global, bytes: &[u8]) -> Result<Option<Key>, AllocError>
         ensures bytes { IfOk result (λ found. IfSome found (λ key. key ≡ bytes.now)) }
         ensures valid { IfOk result (λ found. IsSome found ↔ IsKey bytes.now) }
@@ -47,7 +49,8 @@ impl Key {
         }))
     }
 
-    /// The same of bytes that it shares: it copies and allocates nothing.
+    /// The key of these bytes, or `None` exactly where they make no key.
+    /// It shares their block: it copies and allocates nothing.
     pub fn from_bytes(bytes: Bytes) -> Option<Key>
         ensures bytes { IfSome result (λ key. key ≡ bytes) }
         ensures valid { IsSome result ↔ IsKey bytes }

@@ -11,7 +11,7 @@ mod plain;
 pub use decisions::decide;
 pub use items::{Item, LIMIT};
 pub use keys::{Key, is_key};
-pub use numbers::{counter, number};
+pub use numbers::number;
 pub use operations::{Call, Change, Op, Reply, Target};
 pub use plain::{Table, TableFault};
 

@@ -30,7 +30,7 @@ fn with_digit(value: u64, b: u8) -> Option<u64>
 }
 
 /// The number that data spells as a counter: 1 to 20 digits, with a value below 2^64 (this project's rule).
-pub fn counter(bytes: &[u8]) -> Option<u64>
+pub(crate) fn counter(bytes: &[u8]) -> Option<u64>
     ensures { result ≡ counter_of bytes.now }
 {
     if bytes.len() <= MOST_DIGITS {

@@ -16,27 +16,30 @@ pub enum Target {
 /// What a client asks of a target. Every operation but a read takes a number, refused or not (this project's rule).
 #[derive(Clone, Debug, PartialEq, Eq, Drop)]
 pub enum Op {
-    /// Reads the item. It takes no number.
+    /// Reads the item (protocol.txt, "Retrieval command"). It takes no number.
     Read,
-    /// Puts an item with these flags and this data.
+    /// Puts an item with these flags and this data (protocol.txt, "Storage commands").
     Set(u32, Bytes),
-    /// Puts an item with these flags and this data, where the key has none.
+    /// Puts an item with these flags and this data, where the key has none (protocol.txt, "Storage commands").
     Add(u32, Bytes),
-    /// Puts an item with these flags and this data, where the key has one.
+    /// Puts an item with these flags and this data, where the key has one (protocol.txt, "Storage commands").
     Replace(u32, Bytes),
-    /// Adds data at the end of the item's data. The item keeps its flags.
+    /// Adds data at the end of the item's data (protocol.txt, "Storage commands"). The item keeps its flags.
     Append(Bytes),
-    /// Adds data in front of the item's data. The item keeps its flags.
+    /// Adds data in front of the item's data (protocol.txt, "Storage commands"). The item keeps its flags.
     Prepend(Bytes),
-    /// Puts an item with these flags and this data, where the key's item has this unique.
+    /// Puts an item with these flags and this data, where the key's item has this unique
+    /// (protocol.txt, "Storage commands").
     Cas(u32, Bytes, u64),
-    /// Raises the item's counter by an amount, wrapping at 2^64. The item keeps its flags.
+    /// Raises the item's counter by an amount, wrapping at 2^64 (protocol.txt, "Increment/Decrement").
+    /// The item keeps its flags.
     Incr(u64),
-    /// Lowers the item's counter by an amount, stopping at 0. The item keeps its flags.
+    /// Lowers the item's counter by an amount, stopping at 0 (protocol.txt, "Increment/Decrement").
+    /// The item keeps its flags.
     Decr(u64),
-    /// Takes the item away.
+    /// Takes the item away (protocol.txt, "Deletion").
     Delete,
-    /// Takes all items away. It is the operation on all keys at once, and the only one.
+    /// Takes all items away (protocol.txt, "Other commands"). It is the operation on all keys at once, and the only one.
     Flush,
 }
 
@@ -81,12 +84,14 @@ pub enum Change {
 /// One operation on its target.
 #[derive(Clone, Debug, PartialEq, Eq, Drop)]
 pub struct Call {
+    /// What it is on.
     pub target: Target,
+    /// What is asked.
     pub op: Op,
 }
 
 impl Op {
-    ghost use Rattle.table.specs.Operations.{Fits, Suits, is_flush, is_update};
+    ghost use Rattle.table.specs.Operations.{Fits, Suits, is_update};
 
     /// Whether the operation's data is within [`LIMIT`].
     pub fn fits(&self) -> bool

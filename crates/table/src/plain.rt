@@ -14,8 +14,10 @@ use thiserror::Error;
 /// Why a table refuses a call.
 #[derive(Clone, Copy, Debug, PartialEq, Eq, Error)]
 pub enum TableFault {
+    /// Memory is wanting; the table is as it was.
     #[error("out of memory")]
     Memory,
+    /// An update, after 2^64 - 1 numbers were taken.
     #[error("all numbers are taken")]
     Exhausted,
 }
@@ -38,6 +40,7 @@ impl<T: Drop> From<AllocFailed<T>> for TableFault {
 
 /// One map from keys to items, and a count of the operations so far that take a number.
 /// It is the reference: whatever a chain of servers answers is what one such table would.
+/// Contracts see a finite map of items and a count (`PlainTable`).
 #[derive(Drop)]
 pub struct Table {
     alloc: Global,
@@ -68,6 +71,8 @@ impl Table {
     }
 
     /// Carries out one operation on its target: in time logarithmic in the number of keys on one key, linear on all of them.
+    /// Refused with `Memory`, or with `Exhausted` exactly for an update at count 2^64 - 1; the table stays as it was on both.
+    /// An append or a prepend copies both pieces.
     pub fn call(&mut self, target: &Target, op: &Op) -> Result<Reply, TableFault>
         requires fits { Fits op.now }
         requires aimed { Suits target.now op.now }
@@ -117,12 +122,10 @@ fn carry_out(
     ensures ok { OnOk result (items_of items.new.entries ≡ changed (items_of items.old.entries) target.now change) }
     ensures err { OnErr result (items.new.entries ≡ items.old.entries) }
 {
-    match target {
-        Target::One(key) => return carry_out_at(items, key, change),
-        Target::All => {}
-    }
-    if let Change::Clear = change {
-        items.clear();
+    match (target, change) {
+        (Target::One(key), change) => carry_out_at(items, key, change)?,
+        (Target::All, Change::Clear) => items.clear(),
+        (Target::All, _) => {}
     }
     Ok(())
 }

@@ -97,7 +97,7 @@ fn a_table_numbers_its_updates(rt: HostRuntime) -> Result<(), Fail> {
 }
 
 #[test]
-fn a_decision_shares_the_data(rt: HostRuntime) -> Result<(), Fail> {
+fn a_decision_puts_and_shows_an_item(rt: HostRuntime) -> Result<(), Fail> {
     let op = set(rt.alloc(), 5, b"xyz")?;
     let item = item(rt.alloc(), 5, b"xyz", 7)?;
     let (reply, change) = decided(rt.alloc(), &op, None, 7)?;

@@ -182,10 +182,14 @@ more_settled items k es fs b c is h g = rw (g, is, h, take_more k es) (sym (item
 pub more_dropped : (k : ℕ) (es fs gs : List LogEntry) → fs ≡ drop k es → gs ≡ drop 1 fs → gs ≡ drop (k + 1) es
 more_dropped k es fs gs is h = h ∙ ap (drop 1) is ∙ sym (drop_more k es)
 
--- ---- two tests of a key
+-- ---- two tests of a key: a result is there exactly if both fail
 
-pub neither : (a b c : Bool) → a ≡ false → c ≡ b → not c ≡ not (a || b)
-neither a b c is same = rw (is, same) refl
+pub is_neither : (a b : Bool) → a ≡ false → b ≡ false → (true ≡ true → not (a || b) ≡ true) × (not (a || b) ≡ true → true ≡ true)
+is_neither a b is same = (λ t. rw (is, same) refl, λ h. refl)
 
-pub one_is : (a b c : Bool) → a ≡ true → c ≡ true → not c ≡ not (a || b)
-one_is a b c is same = rw (is, same) refl
+pub is_first : (a b : Bool) → a ≡ true → (false ≡ true → not (a || b) ≡ true) × (not (a || b) ≡ true → false ≡ true)
+is_first a b is = (λ f. cc, rw is (λ h. h))
+
+pub is_second : (a b : Bool) → b ≡ true → (false ≡ true → not (a || b) ≡ true) × (not (a || b) ≡ true → false ≡ true)
+is_second true b is = (λ f. cc, λ h. h)
+is_second false b is = (λ f. cc, rw is (λ h. h))

@@ -24,10 +24,12 @@ pub record LogEntry : Type 0 where
 abbrev pub server_limit : ℕ
 server_limit = 16
 
+-- the change takes all items away
 abbrev pub is_clear : Change → Bool
 is_clear Clear = true
 is_clear change = false
 
+-- the reply is that of a flush
 abbrev pub is_flushed : Reply → Bool
 is_flushed Flushed = true
 is_flushed reply = false

@@ -1,5 +1,5 @@
 -- How the fields of a store stand for what it holds: a record for each key, and the numbers of the clears.
-use Rattle.std.specs.Prelude.{◌≡◌, ℕ, ◌+◌, ◌-◌, length, Bool, nat_lt, List, [], ◌∷◌, Option, None, Some, if◌then◌else◌}
+use Rattle.std.specs.Prelude.{◌≡◌, ℕ, ◌+◌, ◌-◌, length, Bool, cond, nat_lt, List, [], ◌∷◌, Option, None, Some, if◌then◌else◌}
 use Rattle.std.specs.FinMap as map
 use Rattle.std.specs.Map.{lookup}
 use Rattle.std.specs.List.{slice_get}
@@ -19,21 +19,39 @@ use Rattle.versions.specs.declared.records.Record.{Record}
 abbrev pub record_at : List (List ℕ × Record) → List ℕ → Option Record
 record_at records key = lookup (is_at (key_cmp key)) records
 
--- what a record has, and what stands for a key that has none
+-- the item of a record, none where there is none
 abbrev pub item_in : Option Record → Option Item
 item_in None = None
 item_in (Some r) = r.item
 
+-- the numbers of a record, none where there is none
 abbrev pub numbers_in : Option Record → List ℕ
 numbers_in None = []
 numbers_in (Some r) = r.numbers
 
--- the same by the key
+-- the item that a key has in the base
 abbrev pub base_item : List (List ℕ × Record) → List ℕ → Option Item
 base_item records key = item_in (record_at records key)
 
+-- the numbers of the entries above the floor that set a key
 abbrev pub key_numbers : List (List ℕ × Record) → List ℕ → List ℕ
 key_numbers records key = numbers_in (record_at records key)
+
+-- no key's item in the base changes
+abbrev pub SameItems : List (List ℕ × Record) → List (List ℕ × Record) → Type 0
+SameItems old new = (q : List ℕ) → base_item new q ≡ base_item old q
+
+-- no key's numbers change
+abbrev pub SameNumbers : List (List ℕ × Record) → List (List ℕ × Record) → Type 0
+SameNumbers old new = (q : List ℕ) → key_numbers new q ≡ key_numbers old q
+
+-- a key has this item in the base, and no other key's item changes
+abbrev pub HasItem : List ℕ → Option Item → List (List ℕ × Record) → List (List ℕ × Record) → Type 0
+HasItem key item old new = (q : List ℕ) → base_item new q ≡ cond (is_at (key_cmp key) q) item (base_item old q)
+
+-- a key has these numbers, and no other key's change
+abbrev pub HasNumbers : List ℕ → List ℕ → List (List ℕ × Record) → List (List ℕ × Record) → Type 0
+HasNumbers key numbers old new = (q : List ℕ) → key_numbers new q ≡ cond (is_at (key_cmp key) q) numbers (key_numbers old q)
 
 -- with this item at a key, or without one
 abbrev pub with_item : Items → List ℕ → Option Item → Items
@@ -57,10 +75,11 @@ item_from base entries floor (Some set) None = item_put_at entries (set - floor 
 item_from base entries floor (Some set) (Some cleared) =
     if nat_lt set cleared then None else item_put_at entries (set - floor - 1)
 
--- whether an entry sets a key, or clears all
+-- the entry sets the key
 abbrev pub is_set : List ℕ → LogEntry → Bool
 is_set key e = sets key e.target e.change
 
+-- the entry clears all keys
 abbrev pub is_cleared : LogEntry → Bool
 is_cleared e = is_clear e.change
 

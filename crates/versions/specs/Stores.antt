@@ -13,13 +13,14 @@ use Rattle.table.specs.declared.operations.Change.{Change}
 use Rattle.versions.specs.Entries.{LogEntry, IsEntry, is_clear, set_key}
 
 -- base: the items after the entries up to the floor; rest: the entries above it, in order;
--- acked: the greatest number that this server knows to stand at every server
+-- acked: the greatest number up to which this server knows all entries to be committed
 pub record StoreState : Type 0 where
   pub base : Items
   pub floor : ℕ
   pub rest : List LogEntry
   pub acked : ℕ
 
+-- items are stored as their entries
 abbrev pub coded_items : Coded Items
 coded_items = map.code (coded_list coded_ℕ) coded_item
 
@@ -42,10 +43,11 @@ pub record IsStore (s : StoreState) : Type 0 where
 abbrev pub opening_store : StoreState
 opening_store = record { base = map.empty; floor = 0; rest = []; acked = 0 }
 
--- the entries from the floor up to a number, and those above it
+-- the entries above the floor up to a number
 abbrev pub entries_up_to : StoreState → ℕ → List LogEntry
 entries_up_to s n = take (n - s.floor) s.rest
 
+-- the entries above a number
 abbrev pub entries_after : StoreState → ℕ → List LogEntry
 entries_after s n = drop (n - s.floor) s.rest
 
@@ -58,7 +60,8 @@ items_after items (e ∷ es) = items_after (changed items e.target e.change) es
 abbrev pub items_at : StoreState → ℕ → Items
 items_at s n = items_after s.base (entries_up_to s n)
 
--- the item of a key at such a number (CRAQ, "Apportioned Queries": the version that a dirty read is answered with)
+-- the item of a key at such a number
+-- (CRAQ, "Chain Replication with Apportioned Queries": the version that a dirty read is answered with)
 abbrev pub value_at : StoreState → List ℕ → ℕ → Option Item
 value_at s key n = item_at (items_at s n) key
 
@@ -76,10 +79,11 @@ abbrev pub touches : List ℕ → LogEntry → Bool
 touches key e = sets key e.target e.change || is_clear e.change
 
 -- a key is clean if no entry above the acknowledged number touches it, and dirty otherwise
--- (CRAQ, "Basic operation"; a clear makes every key dirty, also keys that were never set)
+-- (CRAQ, "Chain Replication with Apportioned Queries"; a clear makes every key dirty, also keys that were never set)
 abbrev pub is_clean : StoreState → List ℕ → Bool
 is_clean s key = not (list_any (touches key) (entries_after s s.acked))
 
+-- the key is clean
 abbrev pub IsClean : StoreState → List ℕ → Type 0
 IsClean s key = IsTrue (is_clean s key)
 

@@ -3,7 +3,7 @@ ghost use Rattle.std.specs.Prelude.{◌≡◌, ◌≤◌, ℕ, List, [], ◌∷�
 ghost use Rattle.versions.specs.Entries.{is_clear};
 ghost use Rattle.versions.specs.Stores.{items_after, sets};
 ghost use Rattle.versions.specs.Numbers.{numbers_of};
-ghost use Rattle.versions.specs.Records.{IsIndex, base_of, record_at, base_item, key_numbers, item_after, is_set, is_cleared};
+ghost use Rattle.versions.specs.Records.{IsIndex, base_of, record_at, base_item, key_numbers, SameItems, SameNumbers, item_after, is_set, is_cleared};
 
 use crate::Entry;
 use crate::numbers::Numbers;
@@ -19,10 +19,10 @@ pub(crate) fn note(
     clears: &mut Numbers,
     entry: &Entry,
 ) -> Result<(), AllocError>
-    ensures items { (q : List ℕ) → base_item records.new.entries q ≡ base_item records.old.entries q }
+    ensures items { SameItems records.old.entries records.new.entries }
     ensures numbers { OnOk result ((q : List ℕ) → key_numbers records.new.entries q ≡ key_numbers records.old.entries q ++ numbers_of (is_set q) (entry.now ∷ [])) }
     ensures clears { OnOk result (clears.new ≡ clears.old ++ numbers_of is_cleared (entry.now ∷ [])) }
-    ensures numbers_stay { OnErr result ((q : List ℕ) → key_numbers records.new.entries q ≡ key_numbers records.old.entries q) }
+    ensures numbers_stay { OnErr result (SameNumbers records.old.entries records.new.entries) }
     ensures clears_stay { OnErr result (clears.new ≡ clears.old) }
 {
     if let Some(key) = entry.set_key() {

@@ -1,5 +1,5 @@
 //! Entries of the log: what a server appends for each update.
-ghost use Rattle.std.specs.Prelude.{◌≡◌, ◌≤◌, ◌<◌, true, false, IfOk};
+ghost use Rattle.std.specs.Prelude.{◌≡◌, ◌≤◌, ◌<◌, false, IfOk};
 ghost use Rattle.std.specs.Option.{option_copied};
 ghost use Rattle.table.specs.Operations.{is_all, is_value};
 ghost use Rattle.versions.specs.Entries.{IsEntry, PutsOwn, is_clear, is_flushed, item_put, server_limit, set_key};
@@ -8,7 +8,8 @@ use std::alloc::AllocError;
 use std::marker::Model;
 use table::{Change, Item, Key, Reply, Target};
 
-/// One update of the log. Its type keeps its ranges, so that no entry is in a store or on a link that breaks them.
+/// One update of the log (this project's rule). Its type keeps its ranges, so that no entry is in a store or on a link
+/// that breaks them. Contracts see its parts (`LogEntry`).
 #[derive(Debug, PartialEq, Eq, Drop)]
 pub struct Entry {
     number: u64,
@@ -21,7 +22,6 @@ pub struct Entry {
 
 impl Model for Entry {
     ghost use Rattle.versions.specs.Entries.{LogEntry, IsEntry};
-    ghost use Rattle.std.specs.Prelude.{ℕ};
 
     ghost Value = { LogEntry };
 
@@ -155,6 +155,7 @@ impl Clone for Entry {
     }
 }
 
+// Each says of a derived clone that it equals what it was made from, which the clone of an entry is proved by.
 fn copy_of_target(target: &Target) -> Result<Target, AllocError>
     ensures { IfOk result (λ copy. copy ≡ target.now) }
 {

@@ -5,6 +5,7 @@ mod changes;
 mod entries;
 mod lookups;
 mod numbers;
+mod queues;
 mod records;
 mod stores;
 

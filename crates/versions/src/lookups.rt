@@ -1,20 +1,12 @@
 //! What the last entry that set a key and the last clear make of its item.
 ghost use Rattle.std.specs.Prelude.{◌≡◌, ◌+◌, length};
 ghost use Rattle.std.specs.Option.{option_copied};
-ghost use Rattle.versions.specs.Numbers.{last_of, is_above, IsWithin};
-ghost use Rattle.versions.specs.Records.{key_numbers, item_from, item_put_at};
+ghost use Rattle.versions.specs.Numbers.{is_above, IsWithin};
+ghost use Rattle.versions.specs.Records.{item_from, item_put_at};
 
 use crate::Entry;
-use crate::records::Record;
-use std::collections::{BTreeMap, VecDeque};
-use table::{Item, Key};
-
-/// The number of the last entry that set the key, if there is one above the floor.
-pub(crate) fn last_set(records: &BTreeMap<Key, Record>, key: &Key) -> Option<u64>
-    ensures { result ≡ last_of (key_numbers records.now.entries key.now) }
-{
-    records.get(key)?.numbers.last()
-}
+use std::collections::VecDeque;
+use table::Item;
 
 /// Whether a number is there and above `n`.
 pub(crate) fn is_above(n: u64, number: Option<u64>) -> bool

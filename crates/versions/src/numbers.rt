@@ -2,6 +2,7 @@
 ghost use Rattle.std.specs.Prelude.{◌≡◌, ℕ, List, [], ◌∷◌, ◌++◌, drop, OnOk, OnErr, IsTrue, ◌↔◌};
 ghost use Rattle.versions.specs.Numbers.{last_of, last_up_to, IsRising};
 
+use crate::queues::give_back;
 use std::alloc::{AllocError, Global};
 use std::collections::VecDeque;
 use std::marker::Model;
@@ -47,10 +48,7 @@ impl Numbers {
         ensures { self.new ≡ drop 1 self.old }
     {
         self.queue.pop_front();
-        if self.queue.is_empty() && self.queue.capacity() > KEPT {
-            let alloc = *self.queue.allocator();
-            self.queue = VecDeque::new(alloc);
-        }
+        give_back(&mut self.queue, KEPT);
     }
 
     pub(crate) fn is_empty(&self) -> bool

@@ -1,8 +1,6 @@
 //! A record for each key that has an item in the base or entries above the floor.
-ghost use Rattle.std.specs.Prelude.{◌≡◌, ℕ, List, [], ◌∷◌, ◌++◌, drop, cond, OnOk, OnErr, IsSome, Some, None, false};
-ghost use Rattle.std.specs.BTreeMap.{is_at};
-ghost use Rattle.table.specs.Keys.{key_cmp};
-ghost use Rattle.versions.specs.Records.{record_at, base_item, key_numbers};
+ghost use Rattle.std.specs.Prelude.{◌≡◌, ℕ, List, [], ◌∷◌, ◌++◌, drop, OnOk, OnErr, IsSome, Some, None, false};
+ghost use Rattle.versions.specs.Records.{record_at, base_item, key_numbers, SameItems, SameNumbers, HasItem, HasNumbers};
 
 use crate::numbers::Numbers;
 use std::alloc::{AllocError, Global};
@@ -23,9 +21,9 @@ pub(crate) fn note(
     key: &Key,
     number: u64,
 ) -> Result<(), AllocError>
-    ensures items { (q : List ℕ) → base_item records.new.entries q ≡ base_item records.old.entries q }
-    ensures numbers { OnOk result ((q : List ℕ) → key_numbers records.new.entries q ≡ cond (is_at (key_cmp key.now) q) (key_numbers records.old.entries key.now ++ number ∷ []) (key_numbers records.old.entries q)) }
-    ensures err { OnErr result ((q : List ℕ) → key_numbers records.new.entries q ≡ key_numbers records.old.entries q) }
+    ensures items { SameItems records.old.entries records.new.entries }
+    ensures numbers { OnOk result (HasNumbers key.now (key_numbers records.old.entries key.now ++ number ∷ []) records.old.entries records.new.entries) }
+    ensures err { OnErr result (SameNumbers records.old.entries records.new.entries) }
 {
     match records.get_mut(key) {
         Some(record) => record.numbers.push(number),
@@ -47,8 +45,8 @@ pub(crate) fn note(
 /// Gives the key this item in the base, or none, and drops its first number. A record that is empty then is taken away.
 pub(crate) fn settle(records: &mut BTreeMap<Key, Record>, key: &Key, item: Option<Item>)
     requires noted { IsSome (record_at records.old.entries key.now) }
-    ensures items { (q : List ℕ) → base_item records.new.entries q ≡ cond (is_at (key_cmp key.now) q) item (base_item records.old.entries q) }
-    ensures numbers { (q : List ℕ) → key_numbers records.new.entries q ≡ cond (is_at (key_cmp key.now) q) (drop 1 (key_numbers records.old.entries key.now)) (key_numbers records.old.entries q) }
+    ensures items { HasItem key.now item records.old.entries records.new.entries }
+    ensures numbers { HasNumbers key.now (drop 1 (key_numbers records.old.entries key.now)) records.old.entries records.new.entries }
 {
     let Some(record) = records.get_mut(key) else {
         return;
@@ -63,7 +61,7 @@ pub(crate) fn settle(records: &mut BTreeMap<Key, Record>, key: &Key, item: Optio
 /// Takes all items out of the base, and with them each record that has no numbers.
 pub(crate) fn clear(records: &mut BTreeMap<Key, Record>)
     ensures items { (q : List ℕ) → base_item records.new.entries q ≡ None }
-    ensures numbers { (q : List ℕ) → key_numbers records.new.entries q ≡ key_numbers records.old.entries q }
+    ensures numbers { SameNumbers records.old.entries records.new.entries }
 {
     records.retain(|_, record| take_item(record));
 }

@@ -1,15 +1,16 @@
 //! The store: the items at the floor, and the entries above it.
-ghost use Rattle.std.specs.Prelude.{◌≡◌, ◌≤◌, ◌+◌, OnOk, OnErr};
+ghost use Rattle.std.specs.Prelude.{◌≡◌, ◌≤◌, ◌+◌, ◌↔◌, OnOk, OnErr, IsTrue, IsSome, IfSome};
 ghost use Rattle.std.specs.Option.{option_copied};
 ghost use Rattle.std.specs.Iterator.Runs.{YieldsRefsInOrder};
 ghost use Rattle.std.specs.VecDeque.Iter.{deque_iter_rest, deque_iter_steps};
 ghost use Rattle.versions.specs.declared.stores.StoreFault.TheVariants.{Memory};
-ghost use Rattle.versions.specs.Stores.{IsStore, opening_store, last_number, value_at, is_clean, entries_after, pushed, acked_to, dropped_to};
+ghost use Rattle.versions.specs.Stores.{IsStore, opening_store, last_number, value_at, IsClean, entries_after, pushed, acked_to, dropped_to};
 
 use crate::Entry;
 use crate::changes::{note, settle_first};
-use crate::lookups::{is_above, item_from, last_set};
+use crate::lookups::{is_above, item_from};
 use crate::numbers::Numbers;
+use crate::queues::give_back;
 use crate::records::Record;
 use std::alloc::{AllocError, Global};
 use std::collections::vec_deque::Iter;
@@ -18,9 +19,13 @@ use std::marker::Model;
 use table::{Item, Key};
 use thiserror::Error;
 
+// The room that the entries keep where none is left: enough for a chain under load, without a block of memory each time.
+const KEPT: usize = 1_024;
+
 /// Why a store refuses an entry.
 #[derive(Clone, Copy, Debug, PartialEq, Eq, Error)]
 pub enum StoreFault {
+    /// Memory is wanting; nothing has changed.
     #[error("out of memory")]
     Memory,
 }
@@ -34,6 +39,7 @@ impl From<AllocError> for StoreFault {
 }
 
 /// The items at a number, the floor, and the entries of the log above it. An item stands once: in the base, or in its entry.
+/// Contracts see the base, the floor, the entries above it and the acknowledged number (`StoreState`).
 #[derive(Drop)]
 pub struct Store {
     alloc: Global,
@@ -126,7 +132,7 @@ impl Store {
 
     /// Raises the floor to `n`: the items of the entries up to it move to the base. No item is copied, and no memory taken.
     /// Time is logarithmic in the number of keys for each entry; a clear among them takes time linear in the number of keys
-    /// that have a record, whose items it takes away.
+    /// that have a record, whose items it takes away. Where no entry is left, the room that many of them took is given back.
     pub fn drop_to(&mut self, n: u64)
         requires above { self.old.floor ≤ n }
         requires acked { n ≤ self.old.acked }
@@ -139,6 +145,7 @@ impl Store {
             &mut self.entries,
             count,
         );
+        give_back(&mut self.entries, KEPT);
         self.floor = n;
     }
 
@@ -157,8 +164,8 @@ impl Store {
         )
     }
 
-    /// The version of a key at the number `n`: its item then, or none. Time is logarithmic in the number of keys and in the
-    /// number of versions of the key and of clears above the floor.
+    /// The version of a key at the number `n`: its item then, or none (CRAQ, "Chain Replication with Apportioned Queries").
+    /// Time is logarithmic in the number of keys and in the number of versions of the key and of clears above the floor.
     pub fn at(&self, key: &Key, n: u64) -> Option<&Item>
         requires above { self.now.floor ≤ n }
         requires known { n ≤ last_number self.now }
@@ -175,23 +182,49 @@ impl Store {
         )
     }
 
-    /// The entries above the number `n`, in order.
+    /// The entries above the number `n`, in order. In constant time.
     pub fn entries_after(&self, n: u64) -> Iter<'_, Entry>
         requires above { self.now.floor ≤ n }
         requires known { n ≤ last_number self.now }
         ensures rest { deque_iter_rest result ≡ entries_after self.now n }
-        // What a chain over them is proved by.
+        // By this a loop over them, or a chain of iterators, is proved.
         ensures runs { YieldsRefsInOrder (deque_iter_steps {X = Entry}) deque_iter_rest }
     {
         let first = (n - self.floor) as usize;
         self.entries.range(first..)
     }
 
-    /// Whether no entry above the acknowledged number puts, drops or clears the key. Time is logarithmic in the number of keys.
+    /// Whether no entry above the acknowledged number puts, drops or clears the key
+    /// (CRAQ, "Chain Replication with Apportioned Queries"). Time is logarithmic in the number of keys.
     pub fn is_clean(&self, key: &Key) -> bool
-        ensures { result ≡ is_clean self.now key.now }
+        ensures clean { IsTrue result ↔ IsClean self.now key.now }
     {
-        let set = last_set(&self.records, key);
-        !is_above(self.acked, set) && !is_above(self.acked, self.clears.last())
+        self.clean_version(key).is_some()
+    }
+
+    /// The item of a key's newest version, or none, if no entry that isn't acknowledged touches the key
+    /// (CRAQ, "Chain Replication with Apportioned Queries"). One search: time is logarithmic in the number of keys.
+    pub fn clean_version(&self, key: &Key) -> Option<Option<&Item>>
+        ensures clean { IsSome result ↔ IsClean self.now key.now }
+        ensures newest { IfSome result (λ item. option_copied item ≡ value_at self.now key.now (last_number self.now)) }
+    {
+        let cleared = self.clears.last();
+        if is_above(self.acked, cleared) {
+            return None;
+        }
+        let Some(record) = self.records.get(key) else {
+            return Some(None);
+        };
+        let newest = record.numbers.last();
+        if is_above(self.acked, newest) {
+            return None;
+        }
+        Some(item_from(
+            record.item.as_ref(),
+            &self.entries,
+            self.floor,
+            newest,
+            cleared,
+        ))
     }
 }

@@ -1,7 +1,8 @@
+use crate::queues::give_back;
 use crate::{Entry, Store};
 use bytes::Bytes;
 use std::alloc::Global;
-use std::collections::BTreeMap;
+use std::collections::{BTreeMap, VecDeque};
 use std::test::Fail;
 use table::{Change, Item, Key, LIMIT, Reply, Target};
 
@@ -196,8 +197,17 @@ impl Pair {
         Ok(
             same(self.store.newest(key), self.plain.at(key, u64::MAX))
                 && same(self.store.at(key, n), self.plain.at(key, n))
-                && self.store.is_clean(key) == self.plain.is_clean(key),
+                && self.store.is_clean(key) == self.plain.is_clean(key)
+                && self.agree_on_clean(key),
         )
+    }
+
+    // Whether the store shows a clean key's newest version, and none of a dirty one.
+    fn agree_on_clean(&self, key: &Key) -> bool {
+        match self.store.clean_version(key) {
+            Some(item) => self.plain.is_clean(key) && same(item, self.plain.at(key, u64::MAX)),
+            None => !self.plain.is_clean(key),
+        }
     }
 }
 
@@ -239,7 +249,7 @@ fn many_versions_of_one_key(rt: HostRuntime) -> Result<(), Fail> {
     Ok(())
 }
 
-// A key for each number below 1,000.
+// A key for each number below the count.
 fn keys(alloc: Global, count: u32) -> Result<Vec<Key>, Fail> {
     let mut keys = Vec::new(alloc);
     for i in 0..count {
@@ -272,7 +282,7 @@ fn all_agree(pair: &Pair, keys: &[Key]) -> Result<bool, Fail> {
     Ok(agreed)
 }
 
-// Rounds of an update at every third key or so; some entries stay open behind each.
+// Rounds of an update at two keys of three; some entries stay open behind each.
 fn many_keys(pair: &mut Pair, keys: &[Key], rounds: u64) -> Result<bool, Fail> {
     let mut agreed = true;
     for round in 0..rounds {
@@ -361,4 +371,20 @@ fn open_entries(alloc: Global, store: &Store, n: u64) -> Result<Vec<Entry>, Fail
         copies.push(copy)?;
     }
     Ok(copies)
+}
+
+#[test]
+fn an_empty_queue_gives_back_what_a_burst_took(rt: HostRuntime) -> Result<(), Fail> {
+    let mut queue = VecDeque::new(rt.alloc());
+    for n in 0..100 {
+        queue.push_back(n)?;
+    }
+    give_back(&mut queue, 16);
+    assert_eq!(rt; queue.len(), 100);
+    queue.clear();
+    give_back(&mut queue, 1_000);
+    assert!(rt; queue.capacity() >= 100);
+    give_back(&mut queue, 16);
+    assert!(rt; queue.capacity() <= 16);
+    Ok(())
 }
