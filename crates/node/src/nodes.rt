@@ -90,6 +90,7 @@ impl Node {
         ensures lawful { OnOk result (IsLawful self.new.server) }
         // Memory stops the node, and Stopped is answered exactly from then on.
         ensures stopped { IsErrOf result NodeFault.Stopped ↔ (self.old.stopped ≡ true) }
+        ensures unchanged { IsErrOf result NodeFault.Stopped → self.new ≡ self.old }
         ensures stops { OnErr result (self.new.stopped ≡ true) }
         ensures fault { IfErr result (λ fault. fault ≢ NodeFault.BadCount) }
     {
@@ -118,17 +119,17 @@ impl Node {
         ensures face { IfOk result (λ found. face_changed (face_of self.old.server) found.1.steps.items found.1.acked ≡ face_of (steps.step self.old.server input).state) }
         // Memory stops the node, and Stopped is answered exactly from then on.
         ensures stopped { IsErrOf result NodeFault.Stopped ↔ (self.old.stopped ≡ true) }
+        ensures unchanged { IsErrOf result NodeFault.Stopped → self.new ≡ self.old }
         ensures stops { OnErr result (self.new.stopped ≡ true) }
         ensures fault { IfErr result (λ fault. fault ≢ NodeFault.BadCount) }
     {
         if self.stopped {
-            Err(NodeFault::Stopped)
-        } else {
-            self.stopped = true;
-            let (outputs, change) = self.server.step_face(input)?;
-            self.stopped = false;
-            Ok((outputs, change))
+            return Err(NodeFault::Stopped);
         }
+        self.stopped = true;
+        let step = self.server.step_face(input)?;
+        self.stopped = false;
+        Ok(step)
     }
 
     /// A look at a key, while the node isn't stopped: clean with its item or none, or dirty. It allocates nothing,
