@@ -1,5 +1,5 @@
 //! Joining a view: what a server does when it learns of failed servers, in six steps.
-ghost use Rattle.std.specs.Prelude.{◌≡◌, ◌<◌, ◌≤◌, ◌+◌, ◌-◌, ◌++◌, ◌∷◌, true, false, ℕ, List, drop, length, OnOk, IfOk, IsTrue};
+ghost use Rattle.std.specs.Prelude.{◌≡◌, ◌<◌, ◌≤◌, ◌+◌, ◌-◌, ◌++◌, true, false, OnOk, IfOk};
 ghost use Rattle.versions.specs.Stores.{last_number, entries_after};
 ghost use Rattle.node.specs.Servers as servers;
 ghost use Rattle.node.specs.Views as views;
@@ -179,7 +179,7 @@ impl Server {
         Ok(())
     }
 
-    // Fifth: a new predecessor gets the acknowledged number, where the third step didn't raise it and so sent it already.
+    // Fifth: a new predecessor gets the acknowledged number, unless the third step raised it, and so sent it already.
     #[tactic(auto, unfolding(crate::specs::Joining::acked_to_predecessor))]
     fn ack_to_predecessor(
         &self,

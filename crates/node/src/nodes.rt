@@ -18,10 +18,13 @@ use thiserror::Error;
 /// Why a node refuses a call.
 #[derive(Clone, Copy, Debug, PartialEq, Eq, Error)]
 pub enum NodeFault {
+    /// Memory is wanting; the node is stopped from now on.
     #[error("out of memory")]
     Memory,
+    /// An earlier step was refused for want of memory.
     #[error("stopped")]
     Stopped,
+    /// The chain has no such server, or more than 16.
     #[error("no such server")]
     BadCount,
 }
@@ -34,7 +37,8 @@ impl From<AllocError> for NodeFault {
     }
 }
 
-/// One server of a chain. A step that is refused for want of memory stops it for good.
+/// One server of a chain (CRAQ, "System Model"). A step that is refused for want of memory stops it for good.
+/// Contracts see a `ServerState`, and whether it is stopped (`NodeState`).
 #[derive(Drop)]
 pub struct Node {
     server: Server,
@@ -75,10 +79,13 @@ impl Node {
         })
     }
 
-    /// One step. Its outputs stand in the order in which the rules give them.
-    /// It copies no item's data. Each entry that it appends, passes or puts out takes time logarithmic in the number of keys, and an
-    /// own open call is found by a binary search. Answers come in order from servers that keep to the rules; after one that doesn't,
-    /// the open calls on the shorter side of the answered one are moved by one place.
+    /// One step. Its outputs stand in the order in which the rules give them. Refused with Memory, and the node is stopped from
+    /// then on; with Stopped, exactly from then on.
+    /// It copies an item's data only where the head joins two pieces for an append or a prepend. Each entry that it appends,
+    /// acknowledges, puts out or moves to the base takes time logarithmic in the number of keys; a flush that the floor passes
+    /// takes time linear in it, and a join time linear in the open calls. An own open call is found by a binary search. Answers
+    /// come in order from servers that keep to the rules; after one that doesn't, the open calls on the shorter side of the
+    /// answered one are moved by one place.
     pub fn step(&mut self, input: Input) -> Result<Vec<Output>, NodeFault>
         requires input { IsInput input }
         ensures state { OnOk result (self.new ≡ running (steps.step self.old.server input).state) }
@@ -104,8 +111,10 @@ impl Node {
     }
 
     /// The same step, and how it changes the face that readers beside the node see: the steps in order, and then the
-    /// acknowledged number, with which the versions without item up to it are taken away.
-    /// It copies no item's data, and takes time logarithmic in the number of keys besides what it puts out and the steps.
+    /// acknowledged number, with which the versions without item up to it are taken away. Refused with Memory, and the node is
+    /// stopped from then on; with Stopped, exactly from then on.
+    /// It copies an item's data only where the head joins two pieces for an append or a prepend. Besides the time of `step` it
+    /// takes time linear in the entries that it appends.
     pub fn step_face(&mut self, input: Input) -> Result<(Vec<Output>, FaceChange), NodeFault>
         requires input { IsInput input }
         ensures state { OnOk result (self.new ≡ running (steps.step self.old.server input).state) }

@@ -1,9 +1,8 @@
 //! Reading: clean keys at once, dirty ones by asking the tail for its last number.
-ghost use Rattle.std.specs.Prelude.{◌≡◌, ◌<◌, ◌≤◌, ◌+◌, ◌++◌, ◌==◌, ℕ, List, map, position, Some, OnOk, IfOk, IsTrue};
+ghost use Rattle.std.specs.Prelude.{◌≡◌, ◌<◌, ◌+◌, ◌++◌, ◌==◌, map, position, Some, OnOk, IfOk};
 ghost use Rattle.std.specs.Option.{option_copied};
 ghost use Rattle.table.specs.declared.operations.Reply.TheVariants.{Value};
 ghost use Rattle.versions.specs.Numbers.{IsRising};
-ghost use Rattle.versions.specs.Stores.{last_number, value_at};
 ghost use Rattle.node.specs.Lawful.{IsSound};
 ghost use Rattle.node.specs.Reading as reading;
 

@@ -27,7 +27,7 @@ impl Server {
         Ok(outputs)
     }
 
-    /// The same step, and how it changes the face. It copies no item's data.
+    /// The same step, and how it changes the face.
     pub(crate) fn step_face(
         &mut self,
         input: Input,
