@@ -189,3 +189,14 @@ neither a b c is same = rw (is, same) refl
 
 pub one_is : (a b c : Bool) → a ≡ true → c ≡ true → not c ≡ not (a || b)
 one_is a b c is same = rw (is, same) refl
+
+-- the same where a result is there exactly if both fail
+pub is_neither : (a b : Bool) → a ≡ false → b ≡ false → (true ≡ true → not (a || b) ≡ true) × (not (a || b) ≡ true → true ≡ true)
+is_neither a b is same = (λ t. rw (is, same) refl, λ h. refl)
+
+pub is_first : (a b : Bool) → a ≡ true → (false ≡ true → not (a || b) ≡ true) × (not (a || b) ≡ true → false ≡ true)
+is_first a b is = (λ f. cc, rw is (λ h. h))
+
+pub is_second : (a b : Bool) → b ≡ true → (false ≡ true → not (a || b) ≡ true) × (not (a || b) ≡ true → false ≡ true)
+is_second true b is = (λ f. cc, λ h. h)
+is_second false b is = (λ f. cc, rw is (λ h. h))

@@ -1,10 +1,10 @@
 //! The store: the items at the floor, and the entries above it.
-ghost use Rattle.std.specs.Prelude.{◌≡◌, ◌≤◌, ◌+◌, OnOk, OnErr};
+ghost use Rattle.std.specs.Prelude.{◌≡◌, ◌≤◌, ◌+◌, ◌↔◌, OnOk, OnErr, IsSome, IfSome};
 ghost use Rattle.std.specs.Option.{option_copied};
 ghost use Rattle.std.specs.Iterator.Runs.{YieldsRefsInOrder};
 ghost use Rattle.std.specs.VecDeque.Iter.{deque_iter_rest, deque_iter_steps};
 ghost use Rattle.versions.specs.declared.stores.StoreFault.TheVariants.{Memory};
-ghost use Rattle.versions.specs.Stores.{IsStore, opening_store, last_number, value_at, is_clean, entries_after, pushed, acked_to, dropped_to};
+ghost use Rattle.versions.specs.Stores.{IsStore, opening_store, last_number, value_at, is_clean, IsClean, entries_after, pushed, acked_to, dropped_to};
 
 use crate::Entry;
 use crate::changes::{note, settle_first};
@@ -193,5 +193,31 @@ impl Store {
     {
         let set = last_set(&self.records, key);
         !is_above(self.acked, set) && !is_above(self.acked, self.clears.last())
+    }
+
+    /// The item of a key's newest version, or none, if no entry that isn't acknowledged touches the key.
+    /// One search: time is logarithmic in the number of keys.
+    pub fn clean_version(&self, key: &Key) -> Option<Option<&Item>>
+        ensures clean { IsSome result ↔ IsClean self.now key.now }
+        ensures newest { IfSome result (λ item. option_copied item ≡ value_at self.now key.now (last_number self.now)) }
+    {
+        let cleared = self.clears.last();
+        if is_above(self.acked, cleared) {
+            return None;
+        }
+        let Some(record) = self.records.get(key) else {
+            return Some(None);
+        };
+        let newest = record.numbers.last();
+        if is_above(self.acked, newest) {
+            return None;
+        }
+        Some(item_from(
+            record.item.as_ref(),
+            &self.entries,
+            self.floor,
+            newest,
+            cleared,
+        ))
     }
 }

@@ -196,8 +196,17 @@ impl Pair {
         Ok(
             same(self.store.newest(key), self.plain.at(key, u64::MAX))
                 && same(self.store.at(key, n), self.plain.at(key, n))
-                && self.store.is_clean(key) == self.plain.is_clean(key),
+                && self.store.is_clean(key) == self.plain.is_clean(key)
+                && self.agree_on_clean(key),
         )
+    }
+
+    // Whether the store shows a clean key's newest version, and none of a dirty one.
+    fn agree_on_clean(&self, key: &Key) -> bool {
+        match self.store.clean_version(key) {
+            Some(item) => self.plain.is_clean(key) && same(item, self.plain.at(key, u64::MAX)),
+            None => !self.plain.is_clean(key),
+        }
     }
 }
 
