@@ -6,7 +6,7 @@ ghost use Rattle.node.specs.Views as views;
 ghost use Rattle.node.specs.Lawful.{IsSound};
 ghost use Rattle.node.specs.Joining as joining;
 
-use crate::reading::value;
+use crate::reading::value_reply;
 use crate::servers::{Server, is_that};
 use crate::{Body, Output, View};
 use std::alloc::AllocError;
@@ -221,7 +221,7 @@ impl Server {
         ensures { OnOk result (outputs.new.items ≡ outputs.old.items ++ joining.replies_to self.now self.now.asks) }
     {
         for read in &self.asks {
-            let reply = value(self.store.newest(&read.key))?;
+            let reply = value_reply(self.store.newest(&read.key))?;
             outputs.push(Output::Reply(read.port, reply))?;
         }
         Ok(())

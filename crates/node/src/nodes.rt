@@ -156,11 +156,9 @@ impl Node {
         ensures newest { look_copied result ≡ peeked self.now.server key.now }
         ensures lawful { self.now.stopped ≡ false → IsLawful self.now.server }
     {
-        let store = &self.server.store;
-        if store.is_clean(key) {
-            Look::Clean(store.newest(key))
-        } else {
-            Look::Dirty
+        match self.server.store.clean_version(key) {
+            Some(item) => Look::Clean(item),
+            None => Look::Dirty,
         }
     }
 
