@@ -114,25 +114,22 @@ two_sets b c = maps.insert (maps.insert maps.empty a (item b 1)) a (item c 2)
 abbrev shown : Items → Reply
 shown items = Value (maps.get items a)
 
--- dirty_read_before_commit
-row8 : show (run (Work 0 0 (set_a 112) ∷ Work 0 1 (get_a) ∷ Deliver 0 2 ∷ Deliver 2 0 ∷ []) chain3) ≡ record { links = (0, 1) ∷ []; replies = (1, shown maps.empty) ∷ []; acks = 0 ∷ 0 ∷ 0 ∷ []; floors = 0 ∷ 0 ∷ 0 ∷ [] }
+dirty_read_before_commit : show (run (Work 0 0 (set_a 112) ∷ Work 0 1 (get_a) ∷ Deliver 0 2 ∷ Deliver 2 0 ∷ []) chain3) ≡ record { links = (0, 1) ∷ []; replies = (1, shown maps.empty) ∷ []; acks = 0 ∷ 0 ∷ 0 ∷ []; floors = 0 ∷ 0 ∷ 0 ∷ [] }
 unfolding has union single is_below adds next_from predecessor most appended entered asked widened taken_all sent_again forwarded replies_to asked_again trimmed left_open replies risen passed_on taken take_update dirty_read answered promoted_to_head promoted_to_tail caught_up acked_to_predecessor asks_renewed
-row8 = refl
+dirty_read_before_commit = refl
 
--- answer_names_an_older_version
-row9 : show (run (Work 0 0 (set_a 112) ∷ Work 0 1 (get_a) ∷ Deliver 0 1 ∷ Deliver 1 2 ∷ Deliver 0 2 ∷ Deliver 2 1 ∷ Deliver 1 0 ∷ Work 0 0 (set_a 113) ∷ Deliver 0 1 ∷ Deliver 1 2 ∷ Deliver 2 1 ∷ Deliver 1 0 ∷ Deliver 2 0 ∷ []) chain3) ≡ record { links = []; replies = (0, Stored) ∷ (0, Stored) ∷ (1, shown (one_set 112)) ∷ []; acks = 2 ∷ 2 ∷ 2 ∷ []; floors = 2 ∷ 2 ∷ 2 ∷ [] }
+answer_names_an_older_version : show (run (Work 0 0 (set_a 112) ∷ Work 0 1 (get_a) ∷ Deliver 0 1 ∷ Deliver 1 2 ∷ Deliver 0 2 ∷ Deliver 2 1 ∷ Deliver 1 0 ∷ Work 0 0 (set_a 113) ∷ Deliver 0 1 ∷ Deliver 1 2 ∷ Deliver 2 1 ∷ Deliver 1 0 ∷ Deliver 2 0 ∷ []) chain3) ≡ record { links = []; replies = (0, Stored) ∷ (0, Stored) ∷ (1, shown (one_set 112)) ∷ []; acks = 2 ∷ 2 ∷ 2 ∷ []; floors = 2 ∷ 2 ∷ 2 ∷ [] }
 unfolding has union single is_below adds next_from predecessor most appended entered asked widened taken_all sent_again forwarded replies_to asked_again trimmed left_open replies risen passed_on taken take_update dirty_read answered promoted_to_head promoted_to_tail caught_up acked_to_predecessor asks_renewed
-row9 = refl
+answer_names_an_older_version = refl
 
--- answer_names_an_older_version, before the answer comes
-row9_before : show (run (Work 0 0 (set_a 112) ∷ Work 0 1 (get_a) ∷ Deliver 0 1 ∷ Deliver 1 2 ∷ Deliver 0 2 ∷ Deliver 2 1 ∷ Deliver 1 0 ∷ Work 0 0 (set_a 113) ∷ Deliver 0 1 ∷ Deliver 1 2 ∷ Deliver 2 1 ∷ Deliver 1 0 ∷ []) chain3) ≡ record { links = (2, 0) ∷ []; replies = (0, Stored) ∷ (0, Stored) ∷ []; acks = 2 ∷ 2 ∷ 2 ∷ []; floors = 0 ∷ 2 ∷ 2 ∷ [] }
+-- before the answer comes
+answer_names_an_older_version_before : show (run (Work 0 0 (set_a 112) ∷ Work 0 1 (get_a) ∷ Deliver 0 1 ∷ Deliver 1 2 ∷ Deliver 0 2 ∷ Deliver 2 1 ∷ Deliver 1 0 ∷ Work 0 0 (set_a 113) ∷ Deliver 0 1 ∷ Deliver 1 2 ∷ Deliver 2 1 ∷ Deliver 1 0 ∷ []) chain3) ≡ record { links = (2, 0) ∷ []; replies = (0, Stored) ∷ (0, Stored) ∷ []; acks = 2 ∷ 2 ∷ 2 ∷ []; floors = 0 ∷ 2 ∷ 2 ∷ [] }
 unfolding has union single is_below adds next_from predecessor most appended entered asked widened taken_all sent_again forwarded replies_to asked_again trimmed left_open replies risen passed_on taken take_update dirty_read answered promoted_to_head promoted_to_tail caught_up acked_to_predecessor asks_renewed
-row9_before = refl
+answer_names_an_older_version_before = refl
 
--- new_tail_answers
-row10 : show (run (Work 0 0 (set_a 112) ∷ Work 0 1 (get_a) ∷ Tell 0 1 ∷ []) chain2) ≡ record { links = (0, 1) ∷ (0, 1) ∷ []; replies = (0, Stored) ∷ (1, shown (one_set 112)) ∷ []; acks = 1 ∷ 0 ∷ []; floors = 1 ∷ 0 ∷ [] }
+new_tail_answers : show (run (Work 0 0 (set_a 112) ∷ Work 0 1 (get_a) ∷ Tell 0 1 ∷ []) chain2) ≡ record { links = (0, 1) ∷ (0, 1) ∷ []; replies = (0, Stored) ∷ (1, shown (one_set 112)) ∷ []; acks = 1 ∷ 0 ∷ []; floors = 1 ∷ 0 ∷ [] }
 unfolding has union single is_below adds next_from predecessor most appended entered asked widened taken_all sent_again forwarded replies_to asked_again trimmed left_open replies risen passed_on taken take_update dirty_read answered promoted_to_head promoted_to_tail caught_up acked_to_predecessor asks_renewed
-row10 = refl
+new_tail_answers = refl
 
 abbrev incr_a : Call
 incr_a = record { target = One a; op = Incr 1 }
@@ -141,20 +138,17 @@ incr_a = record { target = One a; op = Incr 1 }
 abbrev incr_reply : Reply
 incr_reply = (decision (maps.get (one_set 112) a) (Incr 1) 2).0
 
--- resent_call_passed_over
-row11 : show (run (Work 2 0 (set_a 112) ∷ Deliver 2 0 ∷ Deliver 0 1 ∷ Deliver 1 2 ∷ Deliver 2 1 ∷ Deliver 1 0 ∷ Work 2 0 (incr_a) ∷ Deliver 2 0 ∷ Deliver 0 1 ∷ Tell 1 0 ∷ Tell 2 0 ∷ Deliver 1 2 ∷ Deliver 2 1 ∷ Deliver 2 1 ∷ []) chain3) ≡ record { links = []; replies = (0, Stored) ∷ (0, incr_reply) ∷ []; acks = 1 ∷ 2 ∷ 2 ∷ []; floors = 1 ∷ 2 ∷ 2 ∷ [] }
+resent_call_passed_over : show (run (Work 2 0 (set_a 112) ∷ Deliver 2 0 ∷ Deliver 0 1 ∷ Deliver 1 2 ∷ Deliver 2 1 ∷ Deliver 1 0 ∷ Work 2 0 (incr_a) ∷ Deliver 2 0 ∷ Deliver 0 1 ∷ Tell 1 0 ∷ Tell 2 0 ∷ Deliver 1 2 ∷ Deliver 2 1 ∷ Deliver 2 1 ∷ []) chain3) ≡ record { links = []; replies = (0, Stored) ∷ (0, incr_reply) ∷ []; acks = 1 ∷ 2 ∷ 2 ∷ []; floors = 1 ∷ 2 ∷ 2 ∷ [] }
 unfolding has union single is_below adds next_from predecessor most appended entered asked widened taken_all sent_again forwarded replies_to asked_again trimmed left_open replies risen passed_on taken take_update dirty_read answered promoted_to_head promoted_to_tail caught_up acked_to_predecessor asks_renewed
-row11 = refl
+resent_call_passed_over = refl
 
--- resent_call_acts
-row12 : show (run (Work 2 0 (set_a 112) ∷ Deliver 2 0 ∷ Deliver 0 1 ∷ Deliver 1 2 ∷ Deliver 2 1 ∷ Deliver 1 0 ∷ Work 2 0 (incr_a) ∷ Deliver 2 0 ∷ Tell 1 0 ∷ Tell 2 0 ∷ Deliver 2 1 ∷ Deliver 1 2 ∷ Deliver 2 1 ∷ []) chain3) ≡ record { links = (0, 1) ∷ []; replies = (0, Stored) ∷ (0, incr_reply) ∷ []; acks = 1 ∷ 2 ∷ 2 ∷ []; floors = 1 ∷ 2 ∷ 2 ∷ [] }
+resent_call_acts : show (run (Work 2 0 (set_a 112) ∷ Deliver 2 0 ∷ Deliver 0 1 ∷ Deliver 1 2 ∷ Deliver 2 1 ∷ Deliver 1 0 ∷ Work 2 0 (incr_a) ∷ Deliver 2 0 ∷ Tell 1 0 ∷ Tell 2 0 ∷ Deliver 2 1 ∷ Deliver 1 2 ∷ Deliver 2 1 ∷ []) chain3) ≡ record { links = (0, 1) ∷ []; replies = (0, Stored) ∷ (0, incr_reply) ∷ []; acks = 1 ∷ 2 ∷ 2 ∷ []; floors = 1 ∷ 2 ∷ 2 ∷ [] }
 unfolding has union single is_below adds next_from predecessor most appended entered asked widened taken_all sent_again forwarded replies_to asked_again trimmed left_open replies risen passed_on taken take_update dirty_read answered promoted_to_head promoted_to_tail caught_up acked_to_predecessor asks_renewed
-row12 = refl
+resent_call_acts = refl
 
--- old_forward_ignored
-row13 : show (run (Work 2 0 (set_a 112) ∷ Deliver 2 0 ∷ Deliver 0 1 ∷ Deliver 1 2 ∷ Deliver 2 1 ∷ Deliver 1 0 ∷ Work 2 0 (incr_a) ∷ Deliver 2 0 ∷ Tell 1 0 ∷ Tell 2 0 ∷ Deliver 2 1 ∷ Deliver 1 2 ∷ Deliver 2 1 ∷ Deliver 0 1 ∷ []) chain3) ≡ record { links = []; replies = (0, Stored) ∷ (0, incr_reply) ∷ []; acks = 1 ∷ 2 ∷ 2 ∷ []; floors = 1 ∷ 2 ∷ 2 ∷ [] }
+old_forward_ignored : show (run (Work 2 0 (set_a 112) ∷ Deliver 2 0 ∷ Deliver 0 1 ∷ Deliver 1 2 ∷ Deliver 2 1 ∷ Deliver 1 0 ∷ Work 2 0 (incr_a) ∷ Deliver 2 0 ∷ Tell 1 0 ∷ Tell 2 0 ∷ Deliver 2 1 ∷ Deliver 1 2 ∷ Deliver 2 1 ∷ Deliver 0 1 ∷ []) chain3) ≡ record { links = []; replies = (0, Stored) ∷ (0, incr_reply) ∷ []; acks = 1 ∷ 2 ∷ 2 ∷ []; floors = 1 ∷ 2 ∷ 2 ∷ [] }
 unfolding has union single is_below adds next_from predecessor most appended entered asked widened taken_all sent_again forwarded replies_to asked_again trimmed left_open replies risen passed_on taken take_update dirty_read answered promoted_to_head promoted_to_tail caught_up acked_to_predecessor asks_renewed
-row13 = refl
+old_forward_ignored = refl
 
 abbrev add_a : Call
 add_a = record { target = One a; op = Add 0 (113 ∷ []) }
@@ -162,58 +156,52 @@ add_a = record { target = One a; op = Add 0 (113 ∷ []) }
 abbrev add_reply : Reply
 add_reply = (decision (maps.get (one_set 112) a) add_a.op 2).0
 
--- conditional_on_dirty_version, before any delivery
-row22_early : show (run (Work 0 0 (set_a 112) ∷ Work 0 1 (add_a) ∷ []) chain2) ≡ record { links = (0, 1) ∷ (0, 1) ∷ []; replies = []; acks = 0 ∷ 0 ∷ []; floors = 0 ∷ 0 ∷ [] }
+-- before any delivery
+conditional_on_dirty_version_early : show (run (Work 0 0 (set_a 112) ∷ Work 0 1 (add_a) ∷ []) chain2) ≡ record { links = (0, 1) ∷ (0, 1) ∷ []; replies = []; acks = 0 ∷ 0 ∷ []; floors = 0 ∷ 0 ∷ [] }
 unfolding has union single is_below adds next_from predecessor most appended entered asked widened taken_all sent_again forwarded replies_to asked_again trimmed left_open replies risen passed_on taken take_update dirty_read answered promoted_to_head promoted_to_tail caught_up acked_to_predecessor asks_renewed
-row22_early = refl
+conditional_on_dirty_version_early = refl
 
--- conditional_on_dirty_version
-row22 : show (run (Work 0 0 (set_a 112) ∷ Work 0 1 (add_a) ∷ Deliver 0 1 ∷ Deliver 0 1 ∷ Deliver 1 0 ∷ Deliver 1 0 ∷ []) chain2) ≡ record { links = []; replies = (0, Stored) ∷ (1, add_reply) ∷ []; acks = 2 ∷ 2 ∷ []; floors = 2 ∷ 2 ∷ [] }
+conditional_on_dirty_version : show (run (Work 0 0 (set_a 112) ∷ Work 0 1 (add_a) ∷ Deliver 0 1 ∷ Deliver 0 1 ∷ Deliver 1 0 ∷ Deliver 1 0 ∷ []) chain2) ≡ record { links = []; replies = (0, Stored) ∷ (1, add_reply) ∷ []; acks = 2 ∷ 2 ∷ []; floors = 2 ∷ 2 ∷ [] }
 unfolding has union single is_below adds next_from predecessor most appended entered asked widened taken_all sent_again forwarded replies_to asked_again trimmed left_open replies risen passed_on taken take_update dirty_read answered promoted_to_head promoted_to_tail caught_up acked_to_predecessor asks_renewed
-row22 = refl
+conditional_on_dirty_version = refl
 
--- clean_reads_need_no_message
-row25 : show (run (Work 0 0 (set_a 112) ∷ Deliver 0 1 ∷ Deliver 1 2 ∷ Deliver 2 1 ∷ Deliver 1 0 ∷ Work 1 1 (get_a) ∷ Work 2 2 (get_a) ∷ []) chain3) ≡ record { links = []; replies = (0, Stored) ∷ (1, shown (one_set 112)) ∷ (2, shown (one_set 112)) ∷ []; acks = 1 ∷ 1 ∷ 1 ∷ []; floors = 1 ∷ 1 ∷ 1 ∷ [] }
+clean_reads_need_no_message : show (run (Work 0 0 (set_a 112) ∷ Deliver 0 1 ∷ Deliver 1 2 ∷ Deliver 2 1 ∷ Deliver 1 0 ∷ Work 1 1 (get_a) ∷ Work 2 2 (get_a) ∷ []) chain3) ≡ record { links = []; replies = (0, Stored) ∷ (1, shown (one_set 112)) ∷ (2, shown (one_set 112)) ∷ []; acks = 1 ∷ 1 ∷ 1 ∷ []; floors = 1 ∷ 1 ∷ 1 ∷ [] }
 unfolding has union single is_below adds next_from predecessor most appended entered asked widened taken_all sent_again forwarded replies_to asked_again trimmed left_open replies risen passed_on taken take_update dirty_read answered promoted_to_head promoted_to_tail caught_up acked_to_predecessor asks_renewed
-row25 = refl
+clean_reads_need_no_message = refl
 
--- dirty_read_committed_at_tail
-row26 : show (run (Work 0 0 (set_a 112) ∷ Deliver 0 1 ∷ Deliver 1 2 ∷ Work 1 1 (get_a) ∷ Deliver 1 2 ∷ Deliver 2 1 ∷ Deliver 2 1 ∷ []) chain3) ≡ record { links = (1, 0) ∷ []; replies = (1, shown (one_set 112)) ∷ []; acks = 0 ∷ 1 ∷ 1 ∷ []; floors = 0 ∷ 1 ∷ 1 ∷ [] }
+dirty_read_committed_at_tail : show (run (Work 0 0 (set_a 112) ∷ Deliver 0 1 ∷ Deliver 1 2 ∷ Work 1 1 (get_a) ∷ Deliver 1 2 ∷ Deliver 2 1 ∷ Deliver 2 1 ∷ []) chain3) ≡ record { links = (1, 0) ∷ []; replies = (1, shown (one_set 112)) ∷ []; acks = 0 ∷ 1 ∷ 1 ∷ []; floors = 0 ∷ 1 ∷ 1 ∷ [] }
 unfolding has union single is_below adds next_from predecessor most appended entered asked widened taken_all sent_again forwarded replies_to asked_again trimmed left_open replies risen passed_on taken take_update dirty_read answered promoted_to_head promoted_to_tail caught_up acked_to_predecessor asks_renewed
-row26 = refl
+dirty_read_committed_at_tail = refl
 
--- dirty_read_committed_at_tail, before the answer comes
-row26_before : show (run (Work 0 0 (set_a 112) ∷ Deliver 0 1 ∷ Deliver 1 2 ∷ Work 1 1 (get_a) ∷ Deliver 1 2 ∷ Deliver 2 1 ∷ []) chain3) ≡ record { links = (2, 1) ∷ (1, 0) ∷ []; replies = []; acks = 0 ∷ 1 ∷ 1 ∷ []; floors = 0 ∷ 0 ∷ 1 ∷ [] }
+-- before the answer comes
+dirty_read_committed_at_tail_before : show (run (Work 0 0 (set_a 112) ∷ Deliver 0 1 ∷ Deliver 1 2 ∷ Work 1 1 (get_a) ∷ Deliver 1 2 ∷ Deliver 2 1 ∷ []) chain3) ≡ record { links = (2, 1) ∷ (1, 0) ∷ []; replies = []; acks = 0 ∷ 1 ∷ 1 ∷ []; floors = 0 ∷ 0 ∷ 1 ∷ [] }
 unfolding has union single is_below adds next_from predecessor most appended entered asked widened taken_all sent_again forwarded replies_to asked_again trimmed left_open replies risen passed_on taken take_update dirty_read answered promoted_to_head promoted_to_tail caught_up acked_to_predecessor asks_renewed
-row26_before = refl
+dirty_read_committed_at_tail_before = refl
 
--- middle_server_left_alone
-row27 : show (run (Work 1 0 (set_a 112) ∷ Deliver 1 0 ∷ Tell 1 2 ∷ Deliver 0 1 ∷ []) chain3) ≡ record { links = (1, 0) ∷ []; replies = (0, Stored) ∷ []; acks = 0 ∷ 1 ∷ 0 ∷ []; floors = 0 ∷ 1 ∷ 0 ∷ [] }
+middle_server_left_alone : show (run (Work 1 0 (set_a 112) ∷ Deliver 1 0 ∷ Tell 1 2 ∷ Deliver 0 1 ∷ []) chain3) ≡ record { links = (1, 0) ∷ []; replies = (0, Stored) ∷ []; acks = 0 ∷ 1 ∷ 0 ∷ []; floors = 0 ∷ 1 ∷ 0 ∷ [] }
 unfolding has union single is_below adds next_from predecessor most appended entered asked widened taken_all sent_again forwarded replies_to asked_again trimmed left_open replies risen passed_on taken take_update dirty_read answered promoted_to_head promoted_to_tail caught_up acked_to_predecessor asks_renewed
-row27 = refl
+middle_server_left_alone = refl
 
--- refused_step_is_a_failure
-row18 : show (run (Work 0 0 (set_a 112) ∷ Tell 0 1 ∷ Tell 2 1 ∷ Deliver 0 2 ∷ Deliver 2 0 ∷ Deliver 2 0 ∷ []) chain3) ≡ record { links = (0, 1) ∷ []; replies = (0, Stored) ∷ []; acks = 1 ∷ 0 ∷ 1 ∷ []; floors = 1 ∷ 0 ∷ 1 ∷ [] }
+refused_step_is_a_failure : show (run (Work 0 0 (set_a 112) ∷ Tell 0 1 ∷ Tell 2 1 ∷ Deliver 0 2 ∷ Deliver 2 0 ∷ Deliver 2 0 ∷ []) chain3) ≡ record { links = (0, 1) ∷ []; replies = (0, Stored) ∷ []; acks = 1 ∷ 0 ∷ 1 ∷ []; floors = 1 ∷ 0 ∷ 1 ∷ [] }
 unfolding has union single is_below adds next_from predecessor most appended entered asked widened taken_all sent_again forwarded replies_to asked_again trimmed left_open replies risen passed_on taken take_update dirty_read answered promoted_to_head promoted_to_tail caught_up acked_to_predecessor asks_renewed
-row18 = refl
+refused_step_is_a_failure = refl
 
 abbrev flush : Call
 flush = record { target = All; op = Flush }
 
--- flush_all_dirty
-row42 : show (run (Work 0 0 (set_a 112) ∷ Deliver 0 1 ∷ Deliver 1 2 ∷ Deliver 2 1 ∷ Deliver 1 0 ∷ Work 0 0 (flush) ∷ Work 0 1 (get_a) ∷ Deliver 0 2 ∷ Deliver 2 0 ∷ []) chain3) ≡ record { links = (0, 1) ∷ []; replies = (0, Stored) ∷ (1, shown (one_set 112)) ∷ []; acks = 1 ∷ 1 ∷ 1 ∷ []; floors = 1 ∷ 1 ∷ 1 ∷ [] }
+flush_all_dirty : show (run (Work 0 0 (set_a 112) ∷ Deliver 0 1 ∷ Deliver 1 2 ∷ Deliver 2 1 ∷ Deliver 1 0 ∷ Work 0 0 (flush) ∷ Work 0 1 (get_a) ∷ Deliver 0 2 ∷ Deliver 2 0 ∷ []) chain3) ≡ record { links = (0, 1) ∷ []; replies = (0, Stored) ∷ (1, shown (one_set 112)) ∷ []; acks = 1 ∷ 1 ∷ 1 ∷ []; floors = 1 ∷ 1 ∷ 1 ∷ [] }
 unfolding has union single is_below adds next_from predecessor most appended entered asked widened taken_all sent_again forwarded replies_to asked_again trimmed left_open replies risen passed_on taken take_update dirty_read answered promoted_to_head promoted_to_tail caught_up acked_to_predecessor asks_renewed
-row42 = refl
+flush_all_dirty = refl
 
 abbrev get_b : Call
 get_b = record { target = One (98 ∷ []); op = Read }
 
--- flush_all_dirty: an absent key is asked for as well
-row42_absent : show (run (Work 0 0 (set_a 112) ∷ Deliver 0 1 ∷ Deliver 1 2 ∷ Deliver 2 1 ∷ Deliver 1 0 ∷ Work 0 0 (flush) ∷ Work 0 1 (get_b) ∷ Deliver 0 2 ∷ Deliver 2 0 ∷ []) chain3) ≡ record { links = (0, 1) ∷ []; replies = (0, Stored) ∷ (1, Value (maps.get (one_set 112) (98 ∷ []))) ∷ []; acks = 1 ∷ 1 ∷ 1 ∷ []; floors = 1 ∷ 1 ∷ 1 ∷ [] }
+-- an absent key is asked for as well
+flush_all_dirty_absent : show (run (Work 0 0 (set_a 112) ∷ Deliver 0 1 ∷ Deliver 1 2 ∷ Deliver 2 1 ∷ Deliver 1 0 ∷ Work 0 0 (flush) ∷ Work 0 1 (get_b) ∷ Deliver 0 2 ∷ Deliver 2 0 ∷ []) chain3) ≡ record { links = (0, 1) ∷ []; replies = (0, Stored) ∷ (1, Value (maps.get (one_set 112) (98 ∷ []))) ∷ []; acks = 1 ∷ 1 ∷ 1 ∷ []; floors = 1 ∷ 1 ∷ 1 ∷ [] }
 unfolding has union single is_below adds next_from predecessor most appended entered asked widened taken_all sent_again forwarded replies_to asked_again trimmed left_open replies risen passed_on taken take_update dirty_read answered promoted_to_head promoted_to_tail caught_up acked_to_predecessor asks_renewed
-row42_absent = refl
+flush_all_dirty_absent = refl
 
--- flush_all, in a chain of one
-row40 : show (run (Work 0 0 (set_a 112) ∷ Work 0 0 (flush) ∷ Work 0 0 (get_a) ∷ Work 0 0 (set_a 113) ∷ Work 0 0 (get_a) ∷ []) (start (0 ∷ []) 1)) ≡ record { links = []; replies = (0, Stored) ∷ (0, Flushed) ∷ (0, shown maps.empty) ∷ (0, Stored) ∷ (0, shown (maps.insert maps.empty a (item 113 3))) ∷ []; acks = 3 ∷ []; floors = 3 ∷ [] }
+-- in a chain of one
+flush_all : show (run (Work 0 0 (set_a 112) ∷ Work 0 0 (flush) ∷ Work 0 0 (get_a) ∷ Work 0 0 (set_a 113) ∷ Work 0 0 (get_a) ∷ []) (start (0 ∷ []) 1)) ≡ record { links = []; replies = (0, Stored) ∷ (0, Flushed) ∷ (0, shown maps.empty) ∷ (0, Stored) ∷ (0, shown (maps.insert maps.empty a (item 113 3))) ∷ []; acks = 3 ∷ []; floors = 3 ∷ [] }
 unfolding has union single is_below adds next_from predecessor most appended entered asked widened taken_all sent_again forwarded replies_to asked_again trimmed left_open replies risen passed_on taken take_update dirty_read answered promoted_to_head promoted_to_tail caught_up acked_to_predecessor asks_renewed
-row40 = refl
+flush_all = refl

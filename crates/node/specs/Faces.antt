@@ -1,11 +1,9 @@
--- The face of a server: what readers beside it see, and how a step changes it.
-use Rattle.std.specs.Prelude.{ℕ, Bool, true, not, ◌&&◌, nat_le, List, [], ◌∷◌, map, filter_map, is_some, Option, Some, None, refl, if◌then◌else◌}
+-- The face of a server: what readers beside it see, and how a step changes it (this project's rule).
+use Rattle.std.specs.Prelude.{ℕ, Bool, true, not, ◌&&◌, nat_le, List, [], ◌∷◌, map, filter_map, is_some, Option, Some, None, if◌then◌else◌}
 use Rattle.std.specs.Option.{option_copied}
 use Rattle.std.specs.Borrow.{Bor}
 use Rattle.std.specs.FinMap as maps
-use Rattle.std.specs.Coded.{Coded, code_by, coded×, coded_ℕ, coded_list, coded_option}
 use Rattle.table.specs.Keys.{key_cmp}
-use Rattle.table.specs.Items.{coded_item}
 use Rattle.table.specs.Plain.{Items}
 use Rattle.table.specs.declared.items.Item.{Item}
 use Rattle.table.specs.declared.operations.Target.{Target}
@@ -34,20 +32,13 @@ pub record FaceState : Type 0 where
   pub cleared : ℕ
   pub acked : ℕ
 
-abbrev pub coded_version : Coded Version
-coded_version = code_by (ℕ × Option Item) (coded× coded_ℕ (coded_option coded_item)) (λ v. (v.number, v.item)) (λ p. record { number = p.0; item = p.1 }) (λ _. refl)
-
-abbrev pub coded_face : Coded FaceState
-coded_face =
-    code_by (Versions × (ℕ × ℕ)) (coded× (maps.code (coded_list coded_ℕ) coded_version) (coded× coded_ℕ coded_ℕ))
-    (λ f. (f.versions, (f.cleared, f.acked))) (λ p. record { versions = p.0; cleared = p.1.0; acked = p.1.1 }) (λ _. refl)
-
 -- a look at a key: clean with its newest version's item where that version is acknowledged, clean without item where
 -- there is no version, and dirty otherwise
 abbrev pub look_at_version : ℕ → ℕ → Option Version → Look Item
 look_at_version cleared acked None = if nat_le cleared acked then Clean None else Dirty
 look_at_version cleared acked (Some v) = if nat_le v.number acked then Clean v.item else Dirty
 
+-- a look at a key of a face
 abbrev pub look_at : FaceState → List ℕ → Look Item
 look_at f key = look_at_version f.cleared f.acked (maps.get f.versions key)
 
@@ -56,6 +47,7 @@ abbrev pub face_after : FaceState → FaceStep → FaceState
 face_after f (Set key version) = record f { versions = maps.insert f.versions key version }
 face_after f (ClearAll number) = record f { versions = maps.empty; cleared = number }
 
+-- these changes, one after another
 abbrev pub face_after_all : FaceState → List FaceStep → FaceState
 face_after_all f [] = f
 face_after_all f (x ∷ xs) = face_after_all (face_after f x) xs
@@ -87,6 +79,7 @@ face_step number (One key) Clear = Some (ClearAll number)
 face_step number All Clear = Some (ClearAll number)
 face_step number All change = None
 
+-- the changes that these entries make, in order
 abbrev pub face_steps : List LogEntry → List FaceStep
 face_steps es = filter_map (λ e. face_step e.number e.target e.change) es
 
@@ -103,6 +96,7 @@ face_of s =
 abbrev pub steps_by : ServerState → Input → List FaceStep
 steps_by s input = face_steps (entries_after (taken_in s input).state.store (last_number s.store))
 
+-- the acknowledged number after the step
 abbrev pub acked_by : ServerState → Input → ℕ
 acked_by s input = (taken_in s input).state.store.acked
 

@@ -1,4 +1,5 @@
--- Joining a view: what a server does when it learns of failed servers, in six steps (CRAQ, "Failure recovery";
+-- Joining a view: what a server does when it learns of failed servers, in six steps (CRAQ,
+-- "Failure Recovery in CRAQ";
 -- that a new head takes its own open calls, and that views come with messages, are this project's rules).
 -- `old` is the server's view before the join.
 use Rattle.std.specs.Prelude.{ℕ, not, ◌&&◌, ◌==◌, nat_lt, List, [], ◌∷◌, ◌++◌, Option, option_map, slice_get, if◌then◌else◌}
@@ -56,7 +57,7 @@ needed_above old last_before s = if is_same (successor old s.count s.id) (next s
 unfoldable pub caught_up : View → ℕ → ServerState → Outcome
 caught_up old last_before s = putting s (forwarded s (entries_after s.store (needed_above old last_before s)))
 
--- Fifth: a new predecessor gets the acknowledged number, where the third step didn't raise it and so sent it already.
+-- Fifth: a new predecessor gets the acknowledged number, unless the third step raised it, and so sent it already.
 unfoldable pub acked_to_predecessor : View → ℕ → ServerState → Outcome
 acked_to_predecessor old acked_before s =
     if not (is_same (predecessor old s.id) (previous s)) && s.store.acked == acked_before

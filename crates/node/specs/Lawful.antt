@@ -1,4 +1,4 @@
--- What holds of a server at every moment, whatever inputs it was given.
+-- What holds of a server at every moment, whatever inputs it was given (this project's rule).
 use Rattle.std.specs.Prelude.{◌≡◌, ◌≢◌, ℕ, ◌≤◌, ◌<◌, true, false, List, [], ◌∷◌, length, Some}
 use Rattle.table.specs.Operations.{Fits, Suits, is_update}
 use Rattle.table.specs.Plain.{item_at}
@@ -30,6 +30,7 @@ IsBody (Ack n) = Unit {0}
 IsBody (Query ask key) = 1 ≤ ask
 IsBody (Answer ask n) = Unit {0}
 
+-- an input that may be given
 abbrev pub IsInput : Input → Type 0
 IsInput (Called port call) = IsCall call
 IsInput (From i peer) = IsBody peer.body
@@ -43,6 +44,7 @@ HasEntry (Ack n) = Unit {0}
 HasEntry (Query ask key) = Unit {0}
 HasEntry (Answer ask n) = Unit {0}
 
+-- the entry of an input's message, if it has one, is one
 abbrev pub HoldsEntry : Input → Type 0
 HoldsEntry (Called port call) = Unit {0}
 HoldsEntry (From i peer) = HasEntry peer.body
@@ -95,6 +97,7 @@ abbrev pub IsToOther : ℕ → ℕ → Output → Type 0
 IsToOther id count (To to peer) = (to < count) × (to ≢ id)
 IsToOther id count (Replied port reply) = Unit {0}
 
+-- each message goes to another server of the chain
 abbrev pub AreToOthers : ℕ → ℕ → List Output → Type 0
 AreToOthers id count [] = Unit {0}
 AreToOthers id count (o ∷ os) = IsToOther id count o × AreToOthers id count os
@@ -104,6 +107,7 @@ abbrev pub IsFit : Output → Type 0
 IsFit (To to peer) = IsBody peer.body × HasEntry peer.body
 IsFit (Replied port reply) = Unit {0}
 
+-- each says what may be handed in
 abbrev pub AreFit : List Output → Type 0
 AreFit [] = Unit {0}
 AreFit (o ∷ os) = IsFit o × AreFit os

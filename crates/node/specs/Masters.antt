@@ -1,4 +1,4 @@
--- The master: it tells the servers that live which one has failed.
+-- The master: it tells the servers that live which one has failed (this project's rule).
 use Rattle.std.specs.Prelude.{ℕ, zero, suc, Bool, not, ◌&&◌, nat_lt, List, [], ◌∷◌, if◌then◌else◌}
 use Rattle.node.specs.Views.{View, has, union, single}
 

@@ -2,6 +2,7 @@
 use Rattle.std.specs.Prelude.{ℕ, Bool, true, false, not, ◌&&◌, List, [], ◌∷◌}
 use Rattle.node.specs.Servers.{ServerState, opening}
 
+-- its server, and whether it was stopped
 pub record NodeState : Type 0 where
   pub server : ServerState
   pub stopped : Bool
@@ -14,6 +15,7 @@ running s = record { server = s; stopped = false }
 abbrev pub fresh : ℕ → ℕ → NodeState
 fresh id count = running (opening id count)
 
+-- the list is empty
 abbrev pub is_none_open : {X : Type 0} → List X → Bool
 is_none_open [] = true
 is_none_open (x ∷ xs) = false

@@ -53,10 +53,12 @@ abbrev pub newly_acked : ServerState → ℕ → List LogEntry
 newly_acked s n = take (n - s.store.acked) (entries_after s.store s.store.acked)
 
 -- Rise to n, a number above the acknowledged one: it becomes the acknowledged number, the own calls among the entries newly passed
--- are answered in order, and then the predecessor is told (CRAQ, "Basic operation": acknowledgements go back up the chain)
+-- are answered in order, and then the predecessor is told (CRAQ, "Chain Replication with Apportioned Queries":
+-- acknowledgements go back up the chain)
 unfoldable pub risen : ServerState → ℕ → ServerState
 risen s n = record s { store = acked_to s.store n; pend = left_open s.id s.pend (newly_acked s n) }
 
+-- the server risen to n, and what it puts out
 abbrev pub rise : ServerState → ℕ → Outcome
 rise s n =
     record { state = risen s n; outputs = replies s.id s.pend (newly_acked s n) ++ message_to s (previous s) (Ack n) }
@@ -68,7 +70,7 @@ unfoldable pub appended : ServerState → LogEntry → ServerState
 appended s e = record s { store = pushed s.store e; seen = slice_set s.seen e.origin (max (seen_of s e.origin) e.id) }
 
 -- an entry that was just appended: at the tail it is acknowledged, otherwise it goes on to the successor
--- (CRAQ, "Basic operation")
+-- (CRAQ, "Chain Replication")
 unfoldable pub passed_on : ServerState → LogEntry → Outcome
 passed_on s e = if is_tail s then rise s (last_number s.store) else putting s (message_to s (next s) (Forward e))
 
@@ -86,7 +88,7 @@ entry_of s origin id call =
     let decided = decision (newest s.store call.target) call.op (last_number s.store + 1) in
     record { number = last_number s.store + 1; origin = origin; id = id; target = call.target; reply = decided.0; change = decided.1 }
 
--- the update is the origin's next one, and a number is left for it
+-- the update is the origin's next one, and a number is left for it: an update is taken once (this project's rule)
 abbrev pub is_taken : ServerState → ℕ → ℕ → Bool
 is_taken s origin id = id == seen_of s origin + 1 && nat_lt (last_number s.store) most
 
@@ -115,6 +117,7 @@ abbrev pub called : ServerState → ℕ → Call → Outcome
 called s id call =
     if is_head s then take_update s s.id id call else putting s (message_to s (head_of s) (Op id call))
 
+-- an own update call enters the open ones first; no effect where no id is left, or at the head no number
 abbrev pub update : ServerState → ℕ → Call → Outcome
 update s port call = if is_room_for_update s then called (entered s port call) s.next_id call else silent s
 

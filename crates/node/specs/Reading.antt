@@ -1,4 +1,5 @@
--- Reading: clean keys at once, dirty ones by asking the tail for its last number (CRAQ, "Apportioned Queries").
+-- Reading: clean keys at once, dirty ones by asking the tail for its last number (CRAQ,
+-- "Chain Replication with Apportioned Queries").
 use Rattle.std.specs.Prelude.{ℕ, ◌+◌, ◌&&◌, ◌==◌, nat_lt, nat_le, List, [], ◌∷◌, ◌++◌, find, Option, Some, None, if◌then◌else◌}
 use Rattle.table.specs.declared.operations.Reply.TheVariants.{Value}
 use Rattle.table.specs.declared.operations.Target.{Target}
@@ -9,7 +10,7 @@ use Rattle.node.specs.declared.messages.Body.TheVariants.{Query, Answer}
 use Rattle.node.specs.Views.{is_that}
 use Rattle.node.specs.Servers.{ServerState, Outcome, most, tail_of, is_tail, silent, putting, message_to, reply_at, without_first}
 
--- a read waits for an answer under the next ask: its mark is the acknowledged number
+-- a read waits for an answer under the next ask: its mark is the acknowledged number (this project's rule)
 unfoldable pub asked : ServerState → ℕ → List ℕ → ServerState
 asked s port key =
     record s { asks = s.asks ++ record { ask = s.next_ask; port = port; key = key; mark = s.store.acked } ∷ []; next_ask = s.next_ask + 1 }

@@ -1,8 +1,7 @@
 -- One server of the chain: what it holds, and what a rule makes of it.
 use Rattle.std.specs.Prelude.{ℕ, ◌-◌, ◌^◌, Bool, List, [], ◌∷◌, ◌++◌, replicate, slice_index_or, Option, Some, None, if◌then◌else◌}
 use Rattle.table.specs.declared.operations.Reply.{Reply}
-use Rattle.versions.specs.Stores.{StoreState}
-use Rattle.versions.specs.Stores.{opening_store}
+use Rattle.versions.specs.Stores.{StoreState, opening_store}
 use Rattle.node.specs.declared.servers.OpenUpdate.{OpenUpdate}
 use Rattle.node.specs.declared.servers.OpenRead.{OpenRead}
 use Rattle.node.specs.declared.messages.Body.{Body}
@@ -24,7 +23,7 @@ pub record ServerState : Type 0 where
   pub asks : List OpenRead
   pub next_ask : ℕ
 
--- numbers, ids and asks stay below this
+-- the greatest number of an entry; ids and asks that are given out stay below it
 unfoldable pub most : ℕ
 most = 2 ^ 64 - 1
 
@@ -37,24 +36,27 @@ opening id count =
 abbrev pub seen_of : ServerState → ℕ → ℕ
 seen_of s origin = slice_index_or s.seen origin 0
 
--- the head and the tail in its own view (CRAQ, "Chain Replication")
+-- the head in its own view (CRAQ, "Chain Replication")
 abbrev pub head_of : ServerState → Option ℕ
 head_of s = head s.view s.count
 
+-- the tail
 abbrev pub tail_of : ServerState → Option ℕ
 tail_of s = tail s.view s.count
 
--- it is the head, or the tail, in its own view
+-- it is the head in its own view
 abbrev pub is_head : ServerState → Bool
 is_head s = is_that (head_of s) s.id
 
+-- it is the tail
 abbrev pub is_tail : ServerState → Bool
 is_tail s = is_that (tail_of s) s.id
 
--- its neighbours in its own view
+-- its predecessor in its own view
 abbrev pub previous : ServerState → Option ℕ
 previous s = predecessor s.view s.id
 
+-- its successor, in its own view
 abbrev pub next : ServerState → Option ℕ
 next s = successor s.view s.count s.id
 

@@ -36,10 +36,11 @@ abbrev pub received : ServerState → ℕ → Body → Outcome
 received s i body = if has s.view i then silent s else receive s i body
 
 -- the sender is another server of the chain, and the view names neither this server nor one that isn't of the chain
+-- (this project's rule)
 abbrev pub is_heard : ServerState → ℕ → View → Bool
 is_heard s i v = nat_lt i s.count && not (i == s.id) && is_below v s.count && not (has v s.id)
 
--- a message from server i: its view is joined first, and then it is judged whether its sender has failed
+-- a message from server i: its view is joined first, and then it is judged whether its sender has failed (this project's rule)
 abbrev pub from_peer : ServerState → ℕ → Peer → Outcome
 from_peer s i peer = if is_heard s i peer.view then and_then (join s peer.view) (λ t. received t i peer.body) else silent s
 
@@ -54,15 +55,10 @@ abbrev pub least_open : ℕ → List OpenRead → ℕ
 least_open acked [] = acked
 least_open acked (r ∷ rs) = min r.mark (least_open acked rs)
 
--- the floor follows: older versions can't be asked for any more
+-- the floor follows: older versions can't be asked for any more (this project's rule)
 unfoldable pub trimmed : ServerState → ServerState
 trimmed s = record s { store = dropped_to s.store (least_open s.store.acked s.asks) }
 
 -- One step: what the input does, and then the floor.
 abbrev pub step : ServerState → Input → Outcome
 step s input = record { state = trimmed (taken_in s input).state; outputs = (taken_in s input).outputs }
-
--- the server after the steps of a list of inputs
-abbrev pub steps : ServerState → List Input → ServerState
-steps s [] = s
-steps s (input ∷ inputs) = steps (step s input).state inputs

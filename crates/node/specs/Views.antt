@@ -1,4 +1,4 @@
--- Views: sets of servers known to have failed, and the chain's order in one.
+-- Views: sets of servers known to have failed (this project's rule), and the chain's order in one.
 use Rattle.std.specs.Prelude.{ℕ, zero, suc, ◌-◌, ◌^◌, bit_or, Bool, true, false, not, nat_eq, nat_lt, Option, Some, None, if◌then◌else◌}
 use Rattle.std.specs.Int.{bit_at}
 

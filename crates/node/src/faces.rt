@@ -10,14 +10,16 @@ use std::alloc::AllocError;
 use table::{Change, Item, Key, Target};
 use versions::Entry;
 
-/// A key's newest version: the number that made it, and the item or none.
+/// A key's newest version (this project's rule).
 #[derive(Clone, Debug, PartialEq, Eq, Drop)]
 pub struct Version {
+    /// The number of the entry that made it.
     pub number: u64,
+    /// The item, or none where the key was dropped.
     pub item: Option<Item>,
 }
 
-/// One change of a face.
+/// One change of a face (this project's rule).
 #[derive(Clone, Debug, PartialEq, Eq, Drop)]
 pub enum FaceStep {
     /// The key has this version from now on.

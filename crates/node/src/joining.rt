@@ -1,12 +1,12 @@
 //! Joining a view: what a server does when it learns of failed servers, in six steps.
-ghost use Rattle.std.specs.Prelude.{◌≡◌, ◌<◌, ◌≤◌, ◌+◌, ◌-◌, ◌++◌, ◌∷◌, true, false, ℕ, List, drop, length, OnOk, IfOk, IsTrue};
+ghost use Rattle.std.specs.Prelude.{◌≡◌, ◌<◌, ◌≤◌, ◌+◌, ◌-◌, ◌++◌, true, false, OnOk, IfOk};
 ghost use Rattle.versions.specs.Stores.{last_number, entries_after};
 ghost use Rattle.node.specs.Servers as servers;
 ghost use Rattle.node.specs.Views as views;
 ghost use Rattle.node.specs.Lawful.{IsSound};
 ghost use Rattle.node.specs.Joining as joining;
 
-use crate::reading::value;
+use crate::reading::value_reply;
 use crate::servers::{Server, is_that};
 use crate::{Body, Output, View};
 use std::alloc::AllocError;
@@ -179,7 +179,7 @@ impl Server {
         Ok(())
     }
 
-    // Fifth: a new predecessor gets the acknowledged number, where the third step didn't raise it and so sent it already.
+    // Fifth: a new predecessor gets the acknowledged number, unless the third step raised it, and so sent it already.
     #[tactic(auto, unfolding(crate::specs::Joining::acked_to_predecessor))]
     fn ack_to_predecessor(
         &self,
@@ -221,7 +221,7 @@ impl Server {
         ensures { OnOk result (outputs.new.items ≡ outputs.old.items ++ joining.replies_to self.now self.now.asks) }
     {
         for read in &self.asks {
-            let reply = value(self.store.newest(&read.key))?;
+            let reply = value_reply(self.store.newest(&read.key))?;
             outputs.push(Output::Reply(read.port, reply))?;
         }
         Ok(())

@@ -2,6 +2,7 @@
 #![tactic(auto)]
 
 mod faces;
+mod forwarding;
 mod joining;
 mod laws;
 mod looks;

@@ -1,6 +1,6 @@
 //! What a look at a key shows.
 
-/// What a look at a key shows.
+/// What a look at a key shows (this project's rule).
 #[derive(Clone, Debug, PartialEq, Eq, Drop)]
 pub enum Look<T> {
     /// The key is clean, and has this item or none.

@@ -9,41 +9,42 @@ use versions::Entry;
 pub struct Peer {
     /// The sender's view.
     pub view: View,
+    /// What it says.
     pub body: Body,
 }
 
 /// What a message says.
 #[derive(Clone, Debug, Drop)]
 pub enum Body {
-    /// The sender's own update call of this id, for the head.
+    /// `Op(id, call)`: the sender's own update call of this id, for the head.
     Op(u64, Call),
-    /// An entry of the sender's, for its successor.
+    /// `Forward(entry)`: an entry of the sender's, for its successor.
     Forward(Entry),
-    /// The sender's acknowledged number, for its predecessor.
+    /// `Ack(n)`: the sender's acknowledged number, for its predecessor.
     Ack(u64),
-    /// The sender's ask of this number for a key, for the tail.
+    /// `Query(ask, key)`: the sender's ask of this number for a key, for the tail.
     Query(u64, Key),
-    /// The tail's last number, for the server whose ask this is.
+    /// `Answer(ask, n)`: n is the tail's last number, for the receiver's open read of this ask.
     Answer(u64, u64),
 }
 
 /// What a server takes in one step.
 #[derive(Clone, Debug, Drop)]
 pub enum Input {
-    /// A call of its own, whose reply is wanted at this port.
+    /// `Call(port, call)`: a call of its own, whose reply is wanted at this port.
     Call(usize, Call),
-    /// A message from this server.
+    /// `From(i, message)`: a message from server i.
     From(u8, Peer),
-    /// The notice that this server has failed.
+    /// `Gone(j)`: the notice that server j has failed.
     Gone(u8),
 }
 
 /// What a server puts out.
 #[derive(Clone, Debug, Drop)]
 pub enum Output {
-    /// A message to this server.
+    /// `To(i, message)`: a message to server i.
     To(u8, Peer),
-    /// The reply to a call, at its port.
+    /// `Reply(port, reply)`: the reply to a call, at its port.
     Reply(usize, Reply),
 }
 
@@ -67,7 +68,7 @@ impl Input {
     ghost use Rattle.std.specs.Prelude.{◌↔◌, IsTrue};
     ghost use Rattle.node.specs.Lawful.{IsInput};
 
-    /// Whether a node may be given it.
+    /// Whether a node may be given it: a call's operation fits and suits its target, and a message's body is fit.
     pub fn is_fit(&self) -> bool
         ensures fit { IsTrue result ↔ IsInput self.now }
     {

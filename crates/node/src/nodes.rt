@@ -18,10 +18,13 @@ use thiserror::Error;
 /// Why a node refuses a call.
 #[derive(Clone, Copy, Debug, PartialEq, Eq, Error)]
 pub enum NodeFault {
+    /// Memory is wanting; the node is stopped from now on.
     #[error("out of memory")]
     Memory,
+    /// An earlier step was refused for want of memory.
     #[error("stopped")]
     Stopped,
+    /// The chain has no such server, or more than 16.
     #[error("no such server")]
     BadCount,
 }
@@ -34,7 +37,8 @@ impl From<AllocError> for NodeFault {
     }
 }
 
-/// One server of a chain. A step that is refused for want of memory stops it for good.
+/// One server of a chain (CRAQ, "System Model"). A step that is refused for want of memory stops it for good.
+/// Contracts see a `ServerState`, and whether it is stopped (`NodeState`).
 #[derive(Drop)]
 pub struct Node {
     server: Server,
@@ -75,10 +79,13 @@ impl Node {
         })
     }
 
-    /// One step. Its outputs stand in the order in which the rules give them.
-    /// It copies no item's data. Each entry that it appends, passes or puts out takes time logarithmic in the number of keys, and an
-    /// own open call is found by a binary search. Answers come in order from servers that keep to the rules; after one that doesn't,
-    /// the open calls on the shorter side of the answered one are moved by one place.
+    /// One step. Its outputs stand in the order in which the rules give them. Refused with Memory, and the node is stopped from
+    /// then on; with Stopped, exactly from then on.
+    /// It copies an item's data only where the head joins two pieces for an append or a prepend. Each entry that it appends,
+    /// acknowledges, puts out or moves to the base takes time logarithmic in the number of keys; a flush that the floor passes
+    /// takes time linear in it, and a join time linear in the open calls. An own open call is found by a binary search. Answers
+    /// come in order from servers that keep to the rules; after one that doesn't, the open calls on the shorter side of the
+    /// answered one are moved by one place.
     pub fn step(&mut self, input: Input) -> Result<Vec<Output>, NodeFault>
         requires input { IsInput input }
         ensures state { OnOk result (self.new ≡ running (steps.step self.old.server input).state) }
@@ -90,6 +97,7 @@ impl Node {
         ensures lawful { OnOk result (IsLawful self.new.server) }
         // Memory stops the node, and Stopped is answered exactly from then on.
         ensures stopped { IsErrOf result NodeFault.Stopped ↔ (self.old.stopped ≡ true) }
+        ensures unchanged { IsErrOf result NodeFault.Stopped → self.new ≡ self.old }
         ensures stops { OnErr result (self.new.stopped ≡ true) }
         ensures fault { IfErr result (λ fault. fault ≢ NodeFault.BadCount) }
     {
@@ -103,8 +111,10 @@ impl Node {
     }
 
     /// The same step, and how it changes the face that readers beside the node see: the steps in order, and then the
-    /// acknowledged number, with which the versions without item up to it are taken away.
-    /// It copies no item's data, and takes time logarithmic in the number of keys besides what it puts out and the steps.
+    /// acknowledged number, with which the versions without item up to it are taken away. Refused with Memory, and the node is
+    /// stopped from then on; with Stopped, exactly from then on.
+    /// It copies an item's data only where the head joins two pieces for an append or a prepend. Besides the time of `step` it
+    /// takes time linear in the entries that it appends.
     pub fn step_face(&mut self, input: Input) -> Result<(Vec<Output>, FaceChange), NodeFault>
         requires input { IsInput input }
         ensures state { OnOk result (self.new ≡ running (steps.step self.old.server input).state) }
@@ -118,17 +128,17 @@ impl Node {
         ensures face { IfOk result (λ found. face_changed (face_of self.old.server) found.1.steps.items found.1.acked ≡ face_of (steps.step self.old.server input).state) }
         // Memory stops the node, and Stopped is answered exactly from then on.
         ensures stopped { IsErrOf result NodeFault.Stopped ↔ (self.old.stopped ≡ true) }
+        ensures unchanged { IsErrOf result NodeFault.Stopped → self.new ≡ self.old }
         ensures stops { OnErr result (self.new.stopped ≡ true) }
         ensures fault { IfErr result (λ fault. fault ≢ NodeFault.BadCount) }
     {
         if self.stopped {
-            Err(NodeFault::Stopped)
-        } else {
-            self.stopped = true;
-            let (outputs, change) = self.server.step_face(input)?;
-            self.stopped = false;
-            Ok((outputs, change))
+            return Err(NodeFault::Stopped);
         }
+        self.stopped = true;
+        let step = self.server.step_face(input)?;
+        self.stopped = false;
+        Ok(step)
     }
 
     /// A look at a key, while the node isn't stopped: clean with its item or none, or dirty. It allocates nothing,
@@ -146,11 +156,9 @@ impl Node {
         ensures newest { look_copied result ≡ peeked self.now.server key.now }
         ensures lawful { self.now.stopped ≡ false → IsLawful self.now.server }
     {
-        let store = &self.server.store;
-        if store.is_clean(key) {
-            Look::Clean(store.newest(key))
-        } else {
-            Look::Dirty
+        match self.server.store.clean_version(key) {
+            Some(item) => Look::Clean(item),
+            None => Look::Dirty,
         }
     }
 

@@ -1,9 +1,8 @@
 //! Reading: clean keys at once, dirty ones by asking the tail for its last number.
-ghost use Rattle.std.specs.Prelude.{◌≡◌, ◌<◌, ◌≤◌, ◌+◌, ◌++◌, ◌==◌, ℕ, List, map, position, Some, OnOk, IfOk, IsTrue};
+ghost use Rattle.std.specs.Prelude.{◌≡◌, ◌<◌, ◌+◌, ◌++◌, ◌==◌, map, position, Some, OnOk, IfOk};
 ghost use Rattle.std.specs.Option.{option_copied};
 ghost use Rattle.table.specs.declared.operations.Reply.TheVariants.{Value};
 ghost use Rattle.versions.specs.Numbers.{IsRising};
-ghost use Rattle.versions.specs.Stores.{last_number, value_at};
 ghost use Rattle.node.specs.Lawful.{IsSound};
 ghost use Rattle.node.specs.Reading as reading;
 
@@ -13,8 +12,8 @@ use std::alloc::AllocError;
 use std::collections::VecDeque;
 use table::{Item, Key, Reply, Target};
 
-// The reply that shows this item, or none.
-pub(crate) fn value(item: Option<&Item>) -> Result<Reply, AllocError>
+/// The reply that shows this item, or none.
+pub(crate) fn value_reply(item: Option<&Item>) -> Result<Reply, AllocError>
     ensures { IfOk result (λ reply. reply ≡ Value (option_copied item.entry)) }
 {
     match item {
@@ -56,8 +55,8 @@ impl Server {
         let Target::One(key) = target else {
             return Ok(());
         };
-        if self.store.is_clean(&key) {
-            let reply = value(self.store.newest(&key))?;
+        if let Some(item) = self.store.clean_version(&key) {
+            let reply = value_reply(item)?;
             outputs.push(Output::Reply(port, reply))?;
             return Ok(());
         }
@@ -135,7 +134,7 @@ impl Server {
         if n < read.mark || self.store.last() < n {
             return Ok(());
         }
-        let reply = value(self.store.at(&read.key, n))?;
+        let reply = value_reply(self.store.at(&read.key, n))?;
         outputs.push(Output::Reply(read.port, reply))?;
         take_out(&mut self.asks, ask);
         Ok(())

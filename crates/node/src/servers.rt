@@ -1,5 +1,5 @@
 //! One server of the chain: what it holds.
-ghost use Rattle.std.specs.Prelude.{◌≡◌, ◌<◌, ◌≤◌, ◌++◌, OnOk, IfSome};
+ghost use Rattle.std.specs.Prelude.{◌≡◌, ◌<◌, ◌≤◌, ◌++◌, OnOk};
 ghost use Rattle.node.specs.Servers as servers;
 ghost use Rattle.node.specs.Views as views;
 

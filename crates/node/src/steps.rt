@@ -1,5 +1,5 @@
 //! One server's step: what each input does.
-ghost use Rattle.std.specs.Prelude.{◌≡◌, ◌<◌, ◌≤◌, ◌++◌, true, false, List, [], OnOk, IfOk};
+ghost use Rattle.std.specs.Prelude.{◌≡◌, ◌<◌, ◌≤◌, ◌++◌, OnOk, IfOk};
 ghost use Rattle.node.specs.Lawful.{IsCall, IsBody, IsInput, IsSound, IsLawful, HoldsEntry, AreToOthers, AreFit};
 ghost use Rattle.node.specs.Steps as steps;
 ghost use Rattle.node.specs.Faces.{face_changed, face_of, steps_by, acked_by};
@@ -27,7 +27,7 @@ impl Server {
         Ok(outputs)
     }
 
-    /// The same step, and how it changes the face. It copies no item's data.
+    /// The same step, and how it changes the face.
     pub(crate) fn step_face(
         &mut self,
         input: Input,
@@ -60,29 +60,24 @@ impl Server {
         ensures outputs { OnOk result (outputs.new.items ≡ outputs.old.items ++ (steps.taken_in self.old input).outputs) }
     {
         match input {
-            Input::Call(port, call) => self.call(port, &call, outputs),
+            Input::Call(port, call) => self.call(port, call, outputs),
             Input::From(i, peer) => self.from_peer(i, peer, outputs),
             Input::Gone(j) => self.gone(j, outputs),
         }
     }
 
     // An own call.
-    fn call(
-        &mut self,
-        port: usize,
-        call: &Call,
-        outputs: &mut Vec<Output>,
-    ) -> Result<(), AllocError>
+    fn call(&mut self, port: usize, call: Call, outputs: &mut Vec<Output>) -> Result<(), AllocError>
         requires chain { IsSound self.old }
-        requires call { IsCall call.now }
-        ensures state { OnOk result (self.new ≡ (steps.call self.old port call.now).state) }
-        ensures outputs { OnOk result (outputs.new.items ≡ outputs.old.items ++ (steps.call self.old port call.now).outputs) }
+        requires call { IsCall call }
+        ensures state { OnOk result (self.new ≡ (steps.call self.old port call).state) }
+        ensures outputs { OnOk result (outputs.new.items ≡ outputs.old.items ++ (steps.call self.old port call).outputs) }
     {
         if call.op.is_update() {
-            self.update(port, call, outputs)
-        } else {
-            self.read(port, call.target.clone()?, outputs)
+            return self.update(port, &call, outputs);
         }
+        let Call { target, .. } = call;
+        self.read(port, target, outputs)
     }
 
     // The notice that server j has failed: it is joined, unless j is this server or none of the chain.

@@ -1,5 +1,5 @@
 //! Views: sets of servers that are known to have failed, and the chain's order in one.
-ghost use Rattle.std.specs.Prelude.{◌≡◌, ℕ, ◌<◌, ◌≤◌, ◌+◌, ◌-◌, ◌^◌, IfSome};
+ghost use Rattle.std.specs.Prelude.{◌≡◌, ℕ, ◌<◌, ◌≤◌, ◌+◌, ◌-◌, IfSome};
 ghost use Rattle.node.specs.Views as views;
 
 use std::marker::Model;
@@ -7,7 +7,8 @@ use std::marker::Model;
 /// The most servers of a chain.
 pub const SERVERS: u8 = 16;
 
-/// A set of servers below 16: those that are known to have failed.
+/// A set of servers below 16: those that are known to have failed (this project's rule).
+/// Contracts see a number, server i being the bit of value 2^i.
 #[derive(Clone, Copy, Debug, PartialEq, Eq)]
 pub struct View {
     bits: u16,
@@ -105,7 +106,7 @@ impl View {
         None
     }
 
-    /// The greatest server outside it below this one.
+    /// The greatest server outside it below this one, or `None` where there is none.
     #[tactic(auto, using(crate::proofs::ViewShapes::previous_more, crate::proofs::ViewShapes::previous_zero))]
     pub fn predecessor(self, i: u8) -> Option<u8>
         requires server { i ≤ 16 }
@@ -122,7 +123,7 @@ impl View {
         None
     }
 
-    /// The least server outside it above this one, in a chain of so many.
+    /// The least server outside it above this one, in a chain of so many, or `None` where there is none.
     pub fn successor(self, count: u8, i: u8) -> Option<u8>
         requires chain { count ≤ 16 }
         requires server { i < count }
@@ -132,7 +133,7 @@ impl View {
         self.next_from(i + 1, count)
     }
 
-    /// The least server outside it, in a chain of so many.
+    /// The least server outside it, in a chain of so many, or `None` where there is none.
     pub fn head(self, count: u8) -> Option<u8>
         requires chain { count ≤ 16 }
         ensures first { result ≡ views.head self count }
@@ -141,7 +142,7 @@ impl View {
         self.next_from(0, count)
     }
 
-    /// The greatest server outside it, in a chain of so many.
+    /// The greatest server outside it, in a chain of so many, or `None` where there is none.
     pub fn tail(self, count: u8) -> Option<u8>
         requires chain { count ≤ 16 }
         ensures last { result ≡ views.tail self count }

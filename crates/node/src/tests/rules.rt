@@ -1,10 +1,13 @@
 //! What a chain does while no server fails.
 
-use super::chains::{chain_of, deliver, deliver_all, get, key, on, set, settle, shown, step};
+use super::chains::{
+    Chain, chain_of, deliver, deliver_all, get, key, on, set, settle, shown, step,
+};
 use crate::{Input, Look};
 use bytes::Bytes;
+use std::alloc::Global;
 use std::test::Fail;
-use table::{Call, Op, Reply, Target};
+use table::{Call, Key, Op, Reply, Target};
 
 #[test]
 fn sixteen_nodes_pass_a_set_through_31_messages(rt: HostRuntime) -> Result<(), Fail> {
@@ -127,5 +130,71 @@ fn flush_all_dirty(rt: HostRuntime) -> Result<(), Fail> {
     assert_eq!(rt; shown(&chain), Some(b"p".as_slice()));
     deliver_all(&mut chain, &[(0, 2), (2, 0)])?;
     assert!(rt; matches!(chain.replies.last(), Some((2, Reply::Value(None)))));
+    Ok(())
+}
+
+// The unique that node 0 shows of a key that has an item, or none while the key is dirty.
+fn unique_shown(chain: &Chain, a: &Key) -> Result<Option<u64>, Fail> {
+    match chain.nodes.first().ok_or("a node")?.peek(a) {
+        Look::Clean(Some(item)) => Ok(Some(item.unique)),
+        Look::Clean(None) => Err("an item".into()),
+        Look::Dirty => Ok(None),
+    }
+}
+
+fn expect_dirty(chain: &Chain, a: &Key) -> Result<(), Fail> {
+    match unique_shown(chain, a)? {
+        Some(_) => Err("a dirty key".into()),
+        None => Ok(()),
+    }
+}
+
+// So many sets of one key at node 0. Nothing is delivered.
+fn set_many(alloc: Global, chain: &mut Chain, a: &Key, count: usize) -> Result<(), Fail> {
+    for port in 0..count {
+        step(chain, 0, Input::Call(port, set(alloc, b"p")?))?;
+        expect_dirty(chain, a)?;
+    }
+    Ok(())
+}
+
+// The first so many messages come, in the order in which they were sent. Before each the key is dirty.
+fn deliver_many(chain: &mut Chain, a: &Key, count: usize) -> Result<(), Fail> {
+    for _ in 0..count {
+        expect_dirty(chain, a)?;
+        let (i, j, peer) = chain.sent.pop_front().ok_or("a message")?;
+        step(chain, j, Input::From(i, peer))?;
+    }
+    Ok(())
+}
+
+// So many calls were answered, in the order of their ports.
+fn are_stored_in_order(chain: &Chain, count: usize) -> bool {
+    let mut next: usize = 0;
+    for (port, reply) in &chain.replies {
+        if *port != next || !matches!(reply, Reply::Stored) {
+            return false;
+        }
+        next = next.wrapping_add(1);
+    }
+    next == count
+}
+
+// The forwards come, and then the acknowledgements.
+fn settled_sets(alloc: Global, a: &Key, count: usize) -> Result<Chain, Fail> {
+    let mut chain = chain_of(alloc, 2)?;
+    set_many(alloc, &mut chain, a, count)?;
+    deliver_many(&mut chain, a, count)?;
+    deliver_many(&mut chain, a, count)?;
+    Ok(chain)
+}
+
+#[test]
+fn many_sets_at_the_head_of_two(rt: HostRuntime) -> Result<(), Fail> {
+    let a = key(rt.alloc(), b"a")?;
+    let chain = settled_sets(rt.alloc(), &a, 10_000)?;
+    assert_eq!(rt; unique_shown(&chain, &a)?, Some(10_000));
+    assert!(rt; are_stored_in_order(&chain, 10_000));
+    assert!(rt; chain.sent.is_empty());
     Ok(())
 }

@@ -2,7 +2,7 @@ use Rattle.std.proofs.Common.{arith}
 use Rattle.std.specs.VecDeque.Iter.{deque_iter_rest}
 use Rattle.node.proofs.Settling.{left_step, replies_step, left_end, replies_end, left_done, replies_done}
 use Rattle.node.proofs.Orders.{rising-left_open_by}
-use Rattle.node.proofs.numbering.settle_first.Goals as goal
+use Rattle.node.proofs.forwarding.settle_first.Goals as goal
 
 pub returns-in_default-clause-left : goal.returns-in_default-clause-left
 returns-in_default-clause-left c = left_end c.args.id c.args.count c.loop-settled._settled c.loop-settled.pend.items (deque_iter_rest c.loop-settled.entries) _ (c.in_default.ensures.steps.0) c.loop-settled.invariant.left

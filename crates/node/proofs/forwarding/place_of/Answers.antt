@@ -1,7 +1,7 @@
 use Rattle.std.proofs.Common.{rules, ◌∙◌}
 use Rattle.std.proofs.lemmas.List.Sorted.{answers_always}
 use Rattle.node.proofs.Orders.{searched}
-use Rattle.node.proofs.numbering.place_of.Goals as goal
+use Rattle.node.proofs.forwarding.place_of.Goals as goal
 
 pub returns : goal.returns
 returns c =

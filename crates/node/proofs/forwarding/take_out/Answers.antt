@@ -1,6 +1,6 @@
 use Rattle.std.proofs.Common.{◌==◌, sym, ◌∙◌}
 use Rattle.node.proofs.Firsts.{at_position, no_position, removed_found, removed_left}
-use Rattle.node.proofs.numbering.take_out.Goals as goal
+use Rattle.node.proofs.forwarding.take_out.Goals as goal
 
 pub returns-in_err-i-clause-found : goal.returns-in_err-i-clause-found
 returns-in_err-i-clause-found c = c.from_residual.ensures ∙ sym (no_position (λ u. u.id == c.args.id) c.args.pend.now.items (sym c.place_of.ensures ∙ c.in_err-i.was)).none

@@ -3,7 +3,7 @@ use Rattle.std.specs.VecDeque.Iter.{deque_iter_rest}
 use Rattle.versions.specs.Numbers.{IsRising}
 use Rattle.node.specs.declared.servers.OpenUpdate.{OpenUpdate}
 use Rattle.node.specs.Numbering.{left_open, replies}
-use Rattle.node.proofs.numbering.settle_first.Given as goal
+use Rattle.node.proofs.forwarding.settle_first.Given as goal
 
 abbrev pub invariant-loop-settled : goal.invariant-loop-settled
 invariant-loop-settled l = record {

@@ -1,0 +1,167 @@
+//! Forwarding: how entries go down the chain, and how their acknowledgements come back up it.
+ghost use Rattle.std.specs.Prelude.{◌≡◌, ◌<◌, ◌≤◌, ◌+◌, ◌++◌, length, map, take, position, ◌==◌, OnOk};
+ghost use Rattle.std.specs.VecDeque.Iter.{deque_iter_rest};
+ghost use Rattle.versions.specs.Numbers.{IsRising};
+ghost use Rattle.versions.specs.Stores.{last_number};
+ghost use Rattle.node.specs.Lawful.{IsSound};
+ghost use Rattle.node.specs.Numbering as numbering;
+
+use crate::servers::{OpenUpdate, Server, is_that};
+use crate::{Body, Output};
+use std::alloc::AllocError;
+use std::collections::VecDeque;
+use std::collections::vec_deque::Iter;
+use versions::Entry;
+
+// Takes the call of this id out of the open ones, if it is one of them.
+fn take_out(pend: &mut VecDeque<OpenUpdate>, id: u64) -> Option<OpenUpdate>
+    requires order { IsRising 0 (map (λ u. u.id) pend.old.items) }
+    ensures found { result ≡ numbering.open_update pend.old.items id }
+    ensures left { pend.new.items ≡ numbering.without_update pend.old.items id }
+{
+    let i = place_of(pend, id)?;
+    pend.remove(i)
+}
+
+// The place of the call of this id, by a binary search.
+fn place_of(pend: &VecDeque<OpenUpdate>, id: u64) -> Option<usize>
+    requires order { IsRising 0 (map (λ u. u.id) pend.now.items) }
+    ensures { result ≡ position (λ u. u.id == id) pend.now.items }
+{
+    pend.binary_search_by_key(&id, |update| update.id).ok()
+}
+
+// Where the entry's call is an own one without a reply, its port gets the reply.
+fn settle(
+    id: u8,
+    pend: &mut VecDeque<OpenUpdate>,
+    entry: &Entry,
+    outputs: &mut Vec<Output>,
+) -> Result<(), AllocError>
+    requires order { IsRising 0 (map (λ u. u.id) pend.old.items) }
+    ensures left { OnOk result (pend.new.items ≡ numbering.left_open_by id pend.old.items entry.now) }
+    ensures replies { OnOk result (outputs.new.items ≡ outputs.old.items ++ numbering.reply_to id pend.old.items entry.now) }
+{
+    if entry.origin() == id {
+        if let Some(update) = take_out(pend, entry.id()) {
+            outputs.push(Output::Reply(update.port, entry.reply().clone()?))?;
+        }
+    }
+    Ok(())
+}
+
+// The same of the first entries, so many of them, in order.
+fn settle_first(
+    id: u8,
+    pend: &mut VecDeque<OpenUpdate>,
+    entries: Iter<'_, Entry>,
+    count: u64,
+    outputs: &mut Vec<Output>,
+) -> Result<(), AllocError>
+    requires order { IsRising 0 (map (λ u. u.id) pend.old.items) }
+    ensures left { OnOk result (pend.new.items ≡ numbering.left_open id pend.old.items (take count (deque_iter_rest entries.entry))) }
+    ensures replies { OnOk result (outputs.new.items ≡ outputs.old.items ++ numbering.replies id pend.old.items (take count (deque_iter_rest entries.entry))) }
+{
+    let mut entries = entries;
+    for _settled in 0..count {
+        let Some(entry) = entries.next() else {
+            return Ok(());
+        };
+        settle(id, pend, entry, outputs)?;
+    }
+    Ok(())
+}
+
+impl Server {
+    /// Raises the acknowledged number to `n`: the own calls among the entries newly passed are answered, and then the
+    /// predecessor is told.
+    #[tactic(auto, unfolding(crate::specs::Numbering::risen))]
+    pub(crate) fn rise(&mut self, n: u64, outputs: &mut Vec<Output>) -> Result<(), AllocError>
+        requires chain { IsSound self.old }
+        requires above { self.old.store.acked ≤ n }
+        requires known { n ≤ last_number self.old.store }
+        ensures state { OnOk result (self.new ≡ (numbering.rise self.old n).state) }
+        ensures outputs { OnOk result (outputs.new.items ≡ outputs.old.items ++ (numbering.rise self.old n).outputs) }
+    {
+        let acked = self.store.acked();
+        let previous = self.previous();
+        let entries = self.store.entries_after(acked);
+        settle_first(self.id, &mut self.pend, entries, n - acked, outputs)?;
+        self.store.ack(n);
+        self.send(previous, Body::Ack(n), outputs)
+    }
+
+    /// The entry is the last one from now on, and its id counts among those seen of its origin.
+    #[tactic(auto, unfolding(crate::specs::Numbering::appended))]
+    pub(crate) fn append(&mut self, entry: Entry) -> Result<(), AllocError>
+        requires next { entry.number ≡ last_number self.old.store + 1 }
+        requires seen { length self.old.seen ≡ 16 }
+        ensures { OnOk result (self.new ≡ numbering.appended self.old entry) }
+    {
+        let origin = usize::from(entry.origin());
+        let id = entry.id();
+        self.store.push(entry).map_err(|_| AllocError)?;
+        self.seen[origin] = self.seen[origin].max(id);
+        Ok(())
+    }
+
+    /// An entry with the next number is appended: at the tail it is acknowledged, otherwise it goes on to the successor.
+    #[tactic(auto, unfolding(crate::specs::Numbering::passed_on, crate::specs::Numbering::appended))]
+    pub(crate) fn append_and_pass(
+        &mut self,
+        entry: Entry,
+        outputs: &mut Vec<Output>,
+    ) -> Result<(), AllocError>
+        requires chain { IsSound self.old }
+        requires next { entry.number ≡ last_number self.old.store + 1 }
+        ensures state { OnOk result (self.new ≡ (numbering.passed_on (numbering.appended self.old entry) entry).state) }
+        ensures outputs { OnOk result (outputs.new.items ≡ outputs.old.items ++ (numbering.passed_on (numbering.appended self.old entry) entry).outputs) }
+    {
+        let _number = entry.number();
+        if self.is_tail() {
+            self.append(entry)?;
+            let last = self.store.last();
+            return self.rise(last, outputs);
+        }
+        self.append(entry.clone()?)?;
+        self.send(self.next(), Body::Forward(entry), outputs)
+    }
+
+    /// `Forward` from server i: from the predecessor the entry with the next number is appended and passed on.
+    pub(crate) fn receive_forward(
+        &mut self,
+        i: u8,
+        entry: Entry,
+        outputs: &mut Vec<Output>,
+    ) -> Result<(), AllocError>
+        requires chain { IsSound self.old }
+        ensures state { OnOk result (self.new ≡ (numbering.receive_forward self.old i entry).state) }
+        ensures outputs { OnOk result (outputs.new.items ≡ outputs.old.items ++ (numbering.receive_forward self.old i entry).outputs) }
+    {
+        let last = self.store.last();
+        if is_that(self.previous(), i) && last < entry.number() && entry.number() - last == 1 {
+            self.append_and_pass(entry, outputs)
+        } else {
+            Ok(())
+        }
+    }
+
+    /// `Ack` from server i: from the successor, with a number above the acknowledged one and not above the last, this server
+    /// rises to it.
+    pub(crate) fn receive_ack(
+        &mut self,
+        i: u8,
+        n: u64,
+        outputs: &mut Vec<Output>,
+    ) -> Result<(), AllocError>
+        requires chain { IsSound self.old }
+        ensures state { OnOk result (self.new ≡ (numbering.receive_ack self.old i n).state) }
+        ensures outputs { OnOk result (outputs.new.items ≡ outputs.old.items ++ (numbering.receive_ack self.old i n).outputs) }
+    {
+        if is_that(self.next(), i) && self.store.acked() < n && n <= self.store.last() {
+            self.rise(n, outputs)
+        } else {
+            Ok(())
+        }
+    }
+}
