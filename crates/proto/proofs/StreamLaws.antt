@@ -5,7 +5,7 @@ use Rattle.std.specs.List.{flat_map, slice_range}
 use Rattle.std.proofs.Math.Seq.{drop-nil}
 use Rattle.std.proofs.lemmas.Bool.Decides.{nat_tests}
 use Rattle.std.proofs.lemmas.List.{drop-append-le, append-nil, drop_all}
-use Rattle.proto.specs.declared.front.Passing.{Passing}
+use Rattle.proto.specs.declared.passing.Passing.{Passing}
 use Rattle.proto.specs.declared.lines.Asked.{Asked}
 use Rattle.proto.specs.declared.lines.Asked.TheVariants.{Whole, Behind}
 use Rattle.proto.specs.declared.lines.Block.{Block}

@@ -15,7 +15,7 @@ use Rattle.proto.specs.declared.lines.Asked.TheVariants.{Whole, Behind}
 use Rattle.proto.specs.declared.lines.Fate.{Fate}
 use Rattle.proto.specs.declared.lines.Fate.TheVariants.{Put, Refuse}
 use Rattle.proto.specs.declared.front.Pending.{Pending}
-use Rattle.proto.specs.declared.front.Passing.{Passing}
+use Rattle.proto.specs.declared.passing.Passing.{Passing}
 use Rattle.proto.specs.declared.front.Found.{Found}
 use Rattle.proto.specs.declared.front.Found.TheVariants.{Request as Requested, Refused, Nothing}
 use Rattle.proto.specs.Requests.{asked_at}

@@ -6,7 +6,7 @@ use Rattle.table.specs.declared.operations.Target.TheVariants.{One, All}
 use Rattle.table.specs.declared.operations.Op.{Op}
 use Rattle.table.specs.declared.operations.Op.TheVariants.{Delete as DeleteOp, Flush as FlushOp}
 use Rattle.table.specs.declared.operations.Reply.{Reply}
-use Rattle.proto.specs.declared.front.Passing.{Passing}
+use Rattle.proto.specs.declared.passing.Passing.{Passing}
 use Rattle.proto.specs.declared.front.Found.{Found}
 use Rattle.proto.specs.declared.front.Found.TheVariants.{Request as Requested, Refused, Nothing}
 use Rattle.proto.specs.declared.requests.Request.{Request}

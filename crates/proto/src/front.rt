@@ -9,6 +9,7 @@ ghost use Rattle.proto.specs.declared.lines.Fate.TheVariants.{Put};
 ghost use Rattle.proto.specs.declared.requests.Request.TheVariants.{Bad};
 
 use crate::lines::{Asked, Block, Fate, Verb, asked_at};
+use crate::passing::Passing;
 use crate::{Fault, Request};
 use bytes::Bytes;
 use std::alloc::{AllocError, Global};
@@ -23,15 +24,6 @@ pub enum Found {
     Refused(Passing),
     /// Neither.
     Nothing,
-}
-
-/// A refused block, of which no byte is kept.
-#[derive(Clone, Copy, Debug)]
-pub struct Passing {
-    /// The fault that stands in its request's place.
-    pub fault: Fault,
-    /// How many bytes of it have still to come, the two behind its data among them.
-    pub left: usize,
 }
 
 /// A block that is to be put, and how many bytes the line before it has:

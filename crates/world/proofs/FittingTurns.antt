@@ -28,7 +28,7 @@ use Rattle.proto.specs.declared.lines.Word.{Word}
 use Rattle.proto.specs.declared.lines.Word.TheVariants as words
 use Rattle.proto.specs.declared.lines.Verb.{Verb}
 use Rattle.proto.specs.declared.lines.Verb.TheVariants as verbs
-use Rattle.proto.specs.declared.front.Passing.{Passing}
+use Rattle.proto.specs.declared.passing.Passing.{Passing}
 use Rattle.proto.specs.declared.front.Found.{Found}
 use Rattle.proto.specs.declared.front.Found.TheVariants.{Request as Requested, Refused, Nothing}
 use Rattle.proto.specs.declared.texts.Form.{Form}
