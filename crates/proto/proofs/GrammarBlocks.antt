@@ -10,11 +10,11 @@ use Rattle.proto.specs.Verbs.{op_of}
 use Rattle.proto.specs.declared.requests.Fault.TheVariants.{DataChunk, TooLarge, Expiry}
 use Rattle.proto.specs.declared.requests.Request.{Request}
 use Rattle.proto.specs.declared.requests.Request.TheVariants.{Store, Bad}
-use Rattle.proto.specs.declared.lines.StorageLine.{StorageLine}
+use Rattle.proto.specs.declared.storage.StorageLine.{StorageLine}
 use Rattle.proto.specs.declared.lines.Asked.TheVariants.{Behind}
-use Rattle.proto.specs.declared.lines.Block.{Block}
-use Rattle.proto.specs.declared.lines.Fate.{Fate}
-use Rattle.proto.specs.declared.lines.Fate.TheVariants.{Put, Refuse}
+use Rattle.proto.specs.declared.storage.Block.{Block}
+use Rattle.proto.specs.declared.storage.Fate.{Fate}
+use Rattle.proto.specs.declared.storage.Fate.TheVariants.{Put, Refuse}
 use Rattle.proto.specs.Requests.{fate_of}
 use Rattle.proto.specs.Fronts.{finished, completed}
 use Rattle.proto.specs.Grammar.{IsBlock, Spells}

@@ -10,9 +10,9 @@ use Rattle.proto.specs.Verbs.{op_of}
 use Rattle.proto.specs.declared.requests.Fault.TheVariants.{Command, Format, DataChunk, TooLarge, LineTooLong, Expiry}
 use Rattle.proto.specs.declared.requests.Request.{Request}
 use Rattle.proto.specs.declared.requests.Request.TheVariants as requests
-use Rattle.proto.specs.declared.lines.Word.{Word}
-use Rattle.proto.specs.declared.lines.Word.TheVariants as words
-use Rattle.proto.specs.declared.lines.StorageLine.{StorageLine}
+use Rattle.proto.specs.declared.words.Word.{Word}
+use Rattle.proto.specs.declared.words.Word.TheVariants as words
+use Rattle.proto.specs.declared.storage.StorageLine.{StorageLine}
 use Rattle.proto.specs.declared.lines.Asked.{Asked}
 use Rattle.proto.specs.declared.lines.Asked.TheVariants.{Whole, Behind}
 use Rattle.proto.specs.Requests.{fate_of, block_of, word_of, asked_of, or_misfit, by_word, by_fields, by_line, by_end, asked_at}

@@ -12,8 +12,8 @@ use Rattle.proto.specs.declared.requests.Request.{Request}
 use Rattle.proto.specs.declared.requests.Request.TheVariants.{Store, Get, Arith, Delete, Flush, Quit, Bad}
 use Rattle.proto.specs.declared.lines.Asked.{Asked}
 use Rattle.proto.specs.declared.lines.Asked.TheVariants.{Whole, Behind}
-use Rattle.proto.specs.declared.lines.Fate.{Fate}
-use Rattle.proto.specs.declared.lines.Fate.TheVariants.{Put, Refuse}
+use Rattle.proto.specs.declared.storage.Fate.{Fate}
+use Rattle.proto.specs.declared.storage.Fate.TheVariants.{Put, Refuse}
 use Rattle.proto.specs.declared.front.Pending.{Pending}
 use Rattle.proto.specs.declared.passing.Passing.{Passing}
 use Rattle.proto.specs.declared.front.Found.{Found}

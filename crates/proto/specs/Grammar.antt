@@ -10,13 +10,13 @@ use Rattle.proto.specs.Verbs.{op_of}
 use Rattle.proto.specs.declared.requests.Fault.TheVariants.{Command, Format, DataChunk, TooLarge, LineTooLong, Expiry}
 use Rattle.proto.specs.declared.requests.Request.{Request}
 use Rattle.proto.specs.declared.requests.Request.TheVariants as requests
-use Rattle.proto.specs.declared.lines.Word.{Word}
-use Rattle.proto.specs.declared.lines.Word.TheVariants.{Get, Gets, Store, Incr, Decr, Delete, FlushAll, Quit}
-use Rattle.proto.specs.declared.lines.Storing.{Storing}
-use Rattle.proto.specs.declared.lines.Storing.TheVariants.{Set, Add, Replace, Append, Prepend, Cas}
-use Rattle.proto.specs.declared.lines.Verb.{Verb}
-use Rattle.proto.specs.declared.lines.Verb.TheVariants as verbs
-use Rattle.proto.specs.declared.lines.StorageLine.{StorageLine}
+use Rattle.proto.specs.declared.words.Word.{Word}
+use Rattle.proto.specs.declared.words.Word.TheVariants.{Get, Gets, Store, Incr, Decr, Delete, FlushAll, Quit}
+use Rattle.proto.specs.declared.words.Storing.{Storing}
+use Rattle.proto.specs.declared.words.Storing.TheVariants.{Set, Add, Replace, Append, Prepend, Cas}
+use Rattle.proto.specs.declared.storage.Verb.{Verb}
+use Rattle.proto.specs.declared.storage.Verb.TheVariants as verbs
+use Rattle.proto.specs.declared.storage.StorageLine.{StorageLine}
 
 -- no LF among the bytes
 abbrev pub has_no_lf : List ℕ → Bool

@@ -1,6 +1,7 @@
 //! Requests from bytes, and replies to bytes: the subset of memcached's text protocol that a cache speaks.
 #![tactic(auto)]
 
+mod commands;
 mod faults;
 mod fields;
 mod front;
@@ -9,9 +10,11 @@ mod lines;
 mod passing;
 mod requests;
 mod sessions;
+mod storage;
 mod streams;
 mod texts;
 mod turns;
+mod words;
 
 pub use faults::ProtoFault;
 pub use laws::{found_is_spelled, one_request_at_a_front, spelled_is_found, whole_stays_whole};
