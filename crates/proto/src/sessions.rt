@@ -50,7 +50,7 @@ impl Model for Session {
 }
 
 impl Session {
-    ghost use Rattle.std.specs.Prelude.{◌≡◌, ◌↔◌, ◌≤◌, drop, length, true, None, IsOk, OnOk, OnErr, IfOk, IsErrOf};
+    ghost use Rattle.std.specs.Prelude.{◌≡◌, ◌↔◌, ◌≤◌, drop, length, true, None, IsOk, IfOk, OnOk, OnErr, IsErrOf, IsOkUnless};
     ghost use Rattle.proto.specs.Sessions.{fresh, fed, next_of, step_of, answered_by, CanAnswer, IsInside, IsOpen};
 
     /// A session that was fed with nothing. It allocates nothing.
@@ -93,7 +93,9 @@ impl Session {
         ensures left { OnOk result (self.new ≡ (next_of self.old).1) }
         // A call that is handed out fits and suits its target, and is answered in its operation's form.
         ensures opens { IfOk result (λ step. IsOpen step self.new.asked) }
-        ensures only_memory { IsErrOf result ProtoFault.Closed → ⊥ }
+        // A closed session says so at once.
+        ensures closed { self.old.closed ≡ true → IsOk result }
+        ensures only_memory { IsOkUnless result ProtoFault.Memory }
         ensures err { OnErr result (self.new ≡ self.old) }
     {
         if self.closed {
@@ -112,7 +114,7 @@ impl Session {
     pub fn answer(&mut self, reply: &Reply) -> Result<(), ProtoFault>
         requires { CanAnswer self.old.asked reply.now }
         ensures ok { OnOk result (self.new ≡ answered_by self.old.asked self.old reply.now) }
-        ensures only_memory { IsErrOf result ProtoFault.Closed → ⊥ }
+        ensures only_memory { IsOkUnless result ProtoFault.Memory }
         ensures err { OnErr result (self.new ≡ self.old) }
     {
         if let Some(form) = &self.asked {

@@ -10,7 +10,7 @@ use crate::{Fault, Form, Keys, Look, ProtoFault, Request, Session, Step};
 use table::{Key, Op, Target};
 
 impl Session {
-    ghost use Rattle.std.specs.Prelude.{◌≡◌, ◌≤◌, drop, length, false, true, None, Some, OnOk, OnErr, IfOk, IsErrOf};
+    ghost use Rattle.std.specs.Prelude.{◌≡◌, ◌≤◌, drop, length, false, true, None, Some, IfOk, OnOk, OnErr, IsOkUnless};
     ghost use Rattle.table.specs.Operations.{Fits, Suits, is_update};
     ghost use Rattle.table.specs.declared.operations.Target.TheVariants.{One};
     ghost use Rattle.proto.specs.declared.front.Found.TheVariants.{Request as Requested};
@@ -27,7 +27,7 @@ impl Session {
         ensures step { IfOk result (λ step. step ≡ step_of (by_passing (Some passing) self.old)) }
         ensures left { OnOk result (self.new ≡ (by_passing (Some passing) self.old).1) }
         ensures opens { IfOk result (λ step. IsOpen step self.new.asked) }
-        ensures only_memory { IsErrOf result ProtoFault.Closed → ⊥ }
+        ensures only_memory { IsOkUnless result ProtoFault.Memory }
         ensures err { OnErr result (self.new ≡ self.old) }
     {
         if passing.left > 0 {
@@ -45,7 +45,7 @@ impl Session {
         ensures step { IfOk result (λ step. step ≡ step_of (by_found (found_at self.old.unread) self.old)) }
         ensures left { OnOk result (self.new ≡ (by_found (found_at self.old.unread) self.old).1) }
         ensures opens { IfOk result (λ step. IsOpen step self.new.asked) }
-        ensures only_memory { IsErrOf result ProtoFault.Closed → ⊥ }
+        ensures only_memory { IsOkUnless result ProtoFault.Memory }
         ensures err { OnErr result (self.new ≡ self.old) }
     {
         match front(self.alloc, &mut self.pending, self.unread.as_slice())? {
@@ -69,7 +69,7 @@ impl Session {
         ensures step { IfOk result (λ step. step ≡ step_of (by_found (Requested request n) self.old)) }
         ensures left { OnOk result (self.new ≡ (by_found (Requested request n) self.old).1) }
         ensures opens { IfOk result (λ step. IsOpen step self.new.asked) }
-        ensures only_memory { IsErrOf result ProtoFault.Closed → ⊥ }
+        ensures only_memory { IsOkUnless result ProtoFault.Memory }
         ensures err { OnErr result (self.new ≡ self.old) }
     {
         match request {
@@ -101,7 +101,7 @@ impl Session {
         ensures step { IfOk result (λ step. step ≡ step_of (by_found (Requested (Get keys unique) n) self.old)) }
         ensures left { OnOk result (self.new ≡ (by_found (Requested (Get keys unique) n) self.old).1) }
         ensures opens { IfOk result (λ step. IsOpen step self.new.asked) }
-        ensures only_memory { IsErrOf result ProtoFault.Closed → ⊥ }
+        ensures only_memory { IsOkUnless result ProtoFault.Memory }
         ensures err { OnErr result (self.new ≡ self.old) }
     {
         let mut keys = keys;
@@ -119,7 +119,7 @@ impl Session {
         requires open { self.old.closed ≡ false }
         ensures step { IfOk result (λ step. step ≡ Step.Emit) }
         ensures left { OnOk result (self.new ≡ (by_request (Bad fault) self.old).1) }
-        ensures only_memory { IsErrOf result ProtoFault.Closed → ⊥ }
+        ensures only_memory { IsOkUnless result ProtoFault.Memory }
         ensures err { OnErr result (self.new ≡ self.old) }
     {
         write_fault(&mut self.out, fault)?;
