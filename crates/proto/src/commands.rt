@@ -17,21 +17,25 @@ pub struct CounterLine {
 }
 
 /// What the fields behind `get` or `gets` ask for, if they fit.
-pub fn get_line(alloc: Global, unique: bool, fields: Fields<'_>) -> Result<Option<Request>, AllocError>
+pub fn get_line(
+    alloc: Global,
+    unique: bool,
+    fields: Fields<'_>,
+) -> Result<Option<Request>, AllocError>
     ensures value { IfOk result (λ request. request ≡ get_line unique fields.entry) }
     ensures whole { IfOk result (λ request. IfSome request IsWhole) }
 {
-    let Some(text) = fields.rest() else {
-        return Ok(None);
-    };
-    match Keys::from_text(alloc, text)? {
-        Some(keys) => Ok(Some(Request::Get(keys, unique))),
+    match fields.rest() {
+        Some(text) => Ok(Keys::from_text(alloc, text)?.map(|keys| Request::Get(keys, unique))),
         None => Ok(None),
     }
 }
 
 /// What the fields behind `incr` or `decr` say, if they fit.
-pub fn counter_line(alloc: Global, mut fields: Fields<'_>) -> Result<Option<CounterLine>, AllocError>
+pub fn counter_line(
+    alloc: Global,
+    mut fields: Fields<'_>,
+) -> Result<Option<CounterLine>, AllocError>
     ensures { IfOk result (λ line. line ≡ counter_line fields.entry) }
 {
     let (Some(key), Some(amount)) = (fields.next(), fields.next()) else {

@@ -21,7 +21,7 @@ pub use laws::{found_is_spelled, one_request_at_a_front, spelled_is_found, whole
 pub use requests::{Fault, Keys, Request};
 pub use sessions::{Session, Step};
 pub use streams::{any_cutting, faults_take_bytes, next_gives_first};
-pub use texts::{Form, Look};
+use texts::{Form, Look};
 
 #[cfg(test)]
 mod tests;

@@ -6,7 +6,7 @@ ghost use Rattle.proto.specs.Keys.{keys_of, keys_in};
 ghost use Rattle.proto.specs.Words.{fields_of};
 
 use crate::fields::{Fields, first_end};
-use bytes::{Buf, Bytes};
+use bytes::Bytes;
 use std::alloc::{AllocError, Global};
 use std::marker::Model;
 use table::{Key, Op};

@@ -106,7 +106,7 @@ impl Session {
     {
         let mut keys = keys;
         let Some((key, shown)) = keys.pop()? else {
-            return Ok(Step::Wait);
+            unreachable!();
         };
         self.consume(n);
         self.later = keys;
