@@ -160,8 +160,8 @@ spelled_is_found (requests.Bad Command) spelling more s = elim s [
 ]
 spelled_is_found (requests.Bad Format) spelling more s = ap (by_asked (spelling ++ more)) (command_asked s.0 s.1 spelling more None s.2 (misfit_asked s.0 s.1 s.3))
 spelled_is_found (requests.Bad TooLarge) spelling more s = block_as s.0 s.1 s.2 s.3 spelling more _ s.4 (made_large s.0 s.1 s.2 s.3 s.4.size_is s.5)
-spelled_is_found (requests.Bad Expiry) spelling more s = block_as s.0 s.1 s.2 s.3 spelling more _ s.4 (made_expiry s.0 s.1 s.2 s.3 s.4.size_is s.5 s.6)
-spelled_is_found (requests.Bad DataChunk) spelling more s = block_as s.0 s.1 s.2 s.3 spelling more _ s.4 (made_chunk s.0 s.1 s.2 s.3 s.4.size_is s.5 s.6 s.7)
+spelled_is_found (requests.Bad Expiry) spelling more s = block_as s.0 s.1 s.2 s.3 spelling more _ s.4 (made_expiry s.0 s.1 s.2 s.3 s.4.size_is s.5.0 s.5.1)
+spelled_is_found (requests.Bad DataChunk) spelling more s = block_as s.0 s.1 s.2 s.3 spelling more _ s.4 (made_chunk s.0 s.1 s.2 s.3 s.4.size_is s.5.0 s.5.1 s.5.2)
 spelled_is_found (requests.Bad LineTooLong) spelling more s =
     ap (by_asked (spelling ++ more)) (asked_of_long line_limit spelling more s.1 s.0) ∙ ap (λ k. Some (requests.Bad LineTooLong, k)) (sym s.0)
 

@@ -81,10 +81,11 @@ fate_of key line =
     else if line.expires then Refuse Expiry
     else Put key line.verb line.silent
 
+-- the block behind such a line: its size, and what becomes of it
 abbrev pub block_of : List ℕ → StorageLine → Block
 block_of key line = record { size = line.size; fate = fate_of key line }
 
--- key, then that
+-- the fields of a storage line: a key, then what stands behind it
 abbrev pub store_line : Storing → List (List ℕ) → Option Block
 store_line storing [] = None
 store_line storing (key ∷ fields) = do

@@ -8,8 +8,10 @@ use thiserror::Error;
 /// Why a session refuses.
 #[derive(Clone, Copy, Debug, PartialEq, Eq, Error)]
 pub enum ProtoFault {
+    /// No room for a piece, a key, data or the output; nothing has changed.
     #[error("out of memory")]
     Memory,
+    /// No more bytes are taken.
     #[error("the session is closed")]
     Closed,
 }

@@ -70,7 +70,9 @@ impl Session {
         }
     }
 
-    /// Adds a piece at the end of the unread bytes. They are copied once, save those of a refused block, which are counted.
+    /// Adds a piece at the end of the unread bytes, copied once; what lies inside a refused block is only counted.
+    /// `Closed` exactly once `next` has met `quit` or a line that is too long; `Memory` where the piece finds no room,
+    /// never where it lies wholly inside a refused block. A refusal changes nothing.
     pub fn feed(&mut self, piece: &[u8]) -> Result<(), ProtoFault>
         ensures ok { OnOk result (self.new ≡ fed self.old piece.now) }
         ensures closed { IsErrOf result ProtoFault.Closed ↔ (self.old.closed ≡ true) }
@@ -86,7 +88,9 @@ impl Session {
         Ok(())
     }
 
-    /// The next turn: a call, which is open from now on, or a fault, whose line is written at once.
+    /// The next turn, where no call is open: a call, which is open from now on, or a fault, whose line is written at once.
+    /// `Memory` is its only refusal, and changes nothing. A line that isn't whole is searched again at each call, at most
+    /// 2,048 bytes; a block that hasn't all come costs a comparison.
     pub fn next(&mut self) -> Result<Step, ProtoFault>
         requires idle { self.old.asked ≡ None }
         ensures step { IfOk result (λ step. step ≡ step_of (next_of self.old)) }
@@ -110,7 +114,8 @@ impl Session {
         }
     }
 
-    /// Answers the open call: its text is written straight to the output.
+    /// Answers the open call, by a value exactly where it is a read: its text is written straight to the output.
+    /// `Memory` is its only refusal; the call then stays open.
     pub fn answer(&mut self, reply: &Reply) -> Result<(), ProtoFault>
         requires { CanAnswer self.old.asked reply.now }
         ensures ok { OnOk result (self.new ≡ answered_by self.old.asked self.old reply.now) }
@@ -131,7 +136,7 @@ impl Session {
         self.out.as_slice()
     }
 
-    /// Takes the first n bytes of the output away, in constant time.
+    /// Takes the first n bytes of the output away, n at most the output's length, in constant time.
     pub fn taken(&mut self, n: usize)
         requires { n ≤ length self.old.out }
         ensures { self.new ≡ record self.old { out = drop n self.old.out } }

@@ -21,9 +21,10 @@ const VALUE_LINE: usize = 6 + 3 * NUMBER + 2;
 // CR LF behind the data, and `END` CR LF.
 const VALUE_END: usize = 2 + 5;
 
-/// How a read of one key is shown.
+/// How a read of one key is shown (protocol.txt, "Retrieval command").
 #[derive(Debug, Drop)]
 pub struct Look {
+    /// The key that is shown.
     pub key: Key,
     /// Whether the item's unique is shown, as for `gets`.
     pub unique: bool,
@@ -38,7 +39,7 @@ pub enum Form {
     Status,
     /// Nothing is written.
     Silent,
-    /// The block of a key's item, if it has one.
+    /// The block of a key's item, if it has one (protocol.txt, "Retrieval command").
     Show(Look),
 }
 
