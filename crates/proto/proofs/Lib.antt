@@ -7,4 +7,5 @@ pub mod GrammarLines
 pub mod GrammarWords
 pub mod KnownLaws
 pub mod LineLaws
+pub mod RequestLaws
 pub mod StreamLaws
