@@ -20,7 +20,7 @@ pub use faults::ProtoFault;
 pub use laws::{found_is_spelled, one_request_at_a_front, spelled_is_found, whole_stays_whole};
 pub use requests::{Fault, Keys, Request};
 pub use sessions::{Session, Step};
-pub use streams::{any_cutting, faults_take_bytes, next_gives_first};
+pub use streams::{any_cutting, closes_at_last, faults_take_bytes, next_gives_first};
 use texts::{Form, Look};
 
 #[cfg(test)]
