@@ -6,11 +6,21 @@ use std::alloc::{AllocError, Global};
 /// How many requests a round has.
 pub const ROUND: u8 = 64;
 
-/// So many rounds of sets, or of gets of what was set, with values of so many bytes.
+/// Which requests a round has.
+#[derive(Clone, Copy, Debug)]
+pub enum Kind {
+    Sets,
+    /// Gets of what was set before the first round.
+    Gets,
+}
+
+/// Rounds of requests of one kind.
 #[derive(Clone, Copy, Debug)]
 pub struct Load {
-    pub gets: bool,
+    pub kind: Kind,
+    /// How many bytes of data a value has.
     pub size: u32,
+    /// How many rounds follow the first one, which sets all keys.
     pub rounds: u32,
 }
 

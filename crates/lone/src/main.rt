@@ -4,7 +4,7 @@
 mod loads;
 mod rounds;
 
-use loads::Load;
+use loads::{Kind, Load};
 use rounds::serve;
 use std::env;
 use std::process::ExitCode;
@@ -33,12 +33,12 @@ fn main(rt: HostRuntime) -> ExitCode {
 fn asked<R: Env + AllocGlobal>(rt: &R) -> Option<Load> {
     let mut words = env::args(rt).ok()?;
     words.next()?;
-    let gets = match words.next()?.as_str() {
-        "gets" => true,
-        "sets" => false,
+    let kind = match words.next()?.as_str() {
+        "gets" => Kind::Gets,
+        "sets" => Kind::Sets,
         _ => return None,
     };
     let size = words.next()?.as_str().parse::<u32>().ok()?;
     let rounds = words.next()?.as_str().parse::<u32>().ok()?;
-    Some(Load { gets, size, rounds })
+    Some(Load { kind, size, rounds })
 }

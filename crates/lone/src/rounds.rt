@@ -1,7 +1,7 @@
 //! Rounds: requests that are fed at once, and answered one after another.
 ghost use Rattle.std.specs.Prelude.{◌≡◌, OnOk, None};
 
-use crate::loads::{Load, ROUND, gets, sets};
+use crate::loads::{Kind, Load, ROUND, gets, sets};
 use proto::{ProtoFault, Session, Step};
 use std::alloc::{AllocError, Global};
 use table::{Table, TableFault};
@@ -10,23 +10,29 @@ use thiserror::Error;
 /// Why a load isn't served to its end.
 #[derive(Debug, Error, Drop)]
 pub enum LoadFault {
+    /// No memory for the requests.
     #[error("out of memory")]
     Memory(#[from] AllocError),
+    /// The session refused a piece, or a turn.
     #[error("session: {0}")]
     Session(#[from] ProtoFault),
+    /// The table refused a call.
     #[error("table: {0}")]
     Table(#[from] TableFault),
+    /// A fault stood in a request's place, or a request wasn't whole.
+    #[error("a request was not read as a call")]
+    Unread,
 }
 
 /// Serves all rounds, and gives the number of bytes that were written.
 pub fn serve(alloc: Global, load: &Load) -> Result<u64, LoadFault> {
     let mut session = Session::new(alloc);
     let mut table = Table::new(alloc);
-    let mut written = round(&mut session, &mut table, sets(alloc, load.size)?.as_slice())?;
-    let bytes = if load.gets {
-        gets(alloc)?
-    } else {
-        sets(alloc, load.size)?
+    let first = sets(alloc, load.size)?;
+    let mut written = round(&mut session, &mut table, first.as_slice())?;
+    let bytes = match load.kind {
+        Kind::Sets => first,
+        Kind::Gets => gets(alloc)?,
     };
     for _ in 0..load.rounds {
         written = written.wrapping_add(round(&mut session, &mut table, bytes.as_slice())?);
@@ -53,9 +59,10 @@ fn answer(session: &mut Session, table: &mut Table) -> Result<(), LoadFault>
     requires { session.old.asked ≡ None }
     ensures { OnOk result (session.new.asked ≡ None) }
 {
-    if let Step::Call(target, op) = session.next()? {
-        let reply = table.call(&target, &op)?;
-        session.answer(&reply)?;
-    }
+    let Step::Call(target, op) = session.next()? else {
+        return Err(LoadFault::Unread);
+    };
+    let reply = table.call(&target, &op)?;
+    session.answer(&reply)?;
     Ok(())
 }

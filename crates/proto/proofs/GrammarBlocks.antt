@@ -10,11 +10,11 @@ use Rattle.proto.specs.Verbs.{op_of}
 use Rattle.proto.specs.declared.requests.Fault.TheVariants.{DataChunk, TooLarge, Expiry}
 use Rattle.proto.specs.declared.requests.Request.{Request}
 use Rattle.proto.specs.declared.requests.Request.TheVariants.{Store, Bad}
-use Rattle.proto.specs.declared.lines.StorageLine.{StorageLine}
+use Rattle.proto.specs.declared.storage.StorageLine.{StorageLine}
 use Rattle.proto.specs.declared.lines.Asked.TheVariants.{Behind}
-use Rattle.proto.specs.declared.lines.Block.{Block}
-use Rattle.proto.specs.declared.lines.Fate.{Fate}
-use Rattle.proto.specs.declared.lines.Fate.TheVariants.{Put, Refuse}
+use Rattle.proto.specs.declared.storage.Block.{Block}
+use Rattle.proto.specs.declared.storage.Fate.{Fate}
+use Rattle.proto.specs.declared.storage.Fate.TheVariants.{Put, Refuse}
 use Rattle.proto.specs.Requests.{fate_of}
 use Rattle.proto.specs.Fronts.{finished, completed}
 use Rattle.proto.specs.Grammar.{IsBlock, Spells}
@@ -54,7 +54,7 @@ made_spelled key line block ends bytes h = by_tests (nat_lt limit (length block)
         subst (λ r. Spells r bytes) (sym (made_large key line block ends h.size_is over)) (key, line, block, ends, h, over)
     by_tests false true same l x s =
         let small = ltb-false limit (length block) l in
-        subst (λ r. Spells r bytes) (sym (made_expiry key line block ends h.size_is small x)) (key, line, block, ends, h, small, x)
+        subst (λ r. Spells r bytes) (sym (made_expiry key line block ends h.size_is small x)) (key, line, block, ends, h, (small, x))
     by_tests false false true l x s =
         let small = ltb-false limit (length block) l in
         let is : ends ≡ crlf = (bytes_eq-Decides ends crlf).0 s in
@@ -62,7 +62,7 @@ made_spelled key line block ends bytes h = by_tests (nat_lt limit (length block)
     by_tests false false false l x s =
         let small = ltb-false limit (length block) l in
         let other : ends ≢ crlf = λ is. let same : bytes_eq ends crlf ≡ true = (bytes_eq-Decides ends crlf).1 is in cc in
-        subst (λ r. Spells r bytes) (sym (made_put key line block ends h.size_is small x ∙ cond-false _ _ _ s)) (key, line, block, ends, h, small, x, other)
+        subst (λ r. Spells r bytes) (sym (made_put key line block ends h.size_is small x ∙ cond-false _ _ _ s)) (key, line, block, ends, h, (small, x, other))
 
 -- bytes n to n + size
 range_is : (bytes : List ℕ) (n size : ℕ) → slice_range bytes n (n + size) ≡ take size (drop n bytes)

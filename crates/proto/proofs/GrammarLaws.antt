@@ -10,9 +10,9 @@ use Rattle.proto.specs.Verbs.{op_of}
 use Rattle.proto.specs.declared.requests.Fault.TheVariants.{Command, Format, DataChunk, TooLarge, LineTooLong, Expiry}
 use Rattle.proto.specs.declared.requests.Request.{Request}
 use Rattle.proto.specs.declared.requests.Request.TheVariants as requests
-use Rattle.proto.specs.declared.lines.Word.{Word}
-use Rattle.proto.specs.declared.lines.Word.TheVariants as words
-use Rattle.proto.specs.declared.lines.StorageLine.{StorageLine}
+use Rattle.proto.specs.declared.words.Word.{Word}
+use Rattle.proto.specs.declared.words.Word.TheVariants as words
+use Rattle.proto.specs.declared.storage.StorageLine.{StorageLine}
 use Rattle.proto.specs.declared.lines.Asked.{Asked}
 use Rattle.proto.specs.declared.lines.Asked.TheVariants.{Whole, Behind}
 use Rattle.proto.specs.Requests.{fate_of, block_of, word_of, asked_of, or_misfit, by_word, by_fields, by_line, by_end, asked_at}
@@ -160,8 +160,8 @@ spelled_is_found (requests.Bad Command) spelling more s = elim s [
 ]
 spelled_is_found (requests.Bad Format) spelling more s = ap (by_asked (spelling ++ more)) (command_asked s.0 s.1 spelling more None s.2 (misfit_asked s.0 s.1 s.3))
 spelled_is_found (requests.Bad TooLarge) spelling more s = block_as s.0 s.1 s.2 s.3 spelling more _ s.4 (made_large s.0 s.1 s.2 s.3 s.4.size_is s.5)
-spelled_is_found (requests.Bad Expiry) spelling more s = block_as s.0 s.1 s.2 s.3 spelling more _ s.4 (made_expiry s.0 s.1 s.2 s.3 s.4.size_is s.5 s.6)
-spelled_is_found (requests.Bad DataChunk) spelling more s = block_as s.0 s.1 s.2 s.3 spelling more _ s.4 (made_chunk s.0 s.1 s.2 s.3 s.4.size_is s.5 s.6 s.7)
+spelled_is_found (requests.Bad Expiry) spelling more s = block_as s.0 s.1 s.2 s.3 spelling more _ s.4 (made_expiry s.0 s.1 s.2 s.3 s.4.size_is s.5.0 s.5.1)
+spelled_is_found (requests.Bad DataChunk) spelling more s = block_as s.0 s.1 s.2 s.3 spelling more _ s.4 (made_chunk s.0 s.1 s.2 s.3 s.4.size_is s.5.0 s.5.1 s.5.2)
 spelled_is_found (requests.Bad LineTooLong) spelling more s =
     ap (by_asked (spelling ++ more)) (asked_of_long line_limit spelling more s.1 s.0) ∙ ap (λ k. Some (requests.Bad LineTooLong, k)) (sym s.0)
 

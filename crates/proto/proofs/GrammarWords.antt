@@ -13,16 +13,16 @@ use Rattle.proto.specs.Words.{noreply_word, is_exptime, is_zero, expiry_of}
 use Rattle.proto.specs.Keys.{key_of, keys_of}
 use Rattle.proto.specs.declared.requests.Request.{Request}
 use Rattle.proto.specs.declared.requests.Request.TheVariants as requests
-use Rattle.proto.specs.declared.lines.Word.{Word}
-use Rattle.proto.specs.declared.lines.Word.TheVariants.{Get, Gets, Store, Incr, Decr, Delete, FlushAll, Quit}
-use Rattle.proto.specs.declared.lines.Storing.{Storing}
-use Rattle.proto.specs.declared.lines.Storing.TheVariants.{Set, Add, Replace, Append, Prepend, Cas}
-use Rattle.proto.specs.declared.lines.Verb.{Verb}
-use Rattle.proto.specs.declared.lines.StorageLine.{StorageLine}
-use Rattle.proto.specs.declared.lines.CounterLine.{CounterLine}
+use Rattle.proto.specs.declared.words.Word.{Word}
+use Rattle.proto.specs.declared.words.Word.TheVariants.{Get, Gets, Store, Incr, Decr, Delete, FlushAll, Quit}
+use Rattle.proto.specs.declared.words.Storing.{Storing}
+use Rattle.proto.specs.declared.words.Storing.TheVariants.{Set, Add, Replace, Append, Prepend, Cas}
+use Rattle.proto.specs.declared.storage.Verb.{Verb}
+use Rattle.proto.specs.declared.storage.StorageLine.{StorageLine}
+use Rattle.proto.specs.declared.commands.CounterLine.{CounterLine}
 use Rattle.proto.specs.declared.lines.Asked.{Asked}
 use Rattle.proto.specs.declared.lines.Asked.TheVariants.{Whole, Behind}
-use Rattle.proto.specs.declared.lines.Block.{Block}
+use Rattle.proto.specs.declared.storage.Block.{Block}
 use Rattle.proto.specs.Requests.{word_of, silence_of, verb_of, storage_line, store_line, block_of, get_line, counter_line, delete_line, flush_line, asked_of, or_misfit, by_word, by_fields}
 use Rattle.proto.specs.Grammar.{IsLine, spelling, get_word, noreply, AreKeys, IsVerb, AreStorage, AreCounter, AreDelete, Fitting, Spells}
 

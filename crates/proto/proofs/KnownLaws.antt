@@ -1,7 +1,7 @@
 -- What a session found out about the front of its bytes stays so when more come.
 use Rattle.std.proofs.Common.{ℕ, List, ◌++◌, Option, None, Some, arith, length-append}
 use Rattle.proto.specs.declared.lines.Asked.TheVariants.{Behind}
-use Rattle.proto.specs.declared.lines.Fate.TheVariants.{Put}
+use Rattle.proto.specs.declared.storage.Fate.TheVariants.{Put}
 use Rattle.proto.specs.declared.front.Pending.{Pending}
 use Rattle.proto.specs.Words.{line_limit}
 use Rattle.proto.specs.Fronts.{IsKnown}

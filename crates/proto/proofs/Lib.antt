@@ -1,3 +1,4 @@
+pub mod EndLaws
 pub mod FieldLaws
 pub mod First
 pub mod GrammarBlocks
@@ -7,4 +8,5 @@ pub mod GrammarLines
 pub mod GrammarWords
 pub mod KnownLaws
 pub mod LineLaws
+pub mod RequestLaws
 pub mod StreamLaws

@@ -12,10 +12,10 @@ use Rattle.proto.specs.declared.requests.Request.{Request}
 use Rattle.proto.specs.declared.requests.Request.TheVariants.{Store, Get, Arith, Delete, Flush, Quit, Bad}
 use Rattle.proto.specs.declared.lines.Asked.{Asked}
 use Rattle.proto.specs.declared.lines.Asked.TheVariants.{Whole, Behind}
-use Rattle.proto.specs.declared.lines.Fate.{Fate}
-use Rattle.proto.specs.declared.lines.Fate.TheVariants.{Put, Refuse}
+use Rattle.proto.specs.declared.storage.Fate.{Fate}
+use Rattle.proto.specs.declared.storage.Fate.TheVariants.{Put, Refuse}
 use Rattle.proto.specs.declared.front.Pending.{Pending}
-use Rattle.proto.specs.declared.front.Passing.{Passing}
+use Rattle.proto.specs.declared.passing.Passing.{Passing}
 use Rattle.proto.specs.declared.front.Found.{Found}
 use Rattle.proto.specs.declared.front.Found.TheVariants.{Request as Requested, Refused, Nothing}
 use Rattle.proto.specs.Requests.{asked_at}
@@ -36,6 +36,7 @@ completed bytes (Behind block) n =
     if nat_lt (length bytes) (n + block.size + 2) then None
     else Some (finished block.fate (slice_range bytes n (n + block.size)) (slice_range bytes (n + block.size) (n + block.size + 2)), n + block.size + 2)
 
+-- the request that the line at the front begins, if both have come
 abbrev pub by_asked : List ℕ → Option (Asked × ℕ) → Front
 by_asked bytes None = None
 by_asked bytes (Some line) = completed bytes line.0 line.1
@@ -54,6 +55,7 @@ abbrev pub refused_behind : List ℕ → Asked → ℕ → Option Passing
 refused_behind bytes (Whole request) n = None
 refused_behind bytes (Behind block) n = refused_by block.fate (n + block.size + 2 - length bytes)
 
+-- the same, if the line has come
 abbrev pub refused_by_asked : List ℕ → Option (Asked × ℕ) → Option Passing
 refused_by_asked bytes None = None
 refused_by_asked bytes (Some line) = refused_behind bytes line.0 line.1
@@ -99,6 +101,7 @@ abbrev pub IsWithin : Fate → ℕ → Type 0
 IsWithin (Put key verb silent) size = size ≤ limit
 IsWithin (Refuse fault) size = size < 2 ^ 32
 
+-- what a line asks for keeps these bounds
 abbrev pub IsSound : Asked → Type 0
 IsSound (Whole request) = IsWhole request
 IsSound (Behind block) = IsWithin block.fate block.size

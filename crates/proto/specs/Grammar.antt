@@ -10,13 +10,13 @@ use Rattle.proto.specs.Verbs.{op_of}
 use Rattle.proto.specs.declared.requests.Fault.TheVariants.{Command, Format, DataChunk, TooLarge, LineTooLong, Expiry}
 use Rattle.proto.specs.declared.requests.Request.{Request}
 use Rattle.proto.specs.declared.requests.Request.TheVariants as requests
-use Rattle.proto.specs.declared.lines.Word.{Word}
-use Rattle.proto.specs.declared.lines.Word.TheVariants.{Get, Gets, Store, Incr, Decr, Delete, FlushAll, Quit}
-use Rattle.proto.specs.declared.lines.Storing.{Storing}
-use Rattle.proto.specs.declared.lines.Storing.TheVariants.{Set, Add, Replace, Append, Prepend, Cas}
-use Rattle.proto.specs.declared.lines.Verb.{Verb}
-use Rattle.proto.specs.declared.lines.Verb.TheVariants as verbs
-use Rattle.proto.specs.declared.lines.StorageLine.{StorageLine}
+use Rattle.proto.specs.declared.words.Word.{Word}
+use Rattle.proto.specs.declared.words.Word.TheVariants.{Get, Gets, Store, Incr, Decr, Delete, FlushAll, Quit}
+use Rattle.proto.specs.declared.words.Storing.{Storing}
+use Rattle.proto.specs.declared.words.Storing.TheVariants.{Set, Add, Replace, Append, Prepend, Cas}
+use Rattle.proto.specs.declared.storage.Verb.{Verb}
+use Rattle.proto.specs.declared.storage.Verb.TheVariants as verbs
+use Rattle.proto.specs.declared.storage.StorageLine.{StorageLine}
 
 -- no LF among the bytes
 abbrev pub has_no_lf : List ℕ → Bool
@@ -120,6 +120,10 @@ pub record IsBlock (key : List ℕ) (line : StorageLine) (block ends bytes : Lis
   pub two : length ends ≡ 2
   pub spelled : bytes ≡ text ++ block ++ ends
 
+-- a storage line, its block and two bytes more, of which this is so
+abbrev pub HasBlock : (StorageLine → List ℕ → List ℕ → Type 0) → List ℕ → Type 0
+HasBlock IsSo bytes = (key : List ℕ) × (line : StorageLine) × (block : List ℕ) × (ends : List ℕ) × IsBlock key line block ends bytes × IsSo line block ends
+
 -- a line feed with no CR before it, within the bytes that a line may have
 pub record IsBareLine (bytes : List ℕ) : Type 0 where
   pub text : List ℕ
@@ -157,10 +161,9 @@ Spells requests.Quit bytes = IsLine (spelling Quit ∷ []) bytes
 Spells (requests.Bad Command) bytes = IsBareLine bytes ⊎ IsUnknown bytes
 Spells (requests.Bad Format) bytes = IsMisfit bytes
 -- a block that is too large is passed over, whatever its expiry time and its last two bytes
-Spells (requests.Bad TooLarge) bytes = (key : List ℕ) × (line : StorageLine) × (block : List ℕ) × (ends : List ℕ) × IsBlock key line block ends bytes × (limit < length block)
+Spells (requests.Bad TooLarge) bytes = HasBlock (λ line block ends. limit < length block) bytes
 -- and so is one with an expiry time, whatever its last two bytes
-Spells (requests.Bad Expiry) bytes =
-    (key : List ℕ) × (line : StorageLine) × (block : List ℕ) × (ends : List ℕ) × IsBlock key line block ends bytes × (length block ≤ limit) × (line.expires ≡ true)
-Spells (requests.Bad DataChunk) bytes =
-    (key : List ℕ) × (line : StorageLine) × (block : List ℕ) × (ends : List ℕ) × IsBlock key line block ends bytes × (length block ≤ limit) × (line.expires ≡ false) × (ends ≢ crlf)
+Spells (requests.Bad Expiry) bytes = HasBlock (λ line block ends. (length block ≤ limit) × (line.expires ≡ true)) bytes
+-- data that CR LF doesn't follow
+Spells (requests.Bad DataChunk) bytes = HasBlock (λ line block ends. (length block ≤ limit) × (line.expires ≡ false) × (ends ≢ crlf)) bytes
 Spells (requests.Bad LineTooLong) bytes = (length bytes ≡ line_limit) × IsTrue (has_no_lf bytes)

@@ -12,7 +12,7 @@ key_of field = if is_key field then Some field else None
 abbrev pub keys_of : List (List ℕ) → Option (List (List ℕ))
 keys_of fields = if nat_le 1 (length fields) && list_all is_key fields then Some fields else None
 
--- the keys in a text, with a space between each two; no text has none
+-- the keys in a text, with a space between each two; an empty text has none
 abbrev pub keys_in : List ℕ → List (List ℕ)
 keys_in [] = []
 keys_in (b ∷ bs) = fields_of (b ∷ bs)

@@ -10,19 +10,19 @@ use Rattle.proto.specs.Keys.{key_of, keys_of}
 use Rattle.proto.specs.declared.requests.Fault.TheVariants.{Command, Format, TooLarge, LineTooLong, Expiry}
 use Rattle.proto.specs.declared.requests.Request.{Request}
 use Rattle.proto.specs.declared.requests.Request.TheVariants as requests
-use Rattle.proto.specs.declared.lines.Word.{Word}
-use Rattle.proto.specs.declared.lines.Word.TheVariants.{Get, Gets, Store, Incr, Decr, Delete, FlushAll, Quit}
-use Rattle.proto.specs.declared.lines.Storing.{Storing}
-use Rattle.proto.specs.declared.lines.Storing.TheVariants.{Set, Add, Replace, Append, Prepend, Cas}
-use Rattle.proto.specs.declared.lines.Verb.{Verb}
-use Rattle.proto.specs.declared.lines.Verb.TheVariants as verbs
-use Rattle.proto.specs.declared.lines.StorageLine.{StorageLine}
-use Rattle.proto.specs.declared.lines.CounterLine.{CounterLine}
+use Rattle.proto.specs.declared.words.Word.{Word}
+use Rattle.proto.specs.declared.words.Word.TheVariants.{Get, Gets, Store, Incr, Decr, Delete, FlushAll, Quit}
+use Rattle.proto.specs.declared.words.Storing.{Storing}
+use Rattle.proto.specs.declared.words.Storing.TheVariants.{Set, Add, Replace, Append, Prepend, Cas}
+use Rattle.proto.specs.declared.storage.Verb.{Verb}
+use Rattle.proto.specs.declared.storage.Verb.TheVariants as verbs
+use Rattle.proto.specs.declared.storage.StorageLine.{StorageLine}
+use Rattle.proto.specs.declared.commands.CounterLine.{CounterLine}
 use Rattle.proto.specs.declared.lines.Asked.{Asked}
 use Rattle.proto.specs.declared.lines.Asked.TheVariants.{Whole, Behind}
-use Rattle.proto.specs.declared.lines.Block.{Block}
-use Rattle.proto.specs.declared.lines.Fate.{Fate}
-use Rattle.proto.specs.declared.lines.Fate.TheVariants.{Put, Refuse}
+use Rattle.proto.specs.declared.storage.Block.{Block}
+use Rattle.proto.specs.declared.storage.Fate.{Fate}
+use Rattle.proto.specs.declared.storage.Fate.TheVariants.{Put, Refuse}
 
 -- what is found is handed to what follows
 abbrev pub ◌>>=◌ : {A B : Type 0} → Option A → (A → Option B) → Option B
@@ -81,10 +81,11 @@ fate_of key line =
     else if line.expires then Refuse Expiry
     else Put key line.verb line.silent
 
+-- the block behind such a line: its size, and what becomes of it
 abbrev pub block_of : List ℕ → StorageLine → Block
 block_of key line = record { size = line.size; fate = fate_of key line }
 
--- key, then that
+-- the fields of a storage line: a key, then what stands behind it
 abbrev pub store_line : Storing → List (List ℕ) → Option Block
 store_line storing [] = None
 store_line storing (key ∷ fields) = do

@@ -6,7 +6,7 @@ use Rattle.table.specs.declared.operations.Target.TheVariants.{One, All}
 use Rattle.table.specs.declared.operations.Op.{Op}
 use Rattle.table.specs.declared.operations.Op.TheVariants.{Delete as DeleteOp, Flush as FlushOp}
 use Rattle.table.specs.declared.operations.Reply.{Reply}
-use Rattle.proto.specs.declared.front.Passing.{Passing}
+use Rattle.proto.specs.declared.passing.Passing.{Passing}
 use Rattle.proto.specs.declared.front.Found.{Found}
 use Rattle.proto.specs.declared.front.Found.TheVariants.{Request as Requested, Refused, Nothing}
 use Rattle.proto.specs.declared.requests.Request.{Request}
@@ -16,7 +16,7 @@ use Rattle.proto.specs.declared.texts.Form.TheVariants.{Status, Silent, Show}
 use Rattle.proto.specs.declared.sessions.Step.{Step}
 use Rattle.proto.specs.declared.sessions.Step.TheVariants.{Call, Emit, Wait, Close}
 use Rattle.proto.specs.Fronts.{found_at, is_last}
-use Rattle.proto.specs.Turns.{Turn, Faulty, Calls, look, is_last_of, form_of, fault_text, text}
+use Rattle.proto.specs.Turns.{Turn, Faulty, Calls, look, none_left, form_of, fault_text, text}
 
 -- What a session holds: the bytes that no request has taken yet, the refused block that it passes over, the keys that the get
 -- at hand has still to read and whether it shows uniques, the form of the open call's answer, the output that was not yet taken,
@@ -39,7 +39,7 @@ abbrev pub kept : Option Passing → List ℕ → List ℕ
 kept None piece = piece
 kept (Some p) piece = drop p.left piece
 
--- they are counted
+-- the refused block, of which this piece has come
 abbrev pub passed : Option Passing → List ℕ → Option Passing
 passed None piece = None
 passed (Some p) piece = Some (record p { left = p.left - length piece })
@@ -67,7 +67,7 @@ opened target op form h = (Some (Calls (record { target = target; op = op }) for
 
 -- the read of this key is open, before the keys that are left
 abbrev pub looking : List ℕ → Held → Held
-looking key h = record h { asked = Some (Show (record { key = key; unique = h.unique; last = is_last_of h.later })) }
+looking key h = record h { asked = Some (Show (record { key = key; unique = h.unique; last = none_left h.later })) }
 
 -- a read of the first of these keys
 abbrev pub by_keys : List (List ℕ) → Bool → Held → Given

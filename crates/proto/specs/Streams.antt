@@ -1,8 +1,8 @@
 -- Whole streams: their requests, their turns and the texts of these; and the turns that a session has still to give.
-use Rattle.std.specs.Prelude.{◌≡◌, ℕ, zero, suc, ◌+◌, ◌==◌, List, [], ◌∷◌, ◌++◌, length, drop, Option, None, Some, is_some, if◌then◌else◌}
-use Rattle.std.specs.List.{flat_map}
+use Rattle.std.specs.Prelude.{◌≡◌, ℕ, zero, suc, ◌+◌, ◌==◌, Bool, List, [], ◌∷◌, ◌++◌, length, drop, Option, None, Some, is_some, if◌then◌else◌}
+use Rattle.std.specs.List.{flat_map, list_any}
 use Rattle.table.specs.declared.operations.Reply.{Reply}
-use Rattle.proto.specs.declared.front.Passing.{Passing}
+use Rattle.proto.specs.declared.passing.Passing.{Passing}
 use Rattle.proto.specs.declared.requests.Request.{Request}
 use Rattle.proto.specs.declared.requests.Request.TheVariants.{Bad}
 use Rattle.proto.specs.Fronts.{Front, front, is_last}
@@ -22,6 +22,10 @@ requests_upto (suc k) bytes = and_later (front bytes) (λ n. requests_upto k (dr
 -- the requests of a stream: each takes a byte at least
 abbrev pub requests : List ℕ → List Request
 requests bytes = requests_upto (length bytes) bytes
+
+-- whether the stream ends in a request after which there is none
+abbrev pub ends : List ℕ → Bool
+ends bytes = list_any is_last (requests bytes)
 
 -- the turns of a stream
 abbrev pub turns : List ℕ → List Turn

@@ -28,13 +28,13 @@ call_of (Some (Faulty fault)) = None
 call_of (Some (Calls call form)) = Some call
 
 -- whether no key is left
-abbrev pub is_last_of : List (List ℕ) → Bool
-is_last_of [] = true
-is_last_of (key ∷ keys) = false
+abbrev pub none_left : List (List ℕ) → Bool
+none_left [] = true
+none_left (key ∷ keys) = false
 
 -- a read of one key of a get, before these keys
 abbrev pub look : List ℕ → Bool → List (List ℕ) → Turn
-look key unique later = Calls (record { target = One key; op = Read }) (Show (record { key = key; unique = unique; last = is_last_of later }))
+look key unique later = Calls (record { target = One key; op = Read }) (Show (record { key = key; unique = unique; last = none_left later }))
 
 -- one read for each key, in order
 abbrev pub looks : List (List ℕ) → Bool → List Turn

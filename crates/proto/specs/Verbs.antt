@@ -2,8 +2,8 @@
 use Rattle.std.specs.Prelude.{ℕ, List}
 use Rattle.table.specs.declared.operations.Op.{Op}
 use Rattle.table.specs.declared.operations.Op.TheVariants as ops
-use Rattle.proto.specs.declared.lines.Verb.{Verb}
-use Rattle.proto.specs.declared.lines.Verb.TheVariants.{Set, Add, Replace, Append, Prepend, Cas}
+use Rattle.proto.specs.declared.storage.Verb.{Verb}
+use Rattle.proto.specs.declared.storage.Verb.TheVariants.{Set, Add, Replace, Append, Prepend, Cas}
 
 -- the operation of a verb and its data
 abbrev pub op_of : Verb → List ℕ → Op

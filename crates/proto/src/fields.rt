@@ -1,14 +1,17 @@
 //! Fields of a line, and what they spell.
-ghost use Rattle.std.specs.Prelude.{◌≡◌, ◌^◌, IfSome, ◌∷◌, ◌<◌, length};
+ghost use Rattle.std.specs.Prelude.{◌≡◌, ◌^◌, IfOk, IfSome, ◌∷◌, ◌<◌, length};
 ghost use Rattle.std.specs.Char.{is_ascii_digit};
 ghost use Rattle.std.specs.List.{list_all};
 ghost use Rattle.std.specs.Option.{option_copied};
 ghost use Rattle.table.specs.Numbers.{number_of};
+ghost use Rattle.proto.specs.Keys.{key_of};
+ghost use Rattle.proto.specs.Requests.{silence_of};
 ghost use Rattle.proto.specs.Words.{first_lf, first_space, first_end, fields_of, fields_left, is_exptime, is_zero, expiry_of};
 
 use memchr::memchr;
+use std::alloc::{AllocError, Global};
 use std::marker::Model;
-use table::number;
+use table::{Key, number};
 
 /// The place of the first line feed, by a vector search.
 pub fn first_line_end(bytes: &[u8]) -> Option<usize>
@@ -126,4 +129,22 @@ fn is_zero(field: &[u8]) -> bool
     ensures { result ≡ is_zero field.now }
 {
     field.iter().all(|b| *b == b'0')
+}
+
+/// Whether the reply is silent, by the fields at the end of a line.
+pub fn silence_of(mut fields: Fields<'_>) -> Option<bool>
+    ensures { result ≡ silence_of fields.entry }
+{
+    match (fields.next(), fields.next()) {
+        (None, _) => Some(false),
+        (Some(word), None) if word == b"noreply".as_slice() => Some(true),
+        _ => None,
+    }
+}
+
+/// The key that a field is, if it is one.
+pub fn key_of(alloc: Global, field: &[u8]) -> Result<Option<Key>, AllocError>
+    ensures { IfOk result (λ key. key ≡ key_of field.now) }
+{
+    Key::new(alloc, field)
 }

@@ -5,10 +5,12 @@ ghost use Rattle.proto.specs.Fronts.{IsFront, IsKeyUpdate, IsKnown, IsWhole, IsW
 ghost use Rattle.proto.specs.Requests.{asked_at};
 ghost use Rattle.proto.specs.Verbs.{op_of};
 ghost use Rattle.proto.specs.declared.lines.Asked.TheVariants.{Behind};
-ghost use Rattle.proto.specs.declared.lines.Fate.TheVariants.{Put};
+ghost use Rattle.proto.specs.declared.storage.Fate.TheVariants.{Put};
 ghost use Rattle.proto.specs.declared.requests.Request.TheVariants.{Bad};
 
-use crate::lines::{Asked, Block, Fate, Verb, asked_at};
+use crate::lines::{Asked, asked_at};
+use crate::passing::Passing;
+use crate::storage::{Block, Fate, Verb};
 use crate::{Fault, Request};
 use bytes::Bytes;
 use std::alloc::{AllocError, Global};
@@ -23,15 +25,6 @@ pub enum Found {
     Refused(Passing),
     /// Neither.
     Nothing,
-}
-
-/// A refused block, of which no byte is kept.
-#[derive(Clone, Copy, Debug)]
-pub struct Passing {
-    /// The fault that stands in its request's place.
-    pub fault: Fault,
-    /// How many bytes of it have still to come, the two behind its data among them.
-    pub left: usize,
 }
 
 /// A block that is to be put, and how many bytes the line before it has:

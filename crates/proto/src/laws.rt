@@ -1,5 +1,5 @@
 //! Laws of the request grammar: what the session finds at the front of a stream is what the grammar says, and nothing else.
-ghost use Rattle.std.specs.Prelude.{◌≡◌, ℕ, ◌≤◌, List, ◌++◌, length, take, Option, Some};
+ghost use Rattle.std.specs.Prelude.{◌≡◌, ℕ, ◌≤◌, List, ◌++◌, length, take, Some};
 ghost use Rattle.proto.specs.declared.requests.Request.{Request};
 ghost use Rattle.proto.specs.Grammar.{Spells};
 ghost use Rattle.proto.specs.Fronts.{front};

@@ -6,12 +6,13 @@ ghost use Rattle.proto.specs.Keys.{keys_of, keys_in};
 ghost use Rattle.proto.specs.Words.{fields_of};
 
 use crate::fields::{Fields, first_end};
-use bytes::{Buf, Bytes};
+use bytes::Bytes;
 use std::alloc::{AllocError, Global};
 use std::marker::Model;
 use table::{Key, Op};
 
-/// What stands in a request's place where the bytes spell none (protocol.txt, "Error strings").
+/// What stands in a request's place where the bytes spell none (protocol.txt, "Error strings"). What each consumes and writes:
+/// `docs/PROTOCOL.md`, "Faults".
 #[derive(Clone, Copy, Debug, PartialEq, Eq)]
 pub enum Fault {
     /// An unknown command, or a line feed with no carriage return before it.
@@ -20,9 +21,9 @@ pub enum Fault {
     Format,
     /// A data block that does not end in CR LF where its size says.
     DataChunk,
-    /// A data block that is larger than an item may be.
+    /// A data block of more than 1,048,576 bytes.
     TooLarge,
-    /// No line feed among the most bytes that a line may have. The stream ends here.
+    /// No line feed among the first 2,048 unread bytes. The stream ends here.
     LineTooLong,
     /// An expiry time that is not zero.
     Expiry,

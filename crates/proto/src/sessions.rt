@@ -1,42 +1,13 @@
 //! Sessions: the requests of one connection, from bytes that come in pieces, and the bytes that answer them.
-ghost use Rattle.std.specs.Prelude.{◌≡◌, false};
-ghost use Rattle.proto.specs.Turns.{form_of};
-ghost use Rattle.proto.specs.Sessions.{kept, passed, shows};
-ghost use Rattle.proto.specs.declared.sessions.ProtoFault.TheVariants.{Memory};
 
-use crate::front::{Found, Passing, Pending, front};
-use crate::texts::{write_fault, write_reply};
-use crate::{Fault, Form, Keys, Look, Request};
+use crate::front::Pending;
+use crate::passing::{Passing, kept, passed};
+use crate::texts::write_reply;
+use crate::{Form, Keys, ProtoFault};
 use bytes::BytesMut;
-use std::alloc::{AllocError, AllocFailed, Global};
+use std::alloc::Global;
 use std::marker::Model;
-use table::{Key, Op, Reply, Target};
-use thiserror::Error;
-
-/// Why a session refuses.
-#[derive(Clone, Copy, Debug, PartialEq, Eq, Error)]
-pub enum ProtoFault {
-    #[error("out of memory")]
-    Memory,
-    #[error("the session is closed")]
-    Closed,
-}
-
-impl From<AllocError> for ProtoFault {
-    ghost from_gives = { λ _ e. e ≡ Memory };
-
-    fn from(_e: AllocError) -> ProtoFault {
-        ProtoFault::Memory
-    }
-}
-
-impl<T: Drop> From<AllocFailed<T>> for ProtoFault {
-    ghost from_gives = { λ _ e. e ≡ Memory };
-
-    fn from(_e: AllocFailed<T>) -> ProtoFault {
-        ProtoFault::Memory
-    }
-}
+use table::{Op, Reply, Target};
 
 /// What stands next in a session.
 #[derive(Debug, Drop)]
@@ -56,15 +27,15 @@ pub enum Step {
 /// Of a block that is refused for its size or its expiry time it keeps no byte once `next` has met its line.
 #[derive(Drop)]
 pub struct Session {
-    alloc: Global,
-    unread: BytesMut,
-    pending: Option<Pending>,
-    passing: Option<Passing>,
-    later: Keys,
-    unique: bool,
-    asked: Option<Form>,
-    out: BytesMut,
-    closed: bool,
+    pub(crate) alloc: Global,
+    pub(crate) unread: BytesMut,
+    pub(crate) pending: Option<Pending>,
+    pub(crate) passing: Option<Passing>,
+    pub(crate) later: Keys,
+    pub(crate) unique: bool,
+    pub(crate) asked: Option<Form>,
+    pub(crate) out: BytesMut,
+    pub(crate) closed: bool,
 }
 
 impl Model for Session {
@@ -79,14 +50,8 @@ impl Model for Session {
 }
 
 impl Session {
-    ghost use Rattle.std.specs.Prelude.{◌≡◌, ◌↔◌, ◌≤◌, drop, length, false, true, None, Some, IsOk, OnOk, OnErr, IfOk, IsErrOf};
-    ghost use Rattle.table.specs.Operations.{Fits, Suits, is_update};
-    ghost use Rattle.table.specs.declared.operations.Target.TheVariants.{One};
-    ghost use Rattle.proto.specs.declared.front.Found.TheVariants.{Request as Requested};
-    ghost use Rattle.proto.specs.declared.requests.Request.TheVariants.{Get, Bad};
-    ghost use Rattle.proto.specs.Fronts.{found_at, IsWhole};
-    ghost use Rattle.proto.specs.Turns.{form_of};
-    ghost use Rattle.proto.specs.Sessions.{fresh, fed, next_of, by_found, by_passing, by_request, looking, opened, step_of, answered_by, CanAnswer, IsInside, IsOpen};
+    ghost use Rattle.std.specs.Prelude.{◌≡◌, ◌↔◌, ◌≤◌, drop, length, true, None, IsOk, IfOk, OnOk, OnErr, IsErrOf, IsOkUnless};
+    ghost use Rattle.proto.specs.Sessions.{fresh, fed, next_of, step_of, answered_by, CanAnswer, IsInside, IsOpen};
 
     /// A session that was fed with nothing. It allocates nothing.
     pub fn new(alloc: Global) -> Session
@@ -105,7 +70,9 @@ impl Session {
         }
     }
 
-    /// Adds a piece at the end of the unread bytes. They are copied once, save those of a refused block, which are counted.
+    /// Adds a piece at the end of the unread bytes, copied once; what lies inside a refused block is only counted.
+    /// `Closed` exactly once `next` has met `quit` or a line that is too long; `Memory` where the piece finds no room,
+    /// never where it lies wholly inside a refused block. A refusal changes nothing.
     pub fn feed(&mut self, piece: &[u8]) -> Result<(), ProtoFault>
         ensures ok { OnOk result (self.new ≡ fed self.old piece.now) }
         ensures closed { IsErrOf result ProtoFault.Closed ↔ (self.old.closed ≡ true) }
@@ -121,14 +88,18 @@ impl Session {
         Ok(())
     }
 
-    /// The next turn: a call, which is open from now on, or a fault, whose line is written at once.
+    /// The next turn, where no call is open: a call, which is open from now on, or a fault, whose line is written at once.
+    /// `Memory` is its only refusal, and changes nothing. A line that isn't whole is searched again at each call, at most
+    /// 2,048 bytes; a block that hasn't all come costs a comparison.
     pub fn next(&mut self) -> Result<Step, ProtoFault>
         requires idle { self.old.asked ≡ None }
         ensures step { IfOk result (λ step. step ≡ step_of (next_of self.old)) }
         ensures left { OnOk result (self.new ≡ (next_of self.old).1) }
         // A call that is handed out fits and suits its target, and is answered in its operation's form.
         ensures opens { IfOk result (λ step. IsOpen step self.new.asked) }
-        ensures only_memory { IsErrOf result ProtoFault.Closed → ⊥ }
+        // A closed session says so at once.
+        ensures closed { self.old.closed ≡ true → IsOk result }
+        ensures only_memory { IsOkUnless result ProtoFault.Memory }
         ensures err { OnErr result (self.new ≡ self.old) }
     {
         if self.closed {
@@ -143,158 +114,12 @@ impl Session {
         }
     }
 
-    // Passes over a refused block: its fault stands behind its last byte.
-    fn pass(&mut self, passing: Passing) -> Result<Step, ProtoFault>
-        requires passing { self.old.passing ≡ Some passing }
-        requires idle { self.old.asked ≡ None }
-        requires open { self.old.closed ≡ false }
-        ensures step { IfOk result (λ step. step ≡ step_of (by_passing (Some passing) self.old)) }
-        ensures left { OnOk result (self.new ≡ (by_passing (Some passing) self.old).1) }
-        ensures opens { IfOk result (λ step. IsOpen step self.new.asked) }
-        ensures only_memory { IsErrOf result ProtoFault.Closed → ⊥ }
-        ensures err { OnErr result (self.new ≡ self.old) }
-    {
-        if passing.left > 0 {
-            return Ok(Step::Wait);
-        }
-        let step = self.fail(passing.fault)?;
-        self.passing = None;
-        Ok(step)
-    }
-
-    // Begins what stands at the front.
-    fn begin_front(&mut self) -> Result<Step, ProtoFault>
-        requires idle { self.old.asked ≡ None }
-        requires open { self.old.closed ≡ false }
-        ensures step { IfOk result (λ step. step ≡ step_of (by_found (found_at self.old.unread) self.old)) }
-        ensures left { OnOk result (self.new ≡ (by_found (found_at self.old.unread) self.old).1) }
-        ensures opens { IfOk result (λ step. IsOpen step self.new.asked) }
-        ensures only_memory { IsErrOf result ProtoFault.Closed → ⊥ }
-        ensures err { OnErr result (self.new ≡ self.old) }
-    {
-        match front(self.alloc, &mut self.pending, self.unread.as_slice())? {
-            Found::Request(request, n) => self.begin(request, n),
-            Found::Refused(passing) => {
-                self.pending = None;
-                self.unread.clear();
-                self.passing = Some(passing);
-                Ok(Step::Wait)
-            }
-            Found::Nothing => Ok(Step::Wait),
-        }
-    }
-
-    // Begins the request that the first n unread bytes spell.
-    fn begin(&mut self, request: Request, n: usize) -> Result<Step, ProtoFault>
-        requires within { n ≤ length self.old.unread }
-        requires whole { IsWhole request }
-        requires idle { self.old.asked ≡ None }
-        requires open { self.old.closed ≡ false }
-        ensures step { IfOk result (λ step. step ≡ step_of (by_found (Requested request n) self.old)) }
-        ensures left { OnOk result (self.new ≡ (by_found (Requested request n) self.old).1) }
-        ensures opens { IfOk result (λ step. IsOpen step self.new.asked) }
-        ensures only_memory { IsErrOf result ProtoFault.Closed → ⊥ }
-        ensures err { OnErr result (self.new ≡ self.old) }
-    {
-        match request {
-            Request::Bad(fault) => {
-                let step = self.fail(fault)?;
-                self.consume(n);
-                Ok(step)
-            }
-            Request::Get(keys, unique) => self.begin_get(keys, unique, n),
-            Request::Store(key, op, silent) | Request::Arith(key, op, silent) => {
-                Ok(self.begin_update(Target::One(key), op, silent, n))
-            }
-            Request::Delete(key, silent) => {
-                Ok(self.begin_update(Target::One(key), Op::Delete, silent, n))
-            }
-            Request::Flush(silent) => { Ok(self.begin_update(Target::All, Op::Flush, silent, n)) }
-            Request::Quit => {
-                self.consume(n);
-                self.closed = true;
-                Ok(Step::Close)
-            }
-        }
-    }
-
-    // Begins the get of these keys, which the first n unread bytes spell.
-    fn begin_get(&mut self, keys: Keys, unique: bool, n: usize) -> Result<Step, ProtoFault>
-        requires within { n ≤ length self.old.unread }
-        requires some { 1 ≤ length keys }
-        ensures step { IfOk result (λ step. step ≡ step_of (by_found (Requested (Get keys unique) n) self.old)) }
-        ensures left { OnOk result (self.new ≡ (by_found (Requested (Get keys unique) n) self.old).1) }
-        ensures opens { IfOk result (λ step. IsOpen step self.new.asked) }
-        ensures only_memory { IsErrOf result ProtoFault.Closed → ⊥ }
-        ensures err { OnErr result (self.new ≡ self.old) }
-    {
-        let mut keys = keys;
-        let Some((key, shown)) = keys.pop()? else {
-            return Ok(Step::Wait);
-        };
-        self.consume(n);
-        self.later = keys;
-        self.unique = unique;
-        Ok(self.look(key, shown))
-    }
-
-    // Writes a fault's line. Some faults end the stream.
-    fn fail(&mut self, fault: Fault) -> Result<Step, ProtoFault>
-        requires open { self.old.closed ≡ false }
-        ensures step { IfOk result (λ step. step ≡ Step.Emit) }
-        ensures left { OnOk result (self.new ≡ (by_request (Bad fault) self.old).1) }
-        ensures only_memory { IsErrOf result ProtoFault.Closed → ⊥ }
-        ensures err { OnErr result (self.new ≡ self.old) }
-    {
-        write_fault(&mut self.out, fault)?;
-        self.closed = fault == Fault::LineTooLong;
-        Ok(Step::Emit)
-    }
-
-    // Opens the update that the first n unread bytes spell.
-    fn begin_update(&mut self, target: Target, op: Op, silent: bool, n: usize) -> Step
-        requires within { n ≤ length self.old.unread }
-        requires fits { Fits op }
-        requires aimed { Suits target op }
-        requires update { is_update op ≡ true }
-        ensures step { result ≡ Step.Call target op }
-        ensures left { self.new ≡ (opened target op (form_of silent) (record self.old { unread = drop n self.old.unread })).1 }
-        ensures opens { IsOpen result self.new.asked }
-    {
-        self.consume(n);
-        self.asked = Some(update_form(silent));
-        Step::Call(target, op)
-    }
-
-    // Opens the read of a key that was taken off the get at hand.
-    fn look(&mut self, key: Key, shown: Key) -> Step
-        requires same { shown ≡ key }
-        ensures step { result ≡ Step.Call (One key) Op.Read }
-        ensures left { self.new ≡ looking key self.old }
-        ensures opens { IsOpen result self.new.asked }
-    {
-        self.asked = Some(Form::Show(Look {
-            key: shown,
-            unique: self.unique,
-            last: self.later.is_empty(),
-        }));
-        Step::Call(Target::One(key), Op::Read)
-    }
-
-    // Takes the bytes of a request off the front.
-    fn consume(&mut self, n: usize)
-        requires { n ≤ length self.old.unread }
-        ensures { self.new ≡ record self.old { unread = drop n self.old.unread } }
-    {
-        self.pending = None;
-        self.unread.advance(n);
-    }
-
-    /// Answers the open call: its text is written straight to the output.
+    /// Answers the open call, by a value exactly where it is a read: its text is written straight to the output.
+    /// `Memory` is its only refusal; the call then stays open.
     pub fn answer(&mut self, reply: &Reply) -> Result<(), ProtoFault>
         requires { CanAnswer self.old.asked reply.now }
         ensures ok { OnOk result (self.new ≡ answered_by self.old.asked self.old reply.now) }
-        ensures only_memory { IsErrOf result ProtoFault.Closed → ⊥ }
+        ensures only_memory { IsOkUnless result ProtoFault.Memory }
         ensures err { OnErr result (self.new ≡ self.old) }
     {
         if let Some(form) = &self.asked {
@@ -311,39 +136,11 @@ impl Session {
         self.out.as_slice()
     }
 
-    /// Takes the first n bytes of the output away, in constant time.
+    /// Takes the first n bytes of the output away, n at most the output's length, in constant time.
     pub fn taken(&mut self, n: usize)
         requires { n ≤ length self.old.out }
         ensures { self.new ≡ record self.old { out = drop n self.old.out } }
     {
         self.out.advance(n);
     }
-}
-
-// What of a piece is kept: what lies behind the refused block.
-fn kept(passing: Option<Passing>, piece: &[u8]) -> &[u8]
-    ensures { result.now ≡ kept passing piece.entry.now }
-{
-    match passing {
-        Some(Passing { left, .. }) => piece.get(left..).unwrap_or_default(),
-        None => piece,
-    }
-}
-
-// The refused block, of which this piece has come.
-fn passed(passing: Option<Passing>, piece: &[u8]) -> Option<Passing>
-    ensures { result ≡ passed passing piece.now }
-{
-    let Passing { fault, left } = passing?;
-    Some(Passing {
-        fault,
-        left: left.saturating_sub(piece.len()),
-    })
-}
-
-fn update_form(silent: bool) -> Form
-    ensures form { result ≡ form_of silent }
-    ensures update { shows result ≡ false }
-{
-    if silent { Form::Silent } else { Form::Status }
 }

@@ -1,9 +1,9 @@
 //! Laws of streams: a session gives the turns of its bytes, however they were cut.
-ghost use Rattle.std.specs.Prelude.{◌≡◌, ◌<◌, ◌++◌, List, Some};
+ghost use Rattle.std.specs.Prelude.{◌≡◌, ◌<◌, ◌++◌, List, None, Some};
 ghost use Rattle.proto.specs.declared.requests.Fault.{Fault};
 ghost use Rattle.proto.specs.Turns.{Faulty};
 ghost use Rattle.proto.specs.Sessions.{Held, fresh, next_of};
-ghost use Rattle.proto.specs.Streams.{Action, GivesFirst, driven, most_faults, stream_of, to_come, turns};
+ghost use Rattle.proto.specs.Streams.{Action, GivesFirst, driven, ends, most_faults, stream_of, to_come, turns};
 
 /// Each step of a session gives the first of the turns that are to come, and leaves the others, whatever bytes may follow.
 pub fn next_gives_first()
@@ -19,4 +19,10 @@ pub fn faults_take_bytes()
 /// they do not depend on how the stream was cut, nor on when the session was asked.
 pub fn any_cutting()
     ensures { (actions : List Action) → (driven fresh actions).0 ++ to_come (driven fresh actions).1 ≡ turns (stream_of actions) }
+{}
+
+/// A session that has no turn to give is closed then exactly where its stream has come to a request after which there is none:
+/// `quit`, or a line that is too long.
+pub fn closes_at_last()
+    ensures { (actions : List Action) → (next_of (driven fresh actions).1).0 ≡ None → (next_of (driven fresh actions).1).1.closed ≡ ends (stream_of actions) }
 {}

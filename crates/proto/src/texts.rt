@@ -9,9 +9,22 @@ use itoa::Buffer;
 use std::alloc::AllocError;
 use table::{Item, Key, Reply};
 
-/// How a read of one key is shown.
+// 2^64 - 1 has 20 digits.
+const DIGITS: usize = 20;
+
+// A space and a number.
+const NUMBER: usize = 1 + DIGITS;
+
+// `VALUE `, three numbers, CR LF.
+const VALUE_LINE: usize = 6 + 3 * NUMBER + 2;
+
+// CR LF behind the data, and `END` CR LF.
+const VALUE_END: usize = 2 + 5;
+
+/// How a read of one key is shown (protocol.txt, "Retrieval command").
 #[derive(Debug, Drop)]
 pub struct Look {
+    /// The key that is shown.
     pub key: Key,
     /// Whether the item's unique is shown, as for `gets`.
     pub unique: bool,
@@ -26,7 +39,7 @@ pub enum Form {
     Status,
     /// Nothing is written.
     Silent,
-    /// The block of a key's item, if it has one.
+    /// The block of a key's item, if it has one (protocol.txt, "Retrieval command").
     Show(Look),
 }
 
@@ -88,7 +101,7 @@ fn write_number(out: &mut BytesMut, n: u64) -> Result<(), AllocError>
     ensures ok { OnOk result (out.new.items ≡ out.old.items ++ (decimal n ++ crlf)) }
     ensures err { OnErr result (out.new.items ≡ out.old.items) }
 {
-    out.reserve(42)?;
+    out.reserve(DIGITS + 2)?;
     out.extend_reserved(Buffer::new().format(n).as_bytes());
     out.extend_reserved(b"\r\n");
     Ok(())
@@ -100,7 +113,7 @@ fn write_value(out: &mut BytesMut, look: &Look, item: &Item) -> Result<(), Alloc
 {
     let key = look.key.bytes();
     let data = item.bytes.as_slice();
-    out.reserve(key.len() + data.len() + 160)?;
+    out.reserve(VALUE_LINE + key.len() + data.len() + VALUE_END)?;
     put_value_line(out, key, look.unique, item);
     out.extend_reserved(data);
     out.extend_reserved(b"\r\n");
@@ -110,9 +123,9 @@ fn write_value(out: &mut BytesMut, look: &Look, item: &Item) -> Result<(), Alloc
 
 // The line before an item's data. There is room for it, so that nothing can be refused halfway.
 fn put_value_line(out: &mut BytesMut, key: &[u8], unique: bool, item: &Item)
-    requires room { length key.now + 131 ≤ out.old.spare }
+    requires room { length key.now + 71 ≤ out.old.spare }
     ensures text { out.new.items ≡ out.old.items ++ value_line key.now unique item.now }
-    ensures room { out.old.spare ≤ out.new.spare + length key.now + 131 }
+    ensures room { out.old.spare ≤ out.new.spare + length key.now + 71 }
 {
     out.extend_reserved(b"VALUE ");
     out.extend_reserved(key);
@@ -123,9 +136,9 @@ fn put_value_line(out: &mut BytesMut, key: &[u8], unique: bool, item: &Item)
 }
 
 fn put_unique(out: &mut BytesMut, unique: bool, n: u64)
-    requires room { 41 ≤ out.old.spare }
+    requires room { 21 ≤ out.old.spare }
     ensures text { out.new.items ≡ out.old.items ++ unique_text unique n }
-    ensures room { out.old.spare ≤ out.new.spare + 41 }
+    ensures room { out.old.spare ≤ out.new.spare + 21 }
 {
     if unique {
         put_number(out, n);
@@ -134,9 +147,9 @@ fn put_unique(out: &mut BytesMut, unique: bool, n: u64)
 
 // A number after a space.
 fn put_number(out: &mut BytesMut, n: u64)
-    requires room { 41 ≤ out.old.spare }
+    requires room { 21 ≤ out.old.spare }
     ensures text { out.new.items ≡ out.old.items ++ number_text n }
-    ensures room { out.old.spare ≤ out.new.spare + 41 }
+    ensures room { out.old.spare ≤ out.new.spare + 21 }
 {
     out.extend_reserved(b" ");
     out.extend_reserved(Buffer::new().format(n).as_bytes());

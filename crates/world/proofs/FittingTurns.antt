@@ -20,15 +20,15 @@ use Rattle.proto.specs.declared.requests.Request.{Request}
 use Rattle.proto.specs.declared.requests.Request.TheVariants.{Store, Get, Arith, Delete, Flush, Quit, Bad}
 use Rattle.proto.specs.declared.lines.Asked.{Asked}
 use Rattle.proto.specs.declared.lines.Asked.TheVariants.{Whole, Behind}
-use Rattle.proto.specs.declared.lines.StorageLine.{StorageLine}
-use Rattle.proto.specs.declared.lines.CounterLine.{CounterLine}
-use Rattle.proto.specs.declared.lines.Fate.{Fate}
-use Rattle.proto.specs.declared.lines.Fate.TheVariants.{Put, Refuse}
-use Rattle.proto.specs.declared.lines.Word.{Word}
-use Rattle.proto.specs.declared.lines.Word.TheVariants as words
-use Rattle.proto.specs.declared.lines.Verb.{Verb}
-use Rattle.proto.specs.declared.lines.Verb.TheVariants as verbs
-use Rattle.proto.specs.declared.front.Passing.{Passing}
+use Rattle.proto.specs.declared.storage.StorageLine.{StorageLine}
+use Rattle.proto.specs.declared.commands.CounterLine.{CounterLine}
+use Rattle.proto.specs.declared.storage.Fate.{Fate}
+use Rattle.proto.specs.declared.storage.Fate.TheVariants.{Put, Refuse}
+use Rattle.proto.specs.declared.words.Word.{Word}
+use Rattle.proto.specs.declared.words.Word.TheVariants as words
+use Rattle.proto.specs.declared.storage.Verb.{Verb}
+use Rattle.proto.specs.declared.storage.Verb.TheVariants as verbs
+use Rattle.proto.specs.declared.passing.Passing.{Passing}
 use Rattle.proto.specs.declared.front.Found.{Found}
 use Rattle.proto.specs.declared.front.Found.TheVariants.{Request as Requested, Refused, Nothing}
 use Rattle.proto.specs.declared.texts.Form.{Form}

@@ -5,7 +5,7 @@ use Rattle.table.specs.declared.operations.Reply.{Reply}
 use Rattle.proto.specs.declared.requests.Fault.{Fault}
 use Rattle.proto.specs.declared.requests.Request.{Request}
 use Rattle.proto.specs.declared.requests.Request.TheVariants.{Store, Get, Arith, Delete, Flush, Quit, Bad}
-use Rattle.proto.specs.declared.front.Passing.{Passing}
+use Rattle.proto.specs.declared.passing.Passing.{Passing}
 use Rattle.proto.specs.declared.front.Found.{Found}
 use Rattle.proto.specs.declared.front.Found.TheVariants.{Request as Requested, Refused, Nothing}
 use Rattle.proto.specs.declared.texts.Form.{Form}

@@ -1,0 +1,175 @@
+//! The next turn of a session.
+ghost use Rattle.std.specs.Prelude.{◌≡◌, false};
+ghost use Rattle.proto.specs.Turns.{form_of};
+ghost use Rattle.proto.specs.Sessions.{shows};
+
+use crate::front::{Found, front};
+use crate::passing::Passing;
+use crate::texts::write_fault;
+use crate::{Fault, Form, Keys, Look, ProtoFault, Request, Session, Step};
+use table::{Key, Op, Target};
+
+impl Session {
+    ghost use Rattle.std.specs.Prelude.{◌≡◌, ◌≤◌, drop, length, false, true, None, Some, IfOk, OnOk, OnErr, IsOkUnless};
+    ghost use Rattle.table.specs.Operations.{Fits, Suits, is_update};
+    ghost use Rattle.table.specs.declared.operations.Target.TheVariants.{One};
+    ghost use Rattle.proto.specs.declared.front.Found.TheVariants.{Request as Requested};
+    ghost use Rattle.proto.specs.declared.requests.Request.TheVariants.{Get, Bad};
+    ghost use Rattle.proto.specs.Fronts.{found_at, IsWhole};
+    ghost use Rattle.proto.specs.Turns.{form_of};
+    ghost use Rattle.proto.specs.Sessions.{by_found, by_passing, by_request, looking, opened, step_of, IsOpen};
+
+    // Passes over a refused block: its fault stands behind its last byte.
+    pub(crate) fn pass(&mut self, passing: Passing) -> Result<Step, ProtoFault>
+        requires passing { self.old.passing ≡ Some passing }
+        requires idle { self.old.asked ≡ None }
+        requires open { self.old.closed ≡ false }
+        ensures step { IfOk result (λ step. step ≡ step_of (by_passing (Some passing) self.old)) }
+        ensures left { OnOk result (self.new ≡ (by_passing (Some passing) self.old).1) }
+        ensures opens { IfOk result (λ step. IsOpen step self.new.asked) }
+        ensures only_memory { IsOkUnless result ProtoFault.Memory }
+        ensures err { OnErr result (self.new ≡ self.old) }
+    {
+        if passing.left > 0 {
+            return Ok(Step::Wait);
+        }
+        let step = self.fail(passing.fault)?;
+        self.passing = None;
+        Ok(step)
+    }
+
+    // Begins what stands at the front.
+    pub(crate) fn begin_front(&mut self) -> Result<Step, ProtoFault>
+        requires idle { self.old.asked ≡ None }
+        requires open { self.old.closed ≡ false }
+        ensures step { IfOk result (λ step. step ≡ step_of (by_found (found_at self.old.unread) self.old)) }
+        ensures left { OnOk result (self.new ≡ (by_found (found_at self.old.unread) self.old).1) }
+        ensures opens { IfOk result (λ step. IsOpen step self.new.asked) }
+        ensures only_memory { IsOkUnless result ProtoFault.Memory }
+        ensures err { OnErr result (self.new ≡ self.old) }
+    {
+        match front(self.alloc, &mut self.pending, self.unread.as_slice())? {
+            Found::Request(request, n) => self.begin(request, n),
+            Found::Refused(passing) => {
+                self.pending = None;
+                self.unread.clear();
+                self.passing = Some(passing);
+                Ok(Step::Wait)
+            }
+            Found::Nothing => Ok(Step::Wait),
+        }
+    }
+
+    // Begins the request that the first n unread bytes spell.
+    fn begin(&mut self, request: Request, n: usize) -> Result<Step, ProtoFault>
+        requires within { n ≤ length self.old.unread }
+        requires whole { IsWhole request }
+        requires idle { self.old.asked ≡ None }
+        requires open { self.old.closed ≡ false }
+        ensures step { IfOk result (λ step. step ≡ step_of (by_found (Requested request n) self.old)) }
+        ensures left { OnOk result (self.new ≡ (by_found (Requested request n) self.old).1) }
+        ensures opens { IfOk result (λ step. IsOpen step self.new.asked) }
+        ensures only_memory { IsOkUnless result ProtoFault.Memory }
+        ensures err { OnErr result (self.new ≡ self.old) }
+    {
+        match request {
+            Request::Bad(fault) => {
+                let step = self.fail(fault)?;
+                self.consume(n);
+                Ok(step)
+            }
+            Request::Get(keys, unique) => self.begin_get(keys, unique, n),
+            Request::Store(key, op, silent) | Request::Arith(key, op, silent) => {
+                Ok(self.begin_update(Target::One(key), op, silent, n))
+            }
+            Request::Delete(key, silent) => {
+                Ok(self.begin_update(Target::One(key), Op::Delete, silent, n))
+            }
+            Request::Flush(silent) => { Ok(self.begin_update(Target::All, Op::Flush, silent, n)) }
+            Request::Quit => {
+                self.consume(n);
+                self.closed = true;
+                Ok(Step::Close)
+            }
+        }
+    }
+
+    // Begins the get of these keys, which the first n unread bytes spell.
+    fn begin_get(&mut self, keys: Keys, unique: bool, n: usize) -> Result<Step, ProtoFault>
+        requires within { n ≤ length self.old.unread }
+        requires some { 1 ≤ length keys }
+        ensures step { IfOk result (λ step. step ≡ step_of (by_found (Requested (Get keys unique) n) self.old)) }
+        ensures left { OnOk result (self.new ≡ (by_found (Requested (Get keys unique) n) self.old).1) }
+        ensures opens { IfOk result (λ step. IsOpen step self.new.asked) }
+        ensures only_memory { IsOkUnless result ProtoFault.Memory }
+        ensures err { OnErr result (self.new ≡ self.old) }
+    {
+        let mut keys = keys;
+        let Some((key, shown)) = keys.pop()? else {
+            unreachable!();
+        };
+        self.consume(n);
+        self.later = keys;
+        self.unique = unique;
+        Ok(self.look(key, shown))
+    }
+
+    // Writes a fault's line. Some faults end the stream.
+    fn fail(&mut self, fault: Fault) -> Result<Step, ProtoFault>
+        requires open { self.old.closed ≡ false }
+        ensures step { IfOk result (λ step. step ≡ Step.Emit) }
+        ensures left { OnOk result (self.new ≡ (by_request (Bad fault) self.old).1) }
+        ensures only_memory { IsOkUnless result ProtoFault.Memory }
+        ensures err { OnErr result (self.new ≡ self.old) }
+    {
+        write_fault(&mut self.out, fault)?;
+        self.closed = fault == Fault::LineTooLong;
+        Ok(Step::Emit)
+    }
+
+    // Opens the update that the first n unread bytes spell.
+    fn begin_update(&mut self, target: Target, op: Op, silent: bool, n: usize) -> Step
+        requires within { n ≤ length self.old.unread }
+        requires fits { Fits op }
+        requires aimed { Suits target op }
+        requires update { is_update op ≡ true }
+        ensures step { result ≡ Step.Call target op }
+        ensures left { self.new ≡ (opened target op (form_of silent) (record self.old { unread = drop n self.old.unread })).1 }
+        ensures opens { IsOpen result self.new.asked }
+    {
+        self.consume(n);
+        self.asked = Some(update_form(silent));
+        Step::Call(target, op)
+    }
+
+    // Opens the read of a key that was taken off the get at hand.
+    pub(crate) fn look(&mut self, key: Key, shown: Key) -> Step
+        requires same { shown ≡ key }
+        ensures step { result ≡ Step.Call (One key) Op.Read }
+        ensures left { self.new ≡ looking key self.old }
+        ensures opens { IsOpen result self.new.asked }
+    {
+        self.asked = Some(Form::Show(Look {
+            key: shown,
+            unique: self.unique,
+            last: self.later.is_empty(),
+        }));
+        Step::Call(Target::One(key), Op::Read)
+    }
+
+    // Takes the bytes of a request off the front.
+    fn consume(&mut self, n: usize)
+        requires { n ≤ length self.old.unread }
+        ensures { self.new ≡ record self.old { unread = drop n self.old.unread } }
+    {
+        self.pending = None;
+        self.unread.advance(n);
+    }
+}
+
+fn update_form(silent: bool) -> Form
+    ensures form { result ≡ form_of silent }
+    ensures update { shows result ≡ false }
+{
+    if silent { Form::Silent } else { Form::Status }
+}
