@@ -1,13 +1,17 @@
 //! Messages between servers as bytes, both ways: one spelling a frame, in whatever pieces the bytes come.
 #![tactic(auto)]
 
+mod entries;
 mod faults;
 mod fields;
 mod frames;
 mod laws;
+mod operations;
 mod reading;
+mod sizes;
 mod spelling;
 mod streams;
+mod targets;
 
 pub use faults::WireFault;
 pub use frames::Frame;
