@@ -194,8 +194,12 @@ pub record IsFirst (f : Frame) (bytes rest : List ℕ) : Type 0 where
   pub in_range : IsFrame f
   pub spelled : bytes ≡ spelling f ++ rest
 
+-- a frame stands at the front
+abbrev pub HasFrame : List ℕ → Type 0
+HasFrame bytes = (f : Frame) × (rest : List ℕ) × IsFirst f bytes rest
+
 -- neither a frame stands at the front, nor a bad front, nor an older server's
 pub record IsPartial (bytes : List ℕ) : Type 0 where
-  pub no_frame : (f : Frame) (rest : List ℕ) → IsFirst f bytes rest → ⊥
+  pub no_frame : HasFrame bytes → ⊥
   pub not_malformed : IsMalformed bytes → ⊥
   pub not_old : IsOld bytes → ⊥

@@ -6,6 +6,7 @@ ghost use Rattle.wire.specs.Fronts.{Gives, GivesOwned, byte_at, change_at, chang
 ghost use Rattle.wire.specs.Grammar.{below};
 
 use crate::fields::{Stop, byte_at, flagged_at, positive_at, u64_at};
+use crate::frames::SERVERS;
 use crate::reading::ReadFault;
 use crate::targets::{owned, target_at};
 use bytes::Bytes;
@@ -36,7 +37,7 @@ fn origin_at(bytes: &[u8]) -> Result<(u8, &[u8]), Stop>
     ensures server { IfOk result (λ x. x.0 < 16) }
 {
     let (origin, rest) = byte_at(bytes)?;
-    if origin >= 16 {
+    if origin >= SERVERS {
         return Err(Stop::Malformed);
     }
     Ok((origin, rest))

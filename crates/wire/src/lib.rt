@@ -16,7 +16,8 @@ mod targets;
 pub use faults::WireFault;
 pub use frames::Frame;
 pub use laws::{
-    any_cutting, bad_front_is_final, format_is_spelling, one_frame_at_a_front, written_is_read,
+    any_cutting, bad_front_is_final, bad_front_stays, format_is_spelling, one_frame_at_a_front,
+    written_is_read,
 };
 pub use spelling::{encode, encode_onto};
 pub use streams::Frames;

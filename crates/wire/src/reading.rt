@@ -6,6 +6,7 @@ ghost use Rattle.wire.specs.declared.reading.ReadFault.TheVariants.{Memory, Stop
 use crate::Frame;
 use crate::entries::forward_body_at;
 use crate::fields::{Stop, byte_at, key_at, positive_at, u16_at, u64_at};
+use crate::frames::{FORMAT, MASTER, OLD_FORMAT, SERVERS};
 use crate::operations::op_at;
 use crate::targets::{owned, owned_key, target_at};
 use node::{Body, Peer, View};
@@ -55,8 +56,8 @@ fn format_at(bytes: &[u8]) -> Result<(u8, &[u8]), Stop>
 {
     let (format, rest) = byte_at(bytes)?;
     match format {
-        1 => Err(Stop::Old),
-        2 => Ok((format, rest)),
+        OLD_FORMAT => Err(Stop::Old),
+        FORMAT => Ok((format, rest)),
         _ => Err(Stop::Malformed),
     }
 }
@@ -68,14 +69,14 @@ fn of_kind_at(alloc: Global, kind: u8, bytes: &[u8]) -> Result<(Frame, &[u8]), R
     match kind {
         0 => {
             let (id, rest) = byte_at(bytes)?;
-            if id > 16 {
+            if id > MASTER {
                 return Err(ReadFault::Stopped(Stop::Malformed));
             }
             Ok((Frame::Hello(id), rest))
         }
         6 => {
             let (id, rest) = byte_at(bytes)?;
-            if id >= 16 {
+            if id >= SERVERS {
                 return Err(ReadFault::Stopped(Stop::Malformed));
             }
             Ok((Frame::Gone(id), rest))

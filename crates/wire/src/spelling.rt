@@ -4,6 +4,7 @@ ghost use Rattle.table.specs.Items.{limit};
 ghost use Rattle.table.specs.Operations.{Fits, is_value};
 ghost use Rattle.wire.specs.Spellings.{IsBodyInRange, IsInRange, block_spelling, body_spelling, change_spelling, entry_spelling, key_spelling, kind_of, op_spelling, reply_spelling, spelling, target_spelling, long, word};
 
+use crate::frames::FORMAT;
 use crate::sizes::size;
 use crate::{Frame, WireFault};
 use bytes::{Bytes, BytesMut};
@@ -12,7 +13,8 @@ use std::alloc::Global;
 use table::{Change, Key, Op, Reply, Target};
 use versions::Entry;
 
-/// The one spelling of a frame.
+/// The one spelling of a frame in its ranges (docs/FORMATS.md, "Peer messages"; this project's rule). Memory is its only
+/// refusal. An item's data is copied once.
 pub fn encode(alloc: Global, frame: &Frame) -> Result<Vec<u8>, WireFault>
     requires range { IsInRange frame.now }
     ensures spelling { IfOk result (λ bytes. bytes.items ≡ spelling frame.now) }
@@ -23,7 +25,8 @@ pub fn encode(alloc: Global, frame: &Frame) -> Result<Vec<u8>, WireFault>
     Ok(out.into_vec()?)
 }
 
-/// The same at the end of a buffer, where many frames are to be written. An item's data is copied once.
+/// Writes that spelling behind a buffer's bytes, with one growth at most. Memory is its only refusal, and leaves the
+/// bytes as they were.
 pub fn encode_onto(out: &mut BytesMut, frame: &Frame) -> Result<(), WireFault>
     requires range { IsInRange frame.now }
     ensures ok { OnOk result (out.new.items ≡ out.old.items ++ spelling frame.now) }
@@ -42,13 +45,13 @@ fn put(out: &mut BytesMut, frame: &Frame)
     ensures { out.new.items ≡ out.old.items ++ spelling frame.now }
 {
     match frame {
-        Frame::Hello(id) => out.extend_reserved(&[2, 0, *id]),
+        Frame::Hello(id) => out.extend_reserved(&[FORMAT, 0, *id]),
         Frame::Peer(peer) => {
-            out.extend_reserved(&[2, kind_of(&peer.body)]);
+            out.extend_reserved(&[FORMAT, kind_of(&peer.body)]);
             out.extend_reserved(&peer.view.bits().to_be_bytes());
             put_body(out, &peer.body);
         }
-        Frame::Gone(id) => out.extend_reserved(&[2, 6, *id]),
+        Frame::Gone(id) => out.extend_reserved(&[FORMAT, 6, *id]),
     }
 }
 

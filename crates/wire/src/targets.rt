@@ -15,13 +15,14 @@ pub fn target_at(bytes: &[u8]) -> Result<(Option<&[u8]>, &[u8]), Stop>
     ensures key { IfOk result (λ x. IfSome x.0 (λ key. IsKey key.now)) }
 {
     let (count, rest) = byte_at(bytes)?;
-    if count > 250 {
+    let count = usize::from(count);
+    if count > Key::MAX {
         return Err(Stop::Malformed);
     }
     if count == 0 {
         return Ok((None, rest));
     }
-    let (key, rest) = text_at(usize::from(count), rest)?;
+    let (key, rest) = text_at(count, rest)?;
     Ok((Some(key), rest))
 }
 
