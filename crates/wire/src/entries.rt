@@ -2,7 +2,7 @@
 ghost use Rattle.std.specs.Prelude.{◌≡◌, ◌<◌, false, IfOk};
 ghost use Rattle.table.specs.Operations.{is_value};
 ghost use Rattle.versions.specs.Entries.{PutsOwn, is_clear, is_flushed};
-ghost use Rattle.wire.specs.Fronts.{Gives, GivesOwned, byte_at, change_at, changed_at, forward_body_at, replied_at, reply_at};
+ghost use Rattle.wire.specs.Fronts.{Gives, GivesOwned, byte_at, change_at, key_change_at, forward_body_at, key_reply_at, reply_at};
 ghost use Rattle.wire.specs.Grammar.{below};
 
 use crate::fields::{Stop, byte_at, flagged_at, positive_at, u64_at};
@@ -51,7 +51,7 @@ fn reply_at(all: bool, bytes: &[u8]) -> Result<(Reply, &[u8]), Stop>
 {
     let (code, rest) = byte_at(bytes)?;
     if !all {
-        return replied_at(code, rest);
+        return key_reply_at(code, rest);
     }
     if code != 10 {
         return Err(Stop::Malformed);
@@ -60,9 +60,9 @@ fn reply_at(all: bool, bytes: &[u8]) -> Result<(Reply, &[u8]), Stop>
 }
 
 // What stands behind the code of a reply to an operation on a key.
-#[tactic(auto, unfolding(crate::specs::Fronts::replied_at))]
-fn replied_at(code: u8, bytes: &[u8]) -> Result<(Reply, &[u8]), Stop>
-    ensures gives { Gives (λ x. (x.0, x.1.now)) result (replied_at code bytes.now) }
+#[tactic(auto, unfolding(crate::specs::Fronts::key_reply_at))]
+fn key_reply_at(code: u8, bytes: &[u8]) -> Result<(Reply, &[u8]), Stop>
+    ensures gives { Gives (λ x. (x.0, x.1.now)) result (key_reply_at code bytes.now) }
     ensures no_item { IfOk result (λ x. is_value x.0 ≡ false) }
     ensures not_flushed { IfOk result (λ x. is_flushed x.0 ≡ false) }
 {
@@ -96,7 +96,7 @@ fn change_at(
 {
     let (code, rest) = byte_at(bytes)?;
     if !all {
-        return changed_at(alloc, number, code, rest);
+        return key_change_at(alloc, number, code, rest);
     }
     if code != 3 {
         return Err(ReadFault::Stopped(Stop::Malformed));
@@ -105,14 +105,14 @@ fn change_at(
 }
 
 // What stands behind the code of a change at a key. A put item's unique is its entry's number.
-#[tactic(auto, unfolding(crate::specs::Fronts::changed_at))]
-fn changed_at(
+#[tactic(auto, unfolding(crate::specs::Fronts::key_change_at))]
+fn key_change_at(
     alloc: Global,
     number: u64,
     code: u8,
     bytes: &[u8],
 ) -> Result<(Change, &[u8]), ReadFault>
-    ensures gives { GivesOwned (λ x. (x.0, x.1.now)) result (changed_at number code bytes.now) }
+    ensures gives { GivesOwned (λ x. (x.0, x.1.now)) result (key_change_at number code bytes.now) }
     ensures put { IfOk result (λ x. PutsOwn number x.0) }
     ensures not_cleared { IfOk result (λ x. is_clear x.0 ≡ false) }
 {

@@ -1,5 +1,5 @@
 //! Operations: what an update call does.
-ghost use Rattle.wire.specs.Fronts.{GivesOwned, op_at, operands_at};
+ghost use Rattle.wire.specs.Fronts.{GivesOwned, op_at, key_operation_at};
 
 use crate::fields::{Stop, block_at, byte_at, flagged_at, u32_at, u64_at};
 use crate::reading::ReadFault;
@@ -14,7 +14,7 @@ pub fn op_at(alloc: Global, all: bool, bytes: &[u8]) -> Result<(Op, &[u8]), Read
 {
     let (code, rest) = byte_at(bytes)?;
     if !all {
-        return operands_at(alloc, code, rest);
+        return key_operation_at(alloc, code, rest);
     }
     if code != 10 {
         return Err(ReadFault::Stopped(Stop::Malformed));
@@ -23,9 +23,9 @@ pub fn op_at(alloc: Global, all: bool, bytes: &[u8]) -> Result<(Op, &[u8]), Read
 }
 
 // What stands behind the code of an operation on a key.
-#[tactic(auto, unfolding(crate::specs::Fronts::operands_at))]
-fn operands_at(alloc: Global, code: u8, bytes: &[u8]) -> Result<(Op, &[u8]), ReadFault>
-    ensures { GivesOwned (λ x. (x.0, x.1.now)) result (operands_at code bytes.now) }
+#[tactic(auto, unfolding(crate::specs::Fronts::key_operation_at))]
+fn key_operation_at(alloc: Global, code: u8, bytes: &[u8]) -> Result<(Op, &[u8]), ReadFault>
+    ensures { GivesOwned (λ x. (x.0, x.1.now)) result (key_operation_at code bytes.now) }
 {
     match code {
         1 => {

@@ -2,7 +2,7 @@
 ghost use Rattle.std.specs.Prelude.{◌≡◌, ◌+◌, ◌≤◌, ◌++◌, ◌∷◌, false, length, IfOk, OnOk, OnErr, IsOkUnless};
 ghost use Rattle.table.specs.Items.{limit};
 ghost use Rattle.table.specs.Operations.{Fits, is_value};
-ghost use Rattle.wire.specs.Spellings.{IsBodyInRange, IsInRange, block_spelling, body_spelling, change_spelling, entry_spelling, key_spelling, kind_of, op_spelling, reply_spelling, spelling, target_spelling, long, word};
+ghost use Rattle.wire.specs.Spellings.{IsBodyInRange, IsInRange, block_spelling, body_spelling, change_spelling, eight_bytes, entry_spelling, four_bytes, key_spelling, kind_of, op_spelling, reply_spelling, spelling, target_spelling};
 
 use crate::frames::FORMAT;
 use crate::sizes::size;
@@ -159,7 +159,7 @@ fn put_op(out: &mut BytesMut, op: &Op)
 fn put_flagged(out: &mut BytesMut, code: u8, flags: u32, bytes: &Bytes)
     requires fits { length bytes.now ≤ limit }
     requires room { 9 + length bytes.now ≤ out.old.spare }
-    ensures { out.new.items ≡ out.old.items ++ code ∷ (word flags ++ block_spelling bytes.now) }
+    ensures { out.new.items ≡ out.old.items ++ code ∷ (four_bytes flags ++ block_spelling bytes.now) }
 {
     out.extend_reserved(&[code]);
     out.extend_reserved(&flags.to_be_bytes());
@@ -179,7 +179,7 @@ fn put_block(out: &mut BytesMut, bytes: &Bytes)
 // A code and a number.
 fn put_number(out: &mut BytesMut, code: u8, n: u64)
     requires room { 9 ≤ out.old.spare }
-    ensures text { out.new.items ≡ out.old.items ++ code ∷ long n }
+    ensures text { out.new.items ≡ out.old.items ++ code ∷ eight_bytes n }
     ensures room { out.new.spare + 9 ≡ out.old.spare }
 {
     out.extend_reserved(&[code]);
