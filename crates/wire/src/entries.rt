@@ -5,11 +5,11 @@ ghost use Rattle.versions.specs.Entries.{PutsOwn, is_clear, is_flushed};
 ghost use Rattle.wire.specs.Fronts.{Gives, GivesOwned, byte_at, change_at, key_change_at, forward_body_at, key_reply_at, reply_at};
 ghost use Rattle.wire.specs.Grammar.{below};
 
-use crate::fields::{Stop, byte_at, flagged_at, positive_at, u64_at};
+use crate::blocks::owned_flagged_at;
+use crate::fields::{Stop, byte_at, positive_at, u64_at};
 use crate::frames::SERVERS;
 use crate::reading::ReadFault;
 use crate::targets::{owned, target_at};
-use bytes::Bytes;
 use node::Body;
 use std::alloc::Global;
 use table::{Change, Item, Reply};
@@ -119,8 +119,7 @@ fn key_change_at(
     match code {
         0 => Ok((Change::Keep, bytes)),
         1 => {
-            let (flags, data, rest) = flagged_at(bytes)?;
-            let bytes = Bytes::copy_from_slice(alloc, data)?;
+            let (flags, bytes, rest) = owned_flagged_at(alloc, bytes)?;
             let item = Item {
                 flags,
                 bytes,

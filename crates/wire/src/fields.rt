@@ -5,7 +5,7 @@ ghost use Rattle.std.specs.List.{list_all};
 ghost use Rattle.table.specs.Items.{limit};
 ghost use Rattle.table.specs.Keys.{IsKey, is_key_byte};
 ghost use Rattle.wire.specs.Grammar.{any, positive};
-ghost use Rattle.wire.specs.Fronts.{Gives, block_at, byte_at, bytes_at, flagged_at, key_at, number_at, text_at};
+ghost use Rattle.wire.specs.Fronts.{Gives, block_at, byte_at, bytes_at, key_at, number_at, text_at};
 
 use table::{Key, LIMIT};
 
@@ -147,15 +147,4 @@ fn bytes_at(count: usize, bytes: &[u8]) -> Result<(&[u8], &[u8]), Stop>
         return Err(Stop::Short(count - bytes.len()));
     }
     Ok(bytes.split_at(count))
-}
-
-/// Flags, and data where it lies.
-#[tactic(auto, unfolding(crate::specs::Fronts::flagged_at))]
-pub fn flagged_at(bytes: &[u8]) -> Result<(u32, &[u8], &[u8]), Stop>
-    ensures gives { Gives (λ x. ((x.0, x.1.now), x.2.now)) result (flagged_at bytes.now) }
-    ensures within_limit { IfOk result (λ x. length x.1.now ≤ limit) }
-{
-    let (flags, rest) = u32_at(bytes)?;
-    let (data, rest) = block_at(rest)?;
-    Ok((flags, data, rest))
 }

@@ -1,6 +1,7 @@
 //! Messages between servers as bytes, both ways: one spelling a frame, in whatever pieces the bytes come.
 #![tactic(auto)]
 
+mod blocks;
 mod entries;
 mod faults;
 mod fields;

@@ -1,9 +1,9 @@
 //! Operations: what an update call does.
 ghost use Rattle.wire.specs.Fronts.{GivesOwned, op_at, key_operation_at};
 
-use crate::fields::{Stop, block_at, byte_at, flagged_at, u32_at, u64_at};
+use crate::blocks::{owned_block_at, owned_flagged_at};
+use crate::fields::{Stop, byte_at, u32_at, u64_at};
 use crate::reading::ReadFault;
-use bytes::Bytes;
 use std::alloc::Global;
 use table::Op;
 
@@ -29,36 +29,30 @@ fn key_operation_at(alloc: Global, code: u8, bytes: &[u8]) -> Result<(Op, &[u8])
 {
     match code {
         1 => {
-            let (flags, data, rest) = flagged_at(bytes)?;
-            Ok((Op::Set(flags, Bytes::copy_from_slice(alloc, data)?), rest))
+            let (flags, data, rest) = owned_flagged_at(alloc, bytes)?;
+            Ok((Op::Set(flags, data), rest))
         }
         2 => {
-            let (flags, data, rest) = flagged_at(bytes)?;
-            Ok((Op::Add(flags, Bytes::copy_from_slice(alloc, data)?), rest))
+            let (flags, data, rest) = owned_flagged_at(alloc, bytes)?;
+            Ok((Op::Add(flags, data), rest))
         }
         3 => {
-            let (flags, data, rest) = flagged_at(bytes)?;
-            Ok((
-                Op::Replace(flags, Bytes::copy_from_slice(alloc, data)?),
-                rest,
-            ))
+            let (flags, data, rest) = owned_flagged_at(alloc, bytes)?;
+            Ok((Op::Replace(flags, data), rest))
         }
         4 => {
-            let (data, rest) = block_at(bytes)?;
-            Ok((Op::Append(Bytes::copy_from_slice(alloc, data)?), rest))
+            let (data, rest) = owned_block_at(alloc, bytes)?;
+            Ok((Op::Append(data), rest))
         }
         5 => {
-            let (data, rest) = block_at(bytes)?;
-            Ok((Op::Prepend(Bytes::copy_from_slice(alloc, data)?), rest))
+            let (data, rest) = owned_block_at(alloc, bytes)?;
+            Ok((Op::Prepend(data), rest))
         }
         6 => {
             let (flags, rest) = u32_at(bytes)?;
             let (unique, rest) = u64_at(rest)?;
-            let (data, rest) = block_at(rest)?;
-            Ok((
-                Op::Cas(flags, Bytes::copy_from_slice(alloc, data)?, unique),
-                rest,
-            ))
+            let (data, rest) = owned_block_at(alloc, rest)?;
+            Ok((Op::Cas(flags, data, unique), rest))
         }
         7 => {
             let (amount, rest) = u64_at(bytes)?;
