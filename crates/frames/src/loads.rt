@@ -41,12 +41,16 @@ pub struct Done {
 /// Why a load isn't carried out to its end.
 #[derive(Debug, Error, Drop)]
 pub enum LoadFault {
+    /// There is no memory for the frames or their bytes.
     #[error("out of memory")]
     Memory(#[from] AllocError),
+    /// A frame can't be written or read.
     #[error("wire: {0}")]
     Wire(#[from] WireFault),
-    #[error("no such frame")]
+    /// The load's frame has no spelling, or its pieces have no bytes.
+    #[error("the frame is out of range, or a piece has no bytes")]
     Frame,
+    /// Other frames were read than were written.
     #[error("not all frames were read")]
     Missed,
 }

@@ -20,7 +20,7 @@ use Rattle.wire.specs.declared.frames.Frame.TheVariants.{Hello, Peer, Gone}
 use Rattle.wire.specs.Parts.{Part, followed, makes, refused, either, byte, number, bytes_of, text_of}
 use Rattle.wire.specs.Grammar as format
 use Rattle.wire.specs.Grammar.{any, positive, at_most, below, is_key_length}
-use Rattle.wire.specs.Fronts.{Read, ◌>>=◌, byte_at, number_at, bytes_at, text_at, key_at, target_at, block_at, flagged_at, operands_at, op_at, replied_at, reply_at, changed_at, change_at, op_body_at, forward_body_at, ack_body_at, query_body_at, answer_body_at, body_at, message_at, of_kind_at}
+use Rattle.wire.specs.Fronts.{Read, ◌>>=◌, byte_at, number_at, bytes_at, text_at, key_at, target_at, block_at, flagged_at, key_operation_at, op_at, key_reply_at, reply_at, key_change_at, change_at, op_body_at, forward_body_at, ack_body_at, query_body_at, answer_body_at, body_at, message_at, of_kind_at}
 use Rattle.wire.proofs.Readers.{IsReader, in_turn, made, refusing, chosen}
 use Rattle.wire.proofs.FieldReaders.{byte_reader, number_reader, bytes_reader, text_reader, wide16, wide32, wide64}
 
@@ -69,9 +69,9 @@ cas_reader =
     (number_reader w64 any wide64)
     (λ unique. mapped block_at format.block (λ bytes. Cas flags bytes unique) block_reader))
 
-operands_reader : (code : ℕ) → IsReader (operands_at code) (format.operands code)
-unfolding operands_at
-operands_reader code =
+key_operation_reader : (code : ℕ) → IsReader (key_operation_at code) (format.key_operation code)
+unfolding key_operation_at
+key_operation_reader code =
     chosen (code == 1) _ _ _ _ (mapped flagged_at format.flagged (λ x. Set x.0 x.1) flagged_reader)
     (chosen (code == 2) _ _ _ _ (mapped flagged_at format.flagged (λ x. Add x.0 x.1) flagged_reader)
     (chosen (code == 3) _ _ _ _ (mapped flagged_at format.flagged (λ x. Replace x.0 x.1) flagged_reader)
@@ -97,11 +97,11 @@ by_code all own value r p readers =
 
 op_reader : (all : Bool) → IsReader (op_at all) (format.operation all)
 unfolding op_at
-op_reader all = by_code all 10 Flush operands_at format.operands operands_reader
+op_reader all = by_code all 10 Flush key_operation_at format.key_operation key_operation_reader
 
-replied_reader : (code : ℕ) → IsReader (replied_at code) (format.replied code)
-unfolding replied_at
-replied_reader code =
+key_reply_reader : (code : ℕ) → IsReader (key_reply_at code) (format.key_reply code)
+unfolding key_reply_at
+key_reply_reader code =
     chosen (code == 1) _ _ _ _ (made Stored)
     (chosen (code == 2) _ _ _ _ (made NotStored)
     (chosen (code == 3) _ _ _ _ (made Exists)
@@ -113,18 +113,18 @@ replied_reader code =
 
 reply_reader : (all : Bool) → IsReader (reply_at all) (format.reply all)
 unfolding reply_at
-reply_reader all = by_code all 10 Flushed replied_at format.replied replied_reader
+reply_reader all = by_code all 10 Flushed key_reply_at format.key_reply key_reply_reader
 
-changed_reader : (number code : ℕ) → IsReader (changed_at number code) (format.changed number code)
-unfolding changed_at
-changed_reader number code =
+key_change_reader : (number code : ℕ) → IsReader (key_change_at number code) (format.key_change number code)
+unfolding key_change_at
+key_change_reader number code =
     chosen (code == 0) _ _ _ _ (made Keep)
     (chosen (code == 1) _ _ _ _ (mapped flagged_at format.flagged (λ x. Put (record { flags = x.0; bytes = x.1; unique = number })) flagged_reader)
     (chosen (code == 2) _ _ _ _ (made Drop) refusing))
 
 change_reader : (all : Bool) (number : ℕ) → IsReader (change_at all number) (format.change all number)
 unfolding change_at
-change_reader all number = by_code all 3 Clear (changed_at number) (format.changed number) (changed_reader number)
+change_reader all number = by_code all 3 Clear (key_change_at number) (format.key_change number) (key_change_reader number)
 
 positive_reader : IsReader (number_at w64 positive) (number w64 positive)
 positive_reader = number_reader w64 positive wide64

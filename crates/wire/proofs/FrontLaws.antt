@@ -7,7 +7,7 @@ use Rattle.wire.specs.declared.fields.Stop.{Stop}
 use Rattle.wire.specs.declared.fields.Stop.TheVariants.{Short, Malformed, Old}
 use Rattle.wire.specs.declared.frames.Frame.{Frame}
 use Rattle.wire.specs.Spellings.{spelling}
-use Rattle.wire.specs.Grammar.{any, IsFirst, IsMalformed, IsOld, IsPartial}
+use Rattle.wire.specs.Grammar.{any, HasFrame, IsFirst, IsMalformed, IsOld, IsPartial}
 use Rattle.wire.specs.declared.reading.ReadFault.{ReadFault}
 use Rattle.wire.specs.declared.reading.ReadFault.TheVariants.{Memory, Stopped}
 use Rattle.wire.specs.Fronts.{Read, Fails, ◌>>=◌, byte_at, of_kind_at, front}
@@ -100,7 +100,7 @@ old_to bytes h =
 
 pub partial_from : (bytes : List ℕ) (k : ℕ) → front bytes ≡ Err (Short k) → IsPartial bytes
 partial_from bytes k e = record {
-  no_frame = λ f rest h. ok_not_err (front bytes) (f, rest) (Short k) (first_to bytes f rest h) e;
+  no_frame = λ h. ok_not_err (front bytes) (h.0, h.1) (Short k) (first_to bytes h.0 h.1 h.2) e;
   not_malformed = λ h. short_not_bad (front bytes) k e (malformed_to bytes h);
   not_old = λ h. short_not_old (front bytes) k e (old_to bytes h);
 }
@@ -205,6 +205,13 @@ wanted_not_malformed fault bytes e h m = no_error (front bytes) Malformed (subst
 
 pub wanted_not_old : (fault : ReadFault) (bytes : List ℕ) → fault ≡ Memory → Fails fault (front bytes) → IsOld bytes → ⊥
 wanted_not_old fault bytes e h o = no_error (front bytes) Old (subst (λ fault. Fails fault (front bytes)) e h) (old_to bytes o)
+
+pub wanted_frame : (fault : ReadFault) (bytes : List ℕ) → IsBytes bytes → fault ≡ Memory → Fails fault (front bytes) → HasFrame bytes
+wanted_frame fault bytes fits e h = by_front (front bytes) refl (subst (λ fault. Fails fault (front bytes)) e h)
+  where
+    by_front : (r : Read Frame) → front bytes ≡ r → IsOk r → HasFrame bytes
+    by_front (Ok x) read ok = (x.0, x.1, first_from bytes x.0 x.1 fits read)
+    by_front (Err s) read ok = absurd cc
 
 -- what stands behind the frame
 pub rest_behind : (bytes : List ℕ) (f : Frame) (rest : List ℕ) → IsFirst f bytes rest → drop (length bytes - length rest) bytes ≡ rest

@@ -12,7 +12,7 @@ use Rattle.table.specs.declared.operations.Target.{Target}
 use Rattle.table.specs.declared.operations.Target.TheVariants.{One, All}
 use Rattle.table.specs.declared.operations.Op.{Op}
 use Rattle.table.specs.declared.operations.Op.TheVariants.{Read, Set, Add, Replace, Append, Prepend, Cas, Incr, Decr, Delete, Flush}
-use Rattle.wire.specs.Spellings.{word, long, key_spelling, target_spelling, block_spelling, op_spelling, IsTarget, HasWidths}
+use Rattle.wire.specs.Spellings.{four_bytes, eight_bytes, key_spelling, target_spelling, block_spelling, op_spelling, IsTarget, HasWidths}
 use Rattle.wire.specs.Parts.{Part, followed, makes, refused, either, byte, number, text_of}
 use Rattle.wire.specs.Grammar as format
 use Rattle.wire.specs.Grammar.{any, positive, at_most, below, is_key_length}
@@ -110,20 +110,20 @@ joined text a b x y e ea eb = e ∙ ap (λ (a : List ℕ). a ++ b) ea ∙ ap (λ
 
 pub block_from : (x text : List ℕ) → format.block.Spells x text → (text ≡ block_spelling x) × (length x ≤ limit)
 block_from x text s =
-    (joined text s.1 s.2 (word (length x)) x s.5 (s.3.2 ∙ ap word (sym s.4.0)) s.4.1, subst (λ n. n ≤ limit) (sym s.4.0) (at_most_is limit s.0 s.3.1))
+    (joined text s.1 s.2 (four_bytes (length x)) x s.5 (s.3.2 ∙ ap four_bytes (sym s.4.0)) s.4.1, subst (λ n. n ≤ limit) (sym s.4.0) (at_most_is limit s.0 s.3.1))
 
 pub block_to : (x : List ℕ) → length x ≤ limit → format.block.Spells x (block_spelling x)
-block_to x le = (length x, word (length x), x, (omega arith, le-leb (length x) limit le, refl), (refl, refl), refl)
+block_to x le = (length x, four_bytes (length x), x, (omega arith, le-leb (length x) limit le, refl), (refl, refl), refl)
 
-pub flagged_from : (x : ℕ × List ℕ) (text : List ℕ) → format.flagged.Spells x text → (text ≡ word x.0 ++ block_spelling x.1) × (x.0 < 2 ^ 32) × (length x.1 ≤ limit)
+pub flagged_from : (x : ℕ × List ℕ) (text : List ℕ) → format.flagged.Spells x text → (text ≡ four_bytes x.0 ++ block_spelling x.1) × (x.0 < 2 ^ 32) × (length x.1 ≤ limit)
 flagged_from x text s =
     let m = from_made format.block (λ b. (s.0, b)) x s.2 s.4 in
     let h = block_from m.0 s.2 m.1 in
-    subst (λ (x : ℕ × List ℕ). (text ≡ word x.0 ++ block_spelling x.1) × (x.0 < 2 ^ 32) × (length x.1 ≤ limit)) (sym m.2)
-    (joined text s.1 s.2 (word s.0) (block_spelling m.0) s.5 s.3.2 h.0, s.3.0, h.1)
+    subst (λ (x : ℕ × List ℕ). (text ≡ four_bytes x.0 ++ block_spelling x.1) × (x.0 < 2 ^ 32) × (length x.1 ≤ limit)) (sym m.2)
+    (joined text s.1 s.2 (four_bytes s.0) (block_spelling m.0) s.5 s.3.2 h.0, s.3.0, h.1)
 
-pub flagged_to : (x : ℕ × List ℕ) → x.0 < 2 ^ 32 → length x.1 ≤ limit → format.flagged.Spells x (word x.0 ++ block_spelling x.1)
-flagged_to x lt le = (x.0, word x.0, block_spelling x.1, (lt, refl, refl), to_made format.block (λ b. (x.0, b)) x.1 (block_spelling x.1) (block_to x.1 le), refl)
+pub flagged_to : (x : ℕ × List ℕ) → x.0 < 2 ^ 32 → length x.1 ≤ limit → format.flagged.Spells x (four_bytes x.0 ++ block_spelling x.1)
+flagged_to x lt le = (x.0, four_bytes x.0, block_spelling x.1, (lt, refl, refl), to_made format.block (λ b. (x.0, b)) x.1 (block_spelling x.1) (block_to x.1 le), refl)
 
 -- ---- by codes
 
@@ -178,13 +178,13 @@ cas_from op code text e s =
     let u = s.4 in
     let m = from_made format.block (λ bytes. Cas s.0 bytes u.0) op u.2 u.4 in
     let h = block_from m.0 u.2 m.1 in
-    let behind : s.2 ≡ long u.0 ++ block_spelling m.0 = joined s.2 u.1 u.2 (long u.0) (block_spelling m.0) u.5 u.3.2 h.0 in
-    let spelled : text ≡ word s.0 ++ (long u.0 ++ block_spelling m.0) = joined text s.1 s.2 (word s.0) (long u.0 ++ block_spelling m.0) s.5 s.3.2 behind in
+    let behind : s.2 ≡ eight_bytes u.0 ++ block_spelling m.0 = joined s.2 u.1 u.2 (eight_bytes u.0) (block_spelling m.0) u.5 u.3.2 h.0 in
+    let spelled : text ≡ four_bytes s.0 ++ (eight_bytes u.0 ++ block_spelling m.0) = joined text s.1 s.2 (four_bytes s.0) (eight_bytes u.0 ++ block_spelling m.0) s.5 s.3.2 behind in
     subst (λ c. Behind c op text) (sym (eqb-true code 6 e))
     (subst (λ op. Behind 6 op text) (sym m.2) (record { spelled = ap (λ (t : List ℕ). 6 ∷ t) spelled; fits = h.1; widths = (s.3.0, u.3.0); update = refl; aimed = refl }))
 
-operands_from : (code : ℕ) (op : Op) (text : List ℕ) → (format.operands code).Spells op text → Behind code op text
-operands_from code op text s0 =
+key_operation_from : (code : ℕ) (op : Op) (text : List ℕ) → (format.key_operation code).Spells op text → Behind code op text
+key_operation_from code op text s0 =
     elim (by_test (code == 1) _ _ op text s0) [
       | inl h ↦ by_part Behind format.flagged (λ x. Set x.0 x.1) 1 code op text h.0 (λ x t s. let f = flagged_from x t s in record { spelled = ap (λ (t : List ℕ). 1 ∷ t) f.0; fits = f.2; widths = f.1; update = refl; aimed = refl }) h.1
       | inr s1 ↦ elim (by_test (code == 2) _ _ op text s1.1) [
@@ -216,28 +216,28 @@ operands_from code op text s0 =
 
 pub op_from : (all : Bool) (op : Op) (text : List ℕ) → (format.operation all).Spells op text → SentOp all op text
 op_from all op text s =
-    by_code all 10 Flush format.operands SentOp (record { spelled = refl; fits = tt; widths = tt; update = refl; aimed = refl }) operands_from op text s
+    by_code all 10 Flush format.key_operation SentOp (record { spelled = refl; fits = tt; widths = tt; update = refl; aimed = refl }) key_operation_from op text s
 
-pub amount_to : {A : Type 0} (f : ℕ → A) (n : ℕ) → n < 2 ^ 64 → (followed (number w64 any) (λ n. makes (f n))).Spells (f n) (long n)
-amount_to f n lt = to_made (number w64 any) f n (long n) (lt, refl, refl)
+pub amount_to : {A : Type 0} (f : ℕ → A) (n : ℕ) → n < 2 ^ 64 → (followed (number w64 any) (λ n. makes (f n))).Spells (f n) (eight_bytes n)
+amount_to f n lt = to_made (number w64 any) f n (eight_bytes n) (lt, refl, refl)
 
 pub op_to : (op : Op) → Fits op → HasWidths op → is_update op ≡ true → (format.operation (is_flush op)).Spells op (op_spelling op)
 op_to Read f w u = absurd cc
-op_to (Set flags bytes) f w u = with_code 10 Flush format.operands 1 (Set flags bytes) (word flags ++ block_spelling bytes) (to_made format.flagged (λ x. Set x.0 x.1) (flags, bytes) _ (flagged_to (flags, bytes) w f))
-op_to (Add flags bytes) f w u = with_code 10 Flush format.operands 2 (Add flags bytes) (word flags ++ block_spelling bytes) (to_made format.flagged (λ x. Add x.0 x.1) (flags, bytes) _ (flagged_to (flags, bytes) w f))
-op_to (Replace flags bytes) f w u = with_code 10 Flush format.operands 3 (Replace flags bytes) (word flags ++ block_spelling bytes) (to_made format.flagged (λ x. Replace x.0 x.1) (flags, bytes) _ (flagged_to (flags, bytes) w f))
-op_to (Append bytes) f w u = with_code 10 Flush format.operands 4 (Append bytes) (block_spelling bytes) (to_made format.block Append bytes _ (block_to bytes f))
-op_to (Prepend bytes) f w u = with_code 10 Flush format.operands 5 (Prepend bytes) (block_spelling bytes) (to_made format.block Prepend bytes _ (block_to bytes f))
+op_to (Set flags bytes) f w u = with_code 10 Flush format.key_operation 1 (Set flags bytes) (four_bytes flags ++ block_spelling bytes) (to_made format.flagged (λ x. Set x.0 x.1) (flags, bytes) _ (flagged_to (flags, bytes) w f))
+op_to (Add flags bytes) f w u = with_code 10 Flush format.key_operation 2 (Add flags bytes) (four_bytes flags ++ block_spelling bytes) (to_made format.flagged (λ x. Add x.0 x.1) (flags, bytes) _ (flagged_to (flags, bytes) w f))
+op_to (Replace flags bytes) f w u = with_code 10 Flush format.key_operation 3 (Replace flags bytes) (four_bytes flags ++ block_spelling bytes) (to_made format.flagged (λ x. Replace x.0 x.1) (flags, bytes) _ (flagged_to (flags, bytes) w f))
+op_to (Append bytes) f w u = with_code 10 Flush format.key_operation 4 (Append bytes) (block_spelling bytes) (to_made format.block Append bytes _ (block_to bytes f))
+op_to (Prepend bytes) f w u = with_code 10 Flush format.key_operation 5 (Prepend bytes) (block_spelling bytes) (to_made format.block Prepend bytes _ (block_to bytes f))
 op_to (Cas flags bytes unique) f w u =
-    with_code 10 Flush format.operands 6 (Cas flags bytes unique) (word flags ++ (long unique ++ block_spelling bytes)) (
+    with_code 10 Flush format.key_operation 6 (Cas flags bytes unique) (four_bytes flags ++ (eight_bytes unique ++ block_spelling bytes)) (
       flags,
-      word flags,
-      long unique ++ block_spelling bytes,
+      four_bytes flags,
+      eight_bytes unique ++ block_spelling bytes,
       (w.0, refl, refl),
-      (unique, long unique, block_spelling bytes, (w.1, refl, refl), to_made format.block (λ bytes. Cas flags bytes unique) bytes _ (block_to bytes f), refl),
+      (unique, eight_bytes unique, block_spelling bytes, (w.1, refl, refl), to_made format.block (λ bytes. Cas flags bytes unique) bytes _ (block_to bytes f), refl),
       refl,
     )
-op_to (Incr amount) f w u = with_code 10 Flush format.operands 7 (Incr amount) (long amount) (amount_to Incr amount w)
-op_to (Decr amount) f w u = with_code 10 Flush format.operands 8 (Decr amount) (long amount) (amount_to Decr amount w)
-op_to Delete f w u = with_code 10 Flush format.operands 9 Delete [] (refl, refl)
+op_to (Incr amount) f w u = with_code 10 Flush format.key_operation 7 (Incr amount) (eight_bytes amount) (amount_to Incr amount w)
+op_to (Decr amount) f w u = with_code 10 Flush format.key_operation 8 (Decr amount) (eight_bytes amount) (amount_to Decr amount w)
+op_to Delete f w u = with_code 10 Flush format.key_operation 9 Delete [] (refl, refl)
 op_to Flush f w u = (10, 10 ∷ [], [], (refl, refl), (refl, refl), refl)

@@ -13,7 +13,7 @@ use Rattle.node.specs.declared.messages.Body.{Body}
 use Rattle.node.specs.declared.messages.Body.TheVariants as bodies
 use Rattle.wire.specs.declared.frames.Frame.{Frame}
 use Rattle.wire.specs.declared.frames.Frame.TheVariants.{Hello, Peer, Gone}
-use Rattle.wire.specs.Spellings.{word, long, key_spelling, target_spelling, block_spelling, op_spelling, reply_spelling, change_spelling, body_spelling, kind_of, spelling, HasReplyWidth, HasChangeWidth, IsBody, IsFrame}
+use Rattle.wire.specs.Spellings.{four_bytes, eight_bytes, key_spelling, target_spelling, block_spelling, op_spelling, reply_spelling, change_spelling, body_spelling, kind_of, spelling, HasReplyWidth, HasChangeWidth, IsBody, IsFrame}
 use Rattle.wire.specs.Parts.{followed, makes, byte, number}
 use Rattle.wire.specs.Grammar as format
 use Rattle.wire.specs.Grammar.{any, positive, at_most, below}
@@ -30,8 +30,8 @@ pub record SentReply (all : Bool) (told : Reply) (text : List ℕ) : Type 0 wher
 abbrev Told : ℕ → Reply → List ℕ → Type 0
 Told code told text = SentReply false told (code ∷ text)
 
-replied_from : (code : ℕ) (told : Reply) (text : List ℕ) → (format.replied code).Spells told text → Told code told text
-replied_from code told text s0 =
+key_reply_from : (code : ℕ) (told : Reply) (text : List ℕ) → (format.key_reply code).Spells told text → Told code told text
+key_reply_from code told text s0 =
     elim (by_test (code == 1) _ _ told text s0) [
       | inl h ↦ by_value Told Stored 1 code told text h.0 (record { spelled = refl; width = tt; no_item = refl; aimed = refl }) h.1
       | inr s1 ↦ elim (by_test (code == 2) _ _ told text s1.1) [
@@ -59,18 +59,18 @@ replied_from code told text s0 =
     ]
 
 reply_from : (all : Bool) (told : Reply) (text : List ℕ) → (format.reply all).Spells told text → SentReply all told text
-reply_from all told text s = by_code all 10 Flushed format.replied SentReply (record { spelled = refl; width = tt; no_item = refl; aimed = refl }) replied_from told text s
+reply_from all told text s = by_code all 10 Flushed format.key_reply SentReply (record { spelled = refl; width = tt; no_item = refl; aimed = refl }) key_reply_from told text s
 
 reply_to : (told : Reply) → HasReplyWidth told → is_value told ≡ false → (format.reply (is_flushed told)).Spells told (reply_spelling told)
-reply_to Stored w v = with_code 10 Flushed format.replied 1 Stored [] (refl, refl)
-reply_to NotStored w v = with_code 10 Flushed format.replied 2 NotStored [] (refl, refl)
-reply_to Exists w v = with_code 10 Flushed format.replied 3 Exists [] (refl, refl)
-reply_to NotFound w v = with_code 10 Flushed format.replied 4 NotFound [] (refl, refl)
-reply_to Deleted w v = with_code 10 Flushed format.replied 5 Deleted [] (refl, refl)
-reply_to (Number n) w v = with_code 10 Flushed format.replied 6 (Number n) (long n) (amount_to Number n w)
+reply_to Stored w v = with_code 10 Flushed format.key_reply 1 Stored [] (refl, refl)
+reply_to NotStored w v = with_code 10 Flushed format.key_reply 2 NotStored [] (refl, refl)
+reply_to Exists w v = with_code 10 Flushed format.key_reply 3 Exists [] (refl, refl)
+reply_to NotFound w v = with_code 10 Flushed format.key_reply 4 NotFound [] (refl, refl)
+reply_to Deleted w v = with_code 10 Flushed format.key_reply 5 Deleted [] (refl, refl)
+reply_to (Number n) w v = with_code 10 Flushed format.key_reply 6 (Number n) (eight_bytes n) (amount_to Number n w)
 reply_to (Value item) w v = absurd cc
-reply_to TooLarge w v = with_code 10 Flushed format.replied 8 TooLarge [] (refl, refl)
-reply_to NotNumber w v = with_code 10 Flushed format.replied 9 NotNumber [] (refl, refl)
+reply_to TooLarge w v = with_code 10 Flushed format.key_reply 8 TooLarge [] (refl, refl)
+reply_to NotNumber w v = with_code 10 Flushed format.key_reply 9 NotNumber [] (refl, refl)
 reply_to Flushed w v = (10, 10 ∷ [], [], (refl, refl), (refl, refl), refl)
 
 -- ---- changes
@@ -88,8 +88,8 @@ Done entry code done text = SentChange entry false done (code ∷ text)
 abbrev item_of : ℕ → ℕ × List ℕ → Change
 item_of entry x = Put (record { flags = x.0; bytes = x.1; unique = entry })
 
-changed_from : (entry code : ℕ) (done : Change) (text : List ℕ) → (format.changed entry code).Spells done text → Done entry code done text
-changed_from entry code done text s0 =
+key_change_from : (entry code : ℕ) (done : Change) (text : List ℕ) → (format.key_change entry code).Spells done text → Done entry code done text
+key_change_from entry code done text s0 =
     elim (by_test (code == 0) _ _ done text s0) [
       | inl h ↦ by_value (Done entry) Keep 0 code done text h.0 (record { spelled = refl; width = tt; put = tt; aimed = refl }) h.1
       | inr s1 ↦ elim (by_test (code == 1) _ _ done text s1.1) [
@@ -102,15 +102,15 @@ changed_from entry code done text s0 =
     ]
 
 change_from : (all : Bool) (entry : ℕ) (done : Change) (text : List ℕ) → (format.change all entry).Spells done text → SentChange entry all done text
-change_from all entry done text s = by_code all 3 Clear (format.changed entry) (SentChange entry) (record { spelled = refl; width = tt; put = tt; aimed = refl }) (changed_from entry) done text s
+change_from all entry done text s = by_code all 3 Clear (format.key_change entry) (SentChange entry) (record { spelled = refl; width = tt; put = tt; aimed = refl }) (key_change_from entry) done text s
 
 change_to : (entry : ℕ) (done : Change) → HasChangeWidth done → PutsOwn entry done → (format.change (is_clear done) entry).Spells done (change_spelling done)
-change_to entry Keep w p = with_code 3 Clear (format.changed entry) 0 Keep [] (refl, refl)
+change_to entry Keep w p = with_code 3 Clear (format.key_change entry) 0 Keep [] (refl, refl)
 change_to entry (Put item) w p =
-    with_code 3 Clear (format.changed entry) 1 (Put item) (word item.flags ++ block_spelling item.bytes)
-    (subst (λ (u : ℕ). (followed format.flagged (λ x. makes (item_of u x))).Spells (Put item) (word item.flags ++ block_spelling item.bytes)) p.0
+    with_code 3 Clear (format.key_change entry) 1 (Put item) (four_bytes item.flags ++ block_spelling item.bytes)
+    (subst (λ (u : ℕ). (followed format.flagged (λ x. makes (item_of u x))).Spells (Put item) (four_bytes item.flags ++ block_spelling item.bytes)) p.0
     (to_made format.flagged (item_of item.unique) (item.flags, item.bytes) _ (flagged_to (item.flags, item.bytes) w p.1)))
-change_to entry Drop w p = with_code 3 Clear (format.changed entry) 2 Drop [] (refl, refl)
+change_to entry Drop w p = with_code 3 Clear (format.key_change entry) 2 Drop [] (refl, refl)
 change_to entry Clear w p = (3, 3 ∷ [], [], (refl, refl), (refl, refl), refl)
 
 -- ---- bodies
@@ -136,7 +136,7 @@ op_body_from says text s =
     let behind : s.2 ≡ target_spelling on.0 ++ op_spelling m.0 = joined s.2 on.1 on.2 (target_spelling on.0) (op_spelling m.0) on.5 t.0 o.spelled in
     subst (λ says. SentBody 1 says text) (sym m.2)
     (record {
-      spelled = joined text s.1 s.2 (long s.0) (target_spelling on.0 ++ op_spelling m.0) s.5 s.3.2 behind;
+      spelled = joined text s.1 s.2 (eight_bytes s.0) (target_spelling on.0 ++ op_spelling m.0) s.5 s.3.2 behind;
       whole = (positive_is s.0 s.3.1, s.3.0, t.1, (o.fits, o.aimed), o.update, o.widths);
       kind_is = refl;
     })
@@ -153,11 +153,11 @@ forward_body_from says text s =
     let c = change_from (is_all on.0) s.0 m.0 told.2 m.1 in
     let e4 : on.2 ≡ reply_spelling told.0 ++ change_spelling m.0 = joined on.2 told.1 told.2 (reply_spelling told.0) (change_spelling m.0) told.5 r.spelled c.spelled in
     let e3 : id.2 ≡ target_spelling on.0 ++ (reply_spelling told.0 ++ change_spelling m.0) = joined id.2 on.1 on.2 (target_spelling on.0) _ on.5 t.0 e4 in
-    let e2 : origin.2 ≡ long id.0 ++ (target_spelling on.0 ++ (reply_spelling told.0 ++ change_spelling m.0)) = joined origin.2 id.1 id.2 (long id.0) _ id.5 id.3.2 e3 in
-    let e1 : s.2 ≡ origin.0 ∷ (long id.0 ++ (target_spelling on.0 ++ (reply_spelling told.0 ++ change_spelling m.0))) = joined s.2 origin.1 origin.2 (origin.0 ∷ []) _ origin.5 origin.3.1 e2 in
+    let e2 : origin.2 ≡ eight_bytes id.0 ++ (target_spelling on.0 ++ (reply_spelling told.0 ++ change_spelling m.0)) = joined origin.2 id.1 id.2 (eight_bytes id.0) _ id.5 id.3.2 e3 in
+    let e1 : s.2 ≡ origin.0 ∷ (eight_bytes id.0 ++ (target_spelling on.0 ++ (reply_spelling told.0 ++ change_spelling m.0))) = joined s.2 origin.1 origin.2 (origin.0 ∷ []) _ origin.5 origin.3.1 e2 in
     subst (λ says. SentBody 2 says text) (sym m.2)
     (record {
-      spelled = joined text s.1 s.2 (long s.0) _ s.5 s.3.2 e1;
+      spelled = joined text s.1 s.2 (eight_bytes s.0) _ s.5 s.3.2 e1;
       whole = record {
         entry = record { numbered = positive_is s.0 s.3.1; served = below_is 16 origin.0 origin.3.0; called = positive_is id.0 id.3.1; answered = r.no_item; put = c.put; cleared = c.aimed; flushed = r.aimed };
         number = s.3.0;
@@ -174,7 +174,7 @@ query_body_from says text s =
     let m = from_made format.key (bodies.Query s.0) says s.2 s.4 in
     let k = key_from m.0 s.2 m.1 in
     subst (λ says. SentBody 4 says text) (sym m.2)
-    (record { spelled = joined text s.1 s.2 (long s.0) (key_spelling m.0) s.5 s.3.2 k.0; whole = (positive_is s.0 s.3.1, s.3.0, k.1); kind_is = refl })
+    (record { spelled = joined text s.1 s.2 (eight_bytes s.0) (key_spelling m.0) s.5 s.3.2 k.0; whole = (positive_is s.0 s.3.1, s.3.0, k.1); kind_is = refl })
 
 ack_body_from : (says : Body) (text : List ℕ) → format.ack_body.Spells says text → SentBody 3 says text
 ack_body_from says text s =
@@ -185,7 +185,7 @@ answer_body_from : (says : Body) (text : List ℕ) → format.answer_body.Spells
 answer_body_from says text s =
     let m = from_made (number w64 any) (bodies.Answer s.0) says s.2 s.4 in
     subst (λ says. SentBody 5 says text) (sym m.2)
-    (record { spelled = joined text s.1 s.2 (long s.0) (long m.0) s.5 s.3.2 m.1.2; whole = (positive_is s.0 s.3.1, s.3.0, m.1.0); kind_is = refl })
+    (record { spelled = joined text s.1 s.2 (eight_bytes s.0) (eight_bytes m.0) s.5 s.3.2 m.1.2; whole = (positive_is s.0 s.3.1, s.3.0, m.1.0); kind_is = refl })
 
 -- kinds of messages
 record IsKind (kind : ℕ) : Type 0 where
@@ -226,7 +226,7 @@ body_to : (says : Body) → IsBody says → (format.body (kind_of says)).Spells 
 body_to (bodies.Op id call) h =
     let o = subst (λ all. (format.operation all).Spells call.op (op_spelling call.op)) h.3.1 (op_to call.op h.3.0 h.5 h.4) in (
       id,
-      long id,
+      eight_bytes id,
       target_spelling call.target ++ op_spelling call.op,
       (h.1, positive_to id h.0, refl),
       (
@@ -244,7 +244,7 @@ body_to (bodies.Forward e) h =
     let r = subst (λ all. (format.reply all).Spells e.reply (reply_spelling e.reply)) entry.flushed (reply_to e.reply h.reply entry.answered) in
     let c = subst (λ all. (format.change all e.number).Spells e.change (change_spelling e.change)) entry.cleared (change_to e.number e.change h.change entry.put) in (
       e.number,
-      long e.number,
+      eight_bytes e.number,
       _,
       (h.number, positive_to e.number entry.numbered, refl),
       (
@@ -254,7 +254,7 @@ body_to (bodies.Forward e) h =
         (lt-ltb e.origin 16 entry.served, refl),
         (
           e.id,
-          long e.id,
+          eight_bytes e.id,
           _,
           (h.id, positive_to e.id entry.called, refl),
           (
@@ -280,8 +280,8 @@ body_to (bodies.Forward e) h =
     )
 body_to (bodies.Ack n) h = amount_to bodies.Ack n h
 body_to (bodies.Query ask key) h =
-    (ask, long ask, key_spelling key, (h.1, positive_to ask h.0, refl), to_made format.key (bodies.Query ask) key (key_spelling key) (key_to key h.2), refl)
-body_to (bodies.Answer ask n) h = (ask, long ask, long n, (h.1, positive_to ask h.0, refl), amount_to (bodies.Answer ask) n h.2, refl)
+    (ask, eight_bytes ask, key_spelling key, (h.1, positive_to ask h.0, refl), to_made format.key (bodies.Query ask) key (key_spelling key) (key_to key h.2), refl)
+body_to (bodies.Answer ask n) h = (ask, eight_bytes ask, eight_bytes n, (h.1, positive_to ask h.0, refl), amount_to (bodies.Answer ask) n h.2, refl)
 
 -- ---- frames
 

@@ -28,6 +28,7 @@ abbrev pub Read : Type 0 → Type 0
 Read A = Result (A × List ℕ) Stop
 
 infixl 10 ◌>>=◌
+-- what was read is handed to what follows; where reading stops, it stops there
 abbrev pub ◌>>=◌ : {A B : Type 0} → Result A Stop → (A → Result B Stop) → Result B Stop
 (Ok x) >>= f = f x
 (Err e) >>= f = Err e
@@ -37,12 +38,12 @@ abbrev pub Gives : {X Y : Type 0} → (X → Y) → Result X Stop → Result Y S
 Gives view (Ok x) read = read ≡ Ok (view x)
 Gives view (Err e) read = read ≡ Err e
 
--- The same of a function that may want memory: it does so only where there is a value.
+-- Why a reader that may want memory gives nothing: it wants memory only where there is a value.
 abbrev pub Fails : {Y : Type 0} → ReadFault → Result Y Stop → Type 0
 Fails faults.Memory read = IsOk read
 Fails (faults.Stopped stop) read = read ≡ Err stop
 
--- what such a function returned is what reading gives
+-- What such a reader returned, seen by view, is what reading gives.
 abbrev pub GivesOwned : {X Y : Type 0} → (X → Y) → Result X ReadFault → Result Y Stop → Type 0
 GivesOwned view (Ok x) read = read ≡ Ok (view x)
 GivesOwned view (Err e) read = Fails e read
@@ -70,7 +71,8 @@ bytes_at n bytes = if nat_lt (length bytes) n then Err (Short (n - length bytes)
 abbrev pub text_at : ℕ → List ℕ → Read (List ℕ)
 text_at n bytes =
     if not (list_all is_key_byte (take n bytes)) then Err Malformed
-    else (if nat_lt (length bytes) n then Err (Short 1) else Ok (take n bytes, drop n bytes))
+    else if nat_lt (length bytes) n then Err (Short 1)
+    else Ok (take n bytes, drop n bytes)
 
 -- a key
 unfoldable pub key_at : List ℕ → Read (List ℕ)
@@ -103,54 +105,57 @@ flagged_at bytes = do
   Ok ((flags.0, block.0), block.1)
 
 -- what stands behind the code of an operation on a key
-unfoldable pub operands_at : ℕ → List ℕ → Read Op
-operands_at code bytes =
+unfoldable pub key_operation_at : ℕ → List ℕ → Read Op
+key_operation_at code bytes =
     if code == 1 then (flagged_at bytes >>= λ x. Ok (Set x.0.0 x.0.1, x.1))
-    else (if code == 2 then (flagged_at bytes >>= λ x. Ok (Add x.0.0 x.0.1, x.1))
-    else (if code == 3 then (flagged_at bytes >>= λ x. Ok (Replace x.0.0 x.0.1, x.1))
-    else (if code == 4 then (block_at bytes >>= λ x. Ok (Append x.0, x.1))
-    else (if code == 5 then (block_at bytes >>= λ x. Ok (Prepend x.0, x.1))
-    else (if code == 6 then (number_at w32 any bytes >>= λ flags. number_at w64 any flags.1 >>= λ unique. block_at unique.1 >>= λ x. Ok (Cas flags.0 x.0 unique.0, x.1))
-    else (if code == 7 then (number_at w64 any bytes >>= λ n. Ok (Incr n.0, n.1))
-    else (if code == 8 then (number_at w64 any bytes >>= λ n. Ok (Decr n.0, n.1))
-    else (if code == 9 then Ok (Delete, bytes) else Err Malformed))))))))
+    else if code == 2 then (flagged_at bytes >>= λ x. Ok (Add x.0.0 x.0.1, x.1))
+    else if code == 3 then (flagged_at bytes >>= λ x. Ok (Replace x.0.0 x.0.1, x.1))
+    else if code == 4 then (block_at bytes >>= λ x. Ok (Append x.0, x.1))
+    else if code == 5 then (block_at bytes >>= λ x. Ok (Prepend x.0, x.1))
+    else if code == 6 then (number_at w32 any bytes >>= λ flags. number_at w64 any flags.1 >>= λ unique. block_at unique.1 >>= λ x. Ok (Cas flags.0 x.0 unique.0, x.1))
+    else if code == 7 then (number_at w64 any bytes >>= λ n. Ok (Incr n.0, n.1))
+    else if code == 8 then (number_at w64 any bytes >>= λ n. Ok (Decr n.0, n.1))
+    else if code == 9 then Ok (Delete, bytes)
+    else Err Malformed
 
 -- an operation
 unfoldable pub op_at : Bool → List ℕ → Read Op
 op_at all bytes = do
   code ← byte_at any bytes
-  if all then (if code.0 == 10 then Ok (Flush, code.1) else Err Malformed) else operands_at code.0 code.1
+  if all then (if code.0 == 10 then Ok (Flush, code.1) else Err Malformed) else key_operation_at code.0 code.1
 
 -- what stands behind the code of a reply to an operation on a key
-unfoldable pub replied_at : ℕ → List ℕ → Read Reply
-replied_at code bytes =
+unfoldable pub key_reply_at : ℕ → List ℕ → Read Reply
+key_reply_at code bytes =
     if code == 1 then Ok (Stored, bytes)
-    else (if code == 2 then Ok (NotStored, bytes)
-    else (if code == 3 then Ok (Exists, bytes)
-    else (if code == 4 then Ok (NotFound, bytes)
-    else (if code == 5 then Ok (Deleted, bytes)
-    else (if code == 6 then (number_at w64 any bytes >>= λ n. Ok (Number n.0, n.1))
-    else (if code == 8 then Ok (TooLarge, bytes)
-    else (if code == 9 then Ok (NotNumber, bytes) else Err Malformed)))))))
+    else if code == 2 then Ok (NotStored, bytes)
+    else if code == 3 then Ok (Exists, bytes)
+    else if code == 4 then Ok (NotFound, bytes)
+    else if code == 5 then Ok (Deleted, bytes)
+    else if code == 6 then (number_at w64 any bytes >>= λ n. Ok (Number n.0, n.1))
+    else if code == 8 then Ok (TooLarge, bytes)
+    else if code == 9 then Ok (NotNumber, bytes)
+    else Err Malformed
 
 -- a reply
 unfoldable pub reply_at : Bool → List ℕ → Read Reply
 reply_at all bytes = do
   code ← byte_at any bytes
-  if all then (if code.0 == 10 then Ok (Flushed, code.1) else Err Malformed) else replied_at code.0 code.1
+  if all then (if code.0 == 10 then Ok (Flushed, code.1) else Err Malformed) else key_reply_at code.0 code.1
 
 -- what stands behind the code of a change at a key
-unfoldable pub changed_at : ℕ → ℕ → List ℕ → Read Change
-changed_at number code bytes =
+unfoldable pub key_change_at : ℕ → ℕ → List ℕ → Read Change
+key_change_at number code bytes =
     if code == 0 then Ok (Keep, bytes)
-    else (if code == 1 then (flagged_at bytes >>= λ x. Ok (Put (record { flags = x.0.0; bytes = x.0.1; unique = number }), x.1))
-    else (if code == 2 then Ok (Drop, bytes) else Err Malformed))
+    else if code == 1 then (flagged_at bytes >>= λ x. Ok (Put (record { flags = x.0.0; bytes = x.0.1; unique = number }), x.1))
+    else if code == 2 then Ok (Drop, bytes)
+    else Err Malformed
 
 -- a change
 unfoldable pub change_at : Bool → ℕ → List ℕ → Read Change
 change_at all number bytes = do
   code ← byte_at any bytes
-  if all then (if code.0 == 3 then Ok (Clear, code.1) else Err Malformed) else changed_at number code.0 code.1
+  if all then (if code.0 == 3 then Ok (Clear, code.1) else Err Malformed) else key_change_at number code.0 code.1
 
 -- an update call
 unfoldable pub op_body_at : List ℕ → Read Body
@@ -195,10 +200,10 @@ answer_body_at bytes = do
 unfoldable pub body_at : ℕ → List ℕ → Read Body
 body_at kind bytes =
     if kind == 1 then op_body_at bytes
-    else (if kind == 2 then forward_body_at bytes
-    else (if kind == 3 then ack_body_at bytes
-    else (if kind == 4 then query_body_at bytes
-    else answer_body_at bytes)))
+    else if kind == 2 then forward_body_at bytes
+    else if kind == 3 then ack_body_at bytes
+    else if kind == 4 then query_body_at bytes
+    else answer_body_at bytes
 
 -- a message of a kind
 unfoldable pub message_at : ℕ → List ℕ → Read Frame
@@ -211,8 +216,9 @@ message_at kind bytes = do
 unfoldable pub of_kind_at : ℕ → List ℕ → Read Frame
 of_kind_at kind bytes =
     if kind == 0 then (byte_at (at_most 16) bytes >>= λ id. Ok (Hello id.0, id.1))
-    else (if kind == 6 then (byte_at (below 16) bytes >>= λ id. Ok (Gone id.0, id.1))
-    else (if nat_lt 6 kind then Err Malformed else message_at kind bytes))
+    else if kind == 6 then (byte_at (below 16) bytes >>= λ id. Ok (Gone id.0, id.1))
+    else if nat_lt 6 kind then Err Malformed
+    else message_at kind bytes
 
 -- the format's byte: an older server's is told apart
 abbrev pub format_at : List ℕ → Read ℕ

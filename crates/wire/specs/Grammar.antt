@@ -65,8 +65,8 @@ flagged = do
   makes (flags, bytes)
 
 -- what stands behind the code of an operation on one key
-abbrev pub operands : ℕ → Part Op
-operands code =
+abbrev pub key_operation : ℕ → Part Op
+key_operation code =
     either (code == 1) (flagged >>= λ x. makes (Set x.0 x.1))
     (either (code == 2) (flagged >>= λ x. makes (Add x.0 x.1))
     (either (code == 3) (flagged >>= λ x. makes (Replace x.0 x.1))
@@ -81,11 +81,11 @@ operands code =
 abbrev pub operation : Bool → Part Op
 operation all = do
   code ← byte any
-  either all (either (code == 10) (makes Flush) refused) (operands code)
+  either all (either (code == 10) (makes Flush) refused) (key_operation code)
 
 -- what stands behind the code of a reply to an operation on one key
-abbrev pub replied : ℕ → Part Reply
-replied code =
+abbrev pub key_reply : ℕ → Part Reply
+key_reply code =
     either (code == 1) (makes Stored)
     (either (code == 2) (makes NotStored)
     (either (code == 3) (makes Exists)
@@ -99,11 +99,11 @@ replied code =
 abbrev pub reply : Bool → Part Reply
 reply all = do
   code ← byte any
-  either all (either (code == 10) (makes Flushed) refused) (replied code)
+  either all (either (code == 10) (makes Flushed) refused) (key_reply code)
 
 -- what stands behind the code of a change at one key, in the entry of this number
-abbrev pub changed : ℕ → ℕ → Part Change
-changed entry code =
+abbrev pub key_change : ℕ → ℕ → Part Change
+key_change entry code =
     either (code == 0) (makes Keep)
     (either (code == 1) (flagged >>= λ x. makes (Put (record { flags = x.0; bytes = x.1; unique = entry })))
     (either (code == 2) (makes Drop) refused))
@@ -112,7 +112,7 @@ changed entry code =
 abbrev pub change : Bool → ℕ → Part Change
 change all entry = do
   code ← byte any
-  either all (either (code == 3) (makes Clear) refused) (changed entry code)
+  either all (either (code == 3) (makes Clear) refused) (key_change entry code)
 
 -- an update call: its id, its target and its operation
 abbrev pub op_body : Part Body
@@ -194,8 +194,12 @@ pub record IsFirst (f : Frame) (bytes rest : List ℕ) : Type 0 where
   pub in_range : IsFrame f
   pub spelled : bytes ≡ spelling f ++ rest
 
+-- a frame stands at the front
+abbrev pub HasFrame : List ℕ → Type 0
+HasFrame bytes = (f : Frame) × (rest : List ℕ) × IsFirst f bytes rest
+
 -- neither a frame stands at the front, nor a bad front, nor an older server's
 pub record IsPartial (bytes : List ℕ) : Type 0 where
-  pub no_frame : (f : Frame) (rest : List ℕ) → IsFirst f bytes rest → ⊥
+  pub no_frame : HasFrame bytes → ⊥
   pub not_malformed : IsMalformed bytes → ⊥
   pub not_old : IsOld bytes → ⊥

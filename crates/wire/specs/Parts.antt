@@ -17,6 +17,7 @@ followed {A = A} {B = B} first second = record {
 }
 
 infixl 10 ◌>>=◌
+-- the same between its two parts
 abbrev pub ◌>>=◌ : {A B : Type 0} → Part A → (A → Part B) → Part B
 first >>= second = followed first second
 

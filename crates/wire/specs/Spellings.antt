@@ -19,12 +19,12 @@ use Rattle.wire.specs.declared.frames.Frame.{Frame}
 use Rattle.wire.specs.declared.frames.Frame.TheVariants.{Hello, Peer, Gone}
 
 -- a number of eight bytes, the most significant byte first
-abbrev pub long : ℕ → List ℕ
-long n = to_be_bytes w64 n
+abbrev pub eight_bytes : ℕ → List ℕ
+eight_bytes n = to_be_bytes w64 n
 
 -- a number of four bytes
-abbrev pub word : ℕ → List ℕ
-word n = to_be_bytes w32 n
+abbrev pub four_bytes : ℕ → List ℕ
+four_bytes n = to_be_bytes w32 n
 
 -- a key: a byte of length, and so many bytes
 abbrev pub key_spelling : List ℕ → List ℕ
@@ -37,19 +37,19 @@ target_spelling All = 0 ∷ []
 
 -- an item's data: four bytes of length, and so many bytes
 abbrev pub block_spelling : List ℕ → List ℕ
-block_spelling bytes = word (length bytes) ++ bytes
+block_spelling bytes = four_bytes (length bytes) ++ bytes
 
 -- an operation: a code and what it takes; a read is never sent
 abbrev pub op_spelling : Op → List ℕ
 op_spelling Read = []
-op_spelling (Set flags bytes) = 1 ∷ (word flags ++ block_spelling bytes)
-op_spelling (Add flags bytes) = 2 ∷ (word flags ++ block_spelling bytes)
-op_spelling (Replace flags bytes) = 3 ∷ (word flags ++ block_spelling bytes)
+op_spelling (Set flags bytes) = 1 ∷ (four_bytes flags ++ block_spelling bytes)
+op_spelling (Add flags bytes) = 2 ∷ (four_bytes flags ++ block_spelling bytes)
+op_spelling (Replace flags bytes) = 3 ∷ (four_bytes flags ++ block_spelling bytes)
 op_spelling (Append bytes) = 4 ∷ block_spelling bytes
 op_spelling (Prepend bytes) = 5 ∷ block_spelling bytes
-op_spelling (Cas flags bytes unique) = 6 ∷ (word flags ++ (long unique ++ block_spelling bytes))
-op_spelling (Incr amount) = 7 ∷ long amount
-op_spelling (Decr amount) = 8 ∷ long amount
+op_spelling (Cas flags bytes unique) = 6 ∷ (four_bytes flags ++ (eight_bytes unique ++ block_spelling bytes))
+op_spelling (Incr amount) = 7 ∷ eight_bytes amount
+op_spelling (Decr amount) = 8 ∷ eight_bytes amount
 op_spelling Delete = 9 ∷ []
 op_spelling Flush = 10 ∷ []
 
@@ -60,7 +60,7 @@ reply_spelling NotStored = 2 ∷ []
 reply_spelling Exists = 3 ∷ []
 reply_spelling NotFound = 4 ∷ []
 reply_spelling Deleted = 5 ∷ []
-reply_spelling (Number n) = 6 ∷ long n
+reply_spelling (Number n) = 6 ∷ eight_bytes n
 reply_spelling (Value item) = []
 reply_spelling TooLarge = 8 ∷ []
 reply_spelling NotNumber = 9 ∷ []
@@ -69,14 +69,14 @@ reply_spelling Flushed = 10 ∷ []
 -- a change: a code, and what is put; a put item's unique isn't spelled, since it is the entry's number
 abbrev pub change_spelling : Change → List ℕ
 change_spelling Keep = 0 ∷ []
-change_spelling (Put item) = 1 ∷ (word item.flags ++ block_spelling item.bytes)
+change_spelling (Put item) = 1 ∷ (four_bytes item.flags ++ block_spelling item.bytes)
 change_spelling Drop = 2 ∷ []
 change_spelling Clear = 3 ∷ []
 
 -- an entry: its number, origin, id, target, reply and change
 abbrev pub entry_spelling : LogEntry → List ℕ
 entry_spelling e =
-    long e.number ++ (e.origin ∷ (long e.id ++ (target_spelling e.target ++ (reply_spelling e.reply ++ change_spelling e.change))))
+    eight_bytes e.number ++ (e.origin ∷ (eight_bytes e.id ++ (target_spelling e.target ++ (reply_spelling e.reply ++ change_spelling e.change))))
 
 -- the kind of a body
 abbrev pub kind_of : Body → ℕ
@@ -88,11 +88,11 @@ kind_of (bodies.Answer ask n) = 5
 
 -- a body without its kind
 abbrev pub body_spelling : Body → List ℕ
-body_spelling (bodies.Op id call) = long id ++ (target_spelling call.target ++ op_spelling call.op)
+body_spelling (bodies.Op id call) = eight_bytes id ++ (target_spelling call.target ++ op_spelling call.op)
 body_spelling (bodies.Forward e) = entry_spelling e
-body_spelling (bodies.Ack n) = long n
-body_spelling (bodies.Query ask key) = long ask ++ key_spelling key
-body_spelling (bodies.Answer ask n) = long ask ++ long n
+body_spelling (bodies.Ack n) = eight_bytes n
+body_spelling (bodies.Query ask key) = eight_bytes ask ++ key_spelling key
+body_spelling (bodies.Answer ask n) = eight_bytes ask ++ eight_bytes n
 
 -- a frame: format, kind, view and body
 abbrev pub spelling : Frame → List ℕ

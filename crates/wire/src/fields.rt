@@ -5,9 +5,9 @@ ghost use Rattle.std.specs.List.{list_all};
 ghost use Rattle.table.specs.Items.{limit};
 ghost use Rattle.table.specs.Keys.{IsKey, is_key_byte};
 ghost use Rattle.wire.specs.Grammar.{any, positive};
-ghost use Rattle.wire.specs.Fronts.{Gives, block_at, byte_at, bytes_at, key_at, number_at, target_at, text_at};
+ghost use Rattle.wire.specs.Fronts.{Gives, block_at, byte_at, bytes_at, key_at, number_at, text_at};
 
-use table::LIMIT;
+use table::{Key, LIMIT};
 
 /// Why no value is read from the front.
 #[derive(Clone, Copy, Debug)]
@@ -86,10 +86,11 @@ pub fn key_at(bytes: &[u8]) -> Result<(&[u8], &[u8]), Stop>
     ensures key { IfOk result (λ x. IsKey x.0.now) }
 {
     let (count, rest) = byte_at(bytes)?;
-    if count < 1 || count > 250 {
+    let count = usize::from(count);
+    if count < 1 || count > Key::MAX {
         return Err(Stop::Malformed);
     }
-    text_at(usize::from(count), rest)
+    text_at(count, rest)
 }
 
 /// A key's bytes, where its length has been read.

@@ -4,7 +4,19 @@ ghost use Rattle.wire.specs.Spellings.{IsBodyInRange, IsInRange};
 
 use node::{Body, Peer};
 
-/// What stands on a connection between servers, one after another.
+/// The format's number, which is each frame's first byte.
+pub const FORMAT: u8 = 2;
+
+/// The format of servers that took smaller items.
+pub const OLD_FORMAT: u8 = 1;
+
+/// The most servers of a chain: the id of each is below.
+pub const SERVERS: u8 = 16;
+
+/// The id by which the master greets.
+pub const MASTER: u8 = 16;
+
+/// What stands on a connection between servers, one after another (docs/FORMATS.md, "Peer messages").
 #[derive(Clone, Debug, Drop)]
 pub enum Frame {
     /// Who speaks here: a server by its id, below 16, or the master by 16. It stands first.
@@ -21,9 +33,9 @@ impl Frame {
         ensures { IsTrue result ↔ IsInRange self.now }
     {
         match self {
-            Frame::Hello(id) => *id <= 16,
+            Frame::Hello(id) => *id <= MASTER,
             Frame::Peer(peer) => is_body_in_range(&peer.body),
-            Frame::Gone(id) => *id < 16,
+            Frame::Gone(id) => *id < SERVERS,
         }
     }
 }

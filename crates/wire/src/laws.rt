@@ -1,5 +1,5 @@
 //! Laws of the format: one spelling a frame, none a beginning of another, and what is read is what was written.
-ghost use Rattle.std.specs.Prelude.{◌≡◌, ◌↔◌, List, ℕ, ◌++◌};
+ghost use Rattle.std.specs.Prelude.{◌≡◌, ◌↔◌, ◌<◌, List, ℕ, ◌++◌, slice_index};
 ghost use Rattle.std.specs.List.{AllByRecursion, flat_map};
 ghost use Rattle.wire.specs.declared.frames.Frame.{Frame};
 ghost use Rattle.wire.specs.Spellings.{IsFrame, spelling};
@@ -19,6 +19,11 @@ pub fn one_frame_at_a_front()
 /// Where a field is out of its range no frame is read, whatever comes behind it.
 pub fn bad_front_is_final()
     ensures { (f : Frame) (bytes more rest : List ℕ) → IsMalformed bytes → IsFirst f (bytes ++ more) rest → ⊥ }
+{}
+
+/// A bad front stays bad, whatever bytes come behind it.
+pub fn bad_front_stays()
+    ensures { (bytes more : List ℕ) → ((i : ℕ) → slice_index (bytes ++ more) i < 256) → IsMalformed bytes → IsMalformed (bytes ++ more) }
 {}
 
 /// The frames that a reader gave, and those that it has still to give, are those of all its bytes as one stream:

@@ -1,17 +1,20 @@
 //! The bytes of frames. There is room for all of a frame before its first byte is written, so that nothing is refused halfway.
-ghost use Rattle.std.specs.Prelude.{◌≡◌, ◌+◌, ◌≤◌, ◌<◌, ◌++◌, ◌∷◌, true, false, length, IfOk, OnOk, OnErr, IsOkUnless};
+ghost use Rattle.std.specs.Prelude.{◌≡◌, ◌+◌, ◌≤◌, ◌++◌, ◌∷◌, false, length, IfOk, OnOk, OnErr, IsOkUnless};
 ghost use Rattle.table.specs.Items.{limit};
-ghost use Rattle.table.specs.Operations.{Fits, is_update, is_value};
-ghost use Rattle.wire.specs.Spellings.{IsBodyInRange, IsInRange, block_spelling, body_spelling, change_spelling, entry_spelling, key_spelling, kind_of, op_spelling, reply_spelling, spelling, target_spelling, long, word};
+ghost use Rattle.table.specs.Operations.{Fits, is_value};
+ghost use Rattle.wire.specs.Spellings.{IsBodyInRange, IsInRange, block_spelling, body_spelling, change_spelling, eight_bytes, entry_spelling, four_bytes, key_spelling, kind_of, op_spelling, reply_spelling, spelling, target_spelling};
 
+use crate::frames::FORMAT;
+use crate::sizes::size;
 use crate::{Frame, WireFault};
 use bytes::{Bytes, BytesMut};
-use node::{Body, View};
+use node::Body;
 use std::alloc::Global;
 use table::{Change, Key, Op, Reply, Target};
 use versions::Entry;
 
-/// The one spelling of a frame.
+/// The one spelling of a frame in its ranges (docs/FORMATS.md, "Peer messages"; this project's rule). Memory is its only
+/// refusal. An item's data is copied once.
 pub fn encode(alloc: Global, frame: &Frame) -> Result<Vec<u8>, WireFault>
     requires range { IsInRange frame.now }
     ensures spelling { IfOk result (λ bytes. bytes.items ≡ spelling frame.now) }
@@ -22,7 +25,8 @@ pub fn encode(alloc: Global, frame: &Frame) -> Result<Vec<u8>, WireFault>
     Ok(out.into_vec()?)
 }
 
-/// The same at the end of a buffer, where many frames are to be written. An item's data is copied once.
+/// Writes that spelling behind a buffer's bytes, with one growth at most. Memory is its only refusal, and leaves the
+/// bytes as they were.
 pub fn encode_onto(out: &mut BytesMut, frame: &Frame) -> Result<(), WireFault>
     requires range { IsInRange frame.now }
     ensures ok { OnOk result (out.new.items ≡ out.old.items ++ spelling frame.now) }
@@ -34,88 +38,6 @@ pub fn encode_onto(out: &mut BytesMut, frame: &Frame) -> Result<(), WireFault>
     Ok(())
 }
 
-// How many bytes a frame has.
-fn size(frame: &Frame) -> usize
-    requires range { IsInRange frame.now }
-    ensures { result ≡ length (spelling frame.now) }
-{
-    match frame {
-        Frame::Hello(_) | Frame::Gone(_) => 3,
-        Frame::Peer(peer) => 4 + body_size(&peer.body),
-    }
-}
-
-fn body_size(body: &Body) -> usize
-    requires range { IsBodyInRange body.now }
-    ensures size { result ≡ length (body_spelling body.now) }
-    ensures bound { result < 2000000 }
-{
-    match body {
-        Body::Op(_, call) => 8 + target_size(&call.target) + op_size(&call.op),
-        Body::Forward(entry) => {
-            17 + target_size(entry.target()) + reply_size(entry.reply()) + change_size(entry)
-        }
-        Body::Ack(_) => 8,
-        Body::Query(_, key) => 9 + key.bytes().len(),
-        Body::Answer(..) => 16,
-    }
-}
-
-fn target_size(target: &Target) -> usize
-    ensures size { result ≡ length (target_spelling target.now) }
-    ensures bound { result ≤ 251 }
-{
-    match target {
-        Target::One(key) => 1 + key.bytes().len(),
-        Target::All => 1,
-    }
-}
-
-fn op_size(op: &Op) -> usize
-    requires fits { Fits op.now }
-    requires update { is_update op.now ≡ true }
-    ensures size { result ≡ length (op_spelling op.now) }
-    ensures bound { result ≤ 17 + limit }
-{
-    match op {
-        Op::Set(_, bytes) | Op::Add(_, bytes) | Op::Replace(_, bytes) => 9 + bytes.len(),
-        Op::Append(bytes) | Op::Prepend(bytes) => 5 + bytes.len(),
-        Op::Cas(_, bytes, _) => 17 + bytes.len(),
-        Op::Incr(_) | Op::Decr(_) => 9,
-        Op::Delete | Op::Flush => 1,
-        Op::Read => 0,
-    }
-}
-
-fn reply_size(reply: &Reply) -> usize
-    requires no_item { is_value reply.now ≡ false }
-    ensures size { result ≡ length (reply_spelling reply.now) }
-    ensures bound { result ≤ 9 }
-{
-    match reply {
-        Reply::Number(_) => 9,
-        Reply::Value(_) => 0,
-        Reply::Stored
-        | Reply::NotStored
-        | Reply::Exists
-        | Reply::NotFound
-        | Reply::Deleted
-        | Reply::TooLarge
-        | Reply::NotNumber
-        | Reply::Flushed => 1,
-    }
-}
-
-fn change_size(entry: &Entry) -> usize
-    ensures size { result ≡ length (change_spelling entry.now.change) }
-    ensures bound { result ≤ 9 + limit }
-{
-    match entry.change() {
-        Change::Put(item) => 9 + item.bytes.len(),
-        Change::Keep | Change::Drop | Change::Clear => 1,
-    }
-}
-
 // Writes a frame.
 fn put(out: &mut BytesMut, frame: &Frame)
     requires range { IsInRange frame.now }
@@ -123,13 +45,13 @@ fn put(out: &mut BytesMut, frame: &Frame)
     ensures { out.new.items ≡ out.old.items ++ spelling frame.now }
 {
     match frame {
-        Frame::Hello(id) => out.extend_reserved(&[2, 0, *id]),
+        Frame::Hello(id) => out.extend_reserved(&[FORMAT, 0, *id]),
         Frame::Peer(peer) => {
-            out.extend_reserved(&[2, kind_of(&peer.body)]);
+            out.extend_reserved(&[FORMAT, kind_of(&peer.body)]);
             out.extend_reserved(&peer.view.bits().to_be_bytes());
             put_body(out, &peer.body);
         }
-        Frame::Gone(id) => out.extend_reserved(&[2, 6, *id]),
+        Frame::Gone(id) => out.extend_reserved(&[FORMAT, 6, *id]),
     }
 }
 
@@ -237,7 +159,7 @@ fn put_op(out: &mut BytesMut, op: &Op)
 fn put_flagged(out: &mut BytesMut, code: u8, flags: u32, bytes: &Bytes)
     requires fits { length bytes.now ≤ limit }
     requires room { 9 + length bytes.now ≤ out.old.spare }
-    ensures { out.new.items ≡ out.old.items ++ code ∷ (word flags ++ block_spelling bytes.now) }
+    ensures { out.new.items ≡ out.old.items ++ code ∷ (four_bytes flags ++ block_spelling bytes.now) }
 {
     out.extend_reserved(&[code]);
     out.extend_reserved(&flags.to_be_bytes());
@@ -257,7 +179,7 @@ fn put_block(out: &mut BytesMut, bytes: &Bytes)
 // A code and a number.
 fn put_number(out: &mut BytesMut, code: u8, n: u64)
     requires room { 9 ≤ out.old.spare }
-    ensures text { out.new.items ≡ out.old.items ++ code ∷ long n }
+    ensures text { out.new.items ≡ out.old.items ++ code ∷ eight_bytes n }
     ensures room { out.new.spare + 9 ≡ out.old.spare }
 {
     out.extend_reserved(&[code]);

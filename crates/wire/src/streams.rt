@@ -31,7 +31,7 @@ impl Model for Frames {
 
 impl Frames {
     ghost use Rattle.std.specs.Prelude.{◌≡◌, ◌↔◌, true, OnOk, OnErr, IfOk, IfSome, IfNone, IsErrOf};
-    ghost use Rattle.wire.specs.Grammar.{IsFirst, IsMalformed, IsOld, IsPartial};
+    ghost use Rattle.wire.specs.Grammar.{HasFrame, IsFirst, IsMalformed, IsOld, IsPartial};
     ghost use Rattle.wire.specs.Streams.{fed, fresh, next_of};
 
     /// A reader that was fed with nothing. It allocates nothing.
@@ -46,7 +46,8 @@ impl Frames {
         }
     }
 
-    /// Adds a piece at the end of the unread bytes. It is refused once `next` has met a bad front or an older server.
+    /// Adds a piece at the end of the unread bytes. Once `next` has met a bad front or an older server it is refused:
+    /// `Closed` comes exactly then. `Memory` changes nothing.
     pub fn feed(&mut self, piece: &[u8]) -> Result<(), WireFault>
         ensures ok { OnOk result (self.new ≡ fed self.old piece.now) }
         ensures closed { IsErrOf result WireFault.Closed ↔ (self.old.closed ≡ true) }
@@ -63,7 +64,7 @@ impl Frames {
     }
 
     /// The frame at the front, which is taken off, or none where it isn't whole yet.
-    /// Want of memory changes nothing. A bad front stays, so that every later call meets it again; so does an older server's.
+    /// `Memory` comes only where a frame stands there, and changes nothing. A bad front stays, so that every later call meets it again; so does an older server's.
     pub fn next(&mut self) -> Result<Option<Frame>, WireFault>
         ensures frame { IfOk result (λ found. IfSome found (λ frame. IsFirst frame self.old.unread self.new.unread)) }
         ensures none { IfOk result (λ found. IfNone found (IsPartial self.old.unread)) }
@@ -71,6 +72,7 @@ impl Frames {
         ensures old_format { IsErrOf result WireFault.OldFormat ↔ IsOld self.old.unread }
         ensures not_closed { IsErrOf result WireFault.Closed → ⊥ }
         ensures memory { IsErrOf result WireFault.Memory → self.new ≡ self.old }
+        ensures wanted { IsErrOf result WireFault.Memory → HasFrame self.old.unread }
         // The same by one function of what is held, for runs of many calls.
         ensures given { IfOk result (λ found. found ≡ (next_of self.old).0) }
         ensures left { (IsErrOf result WireFault.Memory → ⊥) → self.new ≡ (next_of self.old).1 }

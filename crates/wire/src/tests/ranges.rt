@@ -4,7 +4,7 @@ use super::fronts::{Found, first_found};
 use std::alloc::Global;
 use std::test::Fail;
 
-// What the header of a message stands for in the rows: format, kind, no view, and the number 1.
+// A message of this kind, with an empty view and number 1, and these bytes behind it.
 pub(super) fn row(alloc: Global, kind: u8, behind: &[u8]) -> Result<Vec<u8>, Fail> {
     let mut text = Vec::new(alloc);
     text.extend_from_slice(&[2, kind, 0, 0, 0, 0, 0, 0, 0, 0, 0, 1])?;

@@ -1,5 +1,5 @@
 use Rattle.std.proofs.Common.{◌++◌, ◌∷◌, [], ap, sym, ◌∙◌}
-use Rattle.wire.specs.Spellings.{long, word, block_spelling, op_spelling}
+use Rattle.wire.specs.Spellings.{eight_bytes, four_bytes, block_spelling, op_spelling}
 use Rattle.wire.proofs.Appends.{then_more, spelled_so}
 use Rattle.wire.proofs.spelling.put_op.Goals as goal
 
@@ -10,8 +10,8 @@ returns-in-Cas c =
     let flagged = c.extend_reserved-in-Cas-2.new.self.items in
     let marked = c.extend_reserved-in-Cas-3.new.self.items in
     let done = c.put_block-in-Cas.new.out.items in
-    let flags = word c.in-Cas.flags in
-    let unique = long c.in-Cas.unique in
+    let flags = four_bytes c.in-Cas.flags in
+    let unique = eight_bytes c.in-Cas.unique in
     let block = block_spelling c.in-Cas.bytes in
     let flags_put = spelled_so coded flagged c.to_be_bytes.result flags c.extend_reserved-in-Cas-2.ensures.items c.to_be_bytes.ensures in
     let unique_put = spelled_so flagged marked c.to_be_bytes-in-Cas.result unique c.extend_reserved-in-Cas-3.ensures.items c.to_be_bytes-in-Cas.ensures in

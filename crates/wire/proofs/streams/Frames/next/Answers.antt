@@ -1,10 +1,10 @@
 use Rattle.std.proofs.Common.{◌≡◌, ◌-◌, ℕ, length, drop, Ok, Err, refl, ap, sym, subst, ◌∙◌, arith}
 use Rattle.wire.specs.declared.fields.Stop.TheVariants.{Short, Malformed, Old}
-use Rattle.wire.specs.Grammar.{IsFirst, IsMalformed, IsOld, IsPartial}
+use Rattle.wire.specs.Grammar.{HasFrame, IsFirst, IsMalformed, IsOld, IsPartial}
 use Rattle.wire.specs.Fronts.{front}
 use Rattle.wire.specs.Streams.{Held, next_of, taken}
 use Rattle.wire.proofs.Readers.{IsBytes}
-use Rattle.wire.proofs.FrontLaws.{first_from, malformed_from, old_from, partial_from, frame_not_malformed, frame_not_old, front_takes, rest_behind, waiting, stopped_is, wanted_not_malformed, wanted_not_old}
+use Rattle.wire.proofs.FrontLaws.{first_from, malformed_from, old_from, partial_from, frame_not_malformed, frame_not_old, front_takes, rest_behind, waiting, stopped_is, wanted_frame, wanted_not_malformed, wanted_not_old}
 use Rattle.wire.proofs.streams.Frames.next.Goals as goal
 
 waited : (c : goal.Then-self-gt0) → IsPartial c.args.self.now.unread
@@ -72,6 +72,10 @@ returns-in-Err-Memory-clause-malformed c =
 pub returns-in-Err-Memory-clause-old_format : goal.returns-in-Err-Memory-clause-old_format
 returns-in-Err-Memory-clause-old_format c =
     (λ e. absurd cc, λ o. absurd (wanted_not_old _ _ c.in-Err-Memory.field-0-is c.in-Err-Memory.ensures.gives (subst IsOld (sym (held_bytes c)) o)))
+
+pub returns-in-Err-Memory-clause-wanted : goal.returns-in-Err-Memory-clause-wanted
+returns-in-Err-Memory-clause-wanted c =
+    λ _. subst HasFrame (held_bytes c) (wanted_frame _ _ c.front.ensures.bytes c.in-Err-Memory.field-0-is c.in-Err-Memory.ensures.gives)
 
 read_short : (c : goal.After-self-1) → front c.args.self.now.unread ≡ Err (Short c.in-Err-Stopped-Short.missing)
 read_short c = ap (λ (h : Held). front h.unread) (sym c.self.view_is) ∙ ap front (sym c.as_slice.ensures) ∙ stopped_is _ _ (Short c.in-Err-Stopped-Short.missing) _ c.in-Err-Stopped-Short.field-0-is c.in-Err-Stopped-Short.field-0-0-is c.in-Err-Stopped-Short.ensures.gives
