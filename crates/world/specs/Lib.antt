@@ -9,8 +9,8 @@ pub mod Transcripts
 pub mod Printing
 pub mod Connections
 pub mod Lawful
-pub mod Worlds
 pub mod Links
+pub mod Worlds
 pub mod Scenes
 pub mod Quiet
 pub mod Calls

@@ -7,6 +7,7 @@ use Rattle.world.specs.declared.transcripts.CallTranscript.{CallTranscript}
 use Rattle.world.specs.declared.connections.Stage.{Stage}
 use Rattle.world.specs.declared.connections.Stage.TheVariants.{Idle, Begun, Asked, Replied}
 use Rattle.world.specs.Connections.{Connection}
+use Rattle.world.specs.Links.{is_empty}
 use Rattle.world.specs.Worlds.{World, server, link, lives}
 use Rattle.world.specs.Transcripts.{ConnectionShown, TranscriptShown}
 
@@ -22,13 +23,9 @@ abbrev pub all_below : ℕ → (ℕ → Bool) → Bool
 all_below zero test = true
 all_below (suc n) test = all_below n test && test n
 
-abbrev pub is_none : {X : Type 0} → List X → Bool
-is_none [] = true
-is_none (x ∷ xs) = false
-
 -- no link to server j holds a message, and its view is the set of the failed servers
 abbrev pub is_server_quiet : World → ℕ → Bool
-is_server_quiet w j = all_below (length w.servers) (λ i. is_none (link w i j)) && (server w j).view == w.failed
+is_server_quiet w j = all_below (length w.servers) (λ i. is_empty (link w i j)) && (server w j).view == w.failed
 
 -- nothing waits at living servers: no message for them, no failure that they don't know, no call or reply at their connections
 abbrev pub is_quiet : World → Bool
@@ -42,6 +39,7 @@ calls_shown [] replies = []
 calls_shown (call ∷ calls) [] = record { target = call.target; op = call.op; reply = None } ∷ calls_shown calls []
 calls_shown (call ∷ calls) (reply ∷ replies) = record { target = call.target; op = call.op; reply = Some reply } ∷ calls_shown calls replies
 
+-- a connection's home, its begun calls with their replies, and the bytes that it was sent
 abbrev pub connection_shown : Connection → ConnectionShown
 connection_shown k = record { home = k.home; calls = calls_shown k.calls k.replies; sent = k.session.out }
 

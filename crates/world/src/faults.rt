@@ -10,13 +10,17 @@ use thiserror::Error;
 /// Why there is no scene, or no event in one.
 #[derive(Clone, Copy, Debug, PartialEq, Eq, Error)]
 pub enum SceneFault {
+    /// Memory ran out.
     #[error("out of memory")]
     Memory,
-    #[error("the number of servers is out of range")]
+    /// The servers are not 1 to 16.
+    #[error("a chain has 1 to 16 servers")]
     BadCount,
-    #[error("too many homes, or one that is no server")]
+    /// More than 64 homes, or one that is no server.
+    #[error("more than 64 homes, or one that is no server")]
     BadHomes,
-    #[error("an earlier event was refused")]
+    /// An earlier event was refused for want of memory.
+    #[error("an earlier event was refused for want of memory")]
     Spoiled,
 }
 

@@ -1,8 +1,9 @@
 //! Quiet: whether nothing waits in a world, and what is shown of it.
 ghost use Rattle.std.specs.Prelude.{◌≡◌, ◌<◌, not, ◌&&◌, ◌||◌, length, map, slice_get, IfOk};
 ghost use Rattle.std.specs.List.{list_all};
+ghost use Rattle.world.specs.Links.{is_empty};
 ghost use Rattle.world.specs.Worlds.{lives, link};
-ghost use Rattle.world.specs.Quiet.{all_below, is_none, is_server_quiet, waits, connection_shown, transcript_of};
+ghost use Rattle.world.specs.Quiet.{all_below, is_server_quiet, waits, connection_shown, transcript_of};
 ghost use Rattle.world.specs.Quiet as quiet;
 ghost use Rattle.world.specs.Scenes.{sent_to};
 
@@ -43,7 +44,7 @@ impl World {
     // Whether no link to server j holds a message.
     #[tactic(auto, using(crate::proofs::AllBelow::all_more, crate::proofs::AllBelow::all_broken), unfolding(crate::specs::Worlds::link))]
     fn is_unreached(&self, j: usize) -> bool
-        ensures { result ≡ all_below (length self.now.servers) (λ i. is_none (link self.now i j)) }
+        ensures { result ≡ all_below (length self.now.servers) (λ i. is_empty (link self.now i j)) }
     {
         for i in 0..self.servers.len() {
             if !self.links.is_empty(i, j) {
@@ -70,7 +71,7 @@ impl World {
         self.connections[c].sent()
     }
 
-    /// What is shown of it.
+    /// The transcript of the world: each connection's calls, replies and sent bytes, and whether nothing waits.
     pub fn transcript(self, alloc: Global) -> Result<Transcript, AllocError>
         ensures { IfOk result (λ t. t ≡ transcript_of self) }
     {
