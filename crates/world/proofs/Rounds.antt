@@ -22,10 +22,11 @@ other_more front i j other = rw other at (one_pair_more front i j)
 pub same_more : (front : List (ℕ × ℕ)) (i j : ℕ) → nat_eq i j ≡ true → front ++ pairs_with (j + 1) i ≡ front ++ pairs_with j i
 same_more front i j same = rw same at (one_pair_more front i j) ∙ append-nil (front ++ pairs_with j i)
 
--- what a further copy adds
+-- a further copy may stand at the end or in front
 repeat_more : {X : Type 0} (n : ℕ) (xs : List X) → repeat n xs ++ xs ≡ xs ++ repeat n xs
 repeat_more zero xs = sym (append-nil xs)
 repeat_more (suc n) xs = append_assoc xs (repeat n xs) xs ∙ ap (λ copies. xs ++ copies) (repeat_more n xs)
 
+-- what a further copy adds
 pub one_copy_more : {X : Type 0} (front xs : List X) (n : ℕ) → (front ++ repeat n xs) ++ xs ≡ front ++ repeat (n + 1) xs
 one_copy_more front xs n = let e : n + 1 ≡ suc n = omega arith in append_assoc front (repeat n xs) xs ∙ ap (λ copies. front ++ copies) (repeat_more n xs ∙ ap (λ k. repeat k xs) (sym e))

@@ -3,7 +3,7 @@ ghost use Rattle.std.specs.Prelude.{◌≡◌, OnErr, OnOk, IfOk, IsErrOf, Match
 ghost use Rattle.proto.specs.Turns.{call_of};
 ghost use Rattle.world.specs.Connections.{past_faults};
 ghost use Rattle.world.specs.Lawful.{HasOpen};
-ghost use Rattle.world.specs.Quiet.{calls_shown};
+ghost use Rattle.world.specs.Transcripts.{calls_shown};
 
 use crate::{CallTranscript, ConnectionTranscript, SceneFault};
 use proto::{ProtoFault, Session, Step};
@@ -51,7 +51,8 @@ impl Connection {
     ghost use Rattle.std.specs.Option.{option_copied};
     ghost use Rattle.node.specs.Lawful.{IsCall};
     ghost use Rattle.world.specs.Connections.{fresh, came, begun, open_call, to_work, asked, may_have, replied, handed};
-    ghost use Rattle.world.specs.Quiet.{waits, connection_shown};
+    ghost use Rattle.world.specs.Quiet.{waits};
+    ghost use Rattle.world.specs.Transcripts.{connection_shown};
 
     /// A connection at this server. It allocates nothing.
     pub fn new(alloc: Global, home: usize) -> Connection
@@ -212,7 +213,7 @@ fn call_transcripts(
 ) -> Result<Vec<CallTranscript>, AllocError>
     ensures { IfOk result (λ v. v.items ≡ calls_shown calls.items replies.items) }
 {
-    let mut shown = Vec::new(alloc);
+    let mut shown = Vec::with_capacity(alloc, calls.len())?;
     let mut calls = calls.into_iter();
     let mut replies = replies.into_iter();
     while let Some(call) = calls.next() {
