@@ -1,5 +1,5 @@
 //! Connections: a client's session, its calls, and the replies to them.
-ghost use Rattle.std.specs.Prelude.{◌≡◌, OnErr, OnOk, IfOk, IsErrOf, MatchOption, Some, None};
+ghost use Rattle.std.specs.Prelude.{◌≡◌, ◌≢◌, OnErr, OnOk, IfOk, IsErrOf, MatchOption, Some, None};
 ghost use Rattle.proto.specs.Turns.{call_of};
 ghost use Rattle.world.specs.Connections.{past_faults};
 ghost use Rattle.world.specs.Lawful.{HasOpen};
@@ -85,7 +85,7 @@ impl Connection {
     {
         if let Stage::Idle = self.stage {
             self.calls.reserve(1)?;
-            if let Some(call) = next_call(&mut self.session)? {
+            if let Some(call) = next_call(&mut self.session).map_err(out_of_memory)? {
                 self.calls.push(call)?;
                 self.stage = Stage::Begun;
             }
@@ -159,7 +159,7 @@ impl Connection {
     {
         if let Stage::Replied(reply) = &self.stage {
             self.replies.reserve(1)?;
-            self.session.answer(reply)?;
+            self.session.answer(reply).map_err(out_of_memory)?;
             if let Stage::Replied(reply) = mem::replace(&mut self.stage, Stage::Idle) {
                 self.replies.push(reply)?;
             }
@@ -183,6 +183,17 @@ impl Connection {
             sent: Vec::from_slice(alloc, self.session.out())?,
             calls: call_transcripts(alloc, self.calls, self.replies)?,
         })
+    }
+}
+
+// Why a session that isn't asked while it is closed refuses.
+fn out_of_memory(fault: ProtoFault) -> SceneFault
+    requires open { fault ≢ ProtoFault.Closed }
+    ensures { result ≡ SceneFault.Memory }
+{
+    match fault {
+        ProtoFault::Memory => SceneFault::Memory,
+        ProtoFault::Closed => unreachable!(),
     }
 }
 

@@ -2,8 +2,6 @@
 ghost use Rattle.std.specs.Prelude.{◌≡◌};
 ghost use Rattle.world.specs.declared.faults.SceneFault.TheVariants.{Memory};
 
-use node::NodeFault;
-use proto::ProtoFault;
 use std::alloc::{AllocError, AllocFailed};
 use thiserror::Error;
 
@@ -36,24 +34,6 @@ impl<T: Drop> From<AllocFailed<T>> for SceneFault {
     ghost from_gives = { λ _ e. e ≡ Memory };
 
     fn from(_e: AllocFailed<T>) -> SceneFault {
-        SceneFault::Memory
-    }
-}
-
-// A session refuses a connection's steps only for want of memory.
-impl From<ProtoFault> for SceneFault {
-    ghost from_gives = { λ _ e. e ≡ Memory };
-
-    fn from(_e: ProtoFault) -> SceneFault {
-        SceneFault::Memory
-    }
-}
-
-// A node of a scene that isn't spoiled was never stopped, and is of its chain: it refuses only for want of memory.
-impl From<NodeFault> for SceneFault {
-    ghost from_gives = { λ _ e. e ≡ Memory };
-
-    fn from(_e: NodeFault) -> SceneFault {
         SceneFault::Memory
     }
 }
