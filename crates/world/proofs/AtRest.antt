@@ -7,7 +7,8 @@ use Rattle.node.specs.declared.messages.Peer.{Peer}
 use Rattle.node.specs.Views.{has, tail, predecessor, successor}
 use Rattle.node.specs.Servers.{is_tail, previous}
 use Rattle.node.specs.Lawful.{IsSettled}
-use Rattle.world.specs.Quiet.{all_below, is_none, is_server_quiet, is_quiet}
+use Rattle.world.specs.Links.{is_empty}
+use Rattle.world.specs.Quiet.{all_below, is_server_quiet, is_quiet}
 use Rattle.world.specs.Worlds.{World, server, link, lives}
 use Rattle.world.proofs.Traces.{Traced, log, count}
 use Rattle.world.proofs.Layers.{Lawful}
@@ -27,7 +28,7 @@ below_all (suc n) test h k l =
     let parts = and_parts (all_below n test) (test n) h in
     elim (cases_eq k n) [ inl same ↦ rw same parts.1 | inr other ↦ below_all n test parts.0 k (omega arith) ]
 
-none_there : (ms : List Peer) → is_none ms ≡ true → ms ≡ []
+none_there : (ms : List Peer) → is_empty ms ≡ true → ms ≡ []
 none_there [] h = refl
 none_there (m ∷ ms) h = absurd cc
 
@@ -35,8 +36,8 @@ not_living : (b c : Bool) → b ≡ true → (not b || c) ≡ true → c ≡ tru
 not_living true c e h = h
 not_living false c e h = absurd cc
 
-quiet_parts : (w : World) (j : ℕ) → is_server_quiet w j ≡ true → (all_below (length w.servers) (λ i. is_none (link w i j)) ≡ true) × (((server w j).view == w.failed) ≡ true)
-quiet_parts w j h = and_parts (all_below (length w.servers) (λ i. is_none (link w i j))) ((server w j).view == w.failed) h
+quiet_parts : (w : World) (j : ℕ) → is_server_quiet w j ≡ true → (all_below (length w.servers) (λ i. is_empty (link w i j)) ≡ true) × (((server w j).view == w.failed) ≡ true)
+quiet_parts w j h = and_parts (all_below (length w.servers) (λ i. is_empty (link w i j))) ((server w j).view == w.failed) h
 
 quiet_server : (w : World) → is_quiet w ≡ true → (j : ℕ) → lives w j ≡ true → is_server_quiet w j ≡ true
 quiet_server w h j a =
@@ -46,7 +47,7 @@ quiet_server w h j a =
 -- so it is in a quiet world
 pub at_rest : (w : World) → is_quiet w ≡ true → IsAtRest w
 at_rest w h = record {
-  links = λ i j l a. none_there (link w i j) (below_all (length w.servers) (λ k. is_none (link w k j)) (quiet_parts w j (quiet_server w h j a)).0 i l);
+  links = λ i j l a. none_there (link w i j) (below_all (length w.servers) (λ k. is_empty (link w k j)) (quiet_parts w j (quiet_server w h j a)).0 i l);
   views = λ j a. eqb-true _ _ (quiet_parts w j (quiet_server w h j a)).1;
 }
 

@@ -23,62 +23,62 @@ use Rattle.world.proofs.EntryCounts.{entries-none}
 use Rattle.world.proofs.StepInputs.{IsStep}
 use Rattle.world.proofs.CallingDone.{calling_done}
 use Rattle.world.proofs.ReadDone.{read_done}
-use Rattle.world.proofs.QuietMoves.{IsQuiet, Course, stays_self, calling_quiet, read_quiet}
-use Rattle.world.proofs.QuietMoves as courses
+use Rattle.world.proofs.PassiveMoves.{IsPassive, Progress, stays_self, calling_passive, read_passive}
+use Rattle.world.proofs.PassiveMoves as progress
 
--- ---- the course of a connection at each event
+-- ---- what each event makes of a connection
 
-course_by : (given : Given) (k : Connection) → k.stage ≡ Idle → Course k (begun_by given k)
-course_by (None, left) k idle = courses.Stays (record { home = refl; calls = refl; replies = refl; stage = refl })
-course_by (Some (Faulty fault), left) k idle = courses.Stays (record { home = refl; calls = refl; replies = refl; stage = refl })
-course_by (Some (Calls call form), left) k idle = courses.Starts (record { call = call; home = refl; calls = refl; replies = refl; before = idle; stage = refl })
+progress_by : (given : Given) (k : Connection) → k.stage ≡ Idle → Progress k (begun_by given k)
+progress_by (None, left) k idle = progress.Stays (record { home = refl; calls = refl; replies = refl; stage = refl })
+progress_by (Some (Faulty fault), left) k idle = progress.Stays (record { home = refl; calls = refl; replies = refl; stage = refl })
+progress_by (Some (Calls call form), left) k idle = progress.Starts (record { call = call; home = refl; calls = refl; replies = refl; before = idle; stage = refl })
 
-course_begun : (stage : Stage) (k : Connection) → k.stage ≡ stage → Course k (begun stage k)
-course_begun Idle k e = course_by (past_faults k.session) k e
-course_begun Begun k e = stays_self k
-course_begun Asked k e = stays_self k
-course_begun (Replied reply) k e = stays_self k
+progress_begun : (stage : Stage) (k : Connection) → k.stage ≡ stage → Progress k (begun stage k)
+progress_begun Idle k e = progress_by (past_faults k.session) k e
+progress_begun Begun k e = stays_self k
+progress_begun Asked k e = stays_self k
+progress_begun (Replied reply) k e = stays_self k
 
-course_handed : (stage : Stage) (k : Connection) → k.stage ≡ stage → Course k (handed stage k)
-course_handed Idle k e = stays_self k
-course_handed Begun k e = stays_self k
-course_handed Asked k e = stays_self k
-course_handed (Replied reply) k e = courses.Hands (record { reply = reply; home = refl; calls = refl; replies = refl; before = e; stage = refl })
+progress_handed : (stage : Stage) (k : Connection) → k.stage ≡ stage → Progress k (handed stage k)
+progress_handed Idle k e = stays_self k
+progress_handed Begun k e = stays_self k
+progress_handed Asked k e = stays_self k
+progress_handed (Replied reply) k e = progress.Hands (record { reply = reply; home = refl; calls = refl; replies = refl; before = e; stage = refl })
 
-course_came : (bytes : List ℕ) (k : Connection) → Course k (came bytes k)
-course_came bytes k = courses.Stays (record { home = refl; calls = refl; replies = refl; stage = refl })
+progress_came : (bytes : List ℕ) (k : Connection) → Progress k (came bytes k)
+progress_came bytes k = progress.Stays (record { home = refl; calls = refl; replies = refl; stage = refl })
 
-course_asked : (k : Connection) → k.stage ≡ Begun → Course k (asked k)
-course_asked k e = courses.Works (record { home = refl; calls = refl; replies = refl; before = e; stage = refl })
+progress_asked : (k : Connection) → k.stage ≡ Begun → Progress k (asked k)
+progress_asked k e = progress.Works (record { home = refl; calls = refl; replies = refl; before = e; stage = refl })
 
-course_if : (b : Bool) (k l : Connection) → Course k l → Course k (cond b l k)
-course_if true k l c = c
-course_if false k l c = stays_self k
+progress_if : (b : Bool) (k l : Connection) → Progress k l → Progress k (cond b l k)
+progress_if true k l c = c
+progress_if false k l c = stays_self k
 
 -- where its home lives
-at_home : (w : World) (change : Connection → Connection) (k : Connection) → Course k (change k) → Course k (where_home_lives w change k)
-at_home w change k c = course_if (lives w k.home) k (change k) c
+at_home : (w : World) (change : Connection → Connection) (k : Connection) → Progress k (change k) → Progress k (where_home_lives w change k)
+at_home w change k c = progress_if (lives w k.home) k (change k) c
 
 -- ---- moves that aren't a server's action
 
-course_after : (c : ℕ) (change : Connection → Connection) (d : ℕ) (k l : Connection) → (d ≡ c → Course k (change k)) → Changes c change d k l → Course k l
-course_after c change d k l f (inl h) = rw h.1 (f h.0)
-course_after c change d k l f (inr h) = rw h.1 (stays_self k)
+progress_after : (c : ℕ) (change : Connection → Connection) (d : ℕ) (k l : Connection) → (d ≡ c → Progress k (change k)) → Changes c change d k l → Progress k l
+progress_after c change d k l f (inl h) = rw h.1 (f h.0)
+progress_after c change d k l f (inr h) = rw h.1 (stays_self k)
 
-quiet_reconnected : (t : Traced) (c : ℕ) (change : Connection → Connection) → Later t (reconnected t c change) → ((k : Connection) → slice_get t.world.connections c ≡ Some k → Course k (change k)) → IsQuiet t (reconnected t c change)
-quiet_reconnected t c change l f = record {
+passive_reconnected : (t : Traced) (c : ℕ) (change : Connection → Connection) → Later t (reconnected t c change) → ((k : Connection) → slice_get t.world.connections c ≡ Some k → Progress k (change k)) → IsPassive t (reconnected t c change)
+passive_reconnected t c change l f = record {
   later = l;
   server = λ k. server_reconnected t c change k;
   log = λ k. log_reconnected t c change k;
   issued = λ k. issued_reconnected t c change k;
   reads = reads_reconnected t c change;
   link = λ x y m h. rw (link_reconnected t c change x y) at h;
-  after = λ d k h. (let g = connection_reconnected t c change d k h in (g.0, g.1, course_after c change d k g.0 (λ same. f k (rw same at h)) g.2));
-  before = λ d k h. (let g = connection_unchanged t c change d k h in (g.0, g.1, course_after c change d g.0 k (λ same. f g.0 (subst (λ x. slice_get t.world.connections x ≡ Some g.0) same g.1)) g.2));
+  after = λ d k h. (let g = connection_reconnected t c change d k h in (g.0, g.1, progress_after c change d k g.0 (λ same. f k (rw same at h)) g.2));
+  before = λ d k h. (let g = connection_unchanged t c change d k h in (g.0, g.1, progress_after c change d g.0 k (λ same. f g.0 (subst (λ x. slice_get t.world.connections x ≡ Some g.0) same g.1)) g.2));
 }
 
-quiet_unlinked : (t : Traced) (i j : ℕ) (m : Peer) (ms : List Peer) → Later t (unlinked t i j ms) → link t.world i j ≡ m ∷ ms → IsQuiet t (unlinked t i j ms)
-quiet_unlinked t i j m ms l e =
+passive_unlinked : (t : Traced) (i j : ℕ) (m : Peer) (ms : List Peer) → Later t (unlinked t i j ms) → link t.world i j ≡ m ∷ ms → IsPassive t (unlinked t i j ms)
+passive_unlinked t i j m ms l e =
     let same = connections_unlinked t i j ms in
     record {
       later = l;
@@ -91,8 +91,8 @@ quiet_unlinked t i j m ms l e =
       before = λ c k h. (k, rw same at h, stays_self k);
     }
 
-quiet_failing : (t : Traced) (i : ℕ) → Later t (failing t i) → IsQuiet t (failing t i)
-quiet_failing t i l =
+passive_failing : (t : Traced) (i : ℕ) → Later t (failing t i) → IsPassive t (failing t i)
+passive_failing t i l =
     let same = connections_failing t i in
     record {
       later = l;
@@ -105,29 +105,29 @@ quiet_failing t i l =
       before = λ c k h. (k, rw same at h, stays_self k);
     }
 
-works_begun : (t : Traced) (c : ℕ) (g : CanWork t c) (k : Connection) → slice_get t.world.connections c ≡ Some k → Course k (asked k)
-works_begun t c g k h = let same : k ≡ g.connection = same_Some k g.connection (sym h ∙ g.here) in course_asked k (ap (λ (x : Connection). x.stage) same ∙ g.stage)
+works_begun : (t : Traced) (c : ℕ) (g : CanWork t c) (k : Connection) → slice_get t.world.connections c ≡ Some k → Progress k (asked k)
+works_begun t c g k h = let same : k ≡ g.connection = same_Some k g.connection (sym h ∙ g.here) in progress_asked k (ap (λ (x : Connection). x.stage) same ∙ g.stage)
 
 pub step_of_move : (t : Traced) (i : ℕ) (cause : Cause) (a : Action) → CanDo t i cause a → Lawful t → Later t (moved t (Does i cause a)) → IsStep t i cause a
 step_of_move t i cause a g l later = record { lives = g.lives; lawful = l; known = g.known; sound = g.sound; guard = g.guard; later = later }
 
 pub calling_moved : (t : Traced) (m : Move) → IsMove t m → Lawful t → Later t (moved t m) → Framed (moved t m) → Logged (moved t m) → Calling (moved t m)
 calling_moved t (Does i cause a) g l later framed logged = calling_done t i cause a (step_of_move t i cause a g l later)
-calling_moved t (Comes c bytes) g l later framed logged = calling_quiet t _ (quiet_reconnected t c _ later (λ k h. at_home t.world (came bytes) k (course_came bytes k))) l
-calling_moved t (Starts c) g l later framed logged = calling_quiet t _ (quiet_reconnected t c _ later (λ k h. at_home t.world (λ k. begun k.stage k) k (course_begun k.stage k refl))) l
-calling_moved t (Works c) g l later framed logged = calling_quiet t _ (quiet_reconnected t c asked later (works_begun t c g)) l
-calling_moved t (Hands c) g l later framed logged = calling_quiet t _ (quiet_reconnected t c _ later (λ k h. at_home t.world (λ k. handed k.stage k) k (course_handed k.stage k refl))) l
-calling_moved t (Takes i j ms) g l later framed logged = calling_quiet t _ (quiet_unlinked t i j g.message ms later g.here) l
-calling_moved t (Fails i) g l later framed logged = calling_quiet t _ (quiet_failing t i later) l
+calling_moved t (Comes c bytes) g l later framed logged = calling_passive t _ (passive_reconnected t c _ later (λ k h. at_home t.world (came bytes) k (progress_came bytes k))) l
+calling_moved t (Starts c) g l later framed logged = calling_passive t _ (passive_reconnected t c _ later (λ k h. at_home t.world (λ k. begun k.stage k) k (progress_begun k.stage k refl))) l
+calling_moved t (Works c) g l later framed logged = calling_passive t _ (passive_reconnected t c asked later (works_begun t c g)) l
+calling_moved t (Hands c) g l later framed logged = calling_passive t _ (passive_reconnected t c _ later (λ k h. at_home t.world (λ k. handed k.stage k) k (progress_handed k.stage k refl))) l
+calling_moved t (Takes i j ms) g l later framed logged = calling_passive t _ (passive_unlinked t i j g.message ms later g.here) l
+calling_moved t (Fails i) g l later framed logged = calling_passive t _ (passive_failing t i later) l
 
 pub read_moved : (t : Traced) (m : Move) → IsMove t m → Lawful t → Later t (moved t m) → Framed (moved t m) → Logged (moved t m) → Calling (moved t m) → Read (moved t m)
 read_moved t (Does i cause a) g l later framed logged calling = read_done t i cause a (step_of_move t i cause a g l later)
-read_moved t (Comes c bytes) g l later framed logged calling = read_quiet t _ (quiet_reconnected t c _ later (λ k h. at_home t.world (came bytes) k (course_came bytes k))) l
-read_moved t (Starts c) g l later framed logged calling = read_quiet t _ (quiet_reconnected t c _ later (λ k h. at_home t.world (λ k. begun k.stage k) k (course_begun k.stage k refl))) l
-read_moved t (Works c) g l later framed logged calling = read_quiet t _ (quiet_reconnected t c asked later (works_begun t c g)) l
-read_moved t (Hands c) g l later framed logged calling = read_quiet t _ (quiet_reconnected t c _ later (λ k h. at_home t.world (λ k. handed k.stage k) k (course_handed k.stage k refl))) l
-read_moved t (Takes i j ms) g l later framed logged calling = read_quiet t _ (quiet_unlinked t i j g.message ms later g.here) l
-read_moved t (Fails i) g l later framed logged calling = read_quiet t _ (quiet_failing t i later) l
+read_moved t (Comes c bytes) g l later framed logged calling = read_passive t _ (passive_reconnected t c _ later (λ k h. at_home t.world (came bytes) k (progress_came bytes k))) l
+read_moved t (Starts c) g l later framed logged calling = read_passive t _ (passive_reconnected t c _ later (λ k h. at_home t.world (λ k. begun k.stage k) k (progress_begun k.stage k refl))) l
+read_moved t (Works c) g l later framed logged calling = read_passive t _ (passive_reconnected t c asked later (works_begun t c g)) l
+read_moved t (Hands c) g l later framed logged calling = read_passive t _ (passive_reconnected t c _ later (λ k h. at_home t.world (λ k. handed k.stage k) k (progress_handed k.stage k refl))) l
+read_moved t (Takes i j ms) g l later framed logged calling = read_passive t _ (passive_unlinked t i j g.message ms later g.here) l
+read_moved t (Fails i) g l later framed logged calling = read_passive t _ (passive_failing t i later) l
 
 -- ---- at the outset
 

@@ -17,7 +17,7 @@ use Rattle.world.specs.declared.connections.Stage.{Stage}
 use Rattle.world.specs.declared.connections.Stage.TheVariants.{Idle, Begun, Asked, Replied}
 use Rattle.world.specs.Connections.{Connection, changed_at, came, begun, asked, open_call, to_work, handed, fresh}
 use Rattle.world.specs.Worlds.{World, server, link, with_server, with_link, with_connection, lives, has_failed, put, put_all, takes, where_home_lives, sent_in, worked, delivered, happens, run_from, run_of, opening_world}
-use Rattle.world.specs.Sent.{Course, outset, on_piece, on_begin, on_hand, course_after, course_of_any, course_from, course_of, sent_bytes, calls_of}
+use Rattle.world.specs.Sent.{Course, outset, on_piece, on_begin, on_hand, course_after, course_at, course_from, course_of, sent_bytes, calls_of}
 use Rattle.world.proofs.FaultLaws.{FaultsTakeBytes}
 use Rattle.world.proofs.Standing.{changed_cases, stood_before}
 use Rattle.world.proofs.CoursesAlong.{NextGivesFirst, Along, along_piece, along_begin, along_hand, along_asked, along_replied, sent_along, answered_along, begun_along}
@@ -149,7 +149,7 @@ unmoved : (b : Bool) (m : Course) → cond b m m ≡ m
 unmoved true m = refl
 unmoved false m = refl
 
-event_along : NextGivesFirst → FaultsTakeBytes → (c : ℕ) (w : World) (m : Course) (e : Event) (old : Connection) → slice_get w.connections c ≡ Some old → IsAlong c w m → IsAlong c (happens w e) (course_of_any w c (Some old) e m)
+event_along : NextGivesFirst → FaultsTakeBytes → (c : ℕ) (w : World) (m : Course) (e : Event) (old : Connection) → slice_get w.connections c ≡ Some old → IsAlong c w m → IsAlong c (happens w e) (course_at w c (Some old) e m)
 event_along law takes c w m (Piece d bytes) old at_c all = λ new is.
     at_living c d w m (came bytes) (λ k m. on_piece bytes k.session.closed m) (λ k. course_after c k (Piece d bytes) m)
     (λ k e. rw (test_true c d e) refl) (λ k far. rw (test_false c d far) refl) (λ k a. along_piece bytes k m a) all old new at_c is
@@ -166,9 +166,9 @@ event_along law takes c w m (Tell i j) old at_c all = rw (unmoved (lives w old.h
 
 run_along : NextGivesFirst → FaultsTakeBytes → (c : ℕ) (w : World) (m : Course) (es : List Event) → IsAlong c w m → IsAlong c (run_from w es) (course_from c w m es)
 run_along law takes c w m [] all = all
-run_along law takes c w m (e ∷ es) all = run_along law takes c (happens w e) (course_of_any w c (slice_get w.connections c) e m) es (by_old (slice_get w.connections c) refl)
+run_along law takes c w m (e ∷ es) all = run_along law takes c (happens w e) (course_at w c (slice_get w.connections c) e m) es (by_old (slice_get w.connections c) refl)
   where
-    by_old : (o : Option Connection) → slice_get w.connections c ≡ o → IsAlong c (happens w e) (course_of_any w c o e m)
+    by_old : (o : Option Connection) → slice_get w.connections c ≡ o → IsAlong c (happens w e) (course_at w c o e m)
     by_old None none = λ new is. let old = stood w c m e all new is in let no : None ≡ Some old.0 = sym none ∙ old.1 in cc
     by_old (Some old) at_c = event_along law takes c w m e old at_c all
 

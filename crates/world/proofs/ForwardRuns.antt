@@ -65,10 +65,6 @@ numbers_to y os = numbers (sent_to y os)
 pub numbers_to-append : (y : ℕ) (os ps : List Output) → numbers_to y (os ++ ps) ≡ numbers_to y os ++ numbers_to y ps
 numbers_to-append y os ps = ap (λ ms. numbers ms) (sent_to-append y os ps) ∙ numbers-append (sent_to y os) (sent_to y ps)
 
--- the message that goes to y
-pub sent_there : (y : ℕ) (m : Peer) → sent_to y (To y m ∷ []) ≡ m ∷ []
-sent_there y m = rw (eq-eqb y y refl) refl
-
 pub number_there : (s : ServerState) (y : ℕ) (o : Option ℕ) (e : LogEntry) → o ≡ Some y → numbers_to y (message_to s o (Forward e)) ≡ e.number ∷ []
 number_there s y o e h = rw (h, eq-eqb y y refl) refl
 

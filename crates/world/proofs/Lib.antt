@@ -57,7 +57,7 @@ pub mod CallingDone
 pub mod Untouched
 pub mod NewReads
 pub mod ReadDone
-pub mod QuietMoves
+pub mod PassiveMoves
 pub mod CallsMoved
 pub mod FittingTurns
 pub mod KnownInputs
@@ -71,11 +71,11 @@ pub mod Placing
 pub mod Placings
 pub mod LegalOrder
 pub mod Linear
-pub mod Linearization
 pub mod Since
 pub mod SinceMoves
 pub mod SinceEvents
 pub mod SinceRuns
+pub mod Linearization
 pub mod OneOrder
 pub mod Streaming
 pub mod ForwardRuns

@@ -12,9 +12,10 @@ use Rattle.world.specs.declared.events.Event.{Event}
 use Rattle.world.specs.declared.connections.Stage.{Stage}
 use Rattle.world.specs.declared.connections.Stage.TheVariants.{Idle, Begun, Asked, Replied}
 use Rattle.world.specs.Connections.{Connection}
-use Rattle.world.specs.Worlds.{World, server, lives, happens, run_from, run_of}
-use Rattle.world.specs.Calls.{CallId, IsBegun, IsAnswered, home_lives, has_living_home}
+use Rattle.world.specs.Worlds.{World, server, lives, home_lives, happens, run_from, run_of}
+use Rattle.world.specs.Calls.{CallId, IsBegun, IsAnswered, has_living_home}
 use Rattle.world.specs.Quiet.{waits, is_server_quiet, all_below, is_quiet}
+use Rattle.world.proofs.Fronts.{found_below}
 use Rattle.world.proofs.IdLaws.{living_parts}
 use Rattle.world.proofs.Traces.{Traced, count, outset}
 use Rattle.world.proofs.Layers.{Lawful}
@@ -88,9 +89,6 @@ running_first n homes = record {
   opening = opening_outset n homes;
 }
 
-found_at : {X : Type 0} (xs : List X) (k : ℕ) → k < length xs → (x : X) × (slice_get xs k ≡ Some x)
-found_at xs k l = some_of (slice_get xs k) (get_within xs k l)
-
 module _ (n : ℕ) (homes : List ℕ) (few : n ≤ 16) (events : List Event) (m : Moments (outset n homes) events) (short : length events ≤ most) where
   follows : (k : ℕ) → Follows (m.at k) (m.at (suc k))
   follows k = record { before = m.lawful k; after = m.lawful (suc k); later = (m.goes k (suc k) (omega arith) None).later; servers = m.all k }
@@ -106,7 +104,7 @@ module _ (n : ℕ) (homes : List ℕ) (few : n ≤ 16) (events : List Event) (m 
   running : (k : ℕ) → k ≤ length events → Running k (m.at k)
   running zero l = subst (λ t. Running 0 t) (sym m.start) (running_first n homes)
   running (suc k) l =
-      let e = found_at events k (omega (arith, l)) in
+      let e = found_below events k (omega (arith, l)) in
       let next = next_world k e.0 e.1 in
       let before = running k (omega (arith, l)) in
       running_next k (m.at k) (m.at (suc k)) e.0 (follows k) next (omega (arith, l, short)) (bounded_at k (subst (λ w. Way (m.at k).world w) (sym next) (way (m.at k).world e.0)) before) before

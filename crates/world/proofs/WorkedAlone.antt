@@ -14,7 +14,7 @@ use Rattle.node.specs.Steps.{trimmed}
 use Rattle.world.specs.declared.events.Event.{Event}
 use Rattle.world.specs.declared.events.Event.TheVariants.{Piece, Begin, Work, Deliver, Fail, Tell, Hand}
 use Rattle.world.specs.Worlds.{server, link, with_server, with_link, with_connection, put_all, run_of}
-use Rattle.world.specs.Quiet.{transcript_of}
+use Rattle.world.specs.Transcripts.{transcript_of}
 use Rattle.world.proofs.WorkedOrders.{calls_in, replies_in}
 
 abbrev pub homes : List ℕ

@@ -19,8 +19,7 @@ use Rattle.node.specs.Steps.{trimmed}
 use Rattle.world.specs.declared.events.Event.{Event}
 use Rattle.world.specs.declared.events.Event.TheVariants.{Piece, Begin, Work, Deliver, Hand}
 use Rattle.world.specs.Worlds.{server, link, with_server, with_link, with_connection, put_all, run_of}
-use Rattle.world.specs.Transcripts.{TranscriptShown}
-use Rattle.world.specs.Quiet.{transcript_of}
+use Rattle.world.specs.Transcripts.{TranscriptShown, transcript_of}
 use Rattle.world.proofs.WorkedOrders.{calls_in, replies_in}
 
 unfoldable pub events : List Event

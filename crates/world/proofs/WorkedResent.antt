@@ -28,8 +28,7 @@ use Rattle.world.specs.declared.events.Event.{Event}
 use Rattle.world.specs.declared.events.Event.TheVariants.{Piece, Begin, Work, Deliver, Fail, Tell, Hand}
 use Rattle.world.specs.declared.connections.Stage.TheVariants.{Asked}
 use Rattle.world.specs.Worlds.{World, server, link, with_server, with_link, with_connection, put_all, opening_world, happens, run_from, run_of}
-use Rattle.world.specs.Transcripts.{TranscriptShown}
-use Rattle.world.specs.Quiet.{transcript_of}
+use Rattle.world.specs.Transcripts.{TranscriptShown, transcript_of}
 use Rattle.world.proofs.WorkedOrders.{calls_in, replies_in}
 
 abbrev pub homes : List ℕ

@@ -1,10 +1,9 @@
 -- Calls: how each is named, and what has become of it.
-use Rattle.std.specs.Prelude.{ℕ, Bool, false, Option, None, Some, slice_get, IsSome}
+use Rattle.std.specs.Prelude.{ℕ, Bool, Option, slice_get, IsSome}
 use Rattle.std.specs.Option.{option_and_then}
 use Rattle.table.specs.declared.operations.Call.{Call}
 use Rattle.table.specs.declared.operations.Reply.{Reply}
-use Rattle.world.specs.Connections.{Connection}
-use Rattle.world.specs.Worlds.{World, lives}
+use Rattle.world.specs.Worlds.{World, home_lives}
 
 -- A call's name: a connection, and a place among the calls that this connection has begun.
 pub record CallId : Type 0 where
@@ -26,11 +25,6 @@ IsBegun w x = IsSome (begun_call w x)
 -- the call is answered
 abbrev pub IsAnswered : World → CallId → Type 0
 IsAnswered w x = IsSome (reply_to w x)
-
--- the server of a connection lives, where there is one
-abbrev pub home_lives : World → Option Connection → Bool
-home_lives w None = false
-home_lives w (Some k) = lives w k.home
 
 -- the server that the call's connection is at lives
 abbrev pub has_living_home : World → CallId → Bool

@@ -13,6 +13,7 @@ abbrev pub HasOpen : Option Call → Option Form → Type 0
 HasOpen None asked = ⊥
 HasOpen (Some call) asked = IsOpen (Calls call.target call.op) asked
 
+-- what holds at each stage: the open call is the first without a reply, and the session has it open
 abbrev pub IsLawful : Stage → List Call → List Reply → Option Form → Type 0
 IsLawful Idle calls replies asked = (asked ≡ None) × (length calls ≡ length replies)
 IsLawful Begun calls replies asked = HasOpen (slice_get calls (length replies)) asked × (length calls ≡ length replies + 1)

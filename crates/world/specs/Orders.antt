@@ -13,7 +13,8 @@ pub record Precedes (count : ℕ) (homes : List ℕ) (events : List Event) (x y 
   pub answered : IsAnswered (run_of count homes (take k events)) x
   pub not_begun : begun_call (run_of count homes (take k events)) y ≡ None
 
--- An entry of an order: which call, what it asks, and a reply to it.
+-- An entry of an order: which call, what it asks, and a reply to it
+-- (of a call that isn't answered: the one that the table gives).
 pub record Entry : Type 0 where
   pub id : CallId
   pub call : Call

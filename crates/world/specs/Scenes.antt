@@ -1,8 +1,10 @@
 -- Scenes: a world, and whether an event in it was refused.
-use Rattle.std.specs.Prelude.{ℕ, Bool, false, ◌&&◌, nat_le, List, [], Option, None, Some}
+use Rattle.std.specs.Prelude.{ℕ, Bool, false, ◌&&◌, nat_le, nat_lt, List, [], length, Option, None, Some}
+use Rattle.std.specs.List.{list_all}
 use Rattle.world.specs.Connections.{Connection}
-use Rattle.world.specs.Worlds.{World, lives}
+use Rattle.world.specs.Worlds.{World}
 
+-- A scene: its world, and whether an event in it was refused.
 pub record SceneState : Type 0 where
   pub world : World
   pub spoiled : Bool
@@ -15,10 +17,9 @@ going w = record { world = w; spoiled = false }
 abbrev pub is_count : ℕ → Bool
 is_count count = nat_le 1 count && nat_le count 16
 
--- there is such a connection, and its home lives
-abbrev pub is_served : World → Option Connection → Bool
-is_served w None = false
-is_served w (Some k) = lives w k.home
+-- at most 64 homes, each the number of a server
+abbrev pub are_homes : ℕ → List ℕ → Bool
+are_homes count homes = nat_le (length homes) 64 && list_all (λ home. nat_lt home count) homes
 
 -- what this connection was sent, if there is one
 abbrev pub sent_to : Option Connection → List ℕ

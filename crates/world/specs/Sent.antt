@@ -11,7 +11,8 @@ use Rattle.world.specs.declared.connections.Stage.TheVariants.{Idle, Begun, Aske
 use Rattle.world.specs.Connections.{Connection}
 use Rattle.world.specs.Worlds.{World, lives, happens, opening_world}
 
--- A connection's course: its stream, which is its pieces that had effect, joined; and the place that it has reached in the turns of that stream.
+-- A connection's stream is what came to it while it was open and its server lived; its place, how many turns of that stream it has passed:
+-- faults by `begin`, calls by `hand`.
 pub record Course : Type 0 where
   pub stream : List ℕ
   pub place : ℕ
@@ -28,41 +29,41 @@ faults_next (Calls call form ∷ ts) = zero
 
 -- a piece comes at the stream's end, unless the session is closed
 abbrev pub on_piece : List ℕ → Bool → Course → Course
-on_piece bytes closed m = if closed then m else record m { stream = m.stream ++ bytes }
+on_piece bytes closed course = if closed then course else record course { stream = course.stream ++ bytes }
 
 -- a begin where no call is open moves the place over the faults that stand next among the turns of what has come
 abbrev pub on_begin : Stage → Course → Course
-on_begin Idle m = record m { place = m.place + faults_next (drop m.place (turns m.stream)) }
-on_begin Begun m = m
-on_begin Asked m = m
-on_begin (Replied reply) m = m
+on_begin Idle course = record course { place = course.place + faults_next (drop course.place (turns course.stream)) }
+on_begin Begun course = course
+on_begin Asked course = course
+on_begin (Replied reply) course = course
 
 -- a hand where a reply waits moves it over one call
 abbrev pub on_hand : Stage → Course → Course
-on_hand Idle m = m
-on_hand Begun m = m
-on_hand Asked m = m
-on_hand (Replied reply) m = record m { place = m.place + 1 }
+on_hand Idle course = course
+on_hand Begun course = course
+on_hand Asked course = course
+on_hand (Replied reply) course = record course { place = course.place + 1 }
 
 -- the course of the c-th connection, which is k before the event and whose home lives, after it
 abbrev pub course_after : ℕ → Connection → Event → Course → Course
-course_after c k (Piece d bytes) m = if c == d then on_piece bytes k.session.closed m else m
-course_after c k (Begin d) m = if c == d then on_begin k.stage m else m
-course_after c k (Work d) m = m
-course_after c k (Deliver i j) m = m
-course_after c k (Fail i) m = m
-course_after c k (Tell i j) m = m
-course_after c k (Hand d) m = if c == d then on_hand k.stage m else m
+course_after c k (Piece d bytes) course = if c == d then on_piece bytes k.session.closed course else course
+course_after c k (Begin d) course = if c == d then on_begin k.stage course else course
+course_after c k (Work d) course = course
+course_after c k (Deliver i j) course = course
+course_after c k (Fail i) course = course
+course_after c k (Tell i j) course = course
+course_after c k (Hand d) course = if c == d then on_hand k.stage course else course
 
--- the same of any connection: at a failed home, no event has an effect on it
-abbrev pub course_of_any : World → ℕ → Option Connection → Event → Course → Course
-course_of_any w c None e m = m
-course_of_any w c (Some k) e m = if lives w k.home then course_after c k e m else m
+-- its course after an event, where there is such a connection and its home lives
+abbrev pub course_at : World → ℕ → Option Connection → Event → Course → Course
+course_at w c None e course = course
+course_at w c (Some k) e course = if lives w k.home then course_after c k e course else course
 
 -- its course after these events, one after another
 abbrev pub course_from : ℕ → World → Course → List Event → Course
-course_from c w m [] = m
-course_from c w m (e ∷ es) = course_from c (happens w e) (course_of_any w c (slice_get w.connections c) e m) es
+course_from c w course [] = course
+course_from c w course (e ∷ es) = course_from c (happens w e) (course_at w c (slice_get w.connections c) e course) es
 
 -- its course after a schedule
 abbrev pub course_of : ℕ → List ℕ → List Event → ℕ → Course
@@ -70,7 +71,7 @@ course_of count homes events c = course_from c (opening_world count homes) outse
 
 -- the texts of the turns up to the place, each call's with its reply
 abbrev pub sent_bytes : Course → List Reply → List ℕ
-sent_bytes m replies = texts (take m.place (turns m.stream)) replies
+sent_bytes course replies = texts (take course.place (turns course.stream)) replies
 
 -- the calls among turns
 abbrev pub calls_of : List Turn → List Call

@@ -1,5 +1,5 @@
 -- The world: the servers of a chain, their links and the connections; what each event does; and the world after a schedule.
-use Rattle.std.specs.Prelude.{ℕ, zero, suc, Bool, not, ◌&&◌, nat_lt, List, [], ◌∷◌, ◌++◌, length, map, replicate, slice_index_or, slice_set, Option, None, Some, slice_get, if◌then◌else◌}
+use Rattle.std.specs.Prelude.{ℕ, zero, suc, Bool, false, not, ◌&&◌, nat_lt, List, [], ◌∷◌, ◌++◌, length, map, replicate, slice_index_or, slice_set, Option, None, Some, slice_get, if◌then◌else◌}
 use Rattle.table.specs.declared.operations.Call.{Call}
 use Rattle.node.specs.declared.messages.Peer.{Peer}
 use Rattle.node.specs.declared.messages.Input.{Input}
@@ -12,6 +12,7 @@ use Rattle.node.specs.Steps.{step}
 use Rattle.world.specs.declared.events.Event.{Event}
 use Rattle.world.specs.declared.events.Event.TheVariants.{Piece, Begin, Work, Deliver, Fail, Tell, Hand}
 use Rattle.world.specs.Connections.{Connection, fresh, came, begun, to_work, asked, replied, handed, changed_at}
+use Rattle.world.specs.Links.{messages_between, with_messages}
 
 -- A world: the servers, those of them that have failed, the link from each server to each, oldest message first,
 -- and the connections.
@@ -31,7 +32,7 @@ server w i = slice_index_or w.servers i nobody
 
 -- the link from server i to server j
 unfoldable pub link : World → ℕ → ℕ → List Peer
-link w i j = slice_index_or (slice_index_or w.links i []) j []
+link w i j = messages_between w.links i j
 
 -- server i is this from now on
 unfoldable pub with_server : World → ℕ → ServerState → World
@@ -39,7 +40,7 @@ with_server w i s = record w { servers = slice_set w.servers i s }
 
 -- the link from server i to server j holds these messages from now on
 unfoldable pub with_link : World → ℕ → ℕ → List Peer → World
-with_link w i j ms = record w { links = slice_set w.links i (slice_set (slice_index_or w.links i []) j ms) }
+with_link w i j ms = record w { links = with_messages w.links i j ms }
 
 -- the c-th connection, if there is one, changes so
 unfoldable pub with_connection : World → ℕ → (Connection → Connection) → World
@@ -58,6 +59,11 @@ opening_world count homes =
 -- server i is one of the chain, and hasn't failed
 abbrev pub lives : World → ℕ → Bool
 lives w i = nat_lt i (length w.servers) && not (has w.failed i)
+
+-- there is such a connection, and its home lives
+abbrev pub home_lives : World → Option Connection → Bool
+home_lives w None = false
+home_lives w (Some k) = lives w k.home
 
 -- server i is one of the chain, and has failed
 abbrev pub has_failed : World → ℕ → Bool

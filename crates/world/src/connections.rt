@@ -1,9 +1,9 @@
 //! Connections: a client's session, its calls, and the replies to them.
-ghost use Rattle.std.specs.Prelude.{◌≡◌, OnErr, OnOk, IfOk, IsErrOf, MatchOption, Some, None};
+ghost use Rattle.std.specs.Prelude.{◌≡◌, ◌≢◌, OnErr, OnOk, IfOk, IsErrOf, MatchOption, Some, None};
 ghost use Rattle.proto.specs.Turns.{call_of};
 ghost use Rattle.world.specs.Connections.{past_faults};
 ghost use Rattle.world.specs.Lawful.{HasOpen};
-ghost use Rattle.world.specs.Quiet.{calls_shown};
+ghost use Rattle.world.specs.Transcripts.{calls_shown};
 
 use crate::{CallTranscript, ConnectionTranscript, SceneFault};
 use proto::{ProtoFault, Session, Step};
@@ -51,7 +51,8 @@ impl Connection {
     ghost use Rattle.std.specs.Option.{option_copied};
     ghost use Rattle.node.specs.Lawful.{IsCall};
     ghost use Rattle.world.specs.Connections.{fresh, came, begun, open_call, to_work, asked, may_have, replied, handed};
-    ghost use Rattle.world.specs.Quiet.{waits, connection_shown};
+    ghost use Rattle.world.specs.Quiet.{waits};
+    ghost use Rattle.world.specs.Transcripts.{connection_shown};
 
     /// A connection at this server. It allocates nothing.
     pub fn new(alloc: Global, home: usize) -> Connection
@@ -84,7 +85,7 @@ impl Connection {
     {
         if let Stage::Idle = self.stage {
             self.calls.reserve(1)?;
-            if let Some(call) = next_call(&mut self.session)? {
+            if let Some(call) = next_call(&mut self.session).map_err(out_of_memory)? {
                 self.calls.push(call)?;
                 self.stage = Stage::Begun;
             }
@@ -158,7 +159,7 @@ impl Connection {
     {
         if let Stage::Replied(reply) = &self.stage {
             self.replies.reserve(1)?;
-            self.session.answer(reply)?;
+            self.session.answer(reply).map_err(out_of_memory)?;
             if let Stage::Replied(reply) = mem::replace(&mut self.stage, Stage::Idle) {
                 self.replies.push(reply)?;
             }
@@ -182,6 +183,17 @@ impl Connection {
             sent: Vec::from_slice(alloc, self.session.out())?,
             calls: call_transcripts(alloc, self.calls, self.replies)?,
         })
+    }
+}
+
+// Why a session that isn't asked while it is closed refuses.
+fn out_of_memory(fault: ProtoFault) -> SceneFault
+    requires open { fault ≢ ProtoFault.Closed }
+    ensures { result ≡ SceneFault.Memory }
+{
+    match fault {
+        ProtoFault::Memory => SceneFault::Memory,
+        ProtoFault::Closed => unreachable!(),
     }
 }
 
@@ -212,7 +224,7 @@ fn call_transcripts(
 ) -> Result<Vec<CallTranscript>, AllocError>
     ensures { IfOk result (λ v. v.items ≡ calls_shown calls.items replies.items) }
 {
-    let mut shown = Vec::new(alloc);
+    let mut shown = Vec::with_capacity(alloc, calls.len())?;
     let mut calls = calls.into_iter();
     let mut replies = replies.into_iter();
     while let Some(call) = calls.next() {

@@ -5,18 +5,18 @@ use bytes::Bytes;
 /// What may happen next. An event that doesn't apply has no effect.
 #[derive(Clone, Debug, PartialEq, Eq, Drop)]
 pub enum Event {
-    /// Bytes come to a connection.
+    /// Piece(c, bytes): the bytes come to connection c.
     Piece(usize, Bytes),
-    /// A connection's next call begins.
+    /// Begin(c): the next call of connection c begins.
     Begin(usize),
-    /// The call that was begun goes to its server.
+    /// Work(c): the begun call of connection c goes to its server.
     Work(usize),
-    /// The first message of the link from one server to another is delivered.
+    /// Deliver(i, j): the first message of the link from server i to server j comes to j.
     Deliver(usize, usize),
-    /// A server fails.
+    /// Fail(i): server i fails.
     Fail(usize),
-    /// A server is told that another has failed.
+    /// Tell(i, j): server i is told that server j has failed.
     Tell(usize, usize),
-    /// The reply that waits reaches the connection.
+    /// Hand(c): the reply that waits reaches connection c.
     Hand(usize),
 }

@@ -2,21 +2,23 @@
 ghost use Rattle.std.specs.Prelude.{◌≡◌};
 ghost use Rattle.world.specs.declared.faults.SceneFault.TheVariants.{Memory};
 
-use node::NodeFault;
-use proto::ProtoFault;
 use std::alloc::{AllocError, AllocFailed};
 use thiserror::Error;
 
 /// Why there is no scene, or no event in one.
 #[derive(Clone, Copy, Debug, PartialEq, Eq, Error)]
 pub enum SceneFault {
+    /// Memory ran out.
     #[error("out of memory")]
     Memory,
-    #[error("the number of servers is out of range")]
+    /// The servers are not 1 to 16.
+    #[error("a chain has 1 to 16 servers")]
     BadCount,
-    #[error("too many homes, or one that is no server")]
+    /// More than 64 homes, or one that is no server.
+    #[error("more than 64 homes, or one that is no server")]
     BadHomes,
-    #[error("an earlier event was refused")]
+    /// An earlier event was refused for want of memory.
+    #[error("an earlier event was refused for want of memory")]
     Spoiled,
 }
 
@@ -32,24 +34,6 @@ impl<T: Drop> From<AllocFailed<T>> for SceneFault {
     ghost from_gives = { λ _ e. e ≡ Memory };
 
     fn from(_e: AllocFailed<T>) -> SceneFault {
-        SceneFault::Memory
-    }
-}
-
-// A session refuses a connection's steps only for want of memory.
-impl From<ProtoFault> for SceneFault {
-    ghost from_gives = { λ _ e. e ≡ Memory };
-
-    fn from(_e: ProtoFault) -> SceneFault {
-        SceneFault::Memory
-    }
-}
-
-// A node of a scene that isn't spoiled was never stopped, and is of its chain: it refuses only for want of memory.
-impl From<NodeFault> for SceneFault {
-    ghost from_gives = { λ _ e. e ≡ Memory };
-
-    fn from(_e: NodeFault) -> SceneFault {
         SceneFault::Memory
     }
 }

@@ -1,8 +1,7 @@
 //! Links: the messages on their way from each server to each.
 ghost use Rattle.std.specs.Prelude.{◌≡◌, ◌<◌, ◌≤◌, [], ◌∷◌, ◌++◌, drop, length, replicate, slice_get, slice_index_or, slice_set, IfOk, IfSome, OnOk};
 ghost use Rattle.node.specs.Lawful.{IsBody};
-ghost use Rattle.world.specs.Links.{between, with_between};
-ghost use Rattle.world.specs.Quiet.{is_none};
+ghost use Rattle.world.specs.Links.{messages_between, with_messages, is_empty};
 
 use node::Peer;
 use std::alloc::{AllocError, Global};
@@ -57,7 +56,7 @@ impl Link {
 
     /// Whether it has no message.
     pub fn is_empty(&self) -> bool
-        ensures { result ≡ is_none self.now }
+        ensures { result ≡ is_empty self.now }
     {
         self.messages.is_empty()
     }
@@ -116,7 +115,7 @@ impl Row {
 
     /// Whether the link to server j has no message.
     pub fn is_empty(&self, j: usize) -> bool
-        ensures { result ≡ is_none (slice_index_or self.now j []) }
+        ensures { result ≡ is_empty (slice_index_or self.now j []) }
     {
         match self.links.get(j) {
             Some(link) => link.is_empty(),
@@ -158,7 +157,7 @@ impl Links {
     /// Puts a message at the end of the link from server i to server j, if there is one.
     pub fn push(&mut self, i: usize, j: usize, message: Peer) -> Result<(), AllocError>
         requires message { IsBody message.body }
-        ensures ok { OnOk result (self.new ≡ with_between self.old i j (between self.old i j ++ message ∷ [])) }
+        ensures ok { OnOk result (self.new ≡ with_messages self.old i j (messages_between self.old i j ++ message ∷ [])) }
     {
         if i < self.rows.len() {
             self.rows[i].push(j, message)?;
@@ -168,8 +167,8 @@ impl Links {
 
     /// Takes the first message off the link from server i to server j.
     pub fn pop(&mut self, i: usize, j: usize) -> Option<Peer>
-        ensures first { result ≡ slice_get (between self.old i j) 0 }
-        ensures rest { self.new ≡ with_between self.old i j (drop 1 (between self.old i j)) }
+        ensures first { result ≡ slice_get (messages_between self.old i j) 0 }
+        ensures rest { self.new ≡ with_messages self.old i j (drop 1 (messages_between self.old i j)) }
         ensures message { IfSome result (λ m. IsBody m.body) }
         // Only a server of a chain sends.
         ensures sender { IfSome result (λ m. i < 16) }
@@ -183,7 +182,7 @@ impl Links {
 
     /// Whether the link from server i to server j has no message.
     pub fn is_empty(&self, i: usize, j: usize) -> bool
-        ensures { result ≡ is_none (between self.now i j) }
+        ensures { result ≡ is_empty (messages_between self.now i j) }
     {
         match self.rows.get(i) {
             Some(row) => row.is_empty(j),

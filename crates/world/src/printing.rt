@@ -9,7 +9,7 @@ use itoa::Buffer;
 use memchr::memchr;
 use std::alloc::{AllocError, Global};
 
-/// The text of a transcript (this project's format), in time linear in it and in one block.
+/// The text of a transcript (this project's format), in time linear in it and into one vector that grows.
 pub fn print_transcript(alloc: Global, transcript: &Transcript) -> Result<Vec<u8>, AllocError>
     ensures printed { IfOk result (λ text. text.items ≡ transcript_text transcript.now) }
 {

@@ -1,15 +1,12 @@
-//! Quiet: whether nothing waits in a world, and what is shown of it.
-ghost use Rattle.std.specs.Prelude.{◌≡◌, ◌<◌, not, ◌&&◌, ◌||◌, length, map, slice_get, IfOk};
+//! Quiet: whether nothing waits in a world.
+ghost use Rattle.std.specs.Prelude.{◌≡◌, ◌<◌, not, ◌&&◌, ◌||◌, length};
 ghost use Rattle.std.specs.List.{list_all};
+ghost use Rattle.world.specs.Links.{is_empty};
 ghost use Rattle.world.specs.Worlds.{lives, link};
-ghost use Rattle.world.specs.Quiet.{all_below, is_none, is_server_quiet, waits, connection_shown, transcript_of};
+ghost use Rattle.world.specs.Quiet.{all_below, is_server_quiet, waits};
 ghost use Rattle.world.specs.Quiet as quiet;
-ghost use Rattle.world.specs.Scenes.{sent_to};
 
-use crate::connections::Connection;
 use crate::worlds::World;
-use crate::{ConnectionTranscript, Transcript};
-use std::alloc::{AllocError, Global};
 
 impl World {
     /// Whether nothing waits at living servers.
@@ -43,7 +40,7 @@ impl World {
     // Whether no link to server j holds a message.
     #[tactic(auto, using(crate::proofs::AllBelow::all_more, crate::proofs::AllBelow::all_broken), unfolding(crate::specs::Worlds::link))]
     fn is_unreached(&self, j: usize) -> bool
-        ensures { result ≡ all_below (length self.now.servers) (λ i. is_none (link self.now i j)) }
+        ensures { result ≡ all_below (length self.now.servers) (λ i. is_empty (link self.now i j)) }
     {
         for i in 0..self.servers.len() {
             if !self.links.is_empty(i, j) {
@@ -61,37 +58,4 @@ impl World {
             .iter()
             .all(|k| !(self.lives(k.home()) && k.waits()))
     }
-
-    /// What the c-th connection was sent.
-    pub fn sent(&self, c: usize) -> &[u8]
-        requires connection { c < length self.now.connections }
-        ensures { result.now ≡ sent_to (slice_get self.now.connections c) }
-    {
-        self.connections[c].sent()
-    }
-
-    /// What is shown of it.
-    pub fn transcript(self, alloc: Global) -> Result<Transcript, AllocError>
-        ensures { IfOk result (λ t. t ≡ transcript_of self) }
-    {
-        let quiet = self.is_quiet();
-        Ok(Transcript {
-            connections: connection_transcripts(alloc, self.connections)?,
-            quiet,
-        })
-    }
-}
-
-fn connection_transcripts(
-    alloc: Global,
-    connections: Vec<Connection>,
-) -> Result<Vec<ConnectionTranscript>, AllocError>
-    ensures { IfOk result (λ v. v.items ≡ map connection_shown connections.items) }
-{
-    let mut shown = Vec::new(alloc);
-    let mut connections = connections.into_iter();
-    while let Some(connection) = connections.next() {
-        shown.push(connection.transcript(alloc)?)?;
-    }
-    Ok(shown)
 }

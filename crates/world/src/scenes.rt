@@ -8,8 +8,9 @@ ghost use Rattle.world.specs.Orders.{Entry, IsLinearization};
 ghost use Rattle.world.specs.Sent.{course_of, sent_bytes, calls_of};
 ghost use Rattle.world.specs.Worlds.{opening_world, happens, run_of};
 ghost use Rattle.world.specs.Quiet as quiet;
-ghost use Rattle.world.specs.Quiet.{are_homes, is_quiet, transcript_of};
-ghost use Rattle.world.specs.Scenes.{going, is_count, sent_to};
+ghost use Rattle.world.specs.Quiet.{is_quiet};
+ghost use Rattle.world.specs.Scenes.{going, is_count, are_homes, sent_to};
+ghost use Rattle.world.specs.Transcripts.{transcript_of};
 
 use crate::laws::{calls, none_forgotten, one_order, sent};
 use crate::worlds::World;

@@ -1,11 +1,11 @@
 //! Servers: the nodes of a chain, seen as what each of them holds.
-ghost use Rattle.std.specs.Prelude.{◌≡◌, ◌<◌, ◌≤◌, length, slice_index_or, slice_set, IfOk, IfErr, OnOk};
+ghost use Rattle.std.specs.Prelude.{◌≡◌, ◌<◌, ◌≤◌, length, slice_index_or, slice_set, [], IfOk, IfErr, OnOk, OnErr};
 ghost use Rattle.node.specs.Lawful.{IsInput, AreFit};
 ghost use Rattle.node.specs.Steps as steps;
 ghost use Rattle.world.specs.Worlds.{nobody, opening_servers};
 
 use crate::SceneFault;
-use node::{Input, Node, Output, View};
+use node::{Input, Node, NodeFault, Output, View};
 use std::alloc::Global;
 use std::marker::Model;
 
@@ -16,7 +16,7 @@ pub struct Servers {
 }
 
 impl Model for Servers {
-    ghost use Rattle.std.specs.Prelude.{List, length, map, ◌≤◌};
+    ghost use Rattle.std.specs.Prelude.{◌≡◌, ◌≤◌, false, List, length, map, All};
     ghost use Rattle.std.specs.Coded.{codes};
     ghost use Rattle.versions.specs.Stores.{coded_items};
     ghost use Rattle.node.specs.Servers.{ServerState};
@@ -27,7 +27,7 @@ impl Model for Servers {
 
     ghost view = { λ s. map (λ n. n.server) s.nodes.items };
 
-    ghost invariant = { λ s. length s.nodes.items ≤ 16 };
+    ghost invariant = { λ s. (length s.nodes.items ≤ 16) × All (λ n. n.stopped ≡ false) s.nodes.items };
 }
 
 impl Servers {
@@ -39,7 +39,10 @@ impl Servers {
     {
         let mut nodes = Vec::with_capacity(alloc, usize::from(count))?;
         for id in 0..count {
-            nodes.push(Node::new(alloc, id, count)?)?;
+            match Node::new(alloc, id, count) {
+                Ok(node) => nodes.push(node)?,
+                Err(_) => unreachable!(),
+            }
         }
         Ok(Servers { nodes })
     }
@@ -60,7 +63,8 @@ impl Servers {
         self.nodes[i].view()
     }
 
-    /// Server i takes an input, and puts out messages that may be given to servers.
+    /// Server i takes an input, and puts out messages that may be given to servers. Where memory runs out, no server is left:
+    /// so none of these was ever stopped.
     pub fn step(&mut self, i: usize, input: Input) -> Result<Vec<Output>, SceneFault>
         requires server { i < length self.old }
         requires input { IsInput input }
@@ -68,7 +72,15 @@ impl Servers {
         ensures outputs { IfOk result (λ outputs. outputs.items ≡ (steps.step (slice_index_or self.old i nobody) input).outputs) }
         ensures fit { IfOk result (λ outputs. AreFit outputs.items) }
         ensures only_memory { IfErr result (λ fault. fault ≡ SceneFault.Memory) }
+        ensures err { OnErr result (self.new ≡ []) }
     {
-        Ok(self.nodes[i].step(input)?)
+        match self.nodes[i].step(input) {
+            Ok(outputs) => Ok(outputs),
+            Err(NodeFault::Memory) => {
+                self.nodes.clear();
+                Err(SceneFault::Memory)
+            }
+            Err(NodeFault::Stopped | NodeFault::BadCount) => unreachable!(),
+        }
     }
 }

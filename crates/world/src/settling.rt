@@ -1,6 +1,7 @@
 //! Settling: the rounds of events that a `settle` line stands for.
-ghost use Rattle.std.specs.Prelude.{◌≡◌, ◌++◌, IfOk, OnOk};
-ghost use Rattle.world.specs.Settling.{pairs, pairs_with, round, settled};
+ghost use Rattle.std.specs.Prelude.{◌≡◌, ◌++◌, map, IfOk, OnOk};
+ghost use Rattle.world.specs.declared.events.Event.TheVariants.{Work, Deliver, Tell, Hand};
+ghost use Rattle.world.specs.Settling.{first_numbers, pairs, pairs_with, round, settled};
 
 use crate::Event;
 use std::alloc::{AllocError, Global};
@@ -24,6 +25,8 @@ pub fn push_rounds(
     Ok(())
 }
 
+// Tells, deliveries, works and hands, in this order.
+#[tactic(auto, unfolding(crate::specs::Settling::round))]
 fn push_round(
     events: &mut Vec<Event>,
     pairs: &[(usize, usize)],
@@ -31,11 +34,34 @@ fn push_round(
 ) -> Result<(), AllocError>
     ensures { OnOk result (events.new.items ≡ events.old.items ++ round pairs.now connections) }
 {
-    events.extend(pairs.iter().map(|p| Event::Tell(p.0, p.1)))?;
-    events.extend(pairs.iter().map(|p| Event::Deliver(p.0, p.1)))?;
-    events.extend((0..connections).map(Event::Work))?;
-    events.extend((0..connections).map(Event::Hand))?;
-    Ok(())
+    push_tells(events, pairs)?;
+    push_deliveries(events, pairs)?;
+    push_works(events, connections)?;
+    push_hands(events, connections)
+}
+
+fn push_tells(events: &mut Vec<Event>, pairs: &[(usize, usize)]) -> Result<(), AllocError>
+    ensures { OnOk result (events.new.items ≡ events.old.items ++ map (λ p. Tell p.0 p.1) pairs.now) }
+{
+    events.extend(pairs.iter().map(|p| Event::Tell(p.0, p.1)))
+}
+
+fn push_deliveries(events: &mut Vec<Event>, pairs: &[(usize, usize)]) -> Result<(), AllocError>
+    ensures { OnOk result (events.new.items ≡ events.old.items ++ map (λ p. Deliver p.0 p.1) pairs.now) }
+{
+    events.extend(pairs.iter().map(|p| Event::Deliver(p.0, p.1)))
+}
+
+fn push_works(events: &mut Vec<Event>, connections: usize) -> Result<(), AllocError>
+    ensures { OnOk result (events.new.items ≡ events.old.items ++ map Work (first_numbers connections)) }
+{
+    events.extend((0..connections).map(Event::Work))
+}
+
+fn push_hands(events: &mut Vec<Event>, connections: usize) -> Result<(), AllocError>
+    ensures { OnOk result (events.new.items ≡ events.old.items ++ map Hand (first_numbers connections)) }
+{
+    events.extend((0..connections).map(Event::Hand))
 }
 
 // Each server with each other one: the first rises, and for each first the second.

@@ -18,7 +18,7 @@ impl World {
         ensures only_memory { IfErr result (λ fault. fault ≡ SceneFault.Memory) }
         ensures connections { length self.new.connections ≡ length self.old.connections }
     {
-        if !self.is_served(c) {
+        if !self.home_lives(c) {
             return Ok(());
         }
         let connection = &mut self.connections[c];

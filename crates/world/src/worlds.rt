@@ -3,7 +3,6 @@ ghost use Rattle.std.specs.Prelude.{◌≡◌, ◌<◌, ◌≤◌, true, length,
 ghost use Rattle.world.specs.declared.events.Event.TheVariants.{Piece, Begin, Hand};
 ghost use Rattle.world.specs.Connections.{fresh};
 ghost use Rattle.world.specs.Worlds as worlds;
-ghost use Rattle.world.specs.Scenes.{is_served};
 
 use crate::connections::Connection;
 use crate::links::Links;
@@ -86,8 +85,8 @@ impl World {
     }
 
     /// Whether there is such a connection, and its home lives.
-    pub fn is_served(&self, c: usize) -> bool
-        ensures { result ≡ is_served self.now (slice_get self.now.connections c) }
+    pub fn home_lives(&self, c: usize) -> bool
+        ensures { result ≡ worlds.home_lives self.now (slice_get self.now.connections c) }
     {
         match self.connections.get(c) {
             Some(connection) => self.lives(connection.home()),
@@ -101,7 +100,7 @@ impl World {
         ensures only_memory { IfErr result (λ fault. fault ≡ SceneFault.Memory) }
         ensures connections { length self.new.connections ≡ length self.old.connections }
     {
-        if self.is_served(c) {
+        if self.home_lives(c) {
             self.connections[c].come(bytes)?;
         }
         Ok(())
@@ -113,7 +112,7 @@ impl World {
         ensures only_memory { IfErr result (λ fault. fault ≡ SceneFault.Memory) }
         ensures connections { length self.new.connections ≡ length self.old.connections }
     {
-        if self.is_served(c) {
+        if self.home_lives(c) {
             self.connections[c].begin()?;
         }
         Ok(())
@@ -125,7 +124,7 @@ impl World {
         ensures only_memory { IfErr result (λ fault. fault ≡ SceneFault.Memory) }
         ensures connections { length self.new.connections ≡ length self.old.connections }
     {
-        if self.is_served(c) {
+        if self.home_lives(c) {
             self.connections[c].hand()?;
         }
         Ok(())

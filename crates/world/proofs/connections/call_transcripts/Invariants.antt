@@ -1,6 +1,6 @@
 use Rattle.std.proofs.Common.{◌≡◌, ◌++◌, length}
 use Rattle.std.specs.Vec.Iter.{into_iter_items}
-use Rattle.world.specs.Quiet.{calls_shown}
+use Rattle.world.specs.Transcripts.{calls_shown}
 use Rattle.world.proofs.connections.call_transcripts.Given as goal
 
 abbrev pub invariant-loop-call : goal.invariant-loop-call

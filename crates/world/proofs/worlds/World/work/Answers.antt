@@ -1,14 +1,13 @@
 use Rattle.std.proofs.Common.{◌≡◌, sym, ◌∙◌, subst, true, OnOk, Some, None}
 use Rattle.std.specs.Prelude.{slice_get}
 use Rattle.world.specs.Connections.{to_work, asked}
-use Rattle.world.specs.Worlds.{World}
-use Rattle.world.specs.Scenes.{is_served}
+use Rattle.world.specs.Worlds.{World, home_lives}
 use Rattle.world.proofs.ConnectionLists.{call_worked, none_worked}
 use Rattle.world.proofs.worlds.World.work.Goals as goal
 
 pub returns-in-Some-clause-ok : goal.returns-in-Some-clause-ok
 returns-in-Some-clause-ok c =
-    let served : is_served c.args.self.now (slice_get c.args.self.now.connections c.args.c) ≡ true = sym c.is_served.ensures ∙ c.if-not-is_served.false in
+    let served : home_lives c.args.self.now (slice_get c.args.self.now.connections c.args.c) ≡ true = sym c.home_lives.ensures ∙ c.if-not-home_lives.false in
     let old = c.index_mut-connection.result.now in
     let call_is : Some c.in-Some.call ≡ to_work old.stage old = sym c.in-Some.is ∙ c.in_ok-call.ensures.call in
     let asked_is : c.ask.new.self ≡ asked old = rw c.in-Some.is at c.in_ok-call.ensures.stage in
@@ -17,7 +16,7 @@ returns-in-Some-clause-ok c =
 
 pub returns-in-None-clause-ok : goal.returns-in-None-clause-ok
 returns-in-None-clause-ok c =
-    let served : is_served c.args.self.now (slice_get c.args.self.now.connections c.args.c) ≡ true = sym c.is_served.ensures ∙ c.if-not-is_served.false in
+    let served : home_lives c.args.self.now (slice_get c.args.self.now.connections c.args.c) ≡ true = sym c.home_lives.ensures ∙ c.if-not-home_lives.false in
     let old = c.index_mut-connection.result.now in
     let none : None ≡ to_work old.stage old = sym c.in-None.is ∙ c.in_ok-call.ensures.call in
     let kept : c.ask.new.self ≡ old = rw c.in-None.is at c.in_ok-call.ensures.stage in

@@ -1,7 +1,7 @@
 use Rattle.std.proofs.Common.{◌≡◌, ◌++◌, length, map}
 use Rattle.std.specs.Vec.Iter.{into_iter_items}
-use Rattle.world.specs.Quiet.{connection_shown}
-use Rattle.world.proofs.quiet.connection_transcripts.Given as goal
+use Rattle.world.specs.Transcripts.{connection_shown}
+use Rattle.world.proofs.transcripts.connection_transcripts.Given as goal
 
 abbrev pub invariant-loop-connection : goal.invariant-loop-connection
 invariant-loop-connection l = l.shown.items ++ map connection_shown (into_iter_items l.connections) ≡ map connection_shown l.fn.connections.items
