@@ -10,12 +10,12 @@ use Rattle.world.specs.Escapes.{unescape, one_byte}
 use Rattle.world.specs.Settling.{settled}
 
 -- a connection: 0 to 999
-abbrev pub connection : List ℕ → Option ℕ
-connection field = number_in 0 1000 field
+abbrev pub connection_number : List ℕ → Option ℕ
+connection_number field = number_in 0 1000 field
 
 -- a server: 0 to 99
-abbrev pub server : List ℕ → Option ℕ
-server field = number_in 0 100 field
+abbrev pub server_number : List ℕ → Option ℕ
+server_number field = number_in 0 100 field
 
 -- the bytes that a TEXT spells, where it has a byte at least
 abbrev pub text_of : List ℕ → Option (List ℕ)
@@ -24,7 +24,7 @@ text_of (b ∷ bs) = unescape (b ∷ bs)
 
 -- `C TEXT` behind `piece`: the bytes of TEXT
 abbrev pub piece_line : List ℕ → Option Event
-piece_line rest = option_and_then (λ c. option_and_then (λ number. option_map (λ bytes. Piece number bytes) (text_of c.1)) (connection c.0)) (cut space rest)
+piece_line rest = option_and_then (λ c. option_and_then (λ number. option_map (λ bytes. Piece number bytes) (text_of c.1)) (connection_number c.0)) (cut space rest)
 
 -- so many copies of one byte, where all three are there
 abbrev pub filled : Option ℕ → Option ℕ → Option ℕ → Option Event
@@ -35,11 +35,11 @@ filled None count byte = None
 
 -- `C N TEXT` behind `fill`: N copies of the one byte of TEXT, N from 1 to 2000000
 abbrev pub fill_line : List ℕ → Option Event
-fill_line rest = option_and_then (λ c. option_and_then (λ d. filled (connection c.0) (number_in 1 2000001 d.0) (one_byte d.1)) (cut space c.1)) (cut space rest)
+fill_line rest = option_and_then (λ c. option_and_then (λ d. filled (connection_number c.0) (number_in 1 2000001 d.0) (one_byte d.1)) (cut space c.1)) (cut space rest)
 
 -- `I J`: two servers
 abbrev pub two_servers : List ℕ → Option (ℕ × ℕ)
-two_servers rest = option_and_then (λ c. option_and_then (λ i. option_map (λ j. (i, j)) (server c.1)) (server c.0)) (cut space rest)
+two_servers rest = option_and_then (λ c. option_and_then (λ i. option_map (λ j. (i, j)) (server_number c.1)) (server_number c.0)) (cut space rest)
 
 -- `C` behind `begin`, `work` or `hand`
 abbrev pub call_line : List ℕ → List ℕ → Option Event
@@ -47,7 +47,7 @@ call_line word rest = option_and_then (λ number.
     if bytes_eq word (codes "begin") then Some (Begin number)
     else if bytes_eq word (codes "work") then Some (Work number)
     else if bytes_eq word (codes "hand") then Some (Hand number)
-    else None) (connection rest)
+    else None) (connection_number rest)
 
 -- the event behind a word: of a server, or of two of them, or of a connection
 abbrev pub word_line : List ℕ → List ℕ → Option Event
@@ -55,7 +55,7 @@ word_line word rest =
     if bytes_eq word (codes "piece") then piece_line rest
     else if bytes_eq word (codes "fill") then fill_line rest
     else if bytes_eq word (codes "deliver") then option_map (λ p. Deliver p.0 p.1) (two_servers rest)
-    else if bytes_eq word (codes "fail") then option_map Fail (server rest)
+    else if bytes_eq word (codes "fail") then option_map Fail (server_number rest)
     else if bytes_eq word (codes "tell") then option_map (λ p. Tell p.0 p.1) (two_servers rest)
     else call_line word rest
 

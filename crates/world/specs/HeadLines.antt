@@ -1,12 +1,7 @@
 -- The two lines that open a schedule.
 use Rattle.std.specs.Prelude.{ℕ, ◌&&◌, nat_le, ◌==◌, List, [], ◌∷◌, length, Option, None, Some, option_map, option_and_then, if◌then◌else◌, codes, bytes_eq}
-use Rattle.std.specs.List.{slice_split}
-use Rattle.world.specs.Cuts.{space, cut}
+use Rattle.world.specs.Cuts.{space, cut, fields_of}
 use Rattle.world.specs.Numbers.{number_in}
-
--- the words of a text, cut at each single space
-abbrev pub fields_of : List ℕ → List (List ℕ)
-fields_of text = slice_split (λ b. b == space) text
 
 -- the numbers that fields spell, each below this one
 abbrev pub numbers_below : ℕ → List (List ℕ) → Option (List ℕ)
