@@ -1,5 +1,5 @@
 -- What the two lines that open a schedule name is in range.
-use Rattle.std.proofs.Common.{◌≡◌, ℕ, suc, Bool, true, false, cond, ◌&&◌, not, nat_le, nat_lt, List, [], ◌∷◌, length, Option, None, Some, option_map, option_and_then, refl, ap, arith, subst}
+use Rattle.std.proofs.Common.{◌≡◌, ℕ, suc, Bool, true, false, cond, ◌&&◌, not, nat_le, nat_lt, List, [], ◌∷◌, length, Option, None, Some, option_and_then, refl, ap, arith, subst}
 use Rattle.std.specs.Char.{is_ascii_digit}
 use Rattle.std.specs.List.{list_all}
 use Rattle.std.specs.Prelude.{bytes_eq, codes}
@@ -38,7 +38,7 @@ are_below : (high : ℕ) (fields : List (List ℕ)) (ns : List ℕ) → numbers_
 are_below high [] ns h = subst (AreBelow high []) (same_Some [] ns h) (refl, refl)
 are_below high (field ∷ fields) ns h = by_field (number_in 0 high field) (numbers_below high fields) refl (are_below high fields) h
   where
-    by_field : (o : Option ℕ) (p : Option (List ℕ)) → number_in 0 high field ≡ o → ((ms : List ℕ) → p ≡ Some ms → AreBelow high fields ms) → option_and_then (λ n. option_map (λ ms. n ∷ ms) p) o ≡ Some ns → AreBelow high (field ∷ fields) ns
+    by_field : (o : Option ℕ) (p : Option (List ℕ)) → number_in 0 high field ≡ o → ((ms : List ℕ) → p ≡ Some ms → AreBelow high fields ms) → option_and_then (λ n. option_and_then (λ ms. Some (n ∷ ms)) p) o ≡ Some ns → AreBelow high (field ∷ fields) ns
     by_field None p is later h = absurd cc
     by_field (Some n) None is later h = absurd cc
     by_field (Some n) (Some ms) is later h =

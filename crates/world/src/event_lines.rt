@@ -1,6 +1,6 @@
 //! The lines of a schedule behind its head: an event each, or rounds of events.
 ghost use Rattle.std.specs.Prelude.{◌≡◌, ◌++◌, IfOk, OnOk};
-ghost use Rattle.world.specs.EventLines.{event_line, events_in, word_line, piece_line, fill_line, call_line, two_servers, server_number, connection_number, text_of};
+ghost use Rattle.world.specs.EventLines.{event_line, events_in, word_line, piece_line, fill_line, fill_fields, call_line, two_servers, server_number, connection_number, text_of};
 
 use crate::Event;
 use crate::cuts::cut;
@@ -109,23 +109,21 @@ fn text_of(alloc: Global, text: &[u8]) -> Result<Option<Bytes>, AllocError>
 fn fill_line(alloc: Global, rest: &[u8]) -> Result<Option<Event>, AllocError>
     ensures { IfOk result (λ event. event ≡ fill_line rest.now) }
 {
-    let Some((number, rest)) = cut(b' ', rest) else {
+    let Some((connection, count, byte)) = fill_fields(rest) else {
         return Ok(None);
     };
-    let Some((count, text)) = cut(b' ', rest) else {
-        return Ok(None);
-    };
-    match (
-        connection_number(number),
-        number_in(1, MOST_FILLED + 1, count),
-        one_byte(text),
-    ) {
-        (Some(connection), Some(count), Some(byte)) => {
-            let bytes = vec![in alloc; byte; count]?;
-            Ok(Some(Event::Piece(connection, Bytes::from_vec(bytes)?)))
-        }
-        _ => Ok(None),
-    }
+    let bytes = vec![in alloc; byte; count]?;
+    Ok(Some(Event::Piece(connection, Bytes::from_vec(bytes)?)))
+}
+
+fn fill_fields(rest: &[u8]) -> Option<(usize, usize, u8)>
+    ensures { result ≡ fill_fields rest.now }
+{
+    let (number, rest) = cut(b' ', rest)?;
+    let (count, text) = cut(b' ', rest)?;
+    let connection = connection_number(number)?;
+    let count = number_in(1, MOST_FILLED + 1, count)?;
+    Some((connection, count, one_byte(text)?))
 }
 
 fn call_line(word: &[u8], rest: &[u8]) -> Option<Event>
