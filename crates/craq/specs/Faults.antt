@@ -1,5 +1,6 @@
 -- The faults of a scenario: their exit statuses, their lines, and the faults that they come from.
-use Rattle.std.specs.Prelude.{ℕ, List, ◌++◌, codes, decimal}
+use Rattle.std.specs.Prelude.{◌≡◌, ℕ, List, ◌++◌, Option, codes, decimal}
+use Rattle.std.specs.Io.KnownBytes.{Appends}
 use Rattle.craq.specs.declared.faults.ScenarioFault.{ScenarioFault}
 use Rattle.craq.specs.declared.faults.ScenarioFault.TheVariants.{Memory, Unreadable, BadLine, Run}
 use Rattle.craq.specs.declared.reading.ReadFault.{ReadFault}
@@ -23,14 +24,21 @@ line_of name Unreadable = codes "craq: cannot read " ++ name ++ codes "\n"
 line_of name (BadLine number) = codes "craq: line " ++ decimal number ++ codes ": bad schedule line\n"
 line_of name Run = codes "craq: run failed\n"
 
+-- the fault's line was added to the errors, unless a write to them failed
+abbrev pub IsTold : List ℕ → ScenarioFault → ℕ → ℕ → Option (List ℕ) → Option (List ℕ) → Type 0
+IsTold name fault failed_before failed_after before after = failed_after ≡ failed_before → Appends before after (line_of name fault)
+
+-- the fault of a source that wasn't read
 abbrev pub of_reading : ReadFault → ScenarioFault
 of_reading reading.Memory = Memory
 of_reading reading.Read = Unreadable
 
+-- the fault of a text that gives no schedule
 abbrev pub of_schedule : ScheduleFault → ScenarioFault
 of_schedule schedules.Memory = Memory
 of_schedule (schedules.BadLine number) = BadLine number
 
+-- the fault of a schedule that wasn't run to its end
 abbrev pub of_scene : SceneFault → ScenarioFault
 of_scene scenes.Memory = Memory
 of_scene scenes.BadCount = Run

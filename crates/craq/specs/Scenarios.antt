@@ -16,13 +16,15 @@ IsScenarioStatus n = (n ≡ 0) ⊎ ((n ≡ 1) ⊎ (n ≡ 3))
 abbrev pub Replays : List ℕ → List ℕ → Type 0
 Replays text shown = (s : ScheduleShown) × (schedule_of text ≡ Ok s) × (shown ≡ transcript_text (transcript_of (run_of s.count s.homes s.events)))
 
+-- the bytes that the source still gave before and after, and those that the sink held before and after, where known:
 -- a schedule was read from the source, and the text of its transcript was written to the sink
 abbrev pub Shows : Option (List ℕ) → Option (List ℕ) → Option (List ℕ) → Option (List ℕ) → Type 0
-Shows given left held holds = (text : List ℕ) × (shown : List ℕ) × Replays text shown × Consumes given left text × Appends held holds shown
+Shows source_before source_after sink_before sink_after =
+    (text : List ℕ) × (shown : List ℕ) × Replays text shown × Consumes source_before source_after text × Appends sink_before sink_after shown
 
 -- the text of what some schedule's run shows was written to the sink
 abbrev pub ShowsSome : Option (List ℕ) → Option (List ℕ) → Type 0
-ShowsSome held holds = (text : List ℕ) × (shown : List ℕ) × Replays text shown × Appends held holds shown
+ShowsSome sink_before sink_after = (text : List ℕ) × (shown : List ℕ) × Replays text shown × Appends sink_before sink_after shown
 
 -- a fault that names a line names the text's first bad line
 abbrev pub NamesLine : List ℕ → ScenarioFault → Type 0
@@ -33,7 +35,7 @@ NamesLine text Run = Unit {0}
 
 -- the same of the text that was read from the source
 abbrev pub NamesLineOf : Option (List ℕ) → Option (List ℕ) → ScenarioFault → Type 0
-NamesLineOf given left Memory = Unit {0}
-NamesLineOf given left Unreadable = Unit {0}
-NamesLineOf given left (BadLine number) = (text : List ℕ) × Consumes given left text × (schedule_of text ≡ Err number)
-NamesLineOf given left Run = Unit {0}
+NamesLineOf source_before source_after Memory = Unit {0}
+NamesLineOf source_before source_after Unreadable = Unit {0}
+NamesLineOf source_before source_after (BadLine number) = (text : List ℕ) × Consumes source_before source_after text × (schedule_of text ≡ Err number)
+NamesLineOf source_before source_after Run = Unit {0}

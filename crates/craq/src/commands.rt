@@ -1,6 +1,7 @@
 //! What a command line asks for.
 
 use std::alloc::AllocError;
+use thiserror::Error;
 
 /// A command, with its arguments.
 #[derive(Debug, Drop)]
@@ -13,11 +14,13 @@ pub enum Command {
 }
 
 /// Why a command line is refused.
-#[derive(Debug, Drop)]
+#[derive(Debug, Drop, Error)]
 pub enum UsageFault {
     /// No memory was left.
+    #[error("out of memory")]
     Memory,
     /// The parser's text: what is wrong with the words, or the help that they ask for.
+    #[error("{0}")]
     Usage(String),
 }
 

@@ -4,7 +4,7 @@ ghost use Rattle.std.specs.Prelude.{◌≡◌, ◌+◌, ◌<◌};
 use std::marker::Model;
 use std::sync::ledger::{Blank, Book, Ledger, Share};
 
-/// A count without a last value, which takes no bytes: `rise` does nothing when the program runs.
+/// A count without an upper bound, which takes no bytes: `rise` does nothing when the program runs.
 /// Contracts see it as a number.
 #[derive(Drop)]
 pub struct Failures<L: Ledger> {

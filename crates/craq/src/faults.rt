@@ -7,27 +7,35 @@ use crate::sinks::Sink;
 use crate::writing::{WriteFault, write_all};
 use itoa::Buffer;
 use std::alloc::AllocError;
+use thiserror::Error;
 use world::{SceneFault, ScheduleFault};
 
-/// Exit statuses.
+/// The transcript was printed.
 pub const DONE: u8 = 0;
 
+/// The schedule or the output failed.
 pub const FAILED: u8 = 1;
 
+/// The arguments are no command.
 pub const USAGE: u8 = 2;
 
+/// No memory was left.
 pub const MEMORY: u8 = 3;
 
 /// Why a scenario wasn't replayed.
-#[derive(Clone, Copy, Debug, PartialEq, Eq)]
+#[derive(Clone, Copy, Debug, PartialEq, Eq, Error)]
 pub enum ScenarioFault {
     /// No memory was left.
+    #[error("out of memory")]
     Memory,
     /// The schedule can't be read.
+    #[error("cannot read the schedule")]
     Unreadable,
     /// The line of this number, counted from 1, is no schedule line.
+    #[error("line {0}: bad schedule line")]
     BadLine(u64),
-    /// Any other cause.
+    /// The output can't be written.
+    #[error("run failed")]
     Run,
 }
 

@@ -1,10 +1,10 @@
 //! The program between its arguments, its files and its standard streams.
 ghost use Rattle.std.specs.Prelude.{◌≡◌, ◌≢◌, ◌<◌, ◌≤◌, ℕ, List, string_bytes};
-ghost use Rattle.std.specs.Io.KnownBytes.{Appends};
 ghost use Rattle.std.specs.IoError.{error_kind};
-ghost use Rattle.craq.specs.Faults.{status_of, line_of};
+ghost use Rattle.craq.specs.Faults.{IsTold, status_of};
 ghost use Rattle.craq.specs.Scenarios.{IsScenarioStatus, ShowsSome};
 ghost use Rattle.craq.specs.declared.faults.ScenarioFault.{ScenarioFault};
+ghost use Rattle.craq.specs.declared.faults.ScenarioFault.TheVariants.{Run};
 
 use crate::commands::{Command, UsageFault};
 use crate::failures::Failures;
@@ -21,6 +21,11 @@ use std::sync::ledger::{Blank, Ledger};
 use std::{env, fs, io};
 
 /// Does what the program's arguments ask for, and answers its exit status.
+///
+/// - 0: the transcript was printed.
+/// - 1: the file or a line of it is bad, or the output can't be written.
+/// - 2: the arguments are no command; the parser's text goes to `errors`.
+/// - 3: no memory was left.
 pub fn run<R: Env + Files + AllocGlobal, W: Sink, X: Sink>(
     rt: &R,
     output: &mut W,
@@ -31,11 +36,15 @@ pub fn run<R: Env + Files + AllocGlobal, W: Sink, X: Sink>(
     ensures shown { result ≡ DONE → ShowsSome (W.contents output.old) (W.contents output.new) }
     ensures written { result ≡ DONE → W.failures output.new ≡ W.failures output.old }
     ensures silent { result ≡ DONE → errors.new ≡ errors.old }
-    // Else, but for a usage fault, one line tells the fault where the errors can be written.
-    ensures fault { result ≢ DONE → result ≢ USAGE → (name : List ℕ) × (fault : ScenarioFault) × (result ≡ status_of fault) × (X.failures errors.new ≡ X.failures errors.old → Appends (X.contents errors.old) (X.contents errors.new) (line_of name fault)) }
+    // Else, but for a usage fault, one line tells a fault of that status, with the name of a file
+    // (which one the arguments named has no contract to be checked against).
+    ensures fault { result ≢ DONE → result ≢ USAGE → (name : List ℕ) × (fault : ScenarioFault) × (result ≡ status_of fault) ×
+        (fault ≡ Run → W.failures output.old < W.failures output.new) ×
+        IsTold name fault (X.failures errors.old) (X.failures errors.new) (X.contents errors.old) (X.contents errors.new) }
+    ensures usage { result ≡ USAGE → output.new ≡ output.old }
     ensures untouched { result ≢ DONE → W.failures output.new ≡ W.failures output.old → output.new ≡ output.old }
 {
-    match asked(rt) {
+    match command_line(rt) {
         Ok(Command::Scenario { file }) => {
             replay_file::<R, W, X, Brand>(rt, file, output, errors, Blank::new(1))
         }
@@ -50,7 +59,7 @@ pub fn run<R: Env + Files + AllocGlobal, W: Sink, X: Sink>(
     }
 }
 
-fn asked<R: Env + AllocGlobal>(rt: &R) -> Result<Command, UsageFault> {
+fn command_line<R: Env + AllocGlobal>(rt: &R) -> Result<Command, UsageFault> {
     let arguments: Vec<String> = arguments(rt)?;
     let words: Vec<&str> = arguments
         .iter()
@@ -84,7 +93,8 @@ fn replay_file<R: Files + AllocGlobal, W: Sink, X: Sink, L: Ledger>(
     ensures shown { result ≡ DONE → ShowsSome (W.contents output.old) (W.contents output.new) }
     ensures written { result ≡ DONE → W.failures output.new ≡ W.failures output.old }
     ensures silent { result ≡ DONE → errors.new ≡ errors.old }
-    ensures fault { result ≢ DONE → (fault : ScenarioFault) × (result ≡ status_of fault) × (X.failures errors.new ≡ X.failures errors.old → Appends (X.contents errors.old) (X.contents errors.new) (line_of (string_bytes file) fault)) }
+    ensures fault { result ≢ DONE → (fault : ScenarioFault) × (result ≡ status_of fault) × (fault ≡ Run → W.failures output.old < W.failures output.new) ×
+        IsTold (string_bytes file) fault (X.failures errors.old) (X.failures errors.new) (X.contents errors.old) (X.contents errors.new) }
     ensures untouched { result ≢ DONE → W.failures output.new ≡ W.failures output.old → output.new ≡ output.old }
 {
     let file = file.as_str();
@@ -94,14 +104,14 @@ fn replay_file<R: Files + AllocGlobal, W: Sink, X: Sink, L: Ledger>(
             scenario(rt.alloc(), file, &mut source, output, errors)
         }
         Err(e) => {
-            let fault = fault_of(&e);
+            let fault = unopened(&e);
             let _ = fault.tell(file, errors);
             fault.status()
         }
     }
 }
 
-fn fault_of(error: &io::Error) -> ScenarioFault
+fn unopened(error: &io::Error) -> ScenarioFault
     ensures memory { error_kind error.now ≡ ErrorKind.OutOfMemory → result ≡ ScenarioFault.Memory }
     ensures other { error_kind error.now ≢ ErrorKind.OutOfMemory → result ≡ ScenarioFault.Unreadable }
 {

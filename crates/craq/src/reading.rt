@@ -10,8 +10,10 @@ use thiserror::Error;
 /// Why a source wasn't read to its end.
 #[derive(Clone, Copy, Debug, PartialEq, Eq, Error)]
 pub enum ReadFault {
+    /// No memory was left.
     #[error("out of memory")]
     Memory,
+    /// A read failed.
     #[error("the source can't be read")]
     Read,
 }
@@ -28,6 +30,7 @@ impl From<AllocError> for ReadFault {
 const PIECE: usize = 4096;
 
 /// All that is left in the source, read in pieces of 4,096 bytes. It takes time linear in the length.
+/// A read that a signal interrupts is a failed one: it isn't tried again.
 pub fn read_to_end<R: Source>(alloc: Global, source: &mut R) -> Result<Vec<u8>, ReadFault>
     ensures bytes { IfOk result (λ all. Consumes (R.remaining source.old) (R.remaining source.new) all.items) }
     ensures left { OnOk result (IsAtEnd (R.remaining source.new)) }

@@ -1,7 +1,6 @@
 //! The command `scenario`: a schedule in, its transcript out.
 ghost use Rattle.std.specs.Prelude.{◌≡◌, ◌≢◌, ◌<◌, ◌↔◌, OnOk, OnErr, IfOk, IfErr, IsErrOf, true};
-ghost use Rattle.std.specs.Io.KnownBytes.{Appends};
-ghost use Rattle.craq.specs.Faults.{status_of, line_of};
+ghost use Rattle.craq.specs.Faults.{IsTold, status_of};
 ghost use Rattle.craq.specs.Scenarios.{IsScenarioStatus, NamesLine, NamesLineOf, Replays, Shows};
 ghost use Rattle.craq.specs.declared.faults.ScenarioFault.{ScenarioFault};
 ghost use Rattle.craq.specs.declared.faults.ScenarioFault.TheVariants.{Unreadable, Run};
@@ -15,7 +14,8 @@ use std::alloc::Global;
 use world::{print_transcript, read_schedule, run};
 
 /// Replays the schedule that the source holds, prints the transcript to the sink, and answers the exit status.
-/// The line of a fault goes to `errors`.
+/// The line of a fault goes to `errors`; `name` is the file's name in that line.
+/// The status is 0 where all was written, 3 for want of memory, else 1. It takes time linear in the schedule and its run.
 pub fn scenario<R: Source, W: Sink, X: Sink>(
     alloc: Global,
     name: &str,
@@ -32,10 +32,15 @@ pub fn scenario<R: Source, W: Sink, X: Sink>(
     ensures written { result ≡ DONE → W.failures sink.new ≡ W.failures sink.old }
     ensures silent { result ≡ DONE → errors.new ≡ errors.old }
 
-    // Else the status is that of a fault, which one line tells where the errors can be written.
-    ensures fault { result ≢ DONE → (fault : ScenarioFault) × (result ≡ status_of fault) × (fault ≡ Unreadable → R.failures source.old < R.failures source.new) × NamesLineOf (R.remaining source.old) (R.remaining source.new) fault × (X.failures errors.new ≡ X.failures errors.old → Appends (X.contents errors.old) (X.contents errors.new) (line_of name.now fault)) }
-    ensures unreadable { R.failures source.old < R.failures source.new → (result ≡ FAILED) × (X.failures errors.new ≡ X.failures errors.old → Appends (X.contents errors.old) (X.contents errors.new) (line_of name.now Unreadable)) }
-    ensures unwritten { W.failures sink.old < W.failures sink.new → (result ≡ FAILED) × (X.failures errors.new ≡ X.failures errors.old → Appends (X.contents errors.old) (X.contents errors.new) (line_of name.now Run)) }
+    // Else the status is that of a fault, which has its cause, and which one line tells where the errors can be written.
+    ensures fault { result ≢ DONE → (fault : ScenarioFault) × (result ≡ status_of fault) ×
+        (fault ≡ Unreadable → R.failures source.old < R.failures source.new) × NamesLineOf (R.remaining source.old) (R.remaining source.new) fault ×
+        (fault ≡ Run → W.failures sink.old < W.failures sink.new) ×
+        IsTold name.now fault (X.failures errors.old) (X.failures errors.new) (X.contents errors.old) (X.contents errors.new) }
+    ensures unreadable { R.failures source.old < R.failures source.new → (result ≡ FAILED) ×
+        IsTold name.now Unreadable (X.failures errors.old) (X.failures errors.new) (X.contents errors.old) (X.contents errors.new) }
+    ensures unwritten { W.failures sink.old < W.failures sink.new → (result ≡ FAILED) ×
+        IsTold name.now Run (X.failures errors.old) (X.failures errors.new) (X.contents errors.old) (X.contents errors.new) }
     ensures untouched { result ≢ DONE → W.failures sink.new ≡ W.failures sink.old → sink.new ≡ sink.old }
 {
     match replay(alloc, source, sink) {
@@ -57,7 +62,7 @@ fn replay<R: Source, W: Sink>(
     ensures read { OnOk result (R.failures source.new ≡ R.failures source.old) }
     ensures written { OnOk result (W.failures sink.new ≡ W.failures sink.old) }
     ensures unreadable { IsErrOf result ScenarioFault.Unreadable ↔ (R.failures source.old < R.failures source.new) }
-    ensures unwritten { W.failures sink.old < W.failures sink.new → IsErrOf result ScenarioFault.Run }
+    ensures unwritten { IsErrOf result ScenarioFault.Run ↔ (W.failures sink.old < W.failures sink.new) }
     ensures bad_line { IfErr result (NamesLineOf (R.remaining source.old) (R.remaining source.new)) }
     ensures untouched { OnErr result (W.failures sink.new ≡ W.failures sink.old → sink.new ≡ sink.old) }
 {
@@ -71,6 +76,8 @@ fn replayed(alloc: Global, text: &[u8]) -> Result<Vec<u8>, ScenarioFault>
     ensures shown { IfOk result (λ shown. Replays text.now shown.items) }
     ensures bad_line { IfErr result (NamesLine text.now) }
     ensures readable { IfErr result (λ fault. fault ≢ ScenarioFault.Unreadable) }
+    // A schedule that is read can be run.
+    ensures writable { IfErr result (λ fault. fault ≢ ScenarioFault.Run) }
 {
     let schedule = read_schedule(alloc, text)?;
     let transcript = run(

@@ -18,7 +18,7 @@ pub fn command(alloc: Global, words: &[&str]) -> Result<Command, UsageFault>
 {
     match read(alloc, words) {
         Ok(command) => Ok(command),
-        Err(error) => Err(fault_of(alloc, error)),
+        Err(error) => Err(usage_fault(alloc, error)),
     }
 }
 
@@ -52,7 +52,7 @@ fn parser<'a>(alloc: Global) -> Result<Parser<'a>, AllocError>
         .required(true)
         .action(ArgAction::Set);
     let scenario = Parser::new(alloc, "scenario")
-        .about("Replays a schedule over a cache and prints the transcript")
+        .about("Replays a schedule over a chain of servers and prints the transcript")
         .arg(file)?;
     let program = Parser::new(alloc, "craq")
         .about("A replicated object cache (CRAQ) that speaks memcached's text protocol")
@@ -61,7 +61,7 @@ fn parser<'a>(alloc: Global) -> Result<Parser<'a>, AllocError>
     Ok(program)
 }
 
-fn fault_of(alloc: Global, error: Error) -> UsageFault
+fn usage_fault(alloc: Global, error: Error) -> UsageFault
     ensures { kind_of error ≡ ErrorKind.OutOfMemory → result ≡ UsageFault.Memory }
 {
     if error.kind() == ErrorKind::OutOfMemory {

@@ -4,12 +4,15 @@ ghost use Rattle.std.specs.Io.KnownBytes.{Appends};
 ghost use Rattle.craq.specs.Ends.{AppendsBeginning};
 
 use crate::sinks::Sink;
+use thiserror::Error;
 
 /// A sink that failed.
-#[derive(Clone, Copy, Debug, PartialEq, Eq)]
+#[derive(Clone, Copy, Debug, PartialEq, Eq, Error)]
+#[error("the output can't be written")]
 pub struct WriteFault;
 
 /// Writes all of the bytes. After a fault a beginning of them was written.
+/// A write that a signal interrupts is a failed one: it isn't tried again.
 pub fn write_all<W: Sink>(sink: &mut W, bytes: &[u8]) -> Result<(), WriteFault>
     ensures written { OnOk result (Appends (W.contents sink.old) (W.contents sink.new) bytes.now) }
     ensures none_failed { OnOk result (W.failures sink.new ≡ W.failures sink.old) }

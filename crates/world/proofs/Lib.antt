@@ -1,6 +1,6 @@
 pub mod Places
 pub mod Texts
-pub mod Digits
+pub mod HeadLaws
 pub mod Readings
 pub mod Rounds
 pub mod Spellings

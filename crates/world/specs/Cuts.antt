@@ -1,13 +1,7 @@
 -- Words, lines and parts: bytes cut at spaces and at line feeds.
 use Rattle.std.specs.Prelude.{ℕ, ◌+◌, Bool, true, ◌==◌, List, [], ◌∷◌, Option, None, Some, option_map, if◌then◌else◌}
 use Rattle.std.specs.List.{onto_first}
-
--- LF, and the space
-abbrev pub lf : ℕ
-lf = 10
-
-abbrev pub space : ℕ
-space = 32
+pub use Rattle.proto.specs.Words.{lf, cr, space, fields_of}
 
 -- what stands before the first such byte, and what stands behind it, where there is one
 abbrev pub cut : ℕ → List ℕ → Option (List ℕ × List ℕ)

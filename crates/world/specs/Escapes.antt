@@ -1,17 +1,26 @@
 -- Escapes: any bytes as printable text, and back.
-use Rattle.std.specs.Prelude.{ℕ, zero, suc, ◌+◌, ◌-◌, ◌*◌, ◌/◌, ◌%◌, ◌&&◌, nat_le, ◌==◌, List, [], ◌∷◌, length, Option, None, Some, option_map, option_and_then, if◌then◌else◌, codes}
+use Rattle.std.specs.Prelude.{ℕ, zero, suc, ◌+◌, ◌-◌, ◌*◌, ◌/◌, ◌%◌, ◌&&◌, nat_le, ◌==◌, Bool, List, [], ◌∷◌, ◌++◌, length, Option, None, Some, option_map, option_and_then, if◌then◌else◌, codes}
 use Rattle.std.specs.Char.{digit_char}
+use Rattle.world.specs.Cuts.{lf, cr}
+
+-- the byte in front of an escape's letter
+abbrev pub backslash : ℕ
+backslash = 92
+
+-- a byte that stands for itself where it is no backslash
+abbrev pub is_printable : ℕ → Bool
+is_printable b = nat_le 32 b && nat_le b 126
 
 -- the text that spells a byte
 abbrev pub escape : ℕ → List ℕ
 escape b =
-    if b == 92 then codes "\\\\"
-    else if b == 13 then codes "\\r"
-    else if b == 10 then codes "\\n"
-    else if nat_le 32 b && nat_le b 126 then b ∷ []
-    else 92 ∷ 120 ∷ digit_char (b / 16) ∷ digit_char (b % 16) ∷ []
+    if b == backslash then codes "\\\\"
+    else if b == cr then codes "\\r"
+    else if b == lf then codes "\\n"
+    else if is_printable b then b ∷ []
+    else codes "\\x" ++ digit_char (b / 16) ∷ digit_char (b % 16) ∷ []
 
--- a lower case hexadecimal digit
+-- a lower case hexadecimal digit: 48 to 57 are `0` to `9`, and 97 to 102 are `a` to `f`
 abbrev pub hex_digit : ℕ → Option ℕ
 hex_digit c =
     if nat_le 48 c && nat_le c 57 then Some (c - 48)
@@ -28,30 +37,30 @@ hex_byte (high ∷ low ∷ later) = option_and_then (λ h. option_map (λ l. (h 
 abbrev pub escaped_byte : List ℕ → Option (ℕ × List ℕ)
 escaped_byte [] = None
 escaped_byte (letter ∷ later) =
-    if letter == 92 then Some (92, later)
-    else if letter == 114 then Some (13, later)
-    else if letter == 110 then Some (10, later)
-    else if letter == 120 then hex_byte later
+    if letter == backslash then Some (backslash, later)
+    else if letter == 114 then Some (cr, later)  -- r
+    else if letter == 110 then Some (lf, later)  -- n
+    else if letter == 120 then hex_byte later  -- x
     else None
 
--- the byte that the front of a text spells, and what stands behind it: bytes 32 to 126 but the backslash stand for themselves
+-- the byte that the front of a text spells, and what stands behind it
 abbrev pub front_byte : List ℕ → Option (ℕ × List ℕ)
 front_byte [] = None
 front_byte (first ∷ later) =
-    if first == 92 then escaped_byte later
-    else if nat_le 32 first && nat_le first 126 then Some (first, later)
+    if first == backslash then escaped_byte later
+    else if is_printable first then Some (first, later)
     else None
 
 -- a byte, and those that what stands behind it spells
-abbrev pub and_later : Option (ℕ × List ℕ) → (List ℕ → Option (List ℕ)) → Option (List ℕ)
-and_later None spelled = None
-and_later (Some front) spelled = option_map (λ bytes. front.0 ∷ bytes) (spelled front.1)
+abbrev pub byte_then : Option (ℕ × List ℕ) → (List ℕ → Option (List ℕ)) → Option (List ℕ)
+byte_then None spelled = None
+byte_then (Some front) spelled = option_map (λ bytes. front.0 ∷ bytes) (spelled front.1)
 
 -- the bytes that a text spells, at most so many
 abbrev pub unescape_upto : ℕ → List ℕ → Option (List ℕ)
 unescape_upto zero text = Some []
 unescape_upto (suc n) [] = Some []
-unescape_upto (suc n) (first ∷ later) = and_later (front_byte (first ∷ later)) (unescape_upto n)
+unescape_upto (suc n) (first ∷ later) = byte_then (front_byte (first ∷ later)) (unescape_upto n)
 
 -- the bytes that a text spells: none has more than the text
 abbrev pub unescape : List ℕ → Option (List ℕ)

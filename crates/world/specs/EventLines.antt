@@ -1,21 +1,22 @@
 -- The lines of a schedule behind its head: an event each, or rounds of events.
-use Rattle.std.specs.Prelude.{ℕ, List, [], ◌∷◌, replicate, Option, None, Some, option_map, option_and_then, if◌then◌else◌, codes, bytes_eq}
+use Rattle.std.specs.Prelude.{ℕ, List, [], ◌∷◌, replicate, Option, None, Some, option_map, if◌then◌else◌, codes, bytes_eq}
 use Rattle.world.specs.declared.events.Event.{Event}
 use Rattle.world.specs.declared.events.Event.TheVariants.{Piece, Begin, Work, Deliver, Fail, Tell, Hand}
 use Rattle.world.specs.declared.event_lines.EventLine.{EventLine}
 use Rattle.world.specs.declared.event_lines.EventLine.TheVariants.{One, Settle}
+use Rattle.proto.specs.Requests.{◌>>=◌}
 use Rattle.world.specs.Cuts.{space, cut}
 use Rattle.world.specs.Numbers.{number_in}
 use Rattle.world.specs.Escapes.{unescape, one_byte}
 use Rattle.world.specs.Settling.{settled}
 
--- a connection: 0 to 999
-abbrev pub connection : List ℕ → Option ℕ
-connection field = number_in 0 1000 field
+-- the number of a connection: 0 to 999
+abbrev pub connection_number : List ℕ → Option ℕ
+connection_number field = number_in 0 1000 field
 
--- a server: 0 to 99
-abbrev pub server : List ℕ → Option ℕ
-server field = number_in 0 100 field
+-- the number of a server: 0 to 99
+abbrev pub server_number : List ℕ → Option ℕ
+server_number field = number_in 0 100 field
 
 -- the bytes that a TEXT spells, where it has a byte at least
 abbrev pub text_of : List ℕ → Option (List ℕ)
@@ -24,30 +25,44 @@ text_of (b ∷ bs) = unescape (b ∷ bs)
 
 -- `C TEXT` behind `piece`: the bytes of TEXT
 abbrev pub piece_line : List ℕ → Option Event
-piece_line rest = option_and_then (λ c. option_and_then (λ number. option_map (λ bytes. Piece number bytes) (text_of c.1)) (connection c.0)) (cut space rest)
+piece_line rest = do
+  (number, text) ← cut space rest
+  number ← connection_number number
+  bytes ← text_of text
+  Some (Piece number bytes)
 
--- so many copies of one byte, where all three are there
-abbrev pub filled : Option ℕ → Option ℕ → Option ℕ → Option Event
-filled (Some number) (Some count) (Some byte) = Some (Piece number (replicate count byte))
-filled (Some number) (Some count) None = None
-filled (Some number) None byte = None
-filled None count byte = None
+-- `C N TEXT` behind `fill`: the connection, N from 1 to 2000000, and the one byte of TEXT
+abbrev pub fill_fields : List ℕ → Option (ℕ × ℕ × ℕ)
+fill_fields rest = do
+  (number, later) ← cut space rest
+  (count, text) ← cut space later
+  number ← connection_number number
+  count ← number_in 1 2000001 count
+  byte ← one_byte text
+  Some (number, count, byte)
 
--- `C N TEXT` behind `fill`: N copies of the one byte of TEXT, N from 1 to 2000000
+-- N copies of that byte
 abbrev pub fill_line : List ℕ → Option Event
-fill_line rest = option_and_then (λ c. option_and_then (λ d. filled (connection c.0) (number_in 1 2000001 d.0) (one_byte d.1)) (cut space c.1)) (cut space rest)
+fill_line rest = do
+  (number, count, byte) ← fill_fields rest
+  Some (Piece number (replicate count byte))
 
 -- `I J`: two servers
 abbrev pub two_servers : List ℕ → Option (ℕ × ℕ)
-two_servers rest = option_and_then (λ c. option_and_then (λ i. option_map (λ j. (i, j)) (server c.1)) (server c.0)) (cut space rest)
+two_servers rest = do
+  (first, second) ← cut space rest
+  i ← server_number first
+  j ← server_number second
+  Some (i, j)
 
 -- `C` behind `begin`, `work` or `hand`
 abbrev pub call_line : List ℕ → List ℕ → Option Event
-call_line word rest = option_and_then (λ number.
-    if bytes_eq word (codes "begin") then Some (Begin number)
-    else if bytes_eq word (codes "work") then Some (Work number)
-    else if bytes_eq word (codes "hand") then Some (Hand number)
-    else None) (connection rest)
+call_line word rest = do
+  number ← connection_number rest
+  if bytes_eq word (codes "begin") then Some (Begin number)
+      else if bytes_eq word (codes "work") then Some (Work number)
+      else if bytes_eq word (codes "hand") then Some (Hand number)
+      else None
 
 -- the event behind a word: of a server, or of two of them, or of a connection
 abbrev pub word_line : List ℕ → List ℕ → Option Event
@@ -55,15 +70,15 @@ word_line word rest =
     if bytes_eq word (codes "piece") then piece_line rest
     else if bytes_eq word (codes "fill") then fill_line rest
     else if bytes_eq word (codes "deliver") then option_map (λ p. Deliver p.0 p.1) (two_servers rest)
-    else if bytes_eq word (codes "fail") then option_map Fail (server rest)
+    else if bytes_eq word (codes "fail") then option_map Fail (server_number rest)
     else if bytes_eq word (codes "tell") then option_map (λ p. Tell p.0 p.1) (two_servers rest)
     else call_line word rest
 
 -- what a line spells: a word, a space, and what stands behind it; `K` behind `settle` is from 1 to 500
 abbrev pub event_line : List ℕ → Option EventLine
-event_line line = option_and_then (λ c.
-    if bytes_eq c.0 (codes "settle") then option_map Settle (number_in 1 501 c.1)
-    else option_map One (word_line c.0 c.1)) (cut space line)
+event_line line = do
+  (word, rest) ← cut space line
+  if bytes_eq word (codes "settle") then option_map Settle (number_in 1 501 rest) else option_map One (word_line word rest)
 
 -- the events that it stands for, where there are so many servers and connections
 abbrev pub events_in : ℕ → ℕ → EventLine → List Event

@@ -19,28 +19,29 @@ first_says says end [] = Err end
 first_says says end (line ∷ later) = ok_or (says line.1) line.0
 
 -- a line's events in front of those of later lines, or the number of the line that spells none
-abbrev pub and_later : Option (List Event) → ℕ → Result (List Event) ℕ → Result (List Event) ℕ
-and_later None n later = Err n
-and_later (Some events) n (Ok later) = Ok (events ++ later)
-and_later (Some events) n (Err bad) = Err bad
+abbrev pub events_then : Option (List Event) → ℕ → Result (List Event) ℕ → Result (List Event) ℕ
+events_then None n later = Err n
+events_then (Some events) n (Ok later) = Ok (events ++ later)
+events_then (Some events) n (Err bad) = Err bad
 
 -- the events of some numbered lines, or the number of the first bad one, where there are so many servers and connections
 abbrev pub events_of : ℕ → ℕ → List (ℕ × List ℕ) → Result (List Event) ℕ
 events_of count connections [] = Ok []
-events_of count connections (line ∷ later) = and_later (events_line count connections line.1) line.0 (events_of count connections later)
+events_of count connections (line ∷ later) = events_then (events_line count connections line.1) line.0 (events_of count connections later)
 
 -- what follows where nothing was bad
-abbrev pub and_then : {X Y : Type 0} → Result X ℕ → (X → Result Y ℕ) → Result Y ℕ
-and_then (Ok x) next = next x
-and_then (Err bad) next = Err bad
+infixl 10 ◌>>=◌
+abbrev pub ◌>>=◌ : {X Y : Type 0} → Result X ℕ → (X → Result Y ℕ) → Result Y ℕ
+(Ok x) >>= next = next x
+(Err bad) >>= next = Err bad
 
 -- the schedule of the lines that count: the first is `servers N`, the second `homes H ..`, each further line one of events
 abbrev pub schedule_of_lines : ℕ → List (ℕ × List ℕ) → Result ScheduleShown ℕ
-schedule_of_lines end counted =
-    and_then (first_says servers_line end counted) (λ count.
-    and_then (first_says (homes_line count) end (drop 1 counted)) (λ homes.
-    and_then (events_of count (length homes) (drop 2 counted)) (λ events.
-    Ok (record { count = count; homes = homes; events = events }))))
+schedule_of_lines end counted = do
+  count ← first_says servers_line end counted
+  homes ← first_says (homes_line count) end (drop 1 counted)
+  events ← events_of count (length homes) (drop 2 counted)
+  Ok (record { count = count; homes = homes; events = events })
 
 -- the schedule of a text, or the number of its first bad line, counting all lines from 1.
 -- Where a text ends before `servers` or `homes`, that is the number of its lines plus one

@@ -1,6 +1,6 @@
 //! The lines of a schedule behind its head: an event each, or rounds of events.
 ghost use Rattle.std.specs.Prelude.{◌≡◌, ◌++◌, IfOk, OnOk};
-ghost use Rattle.world.specs.EventLines.{event_line, events_in, word_line, piece_line, fill_line, call_line, two_servers, server, connection, text_of};
+ghost use Rattle.world.specs.EventLines.{event_line, events_in, word_line, piece_line, fill_line, fill_fields, call_line, two_servers, server_number, connection_number, text_of};
 
 use crate::Event;
 use crate::cuts::cut;
@@ -11,10 +11,10 @@ use bytes::Bytes;
 use std::alloc::{AllocError, Global};
 
 /// The numbers of connections in an event are below this.
-const CONNECTIONS: usize = 1000;
+const CONNECTION_NUMBERS: usize = 1000;
 
 /// The numbers of servers in an event are below this.
-const SERVERS: usize = 100;
+const SERVER_NUMBERS: usize = 100;
 
 /// The most bytes of a `fill` line's piece.
 const MOST_FILLED: usize = 2_000_000;
@@ -71,7 +71,7 @@ fn word_line(alloc: Global, word: &[u8], rest: &[u8]) -> Result<Option<Event>, A
     } else if word == b"deliver".as_slice() {
         Ok(two_servers(rest).map(|(i, j)| Event::Deliver(i, j)))
     } else if word == b"fail".as_slice() {
-        Ok(server(rest).map(Event::Fail))
+        Ok(server_number(rest).map(Event::Fail))
     } else if word == b"tell".as_slice() {
         Ok(two_servers(rest).map(|(i, j)| Event::Tell(i, j)))
     } else {
@@ -85,7 +85,7 @@ fn piece_line(alloc: Global, rest: &[u8]) -> Result<Option<Event>, AllocError>
     let Some((number, text)) = cut(b' ', rest) else {
         return Ok(None);
     };
-    let Some(connection) = connection(number) else {
+    let Some(connection) = connection_number(number) else {
         return Ok(None);
     };
     match text_of(alloc, text)? {
@@ -109,29 +109,27 @@ fn text_of(alloc: Global, text: &[u8]) -> Result<Option<Bytes>, AllocError>
 fn fill_line(alloc: Global, rest: &[u8]) -> Result<Option<Event>, AllocError>
     ensures { IfOk result (λ event. event ≡ fill_line rest.now) }
 {
-    let Some((number, rest)) = cut(b' ', rest) else {
+    let Some((connection, count, byte)) = fill_fields(rest) else {
         return Ok(None);
     };
-    let Some((count, text)) = cut(b' ', rest) else {
-        return Ok(None);
-    };
-    match (
-        connection(number),
-        number_in(1, MOST_FILLED + 1, count),
-        one_byte(text),
-    ) {
-        (Some(connection), Some(count), Some(byte)) => {
-            let bytes = vec![in alloc; byte; count]?;
-            Ok(Some(Event::Piece(connection, Bytes::from_vec(bytes)?)))
-        }
-        _ => Ok(None),
-    }
+    let bytes = vec![in alloc; byte; count]?;
+    Ok(Some(Event::Piece(connection, Bytes::from_vec(bytes)?)))
+}
+
+fn fill_fields(rest: &[u8]) -> Option<(usize, usize, u8)>
+    ensures { result ≡ fill_fields rest.now }
+{
+    let (number, rest) = cut(b' ', rest)?;
+    let (count, text) = cut(b' ', rest)?;
+    let connection = connection_number(number)?;
+    let count = number_in(1, MOST_FILLED + 1, count)?;
+    Some((connection, count, one_byte(text)?))
 }
 
 fn call_line(word: &[u8], rest: &[u8]) -> Option<Event>
     ensures { result ≡ call_line word.now rest.now }
 {
-    let connection = connection(rest)?;
+    let connection = connection_number(rest)?;
     if word == b"begin".as_slice() {
         Some(Event::Begin(connection))
     } else if word == b"work".as_slice() {
@@ -147,17 +145,17 @@ fn two_servers(rest: &[u8]) -> Option<(usize, usize)>
     ensures { result ≡ two_servers rest.now }
 {
     let (first, second) = cut(b' ', rest)?;
-    Some((server(first)?, server(second)?))
+    Some((server_number(first)?, server_number(second)?))
 }
 
-fn server(field: &[u8]) -> Option<usize>
-    ensures { result ≡ server field.now }
+fn server_number(field: &[u8]) -> Option<usize>
+    ensures { result ≡ server_number field.now }
 {
-    number_in(0, SERVERS, field)
+    number_in(0, SERVER_NUMBERS, field)
 }
 
-fn connection(field: &[u8]) -> Option<usize>
-    ensures { result ≡ connection field.now }
+fn connection_number(field: &[u8]) -> Option<usize>
+    ensures { result ≡ connection_number field.now }
 {
-    number_in(0, CONNECTIONS, field)
+    number_in(0, CONNECTION_NUMBERS, field)
 }

@@ -1,16 +1,17 @@
 //! The two lines that open a schedule: how many servers there are, and where the connections are.
-ghost use Rattle.std.specs.Prelude.{◌≡◌, IfOk, map, option_map};
-ghost use Rattle.world.specs.HeadLines.{servers_line, homes_line, fields_of, numbers_below};
+ghost use Rattle.std.specs.Prelude.{◌≡◌, IfOk, length, map, nat_le, option_map};
+ghost use Rattle.world.specs.Cuts.{fields_of};
+ghost use Rattle.world.specs.HeadLines.{servers_line, homes_line, numbers_below};
 
 use crate::cuts::cut;
 use crate::numbers::number_in;
 use std::alloc::{AllocError, Global};
 
 /// The most servers of a schedule.
-const MOST_SERVERS: usize = 16;
+pub(crate) const MOST_SERVERS: usize = 16;
 
 /// The most connections of a schedule.
-const MOST_HOMES: usize = 64;
+pub(crate) const MOST_HOMES: usize = 64;
 
 /// How many servers a `servers` line names, if it is one.
 pub fn servers_line(line: &[u8]) -> Option<usize>
@@ -34,14 +35,18 @@ pub fn homes_line(
     let Some((word, rest)) = cut(b' ', line) else {
         return Ok(None);
     };
-    if word != b"homes".as_slice() {
+    if word != b"homes".as_slice() || !fits(rest) {
         return Ok(None);
     }
     let fields = fields(alloc, rest)?;
-    if fields.len() > MOST_HOMES {
-        return Ok(None);
-    }
     numbers_below(alloc, count, fields.as_slice())
+}
+
+// Whether a text has no more fields than a schedule has homes: one more than it has spaces.
+fn fits(text: &[u8]) -> bool
+    ensures { result ≡ nat_le (length (fields_of text.now)) 64 }
+{
+    text.iter().filter(|b| **b == b' ').count() < MOST_HOMES
 }
 
 fn fields(alloc: Global, text: &[u8]) -> Result<Vec<&[u8]>, AllocError>
@@ -52,14 +57,14 @@ fn fields(alloc: Global, text: &[u8]) -> Result<Vec<&[u8]>, AllocError>
 
 fn numbers_below(
     alloc: Global,
-    below: usize,
+    high: usize,
     fields: &[&[u8]],
 ) -> Result<Option<Vec<usize>>, AllocError>
-    ensures { IfOk result (λ numbers. option_map (λ v. v.items) numbers ≡ numbers_below below (map (λ field. field.now) fields.now)) }
+    ensures { IfOk result (λ numbers. option_map (λ v. v.items) numbers ≡ numbers_below high (map (λ field. field.now) fields.now)) }
 {
     let mut numbers = Vec::with_capacity(alloc, fields.len())?;
     for field in fields {
-        match number_in(0, below, field) {
+        match number_in(0, high, field) {
             Some(number) => numbers.push(number)?,
             None => return Ok(None),
         }

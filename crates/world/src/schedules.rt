@@ -1,7 +1,9 @@
 //! Schedules: the servers, the connections and the events of a run, read from their text.
-ghost use Rattle.std.specs.Prelude.{◌≡◌, ◌+◌, ℕ, IfErr, IfOk, OnOk, drop, length};
+ghost use Rattle.std.specs.Prelude.{◌≡◌, ◌+◌, ℕ, IfErr, IfOk, OnOk, drop, length, true};
 ghost use Rattle.world.specs.declared.schedules.ScheduleFault.TheVariants.{Memory};
 ghost use Rattle.world.specs.HeadLines.{homes_line, servers_line};
+ghost use Rattle.world.specs.Quiet.{are_homes};
+ghost use Rattle.world.specs.Scenes.{is_count};
 ghost use Rattle.world.specs.Schedules.{Names, SpellsSchedule, events_of, first_says, schedule_of};
 
 use crate::Event;
@@ -34,9 +36,11 @@ impl Model for Schedule {
 /// Why a text gives no schedule.
 #[derive(Clone, Copy, Debug, PartialEq, Eq, Error)]
 pub enum ScheduleFault {
+    /// No memory was left.
     #[error("out of memory")]
     Memory,
     /// The number of the first line that isn't as a schedule's, counting all lines from 1.
+    /// Where the text ends before `servers` or `homes`, the number of its lines plus one.
     #[error("line {0}: bad schedule line")]
     BadLine(u64),
 }
@@ -64,6 +68,8 @@ pub fn read_schedule(alloc: Global, text: &[u8]) -> Result<Schedule, ScheduleFau
     ensures ok { IfOk result (λ schedule. schedule_of text.now ≡ Ok schedule) }
     ensures bad_line { IfErr result (Names (schedule_of text.now)) }
     ensures spelled { IfOk result (SpellsSchedule text.now) }
+    // `run` refuses it for want of memory alone.
+    ensures runs { IfOk result (λ s. (is_count s.count ≡ true) × (are_homes s.count s.homes ≡ true)) }
 {
     let mut lines = Lines::new(text);
     let count = read_servers(&mut lines)?;

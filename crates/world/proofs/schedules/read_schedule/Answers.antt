@@ -1,4 +1,5 @@
 use Rattle.std.proofs.Common.{◌≡◌, length}
+use Rattle.world.proofs.HeadLaws.{can_run}
 use Rattle.world.proofs.Spellings.{spelled}
 use Rattle.world.proofs.schedules.read_schedule.Goals as goal
 
@@ -8,3 +9,6 @@ returns-clause-spelled c =
     let homes = c.in_ok-homes.ensures in
     let many : c.len.result ≡ length c.in_ok-homes.homes.items = cc in
     spelled c.args.text.now _ _ _ _ _ _ c.new-lines.ensures.counted servers.later homes.later servers.ok homes.ok (rw many at c.in_ok-events.ensures.ok)
+
+pub returns-clause-runs : goal.returns-clause-runs
+returns-clause-runs c = can_run c.args.text.now _ (returns-clause-spelled c)
