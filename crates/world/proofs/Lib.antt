@@ -113,6 +113,7 @@ pub mod Stepped
 pub mod AskEvents
 pub mod RestingCalls
 pub mod NoneForgotten
+pub mod ShownCalls
 pub mod WorkedOrders
 pub mod WorkedDirtyRead
 pub mod WorkedDirtyOrder
@@ -121,3 +122,5 @@ pub mod WorkedResentOrder
 pub mod WorkedResentOnly
 pub mod WorkedAlone
 pub mod WorkedAloneOrder
+pub mod WorkedInTime
+pub mod WorkedInTimeOrder

@@ -15,36 +15,20 @@ use Rattle.world.specs.declared.events.Event.{Event}
 use Rattle.world.specs.declared.events.Event.TheVariants.{Piece, Begin, Work, Deliver, Fail, Tell, Hand}
 use Rattle.world.specs.Worlds.{server, link, with_server, with_link, with_connection, put_all, run_of}
 use Rattle.world.specs.Transcripts.{transcript_of}
+use Rattle.world.specs.WorkedSchedules.{set_of, alone_homes, alone_events, alone_transcript}
 use Rattle.world.proofs.WorkedOrders.{calls_in, replies_in}
 
-abbrev pub homes : List ℕ
-homes = 1 ∷ []
-
-unfoldable pub events : List Event
-events =
-    Piece 0 (codes "set a 0 0 1\r\np\r\n") ∷ Begin 0 ∷ Work 0 ∷ Deliver 1 0 ∷ Fail 0 ∷ Fail 2 ∷ Tell 1 2 ∷ Deliver 0 1 ∷ Hand 0
-    ∷ Tell 1 0 ∷ []
-
--- the set is answered, and nothing waits
-pub middle_server_left_alone : transcript_of (run_of 3 homes events) ≡ record {
-  connections =
-      record {
-        home = 1;
-        calls = record { target = One (codes "a"); op = Set 0 (codes "p"); reply = Some Stored } ∷ [];
-        sent = codes "STORED\r\n";
-      } ∷ [];
-  quiet = true;
-}
-unfolding events line_limit has union single is_below adds next_from predecessor most appended entered widened taken_all sent_again forwarded replies_to trimmed left_open replies risen passed_on take_update promoted_to_head promoted_to_tail caught_up acked_to_predecessor asks_renewed server link with_server with_link with_connection put_all
+pub middle_server_left_alone : transcript_of (run_of 3 alone_homes alone_events) ≡ alone_transcript
+unfolding alone_events line_limit has union single is_below adds next_from predecessor most appended entered widened taken_all sent_again forwarded replies_to trimmed left_open replies risen passed_on take_update promoted_to_head promoted_to_tail caught_up acked_to_predecessor asks_renewed server link with_server with_link with_connection put_all
 middle_server_left_alone = refl
 
 abbrev pub set : Call
-set = record { target = One (codes "a"); op = Set 0 (codes "p") }
+set = set_of (codes "a") (codes "p")
 
-pub called : calls_in (run_of 3 homes events) ≡ (set ∷ []) ∷ []
-unfolding events line_limit has union single is_below adds next_from predecessor most appended entered widened taken_all sent_again forwarded replies_to trimmed left_open replies risen passed_on take_update promoted_to_head promoted_to_tail caught_up acked_to_predecessor asks_renewed server link with_server with_link with_connection put_all
+pub called : calls_in (run_of 3 alone_homes alone_events) ≡ (set ∷ []) ∷ []
+unfolding alone_events line_limit has union single is_below adds next_from predecessor most appended entered widened taken_all sent_again forwarded replies_to trimmed left_open replies risen passed_on take_update promoted_to_head promoted_to_tail caught_up acked_to_predecessor asks_renewed server link with_server with_link with_connection put_all
 called = refl
 
-pub replied : replies_in (run_of 3 homes events) ≡ (Stored ∷ []) ∷ []
-unfolding events line_limit has union single is_below adds next_from predecessor most appended entered widened taken_all sent_again forwarded replies_to trimmed left_open replies risen passed_on take_update promoted_to_head promoted_to_tail caught_up acked_to_predecessor asks_renewed server link with_server with_link with_connection put_all
+pub replied : replies_in (run_of 3 alone_homes alone_events) ≡ (Stored ∷ []) ∷ []
+unfolding alone_events line_limit has union single is_below adds next_from predecessor most appended entered widened taken_all sent_again forwarded replies_to trimmed left_open replies risen passed_on take_update promoted_to_head promoted_to_tail caught_up acked_to_predecessor asks_renewed server link with_server with_link with_connection put_all
 replied = refl

@@ -11,14 +11,15 @@ use Rattle.table.specs.declared.operations.Reply.{Reply}
 use Rattle.table.specs.declared.operations.Reply.TheVariants.{Value}
 use Rattle.world.specs.Calls.{CallId}
 use Rattle.world.specs.Orders.{Entry, StandsAt, IsLinearization}
-use Rattle.world.proofs.WorkedOrders.{under, said, call_there, reply_there, one_place}
-use Rattle.world.proofs.WorkedDirtyRead.{homes, events, key, set, get, called, replied}
+use Rattle.world.specs.WorkedSchedules.{name, said, dirty_homes, dirty_events}
+use Rattle.world.proofs.WorkedOrders.{under, call_there, reply_there, one_place}
+use Rattle.world.proofs.WorkedDirtyRead.{key, set, get, called, replied}
 
 abbrev the_set : CallId
-the_set = record { connection = 0; place = 0 }
+the_set = name 0 0
 
 abbrev the_get : CallId
-the_get = record { connection = 1; place = 0 }
+the_get = name 1 0
 
 abbrev item : Item
 item = record { flags = 0; bytes = codes "p"; unique = 1 }
@@ -43,20 +44,20 @@ id_of : (c p d q : ℕ) → c ≡ d → p ≡ q → ◌≡◌ {A = CallId} (reco
 id_of c p d q e f i = record { connection = e i; place = f i }
 
 -- an order in which the set stands first and the get next is none
-set_first : (e f : Entry) (h : List Entry) → IsLinearization 3 homes events (e ∷ f ∷ h) → e.call ≡ set → f.call ≡ get → f.reply ≡ Value None → ⊥
+set_first : (e f : Entry) (h : List Entry) → IsLinearization 3 dirty_homes dirty_events (e ∷ f ∷ h) → e.call ≡ set → f.call ≡ get → f.reply ≡ Value None → ⊥
 set_first e f h order first second reply =
-    let P : Call → Call → Reply → Type 0 = λ c d r. IsLegal ((c, e.reply) ∷ (d, r) ∷ map said h) in
-    unseen_set_is_illegal e.reply (map said h)
+    let P : Call → Call → Reply → Type 0 = λ c d r. IsLegal ((c, e.reply) ∷ (d, r) ∷ said h) in
+    unseen_set_is_illegal e.reply (said h)
     (subst (λ r. P set get r) reply (subst (λ d. P set d f.reply) second (subst (λ c. P c f.call f.reply) first order.legal)))
 
 -- the unanswered set stands nowhere before the get
-pub set_before_get : (h : List Entry) → IsLinearization 3 homes events h → (i j : ℕ) → i < j → StandsAt h i the_set → StandsAt h j the_get → ⊥
+pub set_before_get : (h : List Entry) → IsLinearization 3 dirty_homes dirty_events h → (i j : ℕ) → i < j → StandsAt h i the_set → StandsAt h j the_get → ⊥
 set_before_get [] order i j l set_at get_at = let e = set_at.here in absurd cc
 set_before_get (e ∷ []) order i zero l set_at get_at = absurd (omega (arith, l))
 set_before_get (e ∷ []) order i (suc j) l set_at get_at = let e = get_at.here in absurd cc
 set_before_get (e ∷ f ∷ h) order i j l set_at get_at =
-    let first = named e.id.connection e.id.place e.call (call_there 3 homes events (e ∷ f ∷ h) order _ called 0 e refl) in
-    let second = named f.id.connection f.id.place f.call (call_there 3 homes events (e ∷ f ∷ h) order _ called 1 f refl) in
+    let first = named e.id.connection e.id.place e.call (call_there 3 dirty_homes dirty_events (e ∷ f ∷ h) order _ called 0 e refl) in
+    let second = named f.id.connection f.id.place f.call (call_there 3 dirty_homes dirty_events (e ∷ f ∷ h) order _ called 1 f refl) in
     by_names first second
   where
     by_names : ((e.id.connection ≡ 0) × (e.id.place ≡ 0) × (e.call ≡ set)) ⊎ ((e.id.connection ≡ 1) × (e.id.place ≡ 0) × (e.call ≡ get))
@@ -67,9 +68,9 @@ set_before_get (e ∷ f ∷ h) order i j l set_at get_at =
         absurd (omega (arith, place, l))
     by_names (inl first) (inl again) =
         let same : e.id ≡ f.id = id_of _ _ _ _ (first.0 ∙ sym again.0) (first.1 ∙ sym again.1) in
-        let place : 0 ≡ 1 = one_place 3 homes events (e ∷ f ∷ h) order 0 1 e f refl refl same in
+        let place : 0 ≡ 1 = one_place 3 dirty_homes dirty_events (e ∷ f ∷ h) order 0 1 e f refl refl same in
         absurd (omega (arith, place))
     by_names (inl first) (inr second) =
         let id : f.id ≡ the_get = id_of _ _ _ _ second.0 second.1 in
-        let reply : f.reply ≡ Value None = reply_there 3 homes events (e ∷ f ∷ h) order _ replied 1 f refl (Value None) (ap (under ([] ∷ (Value None ∷ []) ∷ [])) id) in
+        let reply : f.reply ≡ Value None = reply_there 3 dirty_homes dirty_events (e ∷ f ∷ h) order _ replied 1 f refl (Value None) (ap (under ([] ∷ (Value None ∷ []) ∷ [])) id) in
         set_first e f h order first.2 second.2 reply

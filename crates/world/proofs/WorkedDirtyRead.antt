@@ -20,15 +20,8 @@ use Rattle.world.specs.declared.events.Event.{Event}
 use Rattle.world.specs.declared.events.Event.TheVariants.{Piece, Begin, Work, Deliver, Hand}
 use Rattle.world.specs.Worlds.{server, link, with_server, with_link, with_connection, put_all, run_of}
 use Rattle.world.specs.Transcripts.{TranscriptShown, transcript_of}
+use Rattle.world.specs.WorkedSchedules.{set_of, get_of, dirty_homes, dirty_events, dirty_transcript}
 use Rattle.world.proofs.WorkedOrders.{calls_in, replies_in}
-
-unfoldable pub events : List Event
-events =
-    Piece 0 (codes "set a 0 0 1\r\np\r\n") ∷ Piece 1 (codes "get a\r\n") ∷ Begin 0 ∷ Work 0 ∷ Begin 1 ∷ Work 1
-    ∷ Deliver 0 2 ∷ Deliver 2 0 ∷ Hand 1 ∷ []
-
-abbrev pub homes : List ℕ
-homes = 0 ∷ 0 ∷ []
 
 -- what is shown, where the read found this
 abbrev shown_with : Option Item → TranscriptShown
@@ -40,36 +33,29 @@ shown_with found = record {
   quiet = false;
 }
 
-shown_computed : transcript_of (run_of 3 homes events) ≡ shown_with (item_at empty (codes "a"))
-unfolding events line_limit has union single is_below adds next_from predecessor most appended entered asked trimmed passed_on take_update dirty_read answered server link with_server with_link with_connection put_all
+shown_computed : transcript_of (run_of 3 dirty_homes dirty_events) ≡ shown_with (item_at empty (codes "a"))
+unfolding dirty_events line_limit has union single is_below adds next_from predecessor most appended entered asked trimmed passed_on take_update dirty_read answered server link with_server with_link with_connection put_all
 shown_computed = refl
 
--- the set is begun and not answered, and the get finds nothing
-pub dirty_read_before_commit : transcript_of (run_of 3 homes events) ≡ record {
-  connections =
-      record { home = 0; calls = record { target = One (codes "a"); op = Set 0 (codes "p"); reply = None } ∷ []; sent = [] }
-      ∷ record { home = 0; calls = record { target = One (codes "a"); op = Read; reply = Some (Value None) } ∷ []; sent = codes "END\r\n" }
-      ∷ [];
-  quiet = false;
-}
+pub dirty_read_before_commit : transcript_of (run_of 3 dirty_homes dirty_events) ≡ dirty_transcript
 dirty_read_before_commit = rw (shown_computed, get-empty key_cmp (codes "a")) refl
 
 abbrev pub key : List ℕ
 key = codes "a"
 
 abbrev pub set : Call
-set = record { target = One key; op = Set 0 (codes "p") }
+set = set_of key (codes "p")
 
 abbrev pub get : Call
-get = record { target = One key; op = Read }
+get = get_of key
 
-pub called : calls_in (run_of 3 homes events) ≡ (set ∷ []) ∷ (get ∷ []) ∷ []
-unfolding events line_limit has union single is_below adds next_from predecessor most appended entered asked trimmed passed_on take_update dirty_read answered server link with_server with_link with_connection put_all
+pub called : calls_in (run_of 3 dirty_homes dirty_events) ≡ (set ∷ []) ∷ (get ∷ []) ∷ []
+unfolding dirty_events line_limit has union single is_below adds next_from predecessor most appended entered asked trimmed passed_on take_update dirty_read answered server link with_server with_link with_connection put_all
 called = refl
 
-replies_computed : replies_in (run_of 3 homes events) ≡ [] ∷ (Value (item_at empty key) ∷ []) ∷ []
-unfolding events line_limit has union single is_below adds next_from predecessor most appended entered asked trimmed passed_on take_update dirty_read answered server link with_server with_link with_connection put_all
+replies_computed : replies_in (run_of 3 dirty_homes dirty_events) ≡ [] ∷ (Value (item_at empty key) ∷ []) ∷ []
+unfolding dirty_events line_limit has union single is_below adds next_from predecessor most appended entered asked trimmed passed_on take_update dirty_read answered server link with_server with_link with_connection put_all
 replies_computed = refl
 
-pub replied : replies_in (run_of 3 homes events) ≡ [] ∷ (Value None ∷ []) ∷ []
+pub replied : replies_in (run_of 3 dirty_homes dirty_events) ≡ [] ∷ (Value None ∷ []) ∷ []
 replied = replies_computed ∙ ap (λ found. [] ∷ (Value found ∷ []) ∷ []) (get-empty key_cmp key)

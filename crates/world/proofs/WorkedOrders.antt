@@ -8,7 +8,7 @@ use Rattle.table.specs.declared.operations.Reply.{Reply}
 use Rattle.world.specs.declared.events.Event.{Event}
 use Rattle.world.specs.Connections.{Connection}
 use Rattle.world.specs.Worlds.{World, run_of}
-use Rattle.world.specs.Calls.{CallId}
+use Rattle.world.specs.Calls.{CallId, begun_call, reply_to}
 use Rattle.world.specs.Orders.{Entry, StandsAt, IsLinearization}
 
 -- the calls of each connection, and its replies
@@ -30,6 +30,15 @@ by_rows : {X : Type 0} (f : Connection → List X) (ks : List Connection) (c p :
 by_rows f [] c p = refl
 by_rows f (k ∷ ks) zero p = refl
 by_rows f (k ∷ ks) (suc c) p = by_rows f ks c p
+
+-- a call that is begun, and a reply that was given, by these rows
+pub calls_under : (count : ℕ) (homes : List ℕ) (events : List Event) (calls : List (List Call)) → calls_in (run_of count homes events) ≡ calls
+    → (x : CallId) → begun_call (run_of count homes events) x ≡ under calls x
+calls_under count homes events calls same x = by_rows (λ k. k.calls) (run_of count homes events).connections x.connection x.place ∙ ap (λ rows. under rows x) same
+
+pub replies_under : (count : ℕ) (homes : List ℕ) (events : List Event) (replies : List (List Reply)) → replies_in (run_of count homes events) ≡ replies
+    → (x : CallId) → reply_to (run_of count homes events) x ≡ under replies x
+replies_under count homes events replies same x = by_rows (λ k. k.replies) (run_of count homes events).connections x.connection x.place ∙ ap (λ rows. under rows x) same
 
 module _ (count : ℕ) (homes : List ℕ) (events : List Event) (h : List Entry) (order : IsLinearization count homes events h) where
   -- an entry's call is the one that was begun under its name

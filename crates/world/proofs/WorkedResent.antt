@@ -29,35 +29,20 @@ use Rattle.world.specs.declared.events.Event.TheVariants.{Piece, Begin, Work, De
 use Rattle.world.specs.declared.connections.Stage.TheVariants.{Asked}
 use Rattle.world.specs.Worlds.{World, server, link, with_server, with_link, with_connection, put_all, opening_world, happens, run_from, run_of}
 use Rattle.world.specs.Transcripts.{TranscriptShown, transcript_of}
+use Rattle.world.specs.WorkedSchedules.{set_of, incr_of, get_of, resent_homes, resent_before, resent_behind, resent_events, resent_transcript}
 use Rattle.world.proofs.WorkedOrders.{calls_in, replies_in}
-
-abbrev pub homes : List ℕ
-homes = 2 ∷ []
-
--- the set is done; the head takes the incr and fails; the others are told, and the incr is sent again
-unfoldable pub before : List Event
-before =
-    Piece 0 (codes "set n 0 0 1\r\n7\r\nincr n 1\r\nget n\r\n") ∷ Begin 0 ∷ Work 0 ∷ Deliver 2 0 ∷ Deliver 0 1 ∷ Deliver 1 2
-    ∷ Hand 0 ∷ Deliver 2 1 ∷ Deliver 1 0 ∷ Begin 0 ∷ Work 0 ∷ Deliver 2 0 ∷ Fail 0 ∷ Tell 1 0 ∷ Tell 2 0 ∷ []
-
--- the next head has taken it
-unfoldable pub behind : List Event
-behind = Deliver 1 2 ∷ Hand 0 ∷ Deliver 2 1 ∷ Begin 0 ∷ Work 0 ∷ Hand 0 ∷ []
-
-abbrev pub events : List Event
-events = before ++ Deliver 2 1 ∷ behind
 
 abbrev pub key : List ℕ
 key = codes "n"
 
 abbrev pub set : Call
-set = record { target = One key; op = Set 0 (codes "7") }
+set = set_of key (codes "7")
 
 abbrev pub incr : Call
-incr = record { target = One key; op = Incr 1 }
+incr = incr_of key
 
 abbrev pub get : Call
-get = record { target = One key; op = Read }
+get = get_of key
 
 -- the items that the set and the incr put
 abbrev pub seven : Item
@@ -118,8 +103,8 @@ asked_twice = middle first [] 1 [] (record { view = 1; body = Op 2 incr } ∷ []
 abbrev pub taken_twice : LogEntry → World
 taken_twice e = middle first (e ∷ []) 2 (record { view = 1; body = Forward e } ∷ []) []
 
-sent : run_of 3 homes before ≡ asked_twice
-unfolding before line_limit has union single is_below adds next_from predecessor most appended entered widened taken_all sent_again forwarded trimmed left_open replies risen passed_on take_update promoted_to_head promoted_to_tail caught_up acked_to_predecessor asks_renewed server link with_server with_link with_connection put_all
+sent : run_of 3 resent_homes resent_before ≡ asked_twice
+unfolding resent_before line_limit has union single is_below adds next_from predecessor most appended entered widened taken_all sent_again forwarded trimmed left_open replies risen passed_on take_update promoted_to_head promoted_to_tail caught_up acked_to_predecessor asks_renewed server link with_server with_link with_connection put_all
 sent = refl
 
 acts : happens asked_twice (Deliver 2 1) ≡ taken_twice (entry_on (item_at one_put key))
@@ -137,16 +122,16 @@ pub found_eight : item_at (insert one_put key eight) key ≡ Some eight
 found_eight = get-insert nat_list_cmp_total one_put key eight key
 
 abbrev last : World
-last = run_from (taken_twice (entry_on (Some seven))) behind
+last = run_from (taken_twice (entry_on (Some seven))) resent_behind
 
 -- where the next head takes it, and these events follow
-pub ends_with : (es : List Event) → run_of 3 homes (before ++ Deliver 2 1 ∷ es) ≡ run_from (taken_twice (entry_on (Some seven))) es
+pub ends_with : (es : List Event) → run_of 3 resent_homes (resent_before ++ Deliver 2 1 ∷ es) ≡ run_from (taken_twice (entry_on (Some seven))) es
 ends_with es =
-    run_on (opening_world 3 homes) before (Deliver 2 1 ∷ es) ∙ ap (λ w. run_from (happens w (Deliver 2 1)) es) sent
+    run_on (opening_world 3 resent_homes) resent_before (Deliver 2 1 ∷ es) ∙ ap (λ w. run_from (happens w (Deliver 2 1)) es) sent
     ∙ ap (λ w. run_from w es) (acts ∙ ap (λ found. taken_twice (entry_on found)) found_seven)
 
-ends : run_of 3 homes events ≡ last
-ends = ends_with behind
+ends : run_of 3 resent_homes resent_events ≡ last
+ends = ends_with resent_behind
 
 -- what is shown, where the get found this
 abbrev shown_with : List ℕ → Option Item → List ℕ → TranscriptShown
@@ -165,26 +150,13 @@ shown_with digits found text = record {
 }
 
 shown_last : transcript_of last ≡ shown_with (decimal 8) (item_at (insert one_put key eight) key) (item_text key false (item_at (insert one_put key eight) key))
-unfolding behind line_limit has union single is_below adds next_from predecessor most appended entered widened taken_all sent_again forwarded trimmed left_open replies risen passed_on take_update promoted_to_head promoted_to_tail caught_up acked_to_predecessor asks_renewed server link with_server with_link with_connection put_all
+unfolding resent_behind line_limit has union single is_below adds next_from predecessor most appended entered widened taken_all sent_again forwarded trimmed left_open replies risen passed_on take_update promoted_to_head promoted_to_tail caught_up acked_to_predecessor asks_renewed server link with_server with_link with_connection put_all
 shown_last = refl
 
 text_eight : item_text key false (Some eight) ≡ codes "VALUE n 0 1\r\n8\r\n"
 text_eight = rw (decimal_digit 8 (omega arith), decimal_digit 0 (omega arith), decimal_digit 1 (omega arith)) refl
 
--- the incr acts once: the counter is one more
-pub resent_call_acts : transcript_of (run_of 3 homes events) ≡ record {
-  connections =
-      record {
-        home = 2;
-        calls =
-            record { target = One key; op = Set 0 (codes "7"); reply = Some Stored }
-            ∷ record { target = One key; op = Incr 1; reply = Some (Number 8) }
-            ∷ record { target = One key; op = Read; reply = Some (Value (Some (record { flags = 0; bytes = codes "8"; unique = 2 }))) }
-            ∷ [];
-        sent = codes "STORED\r\n8\r\nVALUE n 0 1\r\n8\r\nEND\r\n";
-      } ∷ [];
-  quiet = false;
-}
+pub resent_call_acts : transcript_of (run_of 3 resent_homes resent_events) ≡ resent_transcript
 resent_call_acts =
     ap transcript_of ends ∙ shown_last
     ∙ ap (λ found. shown_with (decimal 8) found (item_text key false found)) found_eight
@@ -192,15 +164,15 @@ resent_call_acts =
     ∙ ap (λ digits. shown_with digits (Some (eight_with digits)) (codes "VALUE n 0 1\r\n8\r\n")) (decimal_digit 8 (omega arith))
 
 called_last : calls_in last ≡ (set ∷ incr ∷ get ∷ []) ∷ []
-unfolding behind line_limit has union single is_below adds next_from predecessor most appended entered widened taken_all sent_again forwarded trimmed left_open replies risen passed_on take_update promoted_to_head promoted_to_tail caught_up acked_to_predecessor asks_renewed server link with_server with_link with_connection put_all
+unfolding resent_behind line_limit has union single is_below adds next_from predecessor most appended entered widened taken_all sent_again forwarded trimmed left_open replies risen passed_on take_update promoted_to_head promoted_to_tail caught_up acked_to_predecessor asks_renewed server link with_server with_link with_connection put_all
 called_last = refl
 
-pub called : calls_in (run_of 3 homes events) ≡ (set ∷ incr ∷ get ∷ []) ∷ []
+pub called : calls_in (run_of 3 resent_homes resent_events) ≡ (set ∷ incr ∷ get ∷ []) ∷ []
 called = ap calls_in ends ∙ called_last
 
 replied_last : replies_in last ≡ (Stored ∷ Number 8 ∷ Value (item_at (insert one_put key eight) key) ∷ []) ∷ []
-unfolding behind line_limit has union single is_below adds next_from predecessor most appended entered widened taken_all sent_again forwarded trimmed left_open replies risen passed_on take_update promoted_to_head promoted_to_tail caught_up acked_to_predecessor asks_renewed server link with_server with_link with_connection put_all
+unfolding resent_behind line_limit has union single is_below adds next_from predecessor most appended entered widened taken_all sent_again forwarded trimmed left_open replies risen passed_on take_update promoted_to_head promoted_to_tail caught_up acked_to_predecessor asks_renewed server link with_server with_link with_connection put_all
 replied_last = refl
 
-pub replied : replies_in (run_of 3 homes events) ≡ (Stored ∷ Number 8 ∷ Value (Some eight) ∷ []) ∷ []
+pub replied : replies_in (run_of 3 resent_homes resent_events) ≡ (Stored ∷ Number 8 ∷ Value (Some eight) ∷ []) ∷ []
 replied = ap replies_in ends ∙ replied_last ∙ ap (λ found. (Stored ∷ Number 8 ∷ Value found ∷ []) ∷ []) found_eight

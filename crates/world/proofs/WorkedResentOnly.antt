@@ -15,28 +15,31 @@ use Rattle.world.specs.declared.events.Event.TheVariants.{Deliver, Hand}
 use Rattle.world.specs.Worlds.{World, server, link, with_server, with_link, with_connection, put_all, run_from, run_of}
 use Rattle.world.specs.Calls.{CallId, begun_call, IsAnswered}
 use Rattle.world.specs.Orders.{Entry, StandsAt, Precedes, IsLinearization}
+use Rattle.std.proofs.lemmas.Fmt.{decimal_digit}
+use Rattle.world.specs.WorkedSchedules as worked
+use Rattle.world.specs.WorkedSchedules.{resent_homes, resent_before, resent_behind, resent_events, resent_order}
 use Rattle.world.proofs.WorkedOrders.{under, said, call_there, reply_there, stands}
 use Rattle.world.proofs.OneOrder.{one_order}
-use Rattle.world.proofs.WorkedResent.{homes, before, behind, events, set, incr, get, eight, seven, entry_on, taken_twice, ends_with, called, replied}
+use Rattle.world.proofs.WorkedResent.{set, incr, get, eight, eight_with, seven, entry_on, taken_twice, ends_with, called, replied}
 
 abbrev pub the : ℕ → CallId
 the place = record { connection = 0; place = place }
 
 -- the set is answered before the incr begins
-pub set_before_incr : Precedes 3 homes events (the 0) (the 1)
-unfolding before behind line_limit has union single is_below adds next_from predecessor most appended entered widened taken_all sent_again forwarded trimmed left_open replies risen passed_on take_update promoted_to_head promoted_to_tail caught_up acked_to_predecessor asks_renewed server link with_server with_link with_connection put_all
+pub set_before_incr : Precedes 3 resent_homes resent_events (the 0) (the 1)
+unfolding resent_before resent_behind line_limit has union single is_below adds next_from predecessor most appended entered widened taken_all sent_again forwarded trimmed left_open replies risen passed_on take_update promoted_to_head promoted_to_tail caught_up acked_to_predecessor asks_renewed server link with_server with_link with_connection put_all
 set_before_incr = record { k = 9; answered = refl; not_begun = refl }
 
 -- the events up to the incr's answer
-first_events : take 18 events ≡ before ++ Deliver 2 1 ∷ Deliver 1 2 ∷ Hand 0 ∷ []
-unfolding before behind
+first_events : take 18 resent_events ≡ resent_before ++ Deliver 2 1 ∷ Deliver 1 2 ∷ Hand 0 ∷ []
+unfolding resent_before resent_behind
 first_events = refl
 
 abbrev incr_done : World
 incr_done = run_from (taken_twice (entry_on (Some seven))) (Deliver 1 2 ∷ Hand 0 ∷ [])
 
-until : run_of 3 homes (take 18 events) ≡ incr_done
-until = ap (run_of 3 homes) first_events ∙ ends_with (Deliver 1 2 ∷ Hand 0 ∷ [])
+until : run_of 3 resent_homes (take 18 resent_events) ≡ incr_done
+until = ap (run_of 3 resent_homes) first_events ∙ ends_with (Deliver 1 2 ∷ Hand 0 ∷ [])
 
 incr_answered : IsAnswered incr_done (the 1)
 unfolding line_limit has union single is_below adds next_from predecessor most appended entered widened taken_all sent_again forwarded trimmed left_open replies risen passed_on take_update promoted_to_head promoted_to_tail caught_up acked_to_predecessor asks_renewed server link with_server with_link with_connection put_all
@@ -47,7 +50,7 @@ unfolding line_limit has union single is_below adds next_from predecessor most a
 get_not_begun = refl
 
 -- the incr is answered before the get begins
-pub incr_before_get : Precedes 3 homes events (the 1) (the 2)
+pub incr_before_get : Precedes 3 resent_homes resent_events (the 1) (the 2)
 incr_before_get = record {
   k = 18;
   answered = subst (λ w. IsAnswered w (the 1)) (sym until) incr_answered;
@@ -70,9 +73,9 @@ named zero (suc (suc zero)) call h = (refl, inr (inr (refl, sym (same_Some get c
 named zero (suc (suc (suc p))) call h = absurd cc
 named (suc c) p call h = absurd cc
 
-module _ (h : List Entry) (order : IsLinearization 3 homes events h) where
+module _ (h : List Entry) (order : IsLinearization 3 resent_homes resent_events h) where
   get_at : (i : ℕ) × StandsAt h i (the 2)
-  get_at = stands 3 homes events h order got_replies replied (the 2) (Value (Some eight)) refl
+  get_at = stands 3 resent_homes resent_events h order got_replies replied (the 2) (Value (Some eight)) refl
 
   incr_at : (i : ℕ) × (i < get_at.0) × StandsAt h i (the 1)
   incr_at = order.in_time (the 1) (the 2) get_at.0 incr_before_get get_at.1
@@ -90,12 +93,12 @@ module _ (h : List Entry) (order : IsLinearization 3 homes events h) where
       ⊎ (((k ≡ incr_at.0) × (said e ≡ (incr, Number 8))) ⊎ ((k ≡ get_at.0) × (said e ≡ (get, Value (Some eight)))))
 
   kind : (k : ℕ) (e : Entry) → slice_get h k ≡ Some e → Kind k e
-  kind k e here = let is = named e.id.connection e.id.place e.call (call_there 3 homes events h order begun_calls called k e here) in by_name is.0 is.1
+  kind k e here = let is = named e.id.connection e.id.place e.call (call_there 3 resent_homes resent_events h order begun_calls called k e here) in by_name is.0 is.1
     where
       one : (p i : ℕ) (call : Call) (reply : Reply) → e.id.connection ≡ 0 → e.id.place ≡ p → e.call ≡ call → StandsAt h i (the p) → under got_replies (the p) ≡ Some reply → (k ≡ i) × (said e ≡ (call, reply))
       one p i call reply c same asks at got =
           let id : e.id ≡ the p = λ j. record { connection = c j; place = same j } in
-          let answer : e.reply ≡ reply = reply_there 3 homes events h order got_replies replied k e here reply (ap (under got_replies) id ∙ got) in
+          let answer : e.reply ≡ reply = reply_there 3 resent_homes resent_events h order got_replies replied k e here reply (ap (under got_replies) id ∙ got) in
           (order.once k i (the p) (record { entry = e; here = here; same = id }) at, λ j. (asks j, answer j))
 
       by_name : e.id.connection ≡ 0 → Named e.id.place e.call → Kind k e
@@ -127,7 +130,7 @@ module _ (h : List Entry) (order : IsLinearization 3 homes events h) where
   enough = omega (arith, within, incr_at.1, set_at.1)
 
 -- the set, the incr, the get: no other order is one
-pub only_order : (h : List Entry) → IsLinearization 3 homes events h → map said h ≡ (set, Stored) ∷ (incr, Number 8) ∷ (get, Value (Some eight)) ∷ []
+pub only_order : (h : List Entry) → IsLinearization 3 resent_homes resent_events h → map said h ≡ (set, Stored) ∷ (incr, Number 8) ∷ (get, Value (Some eight)) ∷ []
 only_order [] order = absurd (omega (arith, enough [] order))
 only_order (e ∷ []) order = absurd (omega (arith, enough (e ∷ []) order))
 only_order (e ∷ f ∷ []) order = absurd (omega (arith, enough (e ∷ f ∷ []) order))
@@ -144,6 +147,10 @@ only_order (e ∷ f ∷ g ∷ d ∷ t) order =
     let three = third h order g one.0 two.0 (kind h order 2 g refl) in
     absurd (no_fourth h order d one.0 two.0 three.0 (kind h order 3 d refl))
 
+-- the number in digits
+pub the_order : (h : List Entry) → IsLinearization 3 resent_homes resent_events h → worked.said h ≡ resent_order
+the_order h order = only_order h order ∙ ap (λ digits. (set, Stored) ∷ (incr, Number 8) ∷ (get, Value (Some (eight_with digits))) ∷ []) (decimal_digit 8 (omega arith))
+
 -- and so it is the order that there is
-pub its_order : map said (one_order 3 homes events (omega arith)).0 ≡ (set, Stored) ∷ (incr, Number 8) ∷ (get, Value (Some eight)) ∷ []
-its_order = let order = one_order 3 homes events (omega arith) in only_order order.0 order.1
+pub its_order : worked.said (one_order 3 resent_homes resent_events (omega arith)).0 ≡ resent_order
+its_order = let order = one_order 3 resent_homes resent_events (omega arith) in the_order order.0 order.1

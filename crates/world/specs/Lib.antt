@@ -16,3 +16,5 @@ pub mod Printing
 pub mod Calls
 pub mod Orders
 pub mod Sent
+pub mod Shown
+pub mod WorkedSchedules

@@ -1,12 +1,13 @@
-//! Laws of every schedule: one order of calls, none forgotten, the bytes that connections are sent, and the calls that they begin.
-ghost use Rattle.std.specs.Prelude.{◌≡◌, ℕ, ◌^◌, ◌≤◌, ◌<◌, true, List, Some, length, take, slice_get};
+//! Laws of every schedule: one order of calls, none forgotten, what transcripts show of them, the bytes that connections are sent, and the calls that they begin.
+ghost use Rattle.std.specs.Prelude.{◌≡◌, ℕ, ◌+◌, ◌^◌, ◌≤◌, ◌<◌, true, List, Some, length, take, slice_get};
 ghost use Rattle.proto.specs.Streams.{turns};
 ghost use Rattle.world.specs.declared.events.Event.{Event};
 ghost use Rattle.world.specs.Connections.{Connection};
 ghost use Rattle.world.specs.Worlds.{run_of};
-ghost use Rattle.world.specs.Calls.{CallId, IsBegun, IsAnswered, has_living_home};
+ghost use Rattle.world.specs.Calls.{CallId, begun_call, reply_to, IsBegun, IsAnswered, has_living_home};
 ghost use Rattle.world.specs.Orders.{Entry, IsLinearization};
-ghost use Rattle.world.specs.Quiet.{is_quiet};
+ghost use Rattle.world.specs.Quiet.{is_quiet, transcript_of};
+ghost use Rattle.world.specs.Shown.{call_shown, reply_shown};
 ghost use Rattle.world.specs.Sent.{course_of, sent_bytes, calls_of};
 
 /// Every schedule over a chain of up to 16 servers, with failures at any event, has an order of its calls in which a single
@@ -16,7 +17,7 @@ pub fn one_order()
 {}
 
 /// Each connection has been sent the texts of its stream's turns up to its place, however the stream was cut.
-pub fn sent()
+pub fn sent_bytes_follow_the_stream()
     ensures { (count : ℕ) (homes : List ℕ) (events : List Event) (c : ℕ) (k : Connection) → slice_get (run_of count homes events).connections c ≡ Some k →
         k.session.out ≡ sent_bytes (course_of count homes events c) k.replies }
 {
@@ -25,7 +26,7 @@ pub fn sent()
 }
 
 /// The calls that a connection has begun are the first among the turns of its stream, and those up to its place are answered.
-pub fn calls()
+pub fn calls_follow_the_stream()
     ensures begun { (count : ℕ) (homes : List ℕ) (events : List Event) (c : ℕ) (k : Connection) → slice_get (run_of count homes events).connections c ≡ Some k →
         k.calls ≡ take (length k.calls) (calls_of (turns (course_of count homes events c).stream)) }
     ensures answered { (count : ℕ) (homes : List ℕ) (events : List Event) (c : ℕ) (k : Connection) → slice_get (run_of count homes events).connections c ≡ Some k →
@@ -40,4 +41,18 @@ pub fn calls()
 pub fn none_forgotten()
     ensures { (count : ℕ) (homes : List ℕ) (events : List Event) → count ≤ 16 → length events < 2 ^ 64 → is_quiet (run_of count homes events) ≡ true →
         (x : CallId) → IsBegun (run_of count homes events) x → has_living_home (run_of count homes events) x ≡ true → IsAnswered (run_of count homes events) x }
+{}
+
+/// At most one call of a connection is open: the others have their replies.
+pub fn one_open()
+    ensures { (count : ℕ) (homes : List ℕ) (events : List Event) (c : ℕ) (k : Connection) → slice_get (run_of count homes events).connections c ≡ Some k →
+        length k.calls ≤ length k.replies + 1 }
+{}
+
+/// A transcript shows each begun call, and the reply that it got, under the call's name: those of which `one_order` speaks.
+pub fn transcripts_show_the_calls()
+    ensures call { (count : ℕ) (homes : List ℕ) (events : List Event) (x : CallId) →
+        call_shown (transcript_of (run_of count homes events)) x ≡ begun_call (run_of count homes events) x }
+    ensures reply { (count : ℕ) (homes : List ℕ) (events : List Event) (x : CallId) →
+        reply_shown (transcript_of (run_of count homes events)) x ≡ reply_to (run_of count homes events) x }
 {}

@@ -20,11 +20,15 @@ mod servers;
 mod settling;
 mod steps;
 mod transcripts;
+pub mod worked;
 mod worlds;
 
 pub use events::Event;
 pub use faults::SceneFault;
-pub use laws::{calls, none_forgotten, one_order, sent};
+pub use laws::{
+    calls_follow_the_stream, none_forgotten, one_open, one_order, sent_bytes_follow_the_stream,
+    transcripts_show_the_calls,
+};
 pub use printing::print_transcript;
 pub use scenes::{Scene, run};
 pub use schedules::{Schedule, ScheduleFault, read_schedule};

@@ -1,18 +1,22 @@
 //! Scenes: a world that events change until one is refused, and the run of a whole schedule.
-ghost use Rattle.std.specs.Prelude.{◌≡◌, ◌<◌, ◌≤◌, ℕ, List, Some, take, ◌↔◌, true, false, nat_lt, length, slice_get, OnOk, OnErr, IfOk, IfErr, IsErrOf};
+ghost use Rattle.std.specs.Prelude.{◌≡◌, ◌<◌, ◌≤◌, ℕ, ◌+◌, List, Some, take, ◌↔◌, true, false, nat_lt, length, slice_get, OnOk, OnErr, IfOk, IfErr, IsErrOf};
 ghost use Rattle.std.specs.List.{list_all};
 ghost use Rattle.proto.specs.Streams.{turns};
-ghost use Rattle.world.specs.Calls.{CallId, IsBegun, IsAnswered, has_living_home};
+ghost use Rattle.world.specs.Calls.{CallId, begun_call, reply_to, IsBegun, IsAnswered, has_living_home};
 ghost use Rattle.world.specs.Connections.{Connection};
 ghost use Rattle.world.specs.Orders.{Entry, IsLinearization};
 ghost use Rattle.world.specs.Sent.{course_of, sent_bytes, calls_of};
 ghost use Rattle.world.specs.Worlds.{opening_world, happens, run_of};
 ghost use Rattle.world.specs.Quiet as quiet;
 ghost use Rattle.world.specs.Quiet.{is_quiet};
+ghost use Rattle.world.specs.Shown.{call_shown, reply_shown};
 ghost use Rattle.world.specs.Scenes.{going, is_count, are_homes, sent_to};
 ghost use Rattle.world.specs.Transcripts.{transcript_of};
 
-use crate::laws::{calls, none_forgotten, one_order, sent};
+use crate::laws::{
+    calls_follow_the_stream, none_forgotten, one_open, one_order, sent_bytes_follow_the_stream,
+    transcripts_show_the_calls,
+};
 use crate::worlds::World;
 use crate::{Event, SceneFault, Transcript};
 use std::alloc::{AllocError, Global};
@@ -44,7 +48,9 @@ impl Model for Scene {
 }
 
 impl Scene {
-    /// A chain of so many servers before any event, with a connection at each of these homes.
+    /// A chain of so many servers before any event, with a connection at each of these homes. `BadCount` where the servers
+    /// are not 1 to 16, else `BadHomes` where there are more than 64 homes or one is no server, else `Memory`. It allocates
+    /// the square of the number of servers in empty links.
     pub fn new(alloc: Global, count: usize, homes: &[usize]) -> Result<Scene, SceneFault>
         ensures opening { IfOk result (λ scene. scene ≡ going (opening_world count homes.now)) }
         ensures bad_count { IsErrOf result SceneFault.BadCount ↔ (is_count count ≡ false) }
@@ -64,7 +70,9 @@ impl Scene {
         })
     }
 
-    /// One event. It costs what a server's step costs, and moves what the step puts out: nothing is searched or copied.
+    /// One event. A piece costs its bytes, which are copied once; a begin, the bytes that it reads; a hand, the reply's text;
+    /// a call, message or notice, the server's step, whose outputs are moved. None costs more because the world has run
+    /// long. Refused with `Memory`, which spoils the scene, and with `Spoiled` from then on.
     pub fn event(&mut self, event: &Event) -> Result<(), SceneFault>
         ensures ok { OnOk result (self.new ≡ going (happens self.old.world event.now)) }
         // Memory spoils the scene, and Spoiled is answered exactly from then on.
@@ -83,7 +91,7 @@ impl Scene {
         Ok(())
     }
 
-    /// What a connection was sent.
+    /// What a connection was sent. Of a spoiled scene it is that of a world whose last event may be done by half.
     pub fn sent(&self, c: usize) -> &[u8]
         requires connection { c < length self.now.world.connections }
         ensures { result.now ≡ sent_to (slice_get self.now.world.connections c) }
@@ -91,14 +99,16 @@ impl Scene {
         self.world.sent(c)
     }
 
-    /// Whether nothing waits at living servers.
+    /// Whether nothing waits at living servers. It looks at each pair of servers and each connection. Of a spoiled scene it
+    /// is that of a world whose last event may be done by half.
     pub fn is_quiet(&self) -> bool
         ensures { result ≡ quiet.is_quiet self.now.world }
     {
         self.world.is_quiet()
     }
 
-    /// What is shown of it.
+    /// What is shown of it. Refused for want of memory alone. It copies the sent bytes once. Of a spoiled scene it is that of
+    /// a world whose last event may be done by half.
     pub fn transcript(self, alloc: Global) -> Result<Transcript, AllocError>
         ensures { IfOk result (λ t. t ≡ transcript_of self.world) }
     {
@@ -107,6 +117,7 @@ impl Scene {
 }
 
 /// Runs a schedule over a chain of this many servers, with a connection at each of these homes, and gives what it shows.
+/// Refused as `Scene::new` is, and with `Memory`. It keeps each begun call, each reply and each sent byte until it returns.
 pub fn run(
     alloc: Global,
     count: usize,
@@ -114,18 +125,28 @@ pub fn run(
     events: &[Event],
 ) -> Result<Transcript, SceneFault>
     ensures transcript { IfOk result (λ t. t ≡ transcript_of (run_of count homes.now events.now)) }
-    // One order of calls, each answered as by a single table, whatever servers fail and when.
+    // One order of calls, each with the reply of a single table, whatever servers fail and when. It holds of the schedule,
+    // also where this run is refused.
     ensures order { count ≤ 16 → (h : List Entry) × IsLinearization count homes.now events.now h }
-    // Each connection has been sent the texts of its stream's turns up to its place, however the stream was cut.
+    // Each begun call is shown under its name.
+    ensures shown_calls { IfOk result (λ t. (x : CallId) → call_shown t x ≡ begun_call (run_of count homes.now events.now) x) }
+    // What is shown of a call is the reply that it got in the order above.
+    ensures shown { IfOk result (λ t. (x : CallId) → reply_shown t x ≡ reply_to (run_of count homes.now events.now) x) }
+    // At most one call of a connection is open.
+    ensures one_open { (c : ℕ) (k : Connection) → slice_get (run_of count homes.now events.now).connections c ≡ Some k →
+        length k.calls ≤ length k.replies + 1 }
+    // A connection's stream is what came to it while it was open and its server lived; its place, how many turns of that
+    // stream it has passed: faults by `begin`, calls by `hand`. It has been sent the texts of these turns, fault lines
+    // among them, however its bytes were cut.
     ensures sent { (c : ℕ) (k : Connection) → slice_get (run_of count homes.now events.now).connections c ≡ Some k →
         k.session.out ≡ sent_bytes (course_of count homes.now events.now c) k.replies }
     // The calls that it has begun are the first among the turns of its stream.
     ensures calls { (c : ℕ) (k : Connection) → slice_get (run_of count homes.now events.now).connections c ≡ Some k →
         k.calls ≡ take (length k.calls) (calls_of (turns (course_of count homes.now events.now c).stream)) }
-    // Those up to its place are answered, and no others.
+    // The calls among the turns up to its place are answered, and no others.
     ensures answered { (c : ℕ) (k : Connection) → slice_get (run_of count homes.now events.now).connections c ≡ Some k →
         length k.replies ≡ length (calls_of (take (course_of count homes.now events.now c).place (turns (course_of count homes.now events.now c).stream))) }
-    // In a quiet world each begun call of a connection at a living home has a reply.
+    // Where the transcript says `quiet`, each begun call at a living home has its reply.
     ensures none_forgotten { count ≤ 16 → is_quiet (run_of count homes.now events.now) ≡ true → (x : CallId) →
         IsBegun (run_of count homes.now events.now) x → has_living_home (run_of count homes.now events.now) x ≡ true → IsAnswered (run_of count homes.now events.now) x }
     ensures bad_count { IsErrOf result SceneFault.BadCount ↔ (is_count count ≡ false) }
@@ -134,8 +155,10 @@ pub fn run(
     ensures not_spoiled { IsErrOf result SceneFault.Spoiled → ⊥ }
 {
     one_order();
-    sent();
-    calls();
+    transcripts_show_the_calls();
+    one_open();
+    sent_bytes_follow_the_stream();
+    calls_follow_the_stream();
     none_forgotten();
     let mut scene = Scene::new(alloc, count, homes)?;
     for event in events {

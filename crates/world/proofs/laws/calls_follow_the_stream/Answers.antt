@@ -1,5 +1,5 @@
 use Rattle.world.proofs.CoursesRun.{begun_is, answered_is}
-use Rattle.world.proofs.laws.calls.Goals as goal
+use Rattle.world.proofs.laws.calls_follow_the_stream.Goals as goal
 
 pub returns-clause-begun : goal.returns-clause-begun
 returns-clause-begun c = begun_is c.next_gives_first.ensures c.faults_take_bytes.ensures

@@ -1,0 +1,5 @@
+use Rattle.world.proofs.ShownCalls.{one_open}
+use Rattle.world.proofs.laws.one_open.Goals as goal
+
+pub returns : goal.returns
+returns c count homes events connection k here = one_open count homes events connection k here

@@ -1,0 +1,9 @@
+use Rattle.world.proofs.WorkedDirtyRead.{dirty_read_before_commit}
+use Rattle.world.proofs.WorkedDirtyOrder.{set_before_get}
+use Rattle.world.proofs.worked.dirty_read.Goals as goal
+
+pub returns-clause-transcript : goal.returns-clause-transcript
+returns-clause-transcript c = dirty_read_before_commit
+
+pub returns-clause-set_before_get : goal.returns-clause-set_before_get
+returns-clause-set_before_get c h order i j l first second = set_before_get h order i j l first second

@@ -1,0 +1,21 @@
+use Rattle.world.proofs.WorkedInTime.{sets_are_shown}
+use Rattle.world.proofs.WorkedInTimeOrder.{exchanged_legal, exchanged_begun, exchanged_once, exchanged_answered, exchanged_is_no_order}
+use Rattle.world.proofs.worked.exchanged_sets.Goals as goal
+
+pub returns-clause-transcript : goal.returns-clause-transcript
+returns-clause-transcript c = sets_are_shown
+
+pub returns-clause-legal : goal.returns-clause-legal
+returns-clause-legal c = exchanged_legal
+
+pub returns-clause-begun : goal.returns-clause-begun
+returns-clause-begun c i e here = exchanged_begun i e here
+
+pub returns-clause-once : goal.returns-clause-once
+returns-clause-once c i j x one two = exchanged_once i j x one two
+
+pub returns-clause-answered : goal.returns-clause-answered
+returns-clause-answered c x reply got = exchanged_answered x reply got
+
+pub returns-clause-in_time : goal.returns-clause-in_time
+returns-clause-in_time c order = exchanged_is_no_order order

@@ -1,0 +1,12 @@
+use Rattle.world.proofs.WorkedAlone.{middle_server_left_alone}
+use Rattle.world.proofs.WorkedAloneOrder.{without_the_set, only_the_set}
+use Rattle.world.proofs.worked.left_alone.Goals as goal
+
+pub returns-clause-transcript : goal.returns-clause-transcript
+returns-clause-transcript c = middle_server_left_alone
+
+pub returns-clause-left_out : goal.returns-clause-left_out
+returns-clause-left_out c order = without_the_set order
+
+pub returns-clause-only : goal.returns-clause-only
+returns-clause-only c h order = only_the_set h order

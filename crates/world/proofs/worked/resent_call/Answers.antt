@@ -1,0 +1,16 @@
+use Rattle.world.proofs.WorkedResent.{resent_call_acts}
+use Rattle.world.proofs.WorkedResentOrder.{twice_legal, twice_is_no_order}
+use Rattle.world.proofs.WorkedResentOnly.{the_order}
+use Rattle.world.proofs.worked.resent_call.Goals as goal
+
+pub returns-clause-transcript : goal.returns-clause-transcript
+returns-clause-transcript c = resent_call_acts
+
+pub returns-clause-legal : goal.returns-clause-legal
+returns-clause-legal c = twice_legal
+
+pub returns-clause-twice : goal.returns-clause-twice
+returns-clause-twice c order = twice_is_no_order order
+
+pub returns-clause-only : goal.returns-clause-only
+returns-clause-only c h order = the_order h order
