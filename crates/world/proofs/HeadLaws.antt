@@ -9,8 +9,7 @@ use Rattle.std.proofs.lemmas.Option.{same_Some}
 use Rattle.world.specs.Cuts.{space, cut, fields_of}
 use Rattle.world.specs.HeadLines.{servers_line, homes_line, numbers_below}
 use Rattle.world.specs.Numbers.{has_leading_zero, number_in}
-use Rattle.world.specs.Quiet.{are_homes}
-use Rattle.world.specs.Scenes.{is_count}
+use Rattle.world.specs.Scenes.{are_homes, is_count}
 use Rattle.world.specs.Schedules.{ScheduleShown, SpellsSchedule}
 
 abbrev IsInRange : ℕ → ℕ → ℕ → Type 0

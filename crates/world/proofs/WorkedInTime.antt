@@ -9,7 +9,7 @@ use Rattle.node.specs.Servers.{most}
 use Rattle.node.specs.Numbering.{left_open, replies, risen, appended, passed_on, take_update, entered}
 use Rattle.node.specs.Steps.{trimmed}
 use Rattle.world.specs.Worlds.{server, link, with_server, with_link, with_connection, put_all, run_of}
-use Rattle.world.specs.Quiet.{transcript_of}
+use Rattle.world.specs.Transcripts.{transcript_of}
 use Rattle.world.specs.Orders.{Precedes}
 use Rattle.world.specs.WorkedSchedules.{name, set_of, sets_homes, sets_events, sets_transcript}
 use Rattle.world.proofs.WorkedOrders.{calls_in, replies_in}

@@ -6,7 +6,8 @@ ghost use Rattle.world.specs.Connections.{Connection};
 ghost use Rattle.world.specs.Worlds.{run_of};
 ghost use Rattle.world.specs.Calls.{CallId, begun_call, reply_to, IsBegun, IsAnswered, has_living_home};
 ghost use Rattle.world.specs.Orders.{Entry, IsLinearization};
-ghost use Rattle.world.specs.Quiet.{is_quiet, transcript_of};
+ghost use Rattle.world.specs.Quiet.{is_quiet};
+ghost use Rattle.world.specs.Transcripts.{transcript_of};
 ghost use Rattle.world.specs.Shown.{call_shown, reply_shown};
 ghost use Rattle.world.specs.Sent.{course_of, sent_bytes, calls_of};
 

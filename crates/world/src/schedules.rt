@@ -2,8 +2,7 @@
 ghost use Rattle.std.specs.Prelude.{◌≡◌, ◌+◌, ℕ, IfErr, IfOk, OnOk, drop, length, true};
 ghost use Rattle.world.specs.declared.schedules.ScheduleFault.TheVariants.{Memory};
 ghost use Rattle.world.specs.HeadLines.{homes_line, servers_line};
-ghost use Rattle.world.specs.Quiet.{are_homes};
-ghost use Rattle.world.specs.Scenes.{is_count};
+ghost use Rattle.world.specs.Scenes.{are_homes, is_count};
 ghost use Rattle.world.specs.Schedules.{Names, SpellsSchedule, events_of, first_says, schedule_of};
 
 use crate::Event;

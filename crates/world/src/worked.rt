@@ -4,7 +4,7 @@ ghost use Rattle.table.specs.Histories.{IsLegal};
 ghost use Rattle.table.specs.declared.operations.Reply.{Reply};
 ghost use Rattle.world.specs.Calls.{CallId, begun_call, reply_to};
 ghost use Rattle.world.specs.Orders.{Entry, StandsAt, IsLinearization};
-ghost use Rattle.world.specs.Quiet.{transcript_of};
+ghost use Rattle.world.specs.Transcripts.{transcript_of};
 ghost use Rattle.world.specs.WorkedSchedules.{name, said};
 ghost use Rattle.world.specs.WorkedSchedules.{alone_homes, alone_events, alone_transcript, alone_order};
 ghost use Rattle.world.specs.WorkedSchedules.{dirty_homes, dirty_events, dirty_transcript};

@@ -2,7 +2,7 @@ use Rattle.std.proofs.Common.{◌≡◌, ap, sym, ◌∙◌, arith, List}
 use Rattle.std.proofs.lemmas.List.{drop_all}
 use Rattle.world.specs.declared.events.Event.{Event}
 use Rattle.world.specs.Worlds.{run_from, run_of}
-use Rattle.world.specs.Quiet.{transcript_of}
+use Rattle.world.specs.Transcripts.{transcript_of}
 use Rattle.world.specs.Shown.{reply_shown}
 use Rattle.world.proofs.scenes.run.Goals as goal
 
