@@ -8,13 +8,36 @@ import tempfile
 
 TOP = os.path.dirname(os.path.dirname(os.path.abspath(__file__)))
 PROGRAM = os.path.join(TOP, "crates", "craq", "out", "craq")
+EXAMPLE = os.path.join(TOP, "examples", "set_then_gets.schedule")
 RUNS = 5
 CALL = "begin 0\nwork 0\nhand 0\n"
+COUNTING = sys.argv[1:] == ["--instructions"]
+if sys.argv[1:] and not COUNTING:
+    sys.exit(f"usage: {sys.argv[0]} [--instructions]")
+
+
+def finished(words, **how):
+    """A run of these words that has ended."""
+    try:
+        return subprocess.run(words, text=True, **how)
+    except OSError as fault:
+        sys.exit(f"{words[0]}: {fault.strerror}")
 
 
 def build():
-    """Builds the program where that has to be."""
-    subprocess.run([os.path.join(TOP, "craq"), "--help"], stderr=subprocess.DEVNULL, check=False)
+    """Builds the program where that has to be, and runs it once."""
+    built = finished([os.path.join(TOP, "craq"), "scenario", EXAMPLE], stdout=subprocess.DEVNULL)
+    if built.returncode != 0:
+        sys.exit("craq isn't built")
+
+
+def build_crate(crate, *words):
+    """Builds a program that only benchmarks use, and runs it once on these words. Gives the program's path."""
+    folder = os.path.join(TOP, "crates", crate)
+    built = finished(["rt", "run", "--", *words], cwd=folder, stdout=subprocess.PIPE, stderr=subprocess.STDOUT)
+    if built.returncode != 0:
+        sys.exit(f"{built.stdout}{crate} isn't built")
+    return os.path.join(folder, "out", crate)
 
 
 def pipelined_sets(size, data=100):
@@ -53,18 +76,21 @@ def least(words):
     least = float("inf")
     for _ in range(RUNS):
         start = processor_seconds()
-        done = subprocess.run(words, stdout=subprocess.DEVNULL)
+        done = finished(words, stdout=subprocess.DEVNULL)
         least = min(least, processor_seconds() - start)
         if done.returncode != 0:
-            sys.exit("the program failed")
+            sys.exit(f"failed: {' '.join(words)}")
     return least
 
 
 def counted(words):
     """How many instructions these words take, by valgrind: the same at each run, whatever else runs."""
     valgrind = ["valgrind", "--tool=callgrind", "--callgrind-out-file=/dev/null", *words]
-    done = subprocess.run(valgrind, stdout=subprocess.DEVNULL, stderr=subprocess.PIPE, text=True)
-    return int(re.search(r"Collected : (\d+)", done.stderr).group(1))
+    done = finished(valgrind, stdout=subprocess.DEVNULL, stderr=subprocess.PIPE)
+    found = re.search(r"Collected : (\d+)", done.stderr)
+    if done.returncode != 0 or found is None:
+        sys.exit(f"failed under valgrind: {' '.join(words)}\n{done.stderr}")
+    return int(found.group(1))
 
 
 def on_file(schedule, measure):
