@@ -1,10 +1,10 @@
 -- Schedules read line by line.
 use Rattle.std.proofs.Common.{◌≡◌, ℕ, List, ◌∷◌, ◌++◌, Some, ap, append_assoc, refl}
-use Rattle.std.specs.Prelude.{Result, Ok, Err}
+use Rattle.std.specs.Prelude.{Result, Ok, Err, ok_or}
 use Rattle.world.specs.declared.events.Event.{Event}
 use Rattle.world.specs.declared.event_lines.EventLine.{EventLine}
 use Rattle.world.specs.EventLines.{event_line, events_in}
-use Rattle.world.specs.Schedules.{events_then, events_of}
+use Rattle.world.specs.Schedules.{◌>>=◌, events_of}
 
 -- earlier events in front of those of later lines
 abbrev pub with_earlier : List Event → Result (List Event) ℕ → Result (List Event) ℕ
@@ -12,7 +12,7 @@ with_earlier earlier (Ok events) = Ok (earlier ++ events)
 with_earlier earlier (Err bad) = Err bad
 
 -- a line's events are added to the earlier ones
-with_line : (earlier events : List Event) (n : ℕ) (later : Result (List Event) ℕ) → with_earlier (earlier ++ events) later ≡ with_earlier earlier (events_then (Some events) n later)
+with_line : (earlier events : List Event) (n : ℕ) (later : Result (List Event) ℕ) → with_earlier (earlier ++ events) later ≡ with_earlier earlier (ok_or (Some events) n >>= (λ own. later >>= (λ more. Ok (own ++ more))))
 with_line earlier events n (Ok more) = ap Ok (append_assoc earlier events more)
 with_line earlier events n (Err bad) = refl
 

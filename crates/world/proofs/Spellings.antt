@@ -5,7 +5,7 @@ use Rattle.world.specs.declared.events.Event.{Event}
 use Rattle.world.specs.Cuts.{is_passed_over, lines, counted_from}
 use Rattle.world.specs.HeadLines.{servers_line, homes_line}
 use Rattle.world.specs.EventLines.{events_line}
-use Rattle.world.specs.Schedules.{ScheduleShown, events_then, events_of, first_says, counted_lines, SpellsSchedule}
+use Rattle.world.specs.Schedules.{ScheduleShown, ◌>>=◌, events_of, first_says, counted_lines, SpellsSchedule}
 
 abbrev text_of_line : ℕ × List ℕ → List ℕ
 text_of_line line = line.1
@@ -26,7 +26,7 @@ each_events : (count connections : ℕ) (ls : List (ℕ × List ℕ)) (es : List
 each_events count connections [] es is = let same : [] ≡ es = cc in ([], refl, sym same)
 each_events count connections (l ∷ ls) es is = by_parts (events_line count connections l.1) (events_of count connections ls) refl (each_events count connections ls) is
   where
-    by_parts : (o : Option (List Event)) (r : Result (List Event) ℕ) → events_line count connections l.1 ≡ o → ((later : List Event) → r ≡ Ok later → EachEvents count connections (map text_of_line ls) later) → events_then o l.0 r ≡ Ok es → EachEvents count connections (map text_of_line (l ∷ ls)) es
+    by_parts : (o : Option (List Event)) (r : Result (List Event) ℕ) → events_line count connections l.1 ≡ o → ((later : List Event) → r ≡ Ok later → EachEvents count connections (map text_of_line ls) later) → (ok_or o l.0 >>= (λ own. r >>= (λ more. Ok (own ++ more)))) ≡ Ok es → EachEvents count connections (map text_of_line (l ∷ ls)) es
     by_parts None r now each h = cc
     by_parts (Some e) (Err bad) now each h = cc
     by_parts (Some e) (Ok later) now each h =

@@ -1,6 +1,7 @@
 -- Escapes: any bytes as printable text, and back.
-use Rattle.std.specs.Prelude.{ℕ, zero, suc, ◌+◌, ◌-◌, ◌*◌, ◌/◌, ◌%◌, ◌&&◌, nat_le, ◌==◌, Bool, List, [], ◌∷◌, ◌++◌, length, Option, None, Some, option_map, option_and_then, if◌then◌else◌, codes}
+use Rattle.std.specs.Prelude.{ℕ, zero, suc, ◌+◌, ◌-◌, ◌*◌, ◌/◌, ◌%◌, ◌&&◌, nat_le, ◌==◌, Bool, List, [], ◌∷◌, ◌++◌, length, Option, None, Some, if◌then◌else◌, codes}
 use Rattle.std.specs.Char.{digit_char}
+use Rattle.proto.specs.Requests.{◌>>=◌}
 use Rattle.world.specs.Cuts.{lf, cr}
 
 -- the byte in front of an escape's letter
@@ -31,7 +32,10 @@ hex_digit c =
 abbrev pub hex_byte : List ℕ → Option (ℕ × List ℕ)
 hex_byte [] = None
 hex_byte (high ∷ []) = None
-hex_byte (high ∷ low ∷ later) = option_and_then (λ h. option_map (λ l. (h * 16 + l, later)) (hex_digit low)) (hex_digit high)
+hex_byte (high ∷ low ∷ later) = do
+  h ← hex_digit high
+  l ← hex_digit low
+  Some (h * 16 + l, later)
 
 -- the byte that stands behind a backslash, and what stands behind it: `\\`, `\r`, `\n` or `\xHH`
 abbrev pub escaped_byte : List ℕ → Option (ℕ × List ℕ)
@@ -51,26 +55,21 @@ front_byte (first ∷ later) =
     else if is_printable first then Some (first, later)
     else None
 
--- a byte, and those that what stands behind it spells
-abbrev pub byte_then : Option (ℕ × List ℕ) → (List ℕ → Option (List ℕ)) → Option (List ℕ)
-byte_then None spelled = None
-byte_then (Some front) spelled = option_map (λ bytes. front.0 ∷ bytes) (spelled front.1)
-
 -- the bytes that a text spells, at most so many
 abbrev pub unescape_upto : ℕ → List ℕ → Option (List ℕ)
 unescape_upto zero text = Some []
 unescape_upto (suc n) [] = Some []
-unescape_upto (suc n) (first ∷ later) = byte_then (front_byte (first ∷ later)) (unescape_upto n)
+unescape_upto (suc n) (first ∷ later) = do
+  (byte, rest) ← front_byte (first ∷ later)
+  bytes ← unescape_upto n rest
+  Some (byte ∷ bytes)
 
 -- the bytes that a text spells: none has more than the text
 abbrev pub unescape : List ℕ → Option (List ℕ)
 unescape text = unescape_upto (length text) text
 
--- the byte, where nothing stands behind it
-abbrev pub alone : Option (ℕ × List ℕ) → Option ℕ
-alone None = None
-alone (Some front) = if length front.1 == 0 then Some front.0 else None
-
--- the one byte that a text spells
+-- the one byte that a text spells, with nothing behind it
 abbrev pub one_byte : List ℕ → Option ℕ
-one_byte text = alone (front_byte text)
+one_byte text = do
+  (byte, later) ← front_byte text
+  if length later == 0 then Some byte else None

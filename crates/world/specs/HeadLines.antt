@@ -1,5 +1,5 @@
 -- The two lines that open a schedule.
-use Rattle.std.specs.Prelude.{ℕ, ◌&&◌, nat_le, ◌==◌, List, [], ◌∷◌, length, Option, None, Some, if◌then◌else◌, codes, bytes_eq}
+use Rattle.std.specs.Prelude.{ℕ, ◌&&◌, nat_le, List, [], ◌∷◌, length, Option, None, Some, if◌then◌else◌, codes, bytes_eq}
 use Rattle.proto.specs.Requests.{◌>>=◌}
 use Rattle.world.specs.Cuts.{space, cut, fields_of}
 use Rattle.world.specs.Numbers.{number_in}

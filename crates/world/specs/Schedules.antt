@@ -1,5 +1,5 @@
 -- Schedules: what the lines of a text say, in turn, and the first of them that is bad (the format is this project's).
-use Rattle.std.specs.Prelude.{◌≡◌, ℕ, ◌+◌, List, [], ◌∷◌, ◌++◌, length, drop, Option, None, Some, Result, Ok, Err, ok_or, not, filter, map, flat_map}
+use Rattle.std.specs.Prelude.{◌≡◌, ℕ, ◌+◌, List, [], ◌∷◌, ◌++◌, length, drop, Option, Some, Result, Ok, Err, ok_or, not, filter, map, flat_map}
 use Rattle.world.specs.declared.events.Event.{Event}
 use Rattle.world.specs.declared.schedules.ScheduleFault.{ScheduleFault}
 use Rattle.world.specs.declared.schedules.ScheduleFault.TheVariants.{Memory, BadLine}
@@ -18,22 +18,19 @@ abbrev pub first_says : {X : Type 0} → (List ℕ → Option X) → ℕ → Lis
 first_says says end [] = Err end
 first_says says end (line ∷ later) = ok_or (says line.1) line.0
 
--- a line's events in front of those of later lines, or the number of the line that spells none
-abbrev pub events_then : Option (List Event) → ℕ → Result (List Event) ℕ → Result (List Event) ℕ
-events_then None n later = Err n
-events_then (Some events) n (Ok later) = Ok (events ++ later)
-events_then (Some events) n (Err bad) = Err bad
-
--- the events of some numbered lines, or the number of the first bad one, where there are so many servers and connections
-abbrev pub events_of : ℕ → ℕ → List (ℕ × List ℕ) → Result (List Event) ℕ
-events_of count connections [] = Ok []
-events_of count connections (line ∷ later) = events_then (events_line count connections line.1) line.0 (events_of count connections later)
-
 -- what follows where nothing was bad
 infixl 10 ◌>>=◌
 abbrev pub ◌>>=◌ : {X Y : Type 0} → Result X ℕ → (X → Result Y ℕ) → Result Y ℕ
 (Ok x) >>= next = next x
 (Err bad) >>= next = Err bad
+
+-- the events of some numbered lines, or the number of the first bad one, where there are so many servers and connections
+abbrev pub events_of : ℕ → ℕ → List (ℕ × List ℕ) → Result (List Event) ℕ
+events_of count connections [] = Ok []
+events_of count connections (line ∷ later) = do
+  events ← ok_or (events_line count connections line.1) line.0
+  more ← events_of count connections later
+  Ok (events ++ more)
 
 -- the schedule of the lines that count: the first is `servers N`, the second `homes H ..`, each further line one of events
 abbrev pub schedule_of_lines : ℕ → List (ℕ × List ℕ) → Result ScheduleShown ℕ

@@ -1,10 +1,9 @@
-use Rattle.std.proofs.Common.{rules, tests, ◌≡◌, ◌∙◌, count_by, length, nat_eq, arith}
+use Rattle.std.proofs.Common.{rules, tests, ◌≡◌, ◌∙◌, count_by, nat_eq, arith}
 use Rattle.std.proofs.lemmas.Bool.Decides.{nat_tests}
 use Rattle.std.proofs.lemmas.List.Splits.{length-slice_split}
 use Rattle.std.proofs.lemmas.List.Sums.{length-filter}
 use Rattle.std.proofs.lemmas.Iterator.{YieldsList-from_slice}
 use Rattle.std.proofs.lemmas.Iterator.Consumers.{YieldsList-from_filter, count_from_yields_List}
-use Rattle.world.specs.Cuts.{fields_of}
 use Rattle.world.proofs.head_lines.fits.Goals as goal
 
 pub returns : goal.returns
