@@ -114,6 +114,7 @@ pub mod AskEvents
 pub mod RestingCalls
 pub mod NoneForgotten
 pub mod ShownCalls
+pub mod Awaiting
 pub mod WorkedOrders
 pub mod WorkedDirtyRead
 pub mod WorkedDirtyOrder

@@ -1,18 +1,14 @@
 -- A worked schedule: both neighbours of a server fail. It is left as the head and the tail, and its client gets its reply.
-use Rattle.std.proofs.Common.{◌≡◌, refl, ℕ, true, List, [], ◌∷◌, Some}
+use Rattle.std.proofs.Common.{◌≡◌, refl, [], ◌∷◌}
 use Rattle.std.specs.Prelude.{codes}
 use Rattle.table.specs.declared.operations.Call.{Call}
 use Rattle.table.specs.declared.operations.Reply.TheVariants.{Stored}
-use Rattle.table.specs.declared.operations.Op.TheVariants.{Set}
-use Rattle.table.specs.declared.operations.Target.TheVariants.{One}
 use Rattle.proto.specs.Words.{line_limit}
 use Rattle.node.specs.Views.{has, union, single, is_below, adds, next_from, predecessor}
 use Rattle.node.specs.Servers.{most}
 use Rattle.node.specs.Numbering.{left_open, replies, risen, appended, passed_on, take_update, entered}
 use Rattle.node.specs.Joining.{widened, taken_all, sent_again, forwarded, replies_to, promoted_to_head, promoted_to_tail, caught_up, acked_to_predecessor, asks_renewed}
 use Rattle.node.specs.Steps.{trimmed}
-use Rattle.world.specs.declared.events.Event.{Event}
-use Rattle.world.specs.declared.events.Event.TheVariants.{Piece, Begin, Work, Deliver, Fail, Tell, Hand}
 use Rattle.world.specs.Worlds.{server, link, with_server, with_link, with_connection, put_all, run_of}
 use Rattle.world.specs.Transcripts.{transcript_of}
 use Rattle.world.specs.WorkedSchedules.{set_of, alone_homes, alone_events, alone_transcript}

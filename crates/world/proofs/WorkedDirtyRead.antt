@@ -16,8 +16,6 @@ use Rattle.node.specs.Servers.{most}
 use Rattle.node.specs.Numbering.{appended, passed_on, take_update, entered}
 use Rattle.node.specs.Reading.{asked, dirty_read, answered}
 use Rattle.node.specs.Steps.{trimmed}
-use Rattle.world.specs.declared.events.Event.{Event}
-use Rattle.world.specs.declared.events.Event.TheVariants.{Piece, Begin, Work, Deliver, Hand}
 use Rattle.world.specs.Worlds.{server, link, with_server, with_link, with_connection, put_all, run_of}
 use Rattle.world.specs.Transcripts.{TranscriptShown, transcript_of}
 use Rattle.world.specs.WorkedSchedules.{set_of, get_of, dirty_homes, dirty_events, dirty_transcript}

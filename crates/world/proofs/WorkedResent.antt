@@ -25,7 +25,7 @@ use Rattle.node.specs.Numbering.{left_open, replies, risen, appended, passed_on,
 use Rattle.node.specs.Joining.{widened, taken_all, sent_again, forwarded, promoted_to_head, promoted_to_tail, caught_up, acked_to_predecessor, asks_renewed}
 use Rattle.node.specs.Steps.{trimmed}
 use Rattle.world.specs.declared.events.Event.{Event}
-use Rattle.world.specs.declared.events.Event.TheVariants.{Piece, Begin, Work, Deliver, Fail, Tell, Hand}
+use Rattle.world.specs.declared.events.Event.TheVariants.{Deliver}
 use Rattle.world.specs.declared.connections.Stage.TheVariants.{Asked}
 use Rattle.world.specs.Worlds.{World, server, link, with_server, with_link, with_connection, put_all, opening_world, happens, run_from, run_of}
 use Rattle.world.specs.Transcripts.{TranscriptShown, transcript_of}

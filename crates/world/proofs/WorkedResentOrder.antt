@@ -1,5 +1,5 @@
 -- A call that was sent again is taken once: an order that has it twice is none, though a single table would answer so.
-use Rattle.std.proofs.Common.{◌≡◌, ℕ, zero, suc, List, [], ◌∷◌, map, Option, Some, refl, sym, ap, ◌∙◌, arith, subst}
+use Rattle.std.proofs.Common.{◌≡◌, ℕ, zero, suc, List, [], ◌∷◌, Option, Some, refl, sym, ap, ◌∙◌, arith, subst}
 use Rattle.std.specs.Prelude.{slice_get, codes}
 use Rattle.std.proofs.lemmas.Fmt.{decimal_digit}
 use Rattle.std.specs.FinMap.{insert}
@@ -10,8 +10,7 @@ use Rattle.table.specs.Histories.{IsLegal, IsLegalFrom}
 use Rattle.table.specs.declared.items.Item.{Item}
 use Rattle.table.specs.declared.operations.Call.{Call}
 use Rattle.table.specs.declared.operations.Op.TheVariants.{Read, Set, Incr}
-use Rattle.table.specs.declared.operations.Reply.{Reply}
-use Rattle.table.specs.declared.operations.Reply.TheVariants.{Stored, Number, Value}
+use Rattle.table.specs.declared.operations.Reply.TheVariants.{Number, Value}
 use Rattle.table.specs.declared.operations.Target.TheVariants.{One}
 use Rattle.world.specs.Orders.{Entry, IsLinearization}
 use Rattle.world.specs.WorkedSchedules.{said, resent_homes, resent_events, resent_twice}

@@ -18,3 +18,4 @@ pub mod Orders
 pub mod Sent
 pub mod Shown
 pub mod WorkedSchedules
+pub mod Awaited

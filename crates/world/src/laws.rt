@@ -1,9 +1,14 @@
 //! Laws of every schedule: one order of calls, none forgotten, what transcripts show of them, the bytes that connections are sent, and the calls that they begin.
-ghost use Rattle.std.specs.Prelude.{◌≡◌, ℕ, ◌+◌, ◌^◌, ◌≤◌, ◌<◌, true, List, Some, length, take, slice_get};
+ghost use Rattle.std.specs.Prelude.{◌≡◌, ℕ, ◌+◌, ◌^◌, ◌≤◌, ◌<◌, true, List, ◌∷◌, Some, length, take, slice_get};
+ghost use Rattle.node.specs.Steps.{step};
+ghost use Rattle.node.specs.declared.messages.Input.TheVariants.{Call as Called, From, Gone};
+ghost use Rattle.node.specs.declared.messages.Peer.{Peer};
 ghost use Rattle.proto.specs.Streams.{turns};
+ghost use Rattle.table.specs.declared.operations.Call.{Call};
 ghost use Rattle.world.specs.declared.events.Event.{Event};
-ghost use Rattle.world.specs.Connections.{Connection};
-ghost use Rattle.world.specs.Worlds.{run_of};
+ghost use Rattle.world.specs.Awaited.{AreAwaited};
+ghost use Rattle.world.specs.Connections.{Connection, to_work, asked};
+ghost use Rattle.world.specs.Worlds.{server, link, lives, has_failed, with_connection, run_of};
 ghost use Rattle.world.specs.Calls.{CallId, begun_call, reply_to, IsBegun, IsAnswered, has_living_home};
 ghost use Rattle.world.specs.Orders.{Entry, IsLinearization};
 ghost use Rattle.world.specs.Quiet.{is_quiet};
@@ -56,4 +61,21 @@ pub fn transcripts_show_the_calls()
         call_shown (transcript_of (run_of count homes events)) x ≡ begun_call (run_of count homes events) x }
     ensures reply { (count : ℕ) (homes : List ℕ) (events : List Event) (x : CallId) →
         reply_shown (transcript_of (run_of count homes events)) x ≡ reply_to (run_of count homes events) x }
+{}
+
+/// No reply is dropped: where a server takes an input, each reply that it puts out goes to a connection at this server whose
+/// call is with it and may have this reply. So it waits there, and none is passed over by `replied`.
+pub fn no_reply_is_dropped()
+    // A begun call goes to its server.
+    ensures work { (count : ℕ) (homes : List ℕ) (events : List Event) → count ≤ 16 → (c : ℕ) (k : Connection) (call : Call) →
+        slice_get (run_of count homes events).connections c ≡ Some k → lives (run_of count homes events) k.home ≡ true → to_work k.stage k ≡ Some call →
+        AreAwaited (with_connection (run_of count homes events) c asked).connections k.home (step (server (with_connection (run_of count homes events) c asked) k.home) (Called c call)).outputs }
+    // The first message of a link is delivered.
+    ensures deliver { (count : ℕ) (homes : List ℕ) (events : List Event) → count ≤ 16 → (i j : ℕ) (m : Peer) (ms : List Peer) →
+        link (run_of count homes events) i j ≡ m ∷ ms → lives (run_of count homes events) j ≡ true →
+        AreAwaited (run_of count homes events).connections j (step (server (run_of count homes events) j) (From i m)).outputs }
+    // A server is told of a failed one.
+    ensures tell { (count : ℕ) (homes : List ℕ) (events : List Event) → count ≤ 16 → (i j : ℕ) →
+        lives (run_of count homes events) i ≡ true → has_failed (run_of count homes events) j ≡ true →
+        AreAwaited (run_of count homes events).connections i (step (server (run_of count homes events) i) (Gone j)).outputs }
 {}

@@ -26,8 +26,8 @@ mod worlds;
 pub use events::Event;
 pub use faults::SceneFault;
 pub use laws::{
-    calls_follow_the_stream, none_forgotten, one_open, one_order, sent_bytes_follow_the_stream,
-    transcripts_show_the_calls,
+    calls_follow_the_stream, no_reply_is_dropped, none_forgotten, one_open, one_order,
+    sent_bytes_follow_the_stream, transcripts_show_the_calls,
 };
 pub use printing::print_transcript;
 pub use scenes::{Scene, run};

@@ -88,7 +88,10 @@ fn events_out_of_range_have_no_effect(rt: HostRuntime) -> Result<(), Fail> {
     replay(&mut scene, &events)?;
     assert!(rt; scene.is_quiet());
     let input = piece(rt.alloc(), 0, b"get a\r\n")?;
-    replay(&mut scene, &[input, Event::Begin(0), Event::Work(0), Event::Hand(0)])?;
+    replay(
+        &mut scene,
+        &[input, Event::Begin(0), Event::Work(0), Event::Hand(0)],
+    )?;
     assert!(rt; has_sent(&scene, 0, b"END\r\n"));
     Ok(())
 }

@@ -72,7 +72,7 @@ impl Scene {
 
     /// One event. A piece costs its bytes, which are copied once; a begin, the bytes that it reads; a hand, the reply's text;
     /// a call, message or notice, the server's step, whose outputs are moved. None costs more because the world has run
-    /// long. Refused with `Memory`, which spoils the scene, and with `Spoiled` from then on.
+    /// long, but where a buffer grows. Refused with `Memory`, which spoils the scene, and with `Spoiled` from then on.
     pub fn event(&mut self, event: &Event) -> Result<(), SceneFault>
         ensures ok { OnOk result (self.new ≡ going (happens self.old.world event.now)) }
         // Memory spoils the scene, and Spoiled is answered exactly from then on.
