@@ -202,8 +202,9 @@ impl Store {
         self.clean_version(key).is_some()
     }
 
-    /// The item of a key's newest version, or none, if no entry that isn't acknowledged touches the key
-    /// (CRAQ, "Chain Replication with Apportioned Queries"). One search: time is logarithmic in the number of keys.
+    /// The newest version of a clean key: its item, or none. `None` exactly where an entry above the acknowledged number puts,
+    /// drops or clears the key (CRAQ, "Chain Replication with Apportioned Queries").
+    /// One search: time is logarithmic in the number of keys.
     pub fn clean_version(&self, key: &Key) -> Option<Option<&Item>>
         ensures clean { IsSome result ↔ IsClean self.now key.now }
         ensures newest { IfSome result (λ item. option_copied item ≡ value_at self.now key.now (last_number self.now)) }
