@@ -1,5 +1,5 @@
 //! Forwarding: how entries go down the chain, and how their acknowledgements come back up it.
-ghost use Rattle.std.specs.Prelude.{◌≡◌, ◌<◌, ◌≤◌, ◌+◌, ◌++◌, length, map, take, position, ◌==◌, OnOk};
+ghost use Rattle.std.specs.Prelude.{◌≡◌, ◌≤◌, ◌+◌, ◌++◌, length, map, take, position, ◌==◌, OnOk};
 ghost use Rattle.std.specs.VecDeque.Iter.{deque_iter_rest};
 ghost use Rattle.versions.specs.Numbers.{IsRising};
 ghost use Rattle.versions.specs.Stores.{last_number};

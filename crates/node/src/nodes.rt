@@ -37,7 +37,7 @@ impl From<AllocError> for NodeFault {
     }
 }
 
-/// One server of a chain (CRAQ, "System Model"). A step that is refused for want of memory stops it for good.
+/// One server of a chain (CRAQ, "Basic System Model"). A step that is refused for want of memory stops it for good.
 /// Contracts see a `ServerState`, and whether it is stopped (`NodeState`).
 #[derive(Drop)]
 pub struct Node {

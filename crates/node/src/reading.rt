@@ -1,5 +1,5 @@
 //! Reading: clean keys at once, dirty ones by asking the tail for its last number.
-ghost use Rattle.std.specs.Prelude.{◌≡◌, ◌<◌, ◌+◌, ◌++◌, ◌==◌, map, position, Some, OnOk, IfOk};
+ghost use Rattle.std.specs.Prelude.{◌≡◌, ◌+◌, ◌++◌, ◌==◌, map, position, Some, OnOk, IfOk};
 ghost use Rattle.std.specs.Option.{option_copied};
 ghost use Rattle.table.specs.declared.operations.Reply.TheVariants.{Value};
 ghost use Rattle.versions.specs.Numbers.{IsRising};
