@@ -1,2 +1,8 @@
-pub mod Known
+pub mod Written
+pub mod Shown
 pub mod Found
+pub mod Parsers
+pub mod Talking
+pub mod Served
+pub mod Seated
+pub mod Linked

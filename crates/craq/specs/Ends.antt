@@ -1,6 +1,10 @@
--- How the counts of a source and a sink go on, and what a write that fails leaves.
-use Rattle.std.specs.Prelude.{ℕ, ◌+◌, ◌==◌, ◌&&◌, ◌||◌, ◌≤◌, nat_le, List, length, take, Bool, Result, Ok, Err, Option, if◌then◌else◌}
-use Rattle.std.specs.Io.KnownBytes.{Appends}
+-- How the histories of a source and a sink go on, and what a write that fails leaves.
+use Rattle.std.specs.Prelude.{◌≡◌, ℕ, ◌+◌, ◌++◌, ◌==◌, ◌&&◌, ◌||◌, nat_le, List, [], length, take, Bool, Result, Ok, Err, if◌then◌else◌}
+
+-- the bytes of the slice that a read gave, or a write took: as many of the first as it answers, and none where it answers an error
+abbrev pub passed : {E : Type 0} → Result ℕ E → List ℕ → List ℕ
+passed (Ok n) bytes = take n bytes
+passed (Err e) bytes = []
 
 -- none of the bytes of a slice that isn't empty
 abbrev pub is_none_of : ℕ → List ℕ → Bool
@@ -21,6 +25,6 @@ abbrev pub ended_after_read : {E : Type 0} → Result ℕ E → List ℕ → Boo
 ended_after_read (Ok n) bytes ended = ended || is_none_of n bytes
 ended_after_read (Err e) bytes ended = ended
 
--- a beginning of the bytes was appended
-abbrev pub AppendsBeginning : Option (List ℕ) → Option (List ℕ) → List ℕ → Type 0
-AppendsBeginning old new bytes = (n : ℕ) × (n ≤ length bytes) × Appends old new (take n bytes)
+-- a beginning of the bytes was written, and nothing else
+abbrev pub WritesBeginning : List ℕ → List ℕ → List ℕ → Type 0
+WritesBeginning before after bytes = (front : List ℕ) × (rest : List ℕ) × (bytes ≡ front ++ rest) × (after ≡ before ++ front)

@@ -1,6 +1,6 @@
 -- The faults of a scenario: their exit statuses, their lines, and the faults that they come from.
-use Rattle.std.specs.Prelude.{◌≡◌, ℕ, List, ◌++◌, Option, codes, decimal}
-use Rattle.std.specs.Io.KnownBytes.{Appends}
+use Rattle.std.specs.Prelude.{◌≡◌, ◌⊎◌, ℕ, ◌+◌, List, ◌++◌, codes, decimal}
+use Rattle.craq.specs.Ends.{WritesBeginning}
 use Rattle.craq.specs.declared.faults.ScenarioFault.{ScenarioFault}
 use Rattle.craq.specs.declared.faults.ScenarioFault.TheVariants.{Memory, Unreadable, BadLine, Run}
 use Rattle.craq.specs.declared.reading.ReadFault.{ReadFault}
@@ -24,9 +24,11 @@ line_of name Unreadable = codes "craq: cannot read " ++ name ++ codes "\n"
 line_of name (BadLine number) = codes "craq: line " ++ decimal number ++ codes ": bad schedule line\n"
 line_of name Run = codes "craq: run failed\n"
 
--- the fault's line was added to the errors, unless a write to them failed
-abbrev pub IsTold : List ℕ → ScenarioFault → ℕ → ℕ → Option (List ℕ) → Option (List ℕ) → Type 0
-IsTold name fault failed_before failed_after before after = failed_after ≡ failed_before → Appends before after (line_of name fault)
+-- the fault's line was written to the errors; or a write to them failed, and a beginning of the line was written
+abbrev pub IsTold : List ℕ → ScenarioFault → ℕ → ℕ → List ℕ → List ℕ → Type 0
+IsTold name fault failed_before failed_after before after =
+    ((failed_after ≡ failed_before) × (after ≡ before ++ line_of name fault))
+    ⊎ ((failed_after ≡ failed_before + 1) × WritesBeginning before after (line_of name fault))
 
 -- the fault of a source that wasn't read
 abbrev pub of_reading : ReadFault → ScenarioFault

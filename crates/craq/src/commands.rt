@@ -11,6 +11,8 @@ pub enum Command {
         /// The name of the schedule's file.
         file: String,
     },
+    /// Prints the program's name and its version.
+    Version,
 }
 
 /// Why a command line is refused.

@@ -1,43 +1,44 @@
 //! Counts that contracts alone see.
-ghost use Rattle.std.specs.Prelude.{◌≡◌, ◌+◌, ◌<◌};
+ghost use Rattle.std.specs.Prelude.{◌≡◌, ◌+◌, ◌∷◌};
 
+use boxcar::tag::{Names, Tag};
 use std::marker::Model;
-use std::sync::ledger::{Blank, Book, Ledger, Share};
 
-/// A count without an upper bound, which takes no bytes: `rise` does nothing when the program runs.
+/// A count without an upper bound, which takes no memory: `rise` does nothing when the program runs.
 /// Contracts see it as a number.
 #[derive(Drop)]
-pub struct Failures<L: Ledger> {
-    book: Book<L>,
-    share: Share<L>,
+pub struct Failures {
+    // A number for each failure.
+    tag: Tag,
 }
 
-impl<L: Ledger> Model for Failures<L> {
-    ghost use Rattle.std.specs.Prelude.{ℕ, ◌<◌};
+impl Model for Failures {
+    ghost use Rattle.std.specs.Prelude.{ℕ, length};
 
     ghost Value = { ℕ };
 
-    ghost view = { λ f. f.book.total };
-
-    ghost invariant = { λ f. 0 < f.share.parts };
+    ghost view = { λ f. length f.tag.numbers };
 }
 
-impl<L: Ledger> Failures<L> {
-    /// A count of 0. The ledger that it counts in is the blank's.
-    pub fn new(blank: Blank) -> Failures<L>
-        requires name { blank.name ≡ L.name }
-        requires parts { blank.parts ≡ L.parts }
-        requires some { 0 < L.parts }
+impl Failures {
+    /// A count of 0.
+    pub fn new() -> Failures
         ensures { result ≡ 0 }
     {
-        let (book, share) = blank.open::<L>();
-        Failures { book, share }
+        Failures { tag: Tag::empty() }
     }
 
     /// One more.
     pub fn rise(&mut self)
         ensures { self.new ≡ self.old + 1 }
     {
-        self.book.add(&mut self.share, 1);
+        let tag = Tag::of::<Tag, OneMore>(&self.tag);
+        self.tag = tag;
     }
+}
+
+struct OneMore;
+
+impl Names<Tag> for OneMore {
+    ghost numbers = { λ tag. 0 ∷ tag.numbers };
 }

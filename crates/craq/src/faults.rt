@@ -1,6 +1,6 @@
 //! Why a scenario ends early: the exit status of each cause, and its line.
 ghost use Rattle.std.specs.Prelude.{◌≡◌, ◌+◌, ◌++◌, OnOk, OnErr};
-ghost use Rattle.std.specs.Io.KnownBytes.{Appends};
+ghost use Rattle.craq.specs.Ends.{WritesBeginning};
 
 use crate::reading::ReadFault;
 use crate::sinks::Sink;
@@ -41,7 +41,7 @@ pub enum ScenarioFault {
 
 impl ScenarioFault {
     ghost use Rattle.std.specs.Prelude.{◌≡◌, ◌+◌, OnOk, OnErr};
-    ghost use Rattle.std.specs.Io.KnownBytes.{Appends};
+    ghost use Rattle.craq.specs.Ends.{WritesBeginning};
     ghost use Rattle.craq.specs.Faults.{status_of, line_of};
 
     /// The exit status: 3 for want of memory, else 1.
@@ -56,8 +56,9 @@ impl ScenarioFault {
 
     /// Tells the fault in one line, with the name of the schedule's file. It allocates nothing.
     pub fn tell<X: Sink>(self, name: &str, errors: &mut X) -> Result<(), WriteFault>
-        ensures told { OnOk result (Appends (X.contents errors.old) (X.contents errors.new) (line_of name.now self)) }
+        ensures told { OnOk result (X.written errors.new ≡ X.written errors.old ++ line_of name.now self) }
         ensures none_failed { OnOk result (X.failures errors.new ≡ X.failures errors.old) }
+        ensures begun { OnErr result (WritesBeginning (X.written errors.old) (X.written errors.new) (line_of name.now self)) }
         ensures failed { OnErr result (X.failures errors.new ≡ X.failures errors.old + 1) }
     {
         match self {
@@ -81,8 +82,9 @@ fn write_parts<X: Sink>(
     middle: &[u8],
     end: &[u8],
 ) -> Result<(), WriteFault>
-    ensures written { OnOk result (Appends (X.contents errors.old) (X.contents errors.new) (start.now ++ middle.now ++ end.now)) }
+    ensures written { OnOk result (X.written errors.new ≡ X.written errors.old ++ (start.now ++ middle.now ++ end.now)) }
     ensures none_failed { OnOk result (X.failures errors.new ≡ X.failures errors.old) }
+    ensures begun { OnErr result (WritesBeginning (X.written errors.old) (X.written errors.new) (start.now ++ middle.now ++ end.now)) }
     ensures failed { OnErr result (X.failures errors.new ≡ X.failures errors.old + 1) }
 {
     write_all(errors, start)?;

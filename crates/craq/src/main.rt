@@ -1,39 +1,64 @@
 //! The program `craq`: its command line, and what its commands do between a source and a sink.
 #![tactic(auto)]
 
-ghost use Rattle.std.specs.Prelude.{◌≡◌, ◌<◌};
-
+mod callers;
+mod cluster_words;
+mod clusters;
 mod commands;
+mod doors;
 mod failures;
 mod faults;
+mod in_process_links;
+mod marks;
+mod passages;
 mod program;
 mod reading;
 mod scenarios;
+mod seat_callers;
+mod serving;
 mod sinks;
 mod sources;
+mod steering;
+mod talks;
 mod words;
+mod working;
 mod writing;
 
-use failures::Failures;
-use program::run;
-use sinks::CountedWriter;
-use std::marker::Brand;
+use commands::UsageFault;
+use faults::{MEMORY, USAGE};
+use program::{run, words_of_cluster};
+use sinks::TrackedWriter;
+use sources::TrackedReader;
 use std::process::ExitCode;
-use std::sync::ledger::{Blank, Ledger};
+use steering::cluster;
+use writing::write_all;
 
 fn main(rt: HostRuntime) -> ExitCode {
-    ExitCode::from(counted::<Brand, Brand>(&rt, Blank::new(1), Blank::new(1)))
-}
-
-// The program over the standard streams, each with a count of its failures.
-fn counted<K: Ledger, L: Ledger>(rt: &HostRuntime, of_output: Blank, of_errors: Blank) -> u8
-    requires names { (of_output.name ≡ K.name) × (of_errors.name ≡ L.name) }
-    requires parts { (of_output.parts ≡ K.parts) × (of_errors.parts ≡ L.parts) }
-    requires some { (0 < K.parts) × (0 < L.parts) }
-{
-    let mut output = CountedWriter::new(rt.stdout(), Failures::<K>::new(of_output));
-    let mut errors = CountedWriter::new(rt.stderr(), Failures::<L>::new(of_errors));
-    run(rt, &mut output, &mut errors)
+    let mut output = TrackedWriter::new(rt.stdout());
+    let mut errors = TrackedWriter::new(rt.stderr());
+    let status = match words_of_cluster(&rt) {
+        Ok(Some(numbers)) => {
+            let mut input = TrackedReader::new(rt.reader());
+            cluster(
+                rt,
+                rt.alloc(),
+                numbers,
+                &mut input,
+                &mut output,
+                &mut errors,
+            )
+        }
+        Ok(None) => run(&rt, &mut output, &mut errors),
+        Err(UsageFault::Usage(text)) => {
+            let _ = write_all(&mut errors, text.as_bytes());
+            USAGE
+        }
+        Err(UsageFault::Memory) => {
+            let _ = write_all(&mut errors, b"craq: out of memory\n");
+            MEMORY
+        }
+    };
+    ExitCode::from(status)
 }
 
 #[cfg(test)]

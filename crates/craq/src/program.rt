@@ -1,53 +1,55 @@
 //! The program between its arguments, its files and its standard streams.
-ghost use Rattle.std.specs.Prelude.{◌≡◌, ◌≢◌, ◌<◌, ◌≤◌, ℕ, List, string_bytes};
+ghost use Rattle.std.specs.Prelude.{◌≡◌, ◌≢◌, ◌<◌, ◌≤◌, ◌++◌, ℕ, List, [], string_bytes};
 ghost use Rattle.std.specs.IoError.{error_kind};
 ghost use Rattle.craq.specs.Faults.{IsTold, status_of};
-ghost use Rattle.craq.specs.Scenarios.{IsScenarioStatus, ShowsSome};
+ghost use Rattle.craq.specs.Commands.{version_line};
+ghost use Rattle.craq.specs.Ends.{WritesBeginning};
+ghost use Rattle.craq.specs.Programs.{BeginsOutput, WritesOutput};
+ghost use Rattle.craq.specs.Scenarios.{IsScenarioStatus};
 ghost use Rattle.craq.specs.declared.faults.ScenarioFault.{ScenarioFault};
 ghost use Rattle.craq.specs.declared.faults.ScenarioFault.TheVariants.{Run};
 
+use crate::cluster_words::cluster_numbers;
+use crate::clusters::Numbers;
 use crate::commands::{Command, UsageFault};
-use crate::failures::Failures;
 use crate::faults::{DONE, MEMORY, ScenarioFault, USAGE};
 use crate::scenarios::scenario;
 use crate::sinks::Sink;
-use crate::sources::CountedReader;
+use crate::sources::TrackedReader;
 use crate::words::command;
-use crate::writing::write_all;
+use crate::writing::{WriteFault, write_all};
 use std::io::ErrorKind;
-use std::marker::Brand;
 use std::rt::{Env, Files};
-use std::sync::ledger::{Blank, Ledger};
 use std::{env, fs, io};
 
 /// Does what the program's arguments ask for, and answers its exit status.
 ///
-/// - 0: the transcript was printed.
+/// - 0: the transcript, or the version, was printed.
 /// - 1: the file or a line of it is bad, or the output can't be written.
 /// - 2: the arguments are no command; the parser's text goes to `errors`.
 /// - 3: no memory was left.
-pub fn run<R: Env + Files + AllocGlobal, W: Sink, X: Sink>(
+pub fn run<R: Env + Files + Input + AllocGlobal, W: Sink, X: Sink>(
     rt: &R,
     output: &mut W,
     errors: &mut X,
 ) -> u8
     ensures status { result ≤ 3 }
-    // Done: the output got the text of what a schedule's run shows, and the errors got nothing.
-    ensures shown { result ≡ DONE → ShowsSome (W.contents output.old) (W.contents output.new) }
+    // Done: the output got the text of what a schedule's run shows, or the version's line, and the errors got nothing.
+    ensures shown { result ≡ DONE → WritesOutput (W.written output.old) (W.written output.new) }
     ensures written { result ≡ DONE → W.failures output.new ≡ W.failures output.old }
     ensures silent { result ≡ DONE → errors.new ≡ errors.old }
     // Else, but for a usage fault, one line tells a fault of that status, with the name of a file
     // (which one the arguments named has no contract to be checked against).
     ensures fault { result ≢ DONE → result ≢ USAGE → (name : List ℕ) × (fault : ScenarioFault) × (result ≡ status_of fault) ×
         (fault ≡ Run → W.failures output.old < W.failures output.new) ×
-        IsTold name fault (X.failures errors.old) (X.failures errors.new) (X.contents errors.old) (X.contents errors.new) }
+        IsTold name fault (X.failures errors.old) (X.failures errors.new) (X.written errors.old) (X.written errors.new) }
     ensures usage { result ≡ USAGE → output.new ≡ output.old }
+    ensures begun { W.failures output.old < W.failures output.new → BeginsOutput (W.written output.old) (W.written output.new) }
     ensures untouched { result ≢ DONE → W.failures output.new ≡ W.failures output.old → output.new ≡ output.old }
 {
     match command_line(rt) {
-        Ok(Command::Scenario { file }) => {
-            replay_file::<R, W, X, Brand>(rt, file, output, errors, Blank::new(1))
-        }
+        Ok(Command::Scenario { file }) => replay_file(rt, file, output, errors),
+        Ok(Command::Version) => print_version(output, errors),
         Err(UsageFault::Usage(text)) => {
             let _ = write_all(errors, text.as_bytes());
             USAGE
@@ -68,6 +70,16 @@ fn command_line<R: Env + AllocGlobal>(rt: &R) -> Result<Command, UsageFault> {
     command(rt.alloc(), words.as_slice())
 }
 
+/// The numbers that the program's arguments give to `cluster`; none if they name another command.
+pub fn words_of_cluster<R: Env + AllocGlobal>(rt: &R) -> Result<Option<Numbers>, UsageFault> {
+    let arguments: Vec<String> = arguments(rt)?;
+    let words: Vec<&str> = arguments
+        .iter()
+        .map(|word| word.as_str())
+        .collect(rt.alloc())?;
+    cluster_numbers(rt.alloc(), words.as_slice())
+}
+
 fn arguments<R: Env + AllocGlobal>(rt: &R) -> Result<Vec<String>, UsageFault> {
     match env::args(rt) {
         Ok(arguments) => Ok(arguments.collect(rt.alloc())?),
@@ -79,34 +91,55 @@ fn arguments<R: Env + AllocGlobal>(rt: &R) -> Result<Vec<String>, UsageFault> {
     }
 }
 
-fn replay_file<R: Files + AllocGlobal, W: Sink, X: Sink, L: Ledger>(
+// The file `-` is the standard input.
+fn replay_file<R: Files + Input + AllocGlobal, W: Sink, X: Sink>(
     rt: &R,
     file: String,
     output: &mut W,
     errors: &mut X,
-    blank: Blank,
 ) -> u8
-    requires name { blank.name ≡ L.name }
-    requires parts { blank.parts ≡ L.parts }
-    requires some { 0 < L.parts }
     ensures status { IsScenarioStatus result }
-    ensures shown { result ≡ DONE → ShowsSome (W.contents output.old) (W.contents output.new) }
+    ensures shown { result ≡ DONE → WritesOutput (W.written output.old) (W.written output.new) }
     ensures written { result ≡ DONE → W.failures output.new ≡ W.failures output.old }
     ensures silent { result ≡ DONE → errors.new ≡ errors.old }
     ensures fault { result ≢ DONE → (fault : ScenarioFault) × (result ≡ status_of fault) × (fault ≡ Run → W.failures output.old < W.failures output.new) ×
-        IsTold (string_bytes file) fault (X.failures errors.old) (X.failures errors.new) (X.contents errors.old) (X.contents errors.new) }
+        IsTold (string_bytes file) fault (X.failures errors.old) (X.failures errors.new) (X.written errors.old) (X.written errors.new) }
+    ensures begun { W.failures output.old < W.failures output.new → BeginsOutput (W.written output.old) (W.written output.new) }
     ensures untouched { result ≢ DONE → W.failures output.new ≡ W.failures output.old → output.new ≡ output.old }
 {
     let file = file.as_str();
+    if file == "-" {
+        let mut source = TrackedReader::new(rt.reader());
+        return scenario(rt.alloc(), file, &mut source, output, errors);
+    }
     match fs::open(rt, file) {
         Ok(opened) => {
-            let mut source = CountedReader::new(opened, Failures::<L>::new(blank));
+            let mut source = TrackedReader::new(opened);
             scenario(rt.alloc(), file, &mut source, output, errors)
         }
         Err(e) => {
             let fault = unopened(&e);
             let _ = fault.tell(file, errors);
             fault.status()
+        }
+    }
+}
+
+fn print_version<W: Sink, X: Sink>(output: &mut W, errors: &mut X) -> u8
+    ensures status { IsScenarioStatus result }
+    ensures shown { result ≡ DONE → W.written output.new ≡ W.written output.old ++ version_line }
+    ensures written { result ≡ DONE → W.failures output.new ≡ W.failures output.old }
+    ensures silent { result ≡ DONE → errors.new ≡ errors.old }
+    ensures fault { result ≢ DONE → (result ≡ status_of Run) × (W.failures output.old < W.failures output.new) ×
+        IsTold [] Run (X.failures errors.old) (X.failures errors.new) (X.written errors.old) (X.written errors.new) }
+    ensures begun { W.failures output.old < W.failures output.new →
+        WritesBeginning (W.written output.old) (W.written output.new) version_line }
+{
+    match write_all(output, b"craq 0.1.0\n") {
+        Ok(()) => DONE,
+        Err(WriteFault) => {
+            let _ = ScenarioFault::Run.tell("", errors);
+            ScenarioFault::Run.status()
         }
     }
 }

@@ -1,6 +1,5 @@
 //! Reading a source to its end.
-ghost use Rattle.std.specs.Prelude.{◌≡◌, ◌<◌, ◌↔◌, IfOk, OnOk, IsErrOf, true};
-ghost use Rattle.std.specs.Io.KnownBytes.{Consumes, IsAtEnd};
+ghost use Rattle.std.specs.Prelude.{◌≡◌, ◌<◌, ◌++◌, ◌↔◌, IfOk, OnOk, IsErrOf, true};
 ghost use Rattle.craq.specs.declared.reading.ReadFault.TheVariants.{Memory};
 
 use crate::sources::Source;
@@ -29,11 +28,10 @@ impl From<AllocError> for ReadFault {
 /// The most bytes of one read.
 const PIECE: usize = 4096;
 
-/// All that is left in the source, read in pieces of 4,096 bytes. It takes time linear in the length.
+/// All that the source gives until its input ends, read in pieces of 4,096 bytes. It takes time linear in the length.
 /// A read that a signal interrupts is a failed one: it isn't tried again.
 pub fn read_to_end<R: Source>(alloc: Global, source: &mut R) -> Result<Vec<u8>, ReadFault>
-    ensures bytes { IfOk result (λ all. Consumes (R.remaining source.old) (R.remaining source.new) all.items) }
-    ensures left { OnOk result (IsAtEnd (R.remaining source.new)) }
+    ensures bytes { IfOk result (λ all. R.given source.new ≡ R.given source.old ++ all.items) }
     ensures ended { OnOk result (R.has_ended source.new ≡ true) }
     ensures none_failed { OnOk result (R.failures source.new ≡ R.failures source.old) }
     ensures failed { IsErrOf result ReadFault.Read ↔ (R.failures source.old < R.failures source.new) }

@@ -1,7 +1,7 @@
 //! The command `scenario`: a schedule in, its transcript out.
 ghost use Rattle.std.specs.Prelude.{◌≡◌, ◌≢◌, ◌<◌, ◌↔◌, OnOk, OnErr, IfOk, IfErr, IsErrOf, true};
 ghost use Rattle.craq.specs.Faults.{IsTold, status_of};
-ghost use Rattle.craq.specs.Scenarios.{IsScenarioStatus, NamesLine, NamesLineOf, Replays, Shows};
+ghost use Rattle.craq.specs.Scenarios.{IsScenarioStatus, NamesLine, NamesLineOf, Replays, Shows, ShowsBeginning};
 ghost use Rattle.craq.specs.declared.faults.ScenarioFault.{ScenarioFault};
 ghost use Rattle.craq.specs.declared.faults.ScenarioFault.TheVariants.{Unreadable, Run};
 
@@ -26,7 +26,7 @@ pub fn scenario<R: Source, W: Sink, X: Sink>(
     ensures status { IsScenarioStatus result }
 
     // Done: all was read, and all was written.
-    ensures shown { result ≡ DONE → Shows (R.remaining source.old) (R.remaining source.new) (W.contents sink.old) (W.contents sink.new) }
+    ensures shown { result ≡ DONE → Shows (R.given source.old) (R.given source.new) (W.written sink.old) (W.written sink.new) }
     ensures ended { result ≡ DONE → R.has_ended source.new ≡ true }
     ensures read { result ≡ DONE → R.failures source.new ≡ R.failures source.old }
     ensures written { result ≡ DONE → W.failures sink.new ≡ W.failures sink.old }
@@ -34,13 +34,17 @@ pub fn scenario<R: Source, W: Sink, X: Sink>(
 
     // Else the status is that of a fault, which has its cause, and which one line tells where the errors can be written.
     ensures fault { result ≢ DONE → (fault : ScenarioFault) × (result ≡ status_of fault) ×
-        (fault ≡ Unreadable → R.failures source.old < R.failures source.new) × NamesLineOf (R.remaining source.old) (R.remaining source.new) fault ×
+        (fault ≡ Unreadable → R.failures source.old < R.failures source.new) ×
+        NamesLineOf (R.given source.old) (R.given source.new) (R.has_ended source.new) fault ×
         (fault ≡ Run → W.failures sink.old < W.failures sink.new) ×
-        IsTold name.now fault (X.failures errors.old) (X.failures errors.new) (X.contents errors.old) (X.contents errors.new) }
+        IsTold name.now fault (X.failures errors.old) (X.failures errors.new) (X.written errors.old) (X.written errors.new) }
     ensures unreadable { R.failures source.old < R.failures source.new → (result ≡ FAILED) ×
-        IsTold name.now Unreadable (X.failures errors.old) (X.failures errors.new) (X.contents errors.old) (X.contents errors.new) }
+        IsTold name.now Unreadable (X.failures errors.old) (X.failures errors.new) (X.written errors.old) (X.written errors.new) }
     ensures unwritten { W.failures sink.old < W.failures sink.new → (result ≡ FAILED) ×
-        IsTold name.now Run (X.failures errors.old) (X.failures errors.new) (X.contents errors.old) (X.contents errors.new) }
+        IsTold name.now Run (X.failures errors.old) (X.failures errors.new) (X.written errors.old) (X.written errors.new) }
+    // A write failed: all was read, and a beginning of the text was written.
+    ensures begun { W.failures sink.old < W.failures sink.new →
+        ShowsBeginning (R.given source.old) (R.given source.new) (W.written sink.old) (W.written sink.new) × (R.has_ended source.new ≡ true) }
     ensures untouched { result ≢ DONE → W.failures sink.new ≡ W.failures sink.old → sink.new ≡ sink.old }
 {
     match replay(alloc, source, sink) {
@@ -57,13 +61,15 @@ fn replay<R: Source, W: Sink>(
     source: &mut R,
     sink: &mut W,
 ) -> Result<(), ScenarioFault>
-    ensures shown { OnOk result (Shows (R.remaining source.old) (R.remaining source.new) (W.contents sink.old) (W.contents sink.new)) }
+    ensures shown { OnOk result (Shows (R.given source.old) (R.given source.new) (W.written sink.old) (W.written sink.new)) }
     ensures ended { OnOk result (R.has_ended source.new ≡ true) }
     ensures read { OnOk result (R.failures source.new ≡ R.failures source.old) }
     ensures written { OnOk result (W.failures sink.new ≡ W.failures sink.old) }
     ensures unreadable { IsErrOf result ScenarioFault.Unreadable ↔ (R.failures source.old < R.failures source.new) }
     ensures unwritten { IsErrOf result ScenarioFault.Run ↔ (W.failures sink.old < W.failures sink.new) }
-    ensures bad_line { IfErr result (NamesLineOf (R.remaining source.old) (R.remaining source.new)) }
+    ensures bad_line { IfErr result (NamesLineOf (R.given source.old) (R.given source.new) (R.has_ended source.new)) }
+    ensures begun { W.failures sink.old < W.failures sink.new →
+        ShowsBeginning (R.given source.old) (R.given source.new) (W.written sink.old) (W.written sink.new) × (R.has_ended source.new ≡ true) }
     ensures untouched { OnErr result (W.failures sink.new ≡ W.failures sink.old → sink.new ≡ sink.old) }
 {
     let schedule = read_to_end(alloc, source)?;

@@ -1,17 +1,18 @@
-//! Where bytes go: std's writers, each with a count of its failures.
-ghost use Rattle.std.specs.Prelude.{◌≡◌, ℕ, List, Option};
+//! Where bytes go: any writer of std, with the history of its writes that contracts see.
+ghost use Rattle.std.specs.Prelude.{◌≡◌, ◌++◌, ℕ, List, [], Some};
 ghost use Rattle.std.specs.Io.{WritesAtMost};
-ghost use Rattle.std.specs.Io.KnownBytes.{WriteAppends};
-ghost use Rattle.craq.specs.Ends.{failures_after_write};
+ghost use Rattle.std.specs.Option.{ForSome};
+ghost use Rattle.craq.specs.Ends.{failures_after_write, passed};
 
 use crate::failures::Failures;
+use crate::passages::Passed;
 use std::io;
-use std::sync::ledger::Ledger;
+use std::snapshot::Snapshot;
 
-/// Where bytes go: std's `write`, with a count of its failures that contracts alone see.
+/// Where bytes go: std's `write`, with a history that contracts alone see.
 pub trait Sink {
-    /// The bytes that it holds, where they are known.
-    ghost contents: { Self → Option (List ℕ) };
+    /// The bytes that its writes took, in order.
+    ghost written: { Self → List ℕ };
 
     /// How many of its writes have failed.
     ghost failures: { Self → ℕ };
@@ -20,31 +21,45 @@ pub trait Sink {
     /// and where it takes none of a slice that isn't empty.
     fn write(&mut self, bytes: &[u8]) -> io::Result<usize>
         ensures bound { WritesAtMost result bytes.now }
-        ensures bytes { WriteAppends (contents self.old) (contents self.new) result bytes.now }
+        ensures written { written self.new ≡ written self.old ++ passed result bytes.now }
         ensures counted { failures self.new ≡ failures_after_write result bytes.now (failures self.old) };
 }
 
-/// Any writer of std as a sink.
+/// Any writer of std as a sink: a standard stream, a socket, a vector.
 #[derive(Drop)]
-pub struct CountedWriter<W, L: Ledger> {
+pub struct TrackedWriter<W: io::Write> {
     /// The writer.
     pub inner: W,
+    /// The writer as it was at first, for contracts alone.
+    pub first: Snapshot<W>,
+    /// The bytes that its writes took.
+    pub written: Passed,
     /// How many writes answered an error, or took no byte of a slice that isn't empty.
-    pub failures: Failures<L>,
+    pub failures: Failures,
+    // If std tells which bytes the writer held at first, it holds those, and then those that were written.
+    ghost told: { ForSome (W.contents first.value) (λ held. W.contents inner ≡ Some (held ++ written)) },
 }
 
-impl<W, L: Ledger> CountedWriter<W, L> {
-    /// A writer that has failed this often.
-    pub fn new(inner: W, failures: Failures<L>) -> CountedWriter<W, L>
+impl<W: io::Write> TrackedWriter<W> {
+    /// A writer to which nothing has been written yet.
+    pub fn new(inner: W) -> TrackedWriter<W>
         ensures inner { result.inner ≡ inner }
-        ensures failures { result.failures ≡ failures }
+        ensures first { result.first.value ≡ inner }
+        ensures written { result.written ≡ [] }
+        ensures failures { result.failures ≡ 0 }
     {
-        CountedWriter { inner, failures }
+        let first = Snapshot::of(&inner);
+        TrackedWriter {
+            inner,
+            first,
+            written: Passed::new(),
+            failures: Failures::new(),
+        }
     }
 }
 
-impl<W: io::Write, L: Ledger> Sink for CountedWriter<W, L> {
-    ghost contents = { λ s. W.contents s.inner };
+impl<W: io::Write> Sink for TrackedWriter<W> {
+    ghost written = { λ s. s.written };
 
     ghost failures = { λ s. s.failures };
 
@@ -52,7 +67,7 @@ impl<W: io::Write, L: Ledger> Sink for CountedWriter<W, L> {
         let result = self.inner.write(bytes);
         match &result {
             Ok(0) if !bytes.is_empty() => self.failures.rise(),
-            Ok(_) => {}
+            Ok(n) => self.written.add(&bytes[..*n]),
             Err(_) => self.failures.rise(),
         }
         result

@@ -1,17 +1,14 @@
-ghost use Rattle.std.specs.Prelude.{◌≡◌, ◌<◌};
-
 use crate::commands::{Command, UsageFault};
-use crate::failures::Failures;
 use crate::scenarios::scenario;
-use crate::sinks::CountedWriter;
-use crate::sources::CountedReader;
+use crate::sinks::TrackedWriter;
+use crate::sources::TrackedReader;
 use crate::words::command;
 use std::alloc::Global;
 use std::io;
 use std::io::{Error, ErrorKind};
-use std::marker::Brand;
-use std::sync::ledger::{Blank, Ledger};
 use std::test::Fail;
+
+mod serving;
 
 const SET_THEN_GETS: &[u8] =
     b"servers 1\nhomes 0\npiece 0 set a 5 0 3\\r\\nxyz\\r\\ngets a\\r\\n\nbegin 0\nwork 0\nhand 0\nbegin 0\nwork 0\nhand 0\n";
@@ -71,35 +68,17 @@ struct Left {
 }
 
 // A scenario over a reader that fails after `reads` bytes and a writer that fails after `writes`.
-fn replay<K: Ledger, L: Ledger, M: Ledger>(
-    alloc: Global,
-    bytes: &[u8],
-    reads: usize,
-    writes: usize,
-    blanks: (Blank, Blank, Blank),
-) -> Left
-    requires names { (blanks.0.name ≡ K.name) × (blanks.1.name ≡ L.name) × (blanks.2.name ≡ M.name) }
-    requires parts { (blanks.0.parts ≡ K.parts) × (blanks.1.parts ≡ L.parts) × (blanks.2.parts ≡ M.parts) }
-    requires some { (0 < K.parts) × (0 < L.parts) × (0 < M.parts) }
-{
-    let (of_source, of_sink, of_errors) = blanks;
-    let reader = FailingReader { bytes, left: reads };
+fn replayed(alloc: Global, bytes: &[u8], reads: usize, writes: usize) -> Left {
     let held = Vec::new(alloc);
-    let writer = FailingWriter { held, left: writes };
-    let mut source = CountedReader::new(reader, Failures::<K>::new(of_source));
-    let mut sink = CountedWriter::new(writer, Failures::<L>::new(of_sink));
-    let mut errors = CountedWriter::new(Vec::new(alloc), Failures::<M>::new(of_errors));
+    let mut source = TrackedReader::new(FailingReader { bytes, left: reads });
+    let mut sink = TrackedWriter::new(FailingWriter { held, left: writes });
+    let mut errors = TrackedWriter::new(Vec::new(alloc));
     let status = scenario(alloc, "a.schedule", &mut source, &mut sink, &mut errors);
     Left {
         status,
         output: sink.inner.held,
         errors: errors.inner,
     }
-}
-
-fn replayed(alloc: Global, bytes: &[u8], reads: usize, writes: usize) -> Left {
-    let blanks = (Blank::new(1), Blank::new(1), Blank::new(1));
-    replay::<Brand, Brand, Brand>(alloc, bytes, reads, writes, blanks)
 }
 
 #[test]
@@ -169,7 +148,23 @@ fn words_name_a_file(rt: HostRuntime) -> Result<(), Fail> {
     for words in rows {
         match command(rt.alloc(), words) {
             Ok(Command::Scenario { file }) => assert_eq!(rt; file.as_str(), "a b"),
-            Err(_) => return Err("a file was named".into()),
+            _ => return Err("a file was named".into()),
+        }
+    }
+    Ok(())
+}
+
+#[test]
+fn words_ask_for_the_version(rt: HostRuntime) -> Result<(), Fail> {
+    let rows: [&[&str]; 3] = [
+        &["craq", "--version"],
+        &["craq", "-V"],
+        &["craq", "--version", "scenario"],
+    ];
+    for words in rows {
+        match command(rt.alloc(), words) {
+            Ok(Command::Version) => {}
+            _ => return Err("the version was asked for".into()),
         }
     }
     Ok(())

@@ -1,7 +1,6 @@
 //! Writing all of a text to a sink.
-ghost use Rattle.std.specs.Prelude.{◌≡◌, ◌+◌, OnOk, OnErr};
-ghost use Rattle.std.specs.Io.KnownBytes.{Appends};
-ghost use Rattle.craq.specs.Ends.{AppendsBeginning};
+ghost use Rattle.std.specs.Prelude.{◌≡◌, ◌+◌, ◌++◌, OnOk, OnErr};
+ghost use Rattle.craq.specs.Ends.{WritesBeginning};
 
 use crate::sinks::Sink;
 use thiserror::Error;
@@ -14,9 +13,9 @@ pub struct WriteFault;
 /// Writes all of the bytes. After a fault a beginning of them was written.
 /// A write that a signal interrupts is a failed one: it isn't tried again.
 pub fn write_all<W: Sink>(sink: &mut W, bytes: &[u8]) -> Result<(), WriteFault>
-    ensures written { OnOk result (Appends (W.contents sink.old) (W.contents sink.new) bytes.now) }
+    ensures written { OnOk result (W.written sink.new ≡ W.written sink.old ++ bytes.now) }
     ensures none_failed { OnOk result (W.failures sink.new ≡ W.failures sink.old) }
-    ensures begun { OnErr result (AppendsBeginning (W.contents sink.old) (W.contents sink.new) bytes.now) }
+    ensures begun { OnErr result (WritesBeginning (W.written sink.old) (W.written sink.new) bytes.now) }
     ensures failed { OnErr result (W.failures sink.new ≡ W.failures sink.old + 1) }
 {
     let mut at = 0;

@@ -15,6 +15,12 @@ pub mod Addresses
 pub mod StepAddresses
 pub mod Fitness
 pub mod StepFitness
+pub mod Counts
+pub mod Closing
+pub mod StepCloses
+pub mod RunLaws
+pub mod PortLaws
 pub mod FaceLaws
 pub mod Growth
 pub mod FaceChanges
+pub mod Openings

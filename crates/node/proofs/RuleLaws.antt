@@ -1,5 +1,5 @@
 -- Every rule keeps what every server keeps.
-use Rattle.std.proofs.Common.{◌≡◌, ℕ, ◌+◌, ◌-◌, ◌<◌, ◌≤◌, nat_lt, nat_le, ◌==◌, ◌&&◌, true, false, not, List, [], ◌∷◌, ◌++◌, length, drop, Option, Some, None, refl, sym, ap, ◌∙◌, arith, length-drop, length-append}
+use Rattle.std.proofs.Common.{◌≡◌, ℕ, ◌+◌, ◌-◌, ◌<◌, ◌≤◌, nat_lt, nat_le, ◌==◌, ◌&&◌, true, false, not, List, [], ◌∷◌, ◌++◌, length, Option, Some, None, refl, sym, ap, ◌∙◌, arith, length-append}
 use Rattle.std.specs.List.{list_any}
 use Rattle.std.proofs.lemmas.Bool.{cond_both, and_parts, eqb-true, ltb-true, ltb-false, leb-true, not-true, both_ways, eqb-false}
 use Rattle.std.proofs.lemmas.List.{drop_all}
@@ -10,7 +10,7 @@ use Rattle.table.specs.declared.operations.Call.{Call}
 use Rattle.table.specs.declared.operations.Target.{Target}
 use Rattle.table.specs.declared.operations.Target.TheVariants.{One, All}
 use Rattle.versions.specs.Entries.{LogEntry, IsEntry}
-use Rattle.versions.specs.Stores.{StoreState, last_number, dropped_to, entries_after, is_clean, touches}
+use Rattle.versions.specs.Stores.{last_number, entries_after, is_clean, touches}
 use Rattle.node.specs.declared.servers.OpenUpdate.{OpenUpdate}
 use Rattle.node.specs.declared.servers.OpenRead.{OpenRead}
 use Rattle.node.specs.declared.messages.Body.{Body}
@@ -25,6 +25,7 @@ use Rattle.node.specs.Reading.{asked, dirty_read, read, read_of, receive_query, 
 use Rattle.node.specs.Joining.{widened, taken_all, promoted_to_head, promoted_to_tail, caught_up, acked_to_predecessor, asks_renewed, rejoined, join}
 use Rattle.node.specs.Steps.{call, gone, receive, received, is_heard, from_peer, taken_in, least_open, trimmed, step}
 use Rattle.node.specs.Lawful.{IsCall, IsBody, IsInput, HasEntry, HoldsEntry, AreUpdates, IsSound, IsSettled, IsLawful}
+pub use Rattle.versions.proofs.StoreLaws.{last-dropped}
 use Rattle.node.proofs.ViewLaws.{has-single_other, below-single, below-empty, nowhere}
 use Rattle.node.proofs.DecisionLaws.{decided}
 use Rattle.node.proofs.SoundLaws.{reads-without, least_within, sound-widened, sound-appended, sound-risen, sound-entered, sound-asked, sound-closed, sound-trimmed, reads_bound}
@@ -395,9 +396,6 @@ pub good-taken_in : (s : ServerState) (input : Input) → IsInput input → Hold
 good-taken_in s (Called port made) fit valid g = good-call s port made fit g
 good-taken_in s (From i peer) fit valid g = good-from_peer s i peer fit valid g
 good-taken_in s (Gone j) fit valid g = good-gone s j g
-
-pub last-dropped : (s : StoreState) (n : ℕ) → s.floor ≤ n → n ≤ last_number s → last_number (dropped_to s n) ≡ last_number s
-last-dropped s n low high = let l : length (drop (n - s.floor) s.rest) ≡ length s.rest - (n - s.floor) = length-drop (n - s.floor) s.rest in omega (arith, l)
 
 pub lawful-trimmed : (s : ServerState) → IsGood s → IsLawful (trimmed s)
 unfolding trimmed

@@ -1,5 +1,5 @@
 -- What every server keeps within a step: each change of a server keeps it.
-use Rattle.std.proofs.Common.{◌≡◌, ℕ, ◌+◌, ◌-◌, ◌<◌, ◌≤◌, ◌==◌, Bool, true, false, cond, List, [], ◌∷◌, ◌++◌, length, take, drop, get_or, Option, Some, None, refl, sym, ◌∙◌, arith, length-append, length-drop, length-set, length-take-le}
+use Rattle.std.proofs.Common.{◌≡◌, ℕ, ◌+◌, ◌-◌, ◌<◌, ◌≤◌, ◌==◌, Bool, true, false, cond, List, [], ◌∷◌, ◌++◌, length, take, get_or, Option, Some, None, refl, sym, ◌∙◌, arith, length-set, length-take-le}
 use Rattle.std.specs.List.{find}
 use Rattle.std.proofs.lemmas.Option.{same_Some}
 use Rattle.table.specs.Operations.{is_update}
@@ -14,7 +14,7 @@ use Rattle.table.specs.declared.operations.Target.TheVariants.{One, All}
 use Rattle.table.specs.declared.operations.Change.{Change}
 use Rattle.table.specs.declared.operations.Change.TheVariants.{Keep, Put, Drop, Clear}
 use Rattle.versions.specs.Entries.{LogEntry, IsEntry, PutsOwn}
-use Rattle.versions.specs.Stores.{StoreState, IsLog, IsStore, last_number, pushed, acked_to, dropped_to, items_after, items_at}
+use Rattle.versions.specs.Stores.{StoreState, IsLog, IsStore, last_number, acked_to, items_after, items_at}
 use Rattle.node.specs.declared.servers.OpenUpdate.{OpenUpdate}
 use Rattle.node.specs.declared.servers.OpenRead.{OpenRead}
 use Rattle.node.specs.Views.{View, has, is_below}
@@ -25,7 +25,8 @@ use Rattle.node.specs.Joining.{widened}
 use Rattle.node.specs.Steps.{least_open, trimmed}
 use Rattle.node.specs.Lawful.{IsCall, AreUpdates, AreReads, IsSound}
 use Rattle.node.proofs.ViewLaws.{has-union, below-union}
-use Rattle.versions.proofs.Logs.{log-take, log-drop, log-push}
+use Rattle.versions.proofs.Logs.{log-take}
+use Rattle.versions.proofs.StoreLaws.{store-pushed, store-acked, store-dropped}
 
 -- ---- own calls
 
@@ -124,23 +125,6 @@ reads-least above mark [] next_ask acked h = (h.0, omega arith)
 reads-least above mark (r ∷ rs) next_ask acked h = (h.0, omega arith, h.2)
 
 -- ---- entries and items
-
-pub store-pushed : (s : StoreState) (e : LogEntry) → IsEntry e → e.number ≡ last_number s + 1 → IsStore s → IsStore (pushed s e)
-store-pushed s e valid next h = record {
-  log = log-push s.floor s.rest e valid next h.log;
-  floor_acked = h.floor_acked;
-  acked_held = let l : length (s.rest ++ e ∷ []) ≡ length s.rest + 1 = length-append s.rest (e ∷ []) in omega (arith, h.acked_held, l);
-}
-
-pub store-acked : (s : StoreState) (n : ℕ) → s.acked ≤ n → n ≤ last_number s → IsStore s → IsStore (acked_to s n)
-store-acked s n low high h = record { log = h.log; floor_acked = omega (arith, h.floor_acked); acked_held = high }
-
-pub store-dropped : (s : StoreState) (n : ℕ) → s.floor ≤ n → n ≤ s.acked → IsStore s → IsStore (dropped_to s n)
-store-dropped s n low high h = record {
-  log = log-drop s.floor (n - s.floor) n s.rest (omega arith) h.log;
-  floor_acked = high;
-  acked_held = let l : length (drop (n - s.floor) s.rest) ≡ length s.rest - (n - s.floor) = length-drop (n - s.floor) s.rest in omega (arith, h.acked_held, l);
-}
 
 -- each item was put under a number up to this one
 abbrev IsPutBy : Items → ℕ → Type 0

@@ -1,5 +1,5 @@
--- What a step puts out may be handed in at another server.
-use Rattle.std.proofs.Common.{◌≡◌, ℕ, ◌+◌, ◌<◌, nat_lt, nat_le, ◌==◌, ◌&&◌, true, false, not, List, Option, Some, None, sym, arith}
+-- What a step puts out may be sent, and handed in at another server.
+use Rattle.std.proofs.Common.{◌≡◌, ℕ, ◌+◌, ◌<◌, ◌≤◌, nat_lt, nat_le, ◌==◌, ◌&&◌, true, false, not, List, Option, Some, None, sym, arith}
 use Rattle.std.proofs.lemmas.Bool.{cond_both, and_parts, eqb-false, not-true, ltb-true}
 use Rattle.table.specs.declared.operations.Call.{Call}
 use Rattle.table.specs.declared.operations.Target.{Target}
@@ -20,7 +20,7 @@ use Rattle.node.specs.Joining.{widened, promoted_to_head, promoted_to_tail, caug
 use Rattle.node.specs.Steps.{gone, receive, received, is_heard, from_peer, taken_in}
 use Rattle.node.specs.Lawful.{IsCall, IsBody, IsInput, HasEntry, HoldsEntry, IsSound, AreFit}
 use Rattle.node.proofs.ViewLaws.{has-single_other, below-single}
-use Rattle.node.proofs.SoundLaws.{reads_bound, sound-widened, sound-entered}
+use Rattle.node.proofs.SoundLaws.{reads_bound, updates_bound, sound-widened, sound-entered}
 use Rattle.node.proofs.RuleLaws.{made-promoted_to_head, made-promoted_to_tail, silent-caught_up, silent-acked_to_predecessor, heard}
 use Rattle.node.proofs.Fitness.{fit_append, fit_to, fit_rise, fit_passed_on, fit_take_update, fit_promoted_to_head, fit_promoted_to_tail, fit_caught_up, fit_acked_to_predecessor, fit_asks_renewed}
 
@@ -50,20 +50,20 @@ fit_join s v below out h = cond_both (not (adds s.view v)) _ _ (λ (a : Outcome)
 
 -- ---- the inputs and messages
 
-fit_called : (s : ServerState) (id : ℕ) (made : Call) → IsSound s → IsCall made → is_update made.op ≡ true → AreFit (called s id made).outputs
-fit_called s id made h fit is = cond_both (is_head s) _ _ (λ (a : Outcome). AreFit a.outputs)
+fit_called : (s : ServerState) (id : ℕ) (made : Call) → 1 ≤ id → IsSound s → IsCall made → is_update made.op ≡ true → AreFit (called s id made).outputs
+fit_called s id made first h fit is = cond_both (is_head s) _ _ (λ (a : Outcome). AreFit a.outputs)
     (λ t. fit_take_update s s.id id made (omega (arith, h.placed, h.counted)) fit is)
-    (λ f. fit_to s (head_of s) (Op id made) fit tt)
+    (λ f. fit_to s (head_of s) (Op id made) (first, fit, is))
 
 fit_update : (s : ServerState) (port : ℕ) (made : Call) → IsSound s → IsCall made → is_update made.op ≡ true → AreFit (update s port made).outputs
 fit_update s port made h fit is = cond_both (is_room_for_update s) _ _ (λ (a : Outcome). AreFit a.outputs)
-    (λ t. fit_called (entered s port made) s.next_id made (sound-entered s port made fit is h) fit is)
+    (λ t. fit_called (entered s port made) s.next_id made (omega (arith, updates_bound 0 s.pend s.next_id h.updates)) (sound-entered s port made fit is h) fit is)
     (λ f. tt)
 
 fit_asked : (s : ServerState) (port : ℕ) (key : List ℕ) → IsSound s → AreFit (dirty_read s port key).outputs
 unfolding dirty_read
 fit_asked s port key h = cond_both (nat_lt s.next_ask most) _ _ (λ (a : Outcome). AreFit a.outputs)
-    (λ t. fit_to s (tail_of s) (Query s.next_ask key) (omega (arith, (reads_bound 0 s.store.floor s.asks s.next_ask s.store.acked h.reads).0)) tt)
+    (λ t. fit_to s (tail_of s) (Query s.next_ask key) (omega (arith, (reads_bound 0 s.store.floor s.asks s.next_ask s.store.acked h.reads).0)))
     (λ f. tt)
 
 fit_read : (s : ServerState) (port : ℕ) (key : List ℕ) → IsSound s → AreFit (read s port key).outputs
@@ -84,7 +84,7 @@ fit_receive : (s : ServerState) (i : ℕ) (body : Body) → i < 16 → IsBody bo
 fit_receive s i (Op id made) low fit valid = cond_both (is_head s && is_update made.op) _ _ (λ (a : Outcome). AreFit a.outputs) (λ t. fit_take_update s i id made low fit (and_parts (is_head s) (is_update made.op) t).1) (λ f. tt)
 fit_receive s i (Forward e) low fit valid = cond_both (is_that (previous s) i && e.number == last_number s.store + 1) _ _ (λ (a : Outcome). AreFit a.outputs) (λ t. fit_passed_on (appended s e) e valid) (λ f. tt)
 fit_receive s i (Ack n) low fit valid = cond_both (is_that (next s) i && nat_lt s.store.acked n && nat_le n (last_number s.store)) _ _ (λ (a : Outcome). AreFit a.outputs) (λ t. fit_rise s n) (λ f. tt)
-fit_receive s i (Query ask key) low fit valid = cond_both (is_tail s) _ _ (λ (a : Outcome). AreFit a.outputs) (λ t. ((tt, tt), tt)) (λ f. tt)
+fit_receive s i (Query ask key) low fit valid = cond_both (is_tail s) _ _ (λ (a : Outcome). AreFit a.outputs) (λ t. ((fit, tt), tt)) (λ f. tt)
 fit_receive s i (Answer ask n) low fit valid = cond_both (is_that (tail_of s) i) _ _ (λ (a : Outcome). AreFit a.outputs) (λ t. fit_answered s ask n (open_read s.asks ask)) (λ f. tt)
 
 fit_received : (s : ServerState) (i : ℕ) (body : Body) → i < 16 → IsBody body → HasEntry body → AreFit (received s i body).outputs

@@ -4,9 +4,10 @@ use Rattle.std.specs.Prelude.{◌||◌}
 use Rattle.std.proofs.lemmas.Bool.{cases_eq, ltb-true, lt-ltb}
 use Rattle.std.proofs.lemmas.Bool.Decides.{nat_tests}
 use Rattle.std.proofs.lemmas.Nat.{or_lt, pow_below, pow_pos}
-use Rattle.std.proofs.lemmas.Nat.Bits.{bit_at_or, bit_at-lt, bit_at-pow_other, bit_at-zero, bit_at_above}
+use Rattle.std.proofs.lemmas.Nat.Bits.{bit_at_or, bit_at-lt, bit_at-pow_other, bit_at-pow_same, bit_at-zero, bit_at_above}
 use Rattle.std.proofs.lemmas.Option.{same_Some}
 use Rattle.node.specs.Views.{View, has, union, single, is_below, next_from, predecessor}
+pub use Rattle.node.specs.Chains.{IsNext, IsPrevious}
 
 pub has-union : (u v : View) (i : ℕ) → has (union u v) i ≡ (has u i || has v i)
 unfolding has union
@@ -20,6 +21,10 @@ has-single_other j i other = rw (bit_at-pow_other j i other) refl
 pub has_single : (j i : ℕ) → has (single j) i ≡ true → i ≡ j
 has_single j i h =
     elim (cases_eq i j) [ inl same ↦ same | inr other ↦ (let never : has (single j) i ≡ false = has-single_other j i other in absurd cc) ]
+
+pub has-single_itself : (j : ℕ) → has (single j) j ≡ true
+unfolding has single
+has-single_itself j = rw (bit_at-pow_same j) refl
 
 pub nowhere : (i : ℕ) → has 0 i ≡ false
 unfolding has
@@ -41,12 +46,6 @@ below-single j count h = lt-ltb _ _ (pow_below j count h)
 pub named-below : (v : View) (count i : ℕ) → is_below v count ≡ true → count ≤ i → has v i ≡ false
 unfolding is_below has
 named-below v count i h le = rw (bit_at_above v count i (ltb-true _ _ h) le) refl
-
--- the nearest one outside a view from k on
-pub record IsNext (v : View) (k j : ℕ) : Type 0 where
-  pub above : k ≤ j
-  pub out : has v j ≡ false
-  pub between : (x : ℕ) → k ≤ x → x < j → has v x ≡ true
 
 next_step : (v : View) (k j : ℕ) (b : Bool) (rest : Option ℕ) → has v k ≡ b → (rest ≡ Some j → IsNext v (suc k) j) → cond b rest (Some k) ≡ Some j → IsNext v k j
 next_step v k j true rest e f h =
@@ -79,12 +78,6 @@ pub no_next : (v : View) (k many : ℕ) → next_from v k many ≡ None → (x :
 unfolding next_from
 no_next v k zero h x a l = absurd (omega arith)
 no_next v k (suc many) h x a l = all_step v k many (has v k) (next_from v (suc k) many) refl (no_next v (suc k) many) h x a l
-
--- the nearest one outside a view below i
-pub record IsPrevious (v : View) (i p : ℕ) : Type 0 where
-  pub below : p < i
-  pub out : has v p ≡ false
-  pub between : (x : ℕ) → p < x → x < i → has v x ≡ true
 
 previous_step : (v : View) (k p : ℕ) (b : Bool) (rest : Option ℕ) → has v k ≡ b → (rest ≡ Some p → IsPrevious v k p) → cond b rest (Some k) ≡ Some p → IsPrevious v (suc k) p
 previous_step v k p true rest e f h =

@@ -1,5 +1,5 @@
 -- The face of a server: what readers beside it see, and how a step changes it (this project's rule).
-use Rattle.std.specs.Prelude.{ℕ, Bool, true, not, ◌&&◌, nat_le, List, [], ◌∷◌, map, filter_map, is_some, Option, Some, None, if◌then◌else◌}
+use Rattle.std.specs.Prelude.{◌≡◌, ◌≤◌, ◌⊎◌, ℕ, Bool, true, not, ◌&&◌, nat_le, List, [], ◌∷◌, map, filter_map, is_some, Option, Some, None, if◌then◌else◌}
 use Rattle.std.specs.Option.{option_copied}
 use Rattle.std.specs.Borrow.{Bor}
 use Rattle.std.specs.FinMap as maps
@@ -13,6 +13,7 @@ use Rattle.table.specs.declared.operations.Change.TheVariants.{Keep, Put, Drop, 
 use Rattle.versions.specs.Entries.{LogEntry}
 use Rattle.versions.specs.Stores.{last_number, entries_after, value_at, is_clean}
 use Rattle.node.specs.declared.faces.Version.{Version}
+use Rattle.node.specs.declared.faces.Tombstone.{Tombstone}
 use Rattle.node.specs.declared.faces.FaceStep.{FaceStep}
 use Rattle.node.specs.declared.faces.FaceStep.TheVariants.{Set, Clear as ClearAll}
 use Rattle.node.specs.declared.messages.Input.{Input}
@@ -66,6 +67,23 @@ face_at n f =
       acked = n;
     }
 
+-- A face finds what a rise removes without a search: a queue of tombstones stands for the versions without item. Their
+-- numbers don't fall from this one on.
+abbrev pub IsRising : ℕ → List Tombstone → Type 0
+IsRising low [] = Unit {0}
+IsRising low (t ∷ ts) = (low ≤ t.number) × IsRising t.number ts
+
+-- the key waits there with this number
+abbrev pub Waits : ℕ → List ℕ → List Tombstone → Type 0
+Waits number key [] = ⊥
+Waits number key (t ∷ ts) = ((t.number ≡ number) × (t.key ≡ key)) ⊎ Waits number key ts
+
+-- Each version without item waits in the queue with its number. A tombstone whose version was replaced may stay there
+-- until its turn comes, which then removes nothing.
+pub record IsQueued (versions : Versions) (tombstones : List Tombstone) : Type 0 where
+  pub rising : IsRising 0 tombstones
+  pub waits : (key : List ℕ) (v : Version) → maps.get versions key ≡ Some v → v.item ≡ None → Waits v.number key tombstones
+
 -- a change is done: its steps in order, and then the acknowledged number
 abbrev pub face_changed : FaceState → List FaceStep → ℕ → FaceState
 face_changed f steps acked = face_at acked (face_after_all f steps)
@@ -86,6 +104,14 @@ face_steps es = filter_map (λ e. face_step e.number e.target e.change) es
 -- an item of the base is a version under the number that put it, which is its unique
 abbrev pub versions_of : Items → Versions
 versions_of items = maps.from_entries (map (λ e. (e.0, record { number = e.1.unique; item = Some e.1 })) (maps.entries items))
+
+-- the change that sets it
+abbrev pub base_step : List ℕ × Item → FaceStep
+base_step e = Set e.0 (record { number = e.1.unique; item = Some e.1 })
+
+-- the face of a server without any version
+abbrev pub no_face : FaceState
+no_face = record { versions = maps.empty; cleared = 0; acked = 0 }
 
 -- the face of a server: the base's items, changed by the entries above the floor, at the acknowledged number
 abbrev pub face_of : ServerState → FaceState

@@ -102,12 +102,21 @@ abbrev pub AreToOthers : ℕ → ℕ → List Output → Type 0
 AreToOthers id count [] = Unit {0}
 AreToOthers id count (o ∷ os) = IsToOther id count o × AreToOthers id count os
 
--- a message says what may be handed in: an operation that fits and suits its target, an entry, an ask of at least 1
+-- a body that may be sent: each field that its type doesn't keep in the range of the wire format is in it
+-- (docs/FORMATS.md, "Peer messages"). What an op asks is an update that fits and suits its target; a query's key is kept by its type.
+abbrev pub IsSendable : Body → Type 0
+IsSendable (Op id call) = (1 ≤ id) × IsCall call × (is_update call.op ≡ true)
+IsSendable (Forward e) = IsEntry e
+IsSendable (Ack n) = Unit {0}
+IsSendable (Query ask key) = 1 ≤ ask
+IsSendable (Answer ask n) = 1 ≤ ask
+
+-- a message may be sent, and handed in where it goes
 abbrev pub IsFit : Output → Type 0
-IsFit (To to peer) = IsBody peer.body × HasEntry peer.body
+IsFit (To to peer) = IsSendable peer.body × IsBody peer.body
 IsFit (Replied port reply) = Unit {0}
 
--- each says what may be handed in
+-- each message may be sent, and handed in where it goes
 abbrev pub AreFit : List Output → Type 0
 AreFit [] = Unit {0}
 AreFit (o ∷ os) = IsFit o × AreFit os

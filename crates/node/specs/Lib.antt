@@ -1,4 +1,5 @@
 pub mod Views
+pub mod Chains
 pub mod Servers
 pub mod Numbering
 pub mod Reading
@@ -8,3 +9,5 @@ pub mod Faces
 pub mod Masters
 pub mod Lawful
 pub mod Nodes
+pub mod Runs
+pub mod Replies

@@ -1,10 +1,11 @@
 //! The published face of a server, and how it changes.
 
-ghost use Rattle.std.specs.Prelude.{◌≡◌, ◌≤◌, ◌++◌, [], OnOk, IfOk};
+ghost use Rattle.std.specs.Prelude.{◌≡◌, ◌≤◌, ◌++◌, [], map, OnOk, IfOk};
 ghost use Rattle.std.specs.List.{cons_option};
 ghost use Rattle.versions.specs.Stores.{last_number, entries_after};
 ghost use Rattle.node.specs.Faces as faces;
 
+use crate::nodes::Node;
 use crate::servers::Server;
 use std::alloc::AllocError;
 use table::{Change, Item, Key, Target};
@@ -17,6 +18,16 @@ pub struct Version {
     pub number: u64,
     /// The item, or none where the key was dropped.
     pub item: Option<Item>,
+}
+
+/// A key whose version of this number has no item. It waits in a queue, in the order of the numbers, until this number is
+/// acknowledged: then the version is taken away, unless the key has a later one (this project's rule).
+#[derive(Debug, Drop)]
+pub struct Tombstone {
+    /// The number of the version.
+    pub number: u64,
+    /// Its key.
+    pub key: Key,
 }
 
 /// One change of a face (this project's rule).
@@ -35,6 +46,25 @@ pub struct FaceChange {
     pub steps: Vec<FaceStep>,
     /// The acknowledged number from now on.
     pub acked: u64,
+}
+
+// The change that sets the version of an item of the base.
+fn base_step(key: Key, item: Item) -> FaceStep
+    ensures { result ≡ faces.base_step (key, item) }
+{
+    let number = item.unique;
+    let item = Some(item);
+    FaceStep::Set(key, Version { number, item })
+}
+
+// The same for each, behind the steps so far.
+fn put_base(items: Vec<(Key, Item)>, steps: &mut Vec<FaceStep>) -> Result<(), AllocError>
+    ensures { OnOk result (steps.new.items ≡ steps.old.items ++ map faces.base_step items.items) }
+{
+    for (key, item) in items {
+        steps.push(base_step(key, item))?;
+    }
+    Ok(())
 }
 
 // The version that an entry makes of its key, or of every key, if it makes one.
@@ -68,7 +98,28 @@ fn put_step(entry: &Entry, steps: &mut Vec<FaceStep>) -> Result<(), AllocError>
     Ok(())
 }
 
+impl Node {
+    /// How its face is made from one without versions, for readers that begin beside it now. It copies no item's data. Time is
+    /// linear in the number of keys and in the entries above the floor.
+    pub fn face(&self) -> Result<FaceChange, AllocError>
+        ensures { IfOk result (λ change. faces.face_changed faces.no_face change.steps.items change.acked ≡ faces.face_of self.now.server) }
+    {
+        self.server.whole_face()
+    }
+}
+
 impl Server {
+    // The versions of the base's items, then what the entries above the floor change, and the acknowledged number.
+    fn whole_face(&self) -> Result<FaceChange, AllocError>
+        ensures { IfOk result (λ change. faces.face_changed faces.no_face change.steps.items change.acked ≡ faces.face_of self.now) }
+    {
+        let mut steps = Vec::new(self.alloc);
+        put_base(self.store.base()?, &mut steps)?;
+        self.put_steps_after(self.store.floor(), &mut steps)?;
+        let acked = self.store.acked();
+        Ok(FaceChange { steps, acked })
+    }
+
     /// How the entries above a number change the face, with the acknowledged number. It copies no item's data.
     pub(crate) fn change_after(&self, above: u64) -> Result<FaceChange, AllocError>
         requires above { (self.now.store.floor ≤ above) × (above ≤ last_number self.now.store) }

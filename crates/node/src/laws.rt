@@ -1,17 +1,15 @@
-//! Laws of every step, for whoever runs servers.
-ghost use Rattle.std.specs.Prelude.{◌≡◌, ℕ, ◌<◌, ◌≤◌};
-ghost use Rattle.node.specs.declared.messages.Input.{Input};
-ghost use Rattle.node.specs.Servers.{ServerState, opening};
-ghost use Rattle.node.specs.Steps.{step};
-ghost use Rattle.node.specs.Faces.{face_changed, face_of, steps_by, acked_by};
-ghost use Rattle.node.specs.Lawful.{IsInput, HoldsEntry, IsLawful, AreToOthers, AreFit};
+//! Laws: facts about the definitions of `specs/`, as contracts of functions that do nothing.
 
-/// A server is lawful from the first on, and each step keeps it so. Its messages go to other servers of the chain, and say
-/// what may be handed in there.
-pub fn steps_are_lawful()
-    ensures opening { (id : ℕ) (count : ℕ) → id < count → count ≤ 16 → IsLawful (opening id count) }
-    ensures lawful { (s : ServerState) (input : Input) → IsLawful s → IsInput input → HoldsEntry input → IsLawful (step s input).state }
-    ensures addressed { (s : ServerState) (input : Input) → IsLawful s → AreToOthers s.id s.count (step s input).outputs }
-    ensures fit { (s : ServerState) (input : Input) → IsLawful s → IsInput input → HoldsEntry input → AreFit (step s input).outputs }
-    ensures face { (s : ServerState) (input : Input) → IsLawful s → IsInput input → HoldsEntry input → face_changed (face_of s) (steps_by s input) (acked_by s input) ≡ face_of (step s input).state }
-{}
+mod looks;
+mod replies;
+mod rules;
+mod runs;
+mod steps;
+mod views;
+
+pub use looks::looks_show_the_newest;
+pub use replies::{own_ports_alone, replies_close_calls};
+pub use rules::{joins_keep_servers_sound, open_calls_are_ordered, rules_keep_servers_sound};
+pub use runs::{runs_are_lawful, runs_go_on};
+pub use steps::steps_are_lawful;
+pub use views::{neighbors_are_nearest, views_are_sets, views_stay_below};

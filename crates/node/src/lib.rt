@@ -15,8 +15,12 @@ mod servers;
 mod steps;
 mod views;
 
-pub use faces::{FaceChange, FaceStep, Version};
-pub use laws::steps_are_lawful;
+pub use faces::{FaceChange, FaceStep, Tombstone, Version};
+pub use laws::{
+    joins_keep_servers_sound, looks_show_the_newest, neighbors_are_nearest, open_calls_are_ordered,
+    own_ports_alone, replies_close_calls, rules_keep_servers_sound, runs_are_lawful, runs_go_on,
+    steps_are_lawful, views_are_sets, views_stay_below,
+};
 pub use looks::Look;
 pub use masters::{Master, MasterFault};
 pub use messages::{Body, Input, Output, Peer};

@@ -50,7 +50,7 @@ pub enum Output {
 
 impl Body {
     ghost use Rattle.std.specs.Prelude.{◌↔◌, IsTrue};
-    ghost use Rattle.node.specs.Lawful.{IsBody};
+    ghost use Rattle.node.specs.Lawful.{IsBody, IsSendable};
 
     /// Whether a node may be given it: an operation fits and suits its target, and a query's ask is at least 1.
     pub fn is_fit(&self) -> bool
@@ -60,6 +60,19 @@ impl Body {
             Body::Op(_, call) => call.op.fits() && call.op.suits(&call.target),
             Body::Query(ask, _) => *ask >= 1,
             Body::Forward(_) | Body::Ack(_) | Body::Answer(..) => true,
+        }
+    }
+
+    /// Whether it may be sent: an operation has an id of at least 1 and is an update that fits and suits its target, and an ask
+    /// is at least 1. An entry is one by its type.
+    pub fn is_sendable(&self) -> bool
+        ensures sendable { IsTrue result ↔ IsSendable self.now }
+    {
+        match self {
+            Body::Op(id, call) => *id >= 1 && self.is_fit() && call.op.is_update(),
+            Body::Forward(entry) => entry.number() >= 1,
+            Body::Ack(_) => true,
+            Body::Query(ask, _) | Body::Answer(ask, _) => *ask >= 1,
         }
     }
 }

@@ -41,7 +41,7 @@ impl From<AllocError> for NodeFault {
 /// Contracts see a `ServerState`, and whether it is stopped (`NodeState`).
 #[derive(Drop)]
 pub struct Node {
-    server: Server,
+    pub(crate) server: Server,
     stopped: bool,
 }
 
@@ -92,7 +92,7 @@ impl Node {
         ensures outputs { IfOk result (λ outputs. outputs.items ≡ (steps.step self.old.server input).outputs) }
         // No message goes to the node itself, nor to a server that isn't of the chain.
         ensures addressed { IfOk result (λ outputs. AreToOthers self.old.server.id self.old.server.count outputs.items) }
-        // Each message may be handed in where it goes.
+        // Each message may be sent, and handed in where it goes.
         ensures fit { IfOk result (λ outputs. AreFit outputs.items) }
         ensures lawful { OnOk result (IsLawful self.new.server) }
         // Memory stops the node, and Stopped is answered exactly from then on.

@@ -1,31 +1,21 @@
 -- A session closes at the request after which its stream has none, however the stream was cut.
 use Rattle.std.proofs.Common.{◌≡◌, ℕ, ◌-◌, Bool, true, false, cond, ◌||◌, List, [], ◌∷◌, ◌++◌, length, drop, Option, None, Some, refl, sym, ap, ◌∙◌, arith}
-use Rattle.std.specs.Prelude.{◌==◌, if◌then◌else◌}
+use Rattle.std.specs.Prelude.{◌==◌}
 use Rattle.std.specs.List.{list_any}
 use Rattle.std.proofs.lemmas.Bool.Decides.{nat_tests}
 use Rattle.proto.specs.declared.passing.Passing.{Passing}
 use Rattle.proto.specs.declared.requests.Request.TheVariants.{Store, Get, Arith, Delete, Flush, Quit, Bad}
 use Rattle.proto.specs.declared.texts.Form.{Form}
 use Rattle.proto.specs.Fronts.{Front, front, refused_at, found_of, is_last}
-use Rattle.proto.specs.Turns.{Turn, fault_text}
-use Rattle.proto.specs.Sessions.{Held, fresh, fed, by_found, by_passing, next_of}
-use Rattle.proto.specs.Streams.{requests, ends, Action, Feed, Next, driven, stream_of}
-use Rattle.proto.proofs.RequestLaws.{takes, requests_none, requests_some, requests_more, unread_requests, refused_later}
-use Rattle.proto.proofs.StreamLaws.{fed_none, fed_twice}
-
--- whether a session is closed, or will be by the bytes that it has
-abbrev ends_there : Held → Bool
-ends_there h = if h.closed then true else list_any is_last (unread_requests h.passing h.unread)
-
--- A step leaves the end where it is, whatever bytes may follow; and a step that gives no turn has come to it, or there is none.
-record KeepsEnd (h : Held) (given : Option Turn) (left : Held) : Type 0 where
-  kept : (more : List ℕ) → ends_there (fed h more) ≡ ends_there (fed left more)
-  come : given ≡ None → left.closed ≡ ends_there h
+use Rattle.proto.specs.Turns.{fault_text}
+use Rattle.proto.specs.Sessions.{Held, fed, by_found, by_passing, next_of}
+use Rattle.proto.specs.Streams.{requests, will_close, KeepsEnd}
+use Rattle.proto.proofs.RequestLaws.{takes, requests_none, requests_some, requests_more, refused_later}
 
 -- behind a fault the end is that of what is left, unless the session is closed by it
 behind_fault : (b : Bool) (unread : List ℕ) (unique : Bool) (asked : Option Form) (out more : List ℕ)
     → (b || list_any is_last (cond b [] (requests (unread ++ more))))
-    ≡ ends_there (fed (record { unread = unread; passing = None; later = []; unique = unique; asked = asked; out = out; closed = b }) more)
+    ≡ will_close (fed (record { unread = unread; passing = None; later = []; unique = unique; asked = asked; out = out; closed = b }) more)
 behind_fault true unread unique asked out more = refl
 behind_fault false unread unique asked out more = refl
 
@@ -79,14 +69,6 @@ by_fields unread passing later unique asked out true = record { kept = λ more. 
 by_fields unread passing [] unique asked out false = by_skip unread passing unique asked out
 by_fields unread passing (key ∷ keys) unique asked out false = record { kept = λ more. refl; come = λ given. cc }
 
-keeps_end : (h : Held) → KeepsEnd h (next_of h).0 (next_of h).1
+-- a step keeps where the stream ends
+pub keeps_end : (h : Held) → KeepsEnd h (next_of h).0 (next_of h).1
 keeps_end h = by_fields h.unread h.passing h.later h.unique h.asked h.out h.closed
-
--- the end of what a session holds is that of all the bytes
-driven_ends : (h : Held) (actions : List Action) → ends_there (driven h actions).1 ≡ ends_there (fed h (stream_of actions))
-driven_ends h [] = sym (ap ends_there (fed_none h))
-driven_ends h (Feed piece ∷ actions) = driven_ends (fed h piece) actions ∙ ap ends_there (fed_twice h piece (stream_of actions))
-driven_ends h (Next ∷ actions) = driven_ends (next_of h).1 actions ∙ sym ((keeps_end h).kept (stream_of actions))
-
-pub closes_at_last : (actions : List Action) → (next_of (driven fresh actions).1).0 ≡ None → (next_of (driven fresh actions).1).1.closed ≡ ends (stream_of actions)
-closes_at_last actions none = (keeps_end (driven fresh actions).1).come none ∙ driven_ends fresh actions

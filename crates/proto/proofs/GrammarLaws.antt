@@ -46,10 +46,11 @@ text_asks bytes text n h =
     ]
 
 -- so many bytes, which are there, ask for this
-record AsksAt (bytes : List ℕ) (line : Asked × ℕ) : Type 0 where
-  inside : line.1 ≤ length bytes
-  some : 1 ≤ line.1
-  asks : Asks line.0 (take line.1 bytes)
+pub record AsksAt (bytes : List ℕ) (line : Asked × ℕ) : Type 0 where
+  pub inside : line.1 ≤ length bytes
+  pub some : 1 ≤ line.1
+  pub short : line.1 ≤ line_limit
+  pub asks : Asks line.0 (take line.1 bytes)
 
 some_limit : 1 ≤ line_limit
 unfolding line_limit
@@ -60,7 +61,7 @@ asks_by_end : (bytes : List ℕ) (place : Option ℕ) (line : Asked × ℕ) → 
 asks_by_end bytes (Some i) line e is =
     let same : (by_line (take i bytes), i + 1) ≡ line = cc in
     let h = line_at_first_lf line_limit bytes i e in
-    subst (AsksAt bytes) same (record { inside = h.inside; some = omega arith; asks = text_asks bytes (take i bytes) (i + 1) h })
+    subst (AsksAt bytes) same (record { inside = h.inside; some = omega arith; short = h.short; asks = text_asks bytes (take i bytes) (i + 1) h })
 asks_by_end bytes None line e is = by_length (nat_le line_limit (length bytes)) refl is
   where
     by_length : (b : Bool) → nat_le line_limit (length bytes) ≡ b → cond b (Some (Whole (requests.Bad LineTooLong), line_limit)) None ≡ Some line → AsksAt bytes line
@@ -68,17 +69,21 @@ asks_by_end bytes None line e is = by_length (nat_le line_limit (length bytes)) 
     by_length true long found =
         let same : (Whole (requests.Bad LineTooLong), line_limit) ≡ line = cc in
         let enough : line_limit ≤ length bytes = leb-true line_limit (length bytes) long in
-        subst (AsksAt bytes) same (record { inside = enough; some = some_limit; asks = (omega (arith, length-take line_limit bytes), none_by_first_lf (take line_limit bytes) e) })
+        subst (AsksAt bytes) same (record { inside = enough; some = some_limit; short = omega arith; asks = (omega (arith, length-take line_limit bytes), none_by_first_lf (take line_limit bytes) e) })
+
+-- what the line at the front asks for, it says
+pub asks_at : (bytes : List ℕ) (line : Asked × ℕ) → asked_at bytes ≡ Some line → AsksAt bytes line
+asks_at bytes line e = asks_by_end bytes (first_lf (take line_limit bytes)) line refl e
 
 -- by what the line at the front asks for
 found_by_asked : (bytes : List ℕ) (asked : Option (Asked × ℕ)) (found : Request × ℕ) → asked_at bytes ≡ asked → by_asked bytes asked ≡ Some found → IsFound bytes found
 found_by_asked bytes None found e is = cc
 found_by_asked bytes (Some (Whole request, n)) found e is =
     let same : (request, n) ≡ found = cc in
-    let h = asks_by_end bytes (first_lf (take line_limit bytes)) (Whole request, n) refl e in
+    let h = asks_at bytes (Whole request, n) e in
     subst (IsFound bytes) same (record { inside = h.inside; some = h.some; spelled = h.asks })
 found_by_asked bytes (Some (Behind block, n)) found e is =
-    let h = asks_by_end bytes (first_lf (take line_limit bytes)) (Behind block, n) refl e in
+    let h = asks_at bytes (Behind block, n) e in
     completed_spelled bytes block n found h.asks is
 
 -- What is found at the front is spelled by exactly those bytes.

@@ -6,7 +6,13 @@ pub mod GrammarFields
 pub mod GrammarLaws
 pub mod GrammarLines
 pub mod GrammarWords
+pub mod HoldLaws
 pub mod KnownLaws
 pub mod LineLaws
+pub mod MeasureLaws
 pub mod RequestLaws
+pub mod RunLaws
+pub mod RunTexts
+pub mod SameLaws
 pub mod StreamLaws
+pub mod WriteLaws

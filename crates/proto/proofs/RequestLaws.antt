@@ -1,6 +1,6 @@
 -- The requests of a stream, one after another: the one at the front, and those behind it.
 use Rattle.std.proofs.Common.{◌≡◌, ℕ, zero, suc, ◌+◌, ◌-◌, ◌≤◌, Bool, true, false, cond, List, [], ◌∷◌, ◌++◌, length, drop, take, Option, None, Some, refl, sym, ap, subst, ◌∙◌, arith, nat_lt, length-append, length-drop}
-use Rattle.std.specs.Prelude.{◌==◌, if◌then◌else◌}
+use Rattle.std.specs.Prelude.{◌==◌}
 use Rattle.std.specs.List.{slice_range}
 use Rattle.std.proofs.lemmas.Bool.Decides.{nat_tests}
 use Rattle.std.proofs.lemmas.List.{drop-append-le, drop_all}
@@ -18,7 +18,7 @@ use Rattle.proto.specs.Requests.{asked_at}
 use Rattle.proto.specs.Fronts.{Front, finished, by_asked, front, refused_by, refused_by_asked, refused_at, is_last}
 use Rattle.proto.specs.Grammar.{Spells}
 use Rattle.proto.specs.Sessions.{kept, passed}
-use Rattle.proto.specs.Streams.{and_later, requests, requests_upto}
+use Rattle.proto.specs.Streams.{and_later, requests, requests_upto, unread_requests}
 use Rattle.proto.proofs.GrammarLaws.{found_is_spelled, whole_stays_whole}
 use Rattle.proto.proofs.LineLaws.{asked_kept}
 
@@ -123,11 +123,6 @@ not_whole come end fault e = by_test (nat_lt come end) refl e
     by_test : (b : Bool) → nat_lt come end ≡ b → ◌≡◌ {A = Front} (cond b None (Some (Bad fault, end))) None → come ≤ end
     by_test true short e = grind (arith, nat_tests, short)
     by_test false long e = cc
-
--- the requests that unread bytes still give: where a refused block is being passed over, none before its end
-abbrev pub unread_requests : Option Passing → List ℕ → List Request
-unread_requests None unread = requests unread
-unread_requests (Some p) unread = if p.left == 0 then Bad p.fault ∷ cond (is_last (Bad p.fault)) [] (requests unread) else []
 
 -- the requests of bytes that begin with a refused block, by how much of it has still to come
 refused_requests : (unread more : List ℕ) (fault : Fault) (end : ℕ) → length unread ≤ end

@@ -11,10 +11,10 @@ use Rattle.proto.specs.declared.requests.Request.{Request}
 use Rattle.proto.specs.declared.requests.Request.TheVariants.{Store, Get, Arith, Delete, Flush, Quit, Bad}
 use Rattle.proto.specs.declared.texts.Form.{Form}
 use Rattle.proto.specs.Fronts.{Front, front, refused_at, found_of, is_last}
-use Rattle.proto.specs.Turns.{Turn, Faulty, turns_of, fault_text}
+use Rattle.proto.specs.Turns.{Faulty, turns_of, fault_text}
 use Rattle.proto.specs.Sessions.{Held, kept, passed, fed, by_found, by_passing, next_of}
-use Rattle.proto.specs.Streams.{requests, turns, turns_before, unread_turns, to_come, GivesFirst, most_faults, Action, Feed, Next, driven, with_turn, stream_of}
-use Rattle.proto.proofs.RequestLaws.{takes, requests_none, requests_some, requests_more, drop_two, unread_requests, refused_later}
+use Rattle.proto.specs.Streams.{requests, turns, turns_before, unread_turns, to_come, GivesFirst, most_faults, unread_requests}
+use Rattle.proto.proofs.RequestLaws.{takes, requests_none, requests_some, requests_more, drop_two, refused_later}
 
 cond_turns : (b : Bool) (rs : List Request) → flat_map turns_of (cond b [] rs) ≡ cond b [] (flat_map turns_of rs)
 cond_turns true rs = refl
@@ -161,14 +161,3 @@ fed_twice h xs ys = by_closed h.unread h.passing h.later h.unique h.asked h.out 
         → let h : Held = record { unread = unread; passing = passing; later = later; unique = unique; asked = asked; out = out; closed = closed } in fed (fed h xs) ys ≡ fed h (xs ++ ys)
     by_closed unread passing later unique asked out true = refl
     by_closed unread passing later unique asked out false = rw (append_assoc unread (kept passing xs) (kept (passed passing xs) ys), kept_twice passing xs ys, passed_twice passing xs ys) refl
-
-step_drives : (h left : Held) (given : Option Turn) (rest : List Turn) (s : List ℕ) (ended : List Turn) → GivesFirst h given left → rest ++ ended ≡ to_come (fed left s) → with_turn given rest ++ ended ≡ to_come (fed h s)
-step_drives h left None rest s ended law is = is ∙ sym (law.first s)
-step_drives h left (Some turn) rest s ended law is = ap (λ ts. turn ∷ ts) is ∙ sym (law.first s)
-
--- the turns that were given and those that are still to come are those of all the bytes
-pub driven_gives_all : (h : Held) (actions : List Action) → (driven h actions).0 ++ to_come (driven h actions).1 ≡ to_come (fed h (stream_of actions))
-driven_gives_all h [] = sym (ap to_come (fed_none h))
-driven_gives_all h (Feed piece ∷ actions) = driven_gives_all (fed h piece) actions ∙ ap to_come (fed_twice h piece (stream_of actions))
-driven_gives_all h (Next ∷ actions) =
-    step_drives h (next_of h).1 (next_of h).0 (driven (next_of h).1 actions).0 (stream_of actions) (to_come (driven (next_of h).1 actions).1) (next_gives_first h) (driven_gives_all (next_of h).1 actions)

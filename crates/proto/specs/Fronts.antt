@@ -112,7 +112,8 @@ IsFront (Requested request n) bytes = (n ≤ length bytes) × IsWhole request
 IsFront (Refused passing) bytes = Unit {0}
 IsFront Nothing bytes = Unit {0}
 
--- what was found out about the front is so: the line announces a block that is to be put
+-- (This serves a hidden field of the code; no public contract needs it.) What was found out about the front is so: the line announces
+-- a block that is to be put.
 abbrev pub IsKnown : Option Pending → List ℕ → Type 0
 IsKnown None bytes = Unit {0}
 IsKnown (Some p) bytes = (asked_at bytes ≡ Some (Behind (record { size = p.size; fate = Put p.key p.verb p.silent }), p.line)) × (p.line ≤ length bytes) × (p.size ≤ limit)

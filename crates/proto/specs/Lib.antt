@@ -7,3 +7,4 @@ pub mod Grammar
 pub mod Turns
 pub mod Sessions
 pub mod Streams
+pub mod Runs

@@ -9,6 +9,7 @@ use Rattle.table.specs.declared.operations.Reply.{Reply}
 use Rattle.proto.specs.declared.passing.Passing.{Passing}
 use Rattle.proto.specs.declared.front.Found.{Found}
 use Rattle.proto.specs.declared.front.Found.TheVariants.{Request as Requested, Refused, Nothing}
+use Rattle.proto.specs.declared.requests.Fault.{Fault}
 use Rattle.proto.specs.declared.requests.Request.{Request}
 use Rattle.proto.specs.declared.requests.Request.TheVariants.{Store, Get, Arith, Delete, Flush, Quit, Bad}
 use Rattle.proto.specs.declared.texts.Form.{Form}
@@ -109,6 +110,19 @@ abbrev pub step_of : Given → Step
 step_of (None, left) = if left.closed then Close else Wait
 step_of (Some (Faulty fault), left) = Emit
 step_of (Some (Calls call form), left) = Call call.target call.op
+
+-- what a step tells: which turn was given, or that there was none and whether the session is closed
+abbrev pub Tells : Step → Given → Type 0
+Tells (Call target op) given = (form : Form) × (given.0 ≡ Some (Calls (record { target = target; op = op }) form))
+Tells Emit given = (fault : Fault) × (given.0 ≡ Some (Faulty fault))
+Tells Wait given = (given.0 ≡ None) × (given.1.closed ≡ false)
+Tells Close given = (given.0 ≡ None) × (given.1.closed ≡ true)
+
+-- what a step writes at the end of the output, and whose answer it waits for then
+abbrev pub Writes : Held → Given → Type 0
+Writes h (None, left) = (left.out ≡ h.out) × (left.asked ≡ h.asked)
+Writes h (Some (Faulty fault), left) = (left.out ≡ h.out ++ fault_text fault) × (left.asked ≡ h.asked)
+Writes h (Some (Calls call form), left) = (left.out ≡ h.out) × (left.asked ≡ Some form)
 
 -- the open call is answered: its text is written
 abbrev pub answered_by : Option Form → Held → Reply → Held

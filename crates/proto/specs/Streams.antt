@@ -1,13 +1,15 @@
 -- Whole streams: their requests, their turns and the texts of these; and the turns that a session has still to give.
-use Rattle.std.specs.Prelude.{◌≡◌, ℕ, zero, suc, ◌+◌, ◌==◌, Bool, List, [], ◌∷◌, ◌++◌, length, drop, Option, None, Some, is_some, if◌then◌else◌}
+use Rattle.std.specs.Prelude.{◌≡◌, ℕ, zero, suc, ◌+◌, ◌<◌, ◌==◌, Bool, ◌||◌, List, [], ◌∷◌, ◌++◌, length, drop, Option, None, Some, is_some, if◌then◌else◌}
 use Rattle.std.specs.List.{flat_map, list_any}
 use Rattle.table.specs.declared.operations.Reply.{Reply}
 use Rattle.proto.specs.declared.passing.Passing.{Passing}
 use Rattle.proto.specs.declared.requests.Request.{Request}
 use Rattle.proto.specs.declared.requests.Request.TheVariants.{Bad}
+use Rattle.proto.specs.declared.sessions.Step.{Step}
+use Rattle.proto.specs.declared.sessions.Step.TheVariants.{Call, Emit, Wait, Close}
 use Rattle.proto.specs.Fronts.{Front, front, is_last}
 use Rattle.proto.specs.Turns.{Turn, Faulty, Calls, looks, turns_of, fault_text, text}
-use Rattle.proto.specs.Sessions.{Held, fed, next_of}
+use Rattle.proto.specs.Sessions.{Held, fed}
 
 -- a request at the front, and those after it
 abbrev pub and_later : Front → (ℕ → List Request) → List Request
@@ -42,6 +44,11 @@ texts (Faulty fault ∷ ts) replies = fault_text fault ++ texts ts replies
 texts (Calls call form ∷ ts) [] = []
 texts (Calls call form ∷ ts) (reply ∷ replies) = text form reply ++ texts ts replies
 
+-- the requests that a session's bytes have still to give: where a refused block is being passed over, none before its end
+abbrev pub unread_requests : Option Passing → List ℕ → List Request
+unread_requests None unread = requests unread
+unread_requests (Some p) unread = if p.left == 0 then Bad p.fault ∷ (if is_last (Bad p.fault) then [] else requests unread) else []
+
 -- the turns that a session's bytes have still to give: where a refused block is being passed over, none before its end
 abbrev pub unread_turns : Option Passing → List ℕ → List Turn
 unread_turns None unread = turns unread
@@ -50,6 +57,10 @@ unread_turns (Some p) unread = if p.left == 0 then turns_before (Bad p.fault) (t
 -- the turns that a session has still to give, if it is fed with no more
 abbrev pub to_come : Held → List Turn
 to_come h = if h.closed then [] else looks h.later h.unique ++ unread_turns h.passing h.unread
+
+-- whether a session is closed, or will be by the bytes that it has
+abbrev pub will_close : Held → Bool
+will_close h = h.closed || list_any is_last (unread_requests h.passing h.unread)
 
 -- the turn that was given stands in front of the others
 abbrev pub with_turn : Option Turn → List Turn → List Turn
@@ -66,19 +77,26 @@ pub record GivesFirst (h : Held) (given : Option Turn) (left : Held) : Type 0 wh
 abbrev pub most_faults : Held → ℕ
 most_faults h = length h.unread + (if is_some h.passing then 1 else 0)
 
--- what may be done with a session whose calls are answered as they come
-pub data Action : Type 0 where
-  Feed : (piece : List ℕ) → Action
-  Next : Action
+-- At most so many turns are to come before more bytes: each takes a byte at least, or one of the keys that are left,
+-- or the refused block that was passed over.
+abbrev pub most_turns : Held → ℕ
+most_turns h = length h.unread + length h.later + (if is_some h.passing then 1 else 0)
 
--- the turns that a session gives along these actions, and what it holds in the end
-abbrev pub driven : Held → List Action → List Turn × Held
-driven h [] = ([], h)
-driven h (Feed piece ∷ actions) = driven (fed h piece) actions
-driven h (Next ∷ actions) = let given = next_of h in let rest = driven given.1 actions in (with_turn given.0 rest.0, rest.1)
+-- a step that gives a turn leaves fewer to come
+abbrev pub LeavesFewer : Step → Held → Held → Type 0
+LeavesFewer (Call target op) h left = most_turns left < most_turns h
+LeavesFewer Emit h left = most_turns left < most_turns h
+LeavesFewer Wait h left = Unit {0}
+LeavesFewer Close h left = Unit {0}
 
--- the bytes that these actions feed, as one stream
-abbrev pub stream_of : List Action → List ℕ
-stream_of [] = []
-stream_of (Feed piece ∷ actions) = piece ++ stream_of actions
-stream_of (Next ∷ actions) = stream_of actions
+-- A step leaves the end of the stream where it is, whatever bytes may follow; and a session that gives no turn
+-- is closed then exactly if it had come to that end.
+pub record KeepsEnd (h : Held) (given : Option Turn) (left : Held) : Type 0 where
+  pub kept : (more : List ℕ) → will_close (fed h more) ≡ will_close (fed left more)
+  pub come : given ≡ None → left.closed ≡ will_close h
+
+-- What is to come is the same, whatever bytes may follow: the turns, their end, and at most as many of them.
+pub record SameToCome (h left : Held) : Type 0 where
+  pub turns : (more : List ℕ) → to_come (fed left more) ≡ to_come (fed h more)
+  pub end : (more : List ℕ) → will_close (fed left more) ≡ will_close (fed h more)
+  pub most : most_turns left ≡ most_turns h

@@ -27,6 +27,12 @@ call_of None = None
 call_of (Some (Faulty fault)) = None
 call_of (Some (Calls call form)) = Some call
 
+-- the calls among turns
+abbrev pub calls_of : List Turn → List Call
+calls_of [] = []
+calls_of (Faulty fault ∷ ts) = calls_of ts
+calls_of (Calls call form ∷ ts) = call ∷ calls_of ts
+
 -- whether no key is left
 abbrev pub none_left : List (List ℕ) → Bool
 none_left [] = true

@@ -9,19 +9,25 @@ mod laws;
 mod lines;
 mod passing;
 mod requests;
+mod runs;
 mod sessions;
 mod storage;
 mod streams;
 mod texts;
 mod turns;
 mod words;
+mod writes;
 
 pub use faults::ProtoFault;
 pub use laws::{found_is_spelled, one_request_at_a_front, spelled_is_found, whole_stays_whole};
 pub use requests::{Fault, Keys, Request};
+pub use runs::{any_cutting, calls_have_replies, closes_at_last, holds_little, output_is_texts};
 pub use sessions::{Session, Step};
-pub use streams::{any_cutting, closes_at_last, faults_take_bytes, next_gives_first};
+pub use streams::{
+    answer_keeps_turns, faults_take_bytes, next_gives_first, next_keeps_end, taken_keeps_turns,
+};
 use texts::{Form, Look};
+pub use writes::{answer_writes, fewer_replies_begin, next_writes};
 
 #[cfg(test)]
 mod tests;

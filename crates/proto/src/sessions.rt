@@ -51,7 +51,8 @@ impl Model for Session {
 
 impl Session {
     ghost use Rattle.std.specs.Prelude.{◌≡◌, ◌↔◌, ◌≤◌, drop, length, true, None, IsOk, IfOk, OnOk, OnErr, IsErrOf, IsOkUnless};
-    ghost use Rattle.proto.specs.Sessions.{fresh, fed, next_of, step_of, answered_by, CanAnswer, IsInside, IsOpen};
+    ghost use Rattle.proto.specs.Sessions.{fresh, fed, next_of, step_of, answered_by, CanAnswer, IsInside, IsOpen, Tells};
+    ghost use Rattle.proto.specs.Streams.{LeavesFewer, most_turns};
 
     /// A session that was fed with nothing. It allocates nothing.
     pub fn new(alloc: Global) -> Session
@@ -97,6 +98,10 @@ impl Session {
         ensures left { OnOk result (self.new ≡ (next_of self.old).1) }
         // A call that is handed out fits and suits its target, and is answered in its operation's form.
         ensures opens { IfOk result (λ step. IsOpen step self.new.asked) }
+        // Which turn it was, or that there is none.
+        ensures tells { IfOk result (λ step. Tells step (next_of self.old)) }
+        // A loop over turns comes to an end: each leaves fewer.
+        ensures fewer { IfOk result (λ step. LeavesFewer step self.old self.new) }
         // A closed session says so at once.
         ensures closed { self.old.closed ≡ true → IsOk result }
         ensures only_memory { IsOkUnless result ProtoFault.Memory }
@@ -119,6 +124,8 @@ impl Session {
     pub fn answer(&mut self, reply: &Reply) -> Result<(), ProtoFault>
         requires { CanAnswer self.old.asked reply.now }
         ensures ok { OnOk result (self.new ≡ answered_by self.old.asked self.old reply.now) }
+        ensures idle { OnOk result (self.new.asked ≡ None) }
+        ensures as_many { OnOk result (most_turns self.new ≡ most_turns self.old) }
         ensures only_memory { IsOkUnless result ProtoFault.Memory }
         ensures err { OnErr result (self.new ≡ self.old) }
     {

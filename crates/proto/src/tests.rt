@@ -33,17 +33,21 @@ fn turn_after(session: &mut Session, table: &mut Table, piece: &[u8]) -> Result<
     turn(session, table)
 }
 
-// All turns that there are.
+// All turns that there are: each leaves fewer, so the loop ends.
 fn settle(session: &mut Session, table: &mut Table) -> Result<(), Fail>
     requires { session.old.asked ≡ None }
     ensures { OnOk result (session.new.asked ≡ None) }
 {
-    for _ in 0..100 {
-        if !turn(session, table)? {
-            break;
+    'turns: loop {
+        match session.next()? {
+            Step::Call(target, op) => {
+                let reply = table.call(&target, &op)?;
+                session.answer(&reply)?;
+            }
+            Step::Emit => {}
+            Step::Wait | Step::Close => return Ok(()),
         }
     }
-    Ok(())
 }
 
 // The output is taken in pieces of five bytes.
@@ -337,4 +341,34 @@ fn larger_items(rt: HostRuntime) -> Result<(), Fail> {
     let head = b"STORED\r\nSTORED\r\nVALUE b 0 65538 2\r\n";
     let wanted = with_block(alloc, head, 65537, b"y\r\nEND\r\n")?;
     check_large(&rt, input.as_slice(), wanted.as_slice())
+}
+
+// A number that is too large is a bad format, and its line alone is consumed. No block of 2^32 - 1 bytes comes here.
+#[test]
+fn numbers_at_their_limits(rt: HostRuntime) -> Result<(), Fail> {
+    check(
+        &rt,
+        b"set a 4294967295 0 1\r\n1\r\nset a 4294967296 0 1\r\nset a 0 0 4294967296\r\nset a -5 0 1\r\nget a\r\nset a 0 0 4294967295\r\nget a\r\n",
+        b"STORED\r\nCLIENT_ERROR bad command line format\r\nCLIENT_ERROR bad command line format\r\nCLIENT_ERROR bad command line format\r\nVALUE a 4294967295 1\r\n1\r\nEND\r\n",
+    )?;
+    check(
+        &rt,
+        b"set n 0 0 1\r\n0\r\nincr n 18446744073709551615\r\nincr n 18446744073709551616\r\ndecr n 18446744073709551616\r\nincr n -5\r\ndecr n 18446744073709551615\r\n",
+        b"STORED\r\n18446744073709551615\r\nCLIENT_ERROR bad command line format\r\nCLIENT_ERROR bad command line format\r\nCLIENT_ERROR bad command line format\r\n0\r\n",
+    )?;
+    check(
+        &rt,
+        b"set a 0 -5 1\r\n1\r\nset a 0 --1 1\r\nset a 0 0 1\r\n1\r\ncas a 0 0 1 18446744073709551615\r\n2\r\ncas a 0 0 1 18446744073709551616\r\n",
+        b"CLIENT_ERROR expiry is not supported\r\nCLIENT_ERROR bad command line format\r\nSTORED\r\nEXISTS\r\nCLIENT_ERROR bad command line format\r\n",
+    )
+}
+
+// Bytes 33, 128 and 255 stand in keys; 127 and a tab don't, and 32 stands between two fields.
+#[test]
+fn key_bytes_at_their_limits(rt: HostRuntime) -> Result<(), Fail> {
+    check(
+        &rt,
+        b"set ! 0 0 1\r\n1\r\nset \x80 0 0 1\r\n2\r\nset \xff 0 0 1\r\n3\r\nget \xff \x80 !\r\nget a\x7f\r\nget a\tb\r\ndelete a b\r\n",
+        b"STORED\r\nSTORED\r\nSTORED\r\nVALUE \xff 0 1\r\n3\r\nVALUE \x80 0 1\r\n2\r\nVALUE ! 0 1\r\n1\r\nEND\r\nCLIENT_ERROR bad command line format\r\nCLIENT_ERROR bad command line format\r\nCLIENT_ERROR bad command line format\r\n",
+    )
 }

@@ -1,7 +1,7 @@
 -- The base that records stand for.
 use Rattle.std.proofs.Common.{◌≡◌, ℕ, Bool, true, false, cond, List, [], ◌∷◌, ◌++◌, drop, Option, None, Some, refl, sym, ap, ◌∙◌, append-nil}
 use Rattle.std.proofs.lemmas.Map.Views.{tells_apart}
-use Rattle.std.specs.FinMap.{get-insert, get-remove, get-empty, same_map}
+use Rattle.std.specs.FinMap.{empty, insert, get-insert, get-remove, get-empty, same_map}
 use Rattle.std.specs.Ordering.{eq_by_cmp}
 use Rattle.std.specs.Cmp.Lexicographic.{nat_list_cmp_total}
 use Rattle.std.specs.Map.{keys_of}
@@ -19,9 +19,9 @@ use Rattle.table.specs.declared.items.Item.{Item}
 use Rattle.table.specs.declared.operations.Target.{Target}
 use Rattle.table.specs.declared.operations.Change.{Change}
 use Rattle.versions.specs.Entries.{set_key}
-use Rattle.versions.specs.Stores.{is_key_of, sets}
+use Rattle.versions.specs.Stores.{is_key_of, sets, items_put}
 use Rattle.versions.specs.declared.records.Record.{Record}
-use Rattle.versions.specs.Records.{record_at, item_in, numbers_in, with_item, base_of, item_after}
+use Rattle.versions.specs.Records.{record_at, item_in, numbers_in, with_item, base_of, put_of, puts_of, item_after}
 use Rattle.versions.proofs.Logs.{item-changed}
 
 item_of_choice : (b : Bool) (r : Record) (o : Option Record) → cond b r.item (item_in o) ≡ item_in (cond b (Some r) o)
@@ -130,3 +130,47 @@ itself k = (eq_by_cmp_equiv nat_list_cmp_total).refl k
 -- a number is added at the key that an entry sets
 pub noted_key : (f : List ℕ → List ℕ) (n : ℕ) (k q : List ℕ) (target : Target) (change : Change) → Some k ≡ set_key target change → cond (is_at (key_cmp k) q) (f k ++ n ∷ []) (f q) ≡ f q ++ cond (sets q target change) (n ∷ []) []
 noted_key f n k q target change is = noted_at f n k q ∙ ap (λ o. f q ++ cond (is_key_of o q) (n ∷ []) []) is
+
+-- ---- the items of all records, put one after another
+
+-- the first, or else the second
+abbrev pub first_of : Option Item → Option Item → Option Item
+first_of None o = o
+first_of (Some i) o = Some i
+
+abbrev pub with_put : Items → List ℕ → Option Item → Items
+with_put items key None = items
+with_put items key (Some item) = insert items key item
+
+put_first : (items : Items) (key : List ℕ) (item : Option Item) (es : List (List ℕ × Item)) → items_put items (put_of key item ++ es) ≡ items_put (with_put items key item) es
+put_first items key None es = refl
+put_first items key (Some i) es = refl
+
+first_none : (o : Option Item) → first_of o None ≡ o
+first_none None = refl
+first_none (Some i) = refl
+
+item-with_put : (items : Items) (key : List ℕ) (item : Option Item) (q : List ℕ) → item_at (with_put items key item) q ≡ cond (eq_by_cmp key_cmp q key) (first_of item (item_at items q)) (item_at items q)
+item-with_put items key None q = cond_same (eq_by_cmp key_cmp q key) (item_at items q)
+  where
+    cond_same : (b : Bool) (o : Option Item) → o ≡ cond b o o
+    cond_same true o = refl
+    cond_same false o = refl
+item-with_put items key (Some i) q = get-insert nat_list_cmp_total items key i q
+
+put_choice : (b : Bool) (r : Record) (o : Option Record) (x : Option Item) → (b ≡ true → o ≡ None) → first_of (item_in o) (cond b (first_of r.item x) x) ≡ first_of (item_in (cond b (Some r) o)) x
+put_choice true r o x none = ap (λ p. first_of (item_in p) (first_of r.item x)) (none refl)
+put_choice false r o x none = refl
+
+item-puts : (items : Items) (es : List (List ℕ × Record)) (q : List ℕ) → IsDistinct (eq_by_cmp key_cmp) (keys_of es) → item_at (items_put items (puts_of es)) q ≡ first_of (item_in (record_at es q)) (item_at items q)
+item-puts items [] q d = refl
+item-puts items (e ∷ es) q d =
+    ap (λ m. item_at m q) (put_first items e.0 e.1.item (puts_of es))
+    ∙ item-puts (with_put items e.0 e.1.item) es q (IsDistinct-tail (eq_by_cmp key_cmp) e.0 (keys_of es) d)
+    ∙ ap (first_of (item_in (record_at es q))) (item-with_put items e.0 e.1.item q)
+    ∙ put_choice (eq_by_cmp key_cmp q e.0) e.1 (record_at es q) (item_at items q) (λ t. lookup-none (is_at (key_cmp q)) es (none_past_head (eq_by_cmp_equiv nat_list_cmp_total) q e es d t))
+
+-- they make the base
+pub base-puts : (es : List (List ℕ × Record)) → IsDistinct (eq_by_cmp key_cmp) (keys_of es) → items_put empty (puts_of es) ≡ base_of es
+base-puts es d = same_map nat_list_cmp_total exact_bytes _ _ (λ q.
+    item-puts empty es q d ∙ ap (first_of (item_in (record_at es q))) (get-empty key_cmp q) ∙ first_none (item_in (record_at es q)) ∙ sym (item-base_of es q))

@@ -1,5 +1,6 @@
--- How the fields of a store stand for what it holds: a record for each key, and the numbers of the clears.
-use Rattle.std.specs.Prelude.{◌≡◌, ℕ, ◌+◌, ◌-◌, length, Bool, cond, nat_lt, List, [], ◌∷◌, Option, None, Some, if◌then◌else◌}
+-- Serves the fields of the code; no public contract needs it. How they stand for what a store holds: a record for each key,
+-- and the numbers of the clears.
+use Rattle.std.specs.Prelude.{◌≡◌, ℕ, ◌+◌, ◌-◌, length, Bool, cond, nat_lt, List, [], ◌∷◌, ◌++◌, Option, None, Some, if◌then◌else◌}
 use Rattle.std.specs.FinMap as map
 use Rattle.std.specs.Map.{lookup}
 use Rattle.std.specs.List.{slice_get}
@@ -62,6 +63,16 @@ with_item items key (Some item) = map.insert items key item
 abbrev pub base_of : List (List ℕ × Record) → Items
 base_of [] = map.empty
 base_of (e ∷ es) = with_item (base_of es) e.0 e.1.item
+
+-- a key with its item, if it has one
+abbrev pub put_of : List ℕ → Option Item → List (List ℕ × Item)
+put_of key None = []
+put_of key (Some item) = (key, item) ∷ []
+
+-- the keys of all records that have an item, with their items
+abbrev pub puts_of : List (List ℕ × Record) → List (List ℕ × Item)
+puts_of [] = []
+puts_of (e ∷ es) = put_of e.0 e.1.item ++ puts_of es
 
 -- the item that the entry at this place puts, or none
 abbrev pub item_put_at : List LogEntry → ℕ → Option Item

@@ -60,6 +60,11 @@ items_after items (e ∷ es) = items_after (changed items e.target e.change) es
 abbrev pub items_at : StoreState → ℕ → Items
 items_at s n = items_after s.base (entries_up_to s n)
 
+-- the items after these are put, one after another
+abbrev pub items_put : Items → List (List ℕ × Item) → Items
+items_put items [] = items
+items_put items (e ∷ es) = items_put (map.insert items e.0 e.1) es
+
 -- the item of a key at such a number
 -- (CRAQ, "Chain Replication with Apportioned Queries": the version that a dirty read is answered with)
 abbrev pub value_at : StoreState → List ℕ → ℕ → Option Item

@@ -3,6 +3,8 @@
 
 mod changes;
 mod entries;
+mod items;
+mod laws;
 mod lookups;
 mod numbers;
 mod queues;
@@ -10,6 +12,7 @@ mod records;
 mod stores;
 
 pub use entries::Entry;
+pub use laws::{items_follow_the_log, parts_are_logs, stores_stay_stores};
 pub use stores::{Store, StoreFault};
 
 #[cfg(test)]

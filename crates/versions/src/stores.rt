@@ -1,13 +1,15 @@
 //! The store: the items at the floor, and the entries above it.
-ghost use Rattle.std.specs.Prelude.{◌≡◌, ◌≤◌, ◌+◌, ◌↔◌, OnOk, OnErr, IsTrue, IsSome, IfSome};
+ghost use Rattle.std.specs.Prelude.{◌≡◌, ◌≤◌, ◌+◌, ◌↔◌, OnOk, OnErr, IfOk, IsTrue, IsSome, IfSome};
+ghost use Rattle.std.specs.FinMap as map;
 ghost use Rattle.std.specs.Option.{option_copied};
 ghost use Rattle.std.specs.Iterator.Runs.{YieldsRefsInOrder};
 ghost use Rattle.std.specs.VecDeque.Iter.{deque_iter_rest, deque_iter_steps};
 ghost use Rattle.versions.specs.declared.stores.StoreFault.TheVariants.{Memory};
-ghost use Rattle.versions.specs.Stores.{IsStore, opening_store, last_number, value_at, IsClean, entries_after, pushed, acked_to, dropped_to};
+ghost use Rattle.versions.specs.Stores.{IsStore, opening_store, last_number, value_at, IsClean, entries_after, items_put, pushed, acked_to, dropped_to};
 
 use crate::Entry;
 use crate::changes::{note, settle_first};
+use crate::items::items_of;
 use crate::lookups::{is_above, item_from};
 use crate::numbers::Numbers;
 use crate::queues::give_back;
@@ -192,6 +194,14 @@ impl Store {
     {
         let first = (n - self.floor) as usize;
         self.entries.range(first..)
+    }
+
+    /// The items of the base with their keys: put one after another, they make it. They share their data and their keys' bytes.
+    /// Time is linear in the number of keys.
+    pub fn base(&self) -> Result<Vec<(Key, Item)>, AllocError>
+        ensures { IfOk result (λ found. items_put map.empty found.items ≡ self.now.base) }
+    {
+        items_of(self.alloc, &self.records)
     }
 
     /// Whether no entry above the acknowledged number puts, drops or clears the key

@@ -15,7 +15,7 @@ use Rattle.wire.proofs.Readers.{IsBytes, IsBytes-take, IsReader, in_turn, made, 
 
 -- ---- a range
 
-within_ok : {A : Type 0} (b : Bool) (x y : A) → within b x ≡ Ok y → (b ≡ true) × (x ≡ y)
+pub within_ok : {A : Type 0} (b : Bool) (x y : A) → within b x ≡ Ok y → (b ≡ true) × (x ≡ y)
 within_ok true x y e = (refl, cc)
 within_ok false x y e = absurd cc
 
@@ -23,7 +23,7 @@ within_bad : {A : Type 0} (b : Bool) (x : A) → within b x ≡ Err Malformed �
 within_bad true x e = absurd cc
 within_bad false x e = refl
 
-within_short : {A : Type 0} (b : Bool) (x : A) (k : ℕ) → within b x ≡ Err (Short k) → ⊥
+pub within_short : {A : Type 0} (b : Bool) (x : A) (k : ℕ) → within b x ≡ Err (Short k) → ⊥
 within_short true x k e = cc
 within_short false x k e = cc
 
@@ -100,17 +100,17 @@ here n bytes =
     ]
 
 -- what comes of n bytes at the front where they are there, and else so many are missing
-abbrev counted : {A : Type 0} → ℕ → (List ℕ → Result A Stop) → List ℕ → Result A Stop
+abbrev pub counted : {A : Type 0} → ℕ → (List ℕ → Result A Stop) → List ℕ → Result A Stop
 counted n f bytes = cond (nat_lt (length bytes) n) (Err (Short (n - length bytes))) (f bytes)
 
-counted_ok : {A : Type 0} (n : ℕ) (f : List ℕ → Result A Stop) (bytes : List ℕ) (x : A) → counted n f bytes ≡ Ok x → (n ≤ length bytes) × (f bytes ≡ Ok x)
+pub counted_ok : {A : Type 0} (n : ℕ) (f : List ℕ → Result A Stop) (bytes : List ℕ) (x : A) → counted n f bytes ≡ Ok x → (n ≤ length bytes) × (f bytes ≡ Ok x)
 counted_ok n f bytes x e =
     elim (here n bytes) [
       | inl short ↦ let stop : counted n f bytes ≡ Err (Short (n - length bytes)) = rw short.0 refl in absurd cc
       | inr long ↦ (long.1, (rw long.0 at e))
     ]
 
-counted_short : {A : Type 0} (n : ℕ) (f : List ℕ → Result A Stop) (bytes : List ℕ) (k : ℕ) → ((k : ℕ) → f bytes ≡ Err (Short k) → ⊥) → counted n f bytes ≡ Err (Short k) → (length bytes < n) × (n - length bytes ≡ k)
+pub counted_short : {A : Type 0} (n : ℕ) (f : List ℕ → Result A Stop) (bytes : List ℕ) (k : ℕ) → ((k : ℕ) → f bytes ≡ Err (Short k) → ⊥) → counted n f bytes ≡ Err (Short k) → (length bytes < n) × (n - length bytes ≡ k)
 counted_short n f bytes k never e =
     elim (here n bytes) [
       | inl short ↦ let stop : counted n f bytes ≡ Err (Short (n - length bytes)) = rw short.0 refl in (short.1, cc)
@@ -162,7 +162,7 @@ wide64 = record {
 }
 
 -- the number at the front, judged
-abbrev judged : Width → (ℕ → Bool) → List ℕ → Read ℕ
+abbrev pub judged : Width → (ℕ → Bool) → List ℕ → Read ℕ
 judged w range bytes = within (range (from_be_bytes w (take (byte_len w) bytes))) (from_be_bytes w (take (byte_len w) bytes), drop (byte_len w) bytes)
 
 -- the bytes of the number that was read
@@ -239,7 +239,7 @@ number_reader w range wide = record {
 
 -- ---- so many bytes, any
 
-abbrev cut : ℕ → List ℕ → Read (List ℕ)
+abbrev pub cut : ℕ → List ℕ → Read (List ℕ)
 cut n bytes = Ok (take n bytes, drop n bytes)
 
 pub bytes_reader : (n : ℕ) → IsReader (bytes_at n) (bytes_of n)

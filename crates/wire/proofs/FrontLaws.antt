@@ -1,12 +1,12 @@
 -- What reading finds at the front of a stream is what the format says of it, and it stays so when more bytes come.
 use Rattle.std.proofs.Common.{◌≡◌, ◌⊎◌, ℕ, zero, suc, ◌+◌, ◌-◌, ◌<◌, List, [], ◌∷◌, ◌++◌, length, drop, Result, Ok, Err, refl, sym, ap, subst, ◌∙◌, arith, inl, inr, length-append}
 use Rattle.std.specs.Prelude.{◌==◌, IsOk}
-use Rattle.std.proofs.lemmas.List.{drop_at}
+use Rattle.std.proofs.lemmas.List.{append-nil, drop_at}
 use Rattle.std.proofs.lemmas.Bool.{cases_Bool, eqb-true, eqb-false}
 use Rattle.wire.specs.declared.fields.Stop.{Stop}
 use Rattle.wire.specs.declared.fields.Stop.TheVariants.{Short, Malformed, Old}
 use Rattle.wire.specs.declared.frames.Frame.{Frame}
-use Rattle.wire.specs.Spellings.{spelling}
+use Rattle.wire.specs.Spellings.{IsFrame, spelling}
 use Rattle.wire.specs.Grammar.{any, HasFrame, IsFirst, IsMalformed, IsOld, IsPartial}
 use Rattle.wire.specs.declared.reading.ReadFault.{ReadFault}
 use Rattle.wire.specs.declared.reading.ReadFault.TheVariants.{Memory, Stopped}
@@ -39,7 +39,7 @@ by_format (b ∷ rest) =
     first_is b rest more e = cc
 
 -- results of reading that can't be one
-ok_not_err : {A : Type 0} (r : Result A Stop) (x : A) (s : Stop) → r ≡ Ok x → r ≡ Err s → ⊥
+pub ok_not_err : {A : Type 0} (r : Result A Stop) (x : A) (s : Stop) → r ≡ Ok x → r ≡ Err s → ⊥
 ok_not_err r x s e f = cc
 
 bad_not_old : {A : Type 0} (r : Result A Stop) → r ≡ Err Malformed → r ≡ Err Old → ⊥
@@ -105,6 +105,14 @@ partial_from bytes k e = record {
   not_old = λ h. short_not_old (front bytes) k e (old_to bytes h);
 }
 
+-- where more is waited for it is so too without telling formats apart
+pub plain_short : (bytes : List ℕ) (k : ℕ) → front bytes ≡ Err (Short k) → plain_front bytes ≡ Err (Short k)
+plain_short bytes k e =
+    elim (by_format bytes) [
+      | inl old ↦ absurd (short_not_old (front bytes) k e old.1)
+      | inr other ↦ sym other.1 ∙ e
+    ]
+
 -- where a frame is read nothing else stands
 pub frame_not_malformed : (bytes : List ℕ) (x : Frame × List ℕ) → front bytes ≡ Ok x → IsMalformed bytes → ⊥
 frame_not_malformed bytes x e h = ok_not_err (front bytes) x Malformed e (malformed_to bytes h)
@@ -137,7 +145,7 @@ old_before (b ∷ bytes) more o = inr (bytes, ap (λ (b : ℕ). b ∷ bytes) (fi
     first_is : (b : ℕ) (rest more : List ℕ) → b ∷ rest ≡ 1 ∷ more → b ≡ 1
     first_is b rest more e = cc
 
-nothing_read : front [] ≡ Err (Short 1)
+pub nothing_read : front [] ≡ Err (Short 1)
 unfolding front
 nothing_read = refl
 
@@ -190,6 +198,30 @@ one_frame f g bytes more others h k = same (sym (first_to bytes f more h) ∙ fi
   where
     same : ◌≡◌ {A = Read Frame} (Ok (f, more)) (Ok (g, others)) → (f ≡ g) × (more ≡ others)
     same e = let pair : (f, more) ≡ (g, others) = cc in (ap (λ (p : Frame × List ℕ). p.0) pair, ap (λ (p : Frame × List ℕ). p.1) pair)
+
+-- ---- beginnings
+
+-- what is told of a front is told of all bytes; those of a whole frame are read as it
+pub beginning_short : (f : Frame) (some rest : List ℕ) → IsFrame f → spelling f ≡ some ++ rest → 0 < length rest → (k : ℕ) × (front some ≡ Err (Short k))
+beginning_short f some rest h e more = by_front (front some) refl
+  where
+    whole : front (some ++ rest) ≡ Ok (f, [])
+    whole = first_to (some ++ rest) f [] (record { in_range = h; spelled = sym e ∙ sym (append-nil (spelling f)) })
+
+    nothing_behind : (x : Frame × List ℕ) → ◌≡◌ {A = Read Frame} (Ok (x.0, x.1 ++ rest)) (Ok (f, [])) → ⊥
+    nothing_behind x e =
+        let pair : ◌≡◌ {A = Frame × List ℕ} (x.0, x.1 ++ rest) (f, []) = cc in
+        let none : length (x.1 ++ rest) ≡ 0 = ap (λ (p : Frame × List ℕ). length p.1) pair in
+        omega (arith, length-append x.1 rest)
+
+    by_front : (r : Read Frame) → front some ≡ r → (k : ℕ) × (front some ≡ Err (Short k))
+    by_front (Ok x) e = absurd (nothing_behind x (sym (front_stays some rest x.0 x.1 e) ∙ whole))
+    by_front (Err (Short k)) e = (k, e)
+    by_front (Err Malformed) e = absurd (ok_not_err (front (some ++ rest)) (f, []) Malformed whole (malformed_stays some rest e))
+    by_front (Err Old) e = absurd (ok_not_err (front (some ++ rest)) (f, []) Old whole (old_stays some rest e))
+
+pub beginning_waits : (f : Frame) (some rest : List ℕ) → IsFrame f → spelling f ≡ some ++ rest → 0 < length rest → IsPartial some
+beginning_waits f some rest h e more = let short = beginning_short f some rest h e more in partial_from some short.0 short.1
 
 -- what a function failed with, by the fault
 pub stopped_is : (fault : ReadFault) (stop other : Stop) (r : Read Frame) → fault ≡ Stopped stop → stop ≡ other → Fails fault r → r ≡ Err other

@@ -5,4 +5,7 @@ pub mod Spelled
 pub mod SpelledFrames
 pub mod FrontLaws
 pub mod Appends
+pub mod Lengths
+pub mod FrameLengths
 pub mod StreamLaws
+pub mod EndLaws

@@ -33,7 +33,7 @@ fuel (suc k) (suc j) bytes hk hj = by_front (front bytes) refl (λ rest below lo
     by_front (Ok x) e ih = let less = front_takes bytes x.0 x.1 e in ap (λ (fs : List Frame). x.0 ∷ fs) (ih x.1 (omega arith) (omega arith))
 
 -- nothing is read where reading stops
-frames_none : (bytes : List ℕ) (s : Stop) → front bytes ≡ Err s → frames_in bytes ≡ []
+pub frames_none : (bytes : List ℕ) (s : Stop) → front bytes ≡ Err s → frames_in bytes ≡ []
 frames_none bytes s e = by_length (length bytes)
   where
     by_length : (k : ℕ) → frames_upto k bytes ≡ []
@@ -41,7 +41,7 @@ frames_none bytes s e = by_length (length bytes)
     by_length (suc k) = ap (λ r. and_later r (frames_upto k)) e
 
 -- the frame at the front, and those behind it
-frames_some : (bytes : List ℕ) (f : Frame) (rest : List ℕ) → front bytes ≡ Ok (f, rest) → frames_in bytes ≡ f ∷ frames_in rest
+pub frames_some : (bytes : List ℕ) (f : Frame) (rest : List ℕ) → front bytes ≡ Ok (f, rest) → frames_in bytes ≡ f ∷ frames_in rest
 frames_some bytes f rest e = by_length (length bytes) refl
   where
     by_length : (k : ℕ) → length bytes ≡ k → frames_upto k bytes ≡ f ∷ frames_in rest

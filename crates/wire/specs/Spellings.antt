@@ -12,7 +12,7 @@ use Rattle.table.specs.declared.operations.Reply.TheVariants.{Stored, NotStored,
 use Rattle.table.specs.declared.operations.Change.{Change}
 use Rattle.table.specs.declared.operations.Change.TheVariants.{Keep, Put, Drop, Clear}
 use Rattle.versions.specs.Entries.{LogEntry, IsEntry}
-use Rattle.node.specs.Lawful.{IsCall}
+use Rattle.node.specs.Lawful.{IsCall, IsSendable}
 use Rattle.node.specs.declared.messages.Body.{Body}
 use Rattle.node.specs.declared.messages.Body.TheVariants as bodies
 use Rattle.wire.specs.declared.frames.Frame.{Frame}
@@ -100,18 +100,11 @@ spelling (Hello id) = 2 ∷ 0 ∷ id ∷ []
 spelling (Peer peer) = 2 ∷ kind_of peer.body ∷ (to_be_bytes w16 peer.view ++ body_spelling peer.body)
 spelling (Gone id) = 2 ∷ 6 ∷ id ∷ []
 
--- the ranges that no type keeps: ids and asks are at least 1; an operation is an update that fits and suits its target
-abbrev pub IsBodyInRange : Body → Type 0
-IsBodyInRange (bodies.Op id call) = (1 ≤ id) × IsCall call × (is_update call.op ≡ true)
-IsBodyInRange (bodies.Forward e) = Unit {0}
-IsBodyInRange (bodies.Ack n) = Unit {0}
-IsBodyInRange (bodies.Query ask key) = 1 ≤ ask
-IsBodyInRange (bodies.Answer ask n) = 1 ≤ ask
-
--- a server has an id below 16; 16 is the master, who may greet and is never gone
+-- A frame whose fields are in the ranges that no type keeps: a server has an id below 16, and 16 is the master, who may greet
+-- and is never gone; a message is one that may be sent.
 abbrev pub IsInRange : Frame → Type 0
 IsInRange (Hello id) = id ≤ 16
-IsInRange (Peer peer) = IsBodyInRange peer.body
+IsInRange (Peer peer) = IsSendable peer.body
 IsInRange (Gone id) = id < 16
 
 -- a target, where a frame is seen as plain data: its key is one, as the type of keys keeps it

@@ -1,8 +1,8 @@
 //! Frames: what servers tell each other on a connection.
 ghost use Rattle.std.specs.Prelude.{◌↔◌, IsTrue};
-ghost use Rattle.wire.specs.Spellings.{IsBodyInRange, IsInRange};
+ghost use Rattle.wire.specs.Spellings.{IsInRange};
 
-use node::{Body, Peer};
+use node::Peer;
 
 /// The format's number, which is each frame's first byte.
 pub const FORMAT: u8 = 2;
@@ -34,20 +34,8 @@ impl Frame {
     {
         match self {
             Frame::Hello(id) => *id <= MASTER,
-            Frame::Peer(peer) => is_body_in_range(&peer.body),
+            Frame::Peer(peer) => peer.body.is_sendable(),
             Frame::Gone(id) => *id < SERVERS,
         }
-    }
-}
-
-fn is_body_in_range(body: &Body) -> bool
-    ensures { IsTrue result ↔ IsBodyInRange body.now }
-{
-    match body {
-        Body::Op(id, call) => {
-            *id >= 1 && call.op.fits() && call.op.suits(&call.target) && call.op.is_update()
-        }
-        Body::Query(ask, _) | Body::Answer(ask, _) => *ask >= 1,
-        Body::Forward(_) | Body::Ack(_) => true,
     }
 }

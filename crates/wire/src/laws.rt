@@ -1,9 +1,10 @@
 //! Laws of the format: one spelling a frame, none a beginning of another, and what is read is what was written.
-ghost use Rattle.std.specs.Prelude.{◌≡◌, ◌↔◌, ◌<◌, List, ℕ, ◌++◌, slice_index};
+ghost use Rattle.std.specs.Prelude.{◌≡◌, ◌↔◌, ◌+◌, ◌<◌, ◌≤◌, List, ℕ, ◌++◌, length, slice_index};
 ghost use Rattle.std.specs.List.{AllByRecursion, flat_map};
 ghost use Rattle.wire.specs.declared.frames.Frame.{Frame};
 ghost use Rattle.wire.specs.Spellings.{IsFrame, spelling};
-ghost use Rattle.wire.specs.Grammar.{IsFirst, IsMalformed, frame};
+ghost use Rattle.wire.specs.Lengths.{longest};
+ghost use Rattle.wire.specs.Grammar.{IsFirst, IsMalformed, IsPartial, frame};
 ghost use Rattle.wire.specs.Streams.{Action, driven, frames_in, fresh, stream_of};
 
 /// The format, field by field, spells each frame that is in range, by its one spelling, and nothing else.
@@ -24,6 +25,24 @@ pub fn bad_front_is_final()
 /// A bad front stays bad, whatever bytes come behind it.
 pub fn bad_front_stays()
     ensures { (bytes more : List ℕ) → ((i : ℕ) → slice_index (bytes ++ more) i < 256) → IsMalformed bytes → IsMalformed (bytes ++ more) }
+{}
+
+/// What isn't whole is short: a front at which more bytes are waited for is shorter than the longest frame, and some such
+/// front is shorter by one byte alone.
+pub fn partial_front_is_short()
+    ensures short { (bytes : List ℕ) → ((i : ℕ) → slice_index bytes i < 256) → IsPartial bytes → length bytes < longest }
+    ensures sharp { (bytes : List ℕ) × IsPartial bytes × (length bytes + 1 ≡ longest) }
+{}
+
+/// No frame is longer than the longest, and some frame is as long.
+pub fn longest_frame()
+    ensures bound { (f : Frame) → IsFrame f → length (spelling f) ≤ longest }
+    ensures reached { (f : Frame) × IsFrame f × (length (spelling f) ≡ longest) }
+{}
+
+/// At each beginning of a frame's spelling more bytes are waited for, until all of it is there.
+pub fn beginning_waits()
+    ensures { (f : Frame) (front rest : List ℕ) → IsFrame f → spelling f ≡ front ++ rest → 0 < length rest → IsPartial front }
 {}
 
 /// The frames that a reader gave, and those that it has still to give, are those of all its bytes as one stream:

@@ -2,23 +2,31 @@
 #![tactic(auto)]
 
 mod blocks;
+mod ends;
 mod entries;
 mod faults;
 mod fields;
 mod frames;
 mod laws;
 mod operations;
+mod ranges;
 mod reading;
+mod serving;
 mod sizes;
 mod spelling;
 mod streams;
 mod targets;
 
+pub use ends::PeerEnd;
 pub use faults::WireFault;
 pub use frames::Frame;
 pub use laws::{
-    any_cutting, bad_front_is_final, bad_front_stays, format_is_spelling, one_frame_at_a_front,
-    written_is_read,
+    any_cutting, bad_front_is_final, bad_front_stays, beginning_waits, format_is_spelling,
+    longest_frame, one_frame_at_a_front, partial_front_is_short, written_is_read,
+};
+pub use serving::{
+    bad_front_ends, frame_takes_bytes, frames_behind_frames, link_is_read_in_order, one_frame_more,
+    stream_is_its_frames,
 };
 pub use spelling::{encode, encode_onto};
 pub use streams::Frames;

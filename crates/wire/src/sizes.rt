@@ -2,7 +2,8 @@
 ghost use Rattle.std.specs.Prelude.{◌≡◌, ◌+◌, ◌≤◌, ◌<◌, true, false, length};
 ghost use Rattle.table.specs.Items.{limit};
 ghost use Rattle.table.specs.Operations.{Fits, is_update, is_value};
-ghost use Rattle.wire.specs.Spellings.{IsBodyInRange, IsInRange, body_spelling, change_spelling, op_spelling, reply_spelling, spelling, target_spelling};
+ghost use Rattle.node.specs.Lawful.{IsSendable};
+ghost use Rattle.wire.specs.Spellings.{IsInRange, body_spelling, change_spelling, op_spelling, reply_spelling, spelling, target_spelling};
 
 use crate::Frame;
 use node::Body;
@@ -21,7 +22,7 @@ pub fn size(frame: &Frame) -> usize
 }
 
 fn body_size(body: &Body) -> usize
-    requires range { IsBodyInRange body.now }
+    requires range { IsSendable body.now }
     ensures size { result ≡ length (body_spelling body.now) }
     ensures bound { result < 2000000 }
 {

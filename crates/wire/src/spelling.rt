@@ -2,9 +2,11 @@
 ghost use Rattle.std.specs.Prelude.{◌≡◌, ◌+◌, ◌≤◌, ◌++◌, ◌∷◌, false, length, IfOk, OnOk, OnErr, IsOkUnless};
 ghost use Rattle.table.specs.Items.{limit};
 ghost use Rattle.table.specs.Operations.{Fits, is_value};
-ghost use Rattle.wire.specs.Spellings.{IsBodyInRange, IsInRange, block_spelling, body_spelling, change_spelling, eight_bytes, entry_spelling, four_bytes, key_spelling, kind_of, op_spelling, reply_spelling, spelling, target_spelling};
+ghost use Rattle.node.specs.Lawful.{IsSendable};
+ghost use Rattle.wire.specs.Spellings.{IsFrame, IsInRange, block_spelling, body_spelling, change_spelling, eight_bytes, entry_spelling, four_bytes, key_spelling, kind_of, op_spelling, reply_spelling, spelling, target_spelling};
 
 use crate::frames::FORMAT;
+use crate::ranges::hold_ranges;
 use crate::sizes::size;
 use crate::{Frame, WireFault};
 use bytes::{Bytes, BytesMut};
@@ -13,11 +15,12 @@ use std::alloc::Global;
 use table::{Change, Key, Op, Reply, Target};
 use versions::Entry;
 
-/// The one spelling of a frame in its ranges (docs/FORMATS.md, "Peer messages"; this project's rule). Memory is its only
-/// refusal. An item's data is copied once.
+/// The one spelling of a frame in its ranges (docs/FORMATS.md, "Peer messages"; this project's rule), from which it is read
+/// again. Memory is its only refusal. An item's data is copied once.
 pub fn encode(alloc: Global, frame: &Frame) -> Result<Vec<u8>, WireFault>
     requires range { IsInRange frame.now }
     ensures spelling { IfOk result (λ bytes. bytes.items ≡ spelling frame.now) }
+    ensures frame { IsFrame frame.now }
     ensures only_memory { IsOkUnless result WireFault.Memory }
 {
     let mut out = BytesMut::new(alloc);
@@ -30,9 +33,11 @@ pub fn encode(alloc: Global, frame: &Frame) -> Result<Vec<u8>, WireFault>
 pub fn encode_onto(out: &mut BytesMut, frame: &Frame) -> Result<(), WireFault>
     requires range { IsInRange frame.now }
     ensures ok { OnOk result (out.new.items ≡ out.old.items ++ spelling frame.now) }
+    ensures frame { IsFrame frame.now }
     ensures only_memory { IsOkUnless result WireFault.Memory }
     ensures err { OnErr result (out.new.items ≡ out.old.items) }
 {
+    hold_ranges(frame);
     out.reserve(size(frame))?;
     put(out, frame);
     Ok(())
@@ -68,7 +73,7 @@ fn kind_of(body: &Body) -> u8
 }
 
 fn put_body(out: &mut BytesMut, body: &Body)
-    requires range { IsBodyInRange body.now }
+    requires range { IsSendable body.now }
     requires room { length (body_spelling body.now) ≤ out.old.spare }
     ensures { out.new.items ≡ out.old.items ++ body_spelling body.now }
 {

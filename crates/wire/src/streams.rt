@@ -3,7 +3,7 @@ ghost use Rattle.std.specs.Prelude.{◌≡◌};
 
 use crate::fields::Stop;
 use crate::reading::{ReadFault, front};
-use crate::{Frame, WireFault};
+use crate::{Frame, PeerEnd, WireFault};
 use bytes::BytesMut;
 use std::alloc::Global;
 use std::marker::Model;
@@ -30,9 +30,11 @@ impl Model for Frames {
 }
 
 impl Frames {
-    ghost use Rattle.std.specs.Prelude.{◌≡◌, ◌↔◌, true, OnOk, OnErr, IfOk, IfSome, IfNone, IsErrOf};
+    ghost use Rattle.std.specs.Prelude.{◌≡◌, ◌↔◌, ◌<◌, length, true, OnOk, OnErr, IfOk, IfSome, IfNone, IsErrOf};
     ghost use Rattle.wire.specs.Grammar.{HasFrame, IsFirst, IsMalformed, IsOld, IsPartial};
+    ghost use Rattle.wire.specs.Lengths.{longest};
     ghost use Rattle.wire.specs.Streams.{fed, fresh, next_of};
+    ghost use Rattle.wire.specs.Ends.{IsEnd};
 
     /// A reader that was fed with nothing. It allocates nothing.
     pub fn new(alloc: Global) -> Frames
@@ -68,9 +70,14 @@ impl Frames {
     pub fn next(&mut self) -> Result<Option<Frame>, WireFault>
         ensures frame { IfOk result (λ found. IfSome found (λ frame. IsFirst frame self.old.unread self.new.unread)) }
         ensures none { IfOk result (λ found. IfNone found (IsPartial self.old.unread)) }
+        // With none, all stays as it was, and that is shorter than the longest frame; if no more bytes come, no frame is left there.
+        ensures kept { IfOk result (λ found. IfNone found (self.new ≡ self.old)) }
+        ensures short { IfOk result (λ found. IfNone found (length self.new.unread < longest)) }
+        ensures end { IfOk result (λ found. IfNone found (IsEnd self.old.unread PeerEnd.Input)) }
         ensures malformed { IsErrOf result WireFault.Malformed ↔ IsMalformed self.old.unread }
         ensures old_format { IsErrOf result WireFault.OldFormat ↔ IsOld self.old.unread }
         ensures not_closed { IsErrOf result WireFault.Closed → ⊥ }
+        ensures stays { OnErr result (self.new.unread ≡ self.old.unread) }
         ensures memory { IsErrOf result WireFault.Memory → self.new ≡ self.old }
         ensures wanted { IsErrOf result WireFault.Memory → HasFrame self.old.unread }
         // The same by one function of what is held, for runs of many calls.

@@ -1,12 +1,11 @@
 -- No reply is dropped: each one that a server puts out is awaited by a connection at it.
-use Rattle.std.proofs.Common.{◌≡◌, ℕ, ◌+◌, ◌<◌, ◌≤◌, Bool, true, false, List, [], ◌∷◌, ◌++◌, length, take, Option, Some, None, refl, sym, ap, ◌∙◌, subst, arith}
-use Rattle.std.specs.Prelude.{slice_get, ◌&&◌, nat_lt, ◌==◌, if◌then◌else◌}
+use Rattle.std.proofs.Common.{◌≡◌, ℕ, ◌≤◌, Bool, true, false, List, [], ◌∷◌, ◌++◌, length, Option, Some, None, refl, sym, ap, ◌∙◌, subst, arith}
+use Rattle.std.specs.Prelude.{slice_get, nat_lt, ◌==◌, if◌then◌else◌}
 use Rattle.std.proofs.lemmas.Bool.{and_parts, ltb-true}
 use Rattle.std.proofs.lemmas.List.{take_all}
-use Rattle.table.specs.Operations.{is_update, is_value}
+use Rattle.table.specs.Operations.{is_update}
 use Rattle.table.specs.declared.operations.Call.{Call}
 use Rattle.table.specs.declared.operations.Reply.{Reply}
-use Rattle.table.specs.declared.operations.Reply.TheVariants.{Value}
 use Rattle.versions.specs.Entries.{LogEntry}
 use Rattle.node.specs.declared.servers.OpenUpdate.{OpenUpdate}
 use Rattle.node.specs.declared.messages.Peer.{Peer}
@@ -23,9 +22,8 @@ use Rattle.world.specs.declared.connections.Stage.TheVariants.{Idle, Begun, Aske
 use Rattle.world.specs.Connections.{Connection, open_call, to_work, may_have, asked}
 use Rattle.world.specs.Worlds.{World, server, link, lives, has_failed, with_server, with_link, with_connection, put, put_all, run_of}
 use Rattle.world.specs.Awaited.{IsAwaited, AreAwaited}
-use Rattle.world.proofs.Lists.{In}
 use Rattle.world.proofs.Actions.{Action, Widen, Append, Reach, Settle, Send, Finish, Trim, Enter, Ask, Show, act, does, Cause, left, AreGuarded}
-use Rattle.world.proofs.Traces.{Traced, count, done, reconnected, unlinked}
+use Rattle.world.proofs.Traces.{Traced, done, reconnected, unlinked}
 use Rattle.world.proofs.Layers.{Lawful, IsWith, IsKnown}
 use Rattle.world.proofs.IdLaws.{living_parts}
 use Rattle.world.proofs.OpenCalls.{update_in}

@@ -7,8 +7,8 @@ use Rattle.table.specs.declared.operations.Reply.{Reply}
 use Rattle.proto.specs.declared.requests.Fault.{Fault}
 use Rattle.proto.specs.declared.texts.Form.{Form}
 use Rattle.proto.specs.Turns.{Turn, Faulty, Calls, fault_text, text}
-use Rattle.proto.specs.Sessions.{Held, Given, fed, next_of}
-use Rattle.proto.specs.Streams.{turns, texts, to_come, most_faults, GivesFirst}
+use Rattle.proto.specs.Sessions.{Held, Given, fed, next_of, answered_by}
+use Rattle.proto.specs.Streams.{turns, texts, ends, to_come, will_close, most_faults, GivesFirst, KeepsEnd, SameToCome}
 use Rattle.world.specs.declared.connections.Stage.{Stage}
 use Rattle.world.specs.declared.connections.Stage.TheVariants.{Idle, Begun, Asked, Replied}
 use Rattle.world.specs.Connections.{Connection, came, behind, past_faults_upto, begun_by, begun, open_call, may_have, asked, replied, handed}
@@ -17,15 +17,18 @@ use Rattle.world.proofs.FaultLaws.{FaultsTakeBytes}
 use Rattle.world.proofs.TurnLists.{calls_of_more, texts_fault, texts_call, Writes, next_writes, fed_closed, fed_out, fed_asked, answered_out, answered_to_come}
 use Rattle.proto.proofs.StreamLaws.{fed_none, fed_twice}
 
--- each step of a session gives the first of the turns that are to come
-abbrev pub NextGivesFirst : Type 0
-NextGivesFirst = (h : Held) → GivesFirst h (next_of h).0 (next_of h).1
+-- what is known of sessions: each step gives the first of the turns that are to come, and leaves the end of the stream
+-- where it is; so does an answer
+pub record SessionLaws : Type 0 where
+  pub first : (h : Held) → GivesFirst h (next_of h).0 (next_of h).1
+  pub keeps : (h : Held) → KeepsEnd h (next_of h).0 (next_of h).1
+  pub answers : (h : Held) (reply : Reply) → SameToCome h (answered_by h.asked h reply)
 
 -- the open call is this one turn
-abbrev IsOpenTurn : Option Form → List Turn → Type 0
+abbrev pub IsOpenTurn : Option Form → List Turn → Type 0
 IsOpenTurn asked ts = (call : Call) × (form : Form) × (ts ≡ Calls call form ∷ []) × (asked ≡ Some form)
 
-abbrev IsOpen : Stage → Option Form → List Turn → Type 0
+abbrev pub IsOpen : Stage → Option Form → List Turn → Type 0
 IsOpen Idle asked ts = ts ≡ []
 IsOpen Begun asked ts = IsOpenTurn asked ts
 IsOpen Asked asked ts = IsOpenTurn asked ts
@@ -41,6 +44,7 @@ pub record Along (k : Connection) (m : Course) : Type 0 where
   pub called : k.calls ≡ calls_of past ++ calls_of open_turn
   pub opened : IsOpen k.stage k.session.asked open_turn
   pub split : (more : List ℕ) → turns (m.stream ++ more) ≡ past ++ (open_turn ++ to_come (fed k.session more))
+  pub end : (more : List ℕ) → will_close (fed k.session more) ≡ ends (m.stream ++ more)
 
 pub along_piece : (bytes : List ℕ) (k : Connection) (m : Course) → Along k m → Along (came bytes k) (on_piece bytes k.session.closed m)
 along_piece bytes k m a = by_closed k.session.closed refl
@@ -56,6 +60,7 @@ along_piece bytes k m a = by_closed k.session.closed refl
       called = a.called;
       opened = rw (fed_asked k.session bytes) a.opened;
       split = λ more. rw (append_assoc m.stream bytes more, fed_twice k.session bytes more) (a.split (bytes ++ more));
+      end = λ more. rw (append_assoc m.stream bytes more, fed_twice k.session bytes more) (a.end (bytes ++ more));
     }
 
 -- what stands open after a step
@@ -124,16 +129,34 @@ by_turn stream rs before h (Some (Calls call form), left) later first writes sho
   split = λ more. split more ∙ ap (λ ts. before ++ ts) (first.first more);
 }
 
-passed : NextGivesFirst → FaultsTakeBytes → (stream : List ℕ) (rs : List Reply) (n : ℕ) (before : List Turn) (h : Held) → most_faults h < n
+passed : SessionLaws → FaultsTakeBytes → (stream : List ℕ) (rs : List Reply) (n : ℕ) (before : List Turn) (h : Held) → most_faults h < n
     → h.out ≡ texts before rs → length rs ≡ length (calls_of before) → Splits stream before h → Passed stream rs before (faults_next (to_come h)) (past_faults_upto n h)
 passed law takes stream rs zero before h enough said answered split = absurd (omega arith)
 passed law takes stream rs (suc n) before h enough said answered split =
-    by_turn stream rs before h (next_of h) (past_faults_upto n (next_of h).1) (law h) (next_writes h) (takes h) said answered split
+    by_turn stream rs before h (next_of h) (past_faults_upto n (next_of h).1) (law.first h) (next_writes h) (takes h) said answered split
     (λ past shorter said2 answered2 split2. passed law takes stream rs n past (next_of h).1 (omega arith) said2 answered2 split2)
 
-by_step : (m : Course) (k : Connection) (before : List Turn) (r : Given) → k.stage ≡ Idle → Passed m.stream k.replies before (faults_next (drop m.place (turns m.stream))) r
+-- the faults that are passed leave the end where it is
+passed_end : SessionLaws → (n : ℕ) (h : Held) (more : List ℕ)
+    → will_close (fed (past_faults_upto n h).1 more) ≡ will_close (fed h more)
+passed_end law zero h more = refl
+passed_end law (suc n) h more =
+    by_given (next_of h) (sym ((law.keeps h).kept more)) (passed_end law n (next_of h).1 more)
+  where
+    by_given : (r : Given)
+        → will_close (fed r.1 more) ≡ will_close (fed h more)
+        → will_close (fed (past_faults_upto n r.1).1 more) ≡ will_close (fed r.1 more)
+        → will_close (fed (behind r (past_faults_upto n r.1)).1 more) ≡ will_close (fed h more)
+    by_given (None, left) here later = here
+    by_given (Some (Faulty fault), left) here later = later ∙ here
+    by_given (Some (Calls call form), left) here later = here
+
+by_step : (m : Course) (k : Connection) (before : List Turn) (r : Given)
+    → ((more : List ℕ) → will_close (fed r.1 more) ≡ ends (m.stream ++ more))
+    → k.stage ≡ Idle
+    → Passed m.stream k.replies before (faults_next (drop m.place (turns m.stream))) r
     → length before ≡ m.place → length k.replies ≡ length (calls_of before) → k.calls ≡ calls_of before → Along (begun_by r k) (on_begin Idle m)
-by_step m k before (None, left) e p is answered called = record {
+by_step m k before (None, left) end e p is answered called = record {
   past = p.past;
   open_turn = p.open_turn;
   place = omega (arith, p.place);
@@ -142,8 +165,9 @@ by_step m k before (None, left) e p is answered called = record {
   called = rw (p.opened, p.same) (called ∙ sym (append-nil (calls_of before)));
   opened = rw e p.opened;
   split = p.split;
+  end = end;
 }
-by_step m k before (Some (Faulty fault), left) e p is answered called = record {
+by_step m k before (Some (Faulty fault), left) end e p is answered called = record {
   past = p.past;
   open_turn = p.open_turn;
   place = omega (arith, p.place);
@@ -152,8 +176,9 @@ by_step m k before (Some (Faulty fault), left) e p is answered called = record {
   called = rw (p.opened, p.same) (called ∙ sym (append-nil (calls_of before)));
   opened = rw e p.opened;
   split = p.split;
+  end = end;
 }
-by_step m k before (Some (Calls call form), left) e p is answered called = record {
+by_step m k before (Some (Calls call form), left) end e p is answered called = record {
   past = p.past;
   open_turn = p.open_turn;
   place = omega (arith, p.place);
@@ -162,23 +187,25 @@ by_step m k before (Some (Calls call form), left) e p is answered called = recor
   called = rw (p.opened.0, p.same) (ap (λ calls. calls ++ call ∷ []) called);
   opened = (call, form, p.opened.0, p.opened.1);
   split = p.split;
+  end = end;
 }
 
-pub along_begin : NextGivesFirst → FaultsTakeBytes → (s : Stage) (k : Connection) (m : Course) → k.stage ≡ s → Along k m → Along (begun s k) (on_begin s m)
+pub along_begin : SessionLaws → FaultsTakeBytes → (s : Stage) (k : Connection) (m : Course) → k.stage ≡ s → Along k m → Along (begun s k) (on_begin s m)
 along_begin law takes Idle k m e a =
     let none : a.open_turn ≡ [] = rw e at a.opened in
     let split : Splits m.stream a.past k.session = λ more. a.split more ∙ ap (λ ts. a.past ++ (ts ++ to_come (fed k.session more))) none in
     let whole : turns m.stream ≡ a.past ++ to_come k.session = ap turns (sym (append-nil m.stream)) ∙ split [] ∙ ap (λ h. a.past ++ to_come h) (fed_none k.session) in
     let ahead : drop m.place (turns m.stream) ≡ to_come k.session = rw (← a.place, whole) (drop-append_seam a.past (to_come k.session)) in
     let called : k.calls ≡ calls_of a.past = a.called ∙ ap (λ ts. calls_of a.past ++ calls_of ts) none ∙ append-nil (calls_of a.past) in
-    by_step m k a.past _ e (rw ahead (passed law takes m.stream k.replies (suc (most_faults k.session)) a.past k.session (omega arith) a.said a.answered split)) a.place a.answered called
+    let end = λ (more : List ℕ). passed_end law (suc (most_faults k.session)) k.session more ∙ a.end more in
+    by_step m k a.past _ end e (rw ahead (passed law takes m.stream k.replies (suc (most_faults k.session)) a.past k.session (omega arith) a.said a.answered split)) a.place a.answered called
 along_begin law takes Begun k m e a = a
 along_begin law takes Asked k m e a = a
 along_begin law takes (Replied reply) k m e a = a
 
 -- the open call is answered
-along_answer : (reply : Reply) (call : Call) (form : Form) (k : Connection) (m : Course) (a : Along k m) → a.open_turn ≡ Calls call form ∷ [] → k.session.asked ≡ Some form → Along (handed (Replied reply) k) (on_hand (Replied reply) m)
-along_answer reply call form k m a one asked =
+along_answer : SessionLaws → (reply : Reply) (call : Call) (form : Form) (k : Connection) (m : Course) (a : Along k m) → a.open_turn ≡ Calls call form ∷ [] → k.session.asked ≡ Some form → Along (handed (Replied reply) k) (on_hand (Replied reply) m)
+along_answer law reply call form k m a one asked =
     let calls : calls_of (a.past ++ Calls call form ∷ []) ≡ calls_of a.past ++ call ∷ [] = calls_of_more a.past (Calls call form ∷ []) in
     record {
       past = a.past ++ Calls call form ∷ [];
@@ -190,19 +217,20 @@ along_answer reply call form k m a one asked =
       opened = refl;
       split = λ more. rw (answered_to_come k.session.asked k.session reply more, append_assoc a.past (Calls call form ∷ []) (to_come (fed k.session more)))
           (a.split more ∙ ap (λ ts. a.past ++ (ts ++ to_come (fed k.session more))) one);
+      end = λ more. (law.answers k.session reply).end more ∙ a.end more;
     }
 
-pub along_hand : (s : Stage) (k : Connection) (m : Course) → k.stage ≡ s → Along k m → Along (handed s k) (on_hand s m)
-along_hand Idle k m e a = a
-along_hand Begun k m e a = a
-along_hand Asked k m e a = a
-along_hand (Replied reply) k m e a =
+pub along_hand : SessionLaws → (s : Stage) (k : Connection) (m : Course) → k.stage ≡ s → Along k m → Along (handed s k) (on_hand s m)
+along_hand law Idle k m e a = a
+along_hand law Begun k m e a = a
+along_hand law Asked k m e a = a
+along_hand law (Replied reply) k m e a =
     let o : IsOpenTurn k.session.asked a.open_turn = rw e at a.opened in
-    along_answer reply o.0 o.1 k m a o.2 o.3
+    along_answer law reply o.0 o.1 k m a o.2 o.3
 
 -- another stage in which the same turn is open
 along_stage : (stage : Stage) (k : Connection) (m : Course) (a : Along k m) → IsOpen stage k.session.asked a.open_turn → Along (record k { stage = stage }) m
-along_stage stage k m a o = record { past = a.past; open_turn = a.open_turn; place = a.place; said = a.said; answered = a.answered; called = a.called; opened = o; split = a.split }
+along_stage stage k m a o = record { past = a.past; open_turn = a.open_turn; place = a.place; said = a.said; answered = a.answered; called = a.called; opened = o; split = a.split; end = a.end }
 
 pub along_asked : (k : Connection) (m : Course) → k.stage ≡ Begun → Along k m → Along (asked k) m
 along_asked k m e a = along_stage Asked k m a (rw e at a.opened)
@@ -214,10 +242,10 @@ along_replied reply Asked k m e a = cond_both (may_have (open_call k) reply) (re
 along_replied reply (Replied first) k m e a = a
 
 -- the turns of the stream are the past ones, and then the others
-whole_of : (k : Connection) (m : Course) (a : Along k m) → turns m.stream ≡ a.past ++ (a.open_turn ++ to_come (fed k.session []))
+pub whole_of : (k : Connection) (m : Course) (a : Along k m) → turns m.stream ≡ a.past ++ (a.open_turn ++ to_come (fed k.session []))
 whole_of k m a = ap turns (sym (append-nil m.stream)) ∙ a.split []
 
-past_of : (k : Connection) (m : Course) (a : Along k m) → take m.place (turns m.stream) ≡ a.past
+pub past_of : (k : Connection) (m : Course) (a : Along k m) → take m.place (turns m.stream) ≡ a.past
 past_of k m a = rw (← a.place, whole_of k m a) (take-append_seam a.past _)
 
 pub sent_along : (k : Connection) (m : Course) → Along k m → k.session.out ≡ sent_bytes m k.replies

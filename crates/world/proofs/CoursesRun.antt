@@ -20,7 +20,7 @@ use Rattle.world.specs.Worlds.{World, server, link, with_server, with_link, with
 use Rattle.world.specs.Sent.{Course, outset, on_piece, on_begin, on_hand, course_after, course_at, course_from, course_of, sent_bytes, calls_of}
 use Rattle.world.proofs.FaultLaws.{FaultsTakeBytes}
 use Rattle.world.proofs.Standing.{changed_cases, stood_before}
-use Rattle.world.proofs.CoursesAlong.{NextGivesFirst, Along, along_piece, along_begin, along_hand, along_asked, along_replied, sent_along, answered_along, begun_along}
+use Rattle.world.proofs.CoursesAlong.{SessionLaws, Along, along_piece, along_begin, along_hand, along_asked, along_replied, sent_along, answered_along, begun_along}
 
 -- the c-th connection, where there is one, is along this course
 abbrev IsAlong : ℕ → World → Course → Type 0
@@ -149,7 +149,7 @@ unmoved : (b : Bool) (m : Course) → cond b m m ≡ m
 unmoved true m = refl
 unmoved false m = refl
 
-event_along : NextGivesFirst → FaultsTakeBytes → (c : ℕ) (w : World) (m : Course) (e : Event) (old : Connection) → slice_get w.connections c ≡ Some old → IsAlong c w m → IsAlong c (happens w e) (course_at w c (Some old) e m)
+event_along : SessionLaws → FaultsTakeBytes → (c : ℕ) (w : World) (m : Course) (e : Event) (old : Connection) → slice_get w.connections c ≡ Some old → IsAlong c w m → IsAlong c (happens w e) (course_at w c (Some old) e m)
 event_along law takes c w m (Piece d bytes) old at_c all = λ new is.
     at_living c d w m (came bytes) (λ k m. on_piece bytes k.session.closed m) (λ k. course_after c k (Piece d bytes) m)
     (λ k e. rw (test_true c d e) refl) (λ k far. rw (test_false c d far) refl) (λ k a. along_piece bytes k m a) all old new at_c is
@@ -158,13 +158,13 @@ event_along law takes c w m (Begin d) old at_c all = λ new is.
     (λ k e. rw (test_true c d e) refl) (λ k far. rw (test_false c d far) refl) (λ k a. along_begin law takes k.stage k m refl a) all old new at_c is
 event_along law takes c w m (Hand d) old at_c all = λ new is.
     at_living c d w m (λ k. handed k.stage k) (λ k m. on_hand k.stage m) (λ k. course_after c k (Hand d) m)
-    (λ k e. rw (test_true c d e) refl) (λ k far. rw (test_false c d far) refl) (λ k a. along_hand k.stage k m refl a) all old new at_c is
+    (λ k e. rw (test_true c d e) refl) (λ k far. rw (test_false c d far) refl) (λ k a. along_hand law k.stage k m refl a) all old new at_c is
 event_along law takes c w m (Work d) old at_c all = rw (unmoved (lives w old.home) m) (work_along c d w m (slice_get w.connections d) refl all).along
 event_along law takes c w m (Deliver i j) old at_c all = rw (unmoved (lives w old.home) m) (delivered_along c i j w m (link w i j) all).along
 event_along law takes c w m (Fail i) old at_c all = rw (unmoved (lives w old.home) m) (failed_along c i w m all).along
 event_along law takes c w m (Tell i j) old at_c all = rw (unmoved (lives w old.home) m) (told_along c i j w m all).along
 
-run_along : NextGivesFirst → FaultsTakeBytes → (c : ℕ) (w : World) (m : Course) (es : List Event) → IsAlong c w m → IsAlong c (run_from w es) (course_from c w m es)
+run_along : SessionLaws → FaultsTakeBytes → (c : ℕ) (w : World) (m : Course) (es : List Event) → IsAlong c w m → IsAlong c (run_from w es) (course_from c w m es)
 run_along law takes c w m [] all = all
 run_along law takes c w m (e ∷ es) all = run_along law takes c (happens w e) (course_at w c (slice_get w.connections c) e m) es (by_old (slice_get w.connections c) refl)
   where
@@ -174,20 +174,20 @@ run_along law takes c w m (e ∷ es) all = run_along law takes c (happens w e) (
 
 along_fresh : (homes : List ℕ) (c : ℕ) (k : Connection) → slice_get (map fresh homes) c ≡ Some k → Along k outset
 along_fresh [] c k is = cc
-along_fresh (home ∷ homes) zero k is = let one : fresh home ≡ k = cc in rw (← one) (record { past = []; open_turn = []; place = refl; said = refl; answered = refl; called = refl; opened = refl; split = λ more. refl })
+along_fresh (home ∷ homes) zero k is = let one : fresh home ≡ k = cc in rw (← one) (record { past = []; open_turn = []; place = refl; said = refl; answered = refl; called = refl; opened = refl; split = λ more. refl; end = λ more. refl })
 along_fresh (home ∷ homes) (suc c) k is = along_fresh homes c k is
 
-along_run : NextGivesFirst → FaultsTakeBytes → (count : ℕ) (homes : List ℕ) (events : List Event) (c : ℕ) (k : Connection) → slice_get (run_of count homes events).connections c ≡ Some k → Along k (course_of count homes events c)
+pub along_run : SessionLaws → FaultsTakeBytes → (count : ℕ) (homes : List ℕ) (events : List Event) (c : ℕ) (k : Connection) → slice_get (run_of count homes events).connections c ≡ Some k → Along k (course_of count homes events c)
 along_run law takes count homes events c k is = run_along law takes c (opening_world count homes) outset events (along_fresh homes c) k is
 
-pub sent_is : NextGivesFirst → FaultsTakeBytes → (count : ℕ) (homes : List ℕ) (events : List Event) (c : ℕ) (k : Connection) → slice_get (run_of count homes events).connections c ≡ Some k
+pub sent_is : SessionLaws → FaultsTakeBytes → (count : ℕ) (homes : List ℕ) (events : List Event) (c : ℕ) (k : Connection) → slice_get (run_of count homes events).connections c ≡ Some k
     → k.session.out ≡ sent_bytes (course_of count homes events c) k.replies
 sent_is law takes count homes events c k is = sent_along k _ (along_run law takes count homes events c k is)
 
-pub begun_is : NextGivesFirst → FaultsTakeBytes → (count : ℕ) (homes : List ℕ) (events : List Event) (c : ℕ) (k : Connection) → slice_get (run_of count homes events).connections c ≡ Some k
+pub begun_is : SessionLaws → FaultsTakeBytes → (count : ℕ) (homes : List ℕ) (events : List Event) (c : ℕ) (k : Connection) → slice_get (run_of count homes events).connections c ≡ Some k
     → k.calls ≡ take (length k.calls) (calls_of (turns (course_of count homes events c).stream))
 begun_is law takes count homes events c k is = begun_along k _ (along_run law takes count homes events c k is)
 
-pub answered_is : NextGivesFirst → FaultsTakeBytes → (count : ℕ) (homes : List ℕ) (events : List Event) (c : ℕ) (k : Connection) → slice_get (run_of count homes events).connections c ≡ Some k
+pub answered_is : SessionLaws → FaultsTakeBytes → (count : ℕ) (homes : List ℕ) (events : List Event) (c : ℕ) (k : Connection) → slice_get (run_of count homes events).connections c ≡ Some k
     → length k.replies ≡ length (calls_of (take (course_of count homes events c).place (turns (course_of count homes events c).stream)))
 answered_is law takes count homes events c k is = answered_along k _ (along_run law takes count homes events c k is)

@@ -1,9 +1,19 @@
 pub mod Places
 pub mod Texts
 pub mod HeadLaws
+pub mod EscapeLaws
+pub mod NumberLaws
+pub mod CutLaws
+pub mod EventLineLaws
+pub mod HeadLineLaws
+pub mod ScheduleLaws
+pub mod StatedLines
+pub mod BadLineLaws
+pub mod FirstBadLines
+pub mod FieldNumbers
+pub mod SentTexts
 pub mod Readings
 pub mod Rounds
-pub mod Spellings
 pub mod Standing
 pub mod FaultLaws
 pub mod ConnectionLists
@@ -65,6 +75,7 @@ pub mod WholeSteps
 pub mod Goings
 pub mod Happenings
 pub mod Moments
+pub mod Progress
 pub mod AllLaws
 pub mod LegalLists
 pub mod Placing
@@ -114,6 +125,7 @@ pub mod AskEvents
 pub mod RestingCalls
 pub mod NoneForgotten
 pub mod ShownCalls
+pub mod ShownConnections
 pub mod Awaiting
 pub mod WorkedOrders
 pub mod WorkedDirtyRead
@@ -125,3 +137,6 @@ pub mod WorkedAlone
 pub mod WorkedAloneOrder
 pub mod WorkedInTime
 pub mod WorkedInTimeOrder
+pub mod FailedServers
+pub mod OrdinarySteps
+pub mod WorkedForgetting

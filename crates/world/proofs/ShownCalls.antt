@@ -4,7 +4,6 @@ use Rattle.std.specs.Prelude.{slice_get}
 use Rattle.std.specs.Option.{option_and_then, option_map}
 use Rattle.table.specs.declared.operations.Call.{Call}
 use Rattle.table.specs.declared.operations.Reply.{Reply}
-use Rattle.world.specs.declared.transcripts.CallTranscript.{CallTranscript}
 use Rattle.world.specs.declared.events.Event.{Event}
 use Rattle.world.specs.declared.connections.Stage.{Stage}
 use Rattle.world.specs.declared.connections.Stage.TheVariants.{Idle, Begun, Asked, Replied}
@@ -13,7 +12,7 @@ use Rattle.world.specs.Worlds.{World, happens, run_from, run_of, opening_world}
 use Rattle.world.specs.Calls.{CallId, begun_call, reply_to}
 use Rattle.world.specs.Transcripts.{ConnectionShown}
 use Rattle.world.specs.Transcripts.{calls_shown, connection_shown, transcript_of}
-use Rattle.world.specs.Shown.{call_shown, reply_in, reply_shown}
+use Rattle.world.specs.Shown.{call_in, call_shown, reply_in, reply_shown}
 use Rattle.world.proofs.InStep.{open_calls, AllInStep, in_step_happens, in_step_outset}
 
 -- ---- open calls
@@ -22,7 +21,7 @@ in_step_from : (events : List Event) (w : World) → AllInStep w → AllInStep (
 in_step_from [] w all = all
 in_step_from (e ∷ es) w all = in_step_from es (happens w e) (in_step_happens w e all)
 
-in_step : (count : ℕ) (homes : List ℕ) (events : List Event) → AllInStep (run_of count homes events)
+pub in_step : (count : ℕ) (homes : List ℕ) (events : List Event) → AllInStep (run_of count homes events)
 in_step count homes events = in_step_from events (opening_world count homes) (in_step_outset count homes)
 
 one_at_most : (s : Stage) → open_calls s ≤ 1
@@ -47,10 +46,6 @@ replies_at calls [] p few = no_call_shown calls p
 replies_at [] (reply ∷ replies) p few = absurd (omega (arith, few))
 replies_at (call ∷ calls) (reply ∷ replies) zero few = refl
 replies_at (call ∷ calls) (reply ∷ replies) (suc p) few = replies_at calls replies p (omega (arith, few))
-
--- a call as it is shown
-abbrev call_in : CallTranscript → Call
-call_in s = record { target = s.target; op = s.op }
 
 calls_at : (calls : List Call) (replies : List Reply) (p : ℕ) → option_map call_in (slice_get (calls_shown calls replies) p) ≡ slice_get calls p
 calls_at [] replies p = refl

@@ -1,5 +1,5 @@
 -- Escapes: any bytes as printable text, and back.
-use Rattle.std.specs.Prelude.{ℕ, zero, suc, ◌+◌, ◌-◌, ◌*◌, ◌/◌, ◌%◌, ◌&&◌, nat_le, ◌==◌, Bool, List, [], ◌∷◌, ◌++◌, length, Option, None, Some, if◌then◌else◌, codes}
+use Rattle.std.specs.Prelude.{◌≡◌, ◌<◌, ◌⊎◌, ℕ, zero, suc, ◌+◌, ◌-◌, ◌*◌, ◌/◌, ◌%◌, ◌&&◌, nat_le, ◌==◌, Bool, List, [], ◌∷◌, ◌++◌, length, Option, None, Some, if◌then◌else◌, codes}
 use Rattle.std.specs.Char.{digit_char}
 use Rattle.proto.specs.Requests.{◌>>=◌}
 use Rattle.world.specs.Cuts.{lf, cr}
@@ -12,14 +12,28 @@ backslash = 92
 abbrev pub is_printable : ℕ → Bool
 is_printable b = nat_le 32 b && nat_le b 126
 
--- the text that spells a byte
+-- a byte as `\xHH`, by two lower case hexadecimal digits
+abbrev pub hexadecimal : ℕ → List ℕ
+hexadecimal b = codes "\\x" ++ digit_char (b / 16) ∷ digit_char (b % 16) ∷ []
+
+-- the text that a transcript shows for a byte
 abbrev pub escape : ℕ → List ℕ
 escape b =
     if b == backslash then codes "\\\\"
     else if b == cr then codes "\\r"
     else if b == lf then codes "\\n"
     else if is_printable b then b ∷ []
-    else codes "\\x" ++ digit_char (b / 16) ∷ digit_char (b % 16) ∷ []
+    else hexadecimal b
+
+-- a text spells a byte: as a transcript shows it, or as `\xHH`
+abbrev pub SpellsByte : ℕ → List ℕ → Type 0
+SpellsByte b text = (b < 256) × ((text ≡ escape b) ⊎ (text ≡ hexadecimal b))
+
+-- a text spells bytes, one after another
+abbrev pub SpellsBytes : List ℕ → List ℕ → Type 0
+SpellsBytes [] text = text ≡ []
+SpellsBytes (b ∷ bs) text =
+    (front : List ℕ) × (rest : List ℕ) × SpellsByte b front × SpellsBytes bs rest × (text ≡ front ++ rest)
 
 -- a lower case hexadecimal digit: 48 to 57 are `0` to `9`, and 97 to 102 are `a` to `f`
 abbrev pub hex_digit : ℕ → Option ℕ

@@ -5,6 +5,7 @@ pub mod HeadLines
 pub mod Settling
 pub mod EventLines
 pub mod Schedules
+pub mod SpelledSchedules
 pub mod Connections
 pub mod Lawful
 pub mod Links
@@ -16,6 +17,12 @@ pub mod Printing
 pub mod Calls
 pub mod Orders
 pub mod Sent
+pub mod Progress
 pub mod Shown
 pub mod WorkedSchedules
+pub mod Failures
+pub mod Forgotten
+pub mod OtherSteps
+pub mod WrongSteps
+pub mod ForgettingWorlds
 pub mod Awaited

@@ -1,9 +1,9 @@
 -- Schedules: what the lines of a text say, in turn, and the first of them that is bad (the format is this project's).
-use Rattle.std.specs.Prelude.{◌≡◌, ℕ, ◌+◌, List, [], ◌∷◌, ◌++◌, length, drop, Option, Some, Result, Ok, Err, ok_or, not, filter, map, flat_map}
+use Rattle.std.specs.Prelude.{◌≡◌, ℕ, ◌+◌, List, [], ◌∷◌, ◌++◌, length, drop, Option, Result, Ok, Err, ok_or}
 use Rattle.world.specs.declared.events.Event.{Event}
 use Rattle.world.specs.declared.schedules.ScheduleFault.{ScheduleFault}
 use Rattle.world.specs.declared.schedules.ScheduleFault.TheVariants.{Memory, BadLine}
-use Rattle.world.specs.Cuts.{is_passed_over, lines, counted_from}
+use Rattle.world.specs.Cuts.{lines, counted_from}
 use Rattle.world.specs.HeadLines.{servers_line, homes_line}
 use Rattle.world.specs.EventLines.{events_line}
 
@@ -44,22 +44,6 @@ schedule_of_lines end counted = do
 -- Where a text ends before `servers` or `homes`, that is the number of its lines plus one
 abbrev pub schedule_of : List ℕ → Result ScheduleShown ℕ
 schedule_of text = schedule_of_lines (length (lines text) + 1) (counted_from 1 (lines text))
-
--- the lines of a text that count
-abbrev pub counted_lines : List (List ℕ) → List (List ℕ)
-counted_lines all = filter (λ line. not (is_passed_over line)) all
-
--- a text spells a schedule: its lines that count are a `servers` line, a `homes` line, and further lines, each of which stands for a part of its events, in order
-pub record SpellsSchedule (text : List ℕ) (schedule : ScheduleShown) : Type 0 where
-  pub first : List ℕ
-  pub second : List ℕ
-  pub further : List (List ℕ)
-  pub parts : List (List Event)
-  pub counted : counted_lines (lines text) ≡ first ∷ second ∷ further
-  pub servers : servers_line first ≡ Some schedule.count
-  pub homes : homes_line schedule.count second ≡ Some schedule.homes
-  pub each : map (events_line schedule.count (length schedule.homes)) further ≡ map Some parts
-  pub events : schedule.events ≡ flat_map (λ part. part) parts
 
 -- the fault names the bad line; a want of memory says nothing of the text
 abbrev pub Names : {X : Type 0} → Result X ℕ → ScheduleFault → Type 0

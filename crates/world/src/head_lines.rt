@@ -8,10 +8,10 @@ use crate::numbers::number_in;
 use std::alloc::{AllocError, Global};
 
 /// The most servers of a schedule.
-pub(crate) const MOST_SERVERS: usize = 16;
+pub const MOST_SERVERS: usize = 16;
 
 /// The most connections of a schedule.
-pub(crate) const MOST_HOMES: usize = 64;
+pub const MOST_HOMES: usize = 64;
 
 /// How many servers a `servers` line names, if it is one.
 pub fn servers_line(line: &[u8]) -> Option<usize>

@@ -1,20 +1,24 @@
-//! Laws of every schedule: one order of calls, none forgotten, what transcripts show of them, the bytes that connections are sent, and the calls that they begin.
-ghost use Rattle.std.specs.Prelude.{◌≡◌, ℕ, ◌+◌, ◌^◌, ◌≤◌, ◌<◌, true, List, ◌∷◌, Some, length, take, slice_get};
+//! Laws of every schedule: one order of calls, none forgotten, what transcripts show of them, the bytes that connections
+//! are sent, and the calls that they begin.
+ghost use Rattle.std.specs.Prelude.{◌≡◌, ℕ, ◌+◌, ◌^◌, ◌≤◌, ◌<◌, true, not, ◌&&◌, nat_lt, List, [], ◌∷◌, ◌++◌, Some, None, length, take, slice_get};
 ghost use Rattle.node.specs.Steps.{step};
 ghost use Rattle.node.specs.declared.messages.Input.TheVariants.{Call as Called, From, Gone};
 ghost use Rattle.node.specs.declared.messages.Peer.{Peer};
-ghost use Rattle.proto.specs.Streams.{turns};
+ghost use Rattle.proto.specs.Streams.{turns, ends};
 ghost use Rattle.table.specs.declared.operations.Call.{Call};
 ghost use Rattle.world.specs.declared.events.Event.{Event};
+ghost use Rattle.world.specs.declared.events.Event.TheVariants.{Begin};
 ghost use Rattle.world.specs.Awaited.{AreAwaited};
-ghost use Rattle.world.specs.Connections.{Connection, to_work, asked};
+ghost use Rattle.world.specs.Connections.{Connection, open_call, to_work, asked};
 ghost use Rattle.world.specs.Worlds.{server, link, lives, has_failed, with_connection, run_of};
-ghost use Rattle.world.specs.Calls.{CallId, begun_call, reply_to, IsBegun, IsAnswered, has_living_home};
+ghost use Rattle.world.specs.Calls.{CallId, begun_call, reply_to};
 ghost use Rattle.world.specs.Orders.{Entry, IsLinearization};
-ghost use Rattle.world.specs.Quiet.{is_quiet};
+ghost use Rattle.world.specs.Failures.{is_failed_by};
+ghost use Rattle.world.specs.Forgotten.{NoneForgotten};
 ghost use Rattle.world.specs.Transcripts.{transcript_of};
 ghost use Rattle.world.specs.Shown.{call_shown, reply_shown};
 ghost use Rattle.world.specs.Sent.{course_of, sent_bytes, calls_of};
+ghost use Rattle.world.specs.Progress.{IsAt};
 
 /// Every schedule over a chain of up to 16 servers, with failures at any event, has an order of its calls in which a single
 /// table would have answered them.
@@ -28,6 +32,8 @@ pub fn sent_bytes_follow_the_stream()
         k.session.out ≡ sent_bytes (course_of count homes events c) k.replies }
 {
     proto::next_gives_first();
+    proto::next_keeps_end();
+    proto::answer_keeps_turns();
     proto::faults_take_bytes();
 }
 
@@ -39,14 +45,52 @@ pub fn calls_follow_the_stream()
         length k.replies ≡ length (calls_of (take (course_of count homes events c).place (turns (course_of count homes events c).stream))) }
 {
     proto::next_gives_first();
+    proto::next_keeps_end();
+    proto::answer_keeps_turns();
+    proto::faults_take_bytes();
+}
+
+/// Whatever bytes may follow, the turns of a connection's stream are those that it has passed, the open one, and those
+/// that its session has still to give: none is left out, and none stands twice.
+pub fn no_turn_is_left_out()
+    ensures { (count : ℕ) (homes : List ℕ) (events : List Event) (c : ℕ) (k : Connection) →
+        slice_get (run_of count homes events).connections c ≡ Some k →
+        IsAt k (course_of count homes events c) }
+{
+    proto::next_gives_first();
+    proto::next_keeps_end();
+    proto::answer_keeps_turns();
+    proto::faults_take_bytes();
+}
+
+/// A `begin` at a living home after which no call is open has passed all turns of the stream: so it leaves no whole
+/// request there. And its session is closed exactly where the stream has come to a request after which there is none:
+/// `quit`, or a line that is too long.
+pub fn begin_leaves_no_request()
+    ensures passed { (count : ℕ) (homes : List ℕ) (events : List Event) (c : ℕ) (k : Connection) →
+        let after = events ++ Begin c ∷ [] in
+        slice_get (run_of count homes after).connections c ≡ Some k →
+        lives (run_of count homes after) k.home ≡ true →
+        open_call k ≡ None →
+        (course_of count homes after c).place ≡ length (turns (course_of count homes after c).stream) }
+    ensures closed { (count : ℕ) (homes : List ℕ) (events : List Event) (c : ℕ) (k : Connection) →
+        let after = events ++ Begin c ∷ [] in
+        slice_get (run_of count homes after).connections c ≡ Some k →
+        lives (run_of count homes after) k.home ≡ true →
+        open_call k ≡ None →
+        k.session.closed ≡ ends (course_of count homes after c).stream }
+{
+    proto::next_gives_first();
+    proto::next_keeps_end();
+    proto::answer_keeps_turns();
     proto::faults_take_bytes();
 }
 
 /// In a quiet world each begun call of a connection at a living home has a reply. A slice of events is shorter than 2^64,
 /// and so few events leave each server a number for the next call.
 pub fn none_forgotten()
-    ensures { (count : ℕ) (homes : List ℕ) (events : List Event) → count ≤ 16 → length events < 2 ^ 64 → is_quiet (run_of count homes events) ≡ true →
-        (x : CallId) → IsBegun (run_of count homes events) x → has_living_home (run_of count homes events) x ≡ true → IsAnswered (run_of count homes events) x }
+    ensures { (count : ℕ) (homes : List ℕ) (events : List Event) → count ≤ 16 → length events < 2 ^ 64 →
+        NoneForgotten (run_of count homes events) }
 {}
 
 /// At most one call of a connection is open: the others have their replies.
@@ -61,6 +105,12 @@ pub fn transcripts_show_the_calls()
         call_shown (transcript_of (run_of count homes events)) x ≡ begun_call (run_of count homes events) x }
     ensures reply { (count : ℕ) (homes : List ℕ) (events : List Event) (x : CallId) →
         reply_shown (transcript_of (run_of count homes events)) x ≡ reply_to (run_of count homes events) x }
+{}
+
+/// A server of the chain lives exactly where no event has failed it.
+pub fn failed_servers()
+    ensures { (count : ℕ) (homes : List ℕ) (events : List Event) (i : ℕ) →
+        lives (run_of count homes events) i ≡ (nat_lt i count && not (is_failed_by events i)) }
 {}
 
 /// No reply is dropped: where a server takes an input, each reply that it puts out goes to a connection at this server whose

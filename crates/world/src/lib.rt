@@ -7,6 +7,7 @@ mod escapes;
 mod event_lines;
 mod events;
 mod faults;
+pub mod forgetting;
 mod head_lines;
 mod laws;
 mod lines;
@@ -19,19 +20,26 @@ mod schedules;
 mod servers;
 mod settling;
 mod steps;
+mod text_laws;
 mod transcripts;
 pub mod worked;
 mod worlds;
 
 pub use events::Event;
 pub use faults::SceneFault;
+pub use head_lines::{MOST_HOMES, MOST_SERVERS};
 pub use laws::{
-    calls_follow_the_stream, no_reply_is_dropped, none_forgotten, one_open, one_order,
-    sent_bytes_follow_the_stream, transcripts_show_the_calls,
+    begin_leaves_no_request, calls_follow_the_stream, failed_servers, no_reply_is_dropped,
+    no_turn_is_left_out, none_forgotten, one_open, one_order, sent_bytes_follow_the_stream,
+    transcripts_show_the_calls,
 };
 pub use printing::print_transcript;
 pub use scenes::{Scene, run};
 pub use schedules::{Schedule, ScheduleFault, read_schedule};
+pub use text_laws::{
+    escaped_bytes_are_read_back, first_bad_line_is_named, one_meaning_of_a_text,
+    sent_text_tells_what_was_sent, spelled_bytes_are_read, spelled_schedules_are_read,
+};
 pub use transcripts::{CallTranscript, ConnectionTranscript, Transcript};
 
 #[cfg(test)]

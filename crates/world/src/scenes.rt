@@ -1,17 +1,17 @@
 //! Scenes: a world that events change until one is refused, and the run of a whole schedule.
-ghost use Rattle.std.specs.Prelude.{◌≡◌, ◌<◌, ◌≤◌, ℕ, ◌+◌, List, Some, take, ◌↔◌, true, false, nat_lt, length, slice_get, OnOk, OnErr, IfOk, IfErr, IsErrOf};
+ghost use Rattle.std.specs.Prelude.{◌≡◌, ◌<◌, ◌≤◌, ℕ, ◌+◌, List, Some, take, ◌↔◌, true, false, nat_lt, length, slice_get, IsSome, OnOk, OnErr, IfOk, IfErr, IsErrOf};
 ghost use Rattle.std.specs.List.{list_all};
 ghost use Rattle.proto.specs.Streams.{turns};
-ghost use Rattle.world.specs.Calls.{CallId, begun_call, reply_to, IsBegun, IsAnswered, has_living_home};
-ghost use Rattle.world.specs.Connections.{Connection};
+ghost use Rattle.world.specs.declared.transcripts.CallTranscript.{CallTranscript};
+ghost use Rattle.world.specs.Calls.{CallId, begun_call, reply_to};
 ghost use Rattle.world.specs.Orders.{Entry, IsLinearization};
 ghost use Rattle.world.specs.Sent.{course_of, sent_bytes, calls_of};
-ghost use Rattle.world.specs.Worlds.{opening_world, happens, run_of};
+ghost use Rattle.world.specs.Progress.{past};
+ghost use Rattle.world.specs.Worlds.{opening_world, lives, happens, run_of};
 ghost use Rattle.world.specs.Quiet as quiet;
-ghost use Rattle.world.specs.Quiet.{is_quiet};
-ghost use Rattle.world.specs.Shown.{call_shown, reply_shown};
+ghost use Rattle.world.specs.Shown.{call_shown, reply_shown, calls_in, replies_in};
 ghost use Rattle.world.specs.Scenes.{going, is_count, are_homes, sent_to};
-ghost use Rattle.world.specs.Transcripts.{transcript_of};
+ghost use Rattle.world.specs.Transcripts.{ConnectionShown, transcript_of};
 
 use crate::laws::{
     calls_follow_the_stream, none_forgotten, one_open, one_order, sent_bytes_follow_the_stream,
@@ -132,23 +132,29 @@ pub fn run(
     ensures shown_calls { IfOk result (λ t. (x : CallId) → call_shown t x ≡ begun_call (run_of count homes.now events.now) x) }
     // What is shown of a call is the reply that it got in the order above.
     ensures shown { IfOk result (λ t. (x : CallId) → reply_shown t x ≡ reply_to (run_of count homes.now events.now) x) }
-    // At most one call of a connection is open.
-    ensures one_open { (c : ℕ) (k : Connection) → slice_get (run_of count homes.now events.now).connections c ≡ Some k →
-        length k.calls ≤ length k.replies + 1 }
-    // A connection's stream is what came to it while it was open and its server lived; its place, how many turns of that
-    // stream it has passed: faults by `begin`, calls by `hand`. It has been sent the texts of these turns, fault lines
-    // among them, however its bytes were cut.
-    ensures sent { (c : ℕ) (k : Connection) → slice_get (run_of count homes.now events.now).connections c ≡ Some k →
-        k.session.out ≡ sent_bytes (course_of count homes.now events.now c) k.replies }
-    // The calls that it has begun are the first among the turns of its stream.
-    ensures calls { (c : ℕ) (k : Connection) → slice_get (run_of count homes.now events.now).connections c ≡ Some k →
-        k.calls ≡ take (length k.calls) (calls_of (turns (course_of count homes.now events.now c).stream)) }
-    // The calls among the turns up to its place are answered, and no others.
-    ensures answered { (c : ℕ) (k : Connection) → slice_get (run_of count homes.now events.now).connections c ≡ Some k →
-        length k.replies ≡ length (calls_of (take (course_of count homes.now events.now c).place (turns (course_of count homes.now events.now c).stream))) }
-    // Where the transcript says `quiet`, each begun call at a living home has its reply.
-    ensures none_forgotten { count ≤ 16 → is_quiet (run_of count homes.now events.now) ≡ true → (x : CallId) →
-        IsBegun (run_of count homes.now events.now) x → has_living_home (run_of count homes.now events.now) x ≡ true → IsAnswered (run_of count homes.now events.now) x }
+    // A connection's stream is what came to it while it was open and its server lived; its place, how many turns of
+    // that stream it has passed: faults by `begin`, calls by `hand`. It is shown to have been sent the texts of these
+    // turns, fault lines among them, however its bytes were cut.
+    ensures sent { IfOk result (λ t. (c : ℕ) (k : ConnectionShown) → slice_get t.connections c ≡ Some k →
+        k.sent ≡ sent_bytes (course_of count homes.now events.now c) (replies_in k.calls)) }
+    // The calls that are shown of it are the first among the turns of its stream.
+    ensures calls { IfOk result (λ t. (c : ℕ) (k : ConnectionShown) → slice_get t.connections c ≡ Some k →
+        calls_in k.calls ≡ take (length k.calls) (calls_of (turns (course_of count homes.now events.now c).stream))) }
+    // As many of them have replies as there are calls among the turns up to its place,
+    ensures answered { IfOk result (λ t. (c : ℕ) (k : ConnectionShown) → slice_get t.connections c ≡ Some k →
+        length (replies_in k.calls) ≡ length (calls_of (past (course_of count homes.now events.now c)))) }
+    // and these are the first.
+    ensures in_turn { IfOk result (λ t. (c : ℕ) (k : ConnectionShown) → slice_get t.connections c ≡ Some k →
+        (p : ℕ) (call : CallTranscript) → slice_get k.calls p ≡ Some call →
+        IsSome call.reply ↔ p < length (replies_in k.calls)) }
+    // At most one of them is open.
+    ensures one_open { IfOk result (λ t. (c : ℕ) (k : ConnectionShown) → slice_get t.connections c ≡ Some k →
+        length k.calls ≤ length (replies_in k.calls) + 1) }
+    // Where the transcript says `quiet`, each call that it shows at a living home has its reply.
+    ensures none_forgotten { IfOk result (λ t. t.quiet ≡ true →
+        (c : ℕ) (k : ConnectionShown) → slice_get t.connections c ≡ Some k →
+        lives (run_of count homes.now events.now) k.home ≡ true →
+        (p : ℕ) (call : CallTranscript) → slice_get k.calls p ≡ Some call → IsSome call.reply) }
     ensures bad_count { IsErrOf result SceneFault.BadCount ↔ (is_count count ≡ false) }
     // At most 64 homes, each the number of a server.
     ensures bad_homes { IsErrOf result SceneFault.BadHomes ↔ ((is_count count ≡ true) × (are_homes count homes.now ≡ false)) }

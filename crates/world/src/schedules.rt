@@ -3,7 +3,8 @@ ghost use Rattle.std.specs.Prelude.{◌≡◌, ◌+◌, ℕ, IfErr, IfOk, OnOk, 
 ghost use Rattle.world.specs.declared.schedules.ScheduleFault.TheVariants.{Memory};
 ghost use Rattle.world.specs.HeadLines.{homes_line, servers_line};
 ghost use Rattle.world.specs.Scenes.{are_homes, is_count};
-ghost use Rattle.world.specs.Schedules.{Names, SpellsSchedule, events_of, first_says, schedule_of};
+ghost use Rattle.world.specs.Schedules.{Names, events_of, first_says, schedule_of};
+ghost use Rattle.world.specs.SpelledSchedules.{SpellsSchedule};
 
 use crate::Event;
 use crate::event_lines::{event_line, push_events};

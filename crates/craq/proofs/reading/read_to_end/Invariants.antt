@@ -1,11 +1,10 @@
-use Rattle.std.proofs.Common.{◌≡◌, ◌-◌, ◌^◌, vec_len}
-use Rattle.std.specs.Io.KnownBytes.{Consumes}
+use Rattle.std.proofs.Common.{◌≡◌, ◌-◌, ◌^◌, ◌++◌, vec_len}
 use Rattle.craq.proofs.reading.read_to_end.Given as goal
 
 abbrev pub invariant-loop-all : goal.invariant-loop-all
 invariant-loop-all g l =
     record {
-      bytes : Consumes (g.R.Source.remaining l.fn.source) (g.R.Source.remaining l.source) l.all.items;
+      bytes : g.R.Source.given l.source ≡ g.R.Source.given l.fn.source ++ l.all.items;
       none_failed : g.R.Source.failures l.source ≡ g.R.Source.failures l.fn.source;
     }
 

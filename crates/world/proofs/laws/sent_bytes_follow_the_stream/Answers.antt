@@ -2,4 +2,9 @@ use Rattle.world.proofs.CoursesRun.{sent_is}
 use Rattle.world.proofs.laws.sent_bytes_follow_the_stream.Goals as goal
 
 pub returns : goal.returns
-returns c = sent_is c.next_gives_first.ensures c.faults_take_bytes.ensures
+returns c =
+    sent_is (record {
+      first = c.next_gives_first.ensures;
+      keeps = c.next_keeps_end.ensures;
+      answers = c.answer_keeps_turns.ensures;
+    }) c.faults_take_bytes.ensures

@@ -1,16 +1,27 @@
-use Rattle.std.proofs.Common.{◌≡◌, ◌-◌, ℕ, length, drop, Ok, Err, refl, ap, sym, subst, ◌∙◌, arith}
+use Rattle.std.proofs.Common.{◌≡◌, ◌-◌, ◌<◌, ℕ, length, drop, Ok, Err, refl, ap, sym, subst, ◌∙◌, arith}
 use Rattle.wire.specs.declared.fields.Stop.TheVariants.{Short, Malformed, Old}
 use Rattle.wire.specs.Grammar.{HasFrame, IsFirst, IsMalformed, IsOld, IsPartial}
+use Rattle.wire.specs.Lengths.{longest}
 use Rattle.wire.specs.Fronts.{front}
 use Rattle.wire.specs.Streams.{Held, next_of, taken}
 use Rattle.wire.proofs.Readers.{IsBytes}
 use Rattle.wire.proofs.FrontLaws.{first_from, malformed_from, old_from, partial_from, frame_not_malformed, frame_not_old, front_takes, rest_behind, waiting, stopped_is, wanted_frame, wanted_not_malformed, wanted_not_old}
+use Rattle.wire.proofs.FrameLengths.{short_front}
+use Rattle.wire.proofs.EndLaws.{ends_there}
 use Rattle.wire.proofs.streams.Frames.next.Goals as goal
 
+waited_short : (c : goal.Then-self-gt0) → front c.args.self.now.unread ≡ Err (Short c.self.inside.missing)
+waited_short c =
+    ap (λ (h : Held). front h.unread) (sym c.self.view_is) ∙ waiting c.self.inside.missing c.self.inside.unread.items c.if-self-gt0.true c.self.invariant
+
 waited : (c : goal.Then-self-gt0) → IsPartial c.args.self.now.unread
-waited c =
-    partial_from c.args.self.now.unread c.self.inside.missing
-    (ap (λ (h : Held). front h.unread) (sym c.self.view_is) ∙ waiting c.self.inside.missing c.self.inside.unread.items c.if-self-gt0.true c.self.invariant)
+waited c = partial_from c.args.self.now.unread c.self.inside.missing (waited_short c)
+
+pub returns-then-self-gt0-clause-short : goal.returns-then-self-gt0-clause-short
+returns-then-self-gt0-clause-short c = short_front c.args.self.now.unread c.self.inside.missing (waited_short c)
+
+pub returns-then-self-gt0-clause-end : goal.returns-then-self-gt0-clause-end
+returns-then-self-gt0-clause-end c = ends_there c.args.self.now.unread (Short c.self.inside.missing) (waited_short c)
 
 pub returns-then-self-gt0-clause-none : goal.returns-then-self-gt0-clause-none
 returns-then-self-gt0-clause-none c = waited c
@@ -88,6 +99,14 @@ returns-in-Err-Stopped-Short-clause-malformed c = (λ e. absurd cc, λ m. absurd
 
 pub returns-in-Err-Stopped-Short-clause-old_format : goal.returns-in-Err-Stopped-Short-clause-old_format
 returns-in-Err-Stopped-Short-clause-old_format c = (λ e. absurd cc, λ o. absurd ((partial_from c.args.self.now.unread c.in-Err-Stopped-Short.missing (read_short c)).not_old o))
+
+pub returns-in-Err-Stopped-Short-clause-short : goal.returns-in-Err-Stopped-Short-clause-short
+returns-in-Err-Stopped-Short-clause-short c =
+    subst (λ (h : Held). length h.unread < longest) (sym c.self.view_is)
+    (short_front c.args.self.now.unread c.in-Err-Stopped-Short.missing (read_short c))
+
+pub returns-in-Err-Stopped-Short-clause-end : goal.returns-in-Err-Stopped-Short-clause-end
+returns-in-Err-Stopped-Short-clause-end c = ends_there c.args.self.now.unread (Short c.in-Err-Stopped-Short.missing) (read_short c)
 
 bad_is : (c : goal.After-self-in-Err-Stopped-Malformed-1) → IsMalformed c.args.self.now.unread
 bad_is c =

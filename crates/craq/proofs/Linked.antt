@@ -1,0 +1,95 @@
+-- What is put on the links between the servers of one process.
+use Rattle.std.proofs.Common.{◌≡◌, ℕ, zero, suc, ◌+◌, ◌<◌, ◌≤◌, Bool, true, false, if◌then◌else◌, List, [], ◌∷◌, ◌++◌, length, slice_index_or, slice_set, nat_lt, refl, ap, sym, arith}
+use Rattle.node.specs.declared.messages.Peer.{Peer}
+use Rattle.node.specs.declared.messages.Input.TheVariants.{From}
+use Rattle.rail.specs.declared.events.Event.{Event}
+use Rattle.rail.specs.declared.events.Event.TheVariants.{Took}
+use Rattle.craq.specs.declared.in_process_links.Link.{Link}
+use Rattle.craq.specs.InProcessLinks.{before_last, failures_at, last_brought, last_put, sent_by, sent_on, without_last}
+
+-- after one event more the last one is that
+last_of : (to : ℕ) (i : ℕ) (peer : Peer) (es : List Event) → last_brought to (es ++ Took (From i peer) ∷ []) ≡ (to, peer) ∷ []
+last_of to i peer [] = refl
+last_of to i peer (e ∷ []) = refl
+last_of to i peer (e ∷ (f ∷ es)) = last_of to i peer (f ∷ es)
+
+without : (e : Event) (es : List Event) → without_last (es ++ e ∷ []) ≡ es
+without e [] = refl
+without e (f ∷ []) = refl
+without e (f ∷ (h ∷ es)) = ap (λ w. f ∷ w) (without e (h ∷ es))
+
+-- the link at a place was given a message: it is the last one there
+pub put_at : (to i place : ℕ) (peer : Peer) (ls : List Link) (d x : Link) → place < length ls
+    → sent_by x.inlet ≡ sent_by (slice_index_or ls place d).inlet ++ Took (From i peer) ∷ []
+    → last_put to place (sent_on (slice_set ls place x)) ≡ (to, peer) ∷ []
+put_at to i place peer [] d x within more = absurd (omega (arith, within))
+put_at to i zero peer (l ∷ ls) d x within more = rw more (last_of to i peer (sent_by l.inlet))
+put_at to i (suc place) peer (l ∷ ls) d x within more = put_at to i place peer ls d x (omega (arith, within)) more
+
+-- and what was sent before it is what was sent
+pub before_at : (i place : ℕ) (peer : Peer) (ls : List Link) (d x : Link) → place < length ls
+    → sent_by x.inlet ≡ sent_by (slice_index_or ls place d).inlet ++ Took (From i peer) ∷ []
+    → before_last place (sent_on (slice_set ls place x)) ≡ sent_on ls
+before_at i place peer [] d x within more = absurd (omega (arith, within))
+before_at i zero peer (l ∷ ls) d x within more =
+    let last : without_last (sent_by x.inlet) ≡ sent_by l.inlet = rw more (without (Took (From i peer)) (sent_by l.inlet)) in
+    ap (λ es. es ∷ sent_on ls) last
+before_at i (suc place) peer (l ∷ ls) d x within more =
+    ap (λ rest. sent_by l.inlet ∷ rest) (before_at i place peer ls d x (omega (arith, within)) more)
+
+-- the link at a place was given nothing
+pub unsent_at : (place : ℕ) (ls : List Link) (d x : Link) → place < length ls
+    → sent_by x.inlet ≡ sent_by (slice_index_or ls place d).inlet
+    → sent_on (slice_set ls place x) ≡ sent_on ls
+unsent_at place [] d x within same = absurd (omega (arith, within))
+unsent_at zero (l ∷ ls) d x within same = ap (λ es. es ∷ sent_on ls) same
+unsent_at (suc place) (l ∷ ls) d x within same = ap (λ rest. sent_by l.inlet ∷ rest) (unsent_at place ls d x (omega (arith, within)) same)
+
+-- a link that has failed has failures
+pub failed_at : (place : ℕ) (ls : List Link) (x : Link) → place < length ls → x.has_failed ≡ true → 0 < failures_at (slice_set ls place x) place
+failed_at place [] x within bad = absurd (omega (arith, within))
+failed_at zero (l ∷ ls) x within bad = rw bad omega arith
+failed_at (suc place) (l ∷ ls) x within bad = failed_at place ls x (omega (arith, within)) bad
+
+at_most : (b : Bool) → (if b then 1 else 0) ≤ 1
+at_most true = omega arith
+at_most false = omega arith
+
+-- and none has fewer
+pub more_failed : (place : ℕ) (ls : List Link) (x : Link) (j : ℕ) → place < length ls → x.has_failed ≡ true
+    → failures_at ls j ≤ failures_at (slice_set ls place x) j
+more_failed place [] x j within bad = absurd (omega (arith, within))
+more_failed zero (l ∷ ls) x zero within bad = rw bad (at_most l.has_failed)
+more_failed zero (l ∷ ls) x (suc j) within bad = omega arith
+more_failed (suc place) (l ∷ ls) x zero within bad = omega arith
+more_failed (suc place) (l ∷ ls) x (suc j) within bad = more_failed place ls x j (omega (arith, within)) bad
+
+-- a link that is as it was has as many
+pub as_failed : (place : ℕ) (ls : List Link) (d x : Link) (j : ℕ) → place < length ls
+    → x.has_failed ≡ (slice_index_or ls place d).has_failed
+    → failures_at ls j ≤ failures_at (slice_set ls place x) j
+as_failed place [] d x j within same = absurd (omega (arith, within))
+as_failed zero (l ∷ ls) d x zero within same = rw same omega arith
+as_failed zero (l ∷ ls) d x (suc j) within same = omega arith
+as_failed (suc place) (l ∷ ls) d x zero within same = omega arith
+as_failed (suc place) (l ∷ ls) d x (suc j) within same = as_failed place ls d x j (omega (arith, within)) same
+
+-- beyond the last link each has failed
+pub beyond : (place : ℕ) (ls : List Link) → length ls ≤ place → failures_at ls place ≡ 1
+beyond place [] out = refl
+beyond zero (l ∷ ls) out = absurd (omega (arith, out))
+beyond (suc place) (l ∷ ls) out = beyond place ls (omega (arith, out))
+
+counts : (b : Bool) → nat_lt 0 (if b then 1 else 0) ≡ b
+counts true = refl
+counts false = refl
+
+-- a link has failures exactly if it has failed
+pub tells_failed : (place : ℕ) (ls : List Link) (d : Link) → place < length ls → (slice_index_or ls place d).has_failed ≡ nat_lt 0 (failures_at ls place)
+tells_failed place [] d within = absurd (omega (arith, within))
+tells_failed zero (l ∷ ls) d within = sym (counts l.has_failed)
+tells_failed (suc place) (l ∷ ls) d within = tells_failed place ls d (omega (arith, within))
+
+-- beyond the last link each has
+pub tells_beyond : (place : ℕ) (ls : List Link) → length ls ≤ place → true ≡ nat_lt 0 (failures_at ls place)
+tells_beyond place ls out = rw (beyond place ls out) refl

@@ -1,0 +1,65 @@
+-- Links between the servers of one process: which have failed, and what was put on them, in order.
+use Rattle.std.specs.Prelude.{ℕ, zero, suc, Bool, true, List, [], ◌∷◌, ◌++◌, Option, Some, None, if◌then◌else◌}
+use Rattle.node.specs.declared.messages.Peer.{Peer}
+use Rattle.node.specs.declared.messages.Input.{Input}
+use Rattle.node.specs.declared.messages.Input.TheVariants.{Call as Called, From, Gone}
+use Rattle.rail.specs.declared.events.Event.{Event}
+use Rattle.rail.specs.declared.events.Event.TheVariants.{Took, Stop, End}
+use Rattle.craq.specs.declared.in_process_links.Link.{Link}
+
+-- whether each link has failed, as a count: the link to a server that isn't there has failed
+abbrev pub failures_at : List Link → ℕ → ℕ
+failures_at [] j = 1
+failures_at (x ∷ xs) zero = if x.has_failed then 1 else 0
+failures_at (x ∷ xs) (suc j) = failures_at xs j
+
+-- what an inlet sent, and nothing without one
+abbrev pub sent_by : Option (List Event) → List Event
+sent_by None = []
+sent_by (Some events) = events
+
+-- what each link's inlet sent
+abbrev pub sent_on : List Link → List (List Event)
+sent_on [] = []
+sent_on (x ∷ xs) = sent_by x.inlet ∷ sent_on xs
+
+-- these events without the last one
+abbrev pub without_last : List Event → List Event
+without_last [] = []
+without_last (e ∷ []) = []
+without_last (e ∷ (f ∷ es)) = e ∷ without_last (f ∷ es)
+
+-- the message that an input brings, if it brings one, with this receiver
+abbrev pub brought_by : ℕ → Input → List (ℕ × Peer)
+brought_by to (Called port call) = []
+brought_by to (From i peer) = (to, peer) ∷ []
+brought_by to (Gone j) = []
+
+-- the same of an event
+abbrev pub brought : ℕ → Event → List (ℕ × Peer)
+brought to (Took input) = brought_by to input
+brought to Stop = []
+brought to End = []
+
+-- the message that the last of these events brings, with this receiver
+abbrev pub last_brought : ℕ → List Event → List (ℕ × Peer)
+last_brought to [] = []
+last_brought to (e ∷ []) = brought to e
+last_brought to (e ∷ (f ∷ es)) = last_brought to (f ∷ es)
+
+-- the message that was put last, if its receiver is the server at this place
+abbrev pub last_put : ℕ → ℕ → List (List Event) → List (ℕ × Peer)
+last_put to place [] = []
+last_put to zero (es ∷ rest) = last_brought to es
+last_put to (suc place) (es ∷ rest) = last_put to place rest
+
+-- what was sent before it
+abbrev pub before_last : ℕ → List (List Event) → List (List Event)
+before_last place [] = []
+before_last zero (es ∷ rest) = without_last es ∷ rest
+before_last (suc place) (es ∷ rest) = es ∷ before_last place rest
+
+-- all messages in the order in which they were put, by their receivers, the last one first, and by what each link's inlet sent
+abbrev pub all_put : List ℕ → List (List Event) → List (ℕ × Peer)
+all_put [] sent = []
+all_put (to ∷ earlier) sent = all_put earlier (before_last to sent) ++ last_put to to sent

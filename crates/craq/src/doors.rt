@@ -1,0 +1,83 @@
+//! Doors: threads that accept connections, and serve each whole before the next.
+
+use crate::callers::Caller;
+use crate::marks::Mark;
+use crate::serving::{ServeFault, serve_stream};
+use crate::sinks::TrackedWriter;
+use crate::sources::TrackedReader;
+use std::alloc::Global;
+use std::net::{TcpListener, TcpStream};
+use std::sync::Wait;
+use std::thread;
+use std::thread::{JoinHandle, Threads};
+
+/// Starts one thread for each caller. It accepts a connection, serves it whole, and accepts the next; with `serves` above 0 it
+/// ends after that many. A connection that it accepts while the mark is set is closed without a byte, and counts.
+pub fn serve_seats<
+    R: Wait + Threads + Copy + Drop + Send + 'static,
+    C: Caller + Drop + Send + 'static,
+>(
+    rt: R,
+    alloc: Global,
+    listener: &TcpListener,
+    callers: Vec<C>,
+    serves: u64,
+    mark: &Mark,
+) -> Result<Vec<JoinHandle<()>>, ServeFault> {
+    let mut threads = Vec::new(alloc);
+    for caller in callers {
+        let Ok(listener) = listener.try_clone() else {
+            return Err(ServeFault::Memory);
+        };
+        let mark = mark.share()?;
+        let Ok(thread) = thread::spawn(
+            &rt,
+            move || serve_door(&rt, alloc, listener, caller, serves, &mark),
+        ) else {
+            return Err(ServeFault::Memory);
+        };
+        if threads.push(thread).is_err() {
+            return Err(ServeFault::Memory);
+        }
+    }
+    Ok(threads)
+}
+
+// Serves one connection after another.
+fn serve_door<R: Wait, C: Caller + Drop>(
+    rt: &R,
+    alloc: Global,
+    listener: TcpListener,
+    caller: C,
+    serves: u64,
+    mark: &Mark,
+) {
+    let mut caller = caller;
+    let mut served = 0u64;
+    for stream in listener.incoming() {
+        if let Ok(stream) = stream {
+            serve_connection(rt, alloc, stream, &mut caller, mark);
+            served = served.wrapping_add(1);
+            if served == serves {
+                return;
+            }
+        }
+    }
+}
+
+// Serves a connection, unless the mark is set, and closes it.
+fn serve_connection<R: Wait, C: Caller>(
+    rt: &R,
+    alloc: Global,
+    stream: TcpStream,
+    caller: &mut C,
+    mark: &Mark,
+) {
+    if mark.is_set() {
+        return;
+    }
+    let _ = stream.set_nodelay(true);
+    let mut source = TrackedReader::new(&stream);
+    let mut sink = TrackedWriter::new(&stream);
+    let _ = serve_stream(rt, alloc, &mut source, &mut sink, caller);
+}

@@ -1,0 +1,174 @@
+//! Links between the servers of one process: a message is brought into the other server's inbox.
+ghost use Rattle.std.specs.Prelude.{◌≡◌, ◌≤◌, ◌<◌, ◌∷◌, [], ℕ, nat_lt, OnOk, OnErr, IfErr};
+ghost use Rattle.node.specs.Lawful.{IsBody};
+ghost use Rattle.craq.specs.InProcessLinks.{before_last, failures_at, last_put, sent_on};
+
+use boxcar::tag::{Names, Tag};
+use node::Peer;
+use rail::{Inlet, Links, Published, RailFault};
+use std::marker::Model;
+use std::sync::Wait;
+
+/// The link to one server: an inlet of its worker, unless there is none, as to itself.
+#[derive(Drop)]
+pub struct Link {
+    /// Brings the messages.
+    pub inlet: Option<Inlet>,
+    /// Whether a message could not be brought.
+    pub has_failed: bool,
+}
+
+/// The links of one server to all servers of the process, by their ids.
+#[derive(Drop)]
+pub struct InProcessLinks<R: Wait + Drop> {
+    rt: R,
+    id: u8,
+    links: Vec<Link>,
+    receivers: Receivers,
+}
+
+impl Link {
+    ghost use Rattle.std.specs.Prelude.{◌≡◌, ◌∷◌, ◌++◌, [], true, OnOk, OnErr, IfErr};
+    ghost use Rattle.node.specs.Lawful.{IsBody};
+    ghost use Rattle.node.specs.declared.messages.Input.TheVariants.{From};
+    ghost use Rattle.rail.specs.declared.events.Event.TheVariants.{Took};
+    ghost use Rattle.craq.specs.InProcessLinks.{sent_by};
+
+    /// A link that hasn't failed, or has if there is no inlet.
+    pub fn new(inlet: Option<Inlet>) -> Link {
+        let has_failed = inlet.is_none();
+        Link { inlet, has_failed }
+    }
+
+    // Brings a message of server `id`. If it can't be brought the link has failed.
+    fn bring<R: Wait>(&mut self, rt: &R, id: u8, peer: Peer) -> Result<(), RailFault>
+        requires { IsBody peer.body }
+        ensures ok { OnOk result (sent_by self.new.inlet ≡ sent_by self.old.inlet ++ Took (From id peer) ∷ []) }
+        ensures up { OnOk result (self.new.has_failed ≡ self.old.has_failed) }
+        ensures err { OnErr result (sent_by self.new.inlet ≡ sent_by self.old.inlet) }
+        ensures down { OnErr result (self.new.has_failed ≡ true) }
+        ensures fault { IfErr result (λ fault. fault ≡ RailFault.LinkDown) }
+    {
+        if let Some(inlet) = &mut self.inlet {
+            if inlet.bring(rt, id, peer).is_ok() {
+                return Ok(());
+            }
+        }
+        self.has_failed = true;
+        Err(RailFault::LinkDown)
+    }
+}
+
+impl<R: Wait + Drop> InProcessLinks<R> {
+    /// The links of server `id`, over which nothing was put.
+    pub fn new(rt: R, id: u8, links: Vec<Link>) -> InProcessLinks<R> {
+        InProcessLinks {
+            rt,
+            id,
+            links,
+            receivers: Receivers::new(),
+        }
+    }
+}
+
+impl<R: Wait + Drop> Links for InProcessLinks<R> {
+    ghost use Rattle.craq.specs.InProcessLinks.{all_put, failures_at, sent_on};
+
+    ghost list = { λ s. all_put s.receivers (sent_on s.links.items) };
+
+    ghost failures = { λ s. failures_at s.links.items };
+
+    fn failed(&self, to: u8) -> bool {
+        has_failed(self.links.as_slice(), to)
+    }
+
+    fn put(&mut self, _published: &Published, to: u8, peer: &Peer) -> Result<(), RailFault> {
+        let peer = peer.clone()?;
+        bring_to(&self.rt, &mut self.links, self.id, to, peer)?;
+        self.receivers.add(to);
+        Ok(())
+    }
+}
+
+// Whether the link to a server has failed.
+#[tactic(auto, using(crate::proofs::Linked::tells_failed, crate::proofs::Linked::tells_beyond))]
+fn has_failed(links: &[Link], to: u8) -> bool
+    ensures { result ≡ nat_lt 0 (failures_at links.now to) }
+{
+    let place = usize::from(to);
+    if place < links.len() {
+        links[place].has_failed
+    } else {
+        true
+    }
+}
+
+// Brings a message to a server whose link hasn't failed.
+#[tactic(auto, using(crate::proofs::Linked::put_at, crate::proofs::Linked::before_at, crate::proofs::Linked::unsent_at, crate::proofs::Linked::failed_at, crate::proofs::Linked::more_failed, crate::proofs::Linked::as_failed, crate::proofs::Linked::beyond))]
+fn bring_to<R: Wait>(
+    rt: &R,
+    links: &mut Vec<Link>,
+    id: u8,
+    to: u8,
+    peer: Peer,
+) -> Result<(), RailFault>
+    requires body { IsBody peer.body }
+    requires up { failures_at links.old.items to ≡ 0 }
+    ensures put { OnOk result (last_put to to (sent_on links.new.items) ≡ (to, peer) ∷ []) }
+    ensures earlier { OnOk result (before_last to (sent_on links.new.items) ≡ sent_on links.old.items) }
+    ensures err { OnErr result (sent_on links.new.items ≡ sent_on links.old.items) }
+    ensures failures { (j : ℕ) → failures_at links.old.items j ≤ failures_at links.new.items j }
+    ensures fault { IfErr result (λ fault. (fault ≡ RailFault.LinkDown) × (0 < failures_at links.new.items to)) }
+{
+    let place = usize::from(to);
+    if place < links.len() {
+        links[place].bring(rt, id, peer)
+    } else {
+        Err(RailFault::LinkDown)
+    }
+}
+
+/// The receivers of the messages that were put, the last one first, for contracts alone. It takes no memory.
+#[derive(Drop)]
+struct Receivers {
+    tag: Tag,
+}
+
+impl Model for Receivers {
+    ghost use Rattle.std.specs.Prelude.{ℕ, List};
+
+    ghost Value = { List ℕ };
+
+    ghost view = { λ r. r.tag.numbers };
+}
+
+impl Receivers {
+    fn new() -> Receivers
+        ensures { result ≡ [] }
+    {
+        Receivers { tag: Tag::empty() }
+    }
+
+    fn add(&mut self, to: u8)
+        ensures { self.new ≡ to ∷ self.old }
+    {
+        let tag = Tag::of::<Later<'_>, First>(&Later {
+            before: &self.tag,
+            to,
+        });
+        self.tag = tag;
+    }
+}
+
+// The receivers so far, and one more.
+#[derive(Clone, Copy)]
+struct Later<'a> {
+    before: &'a Tag,
+    to: u8,
+}
+
+struct First;
+
+impl<'a> Names<Later<'a>> for First {
+    ghost numbers = { λ later. later.to ∷ later.before.now.numbers };
+}

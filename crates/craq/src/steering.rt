@@ -1,0 +1,149 @@
+//! The command `cluster`: runs a chain, and fails the servers that its input names.
+
+use crate::clusters::{Cluster, ClusterFault, Numbers};
+use crate::faults::{DONE, FAILED, MEMORY};
+use crate::sinks::Sink;
+use crate::sources::Source;
+use crate::writing::write_all;
+use itoa::Buffer;
+use std::alloc::Global;
+use std::net::{Net, TcpListener, TcpStream};
+use std::sync::Wait;
+use std::thread::Threads;
+use std::time::Clock;
+
+/// The most bytes of a line that are kept: more than any line has that means something.
+const KEPT: usize = 16;
+
+/// Runs a chain of servers that serve clients over TCP, until the input and every seat's thread have ended. It says `ready` when
+/// all listen. For each line `fail J` of the input server J is failed, and `gone J` printed; any other line prints `bad line`.
+/// It answers the exit status: 0, or 1 if a port is taken or the output can't be written, or 3 if memory is out.
+pub fn cluster<
+    R: Wait
+        + Threads
+        + Clock
+        + Net<Listener = TcpListener, Stream = TcpStream>
+        + Copy
+        + Drop
+        + Send
+        + 'static,
+    S: Source,
+    W: Sink,
+    X: Sink,
+>(rt: R, alloc: Global, numbers: Numbers, input: &mut S, output: &mut W, errors: &mut X) -> u8 {
+    match steer(rt, alloc, numbers, input, output) {
+        Ok(()) => DONE,
+        Err(fault) => {
+            tell(fault, errors);
+            match fault {
+                ClusterFault::Memory => MEMORY,
+                _ => FAILED,
+            }
+        }
+    }
+}
+
+// Runs a chain, and fails the servers that the input names.
+fn steer<
+    R: Wait
+        + Threads
+        + Clock
+        + Net<Listener = TcpListener, Stream = TcpStream>
+        + Copy
+        + Drop
+        + Send
+        + 'static,
+    S: Source,
+    W: Sink,
+>(
+    rt: R,
+    alloc: Global,
+    numbers: Numbers,
+    input: &mut S,
+    output: &mut W,
+) -> Result<(), ClusterFault> {
+    let mut cluster = Cluster::open(rt, alloc, numbers)?;
+    print(output, b"ready\n")?;
+    let mut line = Vec::new(alloc);
+    for _ in rt.forever() {
+        if !next_line(input, &mut line)? {
+            cluster.end(&rt);
+            return Ok(());
+        }
+        match server_named(line.as_slice(), numbers.servers) {
+            Some(j) => {
+                cluster.fail(&rt, j)?;
+                print(output, b"gone ")?;
+                print(output, Buffer::new().format(j).as_bytes())?;
+                print(output, b"\n")?;
+            }
+            None => print(output, b"bad line\n")?,
+        }
+    }
+    unreachable!()
+}
+
+// The next line without its end, or a beginning of it if it is long. It tells whether there is one.
+fn next_line<S: Source>(input: &mut S, line: &mut Vec<u8>) -> Result<bool, ClusterFault> {
+    line.clear();
+    for _ in 0..u64::MAX {
+        let mut byte = [0u8];
+        match input.read(byte.as_mut_slice()) {
+            Ok(0) => return Ok(!line.is_empty()),
+            Ok(_) => {
+                if byte[0] == b'\n' {
+                    return Ok(true);
+                }
+                if line.len() < KEPT {
+                    line.push(byte[0])?;
+                }
+            }
+            Err(_) => return Ok(!line.is_empty()),
+        }
+    }
+    Ok(false)
+}
+
+// The server that a line `fail J` names, below `count` and without leading zeros.
+fn server_named(line: &[u8], count: u8) -> Option<u8> {
+    for j in 0..count {
+        let mut digits = Buffer::new();
+        if is_failing(line, digits.format(j).as_bytes()) {
+            return Some(j);
+        }
+    }
+    None
+}
+
+// The line is `fail` with these digits.
+fn is_failing(line: &[u8], digits: &[u8]) -> bool {
+    match line.strip_prefix(b"fail ".as_slice()) {
+        Some(named) => named == digits,
+        None => false,
+    }
+}
+
+fn print<W: Sink>(output: &mut W, text: &[u8]) -> Result<(), ClusterFault> {
+    match write_all(output, text) {
+        Ok(()) => Ok(()),
+        Err(_) => Err(ClusterFault::Run),
+    }
+}
+
+// Tells a fault in one line.
+fn tell<X: Sink>(fault: ClusterFault, errors: &mut X) {
+    match fault {
+        ClusterFault::Memory => {
+            let _ = write_all(errors, b"craq: out of memory\n");
+        }
+        ClusterFault::Port(port) => {
+            let mut digits = Buffer::new();
+            let _ = write_all(errors, b"craq: cannot listen on port ");
+            let _ = write_all(errors, digits.format(port).as_bytes());
+            let _ = write_all(errors, b"\n");
+        }
+        ClusterFault::Run => {
+            let _ = write_all(errors, b"craq: run failed\n");
+        }
+    }
+}

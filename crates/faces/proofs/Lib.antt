@@ -1,0 +1,5 @@
+pub mod Beginnings
+pub mod Adding
+pub mod Waiting
+pub mod Posting
+pub mod Stepping

@@ -1,0 +1,9 @@
+pub mod Logs
+pub mod Courses
+pub mod Outputs
+pub mod Tombstones
+pub mod Shown
+pub mod Boards
+pub mod Showing
+pub mod Readers
+pub mod Publishers

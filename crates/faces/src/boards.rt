@@ -1,0 +1,169 @@
+//! The face that readers take, under the rule that it is the server's face after the inputs that it says.
+ghost use Rattle.std.specs.Prelude.{◌≡◌, [], fold, MatchResult, IfOk};
+ghost use Rattle.left_right.specs.Sides.{view};
+ghost use Rattle.faces.specs.Boards.{IsShownBy};
+ghost use Rattle.faces.specs.Showing.{pending, Shows};
+ghost use Rattle.faces.specs.Courses.{shown_after};
+ghost use Rattle.faces.specs.Shown.{acts_of, applied};
+ghost use Rattle.node.specs.Faces.{face_changed};
+
+use crate::faces::{Act, Face};
+use crate::fronts::Front;
+use crate::published::Published;
+use atomic_table::{Join, Split};
+use crossbeam_utils::rule::{Outcome, Protocol};
+use left_right::reader::Reader as Place;
+use left_right::writer::Writer;
+use node::FaceChange;
+use std::alloc::AllocError;
+use std::marker::Model;
+use std::sync::Wait;
+
+/// Which running server it is, and what it began with. No value of it is made.
+pub struct Name {
+    unused: u8,
+}
+
+impl Model for Name {
+    ghost use Rattle.std.specs.Coded.{codes};
+    ghost use Rattle.logbook.specs.Pages.{book_coded};
+    ghost use Rattle.versions.specs.Stores.{coded_items};
+    ghost use Rattle.faces.specs.Courses.{Origin, nowhere};
+
+    ghost Value = { Origin };
+
+    ghost coded = { Prim.hlevel (codes, coded_items, book_coded) };
+
+    ghost view = { λ n. nowhere };
+}
+
+/// What a place at the board knows: the server, once it has looked. No value of it is made.
+pub struct Knowledge {
+    pub knows: bool,
+    pub origin: Name,
+}
+
+/// The rule of the board.
+pub struct Posted;
+
+impl Protocol<Face, Knowledge> for Posted {
+    ghost use Rattle.faces.specs.Boards.{Keeps, newcomer};
+
+    ghost holds = { Keeps };
+
+    ghost first = { newcomer };
+}
+
+/// A look at the face, and a change of it.
+pub struct Takes;
+
+impl Outcome<Face, Knowledge> for Takes {
+    ghost use Rattle.faces.specs.Boards.{Tells};
+
+    ghost then = { Tells };
+}
+
+/// A reader's place learns what the writer's knows.
+pub struct Notes;
+
+impl Split<Knowledge> for Notes {
+    ghost left = { λ v. v };
+
+    ghost right = { λ v. v };
+}
+
+impl Join<Knowledge> for Notes {
+    ghost use Rattle.faces.specs.Boards.{newcomer};
+
+    ghost both = { λ v w. w };
+
+    ghost spent = { newcomer };
+}
+
+pub type FacePlace = Place<Face, Knowledge, Posted>;
+
+pub type FaceWriter = Writer<Face, Act, Knowledge, Posted>;
+
+/// The first face is shown, and the writer knows whose it is.
+pub fn begin<R: Wait>(rt: &R, writer: FaceWriter) -> (FaceWriter, Result<Published, AllocError>)
+    requires nothing { pending writer ≡ [] }
+    requires face { IsShownBy writer.desk.shown.value }
+    ensures { MatchResult result.1 (λ p. Shows result.0 p × (p ≡ writer.desk.shown.value.course)) (λ _. Unit {0}) }
+{
+    show(rt, writer)
+}
+
+/// A place for one more reader, which knows what the writer knows.
+pub fn place(writer: &mut FaceWriter) -> Result<FacePlace, AllocError>
+    ensures place { IfOk result (λ place. view place.place ≡ view writer.old.desk.place) }
+    ensures kept { (writer.new.desk.shown ≡ writer.old.desk.shown)
+        × (pending writer.new ≡ pending writer.old)
+        × (view writer.new.desk.place ≡ view writer.old.desk.place) }
+{
+    let mut place = writer.factory().reader()?;
+    place.learn::<Notes>(writer.tell::<Notes>());
+    Ok(place)
+}
+
+/// Shows the change of an input. It waits for those that still read the face before the last one.
+pub fn publish<R: Wait>(
+    rt: &R,
+    writer: FaceWriter,
+    change: FaceChange,
+    front: Front,
+) -> (FaceWriter, Result<Published, AllocError>)
+    requires nothing { pending writer ≡ [] }
+    requires server { front.origin ≡ writer.desk.shown.value.course.origin }
+    requires face { face_changed writer.desk.shown.value.face change.steps.items change.acked ≡ shown_after front }
+    ensures { MatchResult result.1 (λ p. Shows result.0 p × (p ≡ front)) (λ _. Unit {0}) }
+{
+    let (writer, noted) = append(writer, change, front);
+    match noted {
+        Ok(()) => show(rt, writer),
+        Err(_) => (writer, Err(AllocError)),
+    }
+}
+
+// Shows what is pending, which makes the face of the same server after the inputs that it says.
+fn show<R: Wait>(rt: &R, writer: FaceWriter) -> (FaceWriter, Result<Published, AllocError>)
+    requires server { (fold applied writer.desk.shown.value (pending writer)).course.origin
+        ≡ writer.desk.shown.value.course.origin }
+    requires face { IsShownBy (fold applied writer.desk.shown.value (pending writer)) }
+    ensures { MatchResult result.1
+        (λ p. Shows result.0 p × (p ≡ (fold applied writer.desk.shown.value (pending writer)).course))
+        (λ _. Unit {0}) }
+{
+    let (writer, shown) = writer.publish_as::<Takes, R>(rt);
+    match shown {
+        Ok(()) => {
+            let published = Published::shown(writer.published().front().again());
+            (writer, Ok(published))
+        }
+        Err(_) => (writer, Err(AllocError)),
+    }
+}
+
+// Notes what the change does, for the next publish.
+fn append(
+    writer: FaceWriter,
+    change: FaceChange,
+    front: Front,
+) -> (FaceWriter, Result<(), AllocError>)
+    requires nothing { pending writer ≡ [] }
+    ensures desk { result.0.desk ≡ writer.desk }
+    ensures acts { MatchResult result.1
+        (λ _. pending result.0 ≡ acts_of change.steps.items change.acked front)
+        (λ _. Unit {0}) }
+{
+    let mut writer = writer;
+    let FaceChange { steps, acked } = change;
+    for step in steps {
+        if writer.append(Act::Step(step)).is_err() {
+            return (writer, Err(AllocError));
+        }
+    }
+    let done = writer
+        .append(Act::Reach(acked, front))
+        .map_err(|_| AllocError);
+    (writer, done)
+}

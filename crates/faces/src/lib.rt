@@ -1,0 +1,21 @@
+//! What readers beside a server see: its face after each input that it took, shown to threads that wait for nobody.
+#![tactic(auto)]
+
+mod boards;
+mod faces;
+mod faults;
+mod fronts;
+mod logs;
+mod published;
+mod publishers;
+mod readers;
+#[cfg(test)]
+mod tests;
+mod tombstones;
+
+pub use boards::Name;
+pub use faults::FaceFault;
+pub use fronts::Front;
+pub use published::{Published, Told};
+pub use publishers::Publisher;
+pub use readers::Reader;

@@ -1,0 +1,111 @@
+//! Notes of what a server has published.
+ghost use Rattle.std.specs.Prelude.{◌≡◌, MatchBool};
+ghost use Rattle.faces.specs.Courses.{IsLater};
+
+use crate::fronts::Front;
+use std::marker::Model;
+
+/// What a server has published: its face after these inputs was shown. Only a publish makes one. Contracts see the
+/// inputs (`Course`).
+#[derive(Drop)]
+pub struct Published {
+    front: Front,
+}
+
+impl Model for Published {
+    ghost use Rattle.std.specs.Coded.{codes};
+    ghost use Rattle.logbook.specs.Pages.{book_coded};
+    ghost use Rattle.versions.specs.Stores.{coded_items};
+    ghost use Rattle.faces.specs.Courses.{Course};
+
+    ghost Value = { Course };
+
+    ghost coded = { Prim.hlevel (codes, coded_items, book_coded) };
+
+    ghost view = { λ p. p.front };
+}
+
+/// A note of what a server has published, for one of its readers. Contracts see the inputs (`Course`).
+#[derive(Drop)]
+pub struct Told {
+    front: Front,
+}
+
+impl Model for Told {
+    ghost use Rattle.std.specs.Coded.{codes};
+    ghost use Rattle.logbook.specs.Pages.{book_coded};
+    ghost use Rattle.versions.specs.Stores.{coded_items};
+    ghost use Rattle.faces.specs.Courses.{Course};
+
+    ghost Value = { Course };
+
+    ghost coded = { Prim.hlevel (codes, coded_items, book_coded) };
+
+    ghost view = { λ t. t.front };
+}
+
+impl Published {
+    /// For the publish alone: the face after these inputs is shown.
+    pub(crate) fn shown(front: Front) -> Published
+        ensures { result ≡ front }
+    {
+        Published { front }
+    }
+
+    pub(crate) fn front(&self) -> &Front
+        ensures { result.now ≡ self.now }
+    {
+        &self.front
+    }
+
+    /// A copy.
+    pub fn again(&self) -> Published
+        ensures { result ≡ self.now }
+    {
+        Published {
+            front: self.front.again(),
+        }
+    }
+
+    /// A note of it.
+    pub fn tell(&self) -> Told
+        ensures { result ≡ self.now }
+    {
+        Told {
+            front: self.front.again(),
+        }
+    }
+}
+
+impl Told {
+    /// For a reader: it has seen these inputs.
+    pub(crate) fn of(front: Front) -> Told
+        ensures { result ≡ front }
+    {
+        Told { front }
+    }
+
+    /// Whether it tells of all the inputs that the other one tells of. Of two lists of one server, one begins with the
+    /// other.
+    pub fn has_all_of(&self, other: &Told) -> bool
+        requires server { other.now.origin ≡ self.now.origin }
+        ensures { MatchBool result (IsLater other.now self.now) (IsLater self.now other.now) }
+    {
+        self.front.has_all_of(&other.front)
+    }
+
+    /// A copy.
+    pub fn again(&self) -> Told
+        ensures { result ≡ self.now }
+    {
+        Told {
+            front: self.front.again(),
+        }
+    }
+
+    pub(crate) fn into_front(self) -> Front
+        ensures { result ≡ self }
+    {
+        self.front
+    }
+}

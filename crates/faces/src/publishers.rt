@@ -1,0 +1,144 @@
+//! A server that shows its face: the node, the log of what it took, and the writer of its face.
+ghost use Rattle.std.specs.Prelude.{◌≡◌, ◌<◌, ◌^◌, [], false, IfOk};
+ghost use Rattle.node.specs.Lawful.{IsInput, AreFit};
+ghost use Rattle.faces.specs.Courses.{with_next};
+ghost use Rattle.faces.specs.Outputs.{last_outputs};
+
+use crate::FaceFault;
+use crate::boards::{FaceWriter, begin, place, publish};
+use crate::faces::Face;
+use crate::fronts::Front;
+use crate::logs::Log;
+use crate::published::Published;
+use crate::readers::Reader;
+use node::{Input, Node, Output};
+use std::alloc::Global;
+use std::marker::Model;
+use std::sync::Wait;
+
+/// A server that goes on and shows its face. Contracts see what it has published: the inputs that it took (`Course`).
+/// Its node is the server after them, and what is shown is the face of that server.
+/// It isn't `Drop`: end it by `end`.
+pub struct Publisher {
+    node: Node,
+    log: Log,
+    writer: FaceWriter,
+    published: Published,
+}
+
+impl Model for Publisher {
+    ghost use Rattle.std.specs.Coded.{codes};
+    ghost use Rattle.logbook.specs.Pages.{book_coded};
+    ghost use Rattle.versions.specs.Stores.{coded_items};
+    ghost use Rattle.faces.specs.Courses.{Course};
+    ghost use Rattle.faces.specs.Publishers.{IsCurrent};
+    ghost use Rattle.faces.specs.Showing.{Shows};
+
+    ghost Value = { Course };
+
+    ghost coded = { Prim.hlevel (codes, coded_items, book_coded) };
+
+    ghost view = { λ p. p.published };
+
+    ghost invariant = { λ p. IsCurrent p.node p.log p.published × Shows p.writer p.published };
+}
+
+impl Publisher {
+    /// A server that has published no input, with room for so many readers beside it. It shows the face of its node,
+    /// whatever that has taken before. Refused if memory is out. Time is linear in what the node holds.
+    pub fn open<R: Wait>(
+        rt: &R,
+        alloc: Global,
+        node: Node,
+        readers: usize,
+    ) -> Result<Publisher, FaceFault>
+        requires readers { (0 < readers) × (readers < 2 ^ 32) }
+        requires running { node.stopped ≡ false }
+        ensures start { IfOk result (λ publisher. publisher.origin.start ≡ node.server) }
+        ensures inputs { IfOk result (λ publisher. publisher.inputs ≡ []) }
+    {
+        let (log, front) = Front::open(&node);
+        let change = node.face()?;
+        let first = Face::filled(alloc, &change, &front)?;
+        let second = Face::filled(alloc, &change, &front)?;
+        let writer = FaceWriter::new(alloc, first, second, readers)?;
+        let (writer, shown) = begin(rt, writer);
+        let Ok(published) = shown else {
+            writer.take(rt);
+            return Err(FaceFault::Memory);
+        };
+        Ok(Publisher {
+            node,
+            log,
+            writer,
+            published,
+        })
+    }
+
+    /// What it has published.
+    pub fn published(&self) -> &Published
+        ensures { result.now ≡ self.now }
+    {
+        &self.published
+    }
+
+    /// One more reader, which has seen what is published. Refused if memory is out, or if there is no room for it.
+    pub fn reader(&mut self) -> Result<Reader, FaceFault>
+        ensures reader { IfOk result (λ reader. reader ≡ self.old) }
+        ensures unchanged { self.new ≡ self.old }
+    {
+        let front = self.published.front().again();
+        let place = place(&mut self.writer)?;
+        Ok(Reader::new(place, front))
+    }
+
+    /// Takes an input: the node makes its step, and the face after it is published. It gives all that the step put out.
+    /// It waits for the readers that still look at the face before the last one. Refused with Closed if the log is
+    /// full: then the input wasn't taken; and with Memory. Either way nothing was published, and the face is taken
+    /// away.
+    pub fn take<R: Wait>(self, rt: &R, input: Input) -> Result<(Publisher, Vec<Output>), FaceFault>
+        requires { IsInput input }
+        ensures published { IfOk result (λ r. r.0 ≡ with_next self input) }
+        ensures outputs { IfOk result (λ r. r.1.items ≡ last_outputs r.0.origin.start r.0.inputs) }
+        // Each message may be sent, and handed in where it goes.
+        ensures fit { IfOk result (λ r. AreFit r.1.items) }
+    {
+        let Publisher {
+            mut node,
+            log,
+            writer,
+            published,
+        } = self;
+        let Some(front) = published.front().next(&log, &input) else {
+            writer.take(rt);
+            return Err(FaceFault::Closed);
+        };
+        let Ok((outputs, change)) = node.step_face(input) else {
+            writer.take(rt);
+            return Err(FaceFault::Memory);
+        };
+        let (writer, shown) = publish(rt, writer, change, front);
+        let Ok(published) = shown else {
+            writer.take(rt);
+            return Err(FaceFault::Memory);
+        };
+        let publisher = Publisher {
+            node,
+            log,
+            writer,
+            published,
+        };
+        Ok((publisher, outputs))
+    }
+
+    /// Takes the face away: readers then get Closed. It waits for those that still look.
+    pub fn end<R: Wait>(self, rt: &R) {
+        let Publisher {
+            node: _node,
+            log: _log,
+            writer,
+            published: _published,
+        } = self;
+        writer.take(rt);
+    }
+}

@@ -1,0 +1,283 @@
+//! Tests: what readers see beside a server.
+ghost use Rattle.std.specs.Prelude.{◌≡◌, false, IfOk};
+
+use crate::{FaceFault, Publisher, Reader};
+use bytes::Bytes;
+use node::{Body, Input, Look, Node, Peer, View};
+use std::alloc::Global;
+use std::sync::Wait;
+use std::test::Fail;
+use table::{Call, Item, Key, Op, Target};
+
+fn key(alloc: Global, name: &[u8]) -> Result<Key, FaceFault> {
+    Key::new(alloc, name)?.ok_or(FaceFault::Closed)
+}
+
+fn on(key: &Key, op: Op) -> Result<Input, FaceFault> {
+    let target = Target::One(key.clone()?);
+    Ok(Input::Call(0, Call { target, op }))
+}
+
+fn set(alloc: Global, key: &Key) -> Result<Input, FaceFault> {
+    on(key, Op::Set(0, Bytes::copy_from_slice(alloc, b"v")?))
+}
+
+fn acknowledged(n: u64) -> Input {
+    let view = View::empty();
+    let body = Body::Ack(n);
+    Input::From(1, Peer { view, body })
+}
+
+// The first of n servers.
+fn first(alloc: Global, n: u8) -> Result<Node, FaceFault>
+    ensures { IfOk result (λ node. node.stopped ≡ false) }
+{
+    Node::new(alloc, 0, n).map_err(|_| FaceFault::Closed)
+}
+
+fn is_set(item: &Item, unique: u64) -> bool {
+    item.bytes.as_slice() == b"v".as_slice() && item.unique == unique
+}
+
+fn finds_item(beside: &mut Reader, key: &Key, unique: u64) -> bool {
+    match beside.look(key) {
+        Ok(Look::Clean(Some(item))) => is_set(&item, unique),
+        _ => false,
+    }
+}
+
+fn finds_none(beside: &mut Reader, key: &Key) -> bool
+    ensures { beside.new.origin ≡ beside.old.origin }
+{
+    matches!(beside.look(key), Ok(Look::Clean(None)))
+}
+
+fn is_closed(beside: &mut Reader, key: &Key) -> bool {
+    matches!(beside.look(key), Err(FaceFault::Closed))
+}
+
+// An input that may be given is taken.
+fn feed<R: Wait>(rt: &R, publisher: Publisher, input: Input) -> Result<Publisher, FaceFault>
+    ensures { IfOk result (λ next. next.origin ≡ publisher.origin) }
+{
+    if !input.is_fit() {
+        publisher.end(rt);
+        return Err(FaceFault::Closed);
+    }
+    let (publisher, _outputs) = publisher.take(rt, input)?;
+    Ok(publisher)
+}
+
+// A reader is told of what is published. Whether it then tells of all that.
+fn tells(publisher: &Publisher, beside: &mut Reader) -> bool
+    requires { beside.old.origin ≡ publisher.now.origin }
+{
+    let told = publisher.published().again().tell();
+    beside.learn(told.again());
+    beside.tell().has_all_of(&told)
+}
+
+// Whether a reader that is told of a publish looks at the face before and after it, and finds none after the end.
+fn looks<R: Wait>(
+    rt: &R,
+    publisher: Publisher,
+    beside: &mut Reader,
+    input: Input,
+    key: &Key,
+) -> Result<bool, FaceFault>
+    requires { beside.old.origin ≡ publisher.origin }
+{
+    let none = finds_none(beside, key);
+    let publisher = feed(rt, publisher, input)?;
+    let told = tells(&publisher, beside);
+    let item = finds_item(beside, key, 1);
+    publisher.end(rt);
+    Ok(none && told && item && is_closed(beside, key))
+}
+
+// The same beside a first server.
+fn looks_at_first<R: Wait>(
+    rt: &R,
+    alloc: Global,
+    input: Input,
+    key: &Key,
+) -> Result<bool, FaceFault> {
+    let node = first(alloc, 1)?;
+    let mut publisher = Publisher::open(rt, alloc, node, 1)?;
+    match publisher.reader() {
+        Ok(mut beside) => looks(rt, publisher, &mut beside, input, key),
+        Err(fault) => {
+            publisher.end(rt);
+            Err(fault)
+        }
+    }
+}
+
+#[test]
+fn a_reader_looks_before_and_after_a_publish(rt: HostRuntime) -> Result<(), Fail> {
+    let key = key(rt.alloc(), b"a")?;
+    let input = set(rt.alloc(), &key)?;
+    assert!(rt; looks_at_first(&rt, rt.alloc(), input, &key)?);
+    Ok(())
+}
+
+// A node that has taken an input.
+fn after(node: Node, input: Input) -> Result<Node, FaceFault>
+    requires { node.stopped ≡ false }
+    ensures { IfOk result (λ node. node.stopped ≡ false) }
+{
+    let mut node = node;
+    if !input.is_fit() {
+        return Err(FaceFault::Closed);
+    }
+    match node.step(input) {
+        Ok(_) => Ok(node),
+        Err(_) => Err(FaceFault::Memory),
+    }
+}
+
+// Whether a node that has taken an input opens with the item of a key.
+fn opens_with<R: Wait>(rt: &R, alloc: Global, input: Input, key: &Key) -> Result<bool, FaceFault> {
+    let node = after(first(alloc, 1)?, input)?;
+    let mut publisher = Publisher::open(rt, alloc, node, 1)?;
+    let found = match publisher.reader() {
+        Ok(mut beside) => Ok(finds_item(&mut beside, key, 1)),
+        Err(fault) => Err(fault),
+    };
+    publisher.end(rt);
+    found
+}
+
+#[test]
+fn a_node_opens_with_what_it_holds(rt: HostRuntime) -> Result<(), Fail> {
+    let key = key(rt.alloc(), b"a")?;
+    let input = set(rt.alloc(), &key)?;
+    assert!(rt; opens_with(&rt, rt.alloc(), input, &key)?);
+    Ok(())
+}
+
+// A key that is deleted, and the acknowledgement of that.
+#[derive(Drop)]
+struct Gone {
+    key: Key,
+    delete: Input,
+    number: u64,
+}
+
+// A key for each number below the count.
+fn keys(alloc: Global, count: u32) -> Result<Vec<Key>, Fail> {
+    let mut keys = Vec::new(alloc);
+    for i in 0..count {
+        let name = format!(in alloc; "key{i}")?;
+        keys.push(key(alloc, name.as_bytes())?)?;
+    }
+    Ok(keys)
+}
+
+// Each key is set, and all of that is acknowledged.
+fn sets(alloc: Global, keys: &[Key]) -> Result<Vec<Input>, Fail> {
+    let mut inputs = Vec::new(alloc);
+    for key in keys {
+        inputs.push(set(alloc, key)?)?;
+    }
+    inputs.push(acknowledged(keys.len() as u64))?;
+    Ok(inputs)
+}
+
+// Deletes of the keys that have these numbers, after this one.
+fn deletes(alloc: Global, keys: &[Key], last: u64) -> Result<Vec<Gone>, Fail> {
+    let mut deletes = Vec::new(alloc);
+    let mut number = last;
+    for key in keys {
+        number = number.wrapping_add(1);
+        let delete = on(key, Op::Delete)?;
+        let key = key.clone()?;
+        deletes.push(Gone {
+            key,
+            delete,
+            number,
+        })?;
+    }
+    Ok(deletes)
+}
+
+fn feed_all<R: Wait>(
+    rt: &R,
+    publisher: Publisher,
+    inputs: Vec<Input>,
+) -> Result<Publisher, FaceFault> {
+    let mut publisher = publisher;
+    for input in inputs {
+        publisher = feed(rt, publisher, input)?;
+    }
+    Ok(publisher)
+}
+
+// A key is deleted, and that is acknowledged. Whether a look after each shows it.
+fn delete_one<R: Wait>(
+    rt: &R,
+    publisher: Publisher,
+    beside: &mut Reader,
+    gone: Gone,
+) -> Result<(Publisher, bool), FaceFault> {
+    let Gone {
+        key,
+        delete,
+        number,
+    } = gone;
+    let publisher = feed(rt, publisher, delete)?;
+    let dirty = matches!(beside.look(&key), Ok(Look::Dirty));
+    let publisher = feed(rt, publisher, acknowledged(number))?;
+    Ok((publisher, dirty && finds_none(beside, &key)))
+}
+
+// The same for each of these.
+fn delete_each<R: Wait>(
+    rt: &R,
+    publisher: Publisher,
+    beside: &mut Reader,
+    deletes: Vec<Gone>,
+) -> Result<bool, FaceFault> {
+    let mut publisher = publisher;
+    let mut shown = true;
+    for gone in deletes {
+        let (next, both) = delete_one(rt, publisher, beside, gone)?;
+        publisher = next;
+        shown &= both;
+    }
+    publisher.end(rt);
+    Ok(shown)
+}
+
+// All sets are taken, and then the deletes.
+fn fill_and_delete<R: Wait>(
+    rt: &R,
+    publisher: Publisher,
+    sets: Vec<Input>,
+    deletes: Vec<Gone>,
+) -> Result<bool, FaceFault> {
+    let mut publisher = feed_all(rt, publisher, sets)?;
+    match publisher.reader() {
+        Ok(mut beside) => delete_each(rt, publisher, &mut beside, deletes),
+        Err(fault) => {
+            publisher.end(rt);
+            Err(fault)
+        }
+    }
+}
+
+// The same with so many keys, the first 1,000 of which are deleted.
+fn many<R: Wait>(rt: &R, alloc: Global, count: u32) -> Result<bool, Fail> {
+    let keys = keys(alloc, count)?;
+    let some = keys.as_slice().get(..1_000).ok_or("a thousand keys")?;
+    let deletes = deletes(alloc, some, u64::from(count))?;
+    let sets = sets(alloc, keys.as_slice())?;
+    let publisher = Publisher::open(rt, alloc, first(alloc, 2)?, 1)?;
+    Ok(fill_and_delete(rt, publisher, sets, deletes)?)
+}
+
+#[test]
+fn many_keys_some_of_them_deleted(rt: HostRuntime) -> Result<(), Fail> {
+    assert!(rt; many(&rt, rt.alloc(), 10_000)?);
+    Ok(())
+}

@@ -1,0 +1,20 @@
+use Rattle.node.proofs.RuleLaws.{lawful-opening, lawful-step}
+use Rattle.node.proofs.StepAddresses.{others_taken_in}
+use Rattle.node.proofs.StepFitness.{fit_taken_in}
+use Rattle.node.proofs.FaceChanges.{face-changed}
+use Rattle.node.proofs.laws.steps.steps_are_lawful.Goals as goal
+
+pub returns-clause-opening : goal.returns-clause-opening
+returns-clause-opening c = lawful-opening
+
+pub returns-clause-lawful : goal.returns-clause-lawful
+returns-clause-lawful c s input h fit valid = lawful-step s input fit valid h
+
+pub returns-clause-addressed : goal.returns-clause-addressed
+returns-clause-addressed c s input h = others_taken_in s input (record { sound = h.sound; settled = h.settled })
+
+pub returns-clause-fit : goal.returns-clause-fit
+returns-clause-fit c s input h fit valid = fit_taken_in s input fit valid h.sound
+
+pub returns-clause-face : goal.returns-clause-face
+returns-clause-face c s input h fit valid = face-changed s input fit valid h

@@ -1,0 +1,29 @@
+-- An answer, and output that is taken, keep what is to come.
+use Rattle.std.proofs.Common.{ℕ, Bool, true, false, List, ◌++◌, Option, None, Some, refl, drop}
+use Rattle.table.specs.declared.operations.Reply.{Reply}
+use Rattle.proto.specs.declared.passing.Passing.{Passing}
+use Rattle.proto.specs.declared.texts.Form.{Form}
+use Rattle.proto.specs.Turns.{text}
+use Rattle.proto.specs.Sessions.{Held, answered_by}
+use Rattle.proto.specs.Streams.{SameToCome}
+use Rattle.proto.specs.Runs.{taken_from}
+
+-- the open call and the output have no part in what is to come
+same_to_come : (h : Held) (asked : Option Form) (out : List ℕ) → SameToCome h (record h { asked = asked; out = out })
+same_to_come h asked out = by_closed h.unread h.passing h.later h.unique h.asked h.out h.closed
+  where
+    by_closed : (unread : List ℕ) (passing : Option Passing) (later : List (List ℕ)) (unique : Bool) (was : Option Form) (had : List ℕ) (closed : Bool)
+        → let h : Held = record { unread = unread; passing = passing; later = later; unique = unique; asked = was; out = had; closed = closed } in
+        SameToCome h (record h { asked = asked; out = out })
+    by_closed unread passing later unique was had true = record { turns = λ more. refl; end = λ more. refl; most = refl }
+    by_closed unread passing later unique was had false = record { turns = λ more. refl; end = λ more. refl; most = refl }
+
+answered_same : (h : Held) (asked : Option Form) (reply : Reply) → SameToCome h (answered_by asked h reply)
+answered_same h None reply = record { turns = λ more. refl; end = λ more. refl; most = refl }
+answered_same h (Some form) reply = same_to_come h None (h.out ++ text form reply)
+
+pub answer_keeps_turns : (h : Held) (reply : Reply) → SameToCome h (answered_by h.asked h reply)
+answer_keeps_turns h reply = answered_same h h.asked reply
+
+pub taken_keeps_turns : (h : Held) (n : ℕ) → SameToCome h (taken_from h n)
+taken_keeps_turns h n = same_to_come h h.asked (drop n h.out)

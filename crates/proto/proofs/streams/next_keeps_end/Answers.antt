@@ -1,0 +1,5 @@
+use Rattle.proto.proofs.EndLaws.{keeps_end}
+use Rattle.proto.proofs.streams.next_keeps_end.Goals as goal
+
+pub returns : goal.returns
+returns c = keeps_end

@@ -1,0 +1,42 @@
+//! Laws of runs: what comes of a session, whatever is done with it one after another.
+ghost use Rattle.std.specs.Prelude.{◌≡◌, ◌+◌, ◌<◌, ◌++◌, None, false, length};
+ghost use Rattle.table.specs.Items.{limit};
+ghost use Rattle.proto.specs.Words.{line_limit};
+ghost use Rattle.proto.specs.Turns.{calls_of};
+ghost use Rattle.proto.specs.Sessions.{next_of};
+ghost use Rattle.proto.specs.Streams.{ends, texts, to_come, turns};
+ghost use Rattle.proto.specs.Runs.{IsRun, Run, open_calls};
+
+/// The turns that a session gave, and those that it has still to give, are those of all its bytes as one stream:
+/// they do not depend on how the stream was cut, nor on when the session was asked, answered, or its output taken.
+pub fn any_cutting()
+    ensures { (run : Run) → IsRun run → run.given ++ to_come run.held ≡ turns run.stream }
+{}
+
+/// A session that has no turn to give has given all the turns of its stream, and is closed then exactly if its stream
+/// has come to a request after which there is none: `quit`, or a line that is too long.
+pub fn closes_at_last()
+    ensures all { (run : Run) → IsRun run → (next_of run.held).0 ≡ None
+        → run.given ≡ turns run.stream }
+    ensures closed { (run : Run) → IsRun run → (next_of run.held).0 ≡ None
+        → (next_of run.held).1.closed ≡ ends run.stream }
+{}
+
+/// What was taken of the output, then what stands there, is the texts of the turns that were given,
+/// each call's with its reply.
+pub fn output_is_texts()
+    ensures { (run : Run) → IsRun run → run.taken ++ run.held.out ≡ texts run.given run.replies }
+{}
+
+/// Each call that was given has its reply, save the one that is open.
+pub fn calls_have_replies()
+    ensures { (run : Run) → IsRun run
+        → length run.replies + open_calls run.held.asked ≡ length (calls_of run.given) }
+{}
+
+/// An open session that has no turn to give holds less than a line and a block of the largest size, with its two bytes more:
+/// no client can make it keep more.
+pub fn holds_little()
+    ensures { (run : Run) → IsRun run → (next_of run.held).0 ≡ None → (next_of run.held).1.closed ≡ false
+        → length (next_of run.held).1.unread < line_limit + limit + 2 }
+{}

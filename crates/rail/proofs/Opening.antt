@@ -1,0 +1,34 @@
+-- What a server is opened with.
+use Rattle.std.proofs.Common.{◌≡◌, ◌∙◌, ap, refl, ℕ, ◌+◌, zero, suc, List, [], ◌∷◌, ◌++◌, length, true, arith}
+use Rattle.node.specs.Nodes.{NodeState, is_idle}
+use Rattle.node.specs.Replies.{AreOpenBelow}
+use Rattle.node.proofs.PortLaws.{idle-none_open}
+use Rattle.faces.specs.Courses.{Origin}
+use Rattle.rail.specs.declared.stands.Stand.{Stand}
+use Rattle.rail.specs.Letters.{PostState, post_at}
+use Rattle.rail.specs.Turns.{ArePosts}
+use Rattle.rail.specs.Servers.{posts_from, stand_at, stands_from}
+
+pub posts_more : (o : Origin) (k n m : ℕ) → m ≡ k + n → posts_from o k (n + 1) ≡ posts_from o k n ++ post_at o m ∷ []
+posts_more o k zero m is = ap (λ (j : ℕ). post_at o j ∷ []) (let e : k ≡ m = omega (arith, is) in e)
+posts_more o k (suc n) m is =
+    let e : suc n + 1 ≡ suc (n + 1) = omega arith in
+    ap (posts_from o k) e ∙ ap (λ (ps : List PostState). post_at o k ∷ ps) (posts_more o (k + 1) n m (omega (arith, is)))
+
+pub stands_more : (o : Origin) (k n m : ℕ) → m ≡ k + n → stands_from o k (n + 1) ≡ stands_from o k n ++ stand_at o m ∷ []
+stands_more o k zero m is = ap (λ (j : ℕ). stand_at o j ∷ []) (let e : k ≡ m = omega (arith, is) in e)
+stands_more o k (suc n) m is =
+    let e : suc n + 1 ≡ suc (n + 1) = omega arith in
+    ap (stands_from o k) e ∙ ap (λ (ps : List Stand). stand_at o k ∷ ps) (stands_more o (k + 1) n m (omega (arith, is)))
+
+pub are_opened : (o : Origin) (k n : ℕ) → ArePosts o k (posts_from o k n)
+are_opened o k zero = tt
+are_opened o k (suc n) = (refl, are_opened o (k + 1) n)
+
+pub length_opened : (o : Origin) (k n : ℕ) → length (posts_from o k n) ≡ n
+length_opened o k zero = refl
+length_opened o k (suc n) = ap suc (length_opened o (k + 1) n)
+
+-- an idle server has no open call
+pub idle_below : (n : NodeState) (ports : ℕ) → is_idle n ≡ true → AreOpenBelow ports n.server
+idle_below n ports idle = λ port reads above. idle-none_open n port reads idle

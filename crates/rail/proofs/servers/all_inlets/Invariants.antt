@@ -1,0 +1,11 @@
+use Rattle.std.proofs.Common.{◌≡◌, ◌+◌, [], replicate}
+use Rattle.crossbeam_channel.specs.Claims.{view}
+use Rattle.rail.specs.Inbox.{taker}
+use Rattle.rail.proofs.servers.all_inlets.Given as goal
+
+-- so many are made
+abbrev pub invariant-loop : goal.invariant-loop
+invariant-loop l = record {
+  inlets : l.inlets.items ≡ replicate l.counter [];
+  gate : view l.gate.pass ≡ taker ((view l.fn.gate.pass).made + l.counter) (view l.fn.gate.pass).ports [];
+}

@@ -1,0 +1,21 @@
+use Rattle.std.proofs.Common.{◌≡◌, ◌∙◌, sym, ap, ◌++◌, ◌∷◌, [], arith, rules}
+use Rattle.faces.specs.Courses.{Course}
+use Rattle.rail.specs.Letters.{post_at}
+use Rattle.rail.specs.Servers.{stand_at}
+use Rattle.rail.proofs.Opening.{posts_more, stands_more}
+use Rattle.rail.proofs.servers.all_stands.Goals as goal
+
+pub loop-port-preserved : goal.loop-port-preserved
+loop-port-preserved c =
+    let at = c.loop-port.invariant in
+    let k = c.loop-port.port in
+    let o = c.args.publisher.now.origin in
+    let stand = c.in_ok-stand.ensures.stand ∙ ap (λ (p : Course). stand_at p.origin k) at.publisher in
+    let post = c.in_ok-stand.ensures.post ∙ ap (λ (p : Course). post_at p.origin k) at.publisher in
+    let pushed : c.push-in-loop-port.new.self.items ≡ c.loop-port.posts.items ++ c.in_ok-stand.post ∷ [] = search rules in
+    record {
+      publisher = c.one_stand.ensures.publisher ∙ at.publisher;
+      gate = c.in_ok-stand.ensures.gate;
+      stands = c.in_ok-push.ensures.items ∙ ((λ i. at.stands i ++ stand i ∷ []) ∙ sym (stands_more o 0 k k (omega arith)));
+      posts = pushed ∙ ((λ i. at.posts i ++ post i ∷ []) ∙ sym (posts_more o 0 k k (omega arith)));
+    }

@@ -1,0 +1,14 @@
+use Rattle.std.proofs.Common.{◌≡◌, []}
+use Rattle.crossbeam_channel.specs.Claims.{view}
+use Rattle.rail.specs.Inbox.{taker}
+use Rattle.rail.specs.Servers.{posts_from, stands_from}
+use Rattle.rail.proofs.servers.all_stands.Given as goal
+
+-- so many are made
+abbrev pub invariant-loop-port : goal.invariant-loop-port
+invariant-loop-port l = record {
+  publisher : l.publisher ≡ l.fn.publisher;
+  gate : view l.gate.pass ≡ taker l.port l.port [];
+  stands : l.stands.items ≡ stands_from l.fn.publisher.origin 0 l.port;
+  posts : l.posts.items ≡ posts_from l.fn.publisher.origin 0 l.port;
+}

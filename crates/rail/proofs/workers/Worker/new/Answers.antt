@@ -1,0 +1,15 @@
+use Rattle.std.proofs.Common.{◌≡◌, sym, subst, ℕ, rules}
+use Rattle.faces.specs.Courses.{Course, server_after}
+use Rattle.node.specs.Replies.{AreOpenBelow}
+use Rattle.rail.specs.Turns.{ArePosts}
+use Rattle.rail.proofs.workers.Worker.new.Goals as goal
+
+pub invariant_of-result : goal.invariant_of-result
+invariant_of-result g c =
+    let told : c.tell-told.result ≡ c.args.publisher = search rules in
+    record {
+      placed = subst (λ (x : Course). ArePosts x.origin 0 c.args.posts.items) (sym told) c.requires.posts;
+      as_many = sym c.requires.ports;
+      closed = λ none. absurd (cc (none));
+      going = (sym told, c.requires.lawful, subst (λ (n : ℕ). AreOpenBelow n (server_after c.args.publisher)) (sym c.requires.ports) c.requires.«open»);
+    }

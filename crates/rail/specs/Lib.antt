@@ -1,0 +1,9 @@
+pub mod Events
+pub mod Inbox
+pub mod Letters
+pub mod Mails
+pub mod Seats
+pub mod Takes
+pub mod Turns
+pub mod Workers
+pub mod Servers

@@ -1,0 +1,30 @@
+-- Seats.
+use Rattle.std.specs.Prelude.{ℕ, List, [], ◌∷◌, ◌++◌}
+use Rattle.faces.specs.Courses.{Origin, Course}
+use Rattle.rail.specs.declared.events.Event.{Event}
+use Rattle.rail.specs.declared.events.Event.TheVariants.{Took}
+use Rattle.rail.specs.declared.inbox.Ticket.{Ticket}
+use Rattle.rail.specs.declared.posts.Stamp.{Stamp}
+use Rattle.rail.specs.Letters.{Letter}
+use Rattle.node.specs.declared.messages.Input.TheVariants.{Call as Called}
+use Rattle.table.specs.declared.operations.Call.{Call}
+use Rattle.table.specs.declared.operations.Reply.{Reply}
+
+-- a seat: its server, its port there, what it sent, and the replies that it took
+pub record SeatState : Type 0 where
+  pub origin : Origin
+  pub port : ℕ
+  pub sent : List Event
+  pub got : List Letter
+
+-- what a seat shows of the passes of its replies and of its calls
+abbrev pub seat_of : Stamp → Ticket → SeatState
+seat_of replies calls = record { origin = replies.origin; port = replies.port; sent = calls.put; got = replies.list }
+
+-- a seat that sent one call more
+abbrev pub with_call : SeatState → Call → SeatState
+with_call s call = record s { sent = s.sent ++ Took (Called s.port call) ∷ [] }
+
+-- a seat that took one reply more, with this note
+abbrev pub with_reply : SeatState → Reply → Course → SeatState
+with_reply s reply told = record s { got = s.got ++ (record { port = s.port; reply = reply; told = told }) ∷ [] }

@@ -1,0 +1,71 @@
+-- What one turn of a worker does.
+use Rattle.std.specs.Prelude.{◌≡◌, ◌⊎◌, ◌<◌, ◌+◌, ◌==◌, ℕ, true, false, if◌then◌else◌, List, [], ◌∷◌, ◌++◌}
+use Rattle.node.specs.declared.messages.Peer.{Peer}
+use Rattle.node.specs.declared.messages.Output.{Output}
+use Rattle.node.specs.declared.messages.Output.TheVariants.{To, Reply as Replied}
+use Rattle.node.specs.declared.messages.Input.{Input}
+use Rattle.faces.specs.Courses.{Origin, Course, with_next}
+use Rattle.faces.specs.Outputs.{last_outputs}
+use Rattle.rail.specs.Letters.{Letter, PostState}
+
+-- the messages among these, in order, each with its receiver
+abbrev pub messages_of : List Output → List (ℕ × Peer)
+messages_of [] = []
+messages_of (To to peer ∷ os) = (to, peer) ∷ messages_of os
+messages_of (Replied port reply ∷ os) = messages_of os
+
+-- the replies among these to a port, in order, with a note of the course
+abbrev pub letters_to : Course → ℕ → List Output → List Letter
+letters_to c p [] = []
+letters_to c p (To to peer ∷ os) = letters_to c p os
+letters_to c p (Replied port reply ∷ os) = if port == p then (record { port = port; reply = reply; told = c }) ∷ letters_to c p os else letters_to c p os
+
+-- the second list is the first, in order, without some of which this holds
+abbrev pub IsLeft : {X : Type 0} → (X → Type 0) → List X → List X → Type 0
+IsLeft may [] ys = ys ≡ []
+IsLeft {X} may (x ∷ xs) ys = (may x × IsLeft may xs ys) ⊎ ((rest : List X) × (ys ≡ x ∷ rest) × IsLeft may xs rest)
+
+-- after this list was put, it goes on with these messages, save those on links that have failed
+abbrev pub HasPut : List (ℕ × Peer) → List (ℕ × Peer) → (ℕ → ℕ) → List (ℕ × Peer) → Type 0
+HasPut before after failures messages = (put : List (ℕ × Peer)) × (after ≡ before ++ put) × IsLeft (λ m. 0 < failures m.0) messages put
+
+-- some of the first messages of these outputs were put
+abbrev pub HasPutFirst : List (ℕ × Peer) → List (ℕ × Peer) → (ℕ → ℕ) → List Output → Type 0
+HasPutFirst before after failures outputs =
+    (done : List Output) × (rest : List Output) × (outputs ≡ done ++ rest) × HasPut before after failures (messages_of done)
+
+-- what the last step of a course put out
+abbrev pub outputs_after : Course → List Output
+outputs_after c = last_outputs c.origin.start c.inputs
+
+-- An input was refused: nothing was published or put; or the published list grew by it, and then some of the first messages of
+-- its step were put.
+abbrev pub IsCut : List (ℕ × Peer) → List (ℕ × Peer) → (ℕ → ℕ) → Course → Course → Input → Type 0
+IsCut before after failures c c' input =
+    ((c' ≡ c) × (after ≡ before))
+    ⊎ ((c' ≡ with_next c input)
+    × HasPutFirst before after failures (outputs_after (with_next c input)))
+
+-- What was put for a seat goes on with these replies, save those that its queue handed back.
+pub record HasPosted (before after : PostState) (letters : List Letter) : Type 0 where
+  pub address : after.address ≡ before.address
+  pub more : List Letter
+  pub put : after.put ≡ before.put ++ more
+  pub left : IsLeft (λ letter. after.gone ≡ true) letters more
+  pub gone : before.gone ≡ true → after.gone ≡ true
+
+-- no end of these seats' replies is held
+abbrev pub AreClosed : List PostState → Type 0
+AreClosed [] = Unit {0}
+AreClosed (p ∷ ps) = (p.held ≡ false) × AreClosed ps
+
+-- each post is this server's, at the port of its place
+abbrev pub ArePosts : Origin → ℕ → List PostState → Type 0
+ArePosts o k [] = Unit {0}
+ArePosts o k (p ∷ ps) = (p.address ≡ record { origin = o; port = k }) × ArePosts o (k + 1) ps
+
+-- What was put for each seat goes on with the replies among these to its port, save those that its queue handed back.
+abbrev pub HasReplied : Course → ℕ → List PostState → List PostState → List Output → Type 0
+HasReplied c k [] after outputs = after ≡ []
+HasReplied c k (p ∷ ps) [] outputs = ⊥
+HasReplied c k (p ∷ ps) (q ∷ qs) outputs = HasPosted p q (letters_to c k outputs) × HasReplied c (k + 1) ps qs outputs

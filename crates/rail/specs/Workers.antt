@@ -1,0 +1,122 @@
+-- A worker, and what a turn of it does.
+use Rattle.std.specs.Prelude.{◌≡◌, ◌≢◌, ◌⊎◌, ℕ, Bool, true, false, List, [], ◌∷◌, ◌++◌, length, Option, None, Some}
+use Rattle.std.specs.declared.result.Result.{Result}
+use Rattle.std.specs.declared.result.Result.TheVariants.{Ok, Err}
+use Rattle.node.specs.declared.messages.Input.{Input}
+use Rattle.node.specs.declared.messages.Peer.{Peer}
+use Rattle.node.specs.Lawful.{IsLawful}
+use Rattle.node.specs.Replies.{AreOpenBelow, AreRepliesBelow}
+use Rattle.faces.specs.Courses.{Course, server_after, with_next}
+use Rattle.rail.specs.declared.faults.RailFault.{RailFault}
+use Rattle.rail.specs.declared.faults.RailFault.TheVariants.{Memory, Closed, LinkDown, NoReader}
+use Rattle.rail.specs.declared.events.Event.TheVariants.{Took, Stop, End}
+use Rattle.rail.specs.declared.events.Message.{Message}
+use Rattle.rail.specs.declared.workers.Turn.{Turn}
+use Rattle.rail.specs.declared.workers.Turn.TheVariants.{Went, Stopped, End as Ended}
+use Rattle.rail.specs.Letters.{PostState}
+use Rattle.rail.specs.Turns.{messages_of, outputs_after, HasPut, IsCut, ArePosts, AreClosed, HasReplied}
+
+-- what it took, in order; what it has published, and whether it goes on; and what it put for each seat
+pub record WorkerState : Type 0 where
+  pub taken : List Message
+  pub published : Course
+  pub goes : Bool
+  pub posts : List PostState
+
+-- a server that goes on has published just this, it is lawful, and its open calls have ports below this number
+abbrev pub IsGoing : Option Course → Course → ℕ → Type 0
+IsGoing None published ports = Unit {0}
+IsGoing (Some course) published ports = (course ≡ published) × IsLawful (server_after course) × AreOpenBelow ports (server_after course)
+
+-- what a worker keeps: there is a post for each seat, no end of theirs is held once the server has stopped, and what a server that
+-- goes on does
+pub record IsWorker (course : Option Course) (published : Course) (posts : List PostState) (ports : ℕ) : Type 0 where
+  pub placed : ArePosts published.origin 0 posts
+  pub as_many : length posts ≡ ports
+  pub closed : course ≡ None → AreClosed posts
+  pub going : IsGoing course published ports
+
+-- The server is stopped from now on, nothing was replied, and no seat's end is held.
+pub record IsStopped (w w' : WorkerState) : Type 0 where
+  pub published : w'.published ≡ w.published
+  pub stopped : w'.goes ≡ false
+  pub replies : HasReplied w.published 0 w.posts w'.posts []
+  pub closed : AreClosed w'.posts
+
+module _ (w w' : WorkerState) (before after : List (ℕ × Peer)) (failures : ℕ → ℕ) where
+  -- An input was given to a server that goes on: the published list grew by it, and then what its step put out was put: its
+  -- messages save those on links that have failed, and its replies, each of which has a seat, save those that are handed back.
+  pub record HasGone (input : Input) : Type 0 where
+    pub going : w.goes ≡ true
+    pub still : w'.goes ≡ true
+    pub published : w'.published ≡ with_next w.published input
+    pub messages : HasPut before after failures (messages_of (outputs_after (with_next w.published input)))
+    pub replies : HasReplied (with_next w.published input) 0 w.posts w'.posts (outputs_after (with_next w.published input))
+    pub seated : AreRepliesBelow (length w.posts) (outputs_after (with_next w.published input))
+
+  -- The server is stopped from now on, and nothing was put out.
+  pub record HasStopped : Type 0 where
+    pub stopped : IsStopped w w'
+    pub messages : after ≡ before
+
+  -- An input was refused for want of memory, and the server is stopped from now on. Nothing was published or put; or the
+  -- published list grew by the input, and then some of the first messages of its step were put. Nothing was replied, and no seat's
+  -- end is held.
+  pub record WasCut (input : Input) : Type 0 where
+    pub going : w.goes ≡ true
+    pub stopped : w'.goes ≡ false
+    pub replies : HasReplied w.published 0 w.posts w'.posts []
+    pub closed : AreClosed w'.posts
+    pub cut : IsCut before after failures w.published w'.published input
+
+  -- Nothing changed.
+  pub record IsIdle : Type 0 where
+    pub published : w'.published ≡ w.published
+    pub goes : w'.goes ≡ w.goes
+    pub posts : w'.posts ≡ w.posts
+    pub messages : after ≡ before
+
+  -- what came of an input, by the answer
+  abbrev pub Advanced : Input → Result Turn RailFault → Type 0
+  Advanced input (Ok Went) = HasGone input
+  Advanced input (Ok Stopped) = (w.goes ≡ false) × HasStopped
+  Advanced input (Ok Ended) = ⊥
+  Advanced input (Err Memory) = WasCut input
+  Advanced input (Err Closed) = ⊥
+  Advanced input (Err LinkDown) = ⊥
+  Advanced input (Err NoReader) = ⊥
+
+  -- what a turn that took this message did, by its answer
+  abbrev pub Did : Message → Result Turn RailFault → Type 0
+  Did m (Ok Went) = (input : Input) × (m.event ≡ Took input) × HasGone input
+  Did m (Ok Stopped) = ((m.event ≡ Stop) ⊎ ((w.goes ≡ false) × (m.event ≢ End))) × HasStopped
+  Did m (Ok Ended) = (m.event ≡ End) × IsIdle
+  Did m (Err Memory) = (input : Input) × (m.event ≡ Took input) × WasCut input
+  Did m (Err Closed) = ⊥
+  Did m (Err LinkDown) = ⊥
+  Did m (Err NoReader) = ⊥
+
+  -- It took this message, and then did what its answer says.
+  pub record HasTaken (result : Result Turn RailFault) : Type 0 where
+    pub message : Message
+    pub taken : w'.taken ≡ w.taken ++ message ∷ []
+    pub did : Did message result
+
+  -- Nothing was taken, and the server is stopped from now on.
+  pub record HasClosed : Type 0 where
+    pub taken : w'.taken ≡ w.taken
+    pub stopped : HasStopped
+
+  -- what a turn did, by its answer
+  abbrev pub IsTurn : Result Turn RailFault → Type 0
+  IsTurn (Ok turn) = HasTaken (Ok turn)
+  IsTurn (Err Memory) = HasTaken (Err Memory)
+  IsTurn (Err Closed) = HasClosed
+  IsTurn (Err LinkDown) = ⊥
+  IsTurn (Err NoReader) = ⊥
+
+  -- the same of a turn that may have found no message
+  abbrev pub MayBeTurn : Result (Option Turn) RailFault → Type 0
+  MayBeTurn (Ok None) = (w' ≡ w) × (after ≡ before)
+  MayBeTurn (Ok (Some turn)) = IsTurn (Ok turn)
+  MayBeTurn (Err fault) = IsTurn (Err fault)

@@ -1,0 +1,214 @@
+//! The inbox of a worker: several senders, one receiver. What was taken of a sender, and then what stands of it in the queue,
+//! is what it sent.
+ghost use Rattle.std.specs.Prelude.{◌≡◌, [], ◌∷◌, ◌++◌, IfOk, ◌+◌, ◌<◌, ◌^◌};
+ghost use Rattle.crossbeam_channel.specs.Claims.{view, IsSeatAt};
+ghost use Rattle.crossbeam_channel.specs.Ends.{sends_on, receives_on};
+ghost use Rattle.rail.specs.Events.{IsBelow};
+ghost use Rattle.rail.specs.Inbox.{Delivers, HasGot, HasSent, sender, taker};
+ghost use Rattle.rail.specs.Takes.{IsTake, IsTry};
+
+use crate::RailFault;
+use crate::events::{Event, Message};
+use crate::waiting::TRIES;
+use atomic_table::Split;
+use crossbeam_channel::protocol::{Lesson, Outcome, Protocol};
+use crossbeam_channel::{Pass, RuledReceiver, RuledSender, TryRecvError, bounded_with};
+use std::alloc::{AllocError, Global};
+use std::collections::LinkedList;
+use std::sync::Wait;
+use std::thread;
+
+/// What a pass knows. No value of it is made. A sender has a number, a bound of its calls' ports and what it sent; the receiver
+/// the number of senders, a bound of all calls' ports and what it took.
+pub struct Ticket {
+    pub sends: bool,
+    pub from: u64,
+    pub ports: u64,
+    pub put: LinkedList<Event>,
+    pub gets: bool,
+    pub made: u64,
+    pub got: LinkedList<Message>,
+}
+
+/// The rule of the inbox.
+pub struct InOrder;
+
+impl Protocol<Message, Ticket> for InOrder {
+    ghost holds = { Delivers };
+
+    ghost first = { taker 0 0 [] };
+}
+
+/// One more sender of calls, at one more port.
+pub struct Seats;
+
+impl Split<Ticket> for Seats {
+    ghost left = { λ v. taker (v.made + 1) (v.ports + 1) v.got };
+
+    ghost right = { λ v. sender v.made (v.ports + 1) [] };
+}
+
+/// One more sender, of no calls.
+pub struct Lets;
+
+impl Split<Ticket> for Lets {
+    ghost left = { λ v. taker (v.made + 1) v.ports v.got };
+
+    ghost right = { λ v. sender v.made 0 [] };
+}
+
+/// A message is sent.
+pub struct Sends;
+
+impl Outcome<Message, Ticket> for Sends {
+    ghost then = { λ v x w. w ≡ sender v.from v.ports (v.put ++ x.event ∷ []) };
+}
+
+impl Lesson<Message, Ticket> for Sends {
+    ghost fact = { λ v items. Unit {0} };
+}
+
+/// A message is taken.
+pub struct Takes;
+
+impl Outcome<Message, Ticket> for Takes {
+    ghost then = { λ v x w. (w ≡ taker v.made v.ports (v.got ++ x ∷ [])) × IsBelow v.ports x.event };
+}
+
+impl Lesson<Message, Ticket> for Takes {
+    ghost fact = { λ v items. Unit {0} };
+}
+
+pub type InboxSender = RuledSender<Message, Ticket, InOrder>;
+
+pub type InboxReceiver = RuledReceiver<Message, Ticket, InOrder>;
+
+/// One sender of the inbox, with its pass.
+#[derive(Drop)]
+pub struct Slot {
+    from: u64,
+    to: InboxSender,
+    pub pass: Pass<Message, Ticket>,
+    ghost seated: { IsSeatAt (sends_on to) pass },
+    ghost sends: { view pass ≡ sender from (view pass).ports (view pass).put },
+}
+
+/// The receiver of the inbox, with its pass.
+#[derive(Drop)]
+pub struct Inbox {
+    inbox: InboxReceiver,
+    pub pass: Pass<Message, Ticket>,
+    ghost seated: { IsSeatAt (receives_on inbox) pass },
+    ghost gets: { view pass ≡ taker (view pass).made (view pass).ports (view pass).got },
+}
+
+/// The inbox that still makes senders.
+#[derive(Drop)]
+pub struct Gate {
+    to: InboxSender,
+    inbox: InboxReceiver,
+    made: u64,
+    pub pass: Pass<Message, Ticket>,
+    ghost same: { receives_on inbox ≡ sends_on to },
+    ghost seated: { IsSeatAt (sends_on to) pass },
+    ghost gets: { view pass ≡ taker made (view pass).ports [] },
+}
+
+impl Gate {
+    /// An empty inbox with room for so many messages.
+    pub fn new(alloc: Global, room: usize) -> Result<Gate, AllocError>
+        requires { 0 < room }
+        ensures { IfOk result (λ g. view g.pass ≡ taker 0 0 []) }
+    {
+        let (to, inbox, pass) = bounded_with::<Message, Ticket, InOrder, Global>(alloc, room)?;
+        Ok(Gate {
+            to,
+            inbox,
+            made: 0,
+            pass,
+        })
+    }
+
+    /// One more sender of calls, whose ports are one more.
+    pub fn seat(&mut self) -> Result<Slot, AllocError>
+        requires { (view self.old.pass).made < 2 ^ 63 }
+        ensures slot { IfOk result (λ s. view s.pass ≡ sender (view self.old.pass).made ((view self.old.pass).ports + 1) []) }
+        ensures made { IfOk result (λ _. view self.new.pass ≡ taker ((view self.old.pass).made + 1) ((view self.old.pass).ports + 1) []) }
+    {
+        let to = self.to.try_clone()?;
+        let from = self.made;
+        let pass = self.to.another::<Seats>(&mut self.pass);
+        self.made = from + 1;
+        Ok(Slot { from, to, pass })
+    }
+
+    /// One more sender, which sends no calls.
+    pub fn inlet(&mut self) -> Result<Slot, AllocError>
+        requires { (view self.old.pass).made < 2 ^ 63 }
+        ensures slot { IfOk result (λ s. view s.pass ≡ sender (view self.old.pass).made 0 []) }
+        ensures made { IfOk result (λ _. view self.new.pass ≡ taker ((view self.old.pass).made + 1) (view self.old.pass).ports []) }
+    {
+        let to = self.to.try_clone()?;
+        let from = self.made;
+        let pass = self.to.another::<Lets>(&mut self.pass);
+        self.made = from + 1;
+        Ok(Slot { from, to, pass })
+    }
+
+    /// The receiver. No more senders are made.
+    pub fn close(self) -> Inbox
+        ensures { view result.pass ≡ view self.pass }
+    {
+        let Gate { inbox, pass, .. } = self;
+        Inbox { inbox, pass }
+    }
+}
+
+impl Slot {
+    /// At `Ok` the event is added to what this sender sent. At `Err` it is handed back. It may wait.
+    pub fn send<R: Wait>(&mut self, rt: &R, event: Event) -> Result<(), Event>
+        requires { IsBelow (view self.old.pass).ports event }
+        ensures sent { HasSent (view self.old.pass) (view self.new.pass) event result }
+        ensures ports { (view self.new.pass).ports ≡ (view self.old.pass).ports }
+    {
+        let message = Message {
+            from: self.from,
+            event,
+        };
+        match self.to.send_as::<Sends, R>(rt, &mut self.pass, message) {
+            Ok(()) => Ok(()),
+            Err(failed) => Err(failed.into_inner().event),
+        }
+    }
+}
+
+impl Inbox {
+    /// The next message, if one stands there, which is added to what was taken. While others are inside a call it may
+    /// find none although one stands there. Refused with Closed where every sender is gone.
+    pub fn try_take<R: Wait>(&mut self, rt: &R) -> Result<Option<Message>, RailFault>
+        ensures { IsTry HasGot (view self.old.pass) (view self.new.pass) result }
+    {
+        match self.inbox.try_recv_as::<Takes, R>(rt, &mut self.pass) {
+            Ok(message) => Ok(Some(message)),
+            Err(TryRecvError::Empty) => Ok(None),
+            Err(TryRecvError::Disconnected) => Err(RailFault::Closed),
+        }
+    }
+
+    /// The next message, which is added to what was taken. It tries a few times, and then sleeps until one comes. Refused
+    /// with Closed where every sender is gone.
+    pub fn take<R: Wait>(&mut self, rt: &R) -> Result<Message, RailFault>
+        ensures { IsTake HasGot (view self.old.pass) (view self.new.pass) result }
+    {
+        for _ in 0..TRIES {
+            if let Some(message) = self.try_take(rt)? {
+                return Ok(message);
+            }
+            thread::yield_now();
+        }
+        match self.inbox.recv_as::<Takes, R>(rt, &mut self.pass) {
+            Ok(message) => Ok(message),
+            Err(_) => Err(RailFault::Closed),
+        }
+    }
+}

@@ -1,0 +1,82 @@
+//! Inlets, by which a worker is brought other servers' messages, and told of failures.
+ghost use Rattle.std.specs.Prelude.{◌≡◌, ◌++◌, ◌∷◌, [], OnOk, OnErr};
+ghost use Rattle.crossbeam_channel.specs.Claims.{view};
+ghost use Rattle.node.specs.Lawful.{IsBody};
+ghost use Rattle.node.specs.declared.messages.Input.TheVariants.{From, Gone};
+ghost use Rattle.rail.specs.Events.{IsBelow};
+ghost use Rattle.rail.specs.declared.events.Event.TheVariants.{Took, Stop, End};
+
+use crate::RailFault;
+use crate::events::{Event, FitInput};
+use crate::inbox::Slot;
+use node::{Input, Peer};
+use std::marker::Model;
+use std::sync::Wait;
+
+/// One who brings a server messages and notices. Contracts see what it sent.
+#[derive(Drop)]
+pub struct Inlet {
+    slot: Slot,
+}
+
+impl Model for Inlet {
+    ghost use Rattle.std.specs.Prelude.{List, ◌≡◌};
+    ghost use Rattle.crossbeam_channel.specs.Claims as claims;
+    ghost use Rattle.rail.specs.declared.events.Event.{Event};
+
+    ghost Value = { List Event };
+
+    ghost view = { λ i. (claims.view i.slot.pass).put };
+
+    ghost invariant = { λ i. (claims.view i.slot.pass).ports ≡ 0 };
+}
+
+impl Inlet {
+    pub(crate) fn new(slot: Slot) -> Inlet
+        requires { (view slot.pass).ports ≡ 0 }
+        ensures { result ≡ (view slot.pass).put }
+    {
+        Inlet { slot }
+    }
+
+    /// Brings a message from server `i`. Refused with Closed where the worker is gone. It may wait, as may the others.
+    pub fn bring<R: Wait>(&mut self, rt: &R, i: u8, peer: Peer) -> Result<(), RailFault>
+        requires { IsBody peer.body }
+        ensures ok { OnOk result (self.new ≡ self.old ++ Took (From i peer) ∷ []) }
+        ensures err { OnErr result (self.new ≡ self.old) }
+    {
+        self.send(rt, Event::Took(FitInput::new(Input::From(i, peer))))
+    }
+
+    /// Brings the notice that server `j` has failed.
+    pub fn gone<R: Wait>(&mut self, rt: &R, j: u8) -> Result<(), RailFault>
+        ensures ok { OnOk result (self.new ≡ self.old ++ Took (Gone j) ∷ []) }
+        ensures err { OnErr result (self.new ≡ self.old) }
+    {
+        self.send(rt, Event::Took(FitInput::new(Input::Gone(j))))
+    }
+
+    /// Fails the server: from then on its worker puts out nothing, and each seat that waits there gets Closed.
+    pub fn stop<R: Wait>(&mut self, rt: &R) -> Result<(), RailFault>
+        ensures ok { OnOk result (self.new ≡ self.old ++ Stop ∷ []) }
+        ensures err { OnErr result (self.new ≡ self.old) }
+    {
+        self.send(rt, Event::Stop)
+    }
+
+    /// Ends the worker's loop.
+    pub fn end<R: Wait>(&mut self, rt: &R) -> Result<(), RailFault>
+        ensures ok { OnOk result (self.new ≡ self.old ++ End ∷ []) }
+        ensures err { OnErr result (self.new ≡ self.old) }
+    {
+        self.send(rt, Event::End)
+    }
+
+    fn send<R: Wait>(&mut self, rt: &R, event: Event) -> Result<(), RailFault>
+        requires { IsBelow 0 event }
+        ensures ok { OnOk result (self.new ≡ self.old ++ event ∷ []) }
+        ensures err { OnErr result (self.new ≡ self.old) }
+    {
+        self.slot.send(rt, event).map_err(|_| RailFault::Closed)
+    }
+}

@@ -1,0 +1,30 @@
+//! The threads of one server: a worker that owns the node, and those who ask it, read beside it and carry its messages.
+#![tactic(auto)]
+
+mod events;
+mod faults;
+mod inbox;
+mod inlets;
+mod inputs;
+mod links;
+mod mails;
+mod posts;
+mod seats;
+mod servers;
+mod stands;
+mod turns;
+mod waiting;
+mod workers;
+
+pub use events::{Event, FitInput, Message};
+pub use faces::{Published, Reader, Told};
+pub use faults::RailFault;
+pub use inlets::Inlet;
+pub use links::Links;
+pub use seats::Seat;
+pub use servers::{Server, open};
+pub use stands::Stand;
+pub use workers::{Turn, Worker};
+
+#[cfg(test)]
+mod tests;

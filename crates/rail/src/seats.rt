@@ -1,0 +1,85 @@
+//! Seats, which submit calls to a worker and wait for their replies.
+ghost use Rattle.std.specs.Prelude.{◌≡◌, ◌<◌, MatchResult, IfOk};
+ghost use Rattle.crossbeam_channel.specs.Claims.{view};
+ghost use Rattle.node.specs.Lawful.{IsCall};
+ghost use Rattle.node.specs.declared.messages.Output.TheVariants.{Reply as Replied};
+ghost use Rattle.faces.specs.Outputs.{PutsOut};
+ghost use Rattle.rail.specs.Seats.{seat_of, with_reply, with_call};
+
+use crate::RailFault;
+use crate::events::{Event, FitInput};
+use crate::inbox::Slot;
+use crate::posts::Letters;
+use faces::Told;
+use node::Input;
+use std::marker::Model;
+use std::sync::Wait;
+use table::{Call, Reply};
+
+/// A seat at a server: it submits calls, and takes their replies. Contracts see whose seat it is, what it sent, and the replies
+/// that it took (`SeatState`).
+#[derive(Drop)]
+pub struct Seat {
+    port: usize,
+    slot: Slot,
+    letters: Letters,
+}
+
+impl Model for Seat {
+    ghost use Rattle.std.specs.Prelude.{◌≡◌, ◌<◌};
+    ghost use Rattle.std.specs.Coded.{codes};
+    ghost use Rattle.logbook.specs.Pages.{book_coded};
+    ghost use Rattle.versions.specs.Stores.{coded_items};
+    ghost use Rattle.crossbeam_channel.specs.Claims as claims;
+    ghost use Rattle.rail.specs.Seats.{SeatState, seat_of};
+
+    ghost Value = { SeatState };
+
+    ghost coded = { Prim.hlevel (codes, coded_items, book_coded) };
+
+    ghost view = { λ s. seat_of (claims.view s.letters.pass) (claims.view s.slot.pass) };
+
+    ghost invariant = { λ s. (s.port ≡ (claims.view s.letters.pass).port) × (s.port < (claims.view s.slot.pass).ports) };
+}
+
+impl Seat {
+    pub(crate) fn new(port: usize, slot: Slot, letters: Letters) -> Seat
+        requires letters { port ≡ (view letters.pass).port }
+        requires slot { port < (view slot.pass).ports }
+        ensures { result ≡ record (seat_of (view letters.pass) (view slot.pass)) { port = port } }
+    {
+        Seat {
+            port,
+            slot,
+            letters,
+        }
+    }
+
+    /// Sends a call to the server. It is handed back where the worker is gone. It may wait.
+    pub fn submit<R: Wait>(&mut self, rt: &R, call: Call) -> Result<(), Call>
+        requires { IsCall call }
+        ensures { MatchResult result (λ _. self.new ≡ with_call self.old call) (λ back. (back ≡ call) × (self.new ≡ self.old)) }
+    {
+        let event = Event::Took(FitInput::new(Input::Call(self.port, call)));
+        match self.slot.send(rt, event) {
+            Ok(()) => Ok(()),
+            Err(Event::Took(back)) => match back.into_input() {
+                Input::Call(_, call) => Err(call),
+                _ => unreachable!(),
+            },
+            Err(_) => unreachable!(),
+        }
+    }
+
+    /// The next reply, with a note of what the server had published by then. Refused with Closed where the worker has gone or
+    /// stopped. It may wait.
+    pub fn reply<R: Wait>(&mut self, rt: &R) -> Result<(Reply, Told), RailFault>
+        ensures got { MatchResult result (λ r. self.new ≡ with_reply self.old r.0 r.1) (λ _. self.new ≡ self.old) }
+        ensures server { IfOk result (λ r. r.1.origin ≡ self.old.origin) }
+        // The step of the last input that the note tells of put the reply out, for this seat.
+        ensures put_out { IfOk result (λ r. PutsOut r.1 (Replied self.old.port r.0)) }
+    {
+        let mail = self.letters.take(rt)?;
+        Ok(mail.open())
+    }
+}

@@ -1,0 +1,156 @@
+//! A running server: its worker, and those who sit beside it.
+ghost use Rattle.std.specs.Prelude.{◌≡◌, ◌<◌, ◌≤◌, ◌+◌, [], true, false, replicate, IfOk};
+ghost use Rattle.crossbeam_channel.specs.Claims.{view};
+ghost use Rattle.node.specs.Nodes.{is_idle};
+ghost use Rattle.node.specs.Lawful.{IsLawful};
+ghost use Rattle.rail.specs.Inbox.{taker};
+ghost use Rattle.rail.specs.Letters.{post_at};
+ghost use Rattle.rail.specs.Servers.{IsOpened, course_at, posts_from, stand_at, stands_from};
+
+use crate::RailFault;
+use crate::inbox::Gate;
+use crate::inlets::Inlet;
+use crate::posts::{Post, open as open_queue};
+use crate::seats::Seat;
+use crate::stands::Stand;
+use crate::waiting::{INBOX, REPLIES};
+use crate::workers::Worker;
+use faces::Publisher;
+use node::Node;
+use std::alloc::Global;
+use std::sync::Wait;
+
+/// A running server: its worker, a stand for each reader, and inlets.
+#[derive(Drop)]
+pub struct Server<R: Wait + Drop> {
+    pub worker: Worker<R>,
+    pub stands: Vec<Stand>,
+    pub inlets: Vec<Inlet>,
+}
+
+/// Opens a server that begins as this node: a worker, a reader and a seat for each of so many threads, at ports 0, 1 and so on,
+/// and so many inlets. Its node may hold items already. Refused for want of memory, or where no reader could be made.
+pub fn open<R: Wait + Drop>(
+    rt: R,
+    alloc: Global,
+    node: Node,
+    readers: usize,
+    inlets: usize,
+) -> Result<Server<R>, RailFault>
+    requires readers { (1 ≤ readers) × (readers ≤ 16) }
+    requires inlets { (1 ≤ inlets) × (inlets ≤ 16) }
+    requires idle { is_idle node ≡ true }
+    ensures { IfOk result (λ s. IsOpened node readers inlets s.worker s.stands.items s.inlets.items) }
+{
+    hold_lawful(&node);
+    let mut gate = Gate::new(alloc, INBOX)?;
+    let Ok(mut publisher) = Publisher::open(&rt, alloc, node, readers) else {
+        return Err(RailFault::Memory);
+    };
+    match beside(alloc, &mut publisher, &mut gate, readers, inlets) {
+        Ok((stands, posts, inlets)) => {
+            let worker = Worker::new(rt, gate.close(), publisher, posts);
+            Ok(Server {
+                worker,
+                stands,
+                inlets,
+            })
+        }
+        Err(fault) => {
+            publisher.end(&rt);
+            Err(fault)
+        }
+    }
+}
+
+// The server of an idle node is lawful, as the node's type keeps.
+fn hold_lawful(node: &Node)
+    requires { is_idle node.now ≡ true }
+    ensures { (node.now.stopped ≡ false) × IsLawful node.now.server }
+{
+    let _idle = node.is_idle();
+}
+
+// Those who sit beside the worker, and its posts.
+fn beside(
+    alloc: Global,
+    publisher: &mut Publisher,
+    gate: &mut Gate,
+    readers: usize,
+    inlets: usize,
+) -> Result<(Vec<Stand>, Vec<Post>, Vec<Inlet>), RailFault>
+    requires gate { view gate.old.pass ≡ taker 0 0 [] }
+    requires few { (readers ≤ 16) × (inlets ≤ 16) }
+    requires first { publisher.old.inputs ≡ [] }
+    ensures publisher { publisher.new ≡ publisher.old }
+    ensures gate { IfOk result (λ _. ((view gate.new.pass).ports ≡ readers) × ((view gate.new.pass).got ≡ [])) }
+    ensures stands { IfOk result (λ r. r.0.items ≡ stands_from publisher.old.origin 0 readers) }
+    ensures posts { IfOk result (λ r. r.1.items ≡ posts_from publisher.old.origin 0 readers) }
+    ensures inlets { IfOk result (λ r. r.2.items ≡ replicate inlets []) }
+{
+    let (stands, posts) = all_stands(alloc, publisher, gate, readers)?;
+    let inlets = all_inlets(alloc, gate, inlets)?;
+    Ok((stands, posts, inlets))
+}
+
+// The stands of so many ports, and their posts.
+fn all_stands(
+    alloc: Global,
+    publisher: &mut Publisher,
+    gate: &mut Gate,
+    readers: usize,
+) -> Result<(Vec<Stand>, Vec<Post>), RailFault>
+    requires gate { view gate.old.pass ≡ taker 0 0 [] }
+    requires few { readers ≤ 16 }
+    requires first { publisher.old.inputs ≡ [] }
+    ensures publisher { publisher.new ≡ publisher.old }
+    ensures gate { IfOk result (λ _. view gate.new.pass ≡ taker readers readers []) }
+    ensures stands { IfOk result (λ r. r.0.items ≡ stands_from publisher.old.origin 0 readers) }
+    ensures posts { IfOk result (λ r. r.1.items ≡ posts_from publisher.old.origin 0 readers) }
+{
+    let mut stands = Vec::new(alloc);
+    let mut posts = Vec::new(alloc);
+    for port in 0..readers {
+        let (stand, post) = one_stand(alloc, publisher, gate, port)?;
+        stands.push(stand)?;
+        posts.push(post)?;
+    }
+    Ok((stands, posts))
+}
+
+// The stand of a port, and its post.
+fn one_stand(
+    alloc: Global,
+    publisher: &mut Publisher,
+    gate: &mut Gate,
+    port: usize,
+) -> Result<(Stand, Post), RailFault>
+    requires gate { view gate.old.pass ≡ taker port port [] }
+    requires few { port < 16 }
+    requires first { publisher.old.inputs ≡ [] }
+    ensures publisher { publisher.new ≡ publisher.old }
+    ensures gate { IfOk result (λ _. view gate.new.pass ≡ taker (port + 1) (port + 1) []) }
+    ensures stand { IfOk result (λ r. r.0 ≡ stand_at publisher.old.origin port) }
+    ensures post { IfOk result (λ r. r.1 ≡ post_at publisher.old.origin port) }
+{
+    let Ok(reader) = publisher.reader() else {
+        return Err(RailFault::NoReader);
+    };
+    let (post, letters) = open_queue(alloc, REPLIES, publisher.published(), port)?;
+    let seat = Seat::new(port, gate.seat()?, letters);
+    Ok((Stand { reader, seat }, post))
+}
+
+// So many inlets.
+fn all_inlets(alloc: Global, gate: &mut Gate, count: usize) -> Result<Vec<Inlet>, RailFault>
+    requires few { ((view gate.old.pass).made ≤ 16) × (count ≤ 16) }
+    requires gate { view gate.old.pass ≡ taker (view gate.old.pass).made (view gate.old.pass).ports [] }
+    ensures gate { IfOk result (λ _. ((view gate.new.pass).ports ≡ (view gate.old.pass).ports) × ((view gate.new.pass).got ≡ [])) }
+    ensures inlets { IfOk result (λ inlets. inlets.items ≡ replicate count []) }
+{
+    let mut inlets = Vec::new(alloc);
+    for _ in 0..count {
+        inlets.push(Inlet::new(gate.inlet()?))?;
+    }
+    Ok(inlets)
+}

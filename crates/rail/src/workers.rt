@@ -1,0 +1,189 @@
+//! The worker of a server: it takes one input after another.
+ghost use Rattle.std.specs.Prelude.{◌≡◌, [], ◌∷◌, true, length};
+ghost use Rattle.crossbeam_channel.specs.Claims.{view};
+ghost use Rattle.node.specs.Lawful.{IsLawful};
+ghost use Rattle.node.specs.Replies.{AreCallsBelow, AreOpenBelow};
+ghost use Rattle.faces.specs.Courses.{server_after};
+ghost use Rattle.rail.specs.Events.{IsBelow};
+ghost use Rattle.rail.specs.Turns.{ArePosts};
+ghost use Rattle.rail.specs.Workers.{Advanced, Did, IsStopped, IsTurn, MayBeTurn};
+
+use crate::RailFault;
+use crate::events::{Event, FitInput, Message};
+use crate::inbox::Inbox;
+use crate::inputs::advance;
+use crate::links::Links;
+use crate::posts::Post;
+use crate::turns::close_all;
+use faces::{Publisher, Told};
+use std::marker::Model;
+use std::sync::Wait;
+
+/// What a turn did.
+#[derive(Clone, Copy, Debug, PartialEq, Eq)]
+pub enum Turn {
+    /// An input was taken, and all that it does was done.
+    Went,
+    /// The server is stopped, and nothing was put out.
+    Stopped,
+    /// The loop is to end, and nothing was done.
+    End,
+}
+
+/// The one that owns a server's node. Contracts see what it took, what it has published, whether it goes on, and what it put for
+/// each seat (`WorkerState`).
+pub struct Worker<R: Wait + Drop> {
+    rt: R,
+    inbox: Inbox,
+    // None once the server has stopped.
+    publisher: Option<Publisher>,
+    // What it has published.
+    told: Told,
+    posts: Vec<Post>,
+}
+
+impl<R: Wait + Drop> Model for Worker<R> {
+    ghost use Rattle.std.specs.Prelude.{is_some};
+    ghost use Rattle.std.specs.Coded.{codes};
+    ghost use Rattle.logbook.specs.Pages.{book_coded};
+    ghost use Rattle.table.specs.Items.{coded_item};
+    ghost use Rattle.versions.specs.Stores.{coded_items};
+    ghost use Rattle.crossbeam_channel.specs.Claims as claims;
+    ghost use Rattle.rail.specs.Workers.{WorkerState, IsWorker};
+
+    ghost Value = { WorkerState };
+
+    ghost coded = { Prim.hlevel (codes, coded_item, coded_items, book_coded) };
+
+    ghost view = { λ w. record { taken = (claims.view w.inbox.pass).got; published = w.told; goes = is_some w.publisher; posts = w.posts.items } };
+
+    ghost invariant = { λ w. IsWorker w.publisher w.told w.posts.items (claims.view w.inbox.pass).ports };
+}
+
+impl<R: Wait + Drop> Drop for Worker<R> {
+    fn drop(self) {
+        let Self {
+            rt,
+            inbox: _inbox,
+            publisher,
+            told: _told,
+            posts: _posts,
+        } = self;
+        if let Some(publisher) = publisher {
+            publisher.end(&rt);
+        }
+    }
+}
+
+impl<R: Wait + Drop> Worker<R> {
+    /// A worker of a server that goes on.
+    pub(crate) fn new(rt: R, inbox: Inbox, publisher: Publisher, posts: Vec<Post>) -> Worker<R>
+        requires first { (view inbox.pass).got ≡ [] }
+        requires ports { (view inbox.pass).ports ≡ length posts.items }
+        requires posts { ArePosts publisher.origin 0 posts.items }
+        requires lawful { IsLawful (server_after publisher) }
+        requires open { AreOpenBelow (length posts.items) (server_after publisher) }
+        ensures { result ≡ record { taken = []; published = publisher; goes = true; posts = posts.items } }
+    {
+        let told = publisher.published().tell();
+        Worker {
+            rt,
+            inbox,
+            publisher: Some(publisher),
+            told,
+            posts,
+        }
+    }
+
+    /// Takes the first message of the inbox that wasn't taken, and waits until there is one. An input is given to the node, the
+    /// face after it is published, and only then its messages are put, and its replies. Refused with Closed where every sender is
+    /// gone, and with Memory; both stop the server.
+    pub fn turn<L: Links>(&mut self, links: &mut L) -> Result<Turn, RailFault>
+        ensures { IsTurn self.old self.new (L.list links.old) (L.list links.new) (L.failures links.new) result }
+    {
+        match self.inbox.take(&self.rt) {
+            Ok(message) => self.act(message, links),
+            Err(_) => {
+                self.stop();
+                Err(RailFault::Closed)
+            }
+        }
+    }
+
+    /// The same, if a message stands there; none otherwise. It doesn't wait for a message. It may answer none although one stands
+    /// there, while another thread is sending.
+    pub fn turn_if_any<L: Links>(&mut self, links: &mut L) -> Result<Option<Turn>, RailFault>
+        ensures { MayBeTurn self.old self.new (L.list links.old) (L.list links.new) (L.failures links.new) result }
+    {
+        match self.inbox.try_take(&self.rt) {
+            Ok(Some(message)) => {
+                let turn = self.act(message, links)?;
+                Ok(Some(turn))
+            }
+            Ok(None) => Ok(None),
+            Err(_) => {
+                self.stop();
+                Err(RailFault::Closed)
+            }
+        }
+    }
+
+    // What a message that was taken asks for.
+    fn act<L: Links>(&mut self, message: Message, links: &mut L) -> Result<Turn, RailFault>
+        requires port { IsBelow (length self.old.posts) message.event }
+        ensures taken { self.new.taken ≡ self.old.taken }
+        ensures did { Did self.old self.new (L.list links.old) (L.list links.new) (L.failures links.new) message result }
+    {
+        match message.event {
+            Event::End => Ok(Turn::End),
+            Event::Stop => {
+                self.stop();
+                Ok(Turn::Stopped)
+            }
+            Event::Took(input) => self.advance(input, links),
+        }
+    }
+
+    // Gives an input to the node, unless the server is stopped.
+    fn advance<L: Links>(&mut self, input: FitInput, links: &mut L) -> Result<Turn, RailFault>
+        requires port { AreCallsBelow (length self.old.posts) (input ∷ []) }
+        ensures taken { self.new.taken ≡ self.old.taken }
+        ensures did { Advanced self.old self.new (L.list links.old) (L.list links.new) (L.failures links.new) input result }
+    {
+        let Some(publisher) = self.publisher.take() else {
+            drop(input);
+            return Ok(Turn::Stopped);
+        };
+        let input = input.into_input();
+        match advance(
+            &self.rt,
+            publisher,
+            &mut self.told,
+            &mut self.posts,
+            links,
+            input,
+        ) {
+            Some(publisher) => {
+                if let Some(other) = self.publisher.replace(publisher) {
+                    other.end(&self.rt);
+                }
+                Ok(Turn::Went)
+            }
+            None => {
+                close_all(&mut self.posts);
+                Err(RailFault::Memory)
+            }
+        }
+    }
+
+    // The server is stopped from now on.
+    fn stop(&mut self)
+        ensures taken { self.new.taken ≡ self.old.taken }
+        ensures stopped { IsStopped self.old self.new }
+    {
+        if let Some(publisher) = self.publisher.take() {
+            publisher.end(&self.rt);
+        }
+        close_all(&mut self.posts);
+    }
+}

@@ -1,0 +1,114 @@
+//! A frame in its ranges is one that the format spells: its fields' types keep all other ranges. Nothing is done here.
+ghost use Rattle.std.specs.Prelude.{◌<◌, ◌^◌};
+ghost use Rattle.table.specs.Keys.{IsKey};
+ghost use Rattle.node.specs.Lawful.{IsSendable};
+ghost use Rattle.wire.specs.Spellings.{HasChangeWidth, HasReplyWidth, HasWidths, IsBody, IsFrame, IsInRange, IsTarget, IsWireEntry};
+
+use crate::Frame;
+use node::Body;
+use table::{Change, Key, Op, Reply, Target};
+use versions::Entry;
+
+/// A frame in its ranges is one that the format spells.
+pub fn hold_ranges(frame: &Frame)
+    requires range { IsInRange frame.now }
+    ensures { IsFrame frame.now }
+{
+    match frame {
+        Frame::Hello(_) | Frame::Gone(_) => {}
+        Frame::Peer(peer) => {
+            hold_view(peer.view.bits());
+            hold_body(&peer.body);
+        }
+    }
+}
+
+fn hold_body(body: &Body)
+    requires range { IsSendable body.now }
+    ensures { IsBody body.now }
+{
+    match body {
+        Body::Op(id, call) => {
+            hold_number(*id);
+            hold_target(&call.target);
+            hold_op(&call.op);
+        }
+        Body::Forward(entry) => hold_entry(entry),
+        Body::Ack(n) => hold_number(*n),
+        Body::Query(ask, key) => {
+            hold_number(*ask);
+            hold_key(key);
+        }
+        Body::Answer(ask, n) => {
+            hold_number(*ask);
+            hold_number(*n);
+        }
+    }
+}
+
+fn hold_target(target: &Target)
+    ensures { IsTarget target.now }
+{
+    match target {
+        Target::One(key) => hold_key(key),
+        Target::All => {}
+    }
+}
+
+fn hold_key(key: &Key)
+    ensures { IsKey key.now }
+{
+    key.bytes();
+}
+
+fn hold_op(op: &Op)
+    ensures { HasWidths op.now }
+{
+    match op {
+        Op::Set(flags, _) | Op::Add(flags, _) | Op::Replace(flags, _) => hold_flags(*flags),
+        Op::Cas(flags, _, unique) => {
+            hold_flags(*flags);
+            hold_number(*unique);
+        }
+        Op::Incr(amount) | Op::Decr(amount) => hold_number(*amount),
+        Op::Read | Op::Append(_) | Op::Prepend(_) | Op::Delete | Op::Flush => {}
+    }
+}
+
+fn hold_entry(entry: &Entry)
+    ensures { IsWireEntry entry.now }
+{
+    hold_number(entry.number());
+    hold_number(entry.id());
+    hold_target(entry.target());
+    hold_reply(entry.reply());
+    hold_change(entry.change());
+}
+
+fn hold_reply(reply: &Reply)
+    ensures { HasReplyWidth reply.now }
+{
+    if let Reply::Number(n) = reply {
+        hold_number(*n);
+    }
+}
+
+fn hold_change(change: &Change)
+    ensures { HasChangeWidth change.now }
+{
+    if let Change::Put(item) = change {
+        hold_flags(item.flags);
+    }
+}
+
+fn hold_view(bits: u16)
+    ensures { bits < 2 ^ 16 }
+{}
+
+fn hold_flags(flags: u32)
+    ensures { flags < 2 ^ 32 }
+{}
+
+fn hold_number(n: u64)
+    ensures { n < 2 ^ 64 }
+{}

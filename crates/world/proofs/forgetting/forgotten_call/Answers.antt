@@ -1,0 +1,5 @@
+use Rattle.world.proofs.WorkedForgetting.{stuck_forgets}
+use Rattle.world.proofs.forgetting.forgotten_call.Goals as goal
+
+pub returns : goal.returns
+returns c = stuck_forgets

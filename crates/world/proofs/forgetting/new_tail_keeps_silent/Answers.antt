@@ -1,0 +1,11 @@
+use Rattle.world.proofs.WorkedForgetting.{silent_shown, silent_forgets, acknowledged_waits}
+use Rattle.world.proofs.forgetting.new_tail_keeps_silent.Goals as goal
+
+pub returns-clause-transcript : goal.returns-clause-transcript
+returns-clause-transcript c = silent_shown
+
+pub returns-clause-forgets : goal.returns-clause-forgets
+returns-clause-forgets c = silent_forgets
+
+pub returns-clause-ordinary : goal.returns-clause-ordinary
+returns-clause-ordinary c = acknowledged_waits

@@ -1,0 +1,5 @@
+use Rattle.world.proofs.FailedServers.{lives_where_not_failed}
+use Rattle.world.proofs.laws.failed_servers.Goals as goal
+
+pub returns : goal.returns
+returns c = lives_where_not_failed
