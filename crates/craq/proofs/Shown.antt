@@ -1,7 +1,7 @@
 -- What a scenario shows is what the program may write.
 use Rattle.std.proofs.Common.{◌≡◌, ℕ, List, ◌++◌, inl, inr, refl}
 use Rattle.craq.specs.Commands.{version_line}
-use Rattle.craq.specs.Ends.{WritesBeginning}
+use Rattle.ends.specs.Ends.{WritesBeginning}
 use Rattle.craq.specs.Programs.{BeginsOutput, WritesOutput}
 use Rattle.craq.specs.Scenarios.{Shows, ShowsBeginning}
 

@@ -1,10 +1,10 @@
 -- The faults of a scenario: their exit statuses, their lines, and the faults that they come from.
 use Rattle.std.specs.Prelude.{◌≡◌, ◌⊎◌, ℕ, ◌+◌, List, ◌++◌, codes, decimal}
-use Rattle.craq.specs.Ends.{WritesBeginning}
+use Rattle.ends.specs.Ends.{WritesBeginning}
 use Rattle.craq.specs.declared.faults.ScenarioFault.{ScenarioFault}
 use Rattle.craq.specs.declared.faults.ScenarioFault.TheVariants.{Memory, Unreadable, BadLine, Run}
-use Rattle.craq.specs.declared.reading.ReadFault.{ReadFault}
-use Rattle.craq.specs.declared.reading.ReadFault.TheVariants as reading
+use Rattle.ends.specs.declared.reading.ReadFault.{ReadFault}
+use Rattle.ends.specs.declared.reading.ReadFault.TheVariants as reading
 use Rattle.world.specs.declared.schedules.ScheduleFault.{ScheduleFault}
 use Rattle.world.specs.declared.schedules.ScheduleFault.TheVariants as schedules
 use Rattle.world.specs.declared.faults.SceneFault.{SceneFault}

@@ -1,10 +1,7 @@
-pub mod Ends
 pub mod Words
 pub mod Commands
 pub mod Faults
 pub mod Scenarios
 pub mod Programs
-pub mod Serving
-pub mod Talks
 pub mod SeatCallers
 pub mod InProcessLinks

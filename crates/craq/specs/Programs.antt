@@ -1,7 +1,7 @@
 -- What the program writes to its output, whatever its arguments are.
 use Rattle.std.specs.Prelude.{◌≡◌, ◌⊎◌, ◌++◌, ℕ, List}
 use Rattle.craq.specs.Commands.{version_line}
-use Rattle.craq.specs.Ends.{WritesBeginning}
+use Rattle.ends.specs.Ends.{WritesBeginning}
 use Rattle.craq.specs.Scenarios.{Replays}
 
 -- the text of what some schedule's run shows, or the version's line

@@ -4,7 +4,7 @@ use Rattle.world.specs.Schedules.{ScheduleShown, schedule_of}
 use Rattle.world.specs.Worlds.{run_of}
 use Rattle.world.specs.Transcripts.{transcript_of}
 use Rattle.world.specs.Printing.{transcript_text}
-use Rattle.craq.specs.Ends.{WritesBeginning}
+use Rattle.ends.specs.Ends.{WritesBeginning}
 use Rattle.craq.specs.declared.faults.ScenarioFault.{ScenarioFault}
 use Rattle.craq.specs.declared.faults.ScenarioFault.TheVariants.{Memory, Unreadable, BadLine, Run}
 

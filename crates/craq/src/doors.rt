@@ -1,10 +1,8 @@
 //! Doors: threads that accept connections, and serve each whole before the next.
 
-use crate::callers::Caller;
 use crate::marks::Mark;
-use crate::serving::{ServeFault, serve_stream};
-use crate::sinks::TrackedWriter;
-use crate::sources::TrackedReader;
+use ends::{TrackedReader, TrackedWriter};
+use serving::{Caller, ServeFault, serve_stream};
 use std::alloc::Global;
 use std::net::{TcpListener, TcpStream};
 use std::sync::Wait;

@@ -1,10 +1,8 @@
 //! Why a scenario ends early: the exit status of each cause, and its line.
 ghost use Rattle.std.specs.Prelude.{◌≡◌, ◌+◌, ◌++◌, OnOk, OnErr};
-ghost use Rattle.craq.specs.Ends.{WritesBeginning};
+ghost use Rattle.ends.specs.Ends.{WritesBeginning};
 
-use crate::reading::ReadFault;
-use crate::sinks::Sink;
-use crate::writing::{WriteFault, write_all};
+use ends::{ReadFault, Sink, WriteFault, write_all};
 use itoa::Buffer;
 use std::alloc::AllocError;
 use thiserror::Error;
@@ -41,7 +39,7 @@ pub enum ScenarioFault {
 
 impl ScenarioFault {
     ghost use Rattle.std.specs.Prelude.{◌≡◌, ◌+◌, OnOk, OnErr};
-    ghost use Rattle.craq.specs.Ends.{WritesBeginning};
+    ghost use Rattle.ends.specs.Ends.{WritesBeginning};
     ghost use Rattle.craq.specs.Faults.{status_of, line_of};
 
     /// The exit status: 3 for want of memory, else 1.

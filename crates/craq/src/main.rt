@@ -1,37 +1,26 @@
 //! The program `craq`: its command line, and what its commands do between a source and a sink.
 #![tactic(auto)]
 
-mod callers;
 mod cluster_words;
 mod clusters;
 mod commands;
 mod doors;
-mod failures;
 mod faults;
 mod in_process_links;
 mod marks;
-mod passages;
 mod program;
-mod reading;
 mod scenarios;
 mod seat_callers;
-mod serving;
-mod sinks;
-mod sources;
 mod steering;
-mod talks;
 mod words;
 mod working;
-mod writing;
 
 use commands::UsageFault;
+use ends::{TrackedReader, TrackedWriter, write_all};
 use faults::{MEMORY, USAGE};
 use program::{run, words_of_cluster};
-use sinks::TrackedWriter;
-use sources::TrackedReader;
 use std::process::ExitCode;
 use steering::cluster;
-use writing::write_all;
 
 fn main(rt: HostRuntime) -> ExitCode {
     let mut output = TrackedWriter::new(rt.stdout());

@@ -6,10 +6,7 @@ ghost use Rattle.craq.specs.declared.faults.ScenarioFault.{ScenarioFault};
 ghost use Rattle.craq.specs.declared.faults.ScenarioFault.TheVariants.{Unreadable, Run};
 
 use crate::faults::{DONE, FAILED, ScenarioFault};
-use crate::reading::read_to_end;
-use crate::sinks::Sink;
-use crate::sources::Source;
-use crate::writing::write_all;
+use ends::{Sink, Source, read_to_end, write_all};
 use std::alloc::Global;
 use world::{print_transcript, read_schedule, run};
 

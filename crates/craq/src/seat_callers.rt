@@ -8,11 +8,11 @@ ghost use Rattle.node.specs.Lawful.{IsCall};
 ghost use Rattle.faces.specs.Courses.{IsLater};
 ghost use Rattle.craq.specs.SeatCallers.{IsSeen, IsSubmitted, ShowsClean};
 
-use crate::callers::{CallFault, Caller};
-use crate::failures::Failures;
 use crate::marks::Mark;
+use ends::Failures;
 use node::Look;
 use rail::{Reader, Seat, Stand};
+use serving::{CallFault, Caller};
 use std::sync::Wait;
 use table::{Call, Item, Op, Reply, Target};
 

@@ -2,9 +2,7 @@
 
 use crate::clusters::{Cluster, ClusterFault, Numbers};
 use crate::faults::{DONE, FAILED, MEMORY};
-use crate::sinks::Sink;
-use crate::sources::Source;
-use crate::writing::write_all;
+use ends::{Sink, Source, write_all};
 use itoa::Buffer;
 use std::alloc::Global;
 use std::net::{Net, TcpListener, TcpStream};

@@ -1,14 +1,11 @@
 use crate::commands::{Command, UsageFault};
 use crate::scenarios::scenario;
-use crate::sinks::TrackedWriter;
-use crate::sources::TrackedReader;
 use crate::words::command;
+use ends::{TrackedReader, TrackedWriter};
 use std::alloc::Global;
 use std::io;
 use std::io::{Error, ErrorKind};
 use std::test::Fail;
-
-mod serving;
 
 const SET_THEN_GETS: &[u8] =
     b"servers 1\nhomes 0\npiece 0 set a 5 0 3\\r\\nxyz\\r\\ngets a\\r\\n\nbegin 0\nwork 0\nhand 0\nbegin 0\nwork 0\nhand 0\n";

@@ -1,6 +1,6 @@
 use Rattle.std.proofs.Common.{◌++◌}
 use Rattle.std.proofs.lemmas.Result.{on_err_weaker}
-use Rattle.craq.proofs.Written.{at-an-error, begun-first, begun-then, written-then}
+use Rattle.ends.proofs.Written.{at-an-error, begun-first, begun-then, written-then}
 use Rattle.craq.proofs.faults.write_parts.Goals as goal
 
 pub returns-in_err-write_all-clause-begun : goal.returns-in_err-write_all-clause-begun

@@ -1,0 +1,126 @@
+//! The connection engine: reads a client's bytes, answers their calls, and writes what is due.
+ghost use Rattle.std.specs.Prelude.{◌≡◌, ◌+◌, ◌++◌, ◌<◌, ℕ, List, length, true, IfOk, IfErr, vec_len};
+ghost use Rattle.proto.specs.Sessions.{fresh};
+ghost use Rattle.serving.specs.declared.serving.End.{End};
+ghost use Rattle.serving.specs.Serving.{IsServed, IsCut, failed_reads, failed_writes, failed_calls};
+
+use crate::callers::Caller;
+use crate::talks::{answer, feed};
+use ends::{Sink, Source};
+use proto::{Session, any_cutting, calls_have_replies, fewer_replies_begin, output_is_texts};
+use std::alloc::{AllocError, Global};
+use std::sync::Wait;
+use thiserror::Error;
+
+/// How a connection came to its end.
+#[derive(Clone, Copy, Debug, PartialEq, Eq)]
+pub enum End {
+    /// The input has ended.
+    Input,
+    /// The client said `quit`, or sent a line that is too long.
+    Closed,
+}
+
+/// Why a connection isn't served any more.
+#[derive(Clone, Copy, Debug, PartialEq, Eq, Error)]
+pub enum ServeFault {
+    /// No memory was left.
+    #[error("out of memory")]
+    Memory,
+    /// A read failed.
+    #[error("the input can't be read")]
+    Read,
+    /// A write failed.
+    #[error("the output can't be written")]
+    Write,
+    /// A call got no reply.
+    #[error("a call got no reply")]
+    Call,
+}
+
+impl From<AllocError> for ServeFault {
+    ghost use Rattle.serving.specs.declared.serving.ServeFault.TheVariants.{Memory};
+
+    ghost from_gives = { λ _ e. e ≡ Memory };
+
+    fn from(_e: AllocError) -> ServeFault {
+        ServeFault::Memory
+    }
+}
+
+/// The most bytes of one read.
+const PIECE: usize = 65_536;
+
+/// Serves a connection until its input ends, or it closes: reads, makes the calls of what was read, one after another,
+/// and writes what is due. Each read of up to 64 KiB is answered by one write, or by one for each 64 KiB of output.
+/// It never waits for input while output stands. After a fault a beginning of what is due was written.
+/// It may wait: for input, for its output to be taken, and in a call.
+pub fn serve_stream<R: Wait, S: Source, W: Sink, C: Caller>(
+    rt: &R,
+    alloc: Global,
+    source: &mut S,
+    sink: &mut W,
+    caller: &mut C,
+) -> Result<End, ServeFault>
+    // All that was read is answered, however it was cut, and the end is that of these bytes.
+    ensures served { IfOk result (λ end. (read : List ℕ) × (S.given source.new ≡ S.given source.old ++ read) ×
+        IsServed C.answers end read (W.written sink.old) (W.written sink.new) caller.old caller.new) }
+    // The input has ended, if that is the answer.
+    ensures ended { IfOk result (λ end. end ≡ End.Input → S.has_ended source.new ≡ true) }
+    // After a fault: a beginning of the text of what was read and answered.
+    ensures cut { IfErr result (λ _. (read : List ℕ) × (S.given source.new ≡ S.given source.old ++ read) ×
+        IsCut C.answers read (W.written sink.old) (W.written sink.new) caller.old) }
+    // Each side's fault comes exactly if that side failed.
+    ensures reads { S.failures source.new ≡ S.failures source.old + failed_reads result }
+    ensures writes { W.failures sink.new ≡ W.failures sink.old + failed_writes result }
+    ensures calls { C.failures caller.new ≡ C.failures caller.old + failed_calls result }
+{
+    let mut piece = blank(alloc, PIECE)?;
+    let mut session = Session::new(alloc);
+    serve(rt, piece.as_mut_slice(), &mut session, source, sink, caller)
+}
+
+// Serves by a session that was fed with nothing, and reads into this slice.
+fn serve<R: Wait, S: Source, W: Sink, C: Caller>(
+    rt: &R,
+    piece: &mut [u8],
+    session: &mut Session,
+    source: &mut S,
+    sink: &mut W,
+    caller: &mut C,
+) -> Result<End, ServeFault>
+    requires some_room { 0 < length piece.old }
+    requires fresh { session.old ≡ fresh }
+    ensures served { IfOk result (λ end. (read : List ℕ) × (S.given source.new ≡ S.given source.old ++ read) ×
+        IsServed C.answers end read (W.written sink.old) (W.written sink.new) caller.old caller.new) }
+    ensures ended { IfOk result (λ end. end ≡ End.Input → S.has_ended source.new ≡ true) }
+    ensures cut { IfErr result (λ _. (read : List ℕ) × (S.given source.new ≡ S.given source.old ++ read) ×
+        IsCut C.answers read (W.written sink.old) (W.written sink.new) caller.old) }
+    ensures reads { S.failures source.new ≡ S.failures source.old + failed_reads result }
+    ensures writes { W.failures sink.new ≡ W.failures sink.old + failed_writes result }
+    ensures calls { C.failures caller.new ≡ C.failures caller.old + failed_calls result }
+{
+    any_cutting();
+    output_is_texts();
+    calls_have_replies();
+    fewer_replies_begin();
+    for _ in rt.forever() {
+        let n = match source.read(piece) {
+            Ok(0) => return Ok(End::Input),
+            Ok(n) => n,
+            Err(_) => return Err(ServeFault::Read),
+        };
+        feed(session, &piece[..n])?;
+        if answer(rt, session, sink, caller)? {
+            return Ok(End::Closed);
+        }
+    }
+    unreachable!()
+}
+
+// A buffer of this many bytes.
+fn blank(alloc: Global, length: usize) -> Result<Vec<u8>, AllocError>
+    ensures { IfOk result (λ bytes. vec_len bytes ≡ length) }
+{
+    Vec::from_elem(alloc, 0u8, length)
+}
