@@ -1,0 +1,59 @@
+-- Links between servers: what a taker is handed, which frames are taken of the bytes that are read, and which side
+-- fails.
+use Rattle.std.specs.Prelude.{◌≡◌, ℕ, List, ◌++◌, Result, Ok, Err}
+use Rattle.node.specs.Lawful.{IsBody}
+use Rattle.wire.specs.declared.ends.PeerEnd.{PeerEnd}
+use Rattle.wire.specs.declared.frames.Frame.{Frame}
+use Rattle.wire.specs.declared.frames.Frame.TheVariants.{Hello, Peer, Gone}
+use Rattle.wire.specs.Streams.{frames_in}
+use Rattle.wire.specs.Ends.{AreFirst, end_in}
+use Rattle.peers.specs.declared.faults.LinkFault.{LinkFault}
+use Rattle.peers.specs.declared.faults.LinkFault.TheVariants.{Memory, Read, Write, Take}
+
+-- a frame's message, if it is one, may be given to a server
+abbrev pub MayCome : Frame → Type 0
+MayCome (Hello id) = Unit {0}
+MayCome (Peer peer) = IsBody peer.body
+MayCome (Gone id) = Unit {0}
+
+-- all frames that stand in these bytes were taken, in order, and the bytes end so
+pub record TakesAll (end : PeerEnd) (read : List ℕ) (before after : List Frame) : Type 0 where
+  pub taken : after ≡ before ++ frames_in read
+  pub ends_so : end_in read ≡ end
+
+-- the first of the frames that stand in these bytes were taken, in order, and no others
+pub record TakesBeginning (read : List ℕ) (before after : List Frame) : Type 0 where
+  pub handed : List Frame
+  pub later : List Frame
+  pub all : frames_in read ≡ handed ++ later
+  pub taken : after ≡ before ++ handed
+
+-- the frames at the front of these bytes were taken, in order, and the rest stands behind them
+pub record TakesFirst (bytes rest : List ℕ) (before after : List Frame) : Type 0 where
+  pub handed : List Frame
+  pub first : AreFirst handed bytes rest
+  pub taken : after ≡ before ++ handed
+
+-- how many reads more have failed, by what is answered
+abbrev pub failed_reads : {X : Type 0} → Result X LinkFault → ℕ
+failed_reads (Ok x) = 0
+failed_reads (Err Memory) = 0
+failed_reads (Err Read) = 1
+failed_reads (Err Write) = 0
+failed_reads (Err Take) = 0
+
+-- the same of writes
+abbrev pub failed_writes : {X : Type 0} → Result X LinkFault → ℕ
+failed_writes (Ok x) = 0
+failed_writes (Err Memory) = 0
+failed_writes (Err Read) = 0
+failed_writes (Err Write) = 1
+failed_writes (Err Take) = 0
+
+-- and of frames that weren't taken
+abbrev pub failed_takes : {X : Type 0} → Result X LinkFault → ℕ
+failed_takes (Ok x) = 0
+failed_takes (Err Memory) = 0
+failed_takes (Err Read) = 0
+failed_takes (Err Write) = 0
+failed_takes (Err Take) = 1
