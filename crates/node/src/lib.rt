@@ -26,6 +26,3 @@ pub use masters::{Master, MasterFault};
 pub use messages::{Body, Input, Output, Peer};
 pub use nodes::{Node, NodeFault};
 pub use views::View;
-
-#[cfg(test)]
-mod tests;

@@ -28,6 +28,3 @@ pub use streams::{
 };
 use texts::{Form, Look};
 pub use writes::{answer_writes, fewer_replies_begin, next_writes};
-
-#[cfg(test)]
-mod tests;

@@ -14,6 +14,3 @@ pub use keys::{Key, is_key};
 pub use numbers::number;
 pub use operations::{Call, Change, Op, Reply, Target};
 pub use plain::{Table, TableFault};
-
-#[cfg(test)]
-mod tests;

@@ -14,6 +14,3 @@ mod stores;
 pub use entries::Entry;
 pub use laws::{items_follow_the_log, parts_are_logs, stores_stay_stores};
 pub use stores::{Store, StoreFault};
-
-#[cfg(test)]
-mod tests;

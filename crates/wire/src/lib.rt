@@ -30,6 +30,3 @@ pub use serving::{
 };
 pub use spelling::{encode, encode_onto};
 pub use streams::Frames;
-
-#[cfg(test)]
-mod tests;

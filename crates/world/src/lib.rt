@@ -41,10 +41,3 @@ pub use text_laws::{
     sent_text_tells_what_was_sent, spelled_bytes_are_read, spelled_schedules_are_read,
 };
 pub use transcripts::{CallTranscript, ConnectionTranscript, Transcript};
-
-#[cfg(test)]
-mod printing_tests;
-#[cfg(test)]
-mod scene_tests;
-#[cfg(test)]
-mod schedule_tests;

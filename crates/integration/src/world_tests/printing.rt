@@ -1,6 +1,6 @@
-use crate::{CallTranscript, ConnectionTranscript, Transcript, print_transcript};
 use std::test::Fail;
 use table::{Key, Op, Reply, Target};
+use world::{CallTranscript, ConnectionTranscript, Transcript, print_transcript};
 
 #[test]
 fn the_text_of_a_transcript(rt: HostRuntime) -> Result<(), Fail> {

@@ -1,7 +1,7 @@
 //! Tests over nodes and hand-made messages.
 
 mod chains;
-mod failures;
+mod masters;
 mod published;
 mod rules;
 mod strangers;

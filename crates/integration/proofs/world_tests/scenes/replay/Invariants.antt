@@ -1,5 +1,5 @@
 use Rattle.std.proofs.Common.{◌≡◌, length}
-use Rattle.world.proofs.scene_tests.replay.Given as goal
+use Rattle.integration.proofs.world_tests.scenes.replay.Given as goal
 
 abbrev pub invariant-loop-event : goal.invariant-loop-event
 invariant-loop-event l = length l.scene.world.connections ≡ length l.fn.scene.world.connections

@@ -1,7 +1,7 @@
 //! Messages that no server sends which keeps to the rules.
 
 use super::chains::{get, key, set};
-use crate::{Body, Input, Node, Peer, View};
+use node::{Body, Input, Node, Peer, View};
 use std::alloc::Global;
 use std::test::Fail;
 use table::{Change, Reply, Target};

@@ -1,7 +1,7 @@
-use crate::{Change, Item, Key, LIMIT, Op, Reply, Table, Target, decide};
 use bytes::Bytes;
 use std::alloc::Global;
 use std::test::Fail;
+use table::{Change, Item, Key, LIMIT, Op, Reply, Table, Target, decide};
 
 fn set(alloc: Global, flags: u32, data: &[u8]) -> Result<Op, Fail> {
     Ok(Op::Set(flags, Bytes::copy_from_slice(alloc, data)?))
@@ -164,21 +164,6 @@ fn add_and_replace(rt: HostRuntime) -> Result<(), Fail> {
 }
 
 #[test]
-fn append_and_prepend(rt: HostRuntime) -> Result<(), Fail> {
-    let alloc = rt.alloc();
-    let rows = vec![in alloc;
-        (Op::Append(block(alloc, b"z")?), Reply::NotStored),
-        (Op::Prepend(block(alloc, b"z")?), Reply::NotStored),
-        (set(alloc, 3, b"m")?, Reply::Stored),
-        (Op::Append(block(alloc, b"no")?), Reply::Stored),
-        (Op::Prepend(block(alloc, b"<")?), Reply::Stored),
-    ]?;
-    let mut table = after(alloc, rows)?;
-    assert!(rt; holds(alloc, &mut table, b"a", 3, b"<mno", 5)?);
-    Ok(())
-}
-
-#[test]
 fn an_item_does_not_outgrow_the_limit(rt: HostRuntime) -> Result<(), Fail> {
     let alloc = rt.alloc();
     let rows = vec![in alloc;
@@ -194,61 +179,6 @@ fn an_item_does_not_outgrow_the_limit(rt: HostRuntime) -> Result<(), Fail> {
 }
 
 #[test]
-fn cas_outcomes(rt: HostRuntime) -> Result<(), Fail> {
-    let alloc = rt.alloc();
-    let rows = vec![in alloc;
-        (Op::Cas(0, block(alloc, b"9")?, 1), Reply::NotFound),
-        (set(alloc, 0, b"1")?, Reply::Stored),
-        (set(alloc, 0, b"1")?, Reply::Stored),
-        (Op::Cas(0, block(alloc, b"9")?, 2), Reply::Exists),
-        (Op::Cas(7, block(alloc, b"9")?, 3), Reply::Stored),
-    ]?;
-    let mut table = after(alloc, rows)?;
-    assert!(rt; holds(alloc, &mut table, b"a", 7, b"9", 5)?);
-    Ok(())
-}
-
-#[test]
-fn counters_wrap_and_stop(rt: HostRuntime) -> Result<(), Fail> {
-    let alloc = rt.alloc();
-    let rows = vec![in alloc;
-        (Op::Incr(1), Reply::NotFound),
-        (Op::Decr(1), Reply::NotFound),
-        (set(alloc, 7, b"18446744073709551615")?, Reply::Stored),
-        (Op::Incr(1), Reply::Number(0)),
-        (Op::Incr(u64::MAX), Reply::Number(u64::MAX)),
-        (set(alloc, 7, b"00000000000000000010")?, Reply::Stored),
-        (Op::Decr(3), Reply::Number(7)),
-        (Op::Decr(8), Reply::Number(0)),
-    ]?;
-    let mut table = after(alloc, rows)?;
-    assert!(rt; holds(alloc, &mut table, b"a", 7, b"0", 8)?);
-    Ok(())
-}
-
-#[test]
-fn not_a_number(rt: HostRuntime) -> Result<(), Fail> {
-    let alloc = rt.alloc();
-    let texts: [&[u8]; 5] = [
-        b"abc",
-        b"",
-        b"18446744073709551616",
-        b"000000000000000000001",
-        b"-1",
-    ];
-    for text in texts {
-        let rows = vec![in alloc;
-            (set(alloc, 0, text)?, Reply::Stored),
-            (Op::Incr(1), Reply::NotNumber),
-            (Op::Decr(1), Reply::NotNumber),
-        ]?;
-        let mut table = after(alloc, rows)?;
-        assert!(rt; holds(alloc, &mut table, b"a", 0, text, 1)?);
-    }
-    Ok(())
-}
-
-#[test]
 fn delete(rt: HostRuntime) -> Result<(), Fail> {
     let alloc = rt.alloc();
     let rows = vec![in alloc;
@@ -260,25 +190,6 @@ fn delete(rt: HostRuntime) -> Result<(), Fail> {
     ]?;
     let mut table = after(alloc, rows)?;
     assert!(rt; holds(alloc, &mut table, b"a", 0, b"x", 4)?);
-    Ok(())
-}
-
-#[test]
-fn flush_all(rt: HostRuntime) -> Result<(), Fail> {
-    let alloc = rt.alloc();
-    let mut table = after(
-        alloc,
-        vec![in alloc; (set(alloc, 0, b"1")?, Reply::Stored)]?,
-    )?;
-    let stored = call(alloc, &mut table, b"b", &set(alloc, 0, b"2")?)?;
-    assert!(rt; is_stored(&stored));
-    assert!(rt; asked(&mut table, &Target::All, &Op::Flush)? == Reply::Flushed);
-    for key in [b"a", b"b"] {
-        assert!(rt; call(alloc, &mut table, key, &Op::Read)? == Reply::Value(None));
-    }
-    let stored = call(alloc, &mut table, b"a", &set(alloc, 0, b"3")?)?;
-    assert!(rt; is_stored(&stored));
-    assert!(rt; holds(alloc, &mut table, b"a", 0, b"3", 4)?);
     Ok(())
 }
 

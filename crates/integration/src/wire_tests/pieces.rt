@@ -3,12 +3,12 @@ ghost use Rattle.std.specs.Prelude.{◌<◌};
 
 use super::fronts::{Found, next_found};
 use super::vectors::{on, says, spelled, vector};
-use crate::Frames;
 use bytes::Bytes;
 use node::Body;
 use std::alloc::Global;
 use std::test::Fail;
 use table::Op;
+use wire::Frames;
 
 // The vectors one after another.
 fn all_vectors(alloc: Global) -> Result<Vec<u8>, Fail> {

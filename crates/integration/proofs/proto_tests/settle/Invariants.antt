@@ -1,6 +1,6 @@
 use Rattle.std.proofs.Common.{◌≡◌, None}
 use Rattle.proto.specs.Streams.{most_turns}
-use Rattle.proto.proofs.tests.settle.Given as goal
+use Rattle.integration.proofs.proto_tests.settle.Given as goal
 
 abbrev pub invariant-turns : goal.invariant-turns
 invariant-turns l = l.session.asked ≡ None

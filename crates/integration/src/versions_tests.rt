@@ -1,10 +1,9 @@
-use crate::queues::give_back;
-use crate::{Entry, Store};
 use bytes::Bytes;
 use std::alloc::Global;
-use std::collections::{BTreeMap, VecDeque};
+use std::collections::BTreeMap;
 use std::test::Fail;
 use table::{Change, Item, Key, LIMIT, Reply, Target};
+use versions::{Entry, Store};
 
 // What one number made of a key.
 #[derive(Drop)]
@@ -371,20 +370,4 @@ fn open_entries(alloc: Global, store: &Store, n: u64) -> Result<Vec<Entry>, Fail
         copies.push(copy)?;
     }
     Ok(copies)
-}
-
-#[test]
-fn an_empty_queue_gives_back_what_a_burst_took(rt: HostRuntime) -> Result<(), Fail> {
-    let mut queue = VecDeque::new(rt.alloc());
-    for n in 0..100 {
-        queue.push_back(n)?;
-    }
-    give_back(&mut queue, 16);
-    assert_eq!(rt; queue.len(), 100);
-    queue.clear();
-    give_back(&mut queue, 1_000);
-    assert!(rt; queue.capacity() >= 100);
-    give_back(&mut queue, 16);
-    assert!(rt; queue.capacity() <= 16);
-    Ok(())
 }

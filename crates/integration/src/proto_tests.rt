@@ -1,12 +1,10 @@
 ghost use Rattle.std.specs.Prelude.{◌≡◌, ◌<◌, OnOk, None};
 
-use crate::texts::{write_fault, write_reply};
-use crate::{Fault, Form, ProtoFault, Session, Step};
-use bytes::BytesMut;
+use proto::{ProtoFault, Session, Step};
 use std::alloc::Global;
 use std::process::Abort;
 use std::test::Fail;
-use table::{Reply, Table};
+use table::Table;
 
 // The next turn of a connection over a plain table: whether there was one.
 fn turn(session: &mut Session, table: &mut Table) -> Result<bool, Fail>
@@ -164,49 +162,6 @@ fn a_refused_block_is_passed_over(rt: HostRuntime) -> Result<(), Fail> {
 }
 
 #[test]
-fn each_update_reply_has_its_line(rt: HostRuntime) -> Result<(), Fail> {
-    let mut out = BytesMut::new(rt.alloc());
-    for reply in [
-        Reply::Stored,
-        Reply::NotStored,
-        Reply::Exists,
-        Reply::NotFound,
-        Reply::Deleted,
-        Reply::Number(0),
-        Reply::Number(u64::MAX),
-        Reply::TooLarge,
-        Reply::NotNumber,
-        Reply::Flushed,
-    ] {
-        write_reply(&mut out, &Form::Status, &reply)?;
-        write_reply(&mut out, &Form::Silent, &reply)?;
-    }
-    let wanted =
-        b"STORED\r\nNOT_STORED\r\nEXISTS\r\nNOT_FOUND\r\nDELETED\r\n0\r\n18446744073709551615\r\nSERVER_ERROR object too large for cache\r\nCLIENT_ERROR cannot increment or decrement non-numeric value\r\nOK\r\n".as_slice();
-    assert_eq!(rt; out.as_slice(), wanted);
-    Ok(())
-}
-
-#[test]
-fn each_fault_has_its_line(rt: HostRuntime) -> Result<(), Fail> {
-    let mut out = BytesMut::new(rt.alloc());
-    for fault in [
-        Fault::Command,
-        Fault::Format,
-        Fault::DataChunk,
-        Fault::TooLarge,
-        Fault::LineTooLong,
-        Fault::Expiry,
-    ] {
-        write_fault(&mut out, fault)?;
-    }
-    let wanted =
-        b"ERROR\r\nCLIENT_ERROR bad command line format\r\nCLIENT_ERROR bad data chunk\r\nSERVER_ERROR object too large for cache\r\nCLIENT_ERROR line too long\r\nCLIENT_ERROR expiry is not supported\r\n".as_slice();
-    assert_eq!(rt; out.as_slice(), wanted);
-    Ok(())
-}
-
-#[test]
 fn a_line_that_is_too_long_closes(rt: HostRuntime) -> Result<(), Fail> {
     let line = vec![in rt.alloc(); b'q'; 2048]?;
     let mut table = Table::new(rt.alloc());
@@ -219,128 +174,6 @@ fn a_line_that_is_too_long_closes(rt: HostRuntime) -> Result<(), Fail> {
     assert_eq!(rt; session.out(), b"CLIENT_ERROR line too long\r\n".as_slice());
     assert!(rt; session.feed(b"get a\r\n") == Err(ProtoFault::Closed));
     Ok(())
-}
-
-#[test]
-fn refused_add_takes_a_number(rt: HostRuntime) -> Result<(), Fail> {
-    check(
-        &rt,
-        b"set a 0 0 1\r\n1\r\nadd a 0 0 1\r\n2\r\nset a 0 0 1\r\n3\r\ngets a\r\n",
-        b"STORED\r\nNOT_STORED\r\nSTORED\r\nVALUE a 0 1 3\r\n3\r\nEND\r\n",
-    )
-}
-
-#[test]
-fn cas_outcomes(rt: HostRuntime) -> Result<(), Fail> {
-    check(
-        &rt,
-        b"set a 0 0 1\r\n1\r\nset a 0 0 1\r\n2\r\ncas a 0 0 1 1\r\n9\r\ncas b 0 0 1 1\r\n9\r\ncas a 0 0 1 2\r\n9\r\ngets a\r\n",
-        b"STORED\r\nSTORED\r\nEXISTS\r\nNOT_FOUND\r\nSTORED\r\nVALUE a 0 1 5\r\n9\r\nEND\r\n",
-    )
-}
-
-#[test]
-fn counters_wrap_and_stop(rt: HostRuntime) -> Result<(), Fail> {
-    check(
-        &rt,
-        b"set n 7 0 20\r\n18446744073709551615\r\nincr n 1\r\ngets n\r\nset m 0 0 1\r\n5\r\ndecr m 9\r\n",
-        b"STORED\r\n0\r\nVALUE n 7 1 2\r\n0\r\nEND\r\nSTORED\r\n0\r\n",
-    )
-}
-
-#[test]
-fn not_a_number(rt: HostRuntime) -> Result<(), Fail> {
-    check(
-        &rt,
-        b"set a 0 0 3\r\nabc\r\nincr a 1\r\nget a\r\nset b 0 0 20\r\n18446744073709551616\r\nincr b 1\r\n",
-        b"STORED\r\nCLIENT_ERROR cannot increment or decrement non-numeric value\r\nVALUE a 0 3\r\nabc\r\nEND\r\nSTORED\r\nCLIENT_ERROR cannot increment or decrement non-numeric value\r\n",
-    )
-}
-
-#[test]
-fn append_and_prepend(rt: HostRuntime) -> Result<(), Fail> {
-    check(
-        &rt,
-        b"set a 3 0 1\r\nm\r\nappend a 9 0 2\r\nno\r\nprepend a 9 0 1\r\n<\r\ngets a\r\n",
-        b"STORED\r\nSTORED\r\nSTORED\r\nVALUE a 3 4 3\r\n<mno\r\nEND\r\n",
-    )
-}
-
-#[test]
-fn absent_and_empty(rt: HostRuntime) -> Result<(), Fail> {
-    check(
-        &rt,
-        b"delete a\r\nset a 0 0 0\r\n\r\ndelete a\r\nappend a 0 0 1\r\nz\r\nincr a 1\r\n",
-        b"NOT_FOUND\r\nSTORED\r\nDELETED\r\nNOT_STORED\r\nNOT_FOUND\r\n",
-    )
-}
-
-// A fault is written even where its line said `noreply`.
-#[test]
-fn noreply_and_multi_get(rt: HostRuntime) -> Result<(), Fail> {
-    check(
-        &rt,
-        b"set a 0 0 1 noreply\r\n1\r\nset a 0 7 1 noreply\r\n2\r\nget a b a\r\n",
-        b"CLIENT_ERROR expiry is not supported\r\nVALUE a 0 1\r\n1\r\nVALUE a 0 1\r\n1\r\nEND\r\n",
-    )?;
-    check(
-        &rt,
-        b"set n 0 0 1 noreply\r\n1\r\nincr n 1 noreply\r\nincr n 1\r\ndecr n 1 noreply\r\ndecr n 1\r\ndelete n noreply\r\ndelete n\r\nset n 0 0 1 noreply\r\n12\r\n",
-        b"3\r\n1\r\nNOT_FOUND\r\nCLIENT_ERROR bad data chunk\r\nERROR\r\n",
-    )
-}
-
-#[test]
-fn quit_closes(rt: HostRuntime) -> Result<(), Fail> {
-    check(&rt, b"quit\r\nget a\r\n", b"")?;
-    let mut table = Table::new(rt.alloc());
-    let mut session = Session::new(rt.alloc());
-    session.feed(b"quit\r\nget a\r\n")?;
-    assert!(rt; !turn(&mut session, &mut table)?);
-    assert!(rt; session.feed(b"get a\r\n") == Err(ProtoFault::Closed));
-    assert!(rt; !turn(&mut session, &mut table)?);
-    assert_eq!(rt; session.out(), b"".as_slice());
-    Ok(())
-}
-
-#[test]
-fn flush_all(rt: HostRuntime) -> Result<(), Fail> {
-    check(
-        &rt,
-        b"set a 0 0 1\r\n1\r\nset b 0 0 1\r\n2\r\nflush_all\r\nget a b\r\nset a 0 0 1\r\n3\r\ngets a\r\n",
-        b"STORED\r\nSTORED\r\nOK\r\nEND\r\nSTORED\r\nVALUE a 0 1 4\r\n3\r\nEND\r\n",
-    )
-}
-
-#[test]
-fn flush_all_arguments(rt: HostRuntime) -> Result<(), Fail> {
-    check(
-        &rt,
-        b"flush_all 0\r\nflush_all noreply\r\nget a\r\n",
-        b"CLIENT_ERROR bad command line format\r\nEND\r\n",
-    )
-}
-
-#[test]
-fn larger_size_limit(rt: HostRuntime) -> Result<(), Fail> {
-    let alloc = rt.alloc();
-    let mut input = with_block(alloc, b"set a 0 0 1048576\r\n", 1048576, b"\r\n")?;
-    let refused = with_block(alloc, b"set b 0 0 1048577\r\n", 1048577, b"\r\n")?;
-    input.extend_from_slice(refused.as_slice())?;
-    input.extend_from_slice(b"append a 0 0 1\r\ny\r\nget b\r\n")?;
-    let wanted =
-        b"STORED\r\nSERVER_ERROR object too large for cache\r\nSERVER_ERROR object too large for cache\r\nEND\r\n";
-    check_large(&rt, input.as_slice(), wanted)
-}
-
-#[test]
-fn larger_items(rt: HostRuntime) -> Result<(), Fail> {
-    let alloc = rt.alloc();
-    let behind = b"\r\nappend b 0 0 1\r\ny\r\ngets b\r\n";
-    let input = with_block(alloc, b"set b 0 0 65537\r\n", 65537, behind)?;
-    let head = b"STORED\r\nSTORED\r\nVALUE b 0 65538 2\r\n";
-    let wanted = with_block(alloc, head, 65537, b"y\r\nEND\r\n")?;
-    check_large(&rt, input.as_slice(), wanted.as_slice())
 }
 
 // A number that is too large is a bad format, and its line alone is consumed. No block of 2^32 - 1 bytes comes here.

@@ -1,7 +1,7 @@
 //! The published face: the changes that steps give, done on a map, show what the node shows.
 
 use super::chains::{key, on, set};
-use crate::{Body, FaceChange, FaceStep, Input, Look, Node, Peer, Version, View};
+use node::{Body, FaceChange, FaceStep, Input, Look, Node, Peer, Version, View};
 use std::alloc::Global;
 use std::collections::BTreeMap;
 use std::test::Fail;

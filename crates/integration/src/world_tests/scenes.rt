@@ -1,10 +1,10 @@
 ghost use Rattle.std.specs.Prelude.{◌≡◌, ◌<◌, length, IfOk};
 
-use crate::{Event, Scene, SceneFault, Transcript, run};
 use bytes::Bytes;
 use std::alloc::Global;
 use std::test::Fail;
 use table::Reply;
+use world::{Event, Scene, SceneFault, Transcript, run};
 
 fn piece(alloc: Global, connection: usize, data: &[u8]) -> Result<Event, Fail> {
     Ok(Event::Piece(connection, Bytes::copy_from_slice(alloc, data)?))

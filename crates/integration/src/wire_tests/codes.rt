@@ -2,9 +2,9 @@
 
 use super::fronts::{Found, next_found};
 use super::ranges::row;
-use crate::Frames;
 use std::process::Abort;
 use std::test::Fail;
+use wire::Frames;
 
 // What stands behind the id of each operation on a key, and behind the number of entries with each reply and change.
 fn coded(place: usize) -> (u8, &'static [u8]) {

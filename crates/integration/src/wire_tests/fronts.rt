@@ -1,10 +1,10 @@
 //! What stands at the front of some bytes.
 
 use super::vectors::vector;
-use crate::{Frames, WireFault, encode};
 use std::alloc::Global;
 use std::process::Abort;
 use std::test::Fail;
+use wire::{Frames, WireFault, encode};
 
 // What stands at the front of some bytes.
 #[derive(Clone, Copy, Debug, PartialEq, Eq)]

@@ -1,7 +1,7 @@
 //! A chain of nodes, and the messages between them.
 
-use crate::{Input, Node, Output, Peer};
 use bytes::Bytes;
+use node::{Input, Node, Output, Peer};
 use std::alloc::Global;
 use std::collections::VecDeque;
 use std::test::Fail;
@@ -64,42 +64,4 @@ pub(super) fn step(chain: &mut Chain, i: u8, input: Input) -> Result<(), Fail> {
         }
     }
     Ok(())
-}
-
-// The first message from i to j comes.
-pub(super) fn deliver(chain: &mut Chain, i: u8, j: u8) -> Result<(), Fail> {
-    let place = chain
-        .sent
-        .iter()
-        .position(|sent| sent.0 == i && sent.1 == j)
-        .ok_or("a message")?;
-    let (_, _, peer) = chain.sent.remove(place).ok_or("a message")?;
-    step(chain, j, Input::From(i, peer))
-}
-
-// The first messages between these, one after the other.
-pub(super) fn deliver_all(chain: &mut Chain, links: &[(u8, u8)]) -> Result<(), Fail> {
-    for (i, j) in links {
-        deliver(chain, *i, *j)?;
-    }
-    Ok(())
-}
-
-// All messages come, in the order in which they were sent.
-pub(super) fn settle(chain: &mut Chain) -> Result<(), Fail> {
-    for _ in 0..100 {
-        let Some((i, j, peer)) = chain.sent.pop_front() else {
-            break;
-        };
-        step(chain, j, Input::From(i, peer))?;
-    }
-    Ok(())
-}
-
-// The data that the last reply shows.
-pub(super) fn shown(chain: &Chain) -> Option<&[u8]> {
-    match chain.replies.last() {
-        Some((_, Reply::Value(Some(item)))) => Some(item.bytes.as_slice()),
-        _ => None,
-    }
 }

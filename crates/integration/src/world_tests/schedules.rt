@@ -1,8 +1,8 @@
 //! Tests of schedules that are read from their text.
-use crate::{Event, ScheduleFault, read_schedule};
 use bytes::Bytes;
 use std::alloc::Global;
 use std::test::Fail;
+use world::{Event, ScheduleFault, read_schedule};
 
 fn piece(alloc: Global, connection: usize, data: &[u8]) -> Result<Event, Fail> {
     Ok(Event::Piece(connection, Bytes::copy_from_slice(alloc, data)?))

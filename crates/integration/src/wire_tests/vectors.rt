@@ -1,6 +1,5 @@
 //! The nine vectors, both ways.
 
-use crate::{Frame, Frames, encode, encode_onto};
 use bytes::{Bytes, BytesMut};
 use node::{Body, Peer, View};
 use std::alloc::Global;
@@ -8,6 +7,7 @@ use std::process::Abort;
 use std::test::Fail;
 use table::{Call, Change, Item, Key, Op, Reply, Target};
 use versions::Entry;
+use wire::{Frame, Frames, encode, encode_onto};
 
 fn key(alloc: Global, bytes: &[u8]) -> Result<Key, Fail> {
     Ok(Key::new(alloc, bytes)?.ok_or("a key")?)

@@ -1,0 +1,5 @@
+//! Tests over scenes, schedules and transcripts.
+
+mod printing;
+mod scenes;
+mod schedules;
