@@ -1,0 +1,52 @@
+"""The two C programs, and one run of the load generator."""
+import json
+import os
+import subprocess
+import sys
+from collections import namedtuple
+
+PARTS = os.path.dirname(os.path.abspath(__file__))
+PATIENCE = 120
+
+Load = namedtuple("Load", "rate p50 p99 p999 processor seconds")
+
+
+class Failed(Exception):
+    """A reply was wrong, missing or late."""
+
+
+def compiled(name, folder):
+    program = os.path.join(folder, name)
+    done = subprocess.run(["cc", "-O2", "-pthread", "-o", program, os.path.join(PARTS, f"{name}.c"), "-lm"])
+    if done.returncode != 0:
+        sys.exit(f"{name}.c isn't compiled")
+    return program
+
+
+class Generator:
+    """The load generator, and how many replies it has checked."""
+
+    def __init__(self, folder):
+        self.program, self.runs, self.replies, self.seed = compiled("load", folder), 0, 0, 0
+
+    def run(self, peer, size, *words):
+        """One run against this peer. Keys of different sizes have different prefixes, so that both can be there."""
+        self.seed += 1
+        words = [self.program, *peer.words(size), "--size", str(size), "--prefix", f"{size:04}", "--seed", str(self.seed), *map(str, words)]
+        try:
+            done = subprocess.run(words, stdout=subprocess.PIPE, text=True, timeout=PATIENCE + 60)
+        except subprocess.TimeoutExpired:
+            raise Failed(f"{peer.name}: not ended: {' '.join(words)}") from None
+        if not done.stdout:
+            raise Failed(f"{peer.name}: ended by {done.returncode}: {' '.join(words)}")
+        told = json.loads(done.stdout)
+        if told["errors"]:
+            raise Failed(f"{peer.name}: {told['errors']} wrong, first: {told['first_error']}: {' '.join(words)}")
+        count = told["gets"] + told["sets"]
+        self.runs += 1
+        self.replies += count
+        each = told["processor"] / count * 1e6 if count else 0.0
+        return Load(count / told["seconds"], told["p50"], told["p99"], told["p999"], each, told["seconds"])
+
+    def fill(self, peer, size, keys):
+        return self.run(peer, size, "--fill", "--keys", keys)

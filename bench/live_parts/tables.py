@@ -1,0 +1,102 @@
+"""What was measured, as plain text and as Markdown: tables are lists of rows of texts, the first row the head."""
+from live_parts.speeds import quartiles
+
+
+def plain(table):
+    widths = [max(len(row[place]) for row in table) for place in range(len(table[0]))]
+    return "\n".join("  ".join(text.rjust(width) for text, width in zip(row, widths)) for row in table)
+
+
+def markdown(table):
+    lines = ["| " + " | ".join(row) + " |" for row in table]
+    return "\n".join([lines[0], "|" + "---|" * len(table[0]), *lines[1:]])
+
+
+def case_texts(case):
+    return [case.mix, f"{case.size}", f"{case.connections}", f"{case.depth}"]
+
+
+CASE_HEAD = ["calls", "bytes", "connections", "in flight"]
+
+
+def short(number):
+    return f"{number:.2f}" if number < 10 else f"{number:,.0f}"
+
+
+def ratio_table(samples, cases, names, base):
+    """The base's calls a second, and the ratio of each other peer to it: the median, and the quartiles."""
+    table = [CASE_HEAD + [f"{base}, a second"] + [name for name in names if name != base]]
+    for case in cases:
+        if not samples.has(case, base):
+            continue
+        row = case_texts(case) + [f"{samples.median(case, base, 'rate'):,.0f}"]
+        for name in names:
+            ratios = samples.ratios(case, name, base)
+            if name != base and ratios:
+                low, middle, high = quartiles(ratios)
+                row.append(f"{short(middle)} ({short(low)} to {short(high)})")
+            elif name != base:
+                row.append("")
+        table.append(row)
+    return table
+
+
+def field_table(samples, cases, names, shown):
+    """Medians of each peer."""
+    table = [CASE_HEAD + list(names)]
+    for case in cases:
+        if any(samples.has(case, name) for name in names):
+            table.append(case_texts(case) + [shown(case, name) if samples.has(case, name) else "" for name in names])
+    return table
+
+
+def latency_table(samples, cases, names):
+    def shown(case, name):
+        return " / ".join(short(samples.median(case, name, field)) for field in ["p50", "p99", "p999"])
+    return field_table(samples, cases, names, shown)
+
+
+def processor_table(samples, cases, names):
+    def shown(case, name):
+        return f"{samples.median(case, name, 'processor'):.1f}"
+    return field_table(samples, cases, names, shown)
+
+
+def of_mix(mix, depth=None):
+    return lambda case: case.mix == mix and depth in (None, case.depth)
+
+
+def is_fast_get(case):
+    return case.mix == "get" and case.depth == 16 and case.size == 100 and case.connections >= 4
+
+
+def is_other_get(case):
+    return case.mix == "get" and case.depth == 16 and not is_fast_get(case)
+
+
+# What is asked: the peer, the one that it is compared with, the cases, and the least median ratio.
+TARGETS = [
+    ("get, one in flight", "craq, 1 server", "memcached", of_mix("get", 1), .95),
+    ("get, 16 in flight, 100 bytes, 4 connections or more", "craq, 1 server", "memcached", is_fast_get, 2),
+    ("get, 16 in flight, else", "craq, 1 server", "memcached", is_other_get, 1.3),
+    ("set, one in flight", "craq, 1 server", "memcached", of_mix("set", 1), .7),
+    ("set, 16 in flight", "craq, 1 server", "memcached", of_mix("set", 16), .3),
+    ("set, one in flight", "craq, 3 servers", "memcached", of_mix("set", 1), .4),
+    ("set", "craq, 3 servers", "redis", of_mix("set"), 1.3),
+    ("1 write in 10, one in flight", "craq, 3 servers", "memcached", of_mix("1 write in 10", 1), .75),
+]
+
+
+def target_table(samples, cases):
+    """For each target the least and the greatest of its cases' median ratios, and in how many cases it is met."""
+    table = [["calls", "of", "compared with", "asked", "least case", "greatest case", "met in"]]
+    for calls, name, base, suits, asked in TARGETS:
+        medians = [quartiles(ratios)[1] for case in cases if suits(case) for ratios in [samples.ratios(case, name, base)] if ratios]
+        if medians:
+            met = sum(median >= asked for median in medians)
+            table.append([calls, name, base, f"{asked}", short(min(medians)), short(max(medians)), f"{met} of {len(medians)} cases"])
+    return table
+
+
+def mebibytes(count):
+    return f"{count / 2**20:,.1f}"
