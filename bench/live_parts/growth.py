@@ -1,62 +1,92 @@
-"""What a call costs against the number of keys, of servers, and of updates of one key; and how long a flush makes clients wait."""
+"""What a call costs against the number of keys, of servers, and of updates of one key; how long a flush makes clients
+wait. Each count has fresh servers."""
 import socket
 import time
-from collections import namedtuple
+from contextlib import contextmanager
+from tempfile import TemporaryDirectory
 
-from live_parts.memory import opened
 from live_parts.peers import READY, Craq
 
 SIZE = 100
+ALONE, FOUR = [], ["--connections", 4, "--depth", 16]
 
-Waits = namedtuple("Waits", "flush set later")
+
+@contextmanager
+def filled(generator, peer, keys):
+    """The peer, running, with so many keys."""
+    with TemporaryDirectory() as folder:
+        peer.open(folder)
+        try:
+            generator.fill(peer, SIZE, keys)
+            yield peer
+        finally:
+            peer.end()
 
 
-def against_keys(generator, make, counts, seconds):
-    """For each count of keys: the loads of gets and of sets by one connection with one call open."""
-    rows = []
+def timed(generator, peer, sets, seconds, *words):
+    return generator.run(peer, SIZE, "--sets", sets, "--seconds", seconds, "--warm-up", seconds / 4, *words)
+
+
+def medians(loads):
+    """The median latency and the processor time of each."""
+    return [f"{number:.1f}" for load in loads for number in (load.p50, load.processor)]
+
+
+def keys_table(generator, makers, counts, seconds):
+    table = [["", "keys", "get, p50", "get, processor", "set, p50", "set, processor"]]
+    for name, make in makers.items():
+        for count in counts:
+            with filled(generator, make(), count) as peer:
+                loads = [timed(generator, peer, sets, seconds, "--keys", count) for sets in (0, 1)]
+            table.append([name, f"{count:,}", *medians(loads)])
+    return table
+
+
+def servers_table(generator, program, counts, seconds):
+    head = [f"{call}, {more}, {field}" for more in ("1 connection", "4 connections of 16 in flight")
+            for call in ("get", "set") for field in ("p50", "processor")]
+    table = [["servers", *head]]
     for count in counts:
-        peer = make()
-        with opened(peer):
-            try:
-                generator.fill(peer, SIZE, count)
-                words = ["--keys", count, "--seconds", seconds, "--warm-up", seconds / 4]
-                rows.append((count, generator.run(peer, SIZE, "--sets", 0, *words), generator.run(peer, SIZE, "--sets", 1, *words)))
-            finally:
-                peer.end()
-    return rows
+        with filled(generator, Craq(f"{count} servers", program, count), 10_000) as peer:
+            loads = [timed(generator, peer, sets, seconds, *more) for more in (ALONE, FOUR) for sets in (0, 1)]
+        table.append([f"{count}", *medians(loads)])
+    return table
 
 
-def against_servers(generator, program, counts, seconds):
-    """For each count of servers: gets and sets, by one connection, and by four with 16 calls open each."""
-    rows = []
-    for count in counts:
-        peer = Craq(f"{count} servers", program, count)
-        with opened(peer):
-            try:
-                generator.fill(peer, SIZE, 10_000)
-                words = ["--seconds", seconds, "--warm-up", seconds / 4]
-                rows.append((count, [generator.run(peer, SIZE, "--sets", sets, *more, *words)
-                                     for more in ([], ["--connections", 4, "--depth", 16]) for sets in (0, 1)]))
-            finally:
-                peer.end()
-    return rows
+def updates_table(generator, makers, counts):
+    table = [["", "updates", "an update", "processor", "p99.9"]]
+    for name, make in makers.items():
+        for count in counts:
+            with filled(generator, make(), 1) as peer:
+                words = ["--sets", 1, "--keys", 1, "--connections", 16, "--depth", 16, "--count", count]
+                load = generator.run(peer, SIZE, *words)
+            table.append([name, f"{count:,}", f"{1e6 / load.rate:.1f}", f"{load.processor:.1f}", f"{load.p999:,.0f}"])
+    return table
 
 
-def against_updates(generator, make, counts):
-    """For each count: so many updates of one key, by 16 connections with 16 calls open each."""
-    rows = []
-    for count in counts:
-        peer = make()
-        with opened(peer):
-            try:
-                generator.fill(peer, SIZE, 1)
-                rows.append((count, generator.run(peer, SIZE, "--sets", 1, "--keys", 1, "--connections", 16, "--depth", 16, "--count", count)))
-            finally:
-                peer.end()
-    return rows
+def flush_table(generator, makers, counts):
+    table = [["", "keys", "flush_all", "the set after it", "longest of 1,000 sets after that"]]
+    for name, make in makers.items():
+        for count in counts:
+            with filled(generator, make(), count) as peer:
+                waits = flush_waits(peer)
+            table.append([name, f"{count:,}", *(f"{wait:.2f}" for wait in waits)])
+    return table
 
 
-def asked(client, text, reply):
+def flush_waits(peer):
+    """The waits of a flush, of the set after it, and the longest of a thousand sets after that."""
+    with socket.create_connection(("127.0.0.1", peer.ports(SIZE)[0]), timeout=READY) as client:
+        client.setsockopt(socket.IPPROTO_TCP, socket.TCP_NODELAY, 1)
+        wait(client, b"set before 0 0 1\r\nx\r\n", b"STORED\r\n")
+        flush = wait(client, b"flush_all\r\n", b"OK\r\n")
+        first = wait(client, b"set after 0 0 1\r\nx\r\n", b"STORED\r\n")
+        wait(client, b"get before\r\n", b"END\r\n")
+        later = max(wait(client, b"set after%d 0 0 1\r\nx\r\n" % turn, b"STORED\r\n") for turn in range(1000))
+    return flush, first, later
+
+
+def wait(client, text, reply):
     """How long this request waits for this reply, in milliseconds."""
     begun, got = time.monotonic(), b""
     client.sendall(text)
@@ -68,20 +98,3 @@ def asked(client, text, reply):
     if got != reply:
         raise RuntimeError(f"{text!r} was answered {got!r}")
     return (time.monotonic() - begun) * 1000
-
-
-def flush_waits(generator, peer, keys):
-    """The waits of a flush of so many keys, of the set after it, and the longest of a thousand sets after that."""
-    with opened(peer):
-        try:
-            generator.fill(peer, SIZE, keys)
-            with socket.create_connection(("127.0.0.1", peer.ports(SIZE)[0]), timeout=READY) as client:
-                client.setsockopt(socket.IPPROTO_TCP, socket.TCP_NODELAY, 1)
-                asked(client, b"set before 0 0 1\r\nx\r\n", b"STORED\r\n")
-                flush = asked(client, b"flush_all\r\n", b"OK\r\n")
-                first = asked(client, b"set after 0 0 1\r\nx\r\n", b"STORED\r\n")
-                asked(client, b"get before\r\n", b"END\r\n")
-                later = max(asked(client, b"set after%d 0 0 1\r\nx\r\n" % turn, b"STORED\r\n") for turn in range(1000))
-            return Waits(flush, first, later)
-        finally:
-            peer.end()

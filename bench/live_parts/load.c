@@ -1,8 +1,8 @@
 /* load: a closed-loop load generator for servers that speak memcached's text protocol or redis' RESP.
  *
- * Each connection keeps --depth requests outstanding; a reply makes room for the next one. Connection i dials the port i
- * modulo the count of ports. Every value names its key and the write that made it, and its filler follows from these: so
- * each reply is checked whole. A wrong, short, missing, surplus or late one is an error. One line of JSON is printed.
+ * Each connection keeps --depth requests outstanding; a reply makes room for the next one. Connection i dials the port
+ * i modulo the count of ports. Every value names its key and the write that made it, and its filler follows from these:
+ * so each reply is checked whole. A wrong, missing, surplus or late one is an error. One line of JSON is printed.
  *
  * --pids names processes whose processor time is read at both ends of the counted time. --fill sets every key once, in
  * order, over one connection. --canned takes the block of bytes x that echo answers for each value.
@@ -342,7 +342,8 @@ static void finish(struct worker *w, struct connection *c, struct request *r, ui
 }
 
 /* A block of this length and its line end, after a line of so many bytes. */
-static enum eaten eat_block(struct worker *w, struct connection *c, size_t line, size_t length, const char *end, int key)
+static enum eaten eat_block(struct worker *w, struct connection *c, size_t line, size_t length, const char *end,
+                            int key)
 {
     const char *value = c->in + c->in_at + line;
     size_t tail = strlen(end);
@@ -391,8 +392,8 @@ static enum eaten eat_resp(struct worker *w, struct connection *c, struct reques
     const char *at = c->in + c->in_at;
     if (r->kind == GET && at[0] == '$' && at[1] != '-')
         return eat_block(w, c, line, strtoul(at + 1, NULL, 10), "\r\n", r->key);
-    bool right = r->kind == SET && (r->phase == FIRST_LINE ? is(at, line, "+OK\r\n") : at[0] == ':' && atoi(at + 1) >= wait_for);
-    if (!right)
+    bool right = r->phase == FIRST_LINE ? is(at, line, "+OK\r\n") : at[0] == ':' && atoi(at + 1) >= wait_for;
+    if (r->kind == GET || !right)
         fault(w, r->kind == GET ? "GET" : r->phase == FIRST_LINE ? "SET" : "WAIT", at, line);
     c->in_at += line;
     if (r->kind == SET && wait_for && r->phase == FIRST_LINE) {
@@ -479,12 +480,12 @@ static void arm(int poll, struct connection *c, int index)
     }
 }
 
-static int open_count(const struct worker *w)
+static bool has_open(const struct worker *w)
 {
-    int open = 0;
     for (int i = 0; i < w->count; i++)
-        open += is_open(&w->connections[i]);
-    return open;
+        if (is_open(&w->connections[i]))
+            return true;
+    return false;
 }
 
 static void begin(struct worker *w, int poll)
@@ -516,9 +517,9 @@ static void serve_event(struct worker *w, int poll, const struct epoll_event *ev
 static void *run(void *given)
 {
     struct worker *w = given;
-    int poll = epoll_create1(0), open;
+    int poll = epoll_create1(0);
     begin(w, poll);
-    while ((open = open_count(w)) > 0) {
+    while (has_open(w)) {
         struct epoll_event events[64];
         if (w->count == 1 && !w->connections[0].out_have) {      /* alone: a blocking read */
             turn(w, &w->connections[0], 0);
@@ -563,9 +564,9 @@ static void sleep_until(uint64_t t)
 /* ---- the command ---- */
 
 static const char *const USAGE =
-    "load --ports P[,P...] (--seconds S | --count N | --fill) [--connections 1] [--depth 1] [--keys 10000] [--size 100]\n"
-    "     [--sets 0.1] [--warm-up S] [--prefix key] [--seed 1] [--pids P[,P...]] [--patience 20] [--canned]\n"
-    "     [--resp [--wait-for N]]";
+    "load --ports P[,P...] (--seconds S | --count N | --fill) [--connections 1] [--depth 1] [--keys 10000]\n"
+    "     [--size 100] [--sets 0.1] [--warm-up S] [--prefix key] [--seed 1] [--pids P[,P...]] [--patience 20]\n"
+    "     [--canned] [--resp [--wait-for N]]";
 
 static int numbers(char *text, int *to, int most)
 {
@@ -605,10 +606,9 @@ static void read_words(int argc, char **argv)
         default: stop("usage: %s", USAGE);
         }
     }
-    bool right = port_count && connections >= 1 && connections <= MAX_CONNECTIONS && depth >= 1 && depth <= MAX_DEPTH &&
-        keys >= 1 && keys <= 999999999 && size >= 1 && size <= 1 << 20 && strlen(prefix) <= MAX_PREFIX && patience >= 1 &&
-        (fill || limit || seconds > 0);
-    if (!right)
+    bool counts = port_count && connections >= 1 && connections <= MAX_CONNECTIONS && depth >= 1 && depth <= MAX_DEPTH;
+    bool items = keys >= 1 && keys <= 999999999 && size >= 1 && size <= 1 << 20 && strlen(prefix) <= MAX_PREFIX;
+    if (!counts || !items || patience < 1 || !(fill || limit || seconds > 0))
         stop("usage: %s", USAGE);
 }
 
@@ -634,10 +634,11 @@ static void report(const struct worker *workers, int count, double took, uint64_
         add_histogram(&sum->times, &workers[i].times);
     }
     const struct histogram *times = &sum->times;
-    printf("{\"seconds\": %.6f, \"gets\": %llu, \"sets\": %llu, \"p50\": %.2f, \"p99\": %.2f, \"p999\": %.2f, "
-           "\"processor\": %.6f, \"errors\": %llu, \"first_error\": \"%s\"}\n",
-           took, (unsigned long long)sum->gets, (unsigned long long)sum->sets, quantile(times, .5), quantile(times, .99),
-           quantile(times, .999), (double)processor_ns / 1e9, (unsigned long long)sum->errors, sum->first_error);
+    printf("{\"seconds\": %.6f, \"gets\": %llu, \"sets\": %llu, \"p50\": %.2f, \"p99\": %.2f, \"p999\": %.2f, ", took,
+           (unsigned long long)sum->gets, (unsigned long long)sum->sets, quantile(times, .5), quantile(times, .99),
+           quantile(times, .999));
+    printf("\"processor\": %.6f, \"errors\": %llu, \"first_error\": \"%s\"}\n", (double)processor_ns / 1e9,
+           (unsigned long long)sum->errors, sum->first_error);
     exit(sum->errors ? 1 : 0);
 }
 

@@ -32,7 +32,8 @@ class Generator:
     def run(self, peer, size, *words):
         """One run against this peer. Keys of different sizes have different prefixes, so that both can be there."""
         self.seed += 1
-        words = [self.program, *peer.words(size), "--size", str(size), "--prefix", f"{size:04}", "--seed", str(self.seed), *map(str, words)]
+        own = ["--size", size, "--prefix", f"{size:04}", "--seed", self.seed]
+        words = [self.program, *peer.words(size), *map(str, [*own, *words])]
         try:
             done = subprocess.run(words, stdout=subprocess.PIPE, text=True, timeout=PATIENCE + 60)
         except subprocess.TimeoutExpired:

@@ -29,8 +29,8 @@ def overwritten(generator, peer, passes):
             generator.fill(peer, OVERWRITTEN_SIZE, OVERWRITTEN)
             shown, done = [peer.memory()], 0
             for whole in passes:
-                generator.run(peer, OVERWRITTEN_SIZE, "--sets", 1, "--connections", 4, "--depth", 16, "--keys", OVERWRITTEN,
-                              "--count", (whole - done) * OVERWRITTEN)
+                words = ["--sets", 1, "--connections", 4, "--depth", 16, "--keys", OVERWRITTEN]
+                generator.run(peer, OVERWRITTEN_SIZE, *words, "--count", (whole - done) * OVERWRITTEN)
                 done = whole
                 shown.append(peer.memory())
             return shown

@@ -122,8 +122,8 @@ class Redis(Peer):
         for place in range(3):
             port, own = self.first + place, os.path.join(folder, f"redis{self.first + place}")
             os.mkdir(own)
-            words = ["redis-server", "--bind", "127.0.0.1", "--port", str(port), "--dir", own, "--save", "", "--appendonly", "no",
-                     "--repl-diskless-sync-delay", "0"]
+            words = ["redis-server", "--bind", "127.0.0.1", "--port", str(port), "--dir", own, "--save", "",
+                     "--appendonly", "no", "--repl-diskless-sync-delay", "0"]
             if place:
                 words += ["--replicaof", "127.0.0.1", str(self.first)]
             self.start(words, stdout=subprocess.DEVNULL)
@@ -161,7 +161,8 @@ class Craq(Peer):
 
     def open(self, _folder):
         self.first = free_ports(self.servers)
-        words = [*self.program, "cluster", "--servers", str(self.servers), "--port", str(self.first), "--seats", str(SEATS)]
+        numbers = ["--servers", self.servers, "--port", self.first, "--seats", SEATS]
+        words = [*self.program, "cluster", *map(str, numbers)]
         process = self.start(words, stdin=subprocess.PIPE, stdout=subprocess.PIPE, text=True)
         if process.stdout.readline() != "ready\n":
             self.end()

@@ -11,7 +11,8 @@ MIXES = {"get": 0, "set": 1, "1 write in 10": .1}
 CONNECTIONS = [1, 4, 16]
 DEPTHS = [1, 16]
 KEYS = 10_000
-CASES = [Case(mix, size, connections, depth) for mix in MIXES for size in SIZES for depth in DEPTHS for connections in CONNECTIONS]
+CASES = [Case(mix, size, connections, depth)
+         for mix in MIXES for size in SIZES for depth in DEPTHS for connections in CONNECTIONS]
 
 
 class Samples:
@@ -58,7 +59,10 @@ def measure(generator, peers, cases, rounds, seconds, limit):
             for peer in peers[first:] + peers[:first]:
                 if time.monotonic() > until:
                     return samples
-                load = generator.run(peer, case.size, "--sets", MIXES[case.mix], "--connections", case.connections, "--depth", case.depth,
-                                     "--keys", KEYS, "--seconds", seconds, "--warm-up", max(.01, seconds / 8))
-                samples.add(case, peer.name, turn, load)
+                samples.add(case, peer.name, turn, one_run(generator, peer, case, seconds))
     return samples
+
+
+def one_run(generator, peer, case, seconds):
+    words = ["--sets", MIXES[case.mix], "--connections", case.connections, "--depth", case.depth, "--keys", KEYS]
+    return generator.run(peer, case.size, *words, "--seconds", seconds, "--warm-up", max(.01, seconds / 8))

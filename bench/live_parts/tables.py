@@ -91,10 +91,11 @@ def target_table(samples, cases):
     """For each target the least and the greatest of its cases' median ratios, and in how many cases it is met."""
     table = [["calls", "of", "compared with", "asked", "least case", "greatest case", "met in"]]
     for calls, name, base, suits, asked in TARGETS:
-        medians = [quartiles(ratios)[1] for case in cases if suits(case) for ratios in [samples.ratios(case, name, base)] if ratios]
+        ratios = [samples.ratios(case, name, base) for case in cases if suits(case)]
+        medians = [quartiles(each)[1] for each in ratios if each]
         if medians:
-            met = sum(median >= asked for median in medians)
-            table.append([calls, name, base, f"{asked}", short(min(medians)), short(max(medians)), f"{met} of {len(medians)} cases"])
+            met = f"{sum(median >= asked for median in medians)} of {len(medians)} cases"
+            table.append([calls, name, base, f"{asked}", short(min(medians)), short(max(medians)), met])
     return table
 
 
