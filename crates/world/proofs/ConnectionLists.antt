@@ -45,12 +45,12 @@ unfolding with_connection
 unserved_kept w c change unserved = ap (λ ks. record w { connections = ks }) (kept_unserved w w.connections c change unserved)
 
 -- a served connection is the one that is read
-served_at : (w : World) (ks : List Connection) (c : ℕ) (old : Connection) → home_lives w (slice_get ks c) ≡ true → old ≡ get_or ks c old → slice_get ks c ≡ Some old
+pub served_at : (w : World) (ks : List Connection) (c : ℕ) (old : Connection) → home_lives w (slice_get ks c) ≡ true → old ≡ get_or ks c old → slice_get ks c ≡ Some old
 served_at w [] c old served at_c = cc
 served_at w (k ∷ ks) zero old served at_c = ap Some (sym at_c)
 served_at w (k ∷ ks) (suc c) old served at_c = served_at w ks c old served at_c
 
-worked_one : (w : World) (c : ℕ) (o : Option Connection) (k : Connection) → o ≡ Some k → home_lives w o ≡ true → worked w c o ≡ sent_in w c k.home (to_work k.stage k)
+pub worked_one : (w : World) (c : ℕ) (o : Option Connection) (k : Connection) → o ≡ Some k → home_lives w o ≡ true → worked w c o ≡ sent_in w c k.home (to_work k.stage k)
 worked_one w c None k here served = cc
 worked_one w c (Some j) k here served = let same : j ≡ k = cc in
     ap (λ (b : Bool). cond b (sent_in w c j.home (to_work j.stage j)) w) served ∙ ap (λ (x : Connection). sent_in w c x.home (to_work x.stage x)) same

@@ -138,5 +138,8 @@ pub mod WorkedAloneOrder
 pub mod WorkedInTime
 pub mod WorkedInTimeOrder
 pub mod FailedServers
+pub mod LivingLaws
+pub mod Losses
+pub mod FailingRuns
 pub mod OrdinarySteps
 pub mod WorkedForgetting

@@ -26,3 +26,5 @@ pub mod OtherSteps
 pub mod WrongSteps
 pub mod ForgettingWorlds
 pub mod Awaited
+pub mod Refusals
+pub mod LivingParts

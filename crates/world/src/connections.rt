@@ -50,6 +50,7 @@ impl Connection {
     ghost use Rattle.std.specs.Prelude.{◌≡◌, OnOk, IfOk, IfErr, IfSome, MatchOption};
     ghost use Rattle.std.specs.Option.{option_copied};
     ghost use Rattle.node.specs.Lawful.{IsCall};
+    ghost use Rattle.world.specs.declared.connections.Stage.TheVariants.{Begun};
     ghost use Rattle.world.specs.Connections.{fresh, came, begun, open_call, to_work, asked, may_have, replied, handed};
     ghost use Rattle.world.specs.Quiet.{waits};
     ghost use Rattle.world.specs.Transcripts.{connection_shown};
@@ -100,21 +101,27 @@ impl Connection {
         self.home
     }
 
-    /// The call that was begun and not yet worked is with the server from now on: a clone of it, which shares its data.
-    pub fn ask(&mut self) -> Result<Option<Call>, AllocError>
-        ensures call { IfOk result (λ call. call ≡ to_work self.old.stage self.old) }
-        ensures stage { IfOk result (λ call. MatchOption call (self.new ≡ self.old) (λ _. self.new ≡ asked self.old)) }
+    /// The call that was begun and not yet worked: a clone of it, which shares its data.
+    pub fn to_work(&self) -> Result<Option<Call>, AllocError>
+        ensures call { IfOk result (λ call. call ≡ to_work self.now.stage self.now) }
         ensures fit { IfOk result (λ call. IfSome call IsCall) }
+        ensures begun { IfOk result (λ call. IfSome call (λ _. self.now.stage ≡ Begun)) }
     {
         let Stage::Begun = self.stage else {
             return Ok(None);
         };
-        let Some(call) = self.open_call() else {
-            return Ok(None);
-        };
-        let call = call.clone()?;
+        match self.open_call() {
+            Some(call) => Ok(Some(call.clone()?)),
+            None => Ok(None),
+        }
+    }
+
+    /// The call that was begun is with the server from now on.
+    pub fn ask(&mut self)
+        requires begun { self.old.stage ≡ Begun }
+        ensures { self.new ≡ asked self.old }
+    {
         self.stage = Stage::Asked;
-        Ok(Some(call))
     }
 
     /// Whether a call waits for its work, or a reply for its hand.

@@ -15,6 +15,7 @@ mod links;
 mod numbers;
 mod printing;
 mod quiet;
+mod refusals;
 mod scenes;
 mod schedules;
 mod servers;
@@ -34,6 +35,7 @@ pub use laws::{
     transcripts_show_the_calls,
 };
 pub use printing::print_transcript;
+pub use refusals::run_failing;
 pub use scenes::{Scene, run};
 pub use schedules::{Schedule, ScheduleFault, read_schedule};
 pub use text_laws::{

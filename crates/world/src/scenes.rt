@@ -107,6 +107,13 @@ impl Scene {
         self.world.is_quiet()
     }
 
+    /// The world alone.
+    pub(crate) fn into_world(self) -> World
+        ensures { result ≡ self.world }
+    {
+        self.world
+    }
+
     /// What is shown of it. Refused for want of memory alone. It copies the sent bytes once. Of a spoiled scene it is that of
     /// a world whose last event may be done by half.
     pub fn transcript(self, alloc: Global) -> Result<Transcript, AllocError>

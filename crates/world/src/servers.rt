@@ -1,7 +1,9 @@
 //! Servers: the nodes of a chain, seen as what each of them holds.
-ghost use Rattle.std.specs.Prelude.{◌≡◌, ◌<◌, ◌≤◌, length, slice_index_or, slice_set, [], IfOk, IfErr, OnOk, OnErr};
+ghost use Rattle.std.specs.Prelude.{◌≡◌, ◌<◌, ◌≤◌, length, slice_index_or, slice_set, IfOk, IfErr, OnOk, OnErr};
 ghost use Rattle.node.specs.Lawful.{IsInput, AreFit};
 ghost use Rattle.node.specs.Steps as steps;
+ghost use Rattle.node.specs.Servers.{opening};
+ghost use Rattle.node.specs.Nodes.{fresh};
 ghost use Rattle.world.specs.Worlds.{nobody, opening_servers};
 
 use crate::SceneFault;
@@ -12,6 +14,7 @@ use std::marker::Model;
 /// The servers of a chain: at most 16.
 #[derive(Drop)]
 pub struct Servers {
+    alloc: Global,
     nodes: Vec<Node>,
 }
 
@@ -39,12 +42,9 @@ impl Servers {
     {
         let mut nodes = Vec::with_capacity(alloc, usize::from(count))?;
         for id in 0..count {
-            match Node::new(alloc, id, count) {
-                Ok(node) => nodes.push(node)?,
-                Err(_) => unreachable!(),
-            }
+            nodes.push(opening_node(alloc, id, count))?;
         }
-        Ok(Servers { nodes })
+        Ok(Servers { alloc, nodes })
     }
 
     /// How many they are.
@@ -63,8 +63,8 @@ impl Servers {
         self.nodes[i].view()
     }
 
-    /// Server i takes an input, and puts out messages that may be given to servers. Where memory runs out, no server is left:
-    /// so none of these was ever stopped.
+    /// Server i takes an input, and puts out messages that may be given to servers. If memory runs out, it is as it was
+    /// before any input: so none of these is ever stopped.
     pub fn step(&mut self, i: usize, input: Input) -> Result<Vec<Output>, SceneFault>
         requires server { i < length self.old }
         requires input { IsInput input }
@@ -72,15 +72,29 @@ impl Servers {
         ensures outputs { IfOk result (λ outputs. outputs.items ≡ (steps.step (slice_index_or self.old i nobody) input).outputs) }
         ensures fit { IfOk result (λ outputs. AreFit outputs.items) }
         ensures only_memory { IfErr result (λ fault. fault ≡ SceneFault.Memory) }
-        ensures err { OnErr result (self.new ≡ []) }
+        ensures chain { i < 16 }
+        ensures err { OnErr result (self.new ≡ slice_set self.old i (opening i (length self.old))) }
     {
+        let count = self.nodes.len() as u8;
         match self.nodes[i].step(input) {
             Ok(outputs) => Ok(outputs),
             Err(NodeFault::Memory) => {
-                self.nodes.clear();
+                self.nodes[i] = opening_node(self.alloc, i as u8, count);
                 Err(SceneFault::Memory)
             }
             Err(NodeFault::Stopped | NodeFault::BadCount) => unreachable!(),
         }
+    }
+}
+
+// Server `id` of a chain of so many, before any input. It allocates nothing.
+fn opening_node(alloc: Global, id: u8, count: u8) -> Node
+    requires server { id < count }
+    requires chain { count ≤ 16 }
+    ensures { result ≡ fresh id count }
+{
+    match Node::new(alloc, id, count) {
+        Ok(node) => node,
+        Err(_) => unreachable!(),
     }
 }

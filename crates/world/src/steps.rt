@@ -1,8 +1,10 @@
 //! Steps: calls, messages and failures reach the servers of a world, and what they put out goes its ways.
-ghost use Rattle.std.specs.Prelude.{◌≡◌, ◌<◌, length, OnOk, IfErr};
+ghost use Rattle.std.specs.Prelude.{◌≡◌, ◌<◌, length, OnOk, IfOk, IfErr};
+ghost use Rattle.node.specs.Views.{union, single};
 ghost use Rattle.node.specs.Lawful.{IsInput, IsFit, AreFit};
 ghost use Rattle.world.specs.declared.events.Event.TheVariants.{Work, Deliver, Fail, Tell};
 ghost use Rattle.world.specs.Connections.{changed_at, replied};
+ghost use Rattle.world.specs.LivingParts.{Comes, Takes};
 ghost use Rattle.world.specs.Worlds as worlds;
 
 use crate::SceneFault;
@@ -12,35 +14,46 @@ use node::{Input, Output, View};
 use table::Reply;
 
 impl World {
-    /// The call that was begun goes to its server.
-    pub fn work(&mut self, c: usize) -> Result<(), SceneFault>
-        ensures ok { OnOk result (self.new ≡ worlds.happens self.old (Work c)) }
+    /// The call that was begun goes to its server. The server, if its step was refused, so that it has failed instead.
+    pub fn work(&mut self, c: usize) -> Result<Option<usize>, SceneFault>
+        ensures ok { IfOk result (λ refused. Comes self.old (Work c) refused self.new) }
         ensures only_memory { IfErr result (λ fault. fault ≡ SceneFault.Memory) }
         ensures connections { length self.new.connections ≡ length self.old.connections }
     {
         if !self.home_lives(c) {
-            return Ok(());
+            return Ok(None);
         }
-        let connection = &mut self.connections[c];
+        let connection = &self.connections[c];
         let home = connection.home();
-        match connection.ask()? {
-            Some(call) => self.take(home, Input::Call(c, call)),
-            None => Ok(()),
+        let Some(call) = connection.to_work()? else {
+            return Ok(None);
+        };
+        match self.servers.step(home, Input::Call(c, call)) {
+            Ok(outputs) => {
+                self.connections[c].ask();
+                self.put_all(home, outputs)?;
+                Ok(None)
+            }
+            Err(_) => {
+                self.lose(home);
+                Ok(Some(home))
+            }
         }
     }
 
-    /// The first message of the link from server i to server j is delivered.
-    pub fn deliver(&mut self, i: usize, j: usize) -> Result<(), SceneFault>
-        ensures ok { OnOk result (self.new ≡ worlds.happens self.old (Deliver i j)) }
+    /// The first message of the link from server i to server j is delivered. Server j, if its step was refused, so that
+    /// it has failed instead; the message is gone then.
+    pub fn deliver(&mut self, i: usize, j: usize) -> Result<Option<usize>, SceneFault>
+        ensures ok { IfOk result (λ refused. Comes self.old (Deliver i j) refused self.new) }
         ensures only_memory { IfErr result (λ fault. fault ≡ SceneFault.Memory) }
         ensures connections { length self.new.connections ≡ length self.old.connections }
     {
         if !self.lives(j) {
-            return Ok(());
+            return Ok(None);
         }
         match self.links.pop(i, j) {
             Some(message) => self.take(j, Input::From(i as u8, message)),
-            None => Ok(()),
+            None => Ok(None),
         }
     }
 
@@ -49,33 +62,51 @@ impl World {
         ensures { self.new ≡ worlds.happens self.old (Fail i) }
     {
         if self.lives(i) {
-            self.failed = self.failed.union(View::single(i as u8));
+            self.lose(i);
         }
     }
 
-    /// Server i is told that server j has failed.
-    pub fn tell(&mut self, i: usize, j: usize) -> Result<(), SceneFault>
-        ensures ok { OnOk result (self.new ≡ worlds.happens self.old (Tell i j)) }
+    /// Server i is told that server j has failed. Server i, if its step was refused, so that it has failed instead.
+    pub fn tell(&mut self, i: usize, j: usize) -> Result<Option<usize>, SceneFault>
+        ensures ok { IfOk result (λ refused. Comes self.old (Tell i j) refused self.new) }
         ensures only_memory { IfErr result (λ fault. fault ≡ SceneFault.Memory) }
         ensures connections { length self.new.connections ≡ length self.old.connections }
     {
         if self.lives(i) && self.has_failed(j) {
-            self.take(i, Input::Gone(j as u8))?;
+            self.take(i, Input::Gone(j as u8))
+        } else {
+            Ok(None)
         }
-        Ok(())
     }
 
-    // Server i takes an input, and what it puts out goes its ways.
+    // Server i takes an input, and what it puts out goes its ways. The server, if its step was refused, so that it is
+    // lost.
     #[tactic(auto, unfolding(crate::specs::Worlds::server, crate::specs::Worlds::with_server))]
-    fn take(&mut self, i: usize, input: Input) -> Result<(), SceneFault>
+    fn take(&mut self, i: usize, input: Input) -> Result<Option<usize>, SceneFault>
         requires server { i < length self.old.servers }
         requires input { IsInput input }
-        ensures ok { OnOk result (self.new ≡ worlds.takes self.old i input) }
+        ensures ok { IfOk result (λ refused. Takes self.old i input refused self.new) }
         ensures only_memory { IfErr result (λ fault. fault ≡ SceneFault.Memory) }
         ensures connections { length self.new.connections ≡ length self.old.connections }
     {
-        let outputs = self.servers.step(i, input)?;
-        self.put_all(i, outputs)
+        match self.servers.step(i, input) {
+            Ok(outputs) => {
+                self.put_all(i, outputs)?;
+                Ok(None)
+            }
+            Err(_) => {
+                self.lose(i);
+                Ok(Some(i))
+            }
+        }
+    }
+
+    // Server i, which is one of the chain, has failed.
+    fn lose(&mut self, i: usize)
+        requires chain { i < 16 }
+        ensures { self.new ≡ record self.old { failed = union self.old.failed (single i) } }
+    {
+        self.failed = self.failed.union(View::single(i as u8));
     }
 
     // Outputs of server i, in order.

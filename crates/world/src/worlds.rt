@@ -2,6 +2,7 @@
 ghost use Rattle.std.specs.Prelude.{◌≡◌, ◌<◌, ◌≤◌, true, length, map, slice_get, IsTrue, OnOk, IfOk, IfErr};
 ghost use Rattle.world.specs.declared.events.Event.TheVariants.{Piece, Begin, Hand};
 ghost use Rattle.world.specs.Connections.{fresh};
+ghost use Rattle.world.specs.LivingParts.{Comes};
 ghost use Rattle.world.specs.Worlds as worlds;
 
 use crate::connections::Connection;
@@ -54,18 +55,29 @@ impl World {
         ensures only_memory { IfErr result (λ fault. fault ≡ SceneFault.Memory) }
         ensures connections { length self.new.connections ≡ length self.old.connections }
     {
-        match event {
-            Event::Piece(c, bytes) => self.piece(*c, bytes.as_slice()),
-            Event::Begin(c) => self.begin(*c),
-            Event::Work(c) => self.work(*c),
-            Event::Deliver(i, j) => self.deliver(*i, *j),
-            Event::Fail(i) => {
-                self.fail(*i);
-                Ok(())
-            }
-            Event::Tell(i, j) => self.tell(*i, *j),
-            Event::Hand(c) => self.hand(*c),
+        match self.attempt(event)? {
+            None => Ok(()),
+            Some(_) => Err(SceneFault::Memory),
         }
+    }
+
+    /// What an event does. The server whose step it is, if that was refused for want of memory, so that the server has
+    /// failed instead. Any other refusal is an error.
+    pub fn attempt(&mut self, event: &Event) -> Result<Option<usize>, SceneFault>
+        ensures ok { IfOk result (λ refused. Comes self.old event.now refused self.new) }
+        ensures only_memory { IfErr result (λ fault. fault ≡ SceneFault.Memory) }
+        ensures connections { length self.new.connections ≡ length self.old.connections }
+    {
+        match event {
+            Event::Piece(c, bytes) => self.piece(*c, bytes.as_slice())?,
+            Event::Begin(c) => self.begin(*c)?,
+            Event::Work(c) => return self.work(*c),
+            Event::Deliver(i, j) => return self.deliver(*i, *j),
+            Event::Fail(i) => self.fail(*i),
+            Event::Tell(i, j) => return self.tell(*i, *j),
+            Event::Hand(c) => self.hand(*c)?,
+        }
+        Ok(None)
     }
 
     /// Whether server i is one of the chain, and hasn't failed.

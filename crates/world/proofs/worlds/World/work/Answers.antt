@@ -1,23 +1,42 @@
-use Rattle.std.proofs.Common.{◌≡◌, sym, ◌∙◌, subst, true, OnOk, Some, None}
+use Rattle.std.proofs.Common.{◌≡◌, sym, ap, ◌∙◌, true, Some, None}
 use Rattle.std.specs.Prelude.{slice_get}
 use Rattle.world.specs.Connections.{to_work, asked}
-use Rattle.world.specs.Worlds.{World, home_lives}
-use Rattle.world.proofs.ConnectionLists.{call_worked, none_worked}
+use Rattle.world.specs.Worlds.{home_lives}
+use Rattle.world.specs.LivingParts.{living_part}
+use Rattle.world.proofs.Losses.{one_place, worked_comes, worked_lost, unworked}
 use Rattle.world.proofs.worlds.World.work.Goals as goal
 
-pub returns-in-Some-clause-ok : goal.returns-in-Some-clause-ok
-returns-in-Some-clause-ok c =
-    let served : home_lives c.args.self.now (slice_get c.args.self.now.connections c.args.c) ≡ true = sym c.home_lives.ensures ∙ c.if-not-home_lives.false in
-    let old = c.index_mut-connection.result.now in
+pub returns-in_ok-put_all-in-Ok-clause-ok : goal.returns-in_ok-put_all-in-Ok-clause-ok
+returns-in_ok-put_all-in-Ok-clause-ok c =
+    let served : home_lives c.args.self.now (slice_get c.args.self.now.connections c.args.c)
+    ≡ true = sym c.home_lives.ensures
+    ∙ c.if-not-home_lives.false in
+    let old = c.index-connection.result.now in
     let call_is : Some c.in-Some.call ≡ to_work old.stage old = sym c.in-Some.is ∙ c.in_ok-call.ensures.call in
-    let asked_is : c.ask.new.self ≡ asked old = rw c.in-Some.is at c.in_ok-call.ensures.stage in
-    subst (λ (x : World). OnOk c.take.result (c.take.new.self ≡ x))
-    (call_worked _ _ c.self.view_is c.args.c c.home-home.result old c.ask.new.self c.in-Some.call served c.index_mut-connection.ensures.value c.home-home.ensures call_is asked_is) c.take.ensures.ok
+    let same = one_place _ _ c.self.view_is c.args.c c.index_mut.result.now old served c.index_mut.ensures.value
+    c.index-connection.ensures in
+    let asked_is : c.ask.new.self ≡ asked old = c.ask.ensures ∙ ap asked same in
+    c.in_ok-put_all-in-Ok.ensures.ok
+    ∙ worked_comes _ _ c.self.view_is c.args.c c.home-home.result old c.ask.new.self c.in-Some.call c.step.new.self
+    c.in-Ok.outputs.items served c.index-connection.ensures c.home-home.ensures call_is asked_is
+    c.in-Ok.ensures.state c.in-Ok.ensures.outputs
 
-pub returns-in-None-clause-ok : goal.returns-in-None-clause-ok
-returns-in-None-clause-ok c =
-    let served : home_lives c.args.self.now (slice_get c.args.self.now.connections c.args.c) ≡ true = sym c.home_lives.ensures ∙ c.if-not-home_lives.false in
-    let old = c.index_mut-connection.result.now in
-    let none : None ≡ to_work old.stage old = sym c.in-None.is ∙ c.in_ok-call.ensures.call in
-    let kept : c.ask.new.self ≡ old = rw c.in-None.is at c.in_ok-call.ensures.stage in
-    none_worked _ _ c.self.view_is c.args.c old c.ask.new.self served c.index_mut-connection.ensures.value none kept
+pub returns-in-Err-clause-ok : goal.returns-in-Err-clause-ok
+returns-in-Err-clause-ok c =
+    let served : home_lives c.args.self.now (slice_get c.args.self.now.connections c.args.c)
+    ≡ true = sym c.home_lives.ensures
+    ∙ c.if-not-home_lives.false in
+    let old = c.index-connection.result.now in
+    let call_is : Some c.in-Some.call ≡ to_work old.stage old = sym c.in-Some.is ∙ c.in_ok-call.ensures.call in
+    let comes = worked_lost _ _ c.self.view_is c.args.c c.home-home.result old c.in-Some.call c.step.new.self served
+    c.index-connection.ensures c.home-home.ensures call_is c.in-Err.ensures.err in
+    (comes.0, ap living_part c.lose.ensures ∙ comes.1)
+
+pub returns-in_default-clause-ok : goal.returns-in_default-clause-ok
+returns-in_default-clause-ok c =
+    let served : home_lives c.args.self.now (slice_get c.args.self.now.connections c.args.c)
+    ≡ true = sym c.home_lives.ensures
+    ∙ c.if-not-home_lives.false in
+    let old = c.index-connection.result.now in
+    let none : None ≡ to_work old.stage old = sym c.in_default.is ∙ c.in_ok-call.ensures.call in
+    unworked _ _ c.self.view_is c.args.c old served c.index-connection.ensures none

@@ -1,0 +1,7 @@
+use Rattle.std.proofs.Common.{take}
+use Rattle.world.specs.LivingParts.{IsFailingRun}
+use Rattle.world.proofs.worlds.World.attempt_all.Given as goal
+
+-- so far these events have happened or been refused
+abbrev pub invariant-loop-place : goal.invariant-loop-place
+invariant-loop-place l = IsFailingRun l.fn.self (take l.place l.events) l.refused.items l.self
