@@ -1,5 +1,3 @@
 pub mod Shown
 pub mod Found
 pub mod Parsers
-pub mod Seated
-pub mod Linked

@@ -3,5 +3,3 @@ pub mod Commands
 pub mod Faults
 pub mod Scenarios
 pub mod Programs
-pub mod SeatCallers
-pub mod InProcessLinks

@@ -3,12 +3,10 @@ ghost use Rattle.std.specs.Prelude.{◌≡◌, ◌≤◌, true, IfOk};
 ghost use Rattle.node.specs.Nodes.{is_idle};
 
 use crate::doors::serve_seats;
-use crate::in_process_links::{InProcessLinks, Link};
-use crate::marks::Mark;
-use crate::seat_callers::SeatCaller;
 use crate::working::work;
 use node::{Master, Node};
 use rail::{Inlet, Server, Stand, Worker, open};
+use seats::{InProcessLinks, Link, Mark, SeatCaller};
 use serving::ServeFault;
 use std::alloc::{AllocError, AllocFailed, Global};
 use std::net::{Ipv4Addr, Net, TcpListener, TcpStream};

@@ -1,7 +1,7 @@
 //! Doors: threads that accept connections, and serve each whole before the next.
 
-use crate::marks::Mark;
 use ends::{TrackedReader, TrackedWriter};
+use seats::Mark;
 use serving::{Caller, ServeFault, serve_stream};
 use std::alloc::Global;
 use std::net::{TcpListener, TcpStream};

@@ -1,7 +1,7 @@
 //! A worker's thread.
 
-use crate::marks::Mark;
 use rail::{Links, RailFault, Turn, Worker};
+use seats::Mark;
 use std::sync::Wait;
 
 /// Takes the worker's turns until it is told to end. It sets the mark as soon as the server is stopped, or out of memory, or

@@ -1,8 +1,8 @@
 use Rattle.std.proofs.Common.{◌≡◌, ◌∷◌, ◌++◌, []}
 use Rattle.node.specs.declared.messages.Input.TheVariants.{Call as Called}
 use Rattle.rail.specs.declared.events.Event.TheVariants.{Took}
-use Rattle.craq.proofs.Seated.{sent_if, submitted}
-use Rattle.craq.proofs.seat_callers.exchange.Goals as goal
+use Rattle.seats.proofs.Seated.{sent_if, submitted}
+use Rattle.seats.proofs.seat_callers.exchange.Goals as goal
 
 pub returns-then-matches-reads-clause-submitted : goal.returns-then-matches-reads-clause-submitted
 returns-then-matches-reads-clause-submitted g c =

@@ -5,7 +5,7 @@ use Rattle.node.specs.declared.messages.Input.{Input}
 use Rattle.node.specs.declared.messages.Input.TheVariants.{Call as Called, From, Gone}
 use Rattle.rail.specs.declared.events.Event.{Event}
 use Rattle.rail.specs.declared.events.Event.TheVariants.{Took, Stop, End}
-use Rattle.craq.specs.declared.in_process_links.Link.{Link}
+use Rattle.seats.specs.declared.in_process_links.Link.{Link}
 
 -- whether each link has failed, as a count: the link to a server that isn't there has failed
 abbrev pub failures_at : List Link → ℕ → ℕ

@@ -4,8 +4,8 @@ use Rattle.node.specs.declared.messages.Peer.{Peer}
 use Rattle.node.specs.declared.messages.Input.TheVariants.{From}
 use Rattle.rail.specs.declared.events.Event.{Event}
 use Rattle.rail.specs.declared.events.Event.TheVariants.{Took}
-use Rattle.craq.specs.declared.in_process_links.Link.{Link}
-use Rattle.craq.specs.InProcessLinks.{before_last, failures_at, last_brought, last_put, sent_by, sent_on, without_last}
+use Rattle.seats.specs.declared.in_process_links.Link.{Link}
+use Rattle.seats.specs.InProcessLinks.{before_last, failures_at, last_brought, last_put, sent_by, sent_on, without_last}
 
 -- after one event more the last one is that
 last_of : (to : ℕ) (i : ℕ) (peer : Peer) (es : List Event) → last_brought to (es ++ Took (From i peer) ∷ []) ≡ (to, peer) ∷ []

@@ -9,7 +9,7 @@ use Rattle.faces.specs.Outputs.{PutsOut}
 use Rattle.faces.proofs.Beginnings.{prefix_trans}
 use Rattle.rail.specs.declared.events.Event.TheVariants.{Took}
 use Rattle.rail.specs.Seats.{SeatState}
-use Rattle.craq.specs.SeatCallers.{IsSubmitted}
+use Rattle.seats.specs.SeatCallers.{IsSubmitted}
 
 -- what is later than a later course is later
 later_then : (first second third : Course) → IsLater first second → IsLater second third → IsLater first third

@@ -6,7 +6,7 @@ ghost use Rattle.versions.specs.Stores.{coded_items};
 ghost use Rattle.table.specs.Operations.{Fits, Suits, is_update, is_value};
 ghost use Rattle.node.specs.Lawful.{IsCall};
 ghost use Rattle.faces.specs.Courses.{IsLater};
-ghost use Rattle.craq.specs.SeatCallers.{IsSeen, IsSubmitted, ShowsClean};
+ghost use Rattle.seats.specs.SeatCallers.{IsSeen, IsSubmitted, ShowsClean};
 
 use crate::marks::Mark;
 use ends::Failures;

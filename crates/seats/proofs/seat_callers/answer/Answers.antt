@@ -1,6 +1,6 @@
 use Rattle.std.proofs.Common.{inr}
-use Rattle.craq.proofs.Seated.{submitted_then}
-use Rattle.craq.proofs.seat_callers.answer.Goals as goal
+use Rattle.seats.proofs.Seated.{submitted_then}
+use Rattle.seats.proofs.seat_callers.answer.Goals as goal
 
 pub returns-in-Ok-clause-answered : goal.returns-in-Ok-clause-answered
 returns-in-Ok-clause-answered g c =

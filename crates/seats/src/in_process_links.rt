@@ -1,7 +1,7 @@
 //! Links between the servers of one process: a message is brought into the other server's inbox.
 ghost use Rattle.std.specs.Prelude.{◌≡◌, ◌≤◌, ◌<◌, ◌∷◌, [], ℕ, nat_lt, OnOk, OnErr, IfErr};
 ghost use Rattle.node.specs.Lawful.{IsBody};
-ghost use Rattle.craq.specs.InProcessLinks.{before_last, failures_at, last_put, sent_on};
+ghost use Rattle.seats.specs.InProcessLinks.{before_last, failures_at, last_put, sent_on};
 
 use boxcar::tag::{Names, Tag};
 use node::Peer;
@@ -32,7 +32,7 @@ impl Link {
     ghost use Rattle.node.specs.Lawful.{IsBody};
     ghost use Rattle.node.specs.declared.messages.Input.TheVariants.{From};
     ghost use Rattle.rail.specs.declared.events.Event.TheVariants.{Took};
-    ghost use Rattle.craq.specs.InProcessLinks.{sent_by};
+    ghost use Rattle.seats.specs.InProcessLinks.{sent_by};
 
     /// A link that hasn't failed, or has if there is no inlet.
     pub fn new(inlet: Option<Inlet>) -> Link {
@@ -72,7 +72,7 @@ impl<R: Wait + Drop> InProcessLinks<R> {
 }
 
 impl<R: Wait + Drop> Links for InProcessLinks<R> {
-    ghost use Rattle.craq.specs.InProcessLinks.{all_put, failures_at, sent_on};
+    ghost use Rattle.seats.specs.InProcessLinks.{all_put, failures_at, sent_on};
 
     ghost list = { λ s. all_put s.receivers (sent_on s.links.items) };
 

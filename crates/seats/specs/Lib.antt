@@ -1,0 +1,2 @@
+pub mod SeatCallers
+pub mod InProcessLinks
