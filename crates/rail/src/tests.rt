@@ -14,24 +14,31 @@ use std::thread;
 use std::time::{Clock, Duration};
 use table::{Call, Item, Key, Op, Reply, Target};
 
-// Links that were never up.
+// Links that are down.
 #[derive(Drop)]
-struct Down;
+struct Down {
+    failures: u64,
+}
 
 impl Links for Down {
     ghost use Rattle.std.specs.Prelude.{[]};
 
     ghost list = { λ s. [] };
 
-    ghost failures = { λ s j. 1 };
+    ghost failures = { λ s j. s.failures };
 
     fn failed(&self, _to: u8) -> bool {
-        true
+        self.failures > 0
     }
 
     fn put(&mut self, _published: &Published, _to: u8, _peer: &Peer) -> Result<(), RailFault> {
+        self.failures = 1;
         Err(RailFault::LinkDown)
     }
+}
+
+fn no_links() -> Down {
+    Down { failures: 1 }
 }
 
 fn key(alloc: Global, bytes: &[u8]) -> Result<Key, Fail> {
@@ -87,9 +94,9 @@ fn reader_sees_its_own_write(rt: HostRuntime) -> Result<(), Fail> {
     let mut stand = server.stands.pop().ok_or("a stand")?;
     let call = set_of_a(alloc)?;
     assert!(rt; stand.seat.submit(&rt, call).is_ok());
-    assert!(rt; server.worker.turn(&mut Down)? == Turn::Went);
+    assert!(rt; server.worker.turn(&mut no_links())? == Turn::Went);
     assert!(rt; sees_its_write(&rt, alloc, &mut stand)?);
-    assert!(rt; server.worker.turn_if_any(&mut Down)?.is_none());
+    assert!(rt; server.worker.turn_if_any(&mut no_links())?.is_none());
     Ok(())
 }
 
@@ -193,9 +200,9 @@ fn stop_ends_open_calls(rt: HostRuntime) -> Result<(), Fail> {
     let mut stand = server.stands.pop().ok_or("a stand")?;
     let mut inlet = server.inlets.pop().ok_or("an inlet")?;
     assert!(rt; submits(&rt, alloc, &mut stand)?);
-    assert!(rt; server.worker.turn(&mut Down)? == Turn::Went);
+    assert!(rt; server.worker.turn(&mut no_links())? == Turn::Went);
     inlet.stop(&rt)?;
-    assert!(rt; server.worker.turn(&mut Down)? == Turn::Stopped);
+    assert!(rt; server.worker.turn(&mut no_links())? == Turn::Stopped);
     assert!(rt; is_closed(&rt, &mut stand));
     Ok(())
 }
@@ -208,8 +215,8 @@ fn worker_ends(rt: HostRuntime) -> Result<(), Fail> {
     let mut inlet = server.inlets.pop().ok_or("an inlet")?;
     inlet.gone(&rt, 1)?;
     inlet.end(&rt)?;
-    assert!(rt; server.worker.turn(&mut Down)? == Turn::Went);
-    assert!(rt; server.worker.turn(&mut Down)? == Turn::End);
+    assert!(rt; server.worker.turn(&mut no_links())? == Turn::Went);
+    assert!(rt; server.worker.turn(&mut no_links())? == Turn::End);
     drop(server);
     assert!(rt; !submits(&rt, alloc, &mut stand)?);
     assert!(rt; is_closed(&rt, &mut stand));
@@ -231,6 +238,6 @@ fn senders_go_first(rt: HostRuntime) -> Result<(), Fail> {
     } = open(rt, alloc, idle_node(alloc, 2)?, 1, 1)?;
     drop(stands);
     drop(inlets);
-    assert!(rt; matches!(worker.turn(&mut Down), Err(RailFault::Closed)));
+    assert!(rt; matches!(worker.turn(&mut no_links()), Err(RailFault::Closed)));
     Ok(())
 }
