@@ -1,4 +1,4 @@
-"""What the benchmarks share: sets as bytes, schedules as files, and the processor time of a run."""
+"""Shared by the benchmarks: sets as bytes, schedules as files, and the cost of a run."""
 import os
 import re
 import resource
@@ -17,7 +17,7 @@ if sys.argv[1:] and not COUNTING:
 
 
 def finished(words, **how):
-    """A run of these words that has ended."""
+    """Runs this command, and waits until it has ended."""
     try:
         return subprocess.run(words, text=True, **how)
     except OSError as fault:
@@ -25,14 +25,14 @@ def finished(words, **how):
 
 
 def build():
-    """Builds the program where that has to be, and runs it once."""
+    """Builds the program if it has to be built, and runs it once."""
     built = finished([os.path.join(TOP, "craq"), "scenario", EXAMPLE], stdout=subprocess.DEVNULL)
     if built.returncode != 0:
         sys.exit("craq isn't built")
 
 
 def build_crate(crate, *words):
-    """Builds a program that only benchmarks use, and runs it once on these words. Gives the program's path."""
+    """Builds a program that only benchmarks use, and runs it once with these arguments. Gives its path."""
     folder = os.path.join(TOP, "crates", crate)
     built = finished(["rt", "run", "--", *words], cwd=folder, stdout=subprocess.PIPE, stderr=subprocess.STDOUT)
     if built.returncode != 0:
@@ -41,7 +41,7 @@ def build_crate(crate, *words):
 
 
 def pipelined_sets(size, data=100):
-    """At least `size` bytes of sets with so many bytes of data each: the bytes, and where each request ends."""
+    """At least `size` bytes of sets with `data` bytes of data each: the bytes, and where each request ends."""
     text, ends = bytearray(), []
     while len(text) < size:
         text += b"set key%05d 0 0 %d\r\n" % (len(ends) % 100000, data)
@@ -55,7 +55,7 @@ def escaped(piece):
 
 
 def in_pieces(text, ends, length, connection=0):
-    """A schedule in which the bytes come in pieces of this length, and each request is answered once it is whole."""
+    """A schedule in which the bytes come in pieces of this length, and each request is answered when complete."""
     lines, answered = ["servers 1\nhomes 0\n"], 0
     for at in range(0, len(text), length):
         lines.append(f"piece {connection} {escaped(text[at:at + length])}\n")
@@ -72,7 +72,7 @@ def processor_seconds():
 
 
 def least(words):
-    """The processor time of these words, the least of some runs."""
+    """The processor time of this command, the least of RUNS runs."""
     least = float("inf")
     for _ in range(RUNS):
         start = processor_seconds()
@@ -84,7 +84,7 @@ def least(words):
 
 
 def counted(words):
-    """How many instructions these words take, by valgrind: the same at each run, whatever else runs."""
+    """How many instructions this command takes, by valgrind: the same at each run, whatever else runs."""
     valgrind = ["valgrind", "--tool=callgrind", "--callgrind-out-file=/dev/null", *words]
     done = finished(valgrind, stdout=subprocess.DEVNULL, stderr=subprocess.PIPE)
     found = re.search(r"Collected : (\d+)", done.stderr)
@@ -94,7 +94,7 @@ def counted(words):
 
 
 def on_file(schedule, measure):
-    """A measure of the program on this schedule."""
+    """Measures the program on this schedule."""
     with tempfile.NamedTemporaryFile("w", suffix=".schedule") as file:
         file.write(schedule)
         file.flush()

@@ -1,8 +1,8 @@
-"""Clients of a running chain, what they did and saw, and the judge of it. Talks to 127.0.0.1 alone.
+"""Clients of a running chain, and a judge of what they did and saw. Connects to 127.0.0.1 alone.
 
-Each client raises one shared counter, sets keys that it alone writes, and reads the keys of the others. A key's values are numbered by
-their writer, so the judge sees in which order they were written. A client whose connection is closed goes on at a living server with a
-new key: a call that got no reply may still act later, or never.
+Each client increments one shared counter, sets keys that only it writes, and reads the keys of the others. A key's
+writer numbers its values, so the judge sees in which order they were written. If its connection is closed, a client
+continues at a living server with a new key: a call that got no reply may still act later, or never.
 """
 import random
 import socket
@@ -17,7 +17,7 @@ class Closed(Exception):
 
 
 class Wrong(Exception):
-    """A reply that is none of the protocol's, or none within the limit."""
+    """A reply that isn't in the protocol, or no reply within the limit."""
 
 
 class Connection:
@@ -86,7 +86,7 @@ class Connection:
 
 
 class Call:
-    """One call: what it was, when it began, and when and with what it was answered, if it was."""
+    """One call: what it was, when it began, and when and how it was answered, if it was."""
 
     def __init__(self, kind, key, number=None):
         self.kind, self.key, self.number = kind, key, number
@@ -97,7 +97,7 @@ class Call:
 
 
 class Client(threading.Thread):
-    """A client that makes so many rounds of calls at one server, and moves to the next living one if it is closed."""
+    """A client that makes its rounds of calls at one server, and moves to a living one if its connection is closed."""
 
     def __init__(self, name, chain, home, rounds, counter, shared):
         super().__init__(daemon=True)
@@ -115,7 +115,7 @@ class Client(threading.Thread):
             self.fault = f"client {self.name}: {fault!r}"
 
     def at_a_server(self, left):
-        """Rounds at one server until they are done or it closes the connection. Gives the rounds that are left."""
+        """Makes rounds at one server until they are done or it closes the connection. Gives the number left."""
         key = b"%s.%d" % (self.name.encode(), self.moves)
         self.shared.append(key)
         try:
@@ -156,7 +156,7 @@ def version(found, key):
 
 
 def judge_counter(calls, faults):
-    """Each answered increment has a number of its own, later ones greater ones, and none is lost or done twice."""
+    """Each answered increment has its own number, later ones have greater ones, and none is lost or done twice."""
     increments = [c for c in calls if c.kind == "incr"]
     answered = [c for c in increments if c.ended is not None]
     finals = [c for c in calls if c.kind == "count"]
@@ -169,7 +169,9 @@ def judge_counter(calls, faults):
 
 
 def judge_order(seen, what, faults):
-    """A call that begins after another was answered shows no older state, and an increment a newer one: each call with what it showed."""
+    """A call that begins after another was answered shows no older state, and an increment shows a newer one.
+
+    `seen` has each call with the number that it showed."""
     steps = []
     for call, number in seen:
         steps.append((call.begun, 1, number - (call.kind == "incr")))
@@ -184,7 +186,7 @@ def judge_order(seen, what, faults):
 
 
 def judge_key(key, calls, faults):
-    """What was read of a key was written, and no read or write goes back before one that was answered."""
+    """Every value read of a key was written, and no read or write goes back before one that was answered."""
     begun = {c.number: c.begun for c in calls if c.kind == "set"}
     uniques, seen = {}, []
     for call in calls:
@@ -239,8 +241,9 @@ def judge(chain, clients, counter):
 
 
 def run_clients(chain, rounds, at_each, phase, fail=None):
-    """Clients at each living server, with a failure of server `fail` once a third of the calls was made. Gives what is wrong, and the
-    number of calls."""
+    """Runs clients at each living server, and fails server `fail` after a third of the calls.
+
+    Gives what is wrong, and the number of calls."""
     counter, shared = b"n%d" % phase, []
     first = Connection(chain.ports[living(chain)[0]])
     if first.call(b"set %s 0 0 1\r\n0\r\n" % counter) != b"STORED":

@@ -1,10 +1,11 @@
 #!/usr/bin/env python3
-"""A second model of the chain: prints a schedule's transcript by the rules of docs/CHAIN.md, docs/PROTOCOL.md and docs/FORMATS.md.
-
-It is written from these pages alone, in their order and with their words: the schedule, the protocol, the operations, one server
-of the chain, a connection, the world of all of them, the transcript. tools/random_schedules compares the program with it.
+"""A second model of the chain: prints the transcript of a schedule.
 
 usage: tools/chain_model.py FILE
+
+It is written from docs/CHAIN.md, docs/PROTOCOL.md and docs/FORMATS.md alone, with their words: the schedule, the
+protocol, the operations, one server of the chain, a connection, the world of all of them, the transcript.
+tools/random_schedules compares the program with it.
 """
 import re
 import sys
@@ -15,14 +16,14 @@ MOST_DATA = 1_048_576
 LONGEST_LINE = 2_048
 
 
-# The schedule (FORMATS.md): its events are pairs and triples, of a name and its numbers or bytes.
+# The schedule (FORMATS.md). An event is a pair or a triple: a name, and its numbers or bytes.
 
 class BadLine(Exception):
     """The number of the first bad line of a schedule."""
 
 
 def number_in(field, first, end):
-    """The value of a decimal number without leading zeros, where it is from `first` to below `end`."""
+    """The value of a decimal number without leading zeros, if it is at least `first` and below `end`."""
     if not re.fullmatch(rb"0|[1-9][0-9]{0,9}", field):
         return None
     return int(field) if first <= int(field) < end else None
@@ -32,7 +33,7 @@ ESCAPE = rb"\\(\\|r|n|x[0-9a-f]{2})"
 
 
 def unescaped(text):
-    """The bytes that a TEXT spells; None where it has a byte beside its escapes that doesn't stand for itself."""
+    """The bytes that a TEXT spells; None if a byte outside its escapes doesn't stand for itself."""
     if re.search(rb"[^ -\[\]-~]", re.sub(ESCAPE, b"", text)):
         return None
     return re.sub(ESCAPE, byte_of_escape, text)
@@ -44,7 +45,7 @@ def byte_of_escape(found):
 
 
 def read_schedule(text):
-    """How many servers there are, the home of each connection, and all events."""
+    """The number of servers, the home of each connection, and all events."""
     lines = text.split(b"\n")
     if lines[-1] == b"":
         lines.pop()
@@ -71,7 +72,7 @@ def read_schedule(text):
 
 
 def events_of(line, count, connections):
-    """The events of a line, or None where it is bad."""
+    """The events of a line, or None if it is bad."""
     word, space, rest = line.partition(b" ")
     if not space:
         return None
@@ -108,7 +109,7 @@ def fill_event(rest):
 
 
 def event_of_numbers(word, rest, ends):
-    """An event of as many numbers as there are ends, each below its own."""
+    """An event with one number for each of `ends`, below it; or None."""
     fields = rest.split(b" ")
     numbers = [number_in(field, 0, end) for field, end in zip(fields, ends)]
     return [(word.decode(), *numbers)] if len(fields) == len(ends) and None not in numbers else None
@@ -121,7 +122,7 @@ def settling(count, connections):
     return of_servers + [(word, connection) for word in ("work", "hand") for connection in range(connections)]
 
 
-# The protocol (PROTOCOL.md): what stands at the front of a connection's unread bytes.
+# The protocol (PROTOCOL.md): what is at the front of a connection's unread bytes.
 
 class Fault(NamedTuple):
     text: bytes
@@ -159,18 +160,18 @@ def is_key(field):
 
 
 def digits(field, end):
-    """The value of a field of digits, leading zeros among them, where it is below `end`."""
+    """The value of a field of digits, which may have leading zeros, if it is below `end`."""
     return int(field) if re.fullmatch(rb"[0-9]+", field) and int(field) < end else None
 
 
 def without_noreply(fields, wanted):
-    """The fields without a `noreply` behind as many as are wanted, and whether it stood there."""
+    """The fields without a `noreply` after the `wanted` first ones, and whether there was one."""
     is_silent = len(fields) == wanted + 1 and fields[-1] == b"noreply"
     return (fields[:-1] if is_silent else fields), is_silent
 
 
 def front(unread):
-    """A request or a fault, and how many bytes it consumes; or None where nothing whole has come."""
+    """A request or a fault, and how many bytes it consumes; or None if none is complete."""
     line_feed = unread.find(b"\n", 0, LONGEST_LINE)
     if line_feed < 0:
         return (LINE_TOO_LONG, LONGEST_LINE) if len(unread) >= LONGEST_LINE else None
@@ -243,7 +244,7 @@ def counter(data):
 
 
 def decide(item, operation, number):
-    """The reply of the update of this number to the key's item, and its change: KEEP, DROP, CLEAR, or the item that is put."""
+    """The reply and the change of the update of this number: KEEP, DROP, CLEAR, or the item that is put."""
     word, *arguments = operation
     if word == "flush_all":
         return b"OK", CLEAR
@@ -302,7 +303,7 @@ class Pending(NamedTuple):
 
 
 class Ask(NamedTuple):
-    """An open version query: a read of one of this server's clients, and what was acknowledged when it was asked."""
+    """An open version query: a read of one of this server's clients, and the commit number when it was asked."""
     id: int
     connection: int
     key: bytes
@@ -326,7 +327,7 @@ class Server:
         self.asks, self.next_ask = [], 1
         self.messages, self.replies = [], []
 
-    # Places in the row, by the server's own view.
+    # Neighbours, by the server's own view.
 
     def living(self):
         return [id for id in range(self.count) if id not in self.view]
@@ -358,7 +359,7 @@ class Server:
         self.replies.append((connection, answer))
 
     def put_out(self):
-        """The messages and replies since the last call of this."""
+        """The messages and replies since this was last called."""
         messages, replies = self.messages, self.replies
         self.messages, self.replies = [], []
         return messages, replies
@@ -404,14 +405,14 @@ class Server:
             self.pass_on()
 
     def pass_on(self):
-        """The newest entry is committed at the tail, and goes down the chain elsewhere."""
+        """The tail commits the newest entry; any other server forwards it."""
         if self.is_tail():
             self.acknowledge(self.last())
         else:
             self.send(self.successor(), "forward", self.log[-1])
 
     def acknowledge(self, number):
-        """The replies of this server's own updates up to the number are handed out, and the acknowledgement goes up the chain."""
+        """This server's own updates up to the number get their replies, and the predecessor is told."""
         for entry in self.log[self.acknowledged:number]:
             if entry.origin == self.id:
                 self.answer_pending(entry)
@@ -499,7 +500,7 @@ class Server:
         self.ask_again(tail)
 
     def promote_to_head(self, head_before):
-        """Step 2: a new head takes its own unanswered updates; where another server is the new head, it gets them again."""
+        """Step 2: a new head takes its own unanswered updates; another server that is the new head is sent them again."""
         if self.head() == head_before:
             return
         for id, _, key, operation in self.pending:
@@ -509,14 +510,14 @@ class Server:
                 self.enter(self.id, id, key, operation)
 
     def promote_to_tail(self):
-        """Step 3: all that the tail has logged is committed. Says whether this was more than before."""
+        """Step 3: the tail commits its whole log. Says whether its commit number rose."""
         commits = self.is_tail() and self.last() > self.acknowledged
         if commits:
             self.acknowledge(self.last())
         return commits
 
     def catch_up_successor(self, successor_before, last_before):
-        """Step 4: every entry that isn't acknowledged to a new successor; to the same one, those that step 2 appended."""
+        """Step 4: a new successor is sent all entries above the commit number, the old one those of step 2."""
         if self.successor() is None:
             return
         sent = last_before if self.successor() == successor_before else self.acknowledged
@@ -524,12 +525,12 @@ class Server:
             self.send(self.successor(), "forward", entry)
 
     def acknowledge_to_predecessor(self, predecessor_before):
-        """Step 5."""
+        """Step 5: a new predecessor is told the commit number."""
         if self.predecessor() not in (None, predecessor_before):
             self.send(self.predecessor(), "ack", self.acknowledged)
 
     def ask_again(self, tail_before):
-        """Step 6: a new tail answers its open queries itself; where another server is the new tail, it gets them again."""
+        """Step 6: a new tail answers its open queries itself; another server that is the new tail is sent them again."""
         if self.tail() == tail_before:
             return
         for ask in self.asks:
@@ -564,7 +565,7 @@ class Connection:
             self.unread += text
 
     def begin(self):
-        """The next call begins; faults in front of it are passed, and their lines written."""
+        """The next call begins. Faults before it are passed, and their lines written."""
         if self.call is not None:
             return
         while not self.reads and not self.closed:
@@ -614,11 +615,11 @@ class Connection:
         return b"VALUE %s %d %d%s\r\n%s\r\n" % (self.call.key, item.flags, len(item.data), unique, item.data)
 
     def waits(self):
-        """A call waits for its work, or a reply for its hand."""
+        """Whether a call waits for `work`, or a reply for `hand`."""
         return self.call is not None and not self.is_worked or self.reply is not None
 
 
-# The world: servers, links and connections (CHAIN.md, "How a world joins servers"). Each event is a method of its name.
+# The world: servers, links and connections (CHAIN.md, "How a world joins servers"). Each event is a method.
 
 class World:
     def __init__(self, count, homes):
@@ -632,7 +633,7 @@ class World:
         getattr(self, name)(*arguments)
 
     def moving(self, number):
-        """The connection of this number, in a list of one; none where it isn't there, or its home has failed."""
+        """A list of the connection of this number; empty if there is none, or its home has failed."""
         return [connection for connection in self.connections[number:number + 1] if connection.home not in self.failed]
 
     def piece(self, number, text):
@@ -670,7 +671,7 @@ class World:
             self.carry(self.servers[i])
 
     def carry(self, server):
-        """What a server has put out: messages to the ends of its links, replies to its connections."""
+        """Puts a server's messages at the ends of its links, and its replies at its connections."""
         messages, replies = server.put_out()
         for to, message in messages:
             self.links[server.id, to].append(message)
