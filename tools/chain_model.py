@@ -500,7 +500,7 @@ class Server:
         self.ask_again(tail)
 
     def promote_to_head(self, head_before):
-        """Step 2: a new head takes its own unanswered updates; another server that is the new head is sent them again."""
+        """Step 2: a new head takes its own unanswered updates; another new head is sent them again."""
         if self.head() == head_before:
             return
         for id, _, key, operation in self.pending:
@@ -530,7 +530,7 @@ class Server:
             self.send(self.predecessor(), "ack", self.acknowledged)
 
     def ask_again(self, tail_before):
-        """Step 6: a new tail answers its open queries itself; another server that is the new tail is sent them again."""
+        """Step 6: a new tail answers its open queries itself; another new tail is sent them again."""
         if self.tail() == tail_before:
             return
         for ask in self.asks:
