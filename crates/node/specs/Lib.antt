@@ -6,6 +6,7 @@ pub mod Reading
 pub mod Joining
 pub mod Steps
 pub mod Faces
+pub mod Standings
 pub mod Masters
 pub mod Lawful
 pub mod Nodes

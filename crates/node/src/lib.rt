@@ -12,6 +12,7 @@ mod nodes;
 mod numbering;
 mod reading;
 mod servers;
+mod standings;
 mod steps;
 mod views;
 
@@ -25,4 +26,6 @@ pub use looks::Look;
 pub use masters::{Master, MasterFault};
 pub use messages::{Body, Input, Output, Peer};
 pub use nodes::{Node, NodeFault};
+pub use servers::{OpenRead, OpenUpdate};
+pub use standings::Standing;
 pub use views::View;

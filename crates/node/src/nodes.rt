@@ -5,6 +5,7 @@ ghost use Rattle.node.specs.Steps as steps;
 ghost use Rattle.node.specs.Lawful.{IsInput, IsLawful, AreToOthers, AreFit};
 ghost use Rattle.node.specs.Nodes.{running, fresh};
 ghost use Rattle.node.specs.Nodes as nodes;
+ghost use Rattle.node.specs.Standings.{entries_by};
 ghost use Rattle.node.specs.Faces.{peeked, look_copied, look_at, face_of, face_changed, steps_by, acked_by};
 
 use crate::servers::Server;
@@ -14,6 +15,7 @@ use std::alloc::{AllocError, Global};
 use std::marker::Model;
 use table::{Item, Key};
 use thiserror::Error;
+use versions::Entry;
 
 /// Why a node refuses a call.
 #[derive(Clone, Copy, Debug, PartialEq, Eq, Error)]
@@ -137,6 +139,27 @@ impl Node {
         }
         self.stopped = true;
         let step = self.server.step_face(input)?;
+        self.stopped = false;
+        Ok(step)
+    }
+
+    /// The same step as `step`, and copies of the entries that it appends, which share their data. Refused as `step` is.
+    pub fn step_logged(&mut self, input: Input) -> Result<(Vec<Output>, Vec<Entry>), NodeFault>
+        requires input { IsInput input }
+        ensures state { OnOk result (self.new ≡ running (steps.step self.old.server input).state) }
+        ensures outputs { IfOk result (λ found. found.0.items ≡ (steps.step self.old.server input).outputs) }
+        ensures fit { IfOk result (λ found. AreFit found.0.items) }
+        ensures entries { IfOk result (λ found. found.1.items ≡ entries_by self.old.server input) }
+        ensures stopped { IsErrOf result NodeFault.Stopped ↔ (self.old.stopped ≡ true) }
+        ensures unchanged { IsErrOf result NodeFault.Stopped → self.new ≡ self.old }
+        ensures stops { OnErr result (self.new.stopped ≡ true) }
+        ensures fault { IfErr result (λ fault. fault ≢ NodeFault.BadCount) }
+    {
+        if self.stopped {
+            return Err(NodeFault::Stopped);
+        }
+        self.stopped = true;
+        let step = self.server.step_logged(input)?;
         self.stopped = false;
         Ok(step)
     }

@@ -12,20 +12,26 @@ use versions::Store;
 
 /// An own update call without a reply.
 #[derive(Debug, Drop)]
-pub(crate) struct OpenUpdate {
-    pub(crate) id: u64,
-    pub(crate) port: usize,
-    pub(crate) call: Call,
+pub struct OpenUpdate {
+    /// Its id at this server.
+    pub id: u64,
+    /// The port at which its reply is wanted.
+    pub port: usize,
+    /// The call.
+    pub call: Call,
 }
 
 /// An own read that waits for the tail's answer.
 #[derive(Debug, Drop)]
-pub(crate) struct OpenRead {
-    pub(crate) ask: u64,
-    pub(crate) port: usize,
-    pub(crate) key: Key,
+pub struct OpenRead {
+    /// The number of its ask.
+    pub ask: u64,
+    /// The port at which its reply is wanted.
+    pub port: usize,
+    /// The key.
+    pub key: Key,
     /// The acknowledged number when it was asked.
-    pub(crate) mark: u64,
+    pub mark: u64,
 }
 
 /// What one server holds.

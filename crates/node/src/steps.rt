@@ -3,11 +3,14 @@ ghost use Rattle.std.specs.Prelude.{◌≡◌, ◌<◌, ◌≤◌, ◌++◌, OnO
 ghost use Rattle.node.specs.Lawful.{IsCall, IsBody, IsInput, IsSound, IsLawful, HoldsEntry, AreToOthers, AreFit};
 ghost use Rattle.node.specs.Steps as steps;
 ghost use Rattle.node.specs.Faces.{face_changed, face_of, steps_by, acked_by};
+ghost use Rattle.node.specs.Standings.{entries_by};
+ghost use Rattle.versions.specs.Stores.{last_number, entries_after};
 
 use crate::servers::Server;
 use crate::{Body, FaceChange, Input, Output, Peer, View};
 use std::alloc::AllocError;
 use table::Call;
+use versions::Entry;
 
 impl Server {
     /// One step: what the input does, and then the floor.
@@ -50,6 +53,40 @@ impl Server {
         let change = self.change_after(before)?;
         self.trim();
         Ok((outputs, change))
+    }
+
+    /// The same step, and the entries that it appends.
+    pub(crate) fn step_logged(
+        &mut self,
+        input: Input,
+    ) -> Result<(Vec<Output>, Vec<Entry>), AllocError>
+        requires lawful { IsLawful self.old }
+        requires input { IsInput input }
+        ensures state { OnOk result (self.new ≡ (steps.step self.old input).state) }
+        ensures outputs { IfOk result (λ found. found.0.items ≡ (steps.step self.old input).outputs) }
+        ensures lawful { OnOk result (IsLawful self.new) }
+        ensures fit { IfOk result (λ found. AreFit found.0.items) }
+        ensures entries { IfOk result (λ found. found.1.items ≡ entries_by self.old input) }
+    {
+        hold_entry(&input);
+        let before = self.store.last();
+        let mut outputs = Vec::new(self.alloc);
+        self.take_in(input, &mut outputs)?;
+        let entries = self.entries_above(before)?;
+        self.trim();
+        Ok((outputs, entries))
+    }
+
+    // Copies of the entries above a number, in order. They share their data.
+    fn entries_above(&self, above: u64) -> Result<Vec<Entry>, AllocError>
+        requires above { (self.now.store.floor ≤ above) × (above ≤ last_number self.now.store) }
+        ensures { IfOk result (λ entries. entries.items ≡ entries_after self.now.store above) }
+    {
+        let mut entries = Vec::new(self.alloc);
+        for entry in self.store.entries_after(above) {
+            entries.push(entry.clone()?)?;
+        }
+        Ok(entries)
     }
 
     // What an input does, but for the floor.

@@ -143,6 +143,13 @@ impl Session {
         self.out.as_slice()
     }
 
+    /// Whether it is closed: it takes no further bytes.
+    pub fn is_closed(&self) -> bool
+        ensures { result ≡ self.now.closed }
+    {
+        self.closed
+    }
+
     /// Takes the first n bytes of the output away, n at most the output's length, in constant time.
     pub fn taken(&mut self, n: usize)
         requires { n ≤ length self.old.out }

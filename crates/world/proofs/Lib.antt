@@ -17,6 +17,8 @@ pub mod Rounds
 pub mod Standing
 pub mod FaultLaws
 pub mod ConnectionLists
+pub mod DeedLaws
+pub mod ToldSteps
 pub mod ServerLists
 pub mod LinkLists
 pub mod AllBelow

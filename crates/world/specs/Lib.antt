@@ -7,6 +7,7 @@ pub mod EventLines
 pub mod Schedules
 pub mod SpelledSchedules
 pub mod Connections
+pub mod Waiting
 pub mod Lawful
 pub mod Links
 pub mod Worlds
@@ -14,6 +15,8 @@ pub mod Scenes
 pub mod Quiet
 pub mod Transcripts
 pub mod Printing
+pub mod ServerSteps
+pub mod Deeds
 pub mod Calls
 pub mod Orders
 pub mod Sent

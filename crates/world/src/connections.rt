@@ -53,6 +53,7 @@ impl Connection {
     ghost use Rattle.world.specs.declared.connections.Stage.TheVariants.{Begun};
     ghost use Rattle.world.specs.Connections.{fresh, came, begun, open_call, to_work, asked, may_have, replied, handed};
     ghost use Rattle.world.specs.Quiet.{waits};
+    ghost use Rattle.world.specs.Waiting.{is_idle, waiting_reply};
     ghost use Rattle.world.specs.Transcripts.{connection_shown};
 
     /// A connection at this server. It allocates nothing.
@@ -179,6 +180,30 @@ impl Connection {
         ensures { result.now ≡ self.now.session.out }
     {
         self.session.out()
+    }
+
+    /// Whether its session takes no further bytes.
+    pub fn is_closed(&self) -> bool
+        ensures { result ≡ self.now.session.closed }
+    {
+        self.session.is_closed()
+    }
+
+    /// Whether no call is open.
+    pub fn is_idle(&self) -> bool
+        ensures { result ≡ is_idle self.now.stage }
+    {
+        matches!(self.stage, Stage::Idle)
+    }
+
+    /// The reply that waits for the connection: a clone of it, which shares its data.
+    pub fn waiting_reply(&self) -> Result<Option<Reply>, AllocError>
+        ensures { IfOk result (λ reply. reply ≡ waiting_reply self.now.stage) }
+    {
+        match &self.stage {
+            Stage::Replied(reply) => Ok(Some(reply.clone()?)),
+            _ => Ok(None),
+        }
     }
 
     /// What is shown of it.

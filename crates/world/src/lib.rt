@@ -3,6 +3,7 @@
 
 mod connections;
 mod cuts;
+mod deeds;
 mod escapes;
 mod event_lines;
 mod events;
@@ -22,10 +23,13 @@ mod servers;
 mod settling;
 mod steps;
 mod text_laws;
+mod tracing;
 mod transcripts;
 pub mod worked;
 mod worlds;
 
+pub use deeds::{Deed, ServerStep};
+pub use escapes::push_escaped;
 pub use events::Event;
 pub use faults::SceneFault;
 pub use head_lines::{MOST_HOMES, MOST_SERVERS};
@@ -42,4 +46,5 @@ pub use text_laws::{
     escaped_bytes_are_read_back, first_bad_line_is_named, one_meaning_of_a_text,
     sent_text_tells_what_was_sent, spelled_bytes_are_read, spelled_schedules_are_read,
 };
+pub use tracing::{Trace, traced_run};
 pub use transcripts::{CallTranscript, ConnectionTranscript, Transcript};

@@ -1,5 +1,6 @@
 //! Links: the messages on their way from each server to each.
 ghost use Rattle.std.specs.Prelude.{◌≡◌, ◌<◌, ◌≤◌, [], ◌∷◌, ◌++◌, drop, length, replicate, slice_get, slice_index_or, slice_set, IfOk, IfSome, OnOk};
+ghost use Rattle.std.specs.Option.{option_copied};
 ghost use Rattle.node.specs.Lawful.{IsBody};
 ghost use Rattle.world.specs.Links.{messages_between, with_messages, is_empty};
 
@@ -52,6 +53,13 @@ impl Link {
         ensures message { IfSome result (λ m. IsBody m.body) }
     {
         self.messages.pop_front()
+    }
+
+    /// Its k-th message, from 0 on, if it has so many.
+    pub fn message(&self, k: usize) -> Option<&Peer>
+        ensures { option_copied result ≡ slice_get self.now k }
+    {
+        self.messages.get(k)
     }
 
     /// Whether it has no message.
@@ -110,6 +118,16 @@ impl Row {
             self.links[j].pop()
         } else {
             None
+        }
+    }
+
+    /// The k-th message of the link to server j, if there are so many.
+    pub fn message(&self, j: usize, k: usize) -> Option<&Peer>
+        ensures { option_copied result ≡ slice_get (slice_index_or self.now j []) k }
+    {
+        match self.links.get(j) {
+            Some(link) => link.message(k),
+            None => None,
         }
     }
 
@@ -177,6 +195,16 @@ impl Links {
             self.rows[i].pop(j)
         } else {
             None
+        }
+    }
+
+    /// The k-th message of the link from server i to server j, if there are so many.
+    pub fn message(&self, i: usize, j: usize, k: usize) -> Option<&Peer>
+        ensures { option_copied result ≡ slice_get (messages_between self.now i j) k }
+    {
+        match self.rows.get(i) {
+            Some(row) => row.message(j, k),
+            None => None,
         }
     }
 

@@ -180,13 +180,13 @@ pub fn run(
     Ok(scene.transcript(alloc)?)
 }
 
-fn is_count(count: usize) -> bool
+pub(crate) fn is_count(count: usize) -> bool
     ensures { result ≡ is_count count }
 {
     1 <= count && count <= SERVERS
 }
 
-fn are_homes(count: usize, homes: &[usize]) -> bool
+pub(crate) fn are_homes(count: usize, homes: &[usize]) -> bool
     ensures { result ≡ are_homes count homes.now }
 {
     homes.len() <= CONNECTIONS && are_servers(count, homes)

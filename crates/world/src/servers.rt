@@ -3,13 +3,17 @@ ghost use Rattle.std.specs.Prelude.{◌≡◌, ◌<◌, ◌≤◌, length, slice
 ghost use Rattle.node.specs.Lawful.{IsInput, AreFit};
 ghost use Rattle.node.specs.Steps as steps;
 ghost use Rattle.node.specs.Servers.{opening};
-ghost use Rattle.node.specs.Nodes.{fresh};
+ghost use Rattle.node.specs.Nodes.{fresh, running};
+ghost use Rattle.node.specs.Standings.{standing, entries_by};
+ghost use Rattle.world.specs.ServerSteps.{step_shown};
 ghost use Rattle.world.specs.Worlds.{nobody, opening_servers};
 
 use crate::SceneFault;
-use node::{Input, Node, NodeFault, Output, View};
-use std::alloc::Global;
+use crate::deeds::ServerStep;
+use node::{Input, Node, NodeFault, Output, Standing, View};
+use std::alloc::{AllocError, Global};
 use std::marker::Model;
+use versions::Entry;
 
 /// The servers of a chain: at most 16.
 #[derive(Drop)]
@@ -85,6 +89,99 @@ impl Servers {
             Err(NodeFault::Stopped | NodeFault::BadCount) => unreachable!(),
         }
     }
+
+    /// Server i.
+    pub fn node(&self, i: usize) -> &Node
+        requires server { i < length self.now }
+        ensures { result.now ≡ running (slice_index_or self.now i nobody) }
+    {
+        &self.nodes[i]
+    }
+
+    /// Where server i stands.
+    pub fn standing(&self, i: usize) -> Standing
+        requires server { i < length self.now }
+        ensures { result ≡ standing (slice_index_or self.now i nobody) }
+    {
+        self.nodes[i].standing()
+    }
+
+    /// The same as `step`, and what the server made of the input. What is told shares its data.
+    pub fn step_telling(
+        &mut self,
+        alloc: Global,
+        i: usize,
+        input: Input,
+    ) -> Result<(ServerStep, Vec<Output>), SceneFault>
+        requires server { i < length self.old }
+        requires input { IsInput input }
+        ensures state { OnOk result (self.new ≡ slice_set self.old i (steps.step (slice_index_or self.old i nobody) input).state) }
+        ensures told { IfOk result (λ found. found.0 ≡ step_shown (slice_index_or self.old i nobody) input) }
+        ensures outputs { IfOk result (λ found. found.1.items ≡ (steps.step (slice_index_or self.old i nobody) input).outputs) }
+        ensures fit { IfOk result (λ found. AreFit found.1.items) }
+        ensures only_memory { IfErr result (λ fault. fault ≡ SceneFault.Memory) }
+    {
+        let before = self.standing(i);
+        let kept = copy_of_input(&input)?;
+        let (outputs, entries) = self.step_logged(i, input)?;
+        let after = self.standing(i);
+        let told = copies_of_outputs(alloc, outputs.as_slice())?;
+        let step = ServerStep {
+            input: kept,
+            before,
+            entries,
+            outputs: told,
+            after,
+        };
+        Ok((step, outputs))
+    }
+
+    // The same as `step`, and the entries that the server appended.
+    fn step_logged(
+        &mut self,
+        i: usize,
+        input: Input,
+    ) -> Result<(Vec<Output>, Vec<Entry>), SceneFault>
+        requires server { i < length self.old }
+        requires input { IsInput input }
+        ensures state { OnOk result (self.new ≡ slice_set self.old i (steps.step (slice_index_or self.old i nobody) input).state) }
+        ensures outputs { IfOk result (λ found. found.0.items ≡ (steps.step (slice_index_or self.old i nobody) input).outputs) }
+        ensures entries { IfOk result (λ found. found.1.items ≡ entries_by (slice_index_or self.old i nobody) input) }
+        ensures fit { IfOk result (λ found. AreFit found.0.items) }
+        ensures only_memory { IfErr result (λ fault. fault ≡ SceneFault.Memory) }
+    {
+        match self.nodes[i].step_logged(input) {
+            Ok(found) => Ok(found),
+            Err(NodeFault::Memory) => {
+                self.nodes.clear();
+                Err(SceneFault::Memory)
+            }
+            Err(NodeFault::Stopped | NodeFault::BadCount) => unreachable!(),
+        }
+    }
+}
+
+// Each says of a derived clone that it equals what it was made from, which the step that is told is proved by.
+fn copy_of_input(input: &Input) -> Result<Input, AllocError>
+    ensures { IfOk result (λ copy. copy ≡ input.now) }
+{
+    input.clone()
+}
+
+fn copy_of_output(output: &Output) -> Result<Output, AllocError>
+    ensures { IfOk result (λ copy. copy ≡ output.now) }
+{
+    output.clone()
+}
+
+fn copies_of_outputs(alloc: Global, outputs: &[Output]) -> Result<Vec<Output>, AllocError>
+    ensures { IfOk result (λ copies. copies.items ≡ outputs.now) }
+{
+    let mut copies = Vec::with_capacity(alloc, outputs.len())?;
+    for output in outputs {
+        copies.push(copy_of_output(output)?)?;
+    }
+    Ok(copies)
 }
 
 // Server `id` of a chain of so many, before any input. It allocates nothing.

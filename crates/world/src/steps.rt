@@ -111,7 +111,7 @@ impl World {
 
     // Outputs of server i, in order.
     #[tactic(auto, unfolding(crate::specs::Worlds::put_all))]
-    fn put_all(&mut self, i: usize, outputs: Vec<Output>) -> Result<(), SceneFault>
+    pub(crate) fn put_all(&mut self, i: usize, outputs: Vec<Output>) -> Result<(), SceneFault>
         requires fit { AreFit outputs.items }
         ensures ok { OnOk result (self.new ≡ worlds.put_all self.old i outputs.items) }
         ensures only_memory { IfErr result (λ fault. fault ≡ SceneFault.Memory) }

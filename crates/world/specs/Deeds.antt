@@ -1,0 +1,94 @@
+-- What each event of a schedule did.
+use Rattle.std.specs.Prelude.{ℕ, ◌&&◌, List, [], ◌∷◌, length, drop, Option, None, Some, slice_get, if◌then◌else◌}
+use Rattle.table.specs.declared.operations.Call.{Call}
+use Rattle.node.specs.declared.messages.Peer.{Peer}
+use Rattle.node.specs.declared.messages.Input.{Input}
+use Rattle.node.specs.declared.messages.Input.TheVariants.{Call as Called, From, Gone}
+use Rattle.world.specs.declared.events.Event.{Event}
+use Rattle.world.specs.declared.events.Event.TheVariants.{Piece, Begin, Work, Deliver, Fail, Tell, Hand}
+use Rattle.world.specs.declared.connections.Stage.{Stage}
+use Rattle.world.specs.declared.connections.Stage.TheVariants.{Idle, Begun, Asked, Replied}
+use Rattle.world.specs.declared.deeds.Deed.{Deed}
+use Rattle.world.specs.declared.deeds.Deed.TheVariants.{Nothing, Came, Began, Stepped, Failed, Handed}
+use Rattle.world.specs.Connections.{Connection, begun, handed, to_work}
+use Rattle.world.specs.ServerSteps.{step_shown}
+use Rattle.world.specs.Worlds.{World, server, link, lives, has_failed, happens, opening_world, run_of}
+
+-- the bytes that a connection was sent from the one to the other
+abbrev pub sent_between : Connection → Connection → List ℕ
+sent_between before after = drop (length before.session.out) after.session.out
+
+-- bytes come, unless the session is closed
+abbrev pub piece_deed : Connection → Deed
+piece_deed k = if k.session.closed then Nothing else Came
+
+-- what a `begin` is, by the connection before and after: the bytes sent, and the call that waits for its work, if there is one
+abbrev pub began : Connection → Connection → Deed
+began before after = Began (to_work after.stage after) (sent_between before after)
+
+-- where no call is open, the next one begins
+-- (here and below, the first argument is the stage at which the connection k stands)
+abbrev pub begin_deed : Stage → Connection → Deed
+begin_deed Idle k = began k (begun Idle k)
+begin_deed Begun k = Nothing
+begin_deed Asked k = Nothing
+begin_deed (Replied reply) k = Nothing
+
+-- the waiting reply reaches the connection
+abbrev pub hand_deed : Stage → Connection → Deed
+hand_deed Idle k = Nothing
+hand_deed Begun k = Nothing
+hand_deed Asked k = Nothing
+hand_deed (Replied reply) k = Handed reply (sent_between k (handed (Replied reply) k))
+
+-- what an event at a connection does, where there is one and its home lives
+abbrev pub deed_at : World → (Connection → Deed) → Option Connection → Deed
+deed_at w does None = Nothing
+deed_at w does (Some k) = if lives w k.home then does k else Nothing
+
+-- server i takes this input
+abbrev pub took : World → ℕ → Input → Deed
+took w i input = Stepped i (step_shown (server w i) input)
+
+-- this call of the c-th connection, if there is one, goes to its server
+abbrev pub call_deed : World → ℕ → ℕ → Option Call → Deed
+call_deed w c home None = Nothing
+call_deed w c home (Some call) = took w home (Called c call)
+
+-- the begun call of a connection, if there is one, goes to its server, where that lives
+abbrev pub work_deed : World → ℕ → Option Connection → Deed
+work_deed w c None = Nothing
+work_deed w c (Some k) = if lives w k.home then call_deed w c k.home (to_work k.stage k) else Nothing
+
+-- the first of these messages of the link from server i to server j is delivered, where j lives
+abbrev pub deliver_deed : World → ℕ → ℕ → List Peer → Deed
+deliver_deed w i j [] = Nothing
+deliver_deed w i j (m ∷ ms) = if lives w j then took w j (From i m) else Nothing
+
+-- what an event does in a world
+abbrev pub deed : World → Event → Deed
+deed w (Piece c bytes) = deed_at w piece_deed (slice_get w.connections c)
+deed w (Begin c) = deed_at w (λ k. begin_deed k.stage k) (slice_get w.connections c)
+deed w (Work c) = work_deed w c (slice_get w.connections c)
+deed w (Deliver i j) = deliver_deed w i j (link w i j)
+deed w (Fail i) = if lives w i then Failed else Nothing
+deed w (Tell i j) = if lives w i && has_failed w j then took w i (Gone j) else Nothing
+deed w (Hand c) = deed_at w (λ k. hand_deed k.stage k) (slice_get w.connections c)
+
+-- what these events do, one after another
+abbrev pub deeds_from : World → List Event → List Deed
+deeds_from w [] = []
+deeds_from w (e ∷ es) = deed w e ∷ deeds_from (happens w e) es
+
+-- what the events of a schedule did
+abbrev pub deeds_of : ℕ → List ℕ → List Event → List Deed
+deeds_of count homes events = deeds_from (opening_world count homes) events
+
+-- A run: the world that it ends in, and what each of its events did.
+pub record TraceShown : Type 0 where
+  pub world : World
+  pub deeds : List Deed
+
+-- the run of a schedule
+abbrev pub trace_of : ℕ → List ℕ → List Event → TraceShown
+trace_of count homes events = record { world = run_of count homes events; deeds = deeds_of count homes events }
