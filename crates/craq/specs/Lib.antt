@@ -3,3 +3,4 @@ pub mod Commands
 pub mod Faults
 pub mod Scenarios
 pub mod Programs
+pub mod Tellings

@@ -9,15 +9,17 @@ mod faults;
 mod program;
 mod scenarios;
 mod steering;
+mod tellings;
 mod words;
 mod working;
 
 use commands::UsageFault;
 use ends::{TrackedReader, TrackedWriter, write_all};
 use faults::{MEMORY, USAGE};
-use program::{run, words_of_cluster};
+use program::words_of_cluster;
 use std::process::ExitCode;
 use steering::cluster;
+use tellings::run_or_tell;
 
 fn main(rt: HostRuntime) -> ExitCode {
     let mut output = TrackedWriter::new(rt.stdout());
@@ -34,7 +36,7 @@ fn main(rt: HostRuntime) -> ExitCode {
                 &mut errors,
             )
         }
-        Ok(None) => run(&rt, &mut output, &mut errors),
+        Ok(None) => run_or_tell(&rt, &mut output, &mut errors),
         Err(UsageFault::Usage(text)) => {
             let _ = write_all(&mut errors, text.as_bytes());
             USAGE

@@ -78,7 +78,8 @@ pub fn words_of_cluster<R: Env + AllocGlobal>(rt: &R) -> Result<Option<Numbers>,
     cluster_numbers(rt.alloc(), words.as_slice())
 }
 
-fn arguments<R: Env + AllocGlobal>(rt: &R) -> Result<Vec<String>, UsageFault> {
+/// The words of the program's command line, the program's own name first.
+pub fn arguments<R: Env + AllocGlobal>(rt: &R) -> Result<Vec<String>, UsageFault> {
     match env::args(rt) {
         Ok(arguments) => Ok(arguments.collect(rt.alloc())?),
         Err(e) if e.kind() == ErrorKind::OutOfMemory => Err(UsageFault::Memory),
