@@ -9,8 +9,6 @@ mod logs;
 mod published;
 mod publishers;
 mod readers;
-#[cfg(test)]
-mod tests;
 mod tombstones;
 
 pub use boards::Name;
