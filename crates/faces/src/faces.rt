@@ -81,7 +81,7 @@ impl Face {
         Ok(face)
     }
 
-    // Some of these steps are done if it is refused.
+    // Some of these steps are done where it is refused.
     fn step_all(&mut self, steps: &[FaceStep]) -> Result<(), AllocError>
         ensures { OnOk result (self.new ≡ record {
           face = face_after_all self.old.face steps.now;

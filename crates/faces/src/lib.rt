@@ -9,6 +9,8 @@ mod logs;
 mod published;
 mod publishers;
 mod readers;
+#[cfg(test)]
+mod tests;
 mod tombstones;
 
 pub use boards::Name;

@@ -105,7 +105,7 @@ pub fn take_away(
     }
 }
 
-// Takes the key's version away, if it has no item and its number is at most this one.
+// Takes the key's version away, where it has no item and its number is at most this one.
 fn take_away_at(versions: &mut BTreeMap<Key, Version>, key: &Key, acked: u64)
     ensures { map_of versions.new.entries ≡ taken_at acked key.now (map_of versions.old.entries) }
 {

@@ -39,7 +39,7 @@ impl Inlet {
         Inlet { slot }
     }
 
-    /// Brings a message from server `i`. Refused with Closed if the worker is gone. It may wait, as may the others.
+    /// Brings a message from server `i`. Refused with Closed where the worker is gone. It may wait, as may the others.
     pub fn bring<R: Wait>(&mut self, rt: &R, i: u8, peer: Peer) -> Result<(), RailFault>
         requires { IsBody peer.body }
         ensures ok { OnOk result (self.new ≡ self.old ++ Took (From i peer) ∷ []) }

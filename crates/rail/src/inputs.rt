@@ -12,8 +12,8 @@ use faces::{Publisher, Told};
 use node::Input;
 use std::sync::Wait;
 
-/// The node makes its step, the face after it is published, and only then its messages are put, and its replies. None
-/// if it is refused for want of memory; the face stands no longer then.
+/// The node makes its step, the face after it is published, and only then its messages are put, and its replies. None where it is
+/// refused for want of memory; the face stands no longer then.
 pub fn advance<R: Wait, L: Links>(
     rt: &R,
     publisher: Publisher,
@@ -29,11 +29,9 @@ pub fn advance<R: Wait, L: Links>(
     requires lawful { IsLawful (server_after publisher) }
     requires open { AreOpenBelow (length posts.old.items) (server_after publisher) }
     ensures next { IfSome result (λ p. (p ≡ with_next publisher input) × (told.new ≡ p)) }
-    ensures messages { IfSome result (λ p.
-        HasPut (L.list links.old) (L.list links.new) (L.failures links.new) (messages_of (outputs_after p))) }
+    ensures messages { IfSome result (λ p. HasPut (L.list links.old) (L.list links.new) (L.failures links.new) (messages_of (outputs_after p))) }
     ensures replies { IfSome result (λ p. HasReplied p 0 posts.old.items posts.new.items (outputs_after p)) }
-    ensures cut { IfNone result
-        (IsCut (L.list links.old) (L.list links.new) (L.failures links.new) publisher told.new input) }
+    ensures cut { IfNone result (IsCut (L.list links.old) (L.list links.new) (L.failures links.new) publisher told.new input) }
     ensures unreplied { IfNone result (posts.new.items ≡ posts.old.items) }
 {
     let Ok((publisher, outputs)) = publisher.take(rt, input) else {

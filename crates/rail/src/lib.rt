@@ -25,3 +25,6 @@ pub use seats::Seat;
 pub use servers::{Server, open};
 pub use stands::Stand;
 pub use workers::{Turn, Worker};
+
+#[cfg(test)]
+mod tests;

@@ -6,15 +6,7 @@ pub returns-in-None : goal.returns-in-None
 returns-in-None c = rw (get_entry c.args.versions.now.entries c.args.key.now, ← c.in-None.ensures.value) refl
 
 pub returns-then-is_none : goal.returns-then-is_none
-returns-then-is_none c =
-    rw (get_entry c.args.versions.now.entries c.args.key.now, ← c.in-Some.ensures.value, c.if-is_none.ensures) refl
+returns-then-is_none c = rw (get_entry c.args.versions.now.entries c.args.key.now, ← c.in-Some.ensures.value, c.if-is_none.ensures) refl
 
 pub returns-else-is_none : goal.returns-else-is_none
-returns-else-is_none c =
-    rw (
-      get_entry c.args.versions.now.entries c.args.key.now,
-      ← c.in-Some.ensures.value,
-      c.if-is_none.ensures,
-      c.if-is_none.false,
-    )
-    refl
+returns-else-is_none c = rw (get_entry c.args.versions.now.entries c.args.key.now, ← c.in-Some.ensures.value, c.if-is_none.ensures, c.if-is_none.false) refl

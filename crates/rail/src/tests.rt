@@ -3,9 +3,9 @@ ghost use Rattle.std.specs.Prelude.{◌≡◌, true, IfOk};
 ghost use Rattle.node.specs.Lawful.{IsCall};
 ghost use Rattle.node.specs.Nodes.{is_idle};
 
+use crate::{Links, Published, RailFault, Server, Stand, Turn, open};
 use bytes::Bytes;
 use node::{Body, Look, Node, Peer, View};
-use rail::{Links, Published, RailFault, Server, Stand, Turn, open};
 use std::alloc::{AllocError, Global};
 use std::sync::Wait;
 use std::sync::atomic::{AtomicU64, Ordering};
@@ -145,8 +145,7 @@ impl<'a, R: Clock> Links for Held<'a, R> {
     }
 }
 
-// Waits until the worker is in the midst of a turn, and looks at a key that has no item. Refused if the worker got no
-// thread.
+// Waits until the worker is in the midst of a turn, and looks at a key that has no item. Refused if the worker got no thread.
 fn looks_beside<R: Clock>(
     clock: &R,
     stand: &mut Stand,

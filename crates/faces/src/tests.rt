@@ -1,8 +1,8 @@
 //! Tests: what readers see beside a server.
 ghost use Rattle.std.specs.Prelude.{◌≡◌, false, IfOk};
 
+use crate::{FaceFault, Publisher, Reader};
 use bytes::Bytes;
-use faces::{FaceFault, Publisher, Reader};
 use node::{Body, Input, Look, Node, Peer, View};
 use std::alloc::Global;
 use std::sync::Wait;
