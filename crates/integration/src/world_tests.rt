@@ -1,5 +1,6 @@
 //! Tests over scenes, schedules and transcripts.
 
 mod printing;
+mod refusals;
 mod scenes;
 mod schedules;

@@ -28,7 +28,7 @@ pub record TakesBeginning (read : List ℕ) (before after : List Frame) : Type 0
   pub all : frames_in read ≡ handed ++ later
   pub taken : after ≡ before ++ handed
 
--- the frames at the front of these bytes were taken, in order, and the rest stands behind them
+-- the frames at the front of these bytes were taken, in order, and the rest stands after them
 pub record TakesFirst (bytes rest : List ℕ) (before after : List Frame) : Type 0 where
   pub handed : List Frame
   pub first : AreFirst handed bytes rest

@@ -13,3 +13,6 @@ pub use putting::{put_all, put_frame};
 pub use serving::serve_peer;
 pub use takers::{TakeFault, Taker};
 pub use wire::PeerEnd;
+
+#[cfg(test)]
+mod tests;
