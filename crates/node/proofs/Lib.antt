@@ -24,3 +24,12 @@ pub mod FaceLaws
 pub mod Growth
 pub mod FaceChanges
 pub mod Openings
+pub mod Lists
+pub mod StoreChanges
+pub mod OpenCalls
+pub mod Neighbours
+pub mod SoundActions
+pub mod DoneActions
+pub mod DoneRules
+pub mod DoneJoins
+pub mod DoneSteps

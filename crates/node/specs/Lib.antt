@@ -12,3 +12,4 @@ pub mod Lawful
 pub mod Nodes
 pub mod Runs
 pub mod Replies
+pub mod Actions

@@ -1,5 +1,6 @@
 //! Laws: facts about the definitions of `specs/`, as contracts of functions that do nothing.
 
+mod actions;
 mod looks;
 mod replies;
 mod rules;
@@ -7,6 +8,7 @@ mod runs;
 mod steps;
 mod views;
 
+pub use actions::steps_are_actions;
 pub use looks::looks_show_the_newest;
 pub use replies::{own_ports_alone, replies_close_calls};
 pub use rules::{joins_keep_servers_sound, open_calls_are_ordered, rules_keep_servers_sound};

@@ -20,7 +20,7 @@ pub use faces::{FaceChange, FaceStep, Tombstone, Version};
 pub use laws::{
     joins_keep_servers_sound, looks_show_the_newest, neighbors_are_nearest, open_calls_are_ordered,
     own_ports_alone, replies_close_calls, rules_keep_servers_sound, runs_are_lawful, runs_go_on,
-    steps_are_lawful, views_are_sets, views_stay_below,
+    steps_are_actions, steps_are_lawful, views_are_sets, views_stay_below,
 };
 pub use looks::Look;
 pub use masters::{Master, MasterFault};

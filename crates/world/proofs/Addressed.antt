@@ -13,12 +13,12 @@ use Rattle.node.specs.Views.{View, has}
 use Rattle.node.specs.Servers.{ServerState}
 use Rattle.node.specs.Lawful.{IsBody, HasEntry, IsSound}
 use Rattle.world.specs.Worlds.{server}
-use Rattle.world.proofs.Actions.{Send, Cause, MaySend}
+use Rattle.node.specs.Actions.{Send, Cause, MaySend}
 use Rattle.world.proofs.Traces.{Traced, count}
 use Rattle.world.proofs.Layers.{Later, Goes, IsAddressed, Framed, IsKnown}
 use Rattle.world.proofs.IdLaws.{head_of_is, tail_of_is, at_tail, previous_of, next_of, living_parts}
 use Rattle.world.proofs.Moves.{CanDo}
-use Rattle.world.proofs.Neighbours.{tail_other}
+use Rattle.node.proofs.Neighbours.{tail_other}
 
 -- a message stays addressed
 pub addressed_later : (t u : Traced) → Later t u → (i j : ℕ) (m : Peer) → IsAddressed t i j m → IsAddressed u i j m

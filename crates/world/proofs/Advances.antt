@@ -28,7 +28,7 @@ use Rattle.world.proofs.Streaming.{sent_to}
 use Rattle.world.proofs.ForwardRuns.{sent_to-append}
 use Rattle.world.proofs.Opening.{op_id, op_ids, Own, IsOpen, IsAnswered}
 use Rattle.world.proofs.StaysOpen.{out_or_in, open_rise, open_asks, open_appended, open_trimmed}
-use Rattle.world.proofs.Lists.{In, in_front, in_behind}
+use Rattle.node.proofs.Lists.{In, in_front, in_behind}
 use Rattle.world.proofs.OwnIds.{own_risen, own_trimmed, own_appended, seen_grows, IsNextOwn}
 
 -- ---- the ids that outputs bring to a server

@@ -4,7 +4,7 @@ use Rattle.world.specs.declared.events.Event.{Event}
 use Rattle.world.proofs.Traces.{outset}
 use Rattle.world.proofs.Goings.{Laws}
 use Rattle.world.proofs.Moments.{FirstLaws, Moments, moments_of}
-use Rattle.world.proofs.DoneSteps.{step_done}
+use Rattle.node.proofs.DoneSteps.{step_done}
 use Rattle.world.proofs.FittingTurns.{next_fits}
 use Rattle.world.proofs.LoggedMoves.{grows_moved, logged_moved}
 use Rattle.world.proofs.LoggedEvents.{logged_outset}

@@ -13,7 +13,7 @@ use Rattle.node.specs.Steps.{step}
 use Rattle.node.specs.Lawful.{IsInput, HoldsEntry, IsLawful}
 use Rattle.world.specs.Connections.{Connection}
 use Rattle.world.specs.Worlds.{World, server, link, lives, with_connection}
-use Rattle.world.proofs.Lists.{In, in_more, in_front, in_behind}
+use Rattle.node.proofs.Lists.{In, in_more, in_front, in_behind}
 use Rattle.world.proofs.IdLaws.{living_parts}
 use Rattle.world.proofs.Traces.{Traced, count, outset}
 use Rattle.world.proofs.Layers.{Later, Lawful}

@@ -22,12 +22,12 @@ use Rattle.node.specs.Steps.{call, gone, is_heard, from_peer, taken_in, trimmed,
 use Rattle.node.specs.Lawful.{IsInput, HoldsEntry, IsCall, IsSound, IsLawful}
 use Rattle.node.proofs.ViewLaws.{has-single_other, below-single}
 use Rattle.node.proofs.RuleLaws.{same_is, heard, good-join}
-use Rattle.world.proofs.Lists.{In, in_pushed, in_front, in_behind}
-use Rattle.world.proofs.Actions.{Action, does, act, Cause, left, Guard, AreGuarded, IsDone}
+use Rattle.node.proofs.Lists.{In, in_pushed, in_front, in_behind}
+use Rattle.node.specs.Actions.{Action, does, act, Cause, left, Guard, AreGuarded, IsDone}
 use Rattle.world.proofs.OpenLists.{reads_act}
-use Rattle.world.proofs.DoneRules.{done_update}
-use Rattle.world.proofs.DoneSteps.{done_received}
-use Rattle.world.proofs.DoneJoins.{done_join, join_knows}
+use Rattle.node.proofs.DoneRules.{done_update}
+use Rattle.node.proofs.DoneSteps.{done_received}
+use Rattle.node.proofs.DoneJoins.{done_join, join_knows}
 use Rattle.world.proofs.Tellings.{IsAt, tells_call, tells_received}
 use Rattle.world.proofs.StepTellings.{informs_join}
 

@@ -16,15 +16,15 @@ use Rattle.node.specs.Steps.{received, trimmed, step}
 use Rattle.node.specs.Lawful.{AreReads, IsSound, IsLawful}
 use Rattle.node.proofs.RuleLaws.{heard, good-join}
 use Rattle.world.specs.Worlds.{World, server, link, lives}
-use Rattle.world.proofs.Lists.{In, in_behind}
-use Rattle.world.proofs.Actions.{Cause}
+use Rattle.node.proofs.Lists.{In, in_behind}
+use Rattle.node.specs.Actions.{Cause}
 use Rattle.world.proofs.Traces.{Traced, count}
 use Rattle.world.proofs.Layers.{Lawful, Goes, Carries, IsAddressed}
 use Rattle.world.proofs.Beginnings.{begins-length}
 use Rattle.world.proofs.IdLaws.{tail_of_is, previous_from, is_itself}
 use Rattle.world.proofs.OpenLists.{read_above, read_apart}
-use Rattle.world.proofs.DoneJoins.{join_knows}
-use Rattle.world.proofs.DoneSteps.{done_received}
+use Rattle.node.proofs.DoneJoins.{join_knows}
+use Rattle.node.proofs.DoneSteps.{done_received}
 use Rattle.world.proofs.Tellings.{tells_received}
 use Rattle.world.proofs.StepTellings.{informs_join}
 use Rattle.world.proofs.StreamSteps.{last_is}

@@ -22,11 +22,11 @@ use Rattle.world.specs.declared.connections.Stage.TheVariants.{Idle, Begun, Aske
 use Rattle.world.specs.Connections.{Connection, open_call, to_work, may_have, asked}
 use Rattle.world.specs.Worlds.{World, server, link, lives, has_failed, with_server, with_link, with_connection, put, put_all, run_of}
 use Rattle.world.specs.Awaited.{IsAwaited, AreAwaited}
-use Rattle.world.proofs.Actions.{Action, Widen, Append, Reach, Settle, Send, Finish, Trim, Enter, Ask, Show, act, does, Cause, left, AreGuarded}
+use Rattle.node.specs.Actions.{Action, Widen, Append, Reach, Settle, Send, Finish, Trim, Enter, Ask, Show, act, does, Cause, left, AreGuarded}
 use Rattle.world.proofs.Traces.{Traced, done, reconnected, unlinked}
 use Rattle.world.proofs.Layers.{Lawful, IsWith, IsKnown}
 use Rattle.world.proofs.IdLaws.{living_parts}
-use Rattle.world.proofs.OpenCalls.{update_in}
+use Rattle.node.proofs.OpenCalls.{update_in}
 use Rattle.world.proofs.OpenLists.{IsClosed, closed_by}
 use Rattle.world.proofs.StepInputs.{IsStep, within, known_of, acked_committed}
 use Rattle.world.proofs.TraceLaws.{server_done, lives_done}

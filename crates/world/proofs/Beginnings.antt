@@ -2,7 +2,7 @@
 use Rattle.std.proofs.Common.{◌≡◌, ℕ, zero, suc, ◌+◌, ◌≤◌, List, [], ◌∷◌, ◌++◌, length, take, drop, Some, refl, arith, inl, inr, zero-add}
 use Rattle.std.specs.Prelude.{slice_get}
 use Rattle.std.proofs.lemmas.Option.{same_Some, none-some as none_some}
-use Rattle.world.proofs.Lists.{Begins, pushed_cases}
+use Rattle.node.proofs.Lists.{Begins, pushed_cases}
 
 pub begins_same : {X : Type 0} (xs : List X) → Begins xs xs
 begins_same xs k x h = h

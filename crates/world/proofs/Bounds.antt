@@ -10,12 +10,12 @@ use Rattle.node.specs.Lawful.{IsInput, HoldsEntry, IsLawful}
 use Rattle.world.specs.declared.connections.Stage.TheVariants.{Idle, Begun}
 use Rattle.world.specs.Connections.{Connection, asked}
 use Rattle.world.specs.Worlds.{World, server, takes, with_link, with_connection}
-use Rattle.world.proofs.Actions.{Cause, IsDone}
+use Rattle.node.specs.Actions.{Cause, IsDone}
 use Rattle.world.proofs.Traces.{Traced, log, count, outset}
 use Rattle.world.proofs.Layers.{Lawful, entries_of}
 use Rattle.world.proofs.IdLaws.{living_parts}
 use Rattle.world.proofs.Outsets.{count_outset, server_outset, lawful_outset, fresh_at}
-use Rattle.world.proofs.DoneSteps.{step_done}
+use Rattle.node.proofs.DoneSteps.{step_done}
 use Rattle.world.proofs.StreamSteps.{step_acted, last_is}
 use Rattle.world.proofs.Paces.{takes_of, pace}
 use Rattle.world.proofs.Totals.{total, total_low, total_grows, total_none, entries_total}

@@ -1,6 +1,6 @@
 -- An action keeps what is known of calls.
 use Rattle.std.proofs.Common.{ℕ}
-use Rattle.world.proofs.Actions.{Action, Cause}
+use Rattle.node.specs.Actions.{Action, Cause}
 use Rattle.world.proofs.Traces.{Traced, done}
 use Rattle.world.proofs.Layers.{Calling}
 use Rattle.world.proofs.StepInputs.{IsStep}

@@ -15,8 +15,8 @@ use Rattle.node.specs.Servers.{ServerState}
 use Rattle.world.specs.Connections.{Connection}
 use Rattle.world.specs.Worlds.{server}
 use Rattle.world.specs.Calls.{CallId}
-use Rattle.world.proofs.Lists.{In, get_last, pushed_cases}
-use Rattle.world.proofs.Actions.{Action, Widen, Append, Reach, Settle, Send, Finish, Trim, Enter, Ask, Show, act, Cause}
+use Rattle.node.proofs.Lists.{In, get_last, pushed_cases}
+use Rattle.node.specs.Actions.{Action, Widen, Append, Reach, Settle, Send, Finish, Trim, Enter, Ask, Show, act, Cause}
 use Rattle.world.proofs.Traces.{Traced, issued_by, count, open_id, done}
 use Rattle.world.proofs.Layers.{IsWith}
 use Rattle.world.proofs.TraceLaws.{new_issued, server_done, server_other, issued_other, issued_done, connection_done, open_id_done}

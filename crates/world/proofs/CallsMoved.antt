@@ -11,7 +11,7 @@ use Rattle.world.specs.declared.connections.Stage.TheVariants.{Idle, Begun, Aske
 use Rattle.world.specs.Connections.{Connection, came, begun_by, begun, past_faults, asked, handed}
 use Rattle.world.specs.Worlds.{World, link, lives, where_home_lives}
 use Rattle.world.specs.Calls.{CallId, reply_to}
-use Rattle.world.proofs.Actions.{Action, Cause}
+use Rattle.node.specs.Actions.{Action, Cause}
 use Rattle.world.proofs.Traces.{Traced, count, reconnected, unlinked, failing, outset}
 use Rattle.world.proofs.Layers.{Later, Framed, Lawful, Logged, Calling, Read}
 use Rattle.world.proofs.WorldLaws.{Changes}

@@ -18,9 +18,9 @@ use Rattle.node.specs.Reading.{dirty_read, read_of}
 use Rattle.node.specs.Steps.{trimmed, step}
 use Rattle.node.specs.Lawful.{IsCall, IsLawful}
 use Rattle.node.proofs.RuleLaws.{good-entered, updated}
-use Rattle.world.proofs.Lists.{In}
-use Rattle.world.proofs.DoneRules.{entered_in, done_called}
-use Rattle.world.proofs.DoneSteps.{asked_in}
+use Rattle.node.proofs.Lists.{In}
+use Rattle.node.proofs.DoneRules.{entered_in, done_called}
+use Rattle.node.proofs.DoneSteps.{asked_in}
 use Rattle.world.proofs.KeptOpen.{AnswersPort, open_done}
 
 -- an own call of this port waits at the server

@@ -5,7 +5,7 @@ use Rattle.node.specs.declared.messages.Peer.{Peer}
 use Rattle.node.specs.Views.{union, single}
 use Rattle.world.specs.Connections.{Connection}
 use Rattle.world.specs.Worlds.{server, link, lives, with_link, with_connection}
-use Rattle.world.proofs.Lists.{In}
+use Rattle.node.proofs.Lists.{In}
 use Rattle.world.proofs.WorldLaws.{link_cases, Changes, changed_one, unchanged_one}
 use Rattle.world.proofs.Traces.{Traced, log, issued_by, count, last_living, reconnected, unlinked, failing}
 

@@ -20,8 +20,8 @@ use Rattle.world.specs.declared.connections.Stage.TheVariants.{Asked, Replied}
 use Rattle.world.specs.Connections.{Connection}
 use Rattle.world.specs.Worlds.{server, link}
 use Rattle.world.specs.Calls.{CallId, begun_call, reply_to}
-use Rattle.world.proofs.Lists.{In, in_pushed}
-use Rattle.world.proofs.Actions.{Action, Widen, Append, Reach, Settle, Send, Finish, Trim, Enter, Ask, Show, act, Cause}
+use Rattle.node.proofs.Lists.{In, in_pushed}
+use Rattle.node.specs.Actions.{Action, Widen, Append, Reach, Settle, Send, Finish, Trim, Enter, Ask, Show, act, Cause}
 use Rattle.world.proofs.Traces.{Traced, issued_by, count, open_id, done}
 use Rattle.world.proofs.Layers.{IsWith, IsAnswer, IsKnown, Asks}
 use Rattle.world.proofs.WorldLaws.{Answers}

@@ -13,7 +13,7 @@ use Rattle.world.specs.Worlds.{World, link, lives, has_failed, happens, run_from
 use Rattle.world.specs.Transcripts.{TranscriptShown, transcript_of}
 use Rattle.world.specs.Refusals.{takes_call, works_at, steps_at, with_failures, RiseFrom, WouldStep}
 use Rattle.world.specs.LivingParts.{living_part, Comes, IsFailingRun}
-use Rattle.world.proofs.Lists.{get_front, get_last, pushed_cases}
+use Rattle.node.proofs.Lists.{get_front, get_last, pushed_cases}
 use Rattle.world.proofs.Moments.{run-append, taken_more}
 use Rattle.world.proofs.LivingLaws.{alike_happen, alike_step, alike_shown}
 

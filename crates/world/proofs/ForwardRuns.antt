@@ -13,7 +13,7 @@ use Rattle.node.specs.declared.messages.Output.TheVariants.{To, Reply as Replied
 use Rattle.node.specs.Servers.{ServerState, message_to}
 use Rattle.world.specs.Connections.{Connection}
 use Rattle.world.specs.Worlds.{World, link, with_link, with_connection, put, put_all}
-use Rattle.world.proofs.Lists.{In}
+use Rattle.node.proofs.Lists.{In}
 use Rattle.world.proofs.WorldLaws.{link_cases, link-with_connection}
 use Rattle.world.proofs.Streaming.{forwarded_number, numbers, IsRun, sent_to}
 

@@ -14,7 +14,7 @@ use Rattle.world.specs.declared.connections.Stage.{Stage}
 use Rattle.world.specs.declared.connections.Stage.TheVariants.{Idle, Begun, Asked, Replied}
 use Rattle.world.specs.Connections.{Connection, came, behind, past_faults_upto, past_faults, begun_by, begun, asked, handed}
 use Rattle.world.specs.Worlds.{World, server, link, lives, with_link, with_connection, where_home_lives}
-use Rattle.world.proofs.Lists.{pushed_cases}
+use Rattle.node.proofs.Lists.{pushed_cases}
 use Rattle.world.proofs.WorldLaws.{Changes}
 use Rattle.world.proofs.Traces.{Traced, count, reconnected, unlinked, failing}
 use Rattle.world.proofs.Layers.{Later, Framed}

@@ -19,8 +19,8 @@ use Rattle.node.specs.Steps.{trimmed}
 use Rattle.node.specs.Lawful.{IsCall}
 use Rattle.world.specs.Connections.{Connection}
 use Rattle.world.specs.Worlds.{World, server, link, with_server, with_link, with_connection, put, put_all}
-use Rattle.world.proofs.Lists.{In}
-use Rattle.world.proofs.Actions.{Action, Widen, Append, Reach, Settle, Send, Finish, Trim, Enter, Ask, Show, Cause, Guard, IsBrought, act}
+use Rattle.node.proofs.Lists.{In}
+use Rattle.node.specs.Actions.{Action, Widen, Append, Reach, Settle, Send, Finish, Trim, Enter, Ask, Show, Cause, Guard, IsBrought, act}
 use Rattle.world.proofs.Traces.{Traced, count, done}
 use Rattle.world.proofs.Layers.{Later, IsAddressed, Framed, IsKnown}
 use Rattle.world.proofs.IdLaws.{has-union, has_single, living_parts}

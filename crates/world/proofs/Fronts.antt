@@ -3,7 +3,7 @@ use Rattle.std.proofs.Common.{◌≡◌, ℕ, zero, suc, ◌<◌, List, [], ◌�
 use Rattle.std.specs.Prelude.{slice_get}
 use Rattle.std.proofs.lemmas.List.{take_all}
 use Rattle.std.proofs.lemmas.Option.{same_Some}
-use Rattle.world.proofs.Lists.{Begins}
+use Rattle.node.proofs.Lists.{Begins}
 use Rattle.world.proofs.Beginnings.{begins-take}
 
 -- a place below the length has an element

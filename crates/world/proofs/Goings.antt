@@ -5,8 +5,8 @@ use Rattle.node.specs.Servers.{ServerState}
 use Rattle.node.specs.Steps.{step}
 use Rattle.node.specs.Lawful.{IsLawful, IsInput, HoldsEntry}
 use Rattle.world.specs.Worlds.{server, lives}
-use Rattle.world.proofs.Lists.{Begins}
-use Rattle.world.proofs.Actions.{Action, Cause, AreGuarded, IsDone, left}
+use Rattle.node.proofs.Lists.{Begins}
+use Rattle.node.specs.Actions.{Action, Cause, AreGuarded, IsDone, left}
 use Rattle.world.proofs.Traces.{Traced, done, all_done}
 use Rattle.world.proofs.Layers.{Later, Framed, Logged, Calling, Read, Lawful, IsKnown}
 use Rattle.world.proofs.IdLaws.{living_parts}

@@ -9,7 +9,7 @@ use Rattle.table.specs.Plain.{opening as opening_table}
 use Rattle.versions.specs.Entries.{LogEntry, IsEntry}
 use Rattle.versions.specs.Stores.{StoreState, last_number, opening_store, items_after, items_at, value_at, entries_after, pushed, acked_to, dropped_to}
 use Rattle.versions.proofs.Holding.{items_after-append}
-use Rattle.world.proofs.Lists.{In, pushed_cases}
+use Rattle.node.proofs.Lists.{In, pushed_cases}
 use Rattle.world.proofs.Beginnings.{slice_get-drop}
 use Rattle.world.proofs.Layers.{Holds}
 

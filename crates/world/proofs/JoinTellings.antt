@@ -14,7 +14,7 @@ use Rattle.node.specs.Servers.{ServerState, Outcome, head_of, tail_of, is_head, 
 use Rattle.node.specs.Numbering.{appended, is_taken, taken}
 use Rattle.node.specs.Joining.{widened, taken_all, sent_again, promoted_to_head, promoted_to_tail, forwarded, needed_above, caught_up, acked_to_predecessor, replies_to, asked_again, asks_renewed}
 use Rattle.node.proofs.RuleLaws.{same_is}
-use Rattle.world.proofs.Lists.{in_front, in_behind}
+use Rattle.node.proofs.Lists.{in_front, in_behind}
 use Rattle.world.proofs.Streaming.{IsRun}
 use Rattle.world.proofs.ForwardRuns.{run-append, run_dropped, numbers_to, numbers_to-append, number_there, no_number, no_numbers}
 use Rattle.world.proofs.Tellings.{IsAt, next_at, previous_at, at_self, Acks, acks_rise, last_rise, Tells, acks_there, rise_none, tells_rise, not_last}

@@ -17,9 +17,9 @@ use Rattle.node.specs.Reading.{asked}
 use Rattle.node.specs.Joining.{widened}
 use Rattle.node.specs.Steps.{trimmed}
 use Rattle.node.specs.Lawful.{IsSound}
-use Rattle.world.proofs.Lists.{In, in_front, in_behind}
+use Rattle.node.proofs.Lists.{In, in_front, in_behind}
 use Rattle.world.proofs.Addressed.{entry_in}
-use Rattle.world.proofs.Actions.{Action, Widen, Append, Reach, Settle, Send, Finish, Trim, Enter, Ask, Show, act, does, Cause, left, Guard, AreGuarded, IsDone}
+use Rattle.node.specs.Actions.{Action, Widen, Append, Reach, Settle, Send, Finish, Trim, Enter, Ask, Show, act, does, Cause, left, Guard, AreGuarded, IsDone}
 use Rattle.world.proofs.StaysOpen.{out_or_in}
 
 -- these outputs answer the call of a port, with an item or with none

@@ -10,8 +10,8 @@ use Rattle.world.specs.declared.connections.Stage.TheVariants.{Begun, Asked, Rep
 use Rattle.world.specs.Connections.{Connection, asked}
 use Rattle.world.specs.Worlds.{link}
 use Rattle.world.specs.Calls.{CallId}
-use Rattle.world.proofs.Lists.{In}
-use Rattle.world.proofs.Actions.{Cause, left}
+use Rattle.node.proofs.Lists.{In}
+use Rattle.node.specs.Actions.{Cause, left}
 use Rattle.world.proofs.Traces.{AnsweredRead, Traced, issued_by, open_id, open_place, reconnected, unlinked}
 use Rattle.world.proofs.Layers.{Later, Lawful, IsWith, IsKnown}
 use Rattle.world.proofs.Addressed.{addressed_later}

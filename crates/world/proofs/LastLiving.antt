@@ -3,9 +3,9 @@ use Rattle.std.proofs.Common.{◌≡◌, ℕ, ◌<◌, true, false, length, Opti
 use Rattle.std.proofs.lemmas.Bool.{cases_eq, both_ways, false_from_ne_true, or_parts}
 use Rattle.node.specs.Views.{has}
 use Rattle.world.specs.Worlds.{World, server, lives}
-use Rattle.world.proofs.Lists.{Begins}
+use Rattle.node.proofs.Lists.{Begins}
 use Rattle.world.proofs.Beginnings.{begins_same, begins_as}
-use Rattle.world.proofs.Actions.{Action}
+use Rattle.node.specs.Actions.{Action}
 use Rattle.world.proofs.Traces.{Traced, log, count, last_living, done, failing}
 use Rattle.world.proofs.TraceLaws.{committed_done}
 use Rattle.world.proofs.ChangeLaws.{count_failing, failed_failing, committed_failing, committed_left}

@@ -1,18 +1,13 @@
 -- What was known is known still after each move.
 use Rattle.std.proofs.Common.{◌≡◌, ℕ, ◌<◌, ◌≤◌, true, length, refl, arith, inl, inr, ◌∙◌}
-use Rattle.std.proofs.lemmas.Bool.{cases_eq, or_left}
-use Rattle.node.specs.Views.{has}
+use Rattle.std.proofs.lemmas.Bool.{cases_eq}
 use Rattle.node.specs.Servers.{ServerState}
-use Rattle.node.specs.Numbering.{appended, entered}
-use Rattle.node.specs.Reading.{asked as asking}
-use Rattle.node.specs.Joining.{widened}
-use Rattle.node.specs.Steps.{trimmed}
+use Rattle.node.proofs.SoundActions.{Grown, grown_same, grown_act}
 use Rattle.world.specs.Worlds.{server}
-use Rattle.world.proofs.Lists.{Begins, get_front}
-use Rattle.world.proofs.Actions.{Action, Widen, Append, Reach, Settle, Send, Finish, Trim, Enter, Ask, Show, Cause, Guard, act}
+use Rattle.node.proofs.Lists.{Begins, get_front}
+use Rattle.node.specs.Actions.{Action, Cause, Guard}
 use Rattle.world.proofs.Traces.{Traced, log, issued_by, count, done}
 use Rattle.world.proofs.Layers.{Later, Framed}
-use Rattle.world.proofs.IdLaws.{has-union}
 use Rattle.world.proofs.TraceLaws.{new_entries, new_issued, new_reads, count_done, failed_done, server_done, server_other, log_other, log_done, issued_other, issued_done, reads_done, begun_done, replied_done}
 
 pub later_same : (t : Traced) → Later t t
@@ -48,31 +43,6 @@ later_on t u v a b = record {
 }
 
 -- ---- a server's action
-
--- what a server knows and has numbered only grows
-pub record Grown (s t : ServerState) : Type 0 where
-  pub id : t.id ≡ s.id
-  pub count : t.count ≡ s.count
-  pub view : (k : ℕ) → has s.view k ≡ true → has t.view k ≡ true
-  pub acked : s.store.acked ≤ t.store.acked
-  pub next_id : s.next_id ≤ t.next_id
-  pub next_ask : s.next_ask ≤ t.next_ask
-
-pub grown_same : (s : ServerState) → Grown s s
-grown_same s = record { id = refl; count = refl; view = λ k h. h; acked = omega arith; next_id = omega arith; next_ask = omega arith }
-
-pub grown_act : (cause : Cause) (s : ServerState) (a : Action) → Guard cause s a → Grown s (act s a).state
-unfolding act widened appended entered asking trimmed
-grown_act cause s (Widen v) g = record { id = refl; count = refl; view = λ k h. rw (has-union s.view v k) (or_left _ _ h); acked = omega arith; next_id = omega arith; next_ask = omega arith }
-grown_act cause s (Append e) g = record { id = refl; count = refl; view = λ k h. h; acked = omega arith; next_id = omega arith; next_ask = omega arith }
-grown_act cause s (Reach n) g = record { id = refl; count = refl; view = λ k h. h; acked = omega (arith, g.0); next_id = omega arith; next_ask = omega arith }
-grown_act cause s (Settle e) g = record { id = refl; count = refl; view = λ k h. h; acked = omega arith; next_id = omega arith; next_ask = omega arith }
-grown_act cause s (Send j body) g = grown_same s
-grown_act cause s (Finish r n) g = record { id = refl; count = refl; view = λ k h. h; acked = omega arith; next_id = omega arith; next_ask = omega arith }
-grown_act cause s Trim g = record { id = refl; count = refl; view = λ k h. h; acked = omega arith; next_id = omega arith; next_ask = omega arith }
-grown_act cause s (Enter port call) g = record { id = refl; count = refl; view = λ k h. h; acked = omega arith; next_id = omega arith; next_ask = omega arith }
-grown_act cause s (Ask port key) g = record { id = refl; count = refl; view = λ k h. h; acked = omega arith; next_id = omega arith; next_ask = omega arith }
-grown_act cause s (Show port key) g = grown_same s
 
 pub grown_done : (t : Traced) (i : ℕ) (cause : Cause) (a : Action) → i < count t → Guard cause (server t.world i) a → (k : ℕ) → Grown (server t.world k) (server (done t i a).world k)
 grown_done t i cause a l g k =

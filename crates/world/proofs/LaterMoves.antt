@@ -14,7 +14,7 @@ use Rattle.world.specs.declared.connections.Stage.TheVariants.{Idle, Begun, Aske
 use Rattle.world.specs.Connections.{Connection, came, begun_by, begun, past_faults, asked, handed}
 use Rattle.world.specs.Worlds.{World, server, lives, with_link, with_connection, where_home_lives}
 use Rattle.world.specs.Calls.{CallId, begun_call, reply_to}
-use Rattle.world.proofs.Lists.{Begins, get_front}
+use Rattle.node.proofs.Lists.{Begins, get_front}
 use Rattle.world.proofs.Traces.{Traced, log, issued_by, reconnected, unlinked, failing}
 use Rattle.world.proofs.Layers.{Later, Framed}
 use Rattle.world.proofs.Moves.{Move, Does, Comes, Starts, Works, Hands, Takes, Fails, moved, IsMove}

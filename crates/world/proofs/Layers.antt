@@ -24,8 +24,8 @@ use Rattle.world.specs.declared.connections.Stage.TheVariants.{Asked, Replied}
 use Rattle.world.specs.Connections.{Connection, open_call}
 use Rattle.world.specs.Worlds.{server, link, lives}
 use Rattle.world.specs.Calls.{CallId, begun_call, reply_to}
-use Rattle.world.proofs.Lists.{In, Begins}
-use Rattle.world.proofs.Actions.{Cause}
+use Rattle.node.proofs.Lists.{In, Begins}
+use Rattle.node.specs.Actions.{Cause}
 use Rattle.world.proofs.Traces.{Traced, AnsweredRead, log, issued_by, count, last_living, open_id}
 
 -- What was known is known still.

@@ -21,8 +21,8 @@ use Rattle.node.specs.Joining.{widened}
 use Rattle.node.specs.Steps.{trimmed}
 use Rattle.node.proofs.ViewLaws.{previous_is}
 use Rattle.world.specs.Worlds.{server}
-use Rattle.world.proofs.Lists.{pushed_cases}
-use Rattle.world.proofs.Actions.{Action, Widen, Append, Reach, Settle, Send, Finish, Trim, Enter, Ask, Show, act, Cause, IsWanted, IsMade, IsPassed}
+use Rattle.node.proofs.Lists.{pushed_cases}
+use Rattle.node.specs.Actions.{Action, Widen, Append, Reach, Settle, Send, Finish, Trim, Enter, Ask, Show, act, Cause, IsWanted, IsMade, IsPassed}
 use Rattle.world.proofs.Traces.{Traced, log, count, open_id, done}
 use Rattle.world.proofs.Layers.{Holds, IsIssued, IsDecided, Asks, Carries, entries_of}
 use Rattle.world.proofs.TraceLaws.{new_entries, server_done, server_other, log_done, log_other}

@@ -17,7 +17,7 @@ use Rattle.versions.specs.Entries.{LogEntry}
 use Rattle.versions.specs.Stores.{items_after}
 use Rattle.world.specs.Calls.{CallId, begun_call}
 use Rattle.world.specs.Orders.{Entry, StandsAt}
-use Rattle.world.proofs.Lists.{In}
+use Rattle.node.proofs.Lists.{In}
 use Rattle.world.proofs.Traces.{Traced, AnsweredRead, issued_by}
 use Rattle.world.proofs.Layers.{entries_of, IsNamed, IsDecided, Lawful}
 use Rattle.world.proofs.Placing.{Placed, of_update, of_read, placed}

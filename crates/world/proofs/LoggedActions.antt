@@ -20,7 +20,7 @@ use Rattle.node.proofs.SoundLaws.{least_within}
 use Rattle.world.specs.Worlds.{server, lives}
 use Rattle.world.proofs.Beginnings.{begins_as, begins-push}
 use Rattle.world.proofs.HeldLogs.{held_last, holds-pushed, holds-acked_to, holds-dropped_to, held_entry}
-use Rattle.world.proofs.Actions.{Action, Widen, Append, Reach, Settle, Send, Finish, Trim, Enter, Ask, Show, act, Cause, IsMade, IsPassed, IsReached, MaySend, Guard}
+use Rattle.node.specs.Actions.{Action, Widen, Append, Reach, Settle, Send, Finish, Trim, Enter, Ask, Show, act, Cause, IsMade, IsPassed, IsReached, MaySend, Guard}
 use Rattle.world.proofs.Traces.{Traced, log, count, last_living, done}
 use Rattle.world.proofs.TraceLaws.{new_entries}
 use Rattle.world.proofs.Layers.{Later, Framed, Carries, Logged, Lawful, IsKnown}

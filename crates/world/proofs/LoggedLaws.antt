@@ -9,9 +9,9 @@ use Rattle.node.specs.declared.messages.Body.TheVariants.{Op, Forward, Ack, Quer
 use Rattle.node.specs.declared.messages.Peer.{Peer}
 use Rattle.node.specs.Views.{View, has}
 use Rattle.world.specs.Worlds.{server, link, lives}
-use Rattle.world.proofs.Lists.{In, Begins}
+use Rattle.node.proofs.Lists.{In, Begins}
 use Rattle.world.proofs.Beginnings.{begins-length}
-use Rattle.world.proofs.Actions.{Action, Send, act}
+use Rattle.node.specs.Actions.{Action, Send, act}
 use Rattle.world.proofs.Traces.{Traced, log, count, last_living, done}
 use Rattle.world.proofs.TraceLaws.{new_entries, last_living_done, server_done, server_other, link_done, log_other, log_done, committed_done}
 use Rattle.world.proofs.Layers.{Later, Framed, Holds, Carries, Logged}

@@ -3,7 +3,7 @@ use Rattle.std.proofs.Common.{ℕ, List}
 use Rattle.node.specs.declared.messages.Peer.{Peer}
 use Rattle.world.specs.Connections.{Connection, came, begun, asked, handed}
 use Rattle.world.specs.Worlds.{where_home_lives}
-use Rattle.world.proofs.Lists.{Begins}
+use Rattle.node.proofs.Lists.{Begins}
 use Rattle.world.proofs.Beginnings.{begins_same}
 use Rattle.world.proofs.Traces.{Traced, reconnected, unlinked}
 use Rattle.world.proofs.ChangeLaws.{committed_reconnected, committed_unlinked}

@@ -8,7 +8,7 @@ use Rattle.node.specs.Lawful.{IsSound}
 use Rattle.world.specs.declared.connections.Stage.TheVariants.{Begun}
 use Rattle.world.specs.Connections.{Connection, came, begun, open_call, asked, handed}
 use Rattle.world.specs.Worlds.{server, link, lives, where_home_lives}
-use Rattle.world.proofs.Actions.{Action, Cause, Guard, left}
+use Rattle.node.specs.Actions.{Action, Cause, Guard, left}
 use Rattle.world.proofs.Traces.{Traced, done, reconnected, unlinked, failing}
 use Rattle.world.proofs.Layers.{IsKnown}
 

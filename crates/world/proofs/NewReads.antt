@@ -16,8 +16,8 @@ use Rattle.node.specs.declared.servers.OpenRead.{OpenRead}
 use Rattle.node.specs.declared.messages.Input.TheVariants.{Call as Called, From}
 use Rattle.node.specs.Servers.{reply_at}
 use Rattle.world.specs.Worlds.{server, lives}
-use Rattle.world.proofs.Lists.{Begins}
-use Rattle.world.proofs.Actions.{Action, Widen, Append, Reach, Settle, Send, Finish, Trim, Enter, Ask, Show, act, Cause, IsAnswered}
+use Rattle.node.proofs.Lists.{Begins}
+use Rattle.node.specs.Actions.{Action, Widen, Append, Reach, Settle, Send, Finish, Trim, Enter, Ask, Show, act, Cause, IsAnswered}
 use Rattle.world.proofs.Traces.{Traced, AnsweredRead, log, open_id}
 use Rattle.world.proofs.Layers.{Holds, Lawful, IsWith, Carries}
 use Rattle.world.proofs.TraceLaws.{new_reads}

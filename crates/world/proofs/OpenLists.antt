@@ -16,8 +16,8 @@ use Rattle.node.specs.Reading.{without_read, asked}
 use Rattle.node.specs.Joining.{widened}
 use Rattle.node.specs.Steps.{trimmed}
 use Rattle.node.specs.Lawful.{AreUpdates, AreReads}
-use Rattle.world.proofs.Lists.{In, in_pushed}
-use Rattle.world.proofs.Actions.{Action, Widen, Append, Reach, Settle, Send, Finish, Trim, Enter, Ask, Show, act}
+use Rattle.node.proofs.Lists.{In, in_pushed}
+use Rattle.node.specs.Actions.{Action, Widen, Append, Reach, Settle, Send, Finish, Trim, Enter, Ask, Show, act}
 
 -- ---- lists without the first that passes a test
 

@@ -22,7 +22,7 @@ use Rattle.node.proofs.ViewLaws.{has-single_other, below-single}
 use Rattle.node.proofs.SoundLaws.{sound-entered, sound-appended}
 use Rattle.node.proofs.RuleLaws.{IsGood, entry_of-valid, good-join, heard, good-taken_in}
 use Rattle.world.proofs.Opening.{Own, HasSeen, IsOpen}
-use Rattle.world.proofs.Lists.{in_front}
+use Rattle.node.proofs.Lists.{in_front}
 use Rattle.world.proofs.OwnIds.{own_entered, seen_same}
 use Rattle.world.proofs.Advances.{no_op, advances_silent, advances_put, advances_passed_on, advances_take, IsNextIn, advances_received, advances_trimmed}
 use Rattle.world.proofs.HeadTakes.{HasRoom, may_take, ops_called, head_apart}

@@ -14,7 +14,7 @@ use Rattle.node.specs.declared.messages.Output.TheVariants.{Reply as Answered}
 use Rattle.node.specs.Views.{has}
 use Rattle.node.specs.Servers.{ServerState, seen_of, head_of, is_head}
 use Rattle.world.specs.Worlds.{World, server, link}
-use Rattle.world.proofs.Lists.{In}
+use Rattle.node.proofs.Lists.{In}
 use Rattle.world.proofs.Streaming.{IsRun}
 
 -- ---- ids

@@ -13,7 +13,7 @@ use Rattle.node.specs.Lawful.{IsInput, HoldsEntry}
 use Rattle.world.specs.declared.events.Event.{Event}
 use Rattle.world.specs.Connections.{asked}
 use Rattle.world.specs.Worlds.{World, server, link, takes, with_link, with_connection, happens}
-use Rattle.world.proofs.Lists.{In}
+use Rattle.node.proofs.Lists.{In}
 use Rattle.world.proofs.Traces.{Traced, count, outset}
 use Rattle.world.proofs.IdLaws.{living_parts}
 use Rattle.world.proofs.Outsets.{all_alike, count_outset, server_outset, link_outset}

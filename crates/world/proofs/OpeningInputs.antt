@@ -18,13 +18,13 @@ use Rattle.node.specs.Steps.{received, is_heard, trimmed, step}
 use Rattle.node.specs.Lawful.{IsCall, IsBody, IsSound, IsLawful}
 use Rattle.node.proofs.RuleLaws.{heard, good-join, good-received}
 use Rattle.world.specs.Worlds.{World, server, link}
-use Rattle.world.proofs.Lists.{In}
+use Rattle.node.proofs.Lists.{In}
 use Rattle.world.proofs.Traces.{Traced, log, issued_by, count}
 use Rattle.world.proofs.Layers.{Goes, Carries, Asks, IsAddressed, IsIssued, Lawful, entries_of}
 use Rattle.world.proofs.Beginnings.{begins-take}
 use Rattle.world.proofs.IdLaws.{previous_of, at_head, head_from, is_itself}
-use Rattle.world.proofs.DoneActions.{view_after}
-use Rattle.world.proofs.DoneJoins.{done_join, known_after}
+use Rattle.node.proofs.DoneActions.{view_after}
+use Rattle.node.proofs.DoneJoins.{done_join, known_after}
 use Rattle.world.proofs.StepTellings.{step_heard}
 use Rattle.world.proofs.StreamSteps.{last_is}
 use Rattle.world.proofs.StreamDeliveries.{sender_apart, is_heard_there}

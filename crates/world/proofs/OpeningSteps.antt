@@ -10,7 +10,7 @@ use Rattle.node.specs.Views.{has, head}
 use Rattle.node.specs.Servers.{Outcome, seen_of, head_of}
 use Rattle.table.specs.declared.operations.Call.{Call}
 use Rattle.world.specs.Worlds.{server, link}
-use Rattle.world.proofs.Lists.{In, Begins}
+use Rattle.node.proofs.Lists.{In, Begins}
 use Rattle.world.proofs.Traces.{Traced, log, count}
 use Rattle.world.proofs.Layers.{Goes, Framed, Lawful, entries_of}
 use Rattle.world.proofs.Beginnings.{begins-take}

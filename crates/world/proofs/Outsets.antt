@@ -10,7 +10,7 @@ use Rattle.node.specs.Lawful.{IsLawful}
 use Rattle.node.proofs.RuleLaws.{lawful-opening}
 use Rattle.world.specs.Connections.{Connection, fresh}
 use Rattle.world.specs.Worlds.{nobody, server, link, opening_servers}
-use Rattle.world.proofs.Lists.{In, get_front, get_last}
+use Rattle.node.proofs.Lists.{In, get_front, get_last}
 use Rattle.world.proofs.Traces.{log, issued_by, count, outset}
 use Rattle.world.proofs.Layers.{Framed}
 use Rattle.world.proofs.IdLaws.{nowhere}

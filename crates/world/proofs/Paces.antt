@@ -6,7 +6,7 @@ use Rattle.node.specs.Numbering.{appended, entered}
 use Rattle.node.specs.Reading.{asked}
 use Rattle.node.specs.Joining.{widened}
 use Rattle.node.specs.Steps.{trimmed}
-use Rattle.world.proofs.Actions.{Action, Widen, Append, Reach, Settle, Send, Finish, Trim, Enter, Ask, Show, act, does, Cause, left, Guard, AreGuarded, IsDone}
+use Rattle.node.specs.Actions.{Action, Widen, Append, Reach, Settle, Send, Finish, Trim, Enter, Ask, Show, act, does, Cause, left, Guard, AreGuarded, IsDone}
 
 -- an own call takes an id or an ask
 abbrev pub takes_of : Cause → ℕ

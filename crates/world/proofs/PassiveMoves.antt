@@ -9,7 +9,7 @@ use Rattle.world.specs.declared.connections.Stage.TheVariants.{Idle, Begun, Aske
 use Rattle.world.specs.Connections.{Connection}
 use Rattle.world.specs.Worlds.{server, link}
 use Rattle.world.specs.Calls.{CallId, reply_to}
-use Rattle.world.proofs.Lists.{In, pushed_cases}
+use Rattle.node.proofs.Lists.{In, pushed_cases}
 use Rattle.world.proofs.Traces.{Traced, AnsweredRead, log, issued_by, count, open_id}
 use Rattle.world.proofs.Layers.{Later, Lawful, IsWith, IsAnswer, Calling, Read, IsRead}
 use Rattle.world.proofs.LaterMoves.{reply_stands, reply_found}

@@ -8,7 +8,7 @@ use Rattle.table.specs.declared.operations.Reply.TheVariants.{Value}
 use Rattle.versions.specs.Entries.{LogEntry}
 use Rattle.world.specs.Calls.{CallId}
 use Rattle.world.specs.Orders.{Entry}
-use Rattle.world.proofs.Lists.{In, in_joined}
+use Rattle.node.proofs.Lists.{In, in_joined}
 use Rattle.world.proofs.Traces.{AnsweredRead}
 
 -- An entry of the order with its rank: a number, and a turn among those of this number.

@@ -6,7 +6,7 @@ use Rattle.std.proofs.lemmas.Option.{same_Some}
 use Rattle.table.specs.declared.operations.Call.{Call}
 use Rattle.versions.specs.Entries.{LogEntry}
 use Rattle.world.specs.Calls.{CallId}
-use Rattle.world.proofs.Lists.{In, in_joined, in_front, in_behind, in_more}
+use Rattle.node.proofs.Lists.{In, in_joined, in_front, in_behind, in_more}
 use Rattle.world.proofs.Traces.{AnsweredRead}
 use Rattle.world.proofs.Placing.{Placed, IsBefore, Sorted, of_update, of_read, reads_at, placed, below_each, sorted_joined}
 

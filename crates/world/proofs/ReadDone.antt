@@ -14,8 +14,8 @@ use Rattle.world.specs.declared.connections.Stage.TheVariants.{Asked, Replied}
 use Rattle.world.specs.Connections.{Connection, open_call, may_have, replied}
 use Rattle.world.specs.Worlds.{World, server, with_server, with_connection, put_all}
 use Rattle.world.specs.Calls.{CallId}
-use Rattle.world.proofs.Lists.{Begins, pushed_cases}
-use Rattle.world.proofs.Actions.{Action, Widen, Append, Reach, Settle, Send, Finish, Trim, Enter, Ask, Show, act, Cause}
+use Rattle.node.proofs.Lists.{Begins, pushed_cases}
+use Rattle.node.specs.Actions.{Action, Widen, Append, Reach, Settle, Send, Finish, Trim, Enter, Ask, Show, act, Cause}
 use Rattle.world.proofs.Traces.{Traced, AnsweredRead, open_id, done}
 use Rattle.world.proofs.Layers.{Later, IsWith, IsRead, Read}
 use Rattle.world.proofs.WorldLaws.{Answers, changed_one}

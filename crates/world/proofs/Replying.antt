@@ -13,12 +13,12 @@ use Rattle.node.specs.declared.messages.Peer.{Peer}
 use Rattle.node.specs.declared.messages.Output.TheVariants.{To, Reply as Answered}
 use Rattle.node.specs.declared.messages.Input.TheVariants.{Call as Called}
 use Rattle.world.specs.Worlds.{server}
-use Rattle.world.proofs.Lists.{In, get_last}
-use Rattle.world.proofs.Actions.{Action, Widen, Append, Reach, Settle, Send, Finish, Trim, Enter, Ask, Show, act, Cause}
+use Rattle.node.proofs.Lists.{In, get_last}
+use Rattle.node.specs.Actions.{Action, Widen, Append, Reach, Settle, Send, Finish, Trim, Enter, Ask, Show, act, Cause}
 use Rattle.world.proofs.Traces.{Traced, AnsweredRead, issued_by, count, open_id, done}
 use Rattle.world.proofs.Layers.{Lawful, IsWith, IsNamed, IsAnswer}
 use Rattle.world.proofs.TraceLaws.{new_reads, reads_done}
-use Rattle.world.proofs.OpenCalls.{update_in}
+use Rattle.node.proofs.OpenCalls.{update_in}
 use Rattle.world.proofs.OpenLists.{IsClosed, closed_by, reply_there, update_apart, read_apart, in_without}
 use Rattle.world.proofs.Kept.{named_later}
 use Rattle.world.proofs.OpenIds.{with_same}

@@ -10,7 +10,7 @@ use Rattle.node.specs.Views.{has}
 use Rattle.node.specs.Servers.{head_of, tail_of, seen_of}
 use Rattle.node.specs.Lawful.{IsLawful}
 use Rattle.world.specs.Worlds.{server, link, lives}
-use Rattle.world.proofs.Lists.{In}
+use Rattle.node.proofs.Lists.{In}
 use Rattle.world.proofs.Traces.{Traced, log, count}
 use Rattle.world.proofs.Layers.{Lawful, entries_of}
 use Rattle.world.proofs.Outsets.{nothing_in}

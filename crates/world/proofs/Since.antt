@@ -9,8 +9,8 @@ use Rattle.node.specs.declared.messages.Peer.{Peer}
 use Rattle.node.specs.declared.messages.Input.TheVariants.{Call as Called, From, Gone}
 use Rattle.world.specs.Worlds.{server, link}
 use Rattle.world.specs.Calls.{CallId, begun_call}
-use Rattle.world.proofs.Lists.{In}
-use Rattle.world.proofs.Actions.{Cause}
+use Rattle.node.proofs.Lists.{In}
+use Rattle.node.specs.Actions.{Cause}
 use Rattle.world.proofs.Traces.{Traced, AnsweredRead, log, count, open_id}
 use Rattle.world.proofs.Layers.{IsNamed, Newer, Lawful}
 use Rattle.world.proofs.Linear.{nothing_there}

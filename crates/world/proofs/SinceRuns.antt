@@ -5,8 +5,8 @@ use Rattle.node.specs.declared.messages.Input.TheVariants.{Call as Called, From,
 use Rattle.node.specs.declared.servers.OpenRead.{OpenRead}
 use Rattle.world.specs.Worlds.{server}
 use Rattle.world.specs.Calls.{begun_call}
-use Rattle.world.proofs.Lists.{In}
-use Rattle.world.proofs.Actions.{Cause}
+use Rattle.node.proofs.Lists.{In}
+use Rattle.node.specs.Actions.{Cause}
 use Rattle.world.proofs.Traces.{Traced, count, open_id, unlinked}
 use Rattle.world.proofs.Layers.{Later, Lawful}
 use Rattle.world.proofs.LaterLaws.{later_same, later_on}

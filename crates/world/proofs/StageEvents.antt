@@ -22,13 +22,13 @@ use Rattle.world.specs.declared.connections.Stage.{Stage}
 use Rattle.world.specs.declared.connections.Stage.TheVariants.{Idle, Begun, Asked, Replied}
 use Rattle.world.specs.Connections.{Connection, open_call, may_have, came, begun, begun_by, past_faults, handed, asked}
 use Rattle.world.specs.Worlds.{World, server, lives, takes, with_link, with_connection, where_home_lives, opening_world}
-use Rattle.world.proofs.Lists.{In}
+use Rattle.node.proofs.Lists.{In}
 use Rattle.world.proofs.WorldLaws.{unchanged_one}
 use Rattle.world.proofs.IdLaws.{living_parts}
 use Rattle.world.proofs.Traces.{Traced, count}
 use Rattle.world.proofs.Layers.{Lawful}
-use Rattle.world.proofs.OpenCalls.{update_in}
-use Rattle.world.proofs.DoneSteps.{step_done}
+use Rattle.node.proofs.OpenCalls.{update_in}
+use Rattle.node.proofs.DoneSteps.{step_done}
 use Rattle.world.proofs.Outsets.{fresh_at}
 use Rattle.world.proofs.KeptOpen.{AnswersPort, KeepsOpen, open_done}
 use Rattle.world.proofs.CallsOpened.{IsOpenAt, HasRoom, call_opened}

@@ -12,7 +12,7 @@ use Rattle.world.specs.declared.connections.Stage.{Stage}
 use Rattle.world.specs.declared.connections.Stage.TheVariants.{Idle, Begun, Asked, Replied}
 use Rattle.world.specs.Connections.{Connection, open_call, may_have, asked, replied}
 use Rattle.world.specs.Worlds.{World, server, takes, put, put_all, with_server, with_link, with_connection}
-use Rattle.world.proofs.Lists.{In}
+use Rattle.node.proofs.Lists.{In}
 use Rattle.world.proofs.WorldLaws.{Answers, changed_one, connection-before_all, answers_one, server-put_all, server_same, server_apart}
 use Rattle.world.proofs.CallsOpened.{IsOpenAt}
 

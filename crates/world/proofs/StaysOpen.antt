@@ -12,7 +12,7 @@ use Rattle.node.specs.Numbering.{open_update, without_update, left_open, left_op
 use Rattle.node.specs.Joining.{replies_to}
 use Rattle.node.specs.Steps.{trimmed}
 use Rattle.node.specs.declared.messages.Body.TheVariants.{Ack}
-use Rattle.world.proofs.Lists.{In, in_front, in_behind, in_more}
+use Rattle.node.proofs.Lists.{In, in_front, in_behind, in_more}
 use Rattle.world.proofs.Opening.{IsOpen, IsAnswered}
 
 out_step : {X : Type 0} (b : Bool) (y x : X) (ys rest : List X) (f : Option X) → In x (y ∷ ys) → (In x ys → In x rest ⊎ (f ≡ Some x)) → In x (cond b ys (y ∷ rest)) ⊎ (cond b (Some y) f ≡ Some x)

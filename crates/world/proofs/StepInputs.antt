@@ -4,10 +4,10 @@ use Rattle.std.specs.Prelude.{slice_get}
 use Rattle.versions.specs.Entries.{LogEntry, IsEntry}
 use Rattle.node.specs.Lawful.{IsSound}
 use Rattle.world.specs.Worlds.{server, lives}
-use Rattle.world.proofs.Lists.{In}
+use Rattle.node.proofs.Lists.{In}
 use Rattle.world.proofs.Fronts.{begins_back}
 use Rattle.world.proofs.HeldLogs.{held_entry}
-use Rattle.world.proofs.Actions.{Action, Cause, Guard}
+use Rattle.node.specs.Actions.{Action, Cause, Guard}
 use Rattle.world.proofs.Traces.{Traced, log, count, done}
 use Rattle.world.proofs.Layers.{Later, Lawful, IsKnown}
 use Rattle.world.proofs.LastLiving.{alive}

@@ -18,7 +18,7 @@ use Rattle.node.specs.Lawful.{IsInput, HoldsEntry, IsSound, IsLawful}
 use Rattle.node.proofs.ViewLaws.{has-single_other, below-single}
 use Rattle.node.proofs.SoundLaws.{sound-widened, store-widened}
 use Rattle.node.proofs.RuleLaws.{made-promoted_to_head, made-promoted_to_tail, longer-promoted_to_head, ready, heard, good-taken_in}
-use Rattle.world.proofs.Lists.{in_front, in_behind}
+use Rattle.node.proofs.Lists.{in_front, in_behind}
 use Rattle.world.proofs.ForwardRuns.{run_as, numbers_to, numbers_to-append}
 use Rattle.world.proofs.Tellings.{next_at, previous_at, last_rise, last_appended, tells_silent, tells_call, tells_received, tells_trimmed}
 use Rattle.world.proofs.JoinTellings.{Informs, informs_told, informs_then, keeps_then, second, third, fourth_run, keeps_fourth, needed_same, needed_new, fifth, fifth_acks, sixth, seat_widened}

@@ -18,12 +18,12 @@ use Rattle.node.specs.Steps.{received, is_heard, trimmed, step}
 use Rattle.node.specs.Lawful.{IsSound, IsLawful}
 use Rattle.node.proofs.RuleLaws.{good-join, good-received}
 use Rattle.world.specs.Worlds.{server, link}
-use Rattle.world.proofs.Lists.{in_more}
+use Rattle.node.proofs.Lists.{in_more}
 use Rattle.world.proofs.Traces.{Traced, count}
 use Rattle.world.proofs.Layers.{Goes, Carries, IsAddressed, Framed}
 use Rattle.world.proofs.Beginnings.{begins-length}
 use Rattle.world.proofs.IdLaws.{following_from, previous_from, previous_of}
-use Rattle.world.proofs.DoneJoins.{join_knows}
+use Rattle.node.proofs.DoneJoins.{join_knows}
 use Rattle.world.proofs.Streaming.{forwarded_number, numbers, IsRun, Linked, Stream, LinkedBack, IsTold}
 use Rattle.world.proofs.Tellings.{tells_received, tells_trimmed}
 use Rattle.world.proofs.StepTellings.{informs_join, received_forward, received_ack, step_heard}

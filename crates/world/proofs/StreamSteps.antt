@@ -11,7 +11,7 @@ use Rattle.node.specs.declared.messages.Peer.{Peer}
 use Rattle.node.specs.Views.{has, successor}
 use Rattle.node.specs.Servers.{ServerState, Outcome, previous, next}
 use Rattle.world.specs.Worlds.{World, server, link, acted, with_server}
-use Rattle.world.proofs.Lists.{In, in_front, in_behind}
+use Rattle.node.proofs.Lists.{In, in_front, in_behind}
 use Rattle.world.proofs.Traces.{Traced, log, count}
 use Rattle.world.proofs.Layers.{Later, Goes, Framed, Logged, Lawful}
 use Rattle.world.proofs.WorldLaws.{server_same, server_apart, servers-put_all, server-put_all, failed-put_all}

@@ -10,7 +10,7 @@ use Rattle.node.specs.declared.messages.Output.TheVariants.{To, Reply as Replied
 use Rattle.node.specs.Views.{has}
 use Rattle.node.specs.Servers.{previous, next}
 use Rattle.world.specs.Worlds.{World, server, link}
-use Rattle.world.proofs.Lists.{In}
+use Rattle.node.proofs.Lists.{In}
 
 -- the number of a forwarded entry
 abbrev pub forwarded_number : Body → List ℕ

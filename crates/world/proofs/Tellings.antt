@@ -23,7 +23,7 @@ use Rattle.node.specs.Reading.{asked, dirty_read, read_of, receive_query, open_r
 use Rattle.node.specs.Steps.{call, receive, received, least_open, trimmed}
 use Rattle.node.specs.Lawful.{IsSound}
 use Rattle.node.proofs.SoundLaws.{least_within}
-use Rattle.world.proofs.Lists.{In, in_front, in_behind}
+use Rattle.node.proofs.Lists.{In, in_front, in_behind}
 use Rattle.world.proofs.IdLaws.{at_tail, next_of}
 use Rattle.world.proofs.Streaming.{forwarded_number, IsRun}
 use Rattle.world.proofs.ForwardRuns.{run-append, numbers_to, numbers_to-append, number_there, no_number, no_numbers}

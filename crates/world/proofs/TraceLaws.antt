@@ -22,9 +22,9 @@ use Rattle.world.specs.declared.connections.Stage.TheVariants.{Replied}
 use Rattle.world.specs.Connections.{Connection}
 use Rattle.world.specs.Worlds.{World, server, link, lives, with_server}
 use Rattle.world.specs.Calls.{CallId, begun_call, reply_to}
-use Rattle.world.proofs.Lists.{In}
+use Rattle.node.proofs.Lists.{In}
 use Rattle.world.proofs.WorldLaws.{server_same, server_apart, Answers, servers-put_all, failed-put_all, server-put_all, link-put_all, connection-put_all, connection-before_all}
-use Rattle.world.proofs.Actions.{Action, Widen, Append, Reach, Settle, Send, Finish, Trim, Enter, Ask, Show, act}
+use Rattle.node.specs.Actions.{Action, Widen, Append, Reach, Settle, Send, Finish, Trim, Enter, Ask, Show, act}
 use Rattle.world.proofs.Traces.{AnsweredRead, Traced, log, issued_by, count, last_living, open_id, open_place, logs_after, issued_after, done}
 
 -- ---- what an action adds

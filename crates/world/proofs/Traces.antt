@@ -9,7 +9,7 @@ use Rattle.node.specs.Views.{union, single, predecessor}
 use Rattle.world.specs.Connections.{Connection}
 use Rattle.world.specs.Worlds.{World, server, with_link, with_connection, opening_world, acted}
 use Rattle.world.specs.Calls.{CallId}
-use Rattle.world.proofs.Actions.{Action, Append, Finish, Enter, Show, act}
+use Rattle.node.specs.Actions.{Action, Append, Finish, Enter, Show, act}
 
 -- A read that a server answered: which call, its key, the number of the entries behind which it stands, and the item or none.
 pub record AnsweredRead : Type 0 where

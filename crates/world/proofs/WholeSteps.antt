@@ -5,7 +5,7 @@ use Rattle.node.specs.declared.messages.Output.{Output}
 use Rattle.node.specs.declared.messages.Output.TheVariants.{To, Reply as Answered}
 use Rattle.node.specs.Servers.{ServerState}
 use Rattle.world.specs.Worlds.{World, nobody, server, link, with_server, with_link, with_connection, put, put_all, acted}
-use Rattle.world.proofs.Actions.{Action, act, does}
+use Rattle.node.specs.Actions.{Action, act, does}
 use Rattle.world.proofs.Traces.{Traced, count, done, all_done}
 use Rattle.world.proofs.TraceLaws.{count_done, server_done}
 

@@ -13,7 +13,7 @@ use Rattle.world.specs.declared.connections.Stage.{Stage}
 use Rattle.world.specs.declared.connections.Stage.TheVariants.{Idle, Begun, Asked, Replied}
 use Rattle.world.specs.Connections.{Connection, open_call, may_have, replied, changed_at}
 use Rattle.world.specs.Worlds.{World, nobody, server, link, with_server, with_link, with_connection, put, put_all}
-use Rattle.world.proofs.Lists.{In, in_pushed}
+use Rattle.node.proofs.Lists.{In, in_pushed}
 
 -- ---- one server, one link
 

@@ -1,14 +1,17 @@
--- Each single action keeps what every server keeps, and a server's place and count.
-use Rattle.std.proofs.Common.{◌≡◌, ◌+◌, ◌⊎◌, inl, inr, refl, ap, arith}
+-- Each single action keeps what every server keeps, and a server's place and count; and what a server knows only grows.
+use Rattle.std.proofs.Common.{◌≡◌, ℕ, ◌+◌, ◌≤◌, true, ◌⊎◌, inl, inr, refl, ap, arith}
+use Rattle.std.proofs.lemmas.Bool.{or_left}
 use Rattle.versions.specs.Entries.{LogEntry}
 use Rattle.versions.specs.Stores.{last_number}
+use Rattle.node.specs.Views.{has}
 use Rattle.node.specs.Servers.{ServerState}
 use Rattle.node.specs.Numbering.{left_open_by, appended, entered}
 use Rattle.node.specs.Reading.{asked, without_read}
 use Rattle.node.specs.Joining.{widened}
 use Rattle.node.specs.Steps.{trimmed}
 use Rattle.node.specs.Lawful.{IsSound}
-use Rattle.world.proofs.Actions.{Action, Widen, Append, Reach, Settle, Send, Finish, Trim, Enter, Ask, Show, act, Cause, IsMade, IsPassed, Guard}
+use Rattle.node.specs.Actions.{Action, Widen, Append, Reach, Settle, Send, Finish, Trim, Enter, Ask, Show, act, Cause, IsMade, IsPassed, Guard}
+use Rattle.node.proofs.ViewLaws.{has-union}
 use Rattle.node.proofs.SoundLaws.{updates-left, reads-without, sound-widened, sound-appended, sound-acked, sound-updates, sound-closed, sound-trimmed, sound-entered, sound-asked}
 
 -- an entry that may be appended has the next number
@@ -46,3 +49,28 @@ seat_act s Trim = record { id = refl; count = refl }
 seat_act s (Enter port call) = record { id = refl; count = refl }
 seat_act s (Ask port key) = record { id = refl; count = refl }
 seat_act s (Show port key) = record { id = refl; count = refl }
+
+-- what a server knows and has numbered only grows
+pub record Grown (s t : ServerState) : Type 0 where
+  pub id : t.id ≡ s.id
+  pub count : t.count ≡ s.count
+  pub view : (k : ℕ) → has s.view k ≡ true → has t.view k ≡ true
+  pub acked : s.store.acked ≤ t.store.acked
+  pub next_id : s.next_id ≤ t.next_id
+  pub next_ask : s.next_ask ≤ t.next_ask
+
+pub grown_same : (s : ServerState) → Grown s s
+grown_same s = record { id = refl; count = refl; view = λ k h. h; acked = omega arith; next_id = omega arith; next_ask = omega arith }
+
+pub grown_act : (cause : Cause) (s : ServerState) (a : Action) → Guard cause s a → Grown s (act s a).state
+unfolding act widened appended entered asked trimmed
+grown_act cause s (Widen v) g = record { id = refl; count = refl; view = λ k h. rw (has-union s.view v k) (or_left _ _ h); acked = omega arith; next_id = omega arith; next_ask = omega arith }
+grown_act cause s (Append e) g = record { id = refl; count = refl; view = λ k h. h; acked = omega arith; next_id = omega arith; next_ask = omega arith }
+grown_act cause s (Reach n) g = record { id = refl; count = refl; view = λ k h. h; acked = omega (arith, g.0); next_id = omega arith; next_ask = omega arith }
+grown_act cause s (Settle e) g = record { id = refl; count = refl; view = λ k h. h; acked = omega arith; next_id = omega arith; next_ask = omega arith }
+grown_act cause s (Send j body) g = grown_same s
+grown_act cause s (Finish r n) g = record { id = refl; count = refl; view = λ k h. h; acked = omega arith; next_id = omega arith; next_ask = omega arith }
+grown_act cause s Trim g = record { id = refl; count = refl; view = λ k h. h; acked = omega arith; next_id = omega arith; next_ask = omega arith }
+grown_act cause s (Enter port call) g = record { id = refl; count = refl; view = λ k h. h; acked = omega arith; next_id = omega arith; next_ask = omega arith }
+grown_act cause s (Ask port key) g = record { id = refl; count = refl; view = λ k h. h; acked = omega arith; next_id = omega arith; next_ask = omega arith }
+grown_act cause s (Show port key) g = grown_same s

@@ -4,7 +4,7 @@ use Rattle.std.specs.Prelude.{slice_get}
 use Rattle.std.proofs.lemmas.Option.{same_Some}
 use Rattle.versions.specs.Entries.{LogEntry}
 use Rattle.versions.specs.Stores.{StoreState, IsLog, IsStore, entries_after}
-use Rattle.world.proofs.Lists.{In}
+use Rattle.node.proofs.Lists.{In}
 
 log_at : (floor k : ℕ) (es : List LogEntry) (e : LogEntry) → IsLog floor es → slice_get es k ≡ Some e → e.number ≡ floor + k + 1
 log_at floor k [] e log h = absurd cc

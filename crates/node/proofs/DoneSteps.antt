@@ -20,14 +20,13 @@ use Rattle.node.specs.Reading.{asked, dirty_read, read_of, receive_query, open_r
 use Rattle.node.specs.Joining.{join}
 use Rattle.node.specs.Steps.{call, gone, receive, received, is_heard, from_peer, taken_in, trimmed, step}
 use Rattle.node.specs.Lawful.{IsCall, IsBody, IsInput, HasEntry, HoldsEntry, IsSound, IsSettled, IsLawful}
-use Rattle.world.proofs.Lists.{In, get_last}
-use Rattle.world.proofs.Actions.{Send, Finish, Trim, Ask, Show, act, Cause, left, IsDone}
+use Rattle.node.proofs.Lists.{In, get_last}
+use Rattle.node.specs.Actions.{Send, Finish, Trim, Ask, Show, act, Cause, left, IsDone}
 use Rattle.node.proofs.ViewLaws.{has-single_other, below-single}
-use Rattle.world.proofs.IdLaws.{that_is}
-use Rattle.world.proofs.Neighbours.{tail_within}
-use Rattle.world.proofs.DoneActions.{done_as, done_silent, done_then, done_one, done_first, done_message, seat_after}
-use Rattle.world.proofs.DoneRules.{message_same, done_update, done_receive_op, done_receive_forward, done_receive_ack}
-use Rattle.world.proofs.DoneJoins.{done_join, join_knows}
+use Rattle.node.proofs.Neighbours.{that_is, tail_within}
+use Rattle.node.proofs.DoneActions.{done_as, done_silent, done_then, done_one, done_first, done_message, seat_after}
+use Rattle.node.proofs.DoneRules.{message_same, done_update, done_receive_op, done_receive_forward, done_receive_ack}
+use Rattle.node.proofs.DoneJoins.{done_join, join_knows}
 use Rattle.node.proofs.SoundLaws.{reads_bound}
 use Rattle.node.proofs.RuleLaws.{clean_at_last, heard}
 

@@ -2,10 +2,7 @@
 use Rattle.std.proofs.Common.{◌≡◌, ℕ, zero, suc, List, [], ◌∷◌, ◌++◌, length, Some, refl, ◌⊎◌, inl, inr, ap, sym}
 use Rattle.std.specs.Prelude.{slice_get}
 use Rattle.std.proofs.lemmas.Option.{same_Some}
-
--- x stands in the list
-abbrev pub In : {X : Type 0} → X → List X → Type 0
-In x xs = (k : ℕ) × (slice_get xs k ≡ Some x)
+pub use Rattle.node.specs.Actions.{In}
 
 -- the first list is a beginning of the second
 abbrev pub Begins : {X : Type 0} → List X → List X → Type 0

@@ -14,12 +14,11 @@ use Rattle.node.specs.Views.{has, is_that}
 use Rattle.node.specs.Servers.{ServerState, Outcome, head_of, is_head, is_tail, previous, next, putting, message_to}
 use Rattle.node.specs.Numbering.{left_open, replies, newly_acked, risen, rise, appended, passed_on, entry_of, is_taken, take_update, entered, is_room_for_update, called, update, receive_op, receive_forward, receive_ack}
 use Rattle.node.specs.Lawful.{IsCall, IsSound}
-use Rattle.world.proofs.Lists.{In, get_last}
-use Rattle.world.proofs.Actions.{Append, Reach, Settle, Enter, act, Cause, left, IsWanted, IsReached, Guard, IsDone}
-use Rattle.world.proofs.IdLaws.{that_is}
-use Rattle.world.proofs.Neighbours.{previous_below, next_within, head_within, head_other}
-use Rattle.world.proofs.StoreChanges.{held_between}
-use Rattle.world.proofs.DoneActions.{done_as, done_silent, done_then, done_first, done_message}
+use Rattle.node.proofs.Lists.{In, get_last}
+use Rattle.node.specs.Actions.{Append, Reach, Settle, Enter, act, Cause, left, IsWanted, IsReached, Guard, IsDone}
+use Rattle.node.proofs.Neighbours.{that_is, previous_below, next_within, head_within, head_other}
+use Rattle.node.proofs.StoreChanges.{held_between}
+use Rattle.node.proofs.DoneActions.{done_as, done_silent, done_then, done_first, done_message}
 use Rattle.node.proofs.RuleLaws.{entry_of-valid}
 
 -- ---- rising

@@ -6,7 +6,7 @@ use Rattle.table.specs.Operations.{is_update}
 use Rattle.node.specs.declared.servers.OpenUpdate.{OpenUpdate}
 use Rattle.node.specs.declared.servers.OpenRead.{OpenRead}
 use Rattle.node.specs.Lawful.{IsCall, AreUpdates, AreReads}
-use Rattle.world.proofs.Lists.{In}
+use Rattle.node.proofs.Lists.{In}
 
 -- ---- own calls
 

@@ -16,15 +16,15 @@ use Rattle.node.specs.Numbering.{appended, entry_of, is_taken, taken}
 use Rattle.node.specs.Reading.{open_read, without_read}
 use Rattle.node.specs.Joining.{widened, taken_all, sent_again, promoted_to_head, promoted_to_tail, forwarded, needed_above, caught_up, acked_to_predecessor, replies_to, asked_again, asks_renewed, rejoined, join}
 use Rattle.node.specs.Lawful.{IsSound}
-use Rattle.world.proofs.Lists.{In}
-use Rattle.world.proofs.Actions.{Widen, Append, Finish, act, Cause, left, IsBrought, IsDone}
+use Rattle.node.proofs.Lists.{In}
+use Rattle.node.specs.Actions.{Widen, Append, Finish, act, Cause, left, IsBrought, IsDone}
 use Rattle.node.proofs.ViewLaws.{has-union}
-use Rattle.world.proofs.Neighbours.{previous_below, next_within, head_within, head_other, tail_within}
-use Rattle.world.proofs.OpenCalls.{update_in, asked_above}
-use Rattle.world.proofs.StoreChanges.{held_after}
-use Rattle.world.proofs.DoneActions.{done_as, view_after, done_silent, done_then, done_first, done_message}
-use Rattle.world.proofs.SoundActions.{sound_act}
-use Rattle.world.proofs.DoneRules.{made_guard, done_rise}
+use Rattle.node.proofs.Neighbours.{previous_below, next_within, head_within, head_other, tail_within}
+use Rattle.node.proofs.OpenCalls.{update_in, asked_above}
+use Rattle.node.proofs.StoreChanges.{held_after}
+use Rattle.node.proofs.DoneActions.{done_as, view_after, done_silent, done_then, done_first, done_message}
+use Rattle.node.proofs.SoundActions.{sound_act}
+use Rattle.node.proofs.DoneRules.{made_guard, done_rise}
 use Rattle.node.proofs.SoundLaws.{reads_bound}
 
 -- ---- second: the own open calls

@@ -9,9 +9,8 @@ use Rattle.node.specs.declared.messages.Output.{Output}
 use Rattle.node.specs.Views.{has}
 use Rattle.node.specs.Servers.{ServerState, Outcome, silent, putting, and_then, message_to}
 use Rattle.node.specs.Lawful.{IsSound}
-use Rattle.world.proofs.Actions.{Action, Widen, Append, Reach, Settle, Send, Finish, Trim, Enter, Ask, Show, act, does, Cause, left, IsMade, IsPassed, MaySend, Guard, AreGuarded, IsDone}
-use Rattle.world.proofs.LaterLaws.{grown_act}
-use Rattle.world.proofs.SoundActions.{sound_act, IsSeatOf, seat_act}
+use Rattle.node.specs.Actions.{Action, Widen, Append, Reach, Settle, Send, Finish, Trim, Enter, Ask, Show, act, does, Cause, left, IsMade, IsPassed, MaySend, Guard, AreGuarded, IsDone}
+use Rattle.node.proofs.SoundActions.{sound_act, IsSeatOf, seat_act, grown_act}
 
 -- ---- a list behind a list
 

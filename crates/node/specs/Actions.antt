@@ -1,0 +1,209 @@
+-- A server's step as a list of single guarded actions, as a TLA+ specification has them (docs/CHAIN.md has the rules in words; CRAQ,
+-- "Chain Replication with Apportioned Queries" and "Failure Recovery in CRAQ"). `meaning` says of each action what is known when it is
+-- done, and what it makes of the server. The law `steps_are_actions` says that each step of a lawful server is such a list.
+use Rattle.std.specs.Prelude.{◌≡◌, ◌≢◌, ℕ, ◌+◌, ◌<◌, ◌≤◌, nat_lt, true, false, List, [], ◌∷◌, slice_get, Option, Some, None, ◌⊎◌}
+use Rattle.table.specs.Operations.{is_update}
+use Rattle.table.specs.declared.operations.Call.{Call}
+use Rattle.table.specs.declared.operations.Reply.TheVariants.{Value}
+use Rattle.table.specs.declared.operations.Target.TheVariants.{One}
+use Rattle.versions.specs.Entries.{LogEntry, IsEntry}
+use Rattle.versions.specs.Stores.{last_number, value_at, is_clean, acked_to}
+use Rattle.node.specs.declared.servers.OpenRead.{OpenRead}
+use Rattle.node.specs.declared.messages.Body.{Body}
+use Rattle.node.specs.declared.messages.Body.TheVariants.{Op, Forward, Ack, Query, Answer}
+use Rattle.node.specs.declared.messages.Peer.{Peer}
+use Rattle.node.specs.declared.messages.Input.{Input}
+use Rattle.node.specs.declared.messages.Input.TheVariants.{Call as Called, From, Gone}
+use Rattle.node.specs.Views.{View, has, single, is_below}
+use Rattle.node.specs.Servers.{ServerState, Outcome, most, head_of, tail_of, is_head, is_tail, previous, next, silent, putting, and_then, message_to, reply_at}
+use Rattle.node.specs.Numbering.{left_open_by, reply_to, appended, entry_of, is_taken, entered, is_room_for_update}
+use Rattle.node.specs.Reading.{asked, open_read, without_read}
+use Rattle.node.specs.Joining.{widened}
+use Rattle.node.specs.Steps.{trimmed}
+use Rattle.node.specs.Lawful.{IsCall, IsSound}
+
+-- ---- the input
+
+-- the input whose step this is, until an own call was taken in
+abbrev pub Cause : Type 0
+Cause = Option Input
+
+-- what is left of it after an action: a message or a notice stays
+abbrev pub left : Cause → Cause
+left None = None
+left (Some (Called port call)) = None
+left (Some (From i m)) = Some (From i m)
+left (Some (Gone j)) = Some (Gone j)
+
+-- the view that an input brings
+abbrev pub IsBrought : Cause → View → Type 0
+IsBrought input v = ((i : ℕ) × (m : Peer) × (input ≡ Some (From i m)) × (v ≡ m.view)) ⊎ ((j : ℕ) × (input ≡ Some (Gone j)) × (v ≡ single j))
+
+-- ---- what the guards speak of
+
+-- x stands in the list
+abbrev pub In : {X : Type 0} → X → List X → Type 0
+In x xs = (k : ℕ) × (slice_get xs k ≡ Some x)
+
+-- the update with this origin and id is one that may be taken: an own open call, or what an `Op` asks for
+abbrev pub IsWanted : Cause → ServerState → ℕ → ℕ → Call → Type 0
+IsWanted input s origin id call =
+    ((origin ≡ s.id) × (port : ℕ) × In (record { id = id; port = port; call = call }) s.pend)
+    ⊎ ((m : Peer) × (input ≡ Some (From origin m)) × (m.body ≡ Op id call) × (has s.view origin ≡ false))
+
+-- an entry that the head makes
+pub record IsMade (input : Cause) (s : ServerState) (e : LogEntry) : Type 0 where
+  pub origin : ℕ
+  pub id : ℕ
+  pub call : Call
+  pub wanted : IsWanted input s origin id call
+  pub fits : IsCall call
+  pub update : is_update call.op ≡ true
+  pub head : is_head s ≡ true
+  pub taken : is_taken s origin id ≡ true
+  pub made : e ≡ entry_of s origin id call
+
+-- an entry that the predecessor forwarded
+pub record IsPassed (input : Cause) (s : ServerState) (e : LogEntry) : Type 0 where
+  pub from : ℕ
+  pub message : Peer
+  pub came : input ≡ Some (From from message)
+  pub body : message.body ≡ Forward e
+  pub previous : previous s ≡ Some from
+  pub next : e.number ≡ last_number s.store + 1
+  -- the message's view was joined
+  pub joined : (k : ℕ) → has message.view k ≡ true → has s.view k ≡ true
+
+-- the tail rises to its last number, and another to the number that its successor acknowledged
+abbrev pub IsReached : Cause → ServerState → ℕ → Type 0
+IsReached input s n =
+    ((is_tail s ≡ true) × (n ≡ last_number s.store))
+    ⊎ ((i : ℕ) × (m : Peer) × (input ≡ Some (From i m)) × (m.body ≡ Ack n) × (next s ≡ Some i) × ((k : ℕ) → has m.view k ≡ true → has s.view k ≡ true))
+
+-- a message that may be put out to server j
+abbrev pub MaySend : Cause → ServerState → ℕ → Body → Type 0
+MaySend input s j (Op id call) =
+    (head_of s ≡ Some j) × (j ≢ s.id) × (is_update call.op ≡ true) × IsCall call × (port : ℕ) × In (record { id = id; port = port; call = call }) s.pend
+MaySend input s j (Forward e) = (next s ≡ Some j) × In e s.store.rest
+MaySend input s j (Ack n) = (previous s ≡ Some j) × (n ≡ s.store.acked)
+MaySend input s j (Query ask key) =
+    (tail_of s ≡ Some j) × (is_tail s ≡ false) × (1 ≤ ask) × (port : ℕ) × (mark : ℕ) × In (record { ask = ask; port = port; key = key; mark = mark }) s.asks
+MaySend input s j (Answer ask n) =
+    (is_tail s ≡ true) × (n ≡ last_number s.store) × (has s.view j ≡ false) × (m : Peer) × (key : List ℕ) × (input ≡ Some (From j m)) × (m.body ≡ Query ask key)
+
+-- the number that answers an open read: the tail's last number, its own or one that it sent
+abbrev pub IsAnswered : Cause → ServerState → ℕ → ℕ → Type 0
+IsAnswered input s ask n =
+    ((is_tail s ≡ true) × (n ≡ last_number s.store))
+    ⊎ ((t : ℕ) × (m : Peer) × (input ≡ Some (From t m)) × (m.body ≡ Answer ask n) × (tail_of s ≡ Some t))
+
+-- ---- the actions
+
+-- what a server does at a time
+pub data Action : Type 0 where
+  -- the view grows
+  Widen : (v : View) → Action
+  -- an entry is appended
+  Append : (e : LogEntry) → Action
+  -- the acknowledged number rises
+  Reach : (n : ℕ) → Action
+  -- an acknowledged entry closes its call, if that is an own one without a reply
+  Settle : (e : LogEntry) → Action
+  -- a message is put out
+  Send : (j : ℕ) (body : Body) → Action
+  -- an open read is answered with the number n
+  Finish : (r : OpenRead) (n : ℕ) → Action
+  -- the floor follows
+  Trim : Action
+  -- an own update call enters
+  Enter : (port : ℕ) (call : Call) → Action
+  -- an own read of a dirty key waits
+  Ask : (port : ℕ) (key : List ℕ) → Action
+  -- an own read of a clean key is answered
+  Show : (port : ℕ) (key : List ℕ) → Action
+
+-- what is known when an action is done, and what it makes of the server
+pub record Meaning : Type 1 where
+  pub guard : Type 0
+  pub effect : Outcome
+
+-- the meaning of each action, in a step that takes this input
+abbrev pub meaning : Cause → ServerState → Action → Meaning
+meaning input s (Widen v) =
+    record {
+      guard = IsBrought input v × (has v s.id ≡ false) × (is_below v s.count ≡ true);
+      effect = silent (widened s v);
+    }
+meaning input s (Append e) =
+    record {
+      guard = IsEntry e × (IsMade input s e ⊎ IsPassed input s e);
+      effect = silent (appended s e);
+    }
+meaning input s (Reach n) =
+    record {
+      guard = (s.store.acked < n) × (n ≤ last_number s.store) × IsReached input s n;
+      effect = silent (record s { store = acked_to s.store n });
+    }
+meaning input s (Settle e) =
+    record {
+      guard = In e s.store.rest × (e.number ≤ s.store.acked);
+      effect = record { state = record s { pend = left_open_by s.id s.pend e }; outputs = reply_to s.id s.pend e };
+    }
+meaning input s (Send j body) =
+    record {
+      guard = MaySend input s j body × (j < s.count);
+      effect = putting s (message_to s (Some j) body);
+    }
+meaning input s (Finish r n) =
+    record {
+      guard = (open_read s.asks r.ask ≡ Some r) × In r s.asks × (r.mark ≤ n) × (n ≤ last_number s.store) × IsAnswered input s r.ask n;
+      effect = record { state = record s { asks = without_read s.asks r.ask }; outputs = reply_at r.port (Value (value_at s.store r.key n)) };
+    }
+meaning input s Trim =
+    record {
+      guard = Unit {0};
+      effect = silent (trimmed s);
+    }
+meaning input s (Enter port call) =
+    record {
+      guard = (input ≡ Some (Called port call)) × IsCall call × (is_update call.op ≡ true) × (is_room_for_update s ≡ true);
+      effect = silent (entered s port call);
+    }
+meaning input s (Ask port key) =
+    record {
+      guard =
+          (call : Call) × (input ≡ Some (Called port call)) × (is_update call.op ≡ false) × (call.target ≡ One key)
+          × (is_clean s.store key ≡ false) × (nat_lt s.next_ask most ≡ true);
+      effect = silent (asked s port key);
+    }
+meaning input s (Show port key) =
+    record {
+      guard = (call : Call) × (input ≡ Some (Called port call)) × (is_update call.op ≡ false) × (call.target ≡ One key) × (is_clean s.store key ≡ true);
+      effect = putting s (reply_at port (Value (value_at s.store key (last_number s.store))));
+    }
+
+-- what is known when an action is done
+abbrev pub Guard : Cause → ServerState → Action → Type 0
+Guard input s a = (meaning input s a).guard
+
+-- what it makes of the server, whatever the input is
+unfoldable pub act : ServerState → Action → Outcome
+act s a = (meaning None s a).effect
+
+-- ---- lists of actions
+
+-- one action after another
+unfoldable pub does : ServerState → List Action → Outcome
+does s [] = silent s
+does s (a ∷ later) = and_then (act s a) (λ t. does t later)
+
+-- each of these actions is done by a sound server, and knowing what it needs
+abbrev pub AreGuarded : Cause → ServerState → List Action → Type 0
+AreGuarded input s [] = IsSound s
+AreGuarded input s (a ∷ later) = IsSound s × Guard input s a × AreGuarded (left input) (act s a).state later
+
+-- what a rule makes of a server is made by such actions
+pub record IsDone (input : Cause) (s : ServerState) (a : Outcome) : Type 0 where
+  pub actions : List Action
+  pub guarded : AreGuarded input s actions
+  pub same : a ≡ does s actions
