@@ -93,7 +93,7 @@ struct Home {
 
 impl Cluster {
     /// Opens a chain: all its ports, its servers and their threads. Refused with Port if nobody can listen there, else with
-    /// Memory if memory or threads are wanting, and with Run if the numbers are none of a chain.
+    /// Memory if memory or threads run out, and with Run if no chain has such numbers.
     pub fn open<
         R: Wait
             + Threads

@@ -33,7 +33,7 @@ unfoldable pub sent_again : ServerState → List OpenUpdate → List Output
 sent_again s [] = []
 sent_again s (u ∷ us) = message_to s (head_of s) (Op u.id u.call) ++ sent_again s us
 
--- Second: a new head takes its own open calls; another server sends them to the head, where that changed.
+-- Second: a new head takes its own open calls; any other server sends them to the head, if the head changed.
 unfoldable pub promoted_to_head : View → ServerState → Outcome
 promoted_to_head old s =
     if is_head s then (if is_that (head old s.count) s.id then silent s else silent (taken_all s s.pend))
@@ -73,7 +73,7 @@ unfoldable pub asked_again : ServerState → List OpenRead → List Output
 asked_again s [] = []
 asked_again s (r ∷ rs) = message_to s (tail_of s) (Query r.ask r.key) ++ asked_again s rs
 
--- Sixth: where the tail changed, the open reads are closed at the tail, and asked again elsewhere.
+-- Sixth: if the tail changed, the new tail answers and closes its open reads; any other server asks the tail again.
 unfoldable pub asks_renewed : View → ServerState → Outcome
 asks_renewed old s =
     if is_same (tail old s.count) (tail_of s) then silent s
@@ -84,6 +84,6 @@ abbrev pub rejoined : View → ℕ → ℕ → ServerState → Outcome
 rejoined old last_before acked_before s =
     and_then (and_then (and_then (and_then (promoted_to_head old s) promoted_to_tail) (caught_up old last_before)) (acked_to_predecessor old acked_before)) (asks_renewed old)
 
--- Join a view: nothing, where it adds nothing; otherwise the six steps in order.
+-- Join a view: if it adds nothing, nothing happens; otherwise the six steps, in order.
 abbrev pub join : ServerState → View → Outcome
 join s v = if not (adds s.view v) then silent s else rejoined s.view (last_number s.store) s.store.acked (widened s v)

@@ -1,4 +1,4 @@
--- Nodes: a server, and whether it was stopped for want of memory.
+-- Nodes: a server, and whether it was stopped because it ran out of memory.
 use Rattle.std.specs.Prelude.{ℕ, Bool, true, false, not, ◌&&◌, List, [], ◌∷◌}
 use Rattle.node.specs.Servers.{ServerState, opening}
 

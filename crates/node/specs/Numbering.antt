@@ -39,7 +39,7 @@ abbrev pub replied : Reply → Option OpenUpdate → List Output
 replied reply None = []
 replied reply (Some u) = reply_at u.port reply
 
--- an entry that is acknowledged: where its call is an own one without a reply, that call is answered
+-- an entry that is acknowledged: if its call is an own one without a reply, that call is answered
 abbrev pub reply_to : ℕ → List OpenUpdate → LogEntry → List Output
 reply_to id pend e = if e.origin == id then replied e.reply (open_update pend e.id) else []
 
@@ -92,7 +92,7 @@ entry_of s origin id call =
 abbrev pub is_taken : ServerState → ℕ → ℕ → Bool
 is_taken s origin id = id == seen_of s origin + 1 && nat_lt (last_number s.store) most
 
--- Take without sending and without rising: the entry of the update is appended, where it is the origin's next one
+-- Take without sending and without rising: the entry of the update is appended, if it is the origin's next one
 unfoldable pub taken : ServerState → ℕ → ℕ → Call → ServerState
 taken s origin id call = if is_taken s origin id then appended s (entry_of s origin id call) else s
 
@@ -117,7 +117,7 @@ abbrev pub called : ServerState → ℕ → Call → Outcome
 called s id call =
     if is_head s then take_update s s.id id call else putting s (message_to s (head_of s) (Op id call))
 
--- an own update call enters the open ones first; no effect where no id is left, or at the head no number
+-- an own update call enters the open ones first; no effect if no id is left, or at the head no number
 abbrev pub update : ServerState → ℕ → Call → Outcome
 update s port call = if is_room_for_update s then called (entered s port call) s.next_id call else silent s
 

@@ -15,7 +15,7 @@ unfoldable pub asked : ServerState → ℕ → List ℕ → ServerState
 asked s port key =
     record s { asks = s.asks ++ record { ask = s.next_ask; port = port; key = key; mark = s.store.acked } ∷ []; next_ask = s.next_ask + 1 }
 
--- a read of a dirty key, where an ask is left: the tail is asked
+-- a read of a dirty key: the tail is asked, if an ask is left
 unfoldable pub dirty_read : ServerState → ℕ → List ℕ → Outcome
 dirty_read s port key =
     if nat_lt s.next_ask most then putting (asked s port key) (message_to s (tail_of s) (Query s.next_ask key)) else silent s

@@ -50,7 +50,7 @@ has_room s (Called port call) = if is_update call.op then is_room_for_update s e
 has_room s (From i peer) = false
 has_room s (Gone j) = false
 
--- so many calls of this kind does the input open at the port: one, or none
+-- how many calls of this kind the input opens at the port: one, or none
 abbrev pub opened_at : ℕ → Bool → ServerState → Input → ℕ
 opened_at port reads s input = if has_room s input then calls_at port reads (input ∷ []) else 0
 

@@ -55,7 +55,7 @@ abbrev pub least_open : ℕ → List OpenRead → ℕ
 least_open acked [] = acked
 least_open acked (r ∷ rs) = min r.mark (least_open acked rs)
 
--- the floor follows: older versions can't be asked for any more (this project's rule)
+-- versions below each open read's mark and the acknowledged number are folded into one table (this project's rule)
 unfoldable pub trimmed : ServerState → ServerState
 trimmed s = record s { store = dropped_to s.store (least_open s.store.acked s.asks) }
 

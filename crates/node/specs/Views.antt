@@ -26,7 +26,7 @@ is_below v count = nat_lt v (2 ^ count)
 unfoldable pub adds : View → View → Bool
 adds u v = not (nat_eq (union u v) u)
 
--- the least server outside the view among so many from k on
+-- the least server outside the view among the n from k on
 unfoldable pub next_from : View → ℕ → ℕ → Option ℕ
 next_from v k zero = None
 next_from v k (suc many) = if has v k then next_from v (suc k) many else Some k
@@ -37,7 +37,7 @@ unfoldable pub predecessor : View → ℕ → Option ℕ
 predecessor v zero = None
 predecessor v (suc k) = if has v k then predecessor v k else Some k
 
--- the least server outside the view above i, in a chain of so many
+-- the least server outside the view above i, in a chain of n servers
 abbrev pub successor : View → ℕ → ℕ → Option ℕ
 successor v count i = next_from v (suc i) (count - suc i)
 

@@ -24,7 +24,7 @@ fn is_same(first: Option<u8>, second: Option<u8>) -> bool
 }
 
 impl Server {
-    /// Joins a view: nothing, where it adds nothing; otherwise the six steps in order.
+    /// Joins a view: if it adds nothing, nothing happens; otherwise the six steps, in order.
     pub(crate) fn join(&mut self, v: View, outputs: &mut Vec<Output>) -> Result<(), AllocError>
         requires chain { IsSound self.old }
         requires below { views.is_below v self.old.count ≡ true }

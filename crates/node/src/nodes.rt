@@ -1,4 +1,4 @@
-//! Nodes: a server's step, stopped for good by a want of memory.
+//! Nodes: a server's step, which stops the server for good if it runs out of memory.
 ghost use Rattle.std.specs.Prelude.{◌≡◌, ◌≢◌, ◌↔◌, ◌<◌, ◌≤◌, true, false, IfOk, IfErr, OnOk, OnErr, IsOk, IsErrOf};
 ghost use Rattle.node.specs.declared.nodes.NodeFault.TheVariants.{Memory, BadCount};
 ghost use Rattle.node.specs.Steps as steps;
@@ -20,10 +20,10 @@ use versions::Entry;
 /// Why a node refuses a call.
 #[derive(Clone, Copy, Debug, PartialEq, Eq, Error)]
 pub enum NodeFault {
-    /// Memory is wanting; the node is stopped from now on.
+    /// Out of memory; the node is stopped from now on.
     #[error("out of memory")]
     Memory,
-    /// An earlier step was refused for want of memory.
+    /// An earlier step ran out of memory.
     #[error("stopped")]
     Stopped,
     /// The chain has no such server, or more than 16.
@@ -64,7 +64,7 @@ impl Model for Node {
 }
 
 impl Node {
-    /// Server `id` of a chain of so many, before any input. Refused exactly where the chain has no such server, or more than 16.
+    /// Server `id` of a chain of `count`, before any input. Refused exactly if it has no such server, or more than 16.
     /// It allocates nothing.
     pub fn new(alloc: Global, id: u8, count: u8) -> Result<Node, NodeFault>
         ensures fresh { IfOk result (λ node. node ≡ fresh id count) }

@@ -45,12 +45,12 @@ by_asked bytes (Some line) = completed bytes line.0 line.1
 abbrev pub front : List ℕ → Front
 front bytes = by_asked bytes (asked_at bytes)
 
--- a block that is refused, of which so many bytes have still to come
+-- a refused block, and how many bytes of it have still to come
 abbrev pub refused_by : Fate → ℕ → Option Passing
 refused_by (Refuse fault) left = Some (record { fault = fault; left = left })
 refused_by (Put key verb silent) left = None
 
--- the refused block that a line of n bytes announces: it ends behind two bytes more than its data
+-- the refused block that a line of n bytes announces: it ends two bytes after its data
 abbrev pub refused_behind : List ℕ → Asked → ℕ → Option Passing
 refused_behind bytes (Whole request) n = None
 refused_behind bytes (Behind block) n = refused_by block.fate (n + block.size + 2 - length bytes)
@@ -70,7 +70,7 @@ found_of (Some front) refused = Requested front.0 front.1
 found_of None (Some passing) = Refused passing
 found_of None None = Nothing
 
--- what stands at the front of a stream: a whole request, or a refused block that isn't whole, or neither
+-- what is at the front of a stream: a complete request, an incomplete refused block, or neither
 abbrev pub found_at : List ℕ → Found
 found_at bytes = found_of (front bytes) (refused_at bytes)
 

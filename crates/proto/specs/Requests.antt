@@ -81,7 +81,7 @@ fate_of key line =
     else if line.expires then Refuse Expiry
     else Put key line.verb line.silent
 
--- the block behind such a line: its size, and what becomes of it
+-- the block after such a line: its size, and what becomes of it
 abbrev pub block_of : List ℕ → StorageLine → Block
 block_of key line = record { size = line.size; fate = fate_of key line }
 
@@ -160,7 +160,7 @@ abbrev pub by_end : ℕ → List ℕ → Option ℕ → Option (Asked × ℕ)
 by_end most bytes None = if nat_le most (length bytes) then Some (Whole (requests.Bad LineTooLong), most) else None
 by_end most bytes (Some i) = Some (by_line (take i bytes), i + 1)
 
--- the same where a line may have so many bytes, if the line is whole
+-- the same for a given limit on the length of a line, if the line is complete
 abbrev pub asked_within : ℕ → List ℕ → Option (Asked × ℕ)
 asked_within most bytes = by_end most bytes (first_lf (take most bytes))
 

@@ -85,13 +85,13 @@ by_request (Flush silent) h = opened All FlushOp (form_of silent) h
 by_request Quit h = (None, record h { closed = true })
 by_request (Bad fault) h = (Some (Faulty fault), record h { out = h.out ++ fault_text fault; closed = is_last (Bad fault) })
 
--- the first turn of what stands at the front; from a refused block on that isn't whole, its bytes are passed over
+-- the first turn of what is at the front; if that is an incomplete refused block, its bytes are skipped from now on
 abbrev pub by_found : Found → Held → Given
 by_found (Requested request n) h = by_request request (record h { unread = drop n h.unread })
 by_found (Refused passing) h = (None, record h { unread = []; passing = Some passing })
 by_found Nothing h = (None, h)
 
--- the fault of a refused block, once all of it has been passed over; or else the first turn of what stands at the front
+-- the fault of a refused block, after all of it was skipped; or else the first turn of what is at the front
 abbrev pub by_passing : Option Passing → Held → Given
 by_passing None h = by_found (found_at h.unread) h
 by_passing (Some p) h = if p.left == 0 then by_request (Bad p.fault) (record h { passing = None }) else (None, h)

@@ -16,7 +16,7 @@ abbrev pub and_later : Front → (ℕ → List Request) → List Request
 and_later None later = []
 and_later (Some found) later = found.0 ∷ (if is_last found.0 then [] else later found.1)
 
--- the requests that follow one another from the front, at most so many
+-- the requests that follow one another from the front, at most n
 abbrev pub requests_upto : ℕ → List ℕ → List Request
 requests_upto zero bytes = []
 requests_upto (suc k) bytes = and_later (front bytes) (λ n. requests_upto k (drop n bytes))
@@ -73,7 +73,7 @@ pub record GivesFirst (h : Held) (given : Option Turn) (left : Held) : Type 0 wh
   pub first : (more : List ℕ) → to_come (fed h more) ≡ with_turn given (to_come (fed left more))
   pub none : given ≡ None → to_come h ≡ []
 
--- at most so many faults are to come: each takes a byte at least, save the one whose block was passed over
+-- an upper bound on the faults to come: each takes at least a byte, except the one whose block was skipped
 abbrev pub most_faults : Held → ℕ
 most_faults h = length h.unread + (if is_some h.passing then 1 else 0)
 

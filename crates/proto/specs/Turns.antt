@@ -119,7 +119,7 @@ abbrev pub is_number : Reply → Bool
 is_number (Number n) = true
 is_number reply = false
 
--- what is written for a read's reply: the item, and behind the last key of a get its end
+-- what is written for a read's reply: the item, and after the last key of a get its end
 abbrev pub look_text : Look → Reply → List ℕ
 look_text look (Value item) = item_text look.key look.unique item ++ end_text look.last
 look_text look reply = []

@@ -93,7 +93,7 @@ fn behind(
     }
 }
 
-// A refused block that ends behind so many bytes, where this many have come.
+// A refused block that ends after `end` bytes, if `come` bytes have come.
 fn refused(fault: Fault, end: usize, come: usize) -> Found
     ensures { result ≡ found_of (if nat_lt come end then None else Some (Bad fault, end)) (Some (record { fault = fault; left = end - come })) }
 {

@@ -9,7 +9,7 @@ use crate::Fault;
 pub struct Passing {
     /// The fault that stands in its request's place.
     pub fault: Fault,
-    /// How many bytes of it have still to come, the two behind its data among them.
+    /// How many bytes of it have still to come, including the two after its data.
     pub left: usize,
 }
 

@@ -11,7 +11,7 @@ use std::alloc::{AllocError, Global};
 use std::marker::Model;
 use table::{Key, Op};
 
-/// What stands in a request's place where the bytes spell none (protocol.txt, "Error strings"). What each consumes and writes:
+/// What is reported if the bytes spell no request (protocol.txt, "Error strings"). What each consumes and writes:
 /// `docs/PROTOCOL.md`, "Faults".
 #[derive(Clone, Copy, Debug, PartialEq, Eq)]
 pub enum Fault {

@@ -22,7 +22,7 @@ pub fn closes_at_last()
         → (next_of run.held).1.closed ≡ ends run.stream }
 {}
 
-/// What was taken of the output, then what stands there, is the texts of the turns that were given,
+/// The output that was taken, followed by the output that is left, is the texts of the turns that were given,
 /// each call's with its reply.
 pub fn output_is_texts()
     ensures { (run : Run) → IsRun run → run.taken ++ run.held.out ≡ texts run.given run.replies }

@@ -89,7 +89,7 @@ impl Session {
         Ok(())
     }
 
-    /// The next turn, where no call is open: a call, which is open from now on, or a fault, whose line is written at once.
+    /// The next turn, if no call is open: a call, which is open from now on, or a fault, whose line is written at once.
     /// `Memory` is its only refusal, and changes nothing. A line that isn't whole is searched again at each call, at most
     /// 2,048 bytes; a block that hasn't all come costs a comparison.
     pub fn next(&mut self) -> Result<Step, ProtoFault>
@@ -119,7 +119,7 @@ impl Session {
         }
     }
 
-    /// Answers the open call, by a value exactly where it is a read: its text is written straight to the output.
+    /// Answers the open call, with a value exactly if it is a read. The text is written directly to the output.
     /// `Memory` is its only refusal; the call then stays open.
     pub fn answer(&mut self, reply: &Reply) -> Result<(), ProtoFault>
         requires { CanAnswer self.old.asked reply.now }

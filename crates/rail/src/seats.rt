@@ -55,7 +55,7 @@ impl Seat {
         }
     }
 
-    /// Sends a call to the server. It is handed back where the worker is gone. It may wait.
+    /// Sends a call to the server. The call is handed back if the worker is gone. May wait.
     pub fn submit<R: Wait>(&mut self, rt: &R, call: Call) -> Result<(), Call>
         requires { IsCall call }
         ensures { MatchResult result (λ _. self.new ≡ with_call self.old call) (λ back. (back ≡ call) × (self.new ≡ self.old)) }

@@ -18,7 +18,7 @@ Decision = Reply × Change
 abbrev pub put : ℕ → List ℕ → ℕ → Change
 put flags bytes number = Put (record { flags = flags; bytes = bytes; unique = number })
 
--- an item whose data grew: it keeps its flags, and is refused where it would be larger than an item may be
+-- an item whose data grew: it keeps its flags, and is refused if it would exceed the size limit
 abbrev pub grown : ℕ → List ℕ → ℕ → Decision
 grown flags bytes number = if nat_le (length bytes) limit then (Stored, put flags bytes number) else (TooLarge, Keep)
 

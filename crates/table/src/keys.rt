@@ -35,7 +35,7 @@ impl Key {
     /// The most bytes of a key (protocol.txt, "Keys").
     pub const MAX: usize = 250;
 
-    /// The key of these bytes, or `None` exactly where they make no key. It copies them once.
+    /// The key of these bytes, or `None` exactly if they are no valid key. It copies them once.
     /// Refused only for want of memory.
     pub fn new(alloc: Global, bytes: &[u8]) -> Result<Option<Key>, AllocError>
         ensures bytes { IfOk result (λ found. IfSome found (λ key. key ≡ bytes.now)) }

@@ -14,7 +14,7 @@ use thiserror::Error;
 /// Why a table refuses a call.
 #[derive(Clone, Copy, Debug, PartialEq, Eq, Error)]
 pub enum TableFault {
-    /// Memory is wanting; the table is as it was.
+    /// Out of memory; the table is as it was.
     #[error("out of memory")]
     Memory,
     /// An update, after 2^64 - 1 numbers were taken.

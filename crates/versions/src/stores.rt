@@ -27,7 +27,7 @@ const KEPT: usize = 1_024;
 /// Why a store refuses an entry.
 #[derive(Clone, Copy, Debug, PartialEq, Eq, Error)]
 pub enum StoreFault {
-    /// Memory is wanting; nothing has changed.
+    /// Out of memory; nothing has changed.
     #[error("out of memory")]
     Memory,
 }

@@ -9,7 +9,7 @@ use Rattle.wire.specs.Spellings.{IsFrame, spelling}
 use Rattle.wire.specs.Fronts.{Read, front}
 use Rattle.wire.specs.Streams.{frames_in}
 
--- these frames follow one another from the front, and the rest stands behind them
+-- these frames follow one another from the front, and the rest comes after them
 pub record AreFirst (fs : List Frame) (bytes rest : List ℕ) : Type 0 where
   pub in_range : AllByRecursion IsFrame fs
   pub spelled : bytes ≡ flat_map spelling fs ++ rest

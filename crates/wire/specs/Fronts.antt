@@ -38,7 +38,7 @@ abbrev pub Gives : {X Y : Type 0} → (X → Y) → Result X Stop → Result Y S
 Gives view (Ok x) read = read ≡ Ok (view x)
 Gives view (Err e) read = read ≡ Err e
 
--- Why a reader that may want memory gives nothing: it wants memory only where there is a value.
+-- Why a reader that may run out of memory gives nothing: it runs out of memory only if there is a value.
 abbrev pub Fails : {Y : Type 0} → ReadFault → Result Y Stop → Type 0
 Fails faults.Memory read = IsOk read
 Fails (faults.Stopped stop) read = read ≡ Err stop

@@ -17,12 +17,12 @@ pub fn one_frame_at_a_front()
     ensures { (f g : Frame) (bytes more others : List ℕ) → IsFirst f bytes more → IsFirst g bytes others → (f ≡ g) × (more ≡ others) }
 {}
 
-/// Where a field is out of its range no frame is read, whatever comes behind it.
+/// If a field is out of its range, no frame is read, whatever bytes follow.
 pub fn bad_front_is_final()
     ensures { (f : Frame) (bytes more rest : List ℕ) → IsMalformed bytes → IsFirst f (bytes ++ more) rest → ⊥ }
 {}
 
-/// A bad front stays bad, whatever bytes come behind it.
+/// A bad front stays bad, whatever bytes follow.
 pub fn bad_front_stays()
     ensures { (bytes more : List ℕ) → ((i : ℕ) → slice_index (bytes ++ more) i < 256) → IsMalformed bytes → IsMalformed (bytes ++ more) }
 {}

@@ -65,7 +65,7 @@ impl Frames {
         Ok(())
     }
 
-    /// The frame at the front, which is taken off, or none where it isn't whole yet.
+    /// The frame at the front, which is taken off, or none if it isn't complete yet.
     /// `Memory` comes only where a frame stands there, and changes nothing. A bad front stays, so that every later call meets it again; so does an older server's.
     pub fn next(&mut self) -> Result<Option<Frame>, WireFault>
         ensures frame { IfOk result (λ found. IfSome found (λ frame. IsFirst frame self.old.unread self.new.unread)) }

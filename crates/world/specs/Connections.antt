@@ -33,7 +33,7 @@ behind (None, left) later = (None, left)
 behind (Some (Faulty fault), left) later = later
 behind (Some (Calls call form), left) later = (Some (Calls call form), left)
 
--- the next turn behind the faults that stand next, at most so many
+-- the next turn after the faults at the front, looking at n turns at most
 abbrev pub past_faults_upto : ℕ → Held → Given
 past_faults_upto zero h = (None, h)
 past_faults_upto (suc n) h = behind (next_of h) (past_faults_upto n (next_of h).1)

@@ -74,7 +74,7 @@ word_line word rest =
     else if bytes_eq word (codes "tell") then option_map (λ p. Tell p.0 p.1) (two_servers rest)
     else call_line word rest
 
--- what a line spells: a word, a space, and what stands behind it; `K` behind `settle` is from 1 to 500
+-- what a line spells: a word, a space, and what follows it; the `K` of `settle` is from 1 to 500
 abbrev pub event_line : List ℕ → Option EventLine
 event_line line = do
   (word, rest) ← cut space line

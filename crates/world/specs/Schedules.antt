@@ -45,7 +45,7 @@ schedule_of_lines end counted = do
 abbrev pub schedule_of : List ℕ → Result ScheduleShown ℕ
 schedule_of text = schedule_of_lines (length (lines text) + 1) (counted_from 1 (lines text))
 
--- the fault names the bad line; a want of memory says nothing of the text
+-- the fault names the bad line; running out of memory says nothing of the text
 abbrev pub Names : {X : Type 0} → Result X ℕ → ScheduleFault → Type 0
 Names reading Memory = Unit {0}
 Names reading (BadLine n) = reading ≡ Err n

@@ -1,4 +1,4 @@
--- What a connection has been sent: a function of its whole stream, which doesn't know where that was cut.
+-- What a connection has been sent: a function of its whole stream, independent of how that was cut.
 use Rattle.std.specs.Prelude.{ℕ, zero, suc, ◌+◌, Bool, ◌==◌, List, [], ◌∷◌, ◌++◌, take, drop, Option, None, Some, if◌then◌else◌, slice_get}
 use Rattle.table.specs.declared.operations.Call.{Call}
 use Rattle.table.specs.declared.operations.Reply.{Reply}

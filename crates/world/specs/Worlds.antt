@@ -22,7 +22,7 @@ pub record World : Type 0 where
   pub links : List (List (List Peer))
   pub connections : List Connection
 
--- what stands for a server that isn't of the chain
+-- in place of a server that isn't in the chain
 abbrev pub nobody : ServerState
 nobody = opening 0 0
 
@@ -96,7 +96,7 @@ abbrev pub sent_in : World → ℕ → ℕ → Option Call → World
 sent_in w c home None = w
 sent_in w c home (Some call) = takes (with_connection w c asked) home (Called c call)
 
--- the begun call of a connection, if there is one, goes to its server, where that lives
+-- the begun call of a connection, if there is one, goes to its server, if that lives
 abbrev pub worked : World → ℕ → Option Connection → World
 worked w c None = w
 worked w c (Some k) = if lives w k.home then sent_in w c k.home (to_work k.stage k) else w

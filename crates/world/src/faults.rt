@@ -17,7 +17,7 @@ pub enum SceneFault {
     /// More than 64 homes, or one that is no server.
     #[error("more than 64 homes, or one that is no server")]
     BadHomes,
-    /// An earlier event was refused for want of memory.
+    /// An earlier event ran out of memory.
     #[error("an earlier event was refused for want of memory")]
     Spoiled,
 }

@@ -107,7 +107,7 @@ pub fn transcripts_show_the_calls()
         reply_shown (transcript_of (run_of count homes events)) x ≡ reply_to (run_of count homes events) x }
 {}
 
-/// A server of the chain lives exactly where no event has failed it.
+/// A server of the chain lives exactly if no event has failed it.
 pub fn failed_servers()
     ensures { (count : ℕ) (homes : List ℕ) (events : List Event) (i : ℕ) →
         lives (run_of count homes events) i ≡ (nat_lt i count && not (is_failed_by events i)) }

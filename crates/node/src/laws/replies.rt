@@ -29,7 +29,7 @@ pub fn replies_close_calls()
     ensures idle { (n : NodeState) (port : ℕ) (reads : Bool) → is_idle n ≡ true → open_at port reads n.server ≡ 0 }
 {}
 
-/// Who hands in calls at ports below n alone, to a server that has open calls at such ports alone, gets replies at such ports alone.
+/// If a server has open calls, and is handed calls, at ports below n alone, it puts out replies at such ports alone.
 pub fn own_ports_alone()
     ensures open_after_step { (s : ServerState) (input : Input) (n : ℕ)
         → IsLawful s
