@@ -18,7 +18,7 @@ def differs(what, got, wanted):
 
 
 def stored(connection, key, size):
-    """The line that answers a set of so many bytes."""
+    """The line that answers a set of `size` bytes."""
     return connection.call(b"set %s 7 0 %d\r\n%s\r\n" % (key, size, b"x" * size))
 
 

@@ -13,7 +13,7 @@ ALONE, FOUR = [], ["--connections", 4, "--depth", 16]
 
 @contextmanager
 def filled(generator, peer, keys):
-    """The peer, running, with so many keys."""
+    """The peer, running, with `keys` keys."""
     with TemporaryDirectory() as folder:
         peer.open(folder)
         try:

@@ -341,7 +341,7 @@ static void finish(struct worker *w, struct connection *c, struct request *r, ui
     c->first++;
 }
 
-/* A block of this length and its line end, after a line of so many bytes. */
+/* A block of this length and its line end, after a line of `line` bytes. */
 static enum eaten eat_block(struct worker *w, struct connection *c, size_t line, size_t length, const char *end,
                             int key)
 {

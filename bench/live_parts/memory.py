@@ -23,7 +23,7 @@ def a_key(generator, peer):
 
 
 def overwritten(generator, peer, passes):
-    """Bytes in all after the keys were set once, and after so many more times, by four connections."""
+    """Bytes in all after the keys were set once, and after they were set again, by four connections."""
     with opened(peer):
         try:
             generator.fill(peer, OVERWRITTEN_SIZE, OVERWRITTEN)

@@ -21,7 +21,7 @@ def end_with_parent():
 
 
 def free_ports(count):
-    """The first of so many ports in a row that nobody listens on."""
+    """The first of `count` ports in a row that nobody listens on."""
     for first in range(free_ports.next, 32000, count):
         try:
             for port in range(first, first + count):

@@ -58,7 +58,7 @@ fn take_some(session: &mut Session, written: &mut Vec<u8>) -> Result<(), Fail>
     Ok(())
 }
 
-// What is written where the input comes in pieces of so many bytes. A closed session takes no more of them.
+// What is written where the input comes in pieces of `piece` bytes. A closed session takes no more of them.
 fn written(alloc: Global, input: &[u8], piece: usize) -> Result<Vec<u8>, Fail>
     requires { 0 < piece }
 {
@@ -114,7 +114,7 @@ fn faults(rt: HostRuntime) -> Result<(), Fail> {
     )
 }
 
-// A line, so many bytes `x`, and what stands behind them.
+// A line, n bytes `x`, and what follows them.
 fn with_block(alloc: Global, line: &[u8], size: usize, behind: &[u8]) -> Result<Vec<u8>, Fail> {
     let mut input = Vec::from_slice(alloc, line)?;
     let block = vec![in alloc; b'x'; size]?;

@@ -41,7 +41,7 @@ fn a_key_has_1_to_250_bytes_and_no_blank(rt: HostRuntime) -> Result<(), Fail> {
     Ok(())
 }
 
-// An operation with so many bytes of data.
+// An operation with n bytes of data.
 fn set_of_size(alloc: Global, size: usize) -> Result<Op, Fail> {
     let data = vec![in alloc; b'x'; size]?;
     set(alloc, 0, data.as_slice())

@@ -7,7 +7,7 @@ pub record MasterState : Type 0 where
   pub count : ℕ
   pub gone : View
 
--- a notice (i, j) for each of so many servers from i on that lives
+-- a notice (i, j) for each of the n servers from i on that lives
 unfoldable pub notices_from : View → ℕ → ℕ → ℕ → List (ℕ × ℕ)
 notices_from gone j i zero = []
 notices_from gone j i (suc many) =

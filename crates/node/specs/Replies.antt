@@ -26,15 +26,15 @@ abbrev pub is_reply_at : ℕ → Bool → Output → Bool
 is_reply_at port reads (To to peer) = false
 is_reply_at port reads (Replied p reply) = p == port && beq reads (is_value reply)
 
--- so many calls of this kind came at the port
+-- how many calls of this kind came at the port
 abbrev pub calls_at : ℕ → Bool → List Input → ℕ
 calls_at port reads inputs = count_by (is_call_at port reads) inputs
 
--- so many were answered there
+-- how many were answered there
 abbrev pub replies_at : ℕ → Bool → List Output → ℕ
 replies_at port reads outputs = count_by (is_reply_at port reads) outputs
 
--- so many are open
+-- how many are open
 abbrev pub open_at : ℕ → Bool → ServerState → ℕ
 open_at port reads s =
     if reads then count_by (λ (r : OpenRead). r.port == port) s.asks else count_by (λ (u : OpenUpdate). u.port == port) s.pend

@@ -9,7 +9,7 @@ use Rattle.node.specs.declared.messages.Output.{Output}
 use Rattle.node.specs.declared.messages.Output.TheVariants.{To, Reply as Replied}
 use Rattle.node.specs.Views.{View, head, tail, predecessor, successor, is_that}
 
--- A server: its id in a chain of so many, the servers that it knows to have failed, its items and its log,
+-- A server: its id in a chain of `count`, the servers that it knows to have failed, its items and its log,
 -- the greatest call id of each origin among its entries so far, its own update calls without a reply,
 -- the id of the next one, its own reads that wait for an answer, and the number of the next one.
 pub record ServerState : Type 0 where

@@ -77,8 +77,8 @@ pub record GivesFirst (h : Held) (given : Option Turn) (left : Held) : Type 0 wh
 abbrev pub most_faults : Held → ℕ
 most_faults h = length h.unread + (if is_some h.passing then 1 else 0)
 
--- At most so many turns are to come before more bytes: each takes a byte at least, or one of the keys that are left,
--- or the refused block that was passed over.
+-- An upper bound on the turns to come before more bytes: each takes a byte at least, or one of the keys that are left,
+-- or the refused block that is skipped.
 abbrev pub most_turns : Held → ℕ
 most_turns h = length h.unread + length h.later + (if is_some h.passing then 1 else 0)
 

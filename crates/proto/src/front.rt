@@ -61,7 +61,7 @@ pub fn front(
     }
 }
 
-// By the block that a line of so many bytes announces.
+// By the block that a line of `line` bytes announces.
 fn behind(
     alloc: Global,
     pending: &mut Option<Pending>,

@@ -10,7 +10,7 @@ use crate::words::Storing;
 use std::alloc::{AllocError, Global};
 use table::{Key, LIMIT, number};
 
-/// A data block: so many bytes, with two more behind them, and what becomes of it.
+/// A data block: `size` bytes, two more after them, and what becomes of it.
 #[derive(Debug, Drop)]
 pub struct Block {
     pub size: usize,

@@ -17,7 +17,7 @@ impl Mark {
         Ok(Mark { flag })
     }
 
-    /// The same mark, for another thread. Refused for want of memory.
+    /// The same mark, for another thread. Refused only when out of memory.
     pub fn share(&self) -> Result<Mark, AllocError> {
         let flag = Arc::try_clone(&self.flag)?;
         Ok(Mark { flag })

@@ -36,7 +36,7 @@ impl Key {
     pub const MAX: usize = 250;
 
     /// The key of these bytes, or `None` exactly if they are no valid key. It copies them once.
-    /// Refused only for want of memory.
+    /// Refused only when out of memory.
     pub fn new(alloc: Global, bytes: &[u8]) -> Result<Option<Key>, AllocError>
         ensures bytes { IfOk result (λ found. IfSome found (λ key. key ≡ bytes.now)) }
         ensures valid { IfOk result (λ found. IsSome found ↔ IsKey bytes.now) }

@@ -319,7 +319,7 @@ impl Drawing {
         Ok(row)
     }
 
-    // The whole picture of so many rows.
+    // The whole picture, of this number of rows.
     fn finished(self, homes: &[usize], rows: usize) -> Result<Vec<u8>, AllocError> {
         let mut out = Text::new(self.alloc);
         put_head(

@@ -27,7 +27,7 @@ pub struct Lanes {
 }
 
 impl Lanes {
-    /// The lanes of a chain of so many servers, with a connection at each of these homes.
+    /// The lanes of a chain of `count` servers, with a connection at each of these homes.
     pub fn new(alloc: Global, count: usize, homes: &[usize]) -> Result<Lanes, AllocError> {
         let mut lanes = Lanes {
             servers: Vec::new(alloc),

@@ -34,7 +34,7 @@ pub(crate) fn note(
     }
 }
 
-/// Moves the first entries to the base, so many of them.
+/// Moves the first n entries to the base.
 pub(crate) fn settle_first(
     records: &mut BTreeMap<Key, Record>,
     clears: &mut Numbers,

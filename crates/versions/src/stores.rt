@@ -108,7 +108,7 @@ impl Store {
         self.last
     }
 
-    /// Adds the entry with the next number. Refused for want of memory, it leaves the store as it was.
+    /// Adds the entry with the next number. When out of memory it leaves the store as it was.
     /// Time is logarithmic in the number of keys. No later call takes memory for this entry.
     pub fn push(&mut self, entry: Entry) -> Result<(), StoreFault>
         requires next { entry.number ≡ last_number self.old + 1 }

@@ -89,9 +89,9 @@ byte_reader range = record {
   shrinks = byte_shrinks range;
 }
 
--- ---- so many bytes that are there or not
+-- ---- n bytes that are there or not
 
--- a test that tells whether so many bytes are there
+-- a test that tells whether n bytes are there
 here : (n : ℕ) (bytes : List ℕ) → (nat_lt (length bytes) n ≡ true) × (length bytes < n) ⊎ (nat_lt (length bytes) n ≡ false) × (n ≤ length bytes)
 here n bytes =
     elim (cases_lt (length bytes) n) [
@@ -99,7 +99,7 @@ here n bytes =
       | inr le ↦ inr (le-ltb _ _ le, le)
     ]
 
--- what comes of n bytes at the front where they are there, and else so many are missing
+-- what comes of n bytes at the front if they are there, and else how many are missing
 abbrev pub counted : {A : Type 0} → ℕ → (List ℕ → Result A Stop) → List ℕ → Result A Stop
 counted n f bytes = cond (nat_lt (length bytes) n) (Err (Short (n - length bytes))) (f bytes)
 
@@ -237,7 +237,7 @@ number_reader w range wide = record {
           | inr long ↦ within_old (range (from_be_bytes w (take (byte_len w) bytes))) (from_be_bytes w (take (byte_len w) bytes), drop (byte_len w) bytes) (rw long.0 at e)
         ]
 
--- ---- so many bytes, any
+-- ---- any n bytes
 
 abbrev pub cut : ℕ → List ℕ → Read (List ℕ)
 cut n bytes = Ok (take n bytes, drop n bytes)

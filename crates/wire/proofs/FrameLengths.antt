@@ -238,7 +238,7 @@ putting_is key block is_key full most = (
   simp length-append (omega arith),
 )
 
--- a key of 250 bytes, and so many bytes
+-- a key of 250 bytes, and any n bytes
 long_key : (key : List ℕ) × IsKey key × (length key ≡ 250)
 long_key = (replicate 250 97, refl, refl)
 

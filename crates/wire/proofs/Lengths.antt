@@ -10,7 +10,7 @@ use Rattle.wire.specs.Fronts.{Read, ◌>>=◌, byte_at, number_at, bytes_at, tex
 use Rattle.wire.proofs.Readers.{bind_ok, bind_err}
 use Rattle.wire.proofs.FieldReaders.{within_ok, within_short, counted_ok, counted_short, judged, cut}
 
--- a reader that takes off at most so many bytes, and waits only at fewer
+-- a reader that takes off at most n bytes, and waits only at fewer
 pub record IsWithin {A : Type 0} (most : ℕ) (read : List ℕ → Read A) : Type 0 where
   pub takes : (bytes : List ℕ) (x : A) (rest : List ℕ) → read bytes ≡ Ok (x, rest) → length bytes ≤ most + length rest
   pub waits : (bytes : List ℕ) (k : ℕ) → read bytes ≡ Err (Short k) → length bytes < most
@@ -97,7 +97,7 @@ within_number w range = record {
       (λ k e. within_short (range (from_be_bytes w (take (byte_len w) bytes))) (from_be_bytes w (take (byte_len w) bytes), drop (byte_len w) bytes) k e) e).0;
 }
 
--- what stands behind so many bytes
+-- what is left after n bytes
 behind_cut : (n : ℕ) (bytes x rest : List ℕ) → cut n bytes ≡ Ok (x, rest) → drop n bytes ≡ rest
 behind_cut n bytes x rest e = let pair : (take n bytes, drop n bytes) ≡ (x, rest) = cc in ap (λ (p : List ℕ × List ℕ). p.1) pair
 

@@ -19,7 +19,7 @@ abbrev pub behind : Read Frame → List ℕ → (List ℕ → List ℕ) → List
 behind (Ok found) bytes later = later found.1
 behind (Err stop) bytes later = bytes
 
--- what stands behind the frames that follow one another from the front, at most so many
+-- what is left after the frames that follow one another from the front, at most n of them
 abbrev pub rest_upto : ℕ → List ℕ → List ℕ
 rest_upto zero bytes = bytes
 rest_upto (suc k) bytes = behind (front bytes) bytes (rest_upto k)

@@ -63,11 +63,11 @@ number_at w range bytes =
     if nat_lt (length bytes) (byte_len w) then Err (Short (byte_len w - length bytes))
     else within (range (from_be_bytes w (take (byte_len w) bytes))) (from_be_bytes w (take (byte_len w) bytes), drop (byte_len w) bytes)
 
--- so many bytes
+-- n bytes
 abbrev pub bytes_at : ℕ → List ℕ → Read (List ℕ)
 bytes_at n bytes = if nat_lt (length bytes) n then Err (Short (n - length bytes)) else Ok (take n bytes, drop n bytes)
 
--- so many bytes of a key: each is judged as it comes
+-- n bytes of a key: each is judged as it comes
 abbrev pub text_at : ℕ → List ℕ → Read (List ℕ)
 text_at n bytes =
     if not (list_all is_key_byte (take n bytes)) then Err Malformed

@@ -39,7 +39,7 @@ below end n = nat_lt n end
 abbrev pub is_key_length : ℕ → Bool
 is_key_length n = nat_le 1 n && nat_le n 250
 
--- a key: 1 byte of length, 1 to 250, and so many key bytes
+-- a key: 1 byte of length, 1 to 250, and as many key bytes
 abbrev pub key : Part (List ℕ)
 key = do
   n ← byte is_key_length
@@ -51,7 +51,7 @@ target = do
   n ← byte (at_most 250)
   either (n == 0) (makes All) (text_of is_key_byte n >>= λ k. makes (One k))
 
--- an item's data: 4 bytes of length, at most the limit, and so many bytes
+-- an item's data: 4 bytes of length, at most the limit, and as many bytes
 abbrev pub block : Part (List ℕ)
 block = do
   n ← number w32 (at_most limit)

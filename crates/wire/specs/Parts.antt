@@ -48,11 +48,11 @@ number w range = record {
   Bad = λ bytes. (n : ℕ) × (rest : List ℕ) × (n < 2 ^ (8 * byte_len w)) × (bytes ≡ to_be_bytes w n ++ rest) × (range n ≡ false);
 }
 
--- so many bytes, any
+-- any n bytes
 abbrev pub bytes_of : ℕ → Part (List ℕ)
 bytes_of n = record { Spells = λ x bytes. (length x ≡ n) × (bytes ≡ x); Bad = λ bytes. ⊥ }
 
--- so many bytes, each in a range
+-- n bytes, each in a range
 abbrev pub text_of : (ℕ → Bool) → ℕ → Part (List ℕ)
 text_of range zero = makes []
 text_of range (suc n) = byte range >>= λ b. text_of range n >>= λ bs. makes (b ∷ bs)

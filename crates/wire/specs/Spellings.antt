@@ -26,7 +26,7 @@ eight_bytes n = to_be_bytes w64 n
 abbrev pub four_bytes : ℕ → List ℕ
 four_bytes n = to_be_bytes w32 n
 
--- a key: a byte of length, and so many bytes
+-- a key: a byte of length, and its bytes
 abbrev pub key_spelling : List ℕ → List ℕ
 key_spelling key = length key ∷ key
 
@@ -35,7 +35,7 @@ abbrev pub target_spelling : Target → List ℕ
 target_spelling (One key) = key_spelling key
 target_spelling All = 0 ∷ []
 
--- an item's data: four bytes of length, and so many bytes
+-- an item's data: four bytes of length, and its bytes
 abbrev pub block_spelling : List ℕ → List ℕ
 block_spelling bytes = four_bytes (length bytes) ++ bytes
 

@@ -60,7 +60,7 @@ abbrev pub and_later : Read Frame → (List ℕ → List Frame) → List Frame
 and_later (Ok found) later = found.0 ∷ later found.1
 and_later (Err stop) later = []
 
--- the frames that follow one another from the front, at most so many
+-- the frames that follow one another from the front, at most n of them
 abbrev pub frames_upto : ℕ → List ℕ → List Frame
 frames_upto zero bytes = []
 frames_upto (suc k) bytes = and_later (front bytes) (frames_upto k)

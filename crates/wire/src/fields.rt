@@ -79,7 +79,7 @@ pub fn positive_at(bytes: &[u8]) -> Result<(u64, &[u8]), Stop>
     Ok((number, rest))
 }
 
-/// A key's bytes: a length, 1 to 250, and so many. A byte that no key has is met as soon as it has come.
+/// A key's bytes: a length, 1 to 250, and as many bytes. A byte that no key has is met as soon as it has come.
 #[tactic(auto, unfolding(crate::specs::Fronts::key_at))]
 pub fn key_at(bytes: &[u8]) -> Result<(&[u8], &[u8]), Stop>
     ensures gives { Gives (λ x. (x.0.now, x.1.now)) result (key_at bytes.now) }
@@ -125,7 +125,7 @@ fn is_key_byte(byte: u8) -> bool
     matches!(byte, 33..=126 | 128..=255)
 }
 
-/// An item's data: a length, at most the limit, and so many bytes. No byte of them is looked at.
+/// An item's data: a length, at most the limit, and as many bytes. No byte of them is looked at.
 #[tactic(auto, unfolding(crate::specs::Fronts::block_at))]
 pub fn block_at(bytes: &[u8]) -> Result<(&[u8], &[u8]), Stop>
     ensures gives { Gives (λ x. (x.0.now, x.1.now)) result (block_at bytes.now) }

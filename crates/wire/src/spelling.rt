@@ -171,7 +171,7 @@ fn put_flagged(out: &mut BytesMut, code: u8, flags: u32, bytes: &Bytes)
     put_block(out, bytes);
 }
 
-// A length, and so many bytes.
+// A length, and the bytes.
 fn put_block(out: &mut BytesMut, bytes: &Bytes)
     requires fits { length bytes.now ≤ limit }
     requires room { 4 + length bytes.now ≤ out.old.spare }

@@ -28,7 +28,7 @@ pub log_below : (t : Traced) (i : ℕ) → Lawful t → i < count t → length (
 log_below t i h l =
     omega (arith, entries_total (log t i) (count t) (origin_bound t h i), total_low (λ o. entries_of o (log t i)) (issued_at t.world) (count t) (λ o there. issued_bound t h i o l there))
 
--- ---- no more than so many
+-- ---- upper bounds
 
 pub record Bounded (k : ℕ) (w : World) : Type 0 where
   pub all : issued_in w ≤ k
@@ -53,7 +53,7 @@ bounded_same k w v long same b = record {
 bounded_more : (k : ℕ) (w : World) → Bounded k w → Bounded (suc k) w
 bounded_more k w b = record { all = omega (arith, b.all); ids = λ i l. omega (arith, b.ids i l); asks = λ i l. omega (arith, b.asks i l) }
 
--- at most so many behind a step, where at most k were used before it
+-- an upper bound after a step, if at most k were used before it
 abbrev behind : Cause → ℕ → ℕ
 behind None k = k
 behind (Some (Called port call)) k = suc k

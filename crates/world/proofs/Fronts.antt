@@ -19,6 +19,6 @@ begins_back xs ys k y b h l =
     let e : y ≡ f.0 = same_Some y f.0 (sym h ∙ b k f.0 f.1) in
     rw e f.1
 
--- a beginning is what is taken of so many
+-- a beginning is a `take` of its own length
 pub begins_taken : {X : Type 0} (xs ys : List X) → Begins xs ys → take (length xs) ys ≡ xs
 begins_taken xs ys b = begins-take (length xs) xs ys b (omega arith) ∙ take_all (length xs) xs (omega arith)

@@ -69,7 +69,7 @@ front_byte (first ∷ later) =
     else if is_printable first then Some (first, later)
     else None
 
--- the bytes that a text spells, at most so many
+-- the bytes that a text spells, at most n of them
 abbrev pub unescape_upto : ℕ → List ℕ → Option (List ℕ)
 unescape_upto zero text = Some []
 unescape_upto (suc n) [] = Some []

@@ -80,7 +80,7 @@ event_line line = do
   (word, rest) ← cut space line
   if bytes_eq word (codes "settle") then option_map Settle (number_in 1 501 rest) else option_map One (word_line word rest)
 
--- the events that it stands for, where there are so many servers and connections
+-- the events that it stands for, with `count` servers and `connections` connections
 abbrev pub events_in : ℕ → ℕ → EventLine → List Event
 events_in count connections (One event) = event ∷ []
 events_in count connections (Settle rounds) = settled rounds count connections

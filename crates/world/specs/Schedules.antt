@@ -24,7 +24,8 @@ abbrev pub ◌>>=◌ : {X Y : Type 0} → Result X ℕ → (X → Result Y ℕ) 
 (Ok x) >>= next = next x
 (Err bad) >>= next = Err bad
 
--- the events of some numbered lines, or the number of the first bad one, where there are so many servers and connections
+-- the events of some numbered lines, or the number of the first bad one,
+-- with `count` servers and `connections` connections
 abbrev pub events_of : ℕ → ℕ → List (ℕ × List ℕ) → Result (List Event) ℕ
 events_of count connections [] = Ok []
 events_of count connections (line ∷ later) = do

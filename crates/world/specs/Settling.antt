@@ -4,7 +4,7 @@ use Rattle.std.specs.List.{range_with_len, repeat}
 use Rattle.world.specs.declared.events.Event.{Event}
 use Rattle.world.specs.declared.events.Event.TheVariants.{Work, Deliver, Tell, Hand}
 
--- the first so many numbers: 0, 1 and so on
+-- the first n numbers: 0, 1 and so on
 abbrev pub first_numbers : ℕ → List ℕ
 first_numbers n = range_with_len 0 n
 
@@ -22,6 +22,6 @@ round links connections =
     map (λ p. Tell p.0 p.1) links ++ map (λ p. Deliver p.0 p.1) links
     ++ map Work (first_numbers connections) ++ map Hand (first_numbers connections)
 
--- so many rounds, one after another
+-- `rounds` rounds, one after another
 unfoldable pub settled : ℕ → ℕ → ℕ → List Event
 settled rounds count connections = repeat rounds (round (pairs count) connections)

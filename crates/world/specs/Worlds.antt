@@ -46,12 +46,12 @@ with_link w i j ms = record w { links = with_messages w.links i j ms }
 unfoldable pub with_connection : World → ℕ → (Connection → Connection) → World
 with_connection w c change = record w { connections = changed_at w.connections c change }
 
--- the first servers of a chain of so many, before any input
+-- the first k servers of a chain of `count`, before any input
 abbrev pub opening_servers : ℕ → ℕ → List ServerState
 opening_servers count zero = []
 opening_servers count (suc k) = opening_servers count k ++ opening k count ∷ []
 
--- a chain of so many servers before any event, all alive, with empty links, and a connection at each of these homes
+-- a chain of `count` servers before any event, all alive, with empty links, and a connection at each of these homes
 abbrev pub opening_world : ℕ → List ℕ → World
 opening_world count homes =
     record { servers = opening_servers count count; failed = 0; links = replicate count (replicate count []); connections = map fresh homes }

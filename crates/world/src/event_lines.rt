@@ -45,7 +45,7 @@ pub fn event_line(alloc: Global, line: &[u8]) -> Result<Option<EventLine>, Alloc
     }
 }
 
-/// Adds the events that a line stands for, in a chain of `count` servers with so many connections.
+/// Adds the events that a line stands for, in a chain of `count` servers with `connections` connections.
 pub fn push_events(
     alloc: Global,
     events: &mut Vec<Event>,

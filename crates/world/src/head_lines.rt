@@ -24,7 +24,7 @@ pub fn servers_line(line: &[u8]) -> Option<usize>
     number_in(1, MOST_SERVERS + 1, number)
 }
 
-/// The homes that a `homes` line names, if it is one, where there are so many servers.
+/// The homes that a `homes` line names, if it is one, in a chain of `count` servers.
 pub fn homes_line(
     alloc: Global,
     count: usize,

@@ -55,7 +55,7 @@ impl Link {
         self.messages.pop_front()
     }
 
-    /// Its k-th message, from 0 on, if it has so many.
+    /// Its k-th message, counted from 0, if there is one.
     pub fn message(&self, k: usize) -> Option<&Peer>
         ensures { option_copied result ≡ slice_get self.now k }
     {
@@ -86,7 +86,7 @@ impl Model for Row {
 }
 
 impl Row {
-    /// Links without messages to so many servers.
+    /// Links without messages to `count` servers.
     pub fn new(alloc: Global, count: usize) -> Result<Row, AllocError>
         ensures { IfOk result (λ row. row ≡ replicate count []) }
     {
@@ -121,7 +121,7 @@ impl Row {
         }
     }
 
-    /// The k-th message of the link to server j, if there are so many.
+    /// The k-th message of the link to server j, counted from 0, if there is one.
     pub fn message(&self, j: usize, k: usize) -> Option<&Peer>
         ensures { option_copied result ≡ slice_get (slice_index_or self.now j []) k }
     {
@@ -160,7 +160,7 @@ impl Model for Links {
 }
 
 impl Links {
-    /// Links without messages from each of so many servers to each.
+    /// Links without messages from each of `count` servers to each.
     pub fn new(alloc: Global, count: usize) -> Result<Links, AllocError>
         requires chain { count ≤ 16 }
         ensures { IfOk result (λ links. links ≡ replicate count (replicate count [])) }
@@ -198,7 +198,7 @@ impl Links {
         }
     }
 
-    /// The k-th message of the link from server i to server j, if there are so many.
+    /// The k-th message of the link from server i to server j, counted from 0, if there is one.
     pub fn message(&self, i: usize, j: usize, k: usize) -> Option<&Peer>
         ensures { option_copied result ≡ slice_get (messages_between self.now i j) k }
     {

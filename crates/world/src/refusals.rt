@@ -1,4 +1,4 @@
-//! Refusals: a run in which a server whose step is refused for want of memory has failed.
+//! Refusals: a run in which a server whose step is out of memory has failed.
 ghost use Rattle.std.specs.Prelude.{◌≡◌, ◌<◌, ◌≤◌, ℕ, ◌+◌, List, Some, take, ◌↔◌, true, false, length, slice_get, IsSome, IfOk, IfErr, IsErrOf};
 ghost use Rattle.proto.specs.Streams.{turns};
 ghost use Rattle.world.specs.declared.transcripts.CallTranscript.{CallTranscript};
@@ -21,7 +21,7 @@ use crate::worlds::World;
 use crate::{Event, Scene, SceneFault, Transcript};
 use std::alloc::Global;
 
-/// Runs a schedule as `run` does, but for this: if the step of a server is refused for want of memory, the event is the
+/// Runs a schedule as `run` does, but for this: if the step of a server is out of memory, the event is the
 /// failure of that server, and the run goes on. Beside what the run shows it gives the place of each such event,
 /// counted from 0, with the server, in the order of the places. Refused as `run` is, with `Memory` if a growth outside
 /// a server's step is refused. It costs what `run` costs, and two numbers for each refused step.
@@ -93,7 +93,7 @@ pub fn run_failing(
 }
 
 impl World {
-    /// What the events do, one after another; if the step of a server is refused for want of memory, its failure in
+    /// What the events do, one after another; if the step of a server is out of memory, its failure in
     /// place of the event. The places of these events, counted from 0, each with its server.
     pub fn attempt_all(
         &mut self,

@@ -28,7 +28,7 @@ const CONNECTIONS: usize = 64;
 /// The most servers of a scene.
 const SERVERS: usize = 16;
 
-/// A world that events change, one after another. An event that is refused for want of memory spoils it for good.
+/// A world that events change, one after another. An event that runs out of memory spoils it for good.
 #[derive(Drop)]
 pub struct Scene {
     world: World,
@@ -48,9 +48,9 @@ impl Model for Scene {
 }
 
 impl Scene {
-    /// A chain of so many servers before any event, with a connection at each of these homes. `BadCount` where the servers
-    /// are not 1 to 16, else `BadHomes` where there are more than 64 homes or one is no server, else `Memory`. It allocates
-    /// the square of the number of servers in empty links.
+    /// A chain of `count` servers before any event, with a connection at each of these homes. `BadCount` if the servers
+    /// are not 1 to 16, else `BadHomes` if there are more than 64 homes or one is no server, else `Memory`.
+    /// It allocates the square of the number of servers in empty links.
     pub fn new(alloc: Global, count: usize, homes: &[usize]) -> Result<Scene, SceneFault>
         ensures opening { IfOk result (λ scene. scene ≡ going (opening_world count homes.now)) }
         ensures bad_count { IsErrOf result SceneFault.BadCount ↔ (is_count count ≡ false) }
@@ -114,8 +114,8 @@ impl Scene {
         self.world
     }
 
-    /// What is shown of it. Refused for want of memory alone. It copies the sent bytes once. Of a spoiled scene it is that of
-    /// a world whose last event may be done by half.
+    /// What is shown of it. Refused only when out of memory. It copies the sent bytes once. Of a spoiled scene it is
+    /// that of a world whose last event may be done by half.
     pub fn transcript(self, alloc: Global) -> Result<Transcript, AllocError>
         ensures { IfOk result (λ t. t ≡ transcript_of self.world) }
     {

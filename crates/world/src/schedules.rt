@@ -68,7 +68,7 @@ pub fn read_schedule(alloc: Global, text: &[u8]) -> Result<Schedule, ScheduleFau
     ensures ok { IfOk result (λ schedule. schedule_of text.now ≡ Ok schedule) }
     ensures bad_line { IfErr result (Names (schedule_of text.now)) }
     ensures spelled { IfOk result (SpellsSchedule text.now) }
-    // `run` refuses it for want of memory alone.
+    // `run` refuses it only when out of memory.
     ensures runs { IfOk result (λ s. (is_count s.count ≡ true) × (are_homes s.count s.homes ≡ true)) }
 {
     let mut lines = Lines::new(text);

@@ -38,7 +38,7 @@ impl Model for Servers {
 }
 
 impl Servers {
-    /// A chain of so many servers, before any input.
+    /// A chain of `count` servers, before any input.
     pub fn new(alloc: Global, count: u8) -> Result<Servers, SceneFault>
         requires chain { count ≤ 16 }
         ensures opening { IfOk result (λ servers. servers ≡ opening_servers count count) }
@@ -184,7 +184,7 @@ fn copies_of_outputs(alloc: Global, outputs: &[Output]) -> Result<Vec<Output>, A
     Ok(copies)
 }
 
-// Server `id` of a chain of so many, before any input. It allocates nothing.
+// Server `id` of a chain of `count`, before any input. It allocates nothing.
 fn opening_node(alloc: Global, id: u8, count: u8) -> Node
     requires server { id < count }
     requires chain { count ≤ 16 }

@@ -64,7 +64,7 @@ impl Trace {
         self.world.servers.node(i)
     }
 
-    /// The k-th message, from 0 on, that the run left on the link from server i to server j, if there are so many.
+    /// The k-th message, from 0 on, that the run left on the link from server i to server j, if there is one.
     #[tactic(auto, unfolding(crate::specs::Worlds::link))]
     pub fn message(&self, i: usize, j: usize, k: usize) -> Option<&Peer>
         ensures { option_copied result ≡ slice_get (link self.now.world i j) k }
@@ -72,7 +72,7 @@ impl Trace {
         self.world.links.message(i, j, k)
     }
 
-    /// What the run shows of its connections. Refused for want of memory alone.
+    /// What the run shows of its connections. Refused only when out of memory.
     pub fn transcript(self, alloc: Global) -> Result<Transcript, AllocError>
         ensures { IfOk result (λ t. t ≡ transcript_of self.world) }
     {

@@ -35,7 +35,7 @@ impl Model for World {
 }
 
 impl World {
-    /// A chain of so many servers before any event, with a connection at each of these homes.
+    /// A chain of `count` servers before any event, with a connection at each of these homes.
     pub fn new(alloc: Global, count: u8, homes: &[usize]) -> Result<World, SceneFault>
         requires chain { count ≤ 16 }
         ensures opening { IfOk result (λ world. world ≡ worlds.opening_world count homes.now) }
@@ -61,7 +61,7 @@ impl World {
         }
     }
 
-    /// What an event does. The server whose step it is, if that was refused for want of memory, so that the server has
+    /// What an event does. The server whose step it is, if that was out of memory, so that the server has
     /// failed instead. Any other refusal is an error.
     pub fn attempt(&mut self, event: &Event) -> Result<Option<usize>, SceneFault>
         ensures ok { IfOk result (λ refused. Comes self.old event.now refused self.new) }

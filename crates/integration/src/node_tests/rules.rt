@@ -57,7 +57,7 @@ fn set_many(alloc: Global, chain: &mut Chain, a: &Key, count: usize) -> Result<(
     Ok(())
 }
 
-// The first so many messages come, in the order in which they were sent. Before each the key is dirty.
+// The first n messages come, in the order in which they were sent. Before each the key is dirty.
 fn deliver_many(chain: &mut Chain, a: &Key, count: usize) -> Result<(), Fail> {
     for _ in 0..count {
         expect_dirty(chain, a)?;

@@ -25,7 +25,7 @@ fn count_from(node: &mut Node, i: u8, view: View, body: Body) -> Result<usize, F
     Ok(node.step(input)?.len())
 }
 
-// A message from server i that names nobody puts out so many.
+// How many messages a message from server i that names nobody puts out.
 fn expect(node: &mut Node, i: u8, body: Body, outputs: usize) -> Result<(), Fail> {
     if count_from(node, i, View::empty(), body)? != outputs {
         return Err("another number of outputs".into());

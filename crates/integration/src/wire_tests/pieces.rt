@@ -19,7 +19,7 @@ fn all_vectors(alloc: Global) -> Result<Vec<u8>, Fail> {
     Ok(stream)
 }
 
-// The spellings of the frames that are read in pieces of so many bytes.
+// The spellings of the frames that are read in pieces of n bytes.
 fn read_in_pieces(alloc: Global, stream: &[u8], size: usize) -> Result<Vec<u8>, Fail>
     requires { 0 < size }
 {
@@ -47,7 +47,7 @@ fn vectors_are_read_in_any_pieces(rt: HostRuntime) -> Result<(), Fail> {
     Ok(())
 }
 
-// So many frames one after another, with data of so many bytes each.
+// Frames one after another, with data of this length each.
 fn stream_of(alloc: Global, size: usize, count: usize) -> Result<Vec<u8>, Fail> {
     let data = vec![in alloc; b'x'; size]?;
     let call = on(
