@@ -1,7 +1,7 @@
 -- How the histories of a source and a sink go on, and what a write that fails leaves.
 use Rattle.std.specs.Prelude.{◌≡◌, ℕ, ◌+◌, ◌++◌, ◌==◌, ◌&&◌, ◌||◌, nat_le, List, [], length, take, Bool, Result, Ok, Err, if◌then◌else◌}
 
--- the bytes of the slice that a read gave, or a write took: as many of the first as it answers, and none where it answers an error
+-- the bytes of the slice that a read gave, or a write took: as many of the first as it answers, and none if it answers an error
 abbrev pub passed : {E : Type 0} → Result ℕ E → List ℕ → List ℕ
 passed (Ok n) bytes = take n bytes
 passed (Err e) bytes = []

@@ -17,7 +17,7 @@ pub trait Sink {
     /// How many of its writes have failed.
     ghost failures: { Self → ℕ };
 
-    /// Takes some of the bytes, and answers how many. It fails where it answers an error,
+    /// Takes some of the bytes, and answers how many. It fails if it answers an error,
     /// and where it takes none of a slice that isn't empty.
     fn write(&mut self, bytes: &[u8]) -> io::Result<usize>
         ensures bound { WritesAtMost result bytes.now }

@@ -21,7 +21,7 @@ pub trait Source {
     /// How many of its reads have failed.
     ghost failures: { Self → ℕ };
 
-    /// Puts some bytes at the front of the slice, and answers how many. It fails where it answers an error.
+    /// Puts some bytes at the front of the slice, and answers how many. It fails if it answers an error.
     fn read(&mut self, bytes: &mut [u8]) -> io::Result<usize>
         ensures bound { ReadsAtMost result bytes.new }
         ensures given { given self.new ≡ given self.old ++ passed result bytes.new }

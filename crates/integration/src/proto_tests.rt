@@ -145,7 +145,7 @@ fn too_large(rt: HostRuntime) -> Result<(), Fail> {
     check_large(&rt, input.as_slice(), wanted)
 }
 
-// Its fault stands in turn only behind its last byte, and is written once.
+// Its fault stands in turn only after its last byte, and is written once.
 #[test]
 fn a_refused_block_is_passed_over(rt: HostRuntime) -> Result<(), Fail> {
     let mut table = Table::new(rt.alloc());

@@ -281,7 +281,7 @@ fn all_agree(pair: &Pair, keys: &[Key]) -> Result<bool, Fail> {
     Ok(agreed)
 }
 
-// Rounds of an update at two keys of three; some entries stay open behind each.
+// Rounds of an update at two keys of three; some entries stay open after each.
 fn many_keys(pair: &mut Pair, keys: &[Key], rounds: u64) -> Result<bool, Fail> {
     let mut agreed = true;
     for round in 0..rounds {

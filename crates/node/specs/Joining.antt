@@ -79,7 +79,7 @@ asks_renewed old s =
     if is_same (tail old s.count) (tail_of s) then silent s
     else (if is_tail s then record { state = record s { asks = [] }; outputs = replies_to s s.asks } else putting s (asked_again s s.asks))
 
--- the steps behind the first, of a server whose view was widened
+-- the steps after the first, of a server whose view was widened
 abbrev pub rejoined : View → ℕ → ℕ → ServerState → Outcome
 rejoined old last_before acked_before s =
     and_then (and_then (and_then (and_then (promoted_to_head old s) promoted_to_tail) (caught_up old last_before)) (acked_to_predecessor old acked_before)) (asks_renewed old)

@@ -42,7 +42,7 @@ open_read asks ask = find (λ r. r.ask == ask) asks
 abbrev pub without_read : List OpenRead → ℕ → List OpenRead
 without_read asks ask = without_first (λ r. r.ask == ask) asks
 
--- the read of this ask, if it is open, is answered with the number n: where that is from its mark to the last number,
+-- the read of this ask, if it is open, is answered with the number n: if that is from its mark to the last number,
 -- the read is closed, and its port gets the key's value at that number
 unfoldable pub answered : ServerState → ℕ → ℕ → Option OpenRead → Outcome
 answered s ask n None = silent s

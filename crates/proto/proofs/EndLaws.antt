@@ -12,7 +12,7 @@ use Rattle.proto.specs.Sessions.{Held, fed, by_found, by_passing, next_of}
 use Rattle.proto.specs.Streams.{requests, will_close, KeepsEnd}
 use Rattle.proto.proofs.RequestLaws.{takes, requests_none, requests_some, requests_more, refused_later}
 
--- behind a fault the end is that of what is left, unless the session is closed by it
+-- after a fault the end is that of what is left, unless the session is closed by it
 behind_fault : (b : Bool) (unread : List ℕ) (unique : Bool) (asked : Option Form) (out more : List ℕ)
     → (b || list_any is_last (cond b [] (requests (unread ++ more))))
     ≡ will_close (fed (record { unread = unread; passing = None; later = []; unique = unique; asked = asked; out = out; closed = b }) more)

@@ -32,7 +32,7 @@ cut_none text e = by_test (nat_lt (position_or_len (λ b. b == space) text) (len
     by_test true less is = cc
     by_test false less none = slice_split_none (λ b. b == space) text (λ k d below. fails_before_first (λ b. b == space) text k d (grind (arith, nat_tests, less, below)))
 
--- The first key of a text, and the text behind it.
+-- The first key of a text, and the text after it.
 pub record Popped (text key rest : List ℕ) : Type 0 where
   pub first : keys_in text ≡ key ∷ keys_in rest
   pub key_is : IsKey key
@@ -56,7 +56,7 @@ popped_last text h e =
     let parts = and_parts (is_key text) true (ap (list_all is_key) (sym cut) ∙ h) in
     record { first = keys_of_fields text h ∙ cut; key_is = parts.0; keys = refl }
 
--- where the text behind the first key begins
+-- where the text after the first key begins
 abbrev past_of : List ℕ → ℕ
 past_of text = min (length text) (first_end text + 1)
 
@@ -77,7 +77,7 @@ popped (b ∷ bs) some h = by_place (first_space (b ∷ bs)) refl
         let none : drop (min (length (b ∷ bs)) (length (b ∷ bs) + 1)) (b ∷ bs) ≡ [] = ap (λ k. drop k (b ∷ bs)) same ∙ drop_all (length (b ∷ bs)) (b ∷ bs) (omega arith) in
         subst (λ r. Popped (b ∷ bs) (slice_range (b ∷ bs) 0 (length (b ∷ bs))) r) (sym none) (subst (λ k. Popped (b ∷ bs) k []) (sym whole) (popped_last (b ∷ bs) h e))
 
--- a first key that was cut off is the first, and the text behind its space has the others
+-- a first key that was cut off is the first, and the text after its space has the others
 pub popped_key : (text key rest : List ℕ) (at past : ℕ) → list_all is_key (keys_in text) ≡ true → at ≡ first_end text → past ≡ min (length text) (at + 1)
     → key ≡ slice_range text 0 at → rest ≡ drop past text → IsKey key → Popped text key rest
 popped_key [] key rest at past h at_is past_is key_is rest_is is =
@@ -90,7 +90,7 @@ popped_key (b ∷ bs) key rest at past h at_is past_is key_is rest_is is =
     let left : rest ≡ drop (past_of (b ∷ bs)) (b ∷ bs) = rest_is ∙ ap (λ k. drop k (b ∷ bs)) (past_is ∙ ap (λ k. min (length (b ∷ bs)) (k + 1)) at_is) in
     subst (λ k. Popped (b ∷ bs) k rest) (sym cut) (subst (λ r. Popped (b ∷ bs) (slice_range (b ∷ bs) 0 (first_end (b ∷ bs))) r) (sym left) (popped (b ∷ bs) (omega arith) h))
 
--- where no key was cut off, there is none
+-- if no key was cut off, there is none
 pub no_key_left : (text key : List ℕ) (at : ℕ) → list_all is_key (keys_in text) ≡ true → at ≡ first_end text → key ≡ slice_range text 0 at → (IsKey key → ⊥) → keys_in text ≡ []
 no_key_left [] key at h at_is key_is none = refl
 no_key_left (b ∷ bs) key at h at_is key_is none = absurd (none (subst IsKey (sym (key_is ∙ ap (slice_range (b ∷ bs) 0) at_is)) (popped (b ∷ bs) (omega arith) h).key_is))

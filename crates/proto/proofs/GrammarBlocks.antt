@@ -1,4 +1,4 @@
--- A block behind a line: which bytes it is, and what becomes of it.
+-- A block after a line: which bytes it is, and what becomes of it.
 use Rattle.std.proofs.Common.{◌≡◌, ◌≢◌, ℕ, ◌+◌, ◌-◌, ◌<◌, ◌≤◌, Bool, true, false, cond, List, ◌++◌, length, take, drop, None, Some, refl, ap, sym, ◌∙◌, subst, arith, nat_lt, length-append, length-take, length-drop, append_assoc, take_at, drop_at, take-add}
 use Rattle.std.specs.List.{slice_range}
 use Rattle.std.specs.Str.{bytes_eq}

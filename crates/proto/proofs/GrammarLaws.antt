@@ -113,7 +113,7 @@ command_asked word fields bytes more asked h is = word_asked (Some word) (spelli
 command_found : (word : Word) (fields : List (List ℕ)) (bytes more : List ℕ) (request : Request) → IsLine (spelling word ∷ fields) bytes → asked_of word fields ≡ Some (Whole request) → front (bytes ++ more) ≡ Some (request, length bytes)
 command_found word fields bytes more request h is = ap (by_asked (bytes ++ more)) (command_asked word fields bytes more (Some (Whole request)) h is)
 
--- a storage line with a block behind it
+-- a storage line with a block after it
 block_found : (key : List ℕ) (line : StorageLine) (block ends bytes more : List ℕ) → IsBlock key line block ends bytes → front (bytes ++ more) ≡ Some (finished (fate_of key line) block ends, length bytes)
 block_found key line block ends bytes more h =
     let asked : asked_at (h.text ++ (block ++ ends ++ more)) ≡ Some (Behind (block_of key line), length h.text) =

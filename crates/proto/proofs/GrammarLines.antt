@@ -41,7 +41,7 @@ all_below p t zero h each = refl
 all_below p [] (suc i) h each = refl
 all_below p (x ∷ t) (suc i) h each = and_from (p x) (list_all p (take i t)) (each 0 (omega arith)) (all_below p t i (omega arith) (λ k below. each (suc k) (omega arith)))
 
--- the first LF stands behind a text without one
+-- the first LF stands after a text without one
 first_lf_at : (t rest : List ℕ) → IsTrue (has_no_lf t) → first_lf (t ++ lf ∷ rest) ≡ Some (length t)
 first_lf_at t rest none =
     let place : position_or_len (λ b. b == lf) (t ++ lf ∷ rest) ≡ length t = prefix_up_to (λ b. not (b == lf)) t lf rest none refl in
@@ -54,7 +54,7 @@ first_lf_none t none =
     let past : nat_lt (length t) (length t) ≡ false = grind (arith, nat_tests) in
     rw (place, past) refl
 
--- where no first LF is, there is none
+-- if no first LF is, there is none
 pub none_by_first_lf : (t : List ℕ) → first_lf t ≡ None → IsTrue (has_no_lf t)
 none_by_first_lf t e = by_test (nat_lt (position_or_len (λ b. b == lf) t) (length t)) refl e
   where
@@ -62,13 +62,13 @@ none_by_first_lf t e = by_test (nat_lt (position_or_len (λ b. b == lf) t) (leng
     by_test true is none = cc
     by_test false is none = all_by_prefix (λ b. not (b == lf)) t (grind (arith, nat_tests, is))
 
--- a cut behind a list keeps it
+-- a cut after a list keeps it
 take_past : (t more : List ℕ) (most : ℕ) → length t ≤ most → take most (t ++ more) ≡ t ++ take (most - length t) more
 take_past [] more most h = let same : most - 0 ≡ most = omega arith in rw same refl
 take_past (x ∷ t) more zero h = absurd (omega arith)
 take_past (x ∷ t) more (suc most) h = let same : suc most - suc (length t) ≡ most - length t = omega arith in rw (same, take_past t more most (omega arith)) refl
 
--- A text and its LF, where both are within the bytes that a line may have: the line is this one, whatever follows.
+-- A text and its LF, if both are within the bytes that a line may have: the line is this one, whatever follows.
 pub asked_of_text : (most : ℕ) (t more : List ℕ) → IsTrue (has_no_lf t) → length t + 1 ≤ most → asked_within most ((t ++ lf ∷ []) ++ more) ≡ Some (by_line t, length t + 1)
 asked_of_text most t more none fits =
     let regrouped : (t ++ lf ∷ []) ++ more ≡ t ++ lf ∷ more = append_assoc t (lf ∷ []) more in
@@ -110,7 +110,7 @@ line_at_first_lf most bytes i e =
       inside = omega arith;
     }
 
--- the test of `by_line`, where a CR stands at the end
+-- the test of `by_line`, if a CR stands at the end
 cr_at_end : (t : List ℕ) → nat_le 1 (length (t ++ cr ∷ [])) && slice_index (t ++ cr ∷ []) (length (t ++ cr ∷ []) - 1) == cr ≡ true
 cr_at_end t =
     let count : length (t ++ cr ∷ []) ≡ length t + 1 = length-append t (cr ∷ []) in

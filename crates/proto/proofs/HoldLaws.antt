@@ -57,7 +57,7 @@ short_block come end size (Put key verb silent) request within e none = by_test 
     by_test true less is = (grind (arith, nat_tests, less), within key verb silent refl)
     by_test false less is = cc
 
--- where neither a request nor a refused block stands at the front, what stands there is short
+-- if neither a request nor a refused block stands at the front, what stands there is short
 short_front : (bytes : List ℕ) → front bytes ≡ None → refused_at bytes ≡ None → length bytes < line_limit + limit + 2
 short_front bytes none refused = by_line (asked_at bytes) refl
   where

@@ -1,4 +1,4 @@
--- The requests of a stream, one after another: the one at the front, and those behind it.
+-- The requests of a stream, one after another: the one at the front, and those after it.
 use Rattle.std.proofs.Common.{◌≡◌, ℕ, zero, suc, ◌+◌, ◌-◌, ◌≤◌, Bool, true, false, cond, List, [], ◌∷◌, ◌++◌, length, drop, take, Option, None, Some, refl, sym, ap, subst, ◌∙◌, arith, nat_lt, length-append, length-drop}
 use Rattle.std.specs.Prelude.{◌==◌}
 use Rattle.std.specs.List.{slice_range}
@@ -82,7 +82,7 @@ requests_none bytes e = by_length (length bytes)
     by_length zero = refl
     by_length (suc k) = rw e refl
 
--- the requests of a stream are the one at its front, and those behind it
+-- the requests of a stream are the one at its front, and those after it
 pub requests_some : (bytes : List ℕ) (found : Request × ℕ) → front bytes ≡ Some found → requests bytes ≡ found.0 ∷ cond (is_last found.0) [] (requests (drop found.1 bytes))
 requests_some bytes found e = by_length (length bytes) refl
   where
@@ -101,13 +101,13 @@ requests_more bytes more found e =
     let cut = drop-append-le found.1 bytes more s.most in
     rw (← cut) (requests_some (bytes ++ more) found (whole_stays_whole bytes more found e))
 
--- what is left of two lists behind so many of their first items
+-- what is left of two lists after so many of their first items
 pub drop_two : (n : ℕ) (xs ys : List ℕ) → drop n (xs ++ ys) ≡ drop n xs ++ drop (n - length xs) ys
 drop_two zero xs ys = let none : 0 - length xs ≡ 0 = omega arith in rw none refl
 drop_two (suc n) [] ys = let all : suc n - 0 ≡ suc n = omega arith in rw all refl
 drop_two (suc n) (x ∷ xs) ys = let rest : suc n - length (x ∷ xs) ≡ n - length xs = omega arith in rw rest (drop_two n xs ys)
 
--- a refused block that ends behind so many bytes, where this many have come
+-- a refused block that ends after so many bytes, if this many have come
 abbrev whole_at : ℕ → ℕ → Fault → Front
 whole_at come end fault = cond (nat_lt come end) None (Some (Bad fault, end))
 

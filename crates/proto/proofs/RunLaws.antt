@@ -44,7 +44,7 @@ pub any_cutting : (run : Run) → IsRun run → run.given ++ to_come run.held �
 any_cutting run is =
     ap (λ h. run.given ++ to_come h) (sym (fed_none run.held)) ∙ ((tells_all run is).turns [] ∙ ap turns (append-nil run.stream))
 
--- where none is to come, all were given
+-- if none is to come, all were given
 pub gives_all : (run : Run) → IsRun run → (next_of run.held).0 ≡ None → run.given ≡ turns run.stream
 gives_all run is none =
     sym (append-nil run.given) ∙ (ap (λ ts. run.given ++ ts) (sym ((next_gives_first run.held).none none)) ∙ any_cutting run is)

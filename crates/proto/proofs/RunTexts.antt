@@ -15,7 +15,7 @@ IsWritten None given replies bytes = (length replies ≡ length (calls_of given)
 IsWritten (Some form) given replies bytes =
     (before : List Turn) × (call : Call) × (given ≡ before ++ Calls call form ∷ []) × (length replies ≡ length (calls_of before)) × (bytes ≡ texts before replies)
 
--- where no call is open, the next turn writes its text
+-- if no call is open, the next turn writes its text
 next_written : (h : Held) (given : Given) (ts : List Turn) (rs : List Reply) (taken : List ℕ) → h.asked ≡ None → Writes h given
     → IsWritten None ts rs (taken ++ h.out) → IsWritten given.1.asked (ts ++ turn_given given.0) rs (taken ++ given.1.out)
 next_written h (None, left) ts rs taken idle w is = rw (w.1, idle, w.0, append-nil ts) is

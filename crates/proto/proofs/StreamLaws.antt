@@ -34,7 +34,7 @@ unread_turned (Some p) unread = by_left (p.left == 0)
     by_left true = ap (λ ts. Faulty p.fault ∷ ts) (cond_turns (is_last (Bad p.fault)) (requests unread))
     by_left false = refl
 
--- behind a fault are the turns of what is left, unless the session is closed by it
+-- after a fault are the turns of what is left, unless the session is closed by it
 behind_fault : (b : Bool) (unread : List ℕ) (unique : Bool) (asked : Option Form) (out more : List ℕ)
     → cond b [] (turns (unread ++ more)) ≡ to_come (fed (record { unread = unread; passing = None; later = []; unique = unique; asked = asked; out = out; closed = b }) more)
 behind_fault true unread unique asked out more = refl
@@ -88,7 +88,7 @@ by_fields unread passing (key ∷ keys) unique asked out false = record { first 
 pub next_gives_first : (h : Held) → GivesFirst h (next_of h).0 (next_of h).1
 next_gives_first h = by_fields h.unread h.passing h.later h.unique h.asked h.out h.closed
 
--- the unread bytes of what is left behind a fault at the front
+-- the unread bytes of what is left after a fault at the front
 fewer_behind : (unread : List ℕ) (unique : Bool) (asked : Option Form) (out : List ℕ) (r : Front) (q : Option Passing) (fault : Fault) → front unread ≡ r
     → let h : Held = record { unread = unread; passing = None; later = []; unique = unique; asked = asked; out = out; closed = false } in
     (by_found (found_of r q) h).0 ≡ Some (Faulty fault) → most_faults (by_found (found_of r q) h).1 < most_faults h

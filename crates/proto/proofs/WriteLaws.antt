@@ -80,20 +80,20 @@ fewer_replies_begin (Calls call form ∷ ts) us (r ∷ rs) ss =
     let more = fewer_replies_begin ts us rs ss in
     (more.0, ap (λ bytes. text form r ++ bytes) more.1 ∙ sym (append_assoc (text form r) (texts ts rs) more.0))
 
--- the calls among turns, with more of them behind
+-- the calls among turns, with more of them after
 pub calls_of_more : (ts us : List Turn) → calls_of (ts ++ us) ≡ calls_of ts ++ calls_of us
 calls_of_more [] us = refl
 calls_of_more (Faulty fault ∷ ts) us = calls_of_more ts us
 calls_of_more (Calls call form ∷ ts) us = ap (λ calls. call ∷ calls) (calls_of_more ts us)
 
--- a fault behind turns whose calls are answered
+-- a fault after turns whose calls are answered
 pub texts_fault : (fault : Fault) (ts : List Turn) (rs : List Reply) → length rs ≡ length (calls_of ts) → texts (ts ++ Faulty fault ∷ []) rs ≡ texts ts rs ++ fault_text fault
 texts_fault fault [] rs h = append-nil (fault_text fault)
 texts_fault fault (Faulty g ∷ ts) rs h = rw (texts_fault fault ts rs h) (sym (append_assoc (fault_text g) (texts ts rs) (fault_text fault)))
 texts_fault fault (Calls call form ∷ ts) [] h = absurd (omega (arith, h))
 texts_fault fault (Calls call form ∷ ts) (r ∷ rs) h = rw (texts_fault fault ts rs (omega (arith, h))) (sym (append_assoc (text form r) (texts ts rs) (fault_text fault)))
 
--- a call without a reply behind them
+-- a call without a reply after them
 pub texts_open : (call : Call) (form : Form) (ts : List Turn) (rs : List Reply) → length rs ≡ length (calls_of ts) → texts (ts ++ Calls call form ∷ []) rs ≡ texts ts rs
 texts_open call form [] [] h = refl
 texts_open call form [] (r ∷ rs) h = absurd (omega (arith, h))
@@ -101,7 +101,7 @@ texts_open call form (Faulty g ∷ ts) rs h = ap (λ bytes. fault_text g ++ byte
 texts_open call form (Calls other shape ∷ ts) [] h = absurd (omega (arith, h))
 texts_open call form (Calls other shape ∷ ts) (r ∷ rs) h = ap (λ bytes. text shape r ++ bytes) (texts_open call form ts rs (omega (arith, h)))
 
--- an answered call behind them
+-- an answered call after them
 pub texts_call : (call : Call) (form : Form) (reply : Reply) (ts : List Turn) (rs : List Reply) → length rs ≡ length (calls_of ts)
     → texts (ts ++ Calls call form ∷ []) (rs ++ reply ∷ []) ≡ texts ts rs ++ text form reply
 texts_call call form reply [] [] h = append-nil (text form reply)

@@ -109,7 +109,7 @@ Fitting Delete fields = (key : List ℕ) × (silent : Bool) × AreDelete fields 
 Fitting FlushAll fields = (silent : Bool) × (fields ≡ noreply silent)
 Fitting Quit fields = fields ≡ []
 
--- A storage line with its data block behind it, and two bytes more.
+-- A storage line with its data block after it, and two bytes more.
 pub record IsBlock (key : List ℕ) (line : StorageLine) (block ends bytes : List ℕ) : Type 0 where
   pub storing : Storing
   pub fields : List (List ℕ)
@@ -144,7 +144,7 @@ IsMisfit bytes = (word : Word) × (fields : List (List ℕ)) × IsLine (spelling
 abbrev pub Spells : Request → List ℕ → Type 0
 -- get <key>*, gets <key>*
 Spells (requests.Get keys unique) bytes = IsLine (spelling (get_word unique) ∷ keys) bytes × AreKeys keys
--- a storage line without an expiry time, and a block of data within the limit, with CR LF behind it
+-- a storage line without an expiry time, and a block of data within the limit, with CR LF after it
 Spells (requests.Store key op silent) bytes =
     (line : StorageLine) × (block : List ℕ) × IsBlock key line block crlf bytes × (length block ≤ limit) × (line.expires ≡ false)
     × (op_of line.verb block ≡ op) × (line.silent ≡ silent)

@@ -52,7 +52,7 @@ silence_of [] = Some false
 silence_of (field ∷ []) = if bytes_eq field noreply_word then Some true else None
 silence_of (field ∷ next ∷ fields) = None
 
--- the verb of a storage word, of the flags of its line and of the fields behind the size; and the fields that are left.
+-- the verb of a storage word, of the flags of its line and of the fields after the size; and the fields that are left.
 -- Only a `cas` has a field of its own there: a unique. An append and a prepend leave an item's flags.
 abbrev pub verb_of : Storing → ℕ → List (List ℕ) → Option (Verb × List (List ℕ))
 verb_of Set flags fields = Some (verbs.Set flags, fields)
@@ -63,7 +63,7 @@ verb_of Prepend flags fields = Some (verbs.Prepend, fields)
 verb_of Cas flags [] = None
 verb_of Cas flags (field ∷ fields) = option_map (λ unique. (verbs.Cas flags unique, fields)) (number_of (2 ^ 64) field)
 
--- what stands behind the key of a storage line: flags exptime bytes, for a `cas` a unique, then `noreply` or nothing (protocol.txt, "Storage commands")
+-- what stands after the key of a storage line: flags exptime bytes, for a `cas` a unique, then `noreply` or nothing (protocol.txt, "Storage commands")
 abbrev pub storage_line : Storing → List (List ℕ) → Option StorageLine
 storage_line storing (flags ∷ exptime ∷ size ∷ fields) = do
   flags ← number_of (2 ^ 32) flags
@@ -85,7 +85,7 @@ fate_of key line =
 abbrev pub block_of : List ℕ → StorageLine → Block
 block_of key line = record { size = line.size; fate = fate_of key line }
 
--- the fields of a storage line: a key, then what stands behind it
+-- the fields of a storage line: a key, then what stands after it
 abbrev pub store_line : Storing → List (List ℕ) → Option Block
 store_line storing [] = None
 store_line storing (key ∷ fields) = do

@@ -33,7 +33,7 @@ ends bytes = list_any is_last (requests bytes)
 abbrev pub turns : List ℕ → List Turn
 turns bytes = flat_map turns_of (requests bytes)
 
--- the turns of a request, and those behind it
+-- the turns of a request, and those after it
 abbrev pub turns_before : Request → List Turn → List Turn
 turns_before request later = turns_of request ++ (if is_last request then [] else later)
 
@@ -44,12 +44,12 @@ texts (Faulty fault ∷ ts) replies = fault_text fault ++ texts ts replies
 texts (Calls call form ∷ ts) [] = []
 texts (Calls call form ∷ ts) (reply ∷ replies) = text form reply ++ texts ts replies
 
--- the requests that a session's bytes have still to give: where a refused block is being passed over, none before its end
+-- the requests that a session's bytes have still to give: if a refused block is being passed over, none before its end
 abbrev pub unread_requests : Option Passing → List ℕ → List Request
 unread_requests None unread = requests unread
 unread_requests (Some p) unread = if p.left == 0 then Bad p.fault ∷ (if is_last (Bad p.fault) then [] else requests unread) else []
 
--- the turns that a session's bytes have still to give: where a refused block is being passed over, none before its end
+-- the turns that a session's bytes have still to give: if a refused block is being passed over, none before its end
 abbrev pub unread_turns : Option Passing → List ℕ → List Turn
 unread_turns None unread = turns unread
 unread_turns (Some p) unread = if p.left == 0 then turns_before (Bad p.fault) (turns unread) else []

@@ -16,7 +16,7 @@ pub struct CounterLine {
     pub silent: bool,
 }
 
-/// What the fields behind `get` or `gets` ask for, if they fit.
+/// What the fields after `get` or `gets` ask for, if they fit.
 pub fn get_line(
     alloc: Global,
     unique: bool,
@@ -31,7 +31,7 @@ pub fn get_line(
     }
 }
 
-/// What the fields behind `incr` or `decr` say, if they fit.
+/// What the fields after `incr` or `decr` say, if they fit.
 pub fn counter_line(
     alloc: Global,
     mut fields: Fields<'_>,
@@ -54,7 +54,7 @@ pub fn counter_line(
     }))
 }
 
-/// What the fields behind `delete` ask for, if they fit.
+/// What the fields after `delete` ask for, if they fit.
 pub fn delete_line(alloc: Global, mut fields: Fields<'_>) -> Result<Option<Request>, AllocError>
     ensures value { IfOk result (λ request. request ≡ delete_line fields.entry) }
     ensures whole { IfOk result (λ request. IfSome request IsWhole) }
@@ -71,7 +71,7 @@ pub fn delete_line(alloc: Global, mut fields: Fields<'_>) -> Result<Option<Reque
     Ok(Some(Request::Delete(key, silent)))
 }
 
-/// What the fields behind `flush_all` ask for, if they fit.
+/// What the fields after `flush_all` ask for, if they fit.
 pub fn flush_line(fields: Fields<'_>) -> Option<Request>
     ensures value { result ≡ flush_line fields.entry }
     ensures whole { IfSome result IsWhole }
@@ -79,7 +79,7 @@ pub fn flush_line(fields: Fields<'_>) -> Option<Request>
     Some(Request::Flush(silence_of(fields)?))
 }
 
-/// What the fields behind `quit` ask for, if they fit.
+/// What the fields after `quit` ask for, if they fit.
 pub fn quit_line(mut fields: Fields<'_>) -> Option<Request>
     ensures value { result ≡ quit_line fields.entry }
     ensures whole { IfSome result IsWhole }

@@ -80,7 +80,7 @@ fn first_space(text: &[u8]) -> Option<usize>
     memchr(b' ', text)
 }
 
-// The first field of a text, and the text behind the space after it.
+// The first field of a text, and the text after the space after it.
 fn first_field(text: &[u8]) -> (&[u8], Option<&[u8]>)
     ensures { fields_of text.entry.now ≡ result.0.now ∷ fields_left (option_copied result.1) }
 {

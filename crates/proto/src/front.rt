@@ -38,7 +38,7 @@ pub struct Pending {
     pub line: usize,
 }
 
-/// What stands at the front. It reads a line once, and then waits for the block behind it by counting.
+/// What stands at the front. It reads a line once, and then waits for the block after it by counting.
 pub fn front(
     alloc: Global,
     pending: &mut Option<Pending>,

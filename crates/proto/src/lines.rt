@@ -19,7 +19,7 @@ pub const LINE_LIMIT: usize = 2048;
 pub enum Asked {
     /// A request that the line spells alone.
     Whole(Request),
-    /// What becomes of the block behind the line.
+    /// What becomes of the block after the line.
     Behind(Block),
 }
 
@@ -96,7 +96,7 @@ fn by_word(alloc: Global, word: Option<Word>, fields: Fields<'_>) -> Result<Aske
     }
 }
 
-// What the fields behind a command word ask for, if they fit it.
+// What the fields after a command word ask for, if they fit it.
 fn asked_of(alloc: Global, word: Word, fields: Fields<'_>) -> Result<Option<Asked>, AllocError>
     ensures value { IfOk result (λ asked. asked ≡ asked_of word fields.entry) }
     ensures sound { IfOk result (λ asked. IfSome asked IsSound) }

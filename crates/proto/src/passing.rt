@@ -13,7 +13,7 @@ pub struct Passing {
     pub left: usize,
 }
 
-/// What of a piece is kept: what lies behind the refused block.
+/// What of a piece is kept: what lies after the refused block.
 pub fn kept(passing: Option<Passing>, piece: &[u8]) -> &[u8]
     ensures { result.now ≡ kept passing piece.entry.now }
 {

@@ -56,7 +56,7 @@ impl Keys {
         Keys { text: Bytes::new() }
     }
 
-    /// The keys that the fields of a text are, or `None` where one of them makes no key. The text is copied once.
+    /// The keys that the fields of a text are, or `None` if one of them makes no key. The text is copied once.
     pub fn from_text(alloc: Global, text: &[u8]) -> Result<Option<Keys>, AllocError>
         ensures { IfOk result (λ keys. keys ≡ keys_of (fields_of text.now)) }
     {

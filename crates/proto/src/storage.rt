@@ -38,7 +38,7 @@ pub enum Verb {
     Cas(u32, u64),
 }
 
-/// What the fields of a storage line say behind its key.
+/// What the fields of a storage line say after its key.
 #[derive(Clone, Copy, Debug)]
 pub struct StorageLine {
     pub verb: Verb,
@@ -62,7 +62,7 @@ fn verb_of(storing: Storing, flags: u32, fields: &mut Fields<'_>) -> Option<Verb
     }
 }
 
-// What a storage line says behind its key.
+// What a storage line says after its key.
 fn storage_line(storing: Storing, mut fields: Fields<'_>) -> Option<StorageLine>
     ensures { result ≡ storage_line storing fields.entry }
 {

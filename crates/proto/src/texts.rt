@@ -18,7 +18,7 @@ const NUMBER: usize = 1 + DIGITS;
 // `VALUE `, three numbers, CR LF.
 const VALUE_LINE: usize = 6 + 3 * NUMBER + 2;
 
-// CR LF behind the data, and `END` CR LF.
+// CR LF after the data, and `END` CR LF.
 const VALUE_END: usize = 2 + 5;
 
 /// How a read of one key is shown (protocol.txt, "Retrieval command").

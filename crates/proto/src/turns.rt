@@ -19,7 +19,7 @@ impl Session {
     ghost use Rattle.proto.specs.Turns.{form_of};
     ghost use Rattle.proto.specs.Sessions.{by_found, by_passing, by_request, looking, opened, step_of, IsOpen};
 
-    // Passes over a refused block: its fault stands behind its last byte.
+    // Passes over a refused block: its fault stands after its last byte.
     pub(crate) fn pass(&mut self, passing: Passing) -> Result<Step, ProtoFault>
         requires passing { self.old.passing ≡ Some passing }
         requires idle { self.old.asked ≡ None }

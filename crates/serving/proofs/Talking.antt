@@ -24,7 +24,7 @@ calls_of_more [] us = refl
 calls_of_more (Faulty fault ∷ ts) us = calls_of_more ts us
 calls_of_more (Calls call form ∷ ts) us = ap (λ calls. call ∷ calls) (calls_of_more ts us)
 
--- the first elements of a list, as many as another is long, where that is as long as its first part
+-- the first elements of a list, as many as another is long, if that is as long as its first part
 take_first : {X Y : Type 0} (ys : List Y) (xs zs : List X) → length ys ≡ length xs → take (length ys) (xs ++ zs) ≡ xs
 take_first [] [] zs h = refl
 take_first [] (x ∷ xs) zs h = absurd (omega (arith, h))

@@ -10,7 +10,7 @@ number_of bound [] = None
 number_of bound (c ∷ cs) =
     if list_all is_ascii_digit (c ∷ cs) && nat_lt (digits_value 10 (c ∷ cs)) bound then Some (digits_value 10 (c ∷ cs)) else None
 
--- a number with one digit more at its end, where it stays below the bound
+-- a number with one digit more at its end, if it stays below the bound
 abbrev pub with_digit : ℕ → ℕ → ℕ → Option ℕ
 with_digit bound n c = if is_ascii_digit c && nat_lt (n * 10 + digit_value c) bound then Some (n * 10 + digit_value c) else None
 

@@ -73,7 +73,7 @@ fn put(flags: u32, bytes: Bytes, number: u64) -> Change
     })
 }
 
-// An item of these two pieces of data, one after the other, where it isn't too large.
+// An item of these two pieces of data, one after the other, if it isn't too large.
 fn grown(
     alloc: Global,
     flags: u32,

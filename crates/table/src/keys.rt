@@ -49,7 +49,7 @@ impl Key {
         }))
     }
 
-    /// The key of these bytes, or `None` exactly where they make no key.
+    /// The key of these bytes, or `None` exactly if they make no key.
     /// It shares their block: it copies and allocates nothing.
     pub fn from_bytes(bytes: Bytes) -> Option<Key>
         ensures bytes { IfSome result (λ key. key ≡ bytes) }

@@ -20,15 +20,15 @@ pub enum Op {
     Read,
     /// Puts an item with these flags and this data (protocol.txt, "Storage commands").
     Set(u32, Bytes),
-    /// Puts an item with these flags and this data, where the key has none (protocol.txt, "Storage commands").
+    /// Puts an item with these flags and this data, if the key has none (protocol.txt, "Storage commands").
     Add(u32, Bytes),
-    /// Puts an item with these flags and this data, where the key has one (protocol.txt, "Storage commands").
+    /// Puts an item with these flags and this data, if the key has one (protocol.txt, "Storage commands").
     Replace(u32, Bytes),
     /// Adds data at the end of the item's data (protocol.txt, "Storage commands"). The item keeps its flags.
     Append(Bytes),
     /// Adds data in front of the item's data (protocol.txt, "Storage commands"). The item keeps its flags.
     Prepend(Bytes),
-    /// Puts an item with these flags and this data, where the key's item has this unique
+    /// Puts an item with these flags and this data, if the key's item has this unique
     /// (protocol.txt, "Storage commands").
     Cas(u32, Bytes, u64),
     /// Raises the item's counter by an amount, wrapping at 2^64 (protocol.txt, "Increment/Decrement").

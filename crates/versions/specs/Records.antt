@@ -20,12 +20,12 @@ use Rattle.versions.specs.declared.records.Record.{Record}
 abbrev pub record_at : List (List ℕ × Record) → List ℕ → Option Record
 record_at records key = lookup (is_at (key_cmp key)) records
 
--- the item of a record, none where there is none
+-- the item of a record, none if there is none
 abbrev pub item_in : Option Record → Option Item
 item_in None = None
 item_in (Some r) = r.item
 
--- the numbers of a record, none where there is none
+-- the numbers of a record, none if there is none
 abbrev pub numbers_in : Option Record → List ℕ
 numbers_in None = []
 numbers_in (Some r) = r.numbers

@@ -1,4 +1,4 @@
--- What stands behind the frames of a stream, how it ends, and that what was written in turn is read in turn.
+-- What stands after the frames of a stream, how it ends, and that what was written in turn is read in turn.
 use Rattle.std.proofs.Common.{◌≡◌, ℕ, zero, suc, ◌<◌, ◌≤◌, List, [], ◌∷◌, ◌++◌, length, take, drop, Ok, Err, refl, sym, ap, ◌∙◌, append_assoc, arith, inl, inr, length-drop}
 use Rattle.std.specs.List.{flat_map, AllByRecursion}
 use Rattle.std.proofs.lemmas.Bool.{cases_lt}
@@ -17,7 +17,7 @@ use Rattle.wire.proofs.Readers.{IsBytes, bytes_behind}
 use Rattle.wire.proofs.FrontLaws.{first_from, first_to, malformed_from, malformed_to, old_from, old_to, partial_from, front_takes, ok_not_err, nothing_read, beginning_short}
 use Rattle.wire.proofs.StreamLaws.{frames_none, frames_some, written_again}
 
--- ---- what stands behind
+-- ---- what stands after
 
 -- a count that reaches the end leaves the same
 rest_fuel : (k j : ℕ) (bytes : List ℕ) → length bytes ≤ k → length bytes ≤ j → rest_upto k bytes ≡ rest_upto j bytes
@@ -74,7 +74,7 @@ malformed_ends bytes h = ends_there bytes Malformed (malformed_to bytes h)
 pub old_ends : (bytes : List ℕ) → IsOld bytes → IsEnd bytes ends.Old
 old_ends bytes h = ends_there bytes Old (old_to bytes h)
 
--- reading stops behind the frames
+-- reading stops after the frames
 rest_stops : (bytes : List ℕ) → (s : Stop) × (front (rest_in bytes) ≡ Err s)
 rest_stops bytes = by_length (length bytes) bytes (omega arith)
   where
@@ -97,7 +97,7 @@ no_more bytes h =
 
 -- ---- frames in turn
 
--- a frame, and those behind it
+-- a frame, and those after it
 first_and_later : (f : Frame) (fs : List Frame) (bytes rest more : List ℕ) → IsFirst f bytes rest → AreFirst fs rest more → AreFirst (f ∷ fs) bytes more
 first_and_later f fs bytes rest more first later = record {
   in_range = (first.in_range, later.in_range);
@@ -135,7 +135,7 @@ end_behind fs bytes rest h = ap end_in h.spelled ∙ again fs h.in_range
 pub none_yet : (bytes : List ℕ) → AreFirst [] bytes bytes
 none_yet bytes = record { in_range = tt; spelled = refl }
 
--- frames, and those behind them
+-- frames, and those after them
 all_in_range : (fs gs : List Frame) → AllByRecursion IsFrame fs → AllByRecursion IsFrame gs → AllByRecursion IsFrame (fs ++ gs)
 all_in_range [] gs h g = g
 all_in_range (f ∷ fs) gs h g = (h.0, all_in_range fs gs h.1 g)

@@ -316,7 +316,7 @@ one_less n k =
       | inr le ↦ le-ltb k n le ∙ sym (le-ltb (suc k) (suc n) (omega arith))
     ]
 
--- by what is told of the bytes behind the first one
+-- by what is told of the bytes after the first one
 abbrev text_by : ℕ → Bool → Bool → List ℕ → Read (List ℕ)
 text_by n all short bytes = cond (not all) (Err Malformed) (cond short (Err (Short 1)) (Ok (take (suc n) bytes, drop (suc n) bytes)))
 

@@ -82,7 +82,7 @@ key_operation_reader code =
     (chosen (code == 8) _ _ _ _ (amount_reader Decr)
     (chosen (code == 9) _ _ _ _ (made Delete) refusing))))))))
 
--- a code, and by it one value for all keys, or what stands behind it for one key
+-- a code, and by it one value for all keys, or what stands after it for one key
 by_code : {A : Type 0} (all : Bool) (own : ℕ) (value : A) (r : ℕ → List ℕ → Read A) (p : ℕ → Part A) → ((code : ℕ) → IsReader (r code) (p code))
     → IsReader (λ bytes. byte_at any bytes >>= λ code. cond all (cond (code.0 == own) (Ok (value, code.1)) (Err Malformed)) (r code.0 code.1))
     (followed (byte any) (λ code. either all (either (code == own) (makes value) refused) (p code)))
@@ -142,7 +142,7 @@ op_body_reader =
     target_reader
     (λ on. mapped (op_at (is_all on)) (format.operation (is_all on)) (λ op. bodies.Op id (record { target = on; op = op })) (op_reader (is_all on))))
 
--- the fields of an entry behind its number, one by one
+-- the fields of an entry after its number, one by one
 entry_made : ℕ → ℕ → ℕ → Target → Reply → Change → Body
 entry_made entry origin id on told done = bodies.Forward (record { number = entry; origin = origin; id = id; target = on; reply = told; change = done })
 
@@ -193,7 +193,7 @@ of_kind_reader kind =
 abbrev pub plain_front : List ℕ → Read Frame
 plain_front bytes = byte_at (λ b. b == 2) bytes >>= λ format. byte_at any format.1 >>= λ kind. of_kind_at kind.0 kind.1
 
--- behind the format's byte
+-- after the format's byte
 pub behind_format_reader : IsReader (λ bytes. byte_at any bytes >>= λ kind. of_kind_at kind.0 kind.1) (followed (byte any) format.of_kind)
 behind_format_reader = in_turn (byte_at any) (byte any) of_kind_at format.of_kind (byte_reader any) of_kind_reader
 

@@ -89,7 +89,7 @@ within_key_operation code =
     (within_chosen _ (code == 8) _ _ (wider 8 _ _ (omega arith) (within_amount Decr))
     (within_chosen _ (code == 9) _ _ (wider 0 _ _ (omega arith) (within_made Delete)) (within_refusing _)))))))))
 
--- a code, and what stands behind it
+-- a code, and what stands after it
 within_code : {A : Type 0} (most : ℕ) (all : Bool) (own : ℕ) (value : A) (r : ℕ → List ℕ → Read A) → ((code : ℕ) → IsWithin most (r code))
     → IsWithin (1 + most) (λ bytes. byte_at any bytes >>= λ code. cond all (cond (code.0 == own) (Ok (value, code.1)) (Err Malformed)) (r code.0 code.1))
 within_code most all own value r within =
@@ -138,7 +138,7 @@ within_op_body =
     (λ id bytes rest e. within_turn 251 (17 + limit) target_at (λ on rest. op_at (is_all on) rest >>= λ op. Ok (bodies.Op id (record { target = on; op = op.0 }), op.1)) within_target
     (λ on bytes rest e. within_mapped (17 + limit) (op_at (is_all on)) (λ op. bodies.Op id (record { target = on; op = op })) (within_op (is_all on))))
 
--- the fields of an entry behind its number, one by one
+-- the fields of an entry after its number, one by one
 entry_made : ℕ → ℕ → ℕ → Target → Reply → Change → Body
 entry_made entry origin id on told done = bodies.Forward (record { number = entry; origin = origin; id = id; target = on; reply = told; change = done })
 

@@ -245,7 +245,7 @@ wanted_frame fault bytes fits e h = by_front (front bytes) refl (subst (λ fault
     by_front (Ok x) read ok = (x.0, x.1, first_from bytes x.0 x.1 fits read)
     by_front (Err s) read ok = absurd cc
 
--- what stands behind the frame
+-- what stands after the frame
 pub rest_behind : (bytes : List ℕ) (f : Frame) (rest : List ℕ) → IsFirst f bytes rest → drop (length bytes - length rest) bytes ≡ rest
 rest_behind bytes f rest h =
     let e = h.spelled in

@@ -21,7 +21,7 @@ IsBytes-take n bytes h i =
       | inr le ↦ rw (get_or_past (take n bytes) i 0 (omega (arith, length-take n bytes))) (omega arith)
     ]
 
--- the bytes behind a front
+-- the bytes after a front
 pub bytes_behind : (front rest bytes : List ℕ) → bytes ≡ front ++ rest → IsBytes bytes → IsBytes rest
 bytes_behind front rest bytes e h =
     subst IsBytes (drop_at front rest (length front) refl) (IsBytes-drop (length front) (front ++ rest) (subst IsBytes e h))
@@ -32,7 +32,7 @@ pub record IsReader {A : Type 0} (read : List ℕ → Read A) (part : Part A) : 
   pub takes : (bytes : List ℕ) (x : A) (rest : List ℕ) → IsBytes bytes → read bytes ≡ Ok (x, rest) → (text : List ℕ) × part.Spells x text × (bytes ≡ text ++ rest)
   -- what is spelled at the front is read
   pub again : (x : A) (text rest : List ℕ) → part.Spells x text → read (text ++ rest) ≡ Ok (x, rest)
-  -- a field is out of range exactly where the format says so
+  -- a field is out of range exactly if the format says so
   pub bad : (bytes : List ℕ) → IsBytes bytes → read bytes ≡ Err Malformed → part.Bad bytes
   pub refuses : (bytes : List ℕ) → part.Bad bytes → read bytes ≡ Err Malformed
   pub never_old : (bytes : List ℕ) → read bytes ≡ Err Old → ⊥
@@ -48,7 +48,7 @@ pub bind_ok : {A B : Type 0} (r : Result A Stop) (f : A → Result B Stop) (y : 
 bind_ok (Ok x) f y e = (x, refl, e)
 bind_ok (Err d) f y e = absurd cc
 
--- where two steps stop, the first one does, or the second
+-- if two steps stop, the first one does, or the second
 pub bind_err : {A B : Type 0} (r : Result A Stop) (f : A → Result B Stop) (s : Stop) → (r >>= f) ≡ Err s → (r ≡ Err s) ⊎ ((x : A) × (r ≡ Ok x) × (f x ≡ Err s))
 bind_err (Ok x) f s e = inr (x, refl, e)
 bind_err (Err d) f s e = inl cc

@@ -127,7 +127,7 @@ flagged_to x lt le = (x.0, four_bytes x.0, block_spelling x.1, (lt, refl, refl),
 
 -- ---- by codes
 
--- a value that is made of a part, where the code is this one
+-- a value that is made of a part, if the code is this one
 pub by_part : {A B : Type 0} (Q : ℕ → B → List ℕ → Type 0) (p : Part A) (make : A → B) (n code : ℕ) (y : B) (text : List ℕ) → (code == n) ≡ true
     → ((x : A) (t : List ℕ) → p.Spells x t → Q n (make x) t) → (followed p (λ x. makes (make x))).Spells y text → Q code y text
 by_part Q p make n code y text e h s =
@@ -138,7 +138,7 @@ pub by_value : {B : Type 0} (Q : ℕ → B → List ℕ → Type 0) (value : B) 
 by_value Q value n code y text e h s =
     subst (λ c. Q c y text) (sym (eqb-true code n e)) (subst (λ y. Q n y text) (sym s.0) (subst (λ t. Q n value t) (sym s.1) h))
 
--- what is spelled by a code and what stands behind it, for all keys or for one
+-- what is spelled by a code and what stands after it, for all keys or for one
 pub by_code : {A : Type 0} (all : Bool) (own : ℕ) (value : A) (p : ℕ → Part A) (Q : Bool → A → List ℕ → Type 0) → Q true value (own ∷ [])
     → ((code : ℕ) (y : A) (t : List ℕ) → (p code).Spells y t → Q false y (code ∷ t))
     → (y : A) (text : List ℕ) → (followed (byte any) (λ code. either all (either (code == own) (makes value) refused) (p code))).Spells y text → Q all y text
@@ -168,7 +168,7 @@ pub record SentOp (all : Bool) (op : Op) (text : List ℕ) : Type 0 where
   pub update : is_update op ≡ true
   pub aimed : is_flush op ≡ all
 
--- behind its code
+-- after its code
 abbrev Behind : ℕ → Op → List ℕ → Type 0
 Behind code op text = SentOp false op (code ∷ text)
 

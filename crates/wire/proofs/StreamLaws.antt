@@ -40,7 +40,7 @@ frames_none bytes s e = by_length (length bytes)
     by_length zero = refl
     by_length (suc k) = ap (λ r. and_later r (frames_upto k)) e
 
--- the frame at the front, and those behind it
+-- the frame at the front, and those after it
 pub frames_some : (bytes : List ℕ) (f : Frame) (rest : List ℕ) → front bytes ≡ Ok (f, rest) → frames_in bytes ≡ f ∷ frames_in rest
 frames_some bytes f rest e = by_length (length bytes) refl
   where
@@ -126,7 +126,7 @@ pub written_is_read : (actions : List Action) (fs : List Frame) (more : List ℕ
     → (driven fresh actions).0 ++ frames_in (driven fresh actions).1.unread ≡ fs ++ frames_in more
 written_is_read actions fs more h e = any_cutting actions ∙ ap frames_in e ∙ written_again fs more h
 
--- behind a bad front nothing is read
+-- after a bad front nothing is read
 pub bad_is_final : (f : Frame) (bytes more rest : List ℕ) → IsMalformed bytes → IsFirst f (bytes ++ more) rest → ⊥
 bad_is_final f bytes more rest m h = both (front (bytes ++ more)) (malformed_stays bytes more (malformed_to bytes m)) (first_to (bytes ++ more) f rest h)
   where

@@ -1,4 +1,4 @@
--- What stands behind the frames of a stream, and how it ends.
+-- What stands after the frames of a stream, and how it ends.
 use Rattle.std.specs.Prelude.{◌≡◌, ℕ, zero, suc, List, [], ◌++◌, length, Ok, Err}
 use Rattle.std.specs.List.{AllByRecursion, flat_map}
 use Rattle.wire.specs.declared.ends.PeerEnd.{PeerEnd}
@@ -14,7 +14,7 @@ pub record AreFirst (fs : List Frame) (bytes rest : List ℕ) : Type 0 where
   pub in_range : AllByRecursion IsFrame fs
   pub spelled : bytes ≡ flat_map spelling fs ++ rest
 
--- what stands behind a frame at the front and those that follow it; with no frame there, all of it
+-- what stands after a frame at the front and those that follow it; with no frame there, all of it
 abbrev pub behind : Read Frame → List ℕ → (List ℕ → List ℕ) → List ℕ
 behind (Ok found) bytes later = later found.1
 behind (Err stop) bytes later = bytes
@@ -24,7 +24,7 @@ abbrev pub rest_upto : ℕ → List ℕ → List ℕ
 rest_upto zero bytes = bytes
 rest_upto (suc k) bytes = behind (front bytes) bytes (rest_upto k)
 
--- what stands behind the frames of a stream
+-- what stands after the frames of a stream
 abbrev pub rest_in : List ℕ → List ℕ
 rest_in bytes = rest_upto (length bytes) bytes
 

@@ -1,4 +1,4 @@
--- Reading from left to right: a value and the bytes behind it, or why there is none.
+-- Reading from left to right: a value and the bytes after it, or why there is none.
 use Rattle.std.specs.Prelude.{◌≡◌, ℕ, ◌-◌, Bool, not, nat_lt, ◌==◌, List, [], ◌∷◌, length, take, drop, Option, None, Some, Result, Ok, Err, IsOk, if◌then◌else◌}
 use Rattle.std.specs.List.{list_all}
 use Rattle.std.specs.Int.{Width, w16, w32, w64, byte_len, from_be_bytes}
@@ -23,7 +23,7 @@ use Rattle.wire.specs.declared.frames.Frame.{Frame}
 use Rattle.wire.specs.declared.frames.Frame.TheVariants.{Hello, Peer, Gone}
 use Rattle.wire.specs.Grammar.{any, positive, at_most, below, is_key_length}
 
--- a value and the bytes behind it, or why reading stops
+-- a value and the bytes after it, or why reading stops
 abbrev pub Read : Type 0 → Type 0
 Read A = Result (A × List ℕ) Stop
 
@@ -104,7 +104,7 @@ flagged_at bytes = do
   block ← block_at flags.1
   Ok ((flags.0, block.0), block.1)
 
--- what stands behind the code of an operation on a key
+-- what stands after the code of an operation on a key
 unfoldable pub key_operation_at : ℕ → List ℕ → Read Op
 key_operation_at code bytes =
     if code == 1 then (flagged_at bytes >>= λ x. Ok (Set x.0.0 x.0.1, x.1))
@@ -124,7 +124,7 @@ op_at all bytes = do
   code ← byte_at any bytes
   if all then (if code.0 == 10 then Ok (Flush, code.1) else Err Malformed) else key_operation_at code.0 code.1
 
--- what stands behind the code of a reply to an operation on a key
+-- what stands after the code of a reply to an operation on a key
 unfoldable pub key_reply_at : ℕ → List ℕ → Read Reply
 key_reply_at code bytes =
     if code == 1 then Ok (Stored, bytes)
@@ -143,7 +143,7 @@ reply_at all bytes = do
   code ← byte_at any bytes
   if all then (if code.0 == 10 then Ok (Flushed, code.1) else Err Malformed) else key_reply_at code.0 code.1
 
--- what stands behind the code of a change at a key
+-- what stands after the code of a change at a key
 unfoldable pub key_change_at : ℕ → ℕ → List ℕ → Read Change
 key_change_at number code bytes =
     if code == 0 then Ok (Keep, bytes)
@@ -212,7 +212,7 @@ message_at kind bytes = do
   says ← body_at kind view.1
   Ok (Peer (record { view = view.0; body = says.0 }), says.1)
 
--- what is read behind a kind
+-- what is read after a kind
 unfoldable pub of_kind_at : ℕ → List ℕ → Read Frame
 of_kind_at kind bytes =
     if kind == 0 then (byte_at (at_most 16) bytes >>= λ id. Ok (Hello id.0, id.1))

@@ -64,7 +64,7 @@ flagged = do
   bytes ← block
   makes (flags, bytes)
 
--- what stands behind the code of an operation on one key
+-- what stands after the code of an operation on one key
 abbrev pub key_operation : ℕ → Part Op
 key_operation code =
     either (code == 1) (flagged >>= λ x. makes (Set x.0 x.1))
@@ -83,7 +83,7 @@ operation all = do
   code ← byte any
   either all (either (code == 10) (makes Flush) refused) (key_operation code)
 
--- what stands behind the code of a reply to an operation on one key
+-- what stands after the code of a reply to an operation on one key
 abbrev pub key_reply : ℕ → Part Reply
 key_reply code =
     either (code == 1) (makes Stored)
@@ -101,7 +101,7 @@ reply all = do
   code ← byte any
   either all (either (code == 10) (makes Flushed) refused) (key_reply code)
 
--- what stands behind the code of a change at one key, in the entry of this number
+-- what stands after the code of a change at one key, in the entry of this number
 abbrev pub key_change : ℕ → ℕ → Part Change
 key_change entry code =
     either (code == 0) (makes Keep)
@@ -166,14 +166,14 @@ message kind = do
   says ← body kind
   makes (Peer (record { view = view; body = says }))
 
--- what stands behind a kind: 0 greets, 1 to 5 are messages, 6 is a notice
+-- what stands after a kind: 0 greets, 1 to 5 are messages, 6 is a notice
 abbrev pub of_kind : ℕ → Part Frame
 of_kind kind =
     either (kind == 0) (byte (at_most 16) >>= λ id. makes (Hello id))
     (either (kind == 6) (byte (below 16) >>= λ id. makes (Gone id))
     (either (nat_lt 6 kind) refused (message kind)))
 
--- a frame: the format's byte, the kind's, and what stands behind it
+-- a frame: the format's byte, the kind's, and what stands after it
 abbrev pub frame : Part Frame
 frame = do
   format ← byte (λ b. b == 2)
@@ -189,7 +189,7 @@ pub record IsMalformed (bytes : List ℕ) : Type 0 where
   pub bad : frame.Bad bytes
   pub not_old : IsOld bytes → ⊥
 
--- a frame stands at the front, and the rest behind it
+-- a frame stands at the front, and the rest after it
 pub record IsFirst (f : Frame) (bytes rest : List ℕ) : Type 0 where
   pub in_range : IsFrame f
   pub spelled : bytes ≡ spelling f ++ rest

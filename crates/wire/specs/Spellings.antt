@@ -107,7 +107,7 @@ IsInRange (Hello id) = id ≤ 16
 IsInRange (Peer peer) = IsSendable peer.body
 IsInRange (Gone id) = id < 16
 
--- a target, where a frame is seen as plain data: its key is one, as the type of keys keeps it
+-- a target, if a frame is seen as plain data: its key is one, as the type of keys keeps it
 abbrev pub IsTarget : Target → Type 0
 IsTarget (One key) = IsKey key
 IsTarget All = Unit {0}

@@ -28,7 +28,7 @@ taken h (Err Old) = (None, record h { closed = true })
 abbrev pub next_of : Held → Option Frame × Held
 next_of h = taken h (front h.unread)
 
--- where bytes are missing, the front isn't whole, and what it waits for is as many bytes
+-- if bytes are missing, the front isn't whole, and what it waits for is as many bytes
 abbrev pub IsMissing : ℕ → List ℕ → Type 0
 IsMissing zero bytes = Unit {0}
 IsMissing (suc k) bytes = front bytes ≡ Err (Short (suc k))
@@ -55,7 +55,7 @@ stream_of [] = []
 stream_of (Feed piece ∷ actions) = piece ++ stream_of actions
 stream_of (Next ∷ actions) = stream_of actions
 
--- a frame at the front, and those behind it
+-- a frame at the front, and those after it
 abbrev pub and_later : Read Frame → (List ℕ → List Frame) → List Frame
 and_later (Ok found) later = found.0 ∷ later found.1
 and_later (Err stop) later = []

@@ -1,6 +1,6 @@
 //! How a peer's stream of frames ends.
 
-/// How a peer's stream of frames ends, behind the last frame that stands in it.
+/// How a peer's stream of frames ends, after the last frame that stands in it.
 #[derive(Clone, Copy, Debug, PartialEq, Eq)]
 pub enum PeerEnd {
     /// The input ends, between two frames or in mid-frame.

@@ -59,7 +59,7 @@ fn reply_at(all: bool, bytes: &[u8]) -> Result<(Reply, &[u8]), Stop>
     Ok((Reply::Flushed, rest))
 }
 
-// What stands behind the code of a reply to an operation on a key.
+// What stands after the code of a reply to an operation on a key.
 #[tactic(auto, unfolding(crate::specs::Fronts::key_reply_at))]
 fn key_reply_at(code: u8, bytes: &[u8]) -> Result<(Reply, &[u8]), Stop>
     ensures gives { Gives (λ x. (x.0, x.1.now)) result (key_reply_at code bytes.now) }
@@ -104,7 +104,7 @@ fn change_at(
     Ok((Change::Clear, rest))
 }
 
-// What stands behind the code of a change at a key. A put item's unique is its entry's number.
+// What stands after the code of a change at a key. A put item's unique is its entry's number.
 #[tactic(auto, unfolding(crate::specs::Fronts::key_change_at))]
 fn key_change_at(
     alloc: Global,

@@ -20,7 +20,7 @@ pub enum Stop {
     Old,
 }
 
-/// A byte, and the bytes behind it.
+/// A byte, and the bytes after it.
 pub fn byte_at(bytes: &[u8]) -> Result<(u8, &[u8]), Stop>
     ensures { Gives (λ x. (x.0, x.1.now)) result (byte_at any bytes.now) }
 {
@@ -93,7 +93,7 @@ pub fn key_at(bytes: &[u8]) -> Result<(&[u8], &[u8]), Stop>
     text_at(count, rest)
 }
 
-/// A key's bytes, where its length has been read.
+/// A key's bytes, if its length has been read.
 pub fn text_at(count: usize, bytes: &[u8]) -> Result<(&[u8], &[u8]), Stop>
     requires { (1 ≤ count) × (count ≤ 250) }
     ensures gives { Gives (λ x. (x.0.now, x.1.now)) result (text_at count bytes.now) }

@@ -22,7 +22,7 @@ pub fn op_at(alloc: Global, all: bool, bytes: &[u8]) -> Result<(Op, &[u8]), Read
     Ok((Op::Flush, rest))
 }
 
-// What stands behind the code of an operation on a key.
+// What stands after the code of an operation on a key.
 #[tactic(auto, unfolding(crate::specs::Fronts::key_operation_at))]
 fn key_operation_at(alloc: Global, code: u8, bytes: &[u8]) -> Result<(Op, &[u8]), ReadFault>
     ensures { GivesOwned (λ x. (x.0, x.1.now)) result (key_operation_at code bytes.now) }

@@ -38,7 +38,7 @@ impl From<Stop> for ReadFault {
     }
 }
 
-/// The frame at the front, and the bytes behind it.
+/// The frame at the front, and the bytes after it.
 #[tactic(auto, unfolding(crate::specs::Fronts::front))]
 pub fn front(alloc: Global, bytes: &[u8]) -> Result<(Frame, &[u8]), ReadFault>
     ensures gives { GivesOwned (λ x. (x.0, x.1.now)) result (front bytes.now) }

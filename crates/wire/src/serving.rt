@@ -8,7 +8,7 @@ ghost use Rattle.wire.specs.Grammar.{HasFrame, IsFirst, IsMalformed, IsOld, IsPa
 ghost use Rattle.wire.specs.Streams.{frames_in};
 ghost use Rattle.wire.specs.Ends.{AreFirst, IsEnd, end_in, rest_in};
 
-/// The frames of a stream follow one another from its front, and no frame stands behind them. What stands there tells how the
+/// The frames of a stream follow one another from its front, and no frame stands after them. What stands there tells how the
 /// stream ends.
 pub fn stream_is_its_frames()
     ensures frames { (bytes : List ℕ) → ((i : ℕ) → slice_index bytes i < 256) → AreFirst (frames_in bytes) bytes (rest_in bytes) }
@@ -19,14 +19,14 @@ pub fn stream_is_its_frames()
 {}
 
 /// Frames that follow one another from the front are the first ones of the stream. Those still to come, and its end, are those
-/// of the bytes behind them.
+/// of the bytes after them.
 pub fn frames_behind_frames()
     ensures frames { (fs : List Frame) (bytes rest : List ℕ) → AreFirst fs bytes rest → frames_in bytes ≡ fs ++ frames_in rest }
     ensures end { (fs : List Frame) (bytes rest : List ℕ) → AreFirst fs bytes rest → end_in bytes ≡ end_in rest }
 {}
 
 /// At first no frame has been handed on; then one more, or several, from the front of the unread bytes; or a piece more comes
-/// behind these.
+/// after these.
 pub fn one_frame_more()
     ensures none { (bytes : List ℕ) → AreFirst [] bytes bytes }
     ensures frame { (fs : List Frame) (f : Frame) (bytes unread rest : List ℕ) → AreFirst fs bytes unread → IsFirst f unread rest → AreFirst (fs ++ f ∷ []) bytes rest }

@@ -28,7 +28,7 @@ pub fn encode(alloc: Global, frame: &Frame) -> Result<Vec<u8>, WireFault>
     Ok(out.into_vec()?)
 }
 
-/// Writes that spelling behind a buffer's bytes, with one growth at most. Memory is its only refusal, and leaves the
+/// Writes that spelling after a buffer's bytes, with one growth at most. Memory is its only refusal, and leaves the
 /// bytes as they were.
 pub fn encode_onto(out: &mut BytesMut, frame: &Frame) -> Result<(), WireFault>
     requires range { IsInRange frame.now }

@@ -14,7 +14,7 @@ pub record IsAwaited (ks : List Connection) (i c : ℕ) (reply : Reply) : Type 0
   pub stage : connection.stage ≡ Asked
   pub fits : may_have (open_call connection) reply ≡ true
 
--- so is each reply among these outputs of server i, where they are put out in order
+-- so is each reply among these outputs of server i, if they are put out in order
 abbrev pub AreAwaited : List Connection → ℕ → List Output → Type 0
 AreAwaited ks i [] = Unit {0}
 AreAwaited ks i (To j peer ∷ os) = AreAwaited ks i os

@@ -27,7 +27,7 @@ fresh home = record { home = home; session = new_session; calls = []; replies = 
 abbrev pub came : List ℕ → Connection → Connection
 came bytes k = record k { session = fed k.session bytes }
 
--- a turn that is no fault stays; behind a fault is what comes later
+-- a turn that is no fault stays; after a fault is what comes later
 abbrev pub behind : Given → Given → Given
 behind (None, left) later = (None, left)
 behind (Some (Faulty fault), left) later = later
@@ -38,7 +38,7 @@ abbrev pub past_faults_upto : ℕ → Held → Given
 past_faults_upto zero h = (None, h)
 past_faults_upto (suc n) h = behind (next_of h) (past_faults_upto n (next_of h).1)
 
--- the same behind all of them
+-- the same after all of them
 abbrev pub past_faults : Held → Given
 past_faults h = past_faults_upto (suc (most_faults h)) h
 
@@ -48,7 +48,7 @@ begun_by (None, left) k = record k { session = left }
 begun_by (Some (Faulty fault), left) k = record k { session = left }
 begun_by (Some (Calls call form), left) k = record k { session = left; calls = k.calls ++ call ∷ []; stage = Begun }
 
--- where no call is open, faults are passed and their texts written until a call stands in turn, which begins,
+-- if no call is open, faults are passed and their texts written until a call stands in turn, which begins,
 -- or the session closes, or no whole request is left
 -- (here and below, the first argument is the stage at which the connection k stands)
 abbrev pub begun : Stage → Connection → Connection

@@ -3,12 +3,12 @@ use Rattle.std.specs.Prelude.{ℕ, ◌+◌, Bool, true, ◌==◌, List, [], ◌�
 use Rattle.std.specs.List.{onto_first}
 pub use Rattle.proto.specs.Words.{lf, cr, space, fields_of}
 
--- what stands before the first such byte, and what stands behind it, where there is one
+-- what stands before the first such byte, and what stands after it, if there is one
 abbrev pub cut : ℕ → List ℕ → Option (List ℕ × List ℕ)
 cut byte [] = None
 cut byte (b ∷ bs) = if b == byte then Some ([], bs) else option_map (λ c. (b ∷ c.0, c.1)) (cut byte bs)
 
--- the lines of a text, cut at each LF: bytes behind the last LF are a line too, and nothing behind it is none
+-- the lines of a text, cut at each LF: bytes after the last LF are a line too, and nothing after it is none
 abbrev pub lines : List ℕ → List (List ℕ)
 lines [] = []
 lines (b ∷ bs) = if b == lf then [] ∷ lines bs else onto_first b (lines bs)
@@ -23,7 +23,7 @@ abbrev pub is_passed_over : List ℕ → Bool
 is_passed_over [] = true
 is_passed_over (b ∷ bs) = b == 35
 
--- the lines that count, each with its number, where the first line has this number
+-- the lines that count, each with its number, if the first line has this number
 abbrev pub counted_from : ℕ → List (List ℕ) → List (ℕ × List ℕ)
 counted_from n [] = []
 counted_from n (line ∷ later) = if is_passed_over line then counted_from (n + 1) later else (n, line) ∷ counted_from (n + 1) later

@@ -26,7 +26,7 @@ piece_deed k = if k.session.closed then Nothing else Came
 abbrev pub began : Connection → Connection → Deed
 began before after = Began (to_work after.stage after) (sent_between before after)
 
--- where no call is open, the next one begins
+-- if no call is open, the next one begins
 -- (here and below, the first argument is the stage at which the connection k stands)
 abbrev pub begin_deed : Stage → Connection → Deed
 begin_deed Idle k = began k (begun Idle k)
@@ -41,7 +41,7 @@ hand_deed Begun k = Nothing
 hand_deed Asked k = Nothing
 hand_deed (Replied reply) k = Handed reply (sent_between k (handed (Replied reply) k))
 
--- what an event at a connection does, where there is one and its home lives
+-- what an event at a connection does, if there is one and its home lives
 abbrev pub deed_at : World → (Connection → Deed) → Option Connection → Deed
 deed_at w does None = Nothing
 deed_at w does (Some k) = if lives w k.home then does k else Nothing
@@ -55,12 +55,12 @@ abbrev pub call_deed : World → ℕ → ℕ → Option Call → Deed
 call_deed w c home None = Nothing
 call_deed w c home (Some call) = took w home (Called c call)
 
--- the begun call of a connection, if there is one, goes to its server, where that lives
+-- the begun call of a connection, if there is one, goes to its server, if that lives
 abbrev pub work_deed : World → ℕ → Option Connection → Deed
 work_deed w c None = Nothing
 work_deed w c (Some k) = if lives w k.home then call_deed w c k.home (to_work k.stage k) else Nothing
 
--- the first of these messages of the link from server i to server j is delivered, where j lives
+-- the first of these messages of the link from server i to server j is delivered, if j lives
 abbrev pub deliver_deed : World → ℕ → ℕ → List Peer → Deed
 deliver_deed w i j [] = Nothing
 deliver_deed w i j (m ∷ ms) = if lives w j then took w j (From i m) else Nothing

@@ -42,7 +42,7 @@ hex_digit c =
     else if nat_le 97 c && nat_le c 102 then Some (c - 97 + 10)
     else None
 
--- the byte that two such digits spell, and what stands behind them
+-- the byte that two such digits spell, and what stands after them
 abbrev pub hex_byte : List ℕ → Option (ℕ × List ℕ)
 hex_byte [] = None
 hex_byte (high ∷ []) = None
@@ -51,7 +51,7 @@ hex_byte (high ∷ low ∷ later) = do
   l ← hex_digit low
   Some (h * 16 + l, later)
 
--- the byte that stands behind a backslash, and what stands behind it: `\\`, `\r`, `\n` or `\xHH`
+-- the byte that stands after a backslash, and what stands after it: `\\`, `\r`, `\n` or `\xHH`
 abbrev pub escaped_byte : List ℕ → Option (ℕ × List ℕ)
 escaped_byte [] = None
 escaped_byte (letter ∷ later) =
@@ -61,7 +61,7 @@ escaped_byte (letter ∷ later) =
     else if letter == 120 then hex_byte later  -- x
     else None
 
--- the byte that the front of a text spells, and what stands behind it
+-- the byte that the front of a text spells, and what stands after it
 abbrev pub front_byte : List ℕ → Option (ℕ × List ℕ)
 front_byte [] = None
 front_byte (first ∷ later) =
@@ -82,7 +82,7 @@ unescape_upto (suc n) (first ∷ later) = do
 abbrev pub unescape : List ℕ → Option (List ℕ)
 unescape text = unescape_upto (length text) text
 
--- the one byte that a text spells, with nothing behind it
+-- the one byte that a text spells, with nothing after it
 abbrev pub one_byte : List ℕ → Option ℕ
 one_byte text = do
   (byte, later) ← front_byte text

@@ -1,4 +1,4 @@
--- The lines of a schedule behind its head: an event each, or rounds of events.
+-- The lines of a schedule after its head: an event each, or rounds of events.
 use Rattle.std.specs.Prelude.{ℕ, List, [], ◌∷◌, replicate, Option, None, Some, option_map, if◌then◌else◌, codes, bytes_eq}
 use Rattle.world.specs.declared.events.Event.{Event}
 use Rattle.world.specs.declared.events.Event.TheVariants.{Piece, Begin, Work, Deliver, Fail, Tell, Hand}
@@ -18,12 +18,12 @@ connection_number field = number_in 0 1000 field
 abbrev pub server_number : List ℕ → Option ℕ
 server_number field = number_in 0 100 field
 
--- the bytes that a TEXT spells, where it has a byte at least
+-- the bytes that a TEXT spells, if it has a byte at least
 abbrev pub text_of : List ℕ → Option (List ℕ)
 text_of [] = None
 text_of (b ∷ bs) = unescape (b ∷ bs)
 
--- `C TEXT` behind `piece`: the bytes of TEXT
+-- `C TEXT` after `piece`: the bytes of TEXT
 abbrev pub piece_line : List ℕ → Option Event
 piece_line rest = do
   (number, text) ← cut space rest
@@ -31,7 +31,7 @@ piece_line rest = do
   bytes ← text_of text
   Some (Piece number bytes)
 
--- `C N TEXT` behind `fill`: the connection, N from 1 to 2000000, and the one byte of TEXT
+-- `C N TEXT` after `fill`: the connection, N from 1 to 2000000, and the one byte of TEXT
 abbrev pub fill_fields : List ℕ → Option (ℕ × ℕ × ℕ)
 fill_fields rest = do
   (number, later) ← cut space rest
@@ -55,7 +55,7 @@ two_servers rest = do
   j ← server_number second
   Some (i, j)
 
--- `C` behind `begin`, `work` or `hand`
+-- `C` after `begin`, `work` or `hand`
 abbrev pub call_line : List ℕ → List ℕ → Option Event
 call_line word rest = do
   number ← connection_number rest
@@ -64,7 +64,7 @@ call_line word rest = do
       else if bytes_eq word (codes "hand") then Some (Hand number)
       else None
 
--- the event behind a word: of a server, or of two of them, or of a connection
+-- the event after a word: of a server, or of two of them, or of a connection
 abbrev pub word_line : List ℕ → List ℕ → Option Event
 word_line word rest =
     if bytes_eq word (codes "piece") then piece_line rest

@@ -24,12 +24,12 @@ abbrev pub lost : World → ℕ → World
 lost w i =
     record w { servers = slice_set w.servers i (opening i (length w.servers)); failed = union w.failed (single i) }
 
--- what comes of an input that server i takes: what it should, or, where its step is refused, its loss
+-- what comes of an input that server i takes: what it should, or, if its step is refused, its loss
 abbrev pub Takes : World → ℕ → Input → Option ℕ → World → Type 0
 Takes w i input None v = v ≡ takes w i input
 Takes w i input (Some s) v = (s ≡ i) × (v ≡ lost w i)
 
--- what comes of an event: what it should, or, where the step of a server is refused, its failure, as far as that counts
+-- what comes of an event: what it should, or, if the step of a server is refused, its failure, as far as that counts
 abbrev pub Comes : World → Event → Option ℕ → World → Type 0
 Comes w e None v = v ≡ happens w e
 Comes w e (Some s) v = (steps_at w e ≡ Some s) × (living_part v ≡ living_part (happens w (Fail s)))

@@ -23,12 +23,12 @@ abbrev pub sent_in_by : Stepping → World → ℕ → ℕ → Option Call → W
 sent_in_by act w c home None = w
 sent_in_by act w c home (Some call) = takes_by act (with_connection w c asked) home (Called c call)
 
--- the begun call of a connection, if there is one, goes to its server, where that lives
+-- the begun call of a connection, if there is one, goes to its server, if that lives
 abbrev pub worked_by : Stepping → World → ℕ → Option Connection → World
 worked_by act w c None = w
 worked_by act w c (Some k) = if lives w k.home then sent_in_by act w c k.home (to_work k.stage k) else w
 
--- the first of these messages of the link from server i to server j is delivered, where j lives
+-- the first of these messages of the link from server i to server j is delivered, if j lives
 abbrev pub delivered_by : Stepping → World → ℕ → ℕ → List Peer → World
 delivered_by act w i j [] = w
 delivered_by act w i j (m ∷ ms) = if lives w j then takes_by act (with_link w i j ms) j (From i m) else w

@@ -23,7 +23,7 @@ connection_line number k =
 abbrev pub part_line : List ℕ → List ℕ
 part_line part = codes "| " ++ flat_map escape part ++ lf ∷ []
 
--- what was sent, cut behind each LF, a line for each part
+-- what was sent, cut after each LF, a line for each part
 abbrev pub sent_text : List ℕ → List ℕ
 sent_text sent = flat_map part_line (parts sent)
 

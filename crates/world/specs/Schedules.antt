@@ -42,7 +42,7 @@ schedule_of_lines end counted = do
   Ok (record { count = count; homes = homes; events = events })
 
 -- the schedule of a text, or the number of its first bad line, counting all lines from 1.
--- Where a text ends before `servers` or `homes`, that is the number of its lines plus one
+-- If a text ends before `servers` or `homes`, that is the number of its lines plus one
 abbrev pub schedule_of : List ℕ → Result ScheduleShown ℕ
 schedule_of text = schedule_of_lines (length (lines text) + 1) (counted_from 1 (lines text))
 

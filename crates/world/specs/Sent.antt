@@ -55,7 +55,7 @@ course_after c k (Fail i) course = course
 course_after c k (Tell i j) course = course
 course_after c k (Hand d) course = if c == d then on_hand k.stage course else course
 
--- its course after an event, where there is such a connection and its home lives
+-- its course after an event, if there is such a connection and its home lives
 abbrev pub course_at : World → ℕ → Option Connection → Event → Course → Course
 course_at w c None e course = course
 course_at w c (Some k) e course = if lives w k.home then course_after c k e course else course

@@ -93,7 +93,7 @@ resent_transcript = record {
   quiet = false;
 }
 
--- wrong: the incr once before the get that shows it, and once more behind that
+-- wrong: the incr once before the get that shows it, and once more after that
 abbrev pub resent_twice : List Entry
 resent_twice =
     entry (name 0 0) (set_of (codes "n") (codes "7")) Stored

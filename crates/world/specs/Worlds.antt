@@ -87,7 +87,7 @@ acted w i a = put_all (with_server w i a.state) i a.outputs
 abbrev pub takes : World → ℕ → Input → World
 takes w i input = acted w i (step (server w i) input)
 
--- a connection changes so, where its home lives
+-- a connection changes so, if its home lives
 abbrev pub where_home_lives : World → (Connection → Connection) → Connection → Connection
 where_home_lives w change k = if lives w k.home then change k else k
 
@@ -101,7 +101,7 @@ abbrev pub worked : World → ℕ → Option Connection → World
 worked w c None = w
 worked w c (Some k) = if lives w k.home then sent_in w c k.home (to_work k.stage k) else w
 
--- the first of these messages of the link from server i to server j is delivered, where j lives
+-- the first of these messages of the link from server i to server j is delivered, if j lives
 abbrev pub delivered : World → ℕ → ℕ → List Peer → World
 delivered w i j [] = w
 delivered w i j (m ∷ ms) = if lives w j then takes (with_link w i j ms) j (From i m) else w

@@ -80,7 +80,7 @@ impl Connection {
         }
     }
 
-    /// Where no call is open, the next one begins.
+    /// If no call is open, the next one begins.
     pub fn begin(&mut self) -> Result<(), SceneFault>
         ensures ok { OnOk result (self.new ≡ begun self.old.stage self.old) }
         ensures only_memory { IfErr result (λ fault. fault ≡ SceneFault.Memory) }
@@ -229,7 +229,7 @@ fn out_of_memory(fault: ProtoFault) -> SceneFault
     }
 }
 
-// The next call behind the faults that stand next, whose texts are written.
+// The next call after the faults that stand next, whose texts are written.
 fn next_call(session: &mut Session) -> Result<Option<Call>, ProtoFault>
     requires idle { session.old.asked ≡ None }
     ensures call { IfOk result (λ call. call ≡ call_of (past_faults session.old).0) }

@@ -77,7 +77,7 @@ impl Connection {
         }
     }
 
-    /// Where no call is open, the next one begins; and what that did.
+    /// If no call is open, the next one begins; and what that did.
     pub fn begin_telling(&mut self, alloc: Global) -> Result<Deed, SceneFault>
         ensures ok { OnOk result (self.new ≡ begun self.old.stage self.old) }
         ensures deed { IfOk result (λ deed. deed ≡ begin_deed self.old.stage self.old) }

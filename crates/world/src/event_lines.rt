@@ -1,4 +1,4 @@
-//! The lines of a schedule behind its head: an event each, or rounds of events.
+//! The lines of a schedule after its head: an event each, or rounds of events.
 ghost use Rattle.std.specs.Prelude.{◌≡◌, ◌++◌, IfOk, OnOk};
 ghost use Rattle.world.specs.EventLines.{event_line, events_in, word_line, piece_line, fill_line, fill_fields, call_line, two_servers, server_number, connection_number, text_of};
 
@@ -22,7 +22,7 @@ const MOST_FILLED: usize = 2_000_000;
 /// The most rounds of a `settle` line.
 const MOST_ROUNDS: usize = 500;
 
-/// What a line behind the head says.
+/// What a line after the head says.
 #[derive(Drop)]
 pub enum EventLine {
     /// An event.

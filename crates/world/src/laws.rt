@@ -113,7 +113,7 @@ pub fn failed_servers()
         lives (run_of count homes events) i ≡ (nat_lt i count && not (is_failed_by events i)) }
 {}
 
-/// No reply is dropped: where a server takes an input, each reply that it puts out goes to a connection at this server whose
+/// No reply is dropped: if a server takes an input, each reply that it puts out goes to a connection at this server whose
 /// call is with it and may have this reply. So it waits there, and none is passed over by `replied`.
 pub fn no_reply_is_dropped()
     // A begun call goes to its server.

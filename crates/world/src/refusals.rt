@@ -69,7 +69,7 @@ pub fn run_failing(
     // At most one of them is open.
     ensures one_open { IfOk result (λ found. (c : ℕ) (k : ConnectionShown) → slice_get found.0.connections c ≡ Some k →
         length k.calls ≤ length (replies_in k.calls) + 1) }
-    // Where the transcript says `quiet`, each call that it shows at a living home has its reply.
+    // If the transcript says `quiet`, each call that it shows at a living home has its reply.
     ensures none_forgotten { IfOk result (λ found. let events = with_failures events.now found.1.items in
         found.0.quiet ≡ true →
         (c : ℕ) (k : ConnectionShown) → slice_get found.0.connections c ≡ Some k →

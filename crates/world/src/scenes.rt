@@ -157,7 +157,7 @@ pub fn run(
     // At most one of them is open.
     ensures one_open { IfOk result (λ t. (c : ℕ) (k : ConnectionShown) → slice_get t.connections c ≡ Some k →
         length k.calls ≤ length (replies_in k.calls) + 1) }
-    // Where the transcript says `quiet`, each call that it shows at a living home has its reply.
+    // If the transcript says `quiet`, each call that it shows at a living home has its reply.
     ensures none_forgotten { IfOk result (λ t. t.quiet ≡ true →
         (c : ℕ) (k : ConnectionShown) → slice_get t.connections c ≡ Some k →
         lives (run_of count homes.now events.now) k.home ≡ true →

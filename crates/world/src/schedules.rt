@@ -40,7 +40,7 @@ pub enum ScheduleFault {
     #[error("out of memory")]
     Memory,
     /// The number of the first line that isn't as a schedule's, counting all lines from 1.
-    /// Where the text ends before `servers` or `homes`, the number of its lines plus one.
+    /// If the text ends before `servers` or `homes`, the number of its lines plus one.
     #[error("line {0}: bad schedule line")]
     BadLine(u64),
 }
@@ -115,7 +115,7 @@ fn read_homes(
     }
 }
 
-// A line behind the last one is missing. No memory holds a text whose lines can't be counted.
+// A line after the last one is missing. No memory holds a text whose lines can't be counted.
 fn ended(lines: &Lines<'_>) -> ScheduleFault
     ensures { (n : ℕ) → result ≡ ScheduleFault.BadLine n → n ≡ lines.now.taken + 1 }
 {

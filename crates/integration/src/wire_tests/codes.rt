@@ -6,7 +6,7 @@ use std::process::Abort;
 use std::test::Fail;
 use wire::Frames;
 
-// What stands behind the id of each operation on a key, and behind the number of entries with each reply and change.
+// What stands after the id of each operation on a key, and after the number of entries with each reply and change.
 fn coded(place: usize) -> (u8, &'static [u8]) {
     match place {
         0 => (1, b"\x01a\x01\x00\x00\x00\x07\x00\x00\x00\x01x"),

@@ -81,7 +81,7 @@ fn count_of(alloc: Global, stream: &[u8], size: usize) -> Result<usize, Fail>
     Ok(count)
 }
 
-// 100 KB of one frame after another. `bench/frames` reads 10 MB so, and fails where a frame is missed.
+// 100 KB of one frame after another. `bench/frames` reads 10 MB so, and fails if a frame is missed.
 #[test]
 fn many_frames(rt: HostRuntime) -> Result<(), Fail> {
     let stream = stream_of(rt.alloc(), 100, 800)?;

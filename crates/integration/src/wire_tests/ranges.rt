@@ -4,7 +4,7 @@ use super::fronts::{Found, first_found};
 use std::alloc::Global;
 use std::test::Fail;
 
-// A message of this kind, with an empty view and number 1, and these bytes behind it.
+// A message of this kind, with an empty view and number 1, and these bytes after it.
 pub(super) fn row(alloc: Global, kind: u8, behind: &[u8]) -> Result<Vec<u8>, Fail> {
     let mut text = Vec::new(alloc);
     text.extend_from_slice(&[2, kind, 0, 0, 0, 0, 0, 0, 0, 0, 0, 1])?;
@@ -12,7 +12,7 @@ pub(super) fn row(alloc: Global, kind: u8, behind: &[u8]) -> Result<Vec<u8>, Fai
     Ok(text)
 }
 
-// What stands behind the number of a query, and what stands at the front then.
+// What stands after the number of a query, and what stands at the front then.
 fn query_row(place: usize) -> (&'static [u8], Found) {
     match place {
         0 => (b"\x00", Found::Malformed),
@@ -25,7 +25,7 @@ fn query_row(place: usize) -> (&'static [u8], Found) {
     }
 }
 
-// What stands behind the id of an operation, and what stands at the front then.
+// What stands after the id of an operation, and what stands at the front then.
 fn op_row(place: usize) -> (&'static [u8], Found) {
     match place {
         0 => (b"\x00\x07", Found::Malformed),
@@ -37,7 +37,7 @@ fn op_row(place: usize) -> (&'static [u8], Found) {
     }
 }
 
-// What stands behind the number of an entry, and what stands at the front then.
+// What stands after the number of an entry, and what stands at the front then.
 fn entry_row(place: usize) -> (&'static [u8], Found) {
     match place {
         0 => (b"\x10", Found::Malformed),
@@ -64,7 +64,7 @@ fn entry_row(place: usize) -> (&'static [u8], Found) {
     }
 }
 
-// A kind, what stands behind its first number up to a length of data, and what stands at the front then.
+// A kind, what stands after its first number up to a length of data, and what stands at the front then.
 fn length_row(place: usize) -> (u8, &'static [u8], Found) {
     match place {
         0 => (1, b"\x01a\x04\x00\x10\x00\x00", Found::Nothing),

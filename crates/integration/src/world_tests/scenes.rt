@@ -129,7 +129,7 @@ fn a_run_over_two_servers(rt: HostRuntime) -> Result<(), Fail> {
     Ok(())
 }
 
-// Why there is no scene over these homes, where there is none.
+// Why there is no scene over these homes, if there is none.
 fn refusal(alloc: Global, count: usize, homes: &[usize]) -> Result<Option<SceneFault>, Fail> {
     match Scene::new(alloc, count, homes) {
         Ok(_) => Ok(None),

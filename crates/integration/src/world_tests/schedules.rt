@@ -17,7 +17,7 @@ fn bad_line(alloc: Global, text: &[u8]) -> Result<u64, Fail> {
     }
 }
 
-// The same of one line behind the two that open a schedule.
+// The same of one line after the two that open a schedule.
 fn bad_event(alloc: Global, line: &[u8]) -> Result<u64, Fail> {
     let mut text = Vec::from_slice(alloc, b"servers 2\nhomes 0\n")?;
     text.extend_from_slice(line)?;
