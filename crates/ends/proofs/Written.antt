@@ -1,5 +1,6 @@
 -- Bytes that are written in two steps, and beginnings of them.
-use Rattle.std.proofs.Common.{◌≡◌, ℕ, List, [], ◌++◌, take, drop, ap, sym, ◌∙◌, append_assoc, append-nil, take-append-drop, Result, Ok, Err, OnErr}
+use Rattle.std.proofs.Common.{◌≡◌, ℕ, List, [], ◌++◌, take, drop, ap, sym, ◌∙◌, append_assoc, append-nil}
+use Rattle.std.proofs.Common.{take-append-drop, Result, Ok, Err, OnErr}
 use Rattle.ends.specs.Ends.{WritesBeginning}
 
 -- bytes were written, and then more
@@ -12,7 +13,8 @@ begun-at a b c bytes n p q = (take n bytes, drop n bytes, sym (take-append-drop 
 
 -- a beginning of the first part is one of the whole
 pub begun-first : (a b xs ys : List ℕ) → WritesBeginning a b xs → WritesBeginning a b (xs ++ ys)
-begun-first a b xs ys (front, rest, split, e) = (front, rest ++ ys, ap (λ zs. zs ++ ys) split ∙ append_assoc front rest ys, e)
+begun-first a b xs ys (front, rest, split, e) =
+    (front, rest ++ ys, ap (λ zs. zs ++ ys) split ∙ append_assoc front rest ys, e)
 
 -- the first part was written, and then a beginning of the second
 pub begun-then : (a b c xs ys : List ℕ) → b ≡ a ++ xs → WritesBeginning b c ys → WritesBeginning a c (xs ++ ys)

@@ -70,7 +70,10 @@ piece_read read rest piece before after t = record {
 
 -- a piece more was read and fed, and frames of it were taken
 pub piece_taken : (read piece left : List ℕ) (held more : Held) (before between after : List Frame)
-    → held.closed ≡ false → more ≡ fed held piece → TakesFirst read held.unread before between → TakesFirst more.unread left between after
+    → held.closed ≡ false
+    → more ≡ fed held piece
+    → TakesFirst read held.unread before between
+    → TakesFirst more.unread left between after
     → TakesFirst (read ++ piece) left before after
 piece_taken read piece left held more before between after unclosed e s t =
     let unread : more.unread ≡ held.unread ++ piece = ap (λ (h : Held). h.unread) e ∙ fed_unread held piece unclosed in

@@ -31,8 +31,8 @@ pub fn put_frame<W: Sink>(alloc: Global, sink: &mut W, frame: &Frame) -> Result<
 }
 
 /// Puts all frames that `wire::encode_onto` wrote into a buffer, by one write if the sink takes all of it at once, and
-/// empties the buffer, which keeps its room. After a fault, which is always `Write`, a beginning of them was written, and
-/// the buffer is as it was. It may wait for the sink.
+/// empties the buffer, which keeps its room. After a fault, which is always `Write`, a beginning of them was written,
+/// and the buffer is as it was. It may wait for the sink.
 pub fn put_all<W: Sink>(sink: &mut W, out: &mut BytesMut) -> Result<(), LinkFault>
     ensures written { OnOk result (W.written sink.new ≡ W.written sink.old ++ out.old.items) }
     ensures emptied { OnOk result (out.new.items ≡ []) }

@@ -16,9 +16,9 @@ use wire::{Frames, PeerEnd, WireFault};
 const PIECE: usize = 65_536;
 
 /// Serves a peer until its input ends, or a bad front or an older server's is met: reads, and hands on the frames of
-/// what was read, one after another, each as soon as it is whole. Whatever the peer sends, it holds one piece of 64 KiB to
-/// read into and fewer than 1,048,866 + 65,536 unread bytes, and does O(n) work for n bytes. It may wait: for input, and
-/// for the taker.
+/// what was read, one after another, each as soon as it is whole. Whatever the peer sends, it holds one piece of 64 KiB
+/// to read into and fewer than 1,048,866 + 65,536 unread bytes, and does O(n) work for n bytes. It may wait: for input,
+/// and for the taker.
 pub fn serve_peer<R: Wait, S: Source, T: Taker>(
     rt: &R,
     alloc: Global,

@@ -1,5 +1,6 @@
 -- A session closes at the request after which its stream has none, however the stream was cut.
-use Rattle.std.proofs.Common.{◌≡◌, ℕ, ◌-◌, Bool, true, false, cond, ◌||◌, List, [], ◌∷◌, ◌++◌, length, drop, Option, None, Some, refl, sym, ap, ◌∙◌, arith}
+use Rattle.std.proofs.Common.{◌≡◌, ℕ, ◌-◌, Bool, true, false, cond, ◌||◌, List, [], ◌∷◌, ◌++◌, length, drop, Option}
+use Rattle.std.proofs.Common.{None, Some, refl, sym, ap, ◌∙◌, arith}
 use Rattle.std.specs.Prelude.{◌==◌}
 use Rattle.std.specs.List.{list_any}
 use Rattle.std.proofs.lemmas.Bool.Decides.{nat_tests}
@@ -15,29 +16,60 @@ use Rattle.proto.proofs.RequestLaws.{takes, requests_none, requests_some, reques
 -- after a fault the end is that of what is left, unless the session is closed by it
 behind_fault : (b : Bool) (unread : List ℕ) (unique : Bool) (asked : Option Form) (out more : List ℕ)
     → (b || list_any is_last (cond b [] (requests (unread ++ more))))
-    ≡ will_close (fed (record { unread = unread; passing = None; later = []; unique = unique; asked = asked; out = out; closed = b }) more)
+    ≡ will_close (fed
+    (record {
+      unread = unread;
+      passing = None;
+      later = [];
+      unique = unique;
+      asked = asked;
+      out = out;
+      closed = b;
+    }) more)
 behind_fault true unread unique asked out more = refl
 behind_fault false unread unique asked out more = refl
 
 -- by what stands at the front
-by_front : (unread : List ℕ) (unique : Bool) (asked : Option Form) (out : List ℕ) (r : Front) (q : Option Passing) → front unread ≡ r → refused_at unread ≡ q
-    → let h : Held = record { unread = unread; passing = None; later = []; unique = unique; asked = asked; out = out; closed = false } in
+by_front : (unread : List ℕ) (unique : Bool) (asked : Option Form) (out : List ℕ) (r : Front) (q : Option Passing)
+    → front unread ≡ r
+    → refused_at unread ≡ q
+    → let h : Held = record
+    { unread = unread; passing = None; later = []; unique = unique; asked = asked; out = out; closed = false } in
     KeepsEnd h (by_found (found_of r q) h).0 (by_found (found_of r q) h).1
-by_front unread unique asked out None None e f = record { kept = λ more. refl; come = λ given. sym (ap (list_any is_last) (requests_none unread e)) }
+by_front unread unique asked out None None e f =
+    record { kept = λ more. refl; come = λ given. sym (ap (list_any is_last) (requests_none unread e)) }
 by_front unread unique asked out None (Some p) e f = record {
   kept = λ more. ap (list_any is_last) (refused_later unread more p e f);
   come = λ given. sym (ap (list_any is_last) (requests_none unread e));
 }
 by_front unread unique asked out (Some (Bad fault, n)) q e f = record {
-  kept = λ more. ap (list_any is_last) (requests_more unread more (Bad fault, n) e) ∙ behind_fault (is_last (Bad fault)) (drop n unread) unique asked (out ++ fault_text fault) more;
+  kept = λ more. ap (list_any is_last) (requests_more unread more (Bad fault, n) e)
+      ∙ behind_fault (is_last (Bad fault)) (drop n unread) unique asked (out ++ fault_text fault) more;
   come = λ given. cc;
 }
 by_front unread unique asked out (Some (Get [] u, n)) q e f = absurd (takes unread (Get [] u, n) e).gets
-by_front unread unique asked out (Some (Get (key ∷ keys) u, n)) q e f = record { kept = λ more. ap (list_any is_last) (requests_more unread more (Get (key ∷ keys) u, n) e); come = λ given. cc }
-by_front unread unique asked out (Some (Store key op silent, n)) q e f = record { kept = λ more. ap (list_any is_last) (requests_more unread more (Store key op silent, n) e); come = λ given. cc }
-by_front unread unique asked out (Some (Arith key op silent, n)) q e f = record { kept = λ more. ap (list_any is_last) (requests_more unread more (Arith key op silent, n) e); come = λ given. cc }
-by_front unread unique asked out (Some (Delete key silent, n)) q e f = record { kept = λ more. ap (list_any is_last) (requests_more unread more (Delete key silent, n) e); come = λ given. cc }
-by_front unread unique asked out (Some (Flush silent, n)) q e f = record { kept = λ more. ap (list_any is_last) (requests_more unread more (Flush silent, n) e); come = λ given. cc }
+by_front unread unique asked out (Some (Get (key ∷ keys) u, n)) q e f =
+    record {
+      kept = λ more. ap (list_any is_last) (requests_more unread more (Get (key ∷ keys) u, n) e);
+      come = λ given. cc;
+    }
+by_front unread unique asked out (Some (Store key op silent, n)) q e f =
+    record {
+      kept = λ more. ap (list_any is_last) (requests_more unread more (Store key op silent, n) e);
+      come = λ given. cc;
+    }
+by_front unread unique asked out (Some (Arith key op silent, n)) q e f =
+    record {
+      kept = λ more. ap (list_any is_last) (requests_more unread more (Arith key op silent, n) e);
+      come = λ given. cc;
+    }
+by_front unread unique asked out (Some (Delete key silent, n)) q e f =
+    record {
+      kept = λ more. ap (list_any is_last) (requests_more unread more (Delete key silent, n) e);
+      come = λ given. cc;
+    }
+by_front unread unique asked out (Some (Flush silent, n)) q e f =
+    record { kept = λ more. ap (list_any is_last) (requests_more unread more (Flush silent, n) e); come = λ given. cc }
 by_front unread unique asked out (Some (Quit, n)) q e f = record {
   kept = λ more. ap (list_any is_last) (requests_more unread more (Quit, n) e);
   come = λ given. sym (ap (list_any is_last) (requests_some unread (Quit, n) e));
@@ -45,26 +77,46 @@ by_front unread unique asked out (Some (Quit, n)) q e f = record {
 
 -- by the refused block that is passed over, or the front
 by_skip : (unread : List ℕ) (passing : Option Passing) (unique : Bool) (asked : Option Form) (out : List ℕ)
-    → let h : Held = record { unread = unread; passing = passing; later = []; unique = unique; asked = asked; out = out; closed = false } in
+    → let h : Held = record
+    { unread = unread; passing = passing; later = []; unique = unique; asked = asked; out = out; closed = false } in
     KeepsEnd h (by_passing passing h).0 (by_passing passing h).1
 by_skip unread None unique asked out = by_front unread unique asked out (front unread) (refused_at unread) refl refl
 by_skip unread (Some p) unique asked out = by_left (p.left == 0) refl
   where
     h : Held
-    h = record { unread = unread; passing = Some p; later = []; unique = unique; asked = asked; out = out; closed = false }
+    h = record {
+      unread = unread;
+      passing = Some p;
+      later = [];
+      unique = unique;
+      asked = asked;
+      out = out;
+      closed = false;
+    }
 
     by_left : (b : Bool) → (p.left == 0) ≡ b → KeepsEnd h (by_passing (Some p) h).0 (by_passing (Some p) h).1
     by_left true e = record {
       kept = λ more.
           let all : (p.left - length more == 0) ≡ true = grind (arith, nat_tests, e) in
-          let behind : drop p.left more ≡ more = (let zero_left : p.left ≡ 0 = grind (arith, nat_tests, e) in rw zero_left refl) in
-          rw (e, all, behind) (behind_fault (is_last (Bad p.fault)) unread unique asked (out ++ fault_text p.fault) more);
+          let behind : drop p.left more ≡ more =
+          (let zero_left : p.left ≡ 0 = grind (arith, nat_tests, e) in rw zero_left refl) in
+          rw (e, all, behind)
+          (behind_fault (is_last (Bad p.fault)) unread unique asked (out ++ fault_text p.fault) more);
       come = rw e (λ given. cc);
     }
     by_left false e = rw e (record { kept = λ more. refl; come = λ given. rw e refl })
 
-by_fields : (unread : List ℕ) (passing : Option Passing) (later : List (List ℕ)) (unique : Bool) (asked : Option Form) (out : List ℕ) (closed : Bool)
-    → let h : Held = record { unread = unread; passing = passing; later = later; unique = unique; asked = asked; out = out; closed = closed } in KeepsEnd h (next_of h).0 (next_of h).1
+by_fields : (unread : List ℕ) (passing : Option Passing) (later : List (List ℕ)) (unique : Bool) (asked : Option Form)
+    (out : List ℕ) (closed : Bool)
+    → let h : Held = record {
+      unread = unread;
+      passing = passing;
+      later = later;
+      unique = unique;
+      asked = asked;
+      out = out;
+      closed = closed;
+    } in KeepsEnd h (next_of h).0 (next_of h).1
 by_fields unread passing later unique asked out true = record { kept = λ more. refl; come = λ given. refl }
 by_fields unread passing [] unique asked out false = by_skip unread passing unique asked out
 by_fields unread passing (key ∷ keys) unique asked out false = record { kept = λ more. refl; come = λ given. cc }

@@ -1,5 +1,6 @@
 -- Fields of a text, cut one after another.
-use Rattle.std.proofs.Common.{◌≡◌, ℕ, ◌+◌, ◌-◌, ◌<◌, Bool, true, false, cond, List, [], ◌∷◌, length, take, drop, Option, None, Some, refl, sym, ap, ◌∙◌, subst, arith, nat_lt, length-take}
+use Rattle.std.proofs.Common.{◌≡◌, ℕ, ◌+◌, ◌-◌, ◌<◌, Bool, true, false, cond, List, [], ◌∷◌, length, take, drop, Option}
+use Rattle.std.proofs.Common.{None, Some, refl, sym, ap, ◌∙◌, subst, arith, nat_lt, length-take}
 use Rattle.std.specs.Prelude.{◌==◌, ◌≤◌, min, unwrap_or}
 use Rattle.std.specs.List.{position_or_len, slice_range, list_all}
 use Rattle.std.proofs.lemmas.Bool.Decides.{nat_tests}
@@ -14,10 +15,15 @@ use Rattle.proto.specs.Keys.{keys_in}
 use Rattle.proto.specs.Words.{space, fields_of, first_space, first_end}
 
 -- the first field ends at the first space
-pub cut_at : (text : List ℕ) (i : ℕ) → first_space text ≡ Some i → fields_of text ≡ take i text ∷ fields_of (drop (i + 1) text)
+pub cut_at : (text : List ℕ) (i : ℕ)
+    → first_space text ≡ Some i
+    → fields_of text ≡ take i text ∷ fields_of (drop (i + 1) text)
 cut_at text i e = by_test (nat_lt (position_or_len (λ b. b == space) text) (length text)) refl e
   where
-    by_test : (b : Bool) → nat_lt (position_or_len (λ b. b == space) text) (length text) ≡ b → cond b (Some (position_or_len (λ b. b == space) text)) None ≡ Some i → fields_of text ≡ take i text ∷ fields_of (drop (i + 1) text)
+    by_test : (b : Bool)
+        → nat_lt (position_or_len (λ b. b == space) text) (length text) ≡ b
+        → cond b (Some (position_or_len (λ b. b == space) text)) None ≡ Some i
+        → fields_of text ≡ take i text ∷ fields_of (drop (i + 1) text)
     by_test false less none = cc
     by_test true less is =
         let below : position_or_len (λ b. b == space) text < length text = grind (arith, nat_tests, less) in
@@ -28,9 +34,14 @@ cut_at text i e = by_test (nat_lt (position_or_len (λ b. b == space) text) (len
 pub cut_none : (text : List ℕ) → first_space text ≡ None → fields_of text ≡ text ∷ []
 cut_none text e = by_test (nat_lt (position_or_len (λ b. b == space) text) (length text)) refl e
   where
-    by_test : (b : Bool) → nat_lt (position_or_len (λ b. b == space) text) (length text) ≡ b → cond b (Some (position_or_len (λ b. b == space) text)) None ≡ None → fields_of text ≡ text ∷ []
+    by_test : (b : Bool)
+        → nat_lt (position_or_len (λ b. b == space) text) (length text) ≡ b
+        → cond b (Some (position_or_len (λ b. b == space) text)) None ≡ None
+        → fields_of text ≡ text ∷ []
     by_test true less is = cc
-    by_test false less none = slice_split_none (λ b. b == space) text (λ k d below. fails_before_first (λ b. b == space) text k d (grind (arith, nat_tests, less, below)))
+    by_test false less none =
+        slice_split_none (λ b. b == space) text
+        (λ k d below. fails_before_first (λ b. b == space) text k d (grind (arith, nat_tests, less, below)))
 
 -- The first key of a text, and the text after it.
 pub record Popped (text key rest : List ℕ) : Type 0 where
@@ -43,12 +54,20 @@ keys_of_fields : (text : List ℕ) → list_all is_key (fields_of text) ≡ true
 keys_of_fields [] h = cc
 keys_of_fields (b ∷ bs) h = refl
 
-popped_at : (text : List ℕ) (i : ℕ) → list_all is_key (fields_of text) ≡ true → first_space text ≡ Some i → Popped text (take i text) (drop (i + 1) text)
+popped_at : (text : List ℕ) (i : ℕ)
+    → list_all is_key (fields_of text) ≡ true
+    → first_space text ≡ Some i
+    → Popped text (take i text) (drop (i + 1) text)
 popped_at text i h e =
     let cut = cut_at text i e in
-    let parts = and_parts (is_key (take i text)) (list_all is_key (fields_of (drop (i + 1) text))) (ap (list_all is_key) (sym cut) ∙ h) in
+    let parts = and_parts (is_key (take i text)) (list_all is_key (fields_of (drop (i + 1) text)))
+    (ap (list_all is_key) (sym cut) ∙ h) in
     let rest = keys_of_fields (drop (i + 1) text) parts.1 in
-    record { first = keys_of_fields text h ∙ (cut ∙ ap (λ fs. take i text ∷ fs) (sym rest)); key_is = parts.0; keys = ap (list_all is_key) rest ∙ parts.1 }
+    record {
+      first = keys_of_fields text h ∙ (cut ∙ ap (λ fs. take i text ∷ fs) (sym rest));
+      key_is = parts.0;
+      keys = ap (list_all is_key) rest ∙ parts.1;
+    }
 
 popped_last : (text : List ℕ) → list_all is_key (fields_of text) ≡ true → first_space text ≡ None → Popped text text []
 popped_last text h e =
@@ -60,25 +79,38 @@ popped_last text h e =
 abbrev past_of : List ℕ → ℕ
 past_of text = min (length text) (first_end text + 1)
 
-popped : (text : List ℕ) → 1 ≤ length text → list_all is_key (keys_in text) ≡ true → Popped text (slice_range text 0 (first_end text)) (drop (past_of text) text)
+popped : (text : List ℕ)
+    → 1 ≤ length text
+    → list_all is_key (keys_in text) ≡ true
+    → Popped text (slice_range text 0 (first_end text)) (drop (past_of text) text)
 popped [] some h = absurd (omega arith)
 popped (b ∷ bs) some h = by_place (first_space (b ∷ bs)) refl
   where
     by_place : (place : Option ℕ) → first_space (b ∷ bs) ≡ place
-        → Popped (b ∷ bs) (slice_range (b ∷ bs) 0 (unwrap_or place (length (b ∷ bs)))) (drop (min (length (b ∷ bs)) (unwrap_or place (length (b ∷ bs)) + 1)) (b ∷ bs))
+        → Popped (b ∷ bs) (slice_range (b ∷ bs) 0 (unwrap_or place (length (b ∷ bs))))
+        (drop (min (length (b ∷ bs)) (unwrap_or place (length (b ∷ bs)) + 1)) (b ∷ bs))
     by_place (Some i) e =
         let below : i < length (b ∷ bs) = (position-Some (λ c. c == space) (b ∷ bs) i 0 e).0 in
         let same : min (length (b ∷ bs)) (i + 1) ≡ i + 1 = grind (arith, common_steps, below) in
-        let front : slice_range (b ∷ bs) 0 i ≡ take i (b ∷ bs) = let from : i - 0 ≡ i = omega arith in ap (λ k. take k (b ∷ bs)) from in
-        subst (λ k. Popped (b ∷ bs) k (drop (min (length (b ∷ bs)) (i + 1)) (b ∷ bs))) (sym front) (subst (λ k. Popped (b ∷ bs) (take i (b ∷ bs)) (drop k (b ∷ bs))) (sym same) (popped_at (b ∷ bs) i h e))
+        let front : slice_range (b ∷ bs) 0 i ≡ take i (b ∷ bs) =
+        let from : i - 0 ≡ i = omega arith in ap (λ k. take k (b ∷ bs)) from in
+        subst (λ k. Popped (b ∷ bs) k (drop (min (length (b ∷ bs)) (i + 1)) (b ∷ bs))) (sym front)
+        (subst (λ k. Popped (b ∷ bs) (take i (b ∷ bs)) (drop k (b ∷ bs))) (sym same) (popped_at (b ∷ bs) i h e))
     by_place None e =
-        let whole : slice_range (b ∷ bs) 0 (length (b ∷ bs)) ≡ b ∷ bs = let all : length (b ∷ bs) ≤ length (b ∷ bs) - 0 = omega arith in take_all (length (b ∷ bs) - 0) (b ∷ bs) all in
+        let whole : slice_range (b ∷ bs) 0 (length (b ∷ bs)) ≡ b ∷ bs =
+        let all : length (b ∷ bs) ≤ length (b ∷ bs) - 0 =
+        omega arith in take_all (length (b ∷ bs) - 0) (b ∷ bs) all in
         let same : min (length (b ∷ bs)) (length (b ∷ bs) + 1) ≡ length (b ∷ bs) = grind (arith, common_steps) in
-        let none : drop (min (length (b ∷ bs)) (length (b ∷ bs) + 1)) (b ∷ bs) ≡ [] = ap (λ k. drop k (b ∷ bs)) same ∙ drop_all (length (b ∷ bs)) (b ∷ bs) (omega arith) in
-        subst (λ r. Popped (b ∷ bs) (slice_range (b ∷ bs) 0 (length (b ∷ bs))) r) (sym none) (subst (λ k. Popped (b ∷ bs) k []) (sym whole) (popped_last (b ∷ bs) h e))
+        let none : drop (min (length (b ∷ bs)) (length (b ∷ bs) + 1)) (b ∷ bs) ≡ [] =
+        ap (λ k. drop k (b ∷ bs)) same ∙ drop_all (length (b ∷ bs)) (b ∷ bs) (omega arith) in
+        subst (λ r. Popped (b ∷ bs) (slice_range (b ∷ bs) 0 (length (b ∷ bs))) r) (sym none)
+        (subst (λ k. Popped (b ∷ bs) k []) (sym whole) (popped_last (b ∷ bs) h e))
 
 -- a first key that was cut off is the first, and the text after its space has the others
-pub popped_key : (text key rest : List ℕ) (at past : ℕ) → list_all is_key (keys_in text) ≡ true → at ≡ first_end text → past ≡ min (length text) (at + 1)
+pub popped_key : (text key rest : List ℕ) (at past : ℕ)
+    → list_all is_key (keys_in text) ≡ true
+    → at ≡ first_end text
+    → past ≡ min (length text) (at + 1)
     → key ≡ slice_range text 0 at → rest ≡ drop past text → IsKey key → Popped text key rest
 popped_key [] key rest at past h at_is past_is key_is rest_is is =
     let some : 1 ≤ length key = leb-true 1 (length key) (and_parts _ _ (and_parts _ _ is).0).0 in
@@ -87,10 +119,20 @@ popped_key [] key rest at past h at_is past_is key_is rest_is is =
     absurd (omega arith)
 popped_key (b ∷ bs) key rest at past h at_is past_is key_is rest_is is =
     let cut : key ≡ slice_range (b ∷ bs) 0 (first_end (b ∷ bs)) = key_is ∙ ap (slice_range (b ∷ bs) 0) at_is in
-    let left : rest ≡ drop (past_of (b ∷ bs)) (b ∷ bs) = rest_is ∙ ap (λ k. drop k (b ∷ bs)) (past_is ∙ ap (λ k. min (length (b ∷ bs)) (k + 1)) at_is) in
-    subst (λ k. Popped (b ∷ bs) k rest) (sym cut) (subst (λ r. Popped (b ∷ bs) (slice_range (b ∷ bs) 0 (first_end (b ∷ bs))) r) (sym left) (popped (b ∷ bs) (omega arith) h))
+    let left : rest ≡ drop (past_of (b ∷ bs)) (b ∷ bs) =
+    rest_is ∙ ap (λ k. drop k (b ∷ bs)) (past_is ∙ ap (λ k. min (length (b ∷ bs)) (k + 1)) at_is) in
+    subst (λ k. Popped (b ∷ bs) k rest) (sym cut)
+    (subst (λ r. Popped (b ∷ bs) (slice_range (b ∷ bs) 0 (first_end (b ∷ bs))) r) (sym left)
+    (popped (b ∷ bs) (omega arith) h))
 
 -- if no key was cut off, there is none
-pub no_key_left : (text key : List ℕ) (at : ℕ) → list_all is_key (keys_in text) ≡ true → at ≡ first_end text → key ≡ slice_range text 0 at → (IsKey key → ⊥) → keys_in text ≡ []
+pub no_key_left : (text key : List ℕ) (at : ℕ)
+    → list_all is_key (keys_in text) ≡ true
+    → at ≡ first_end text
+    → key ≡ slice_range text 0 at
+    → (IsKey key → ⊥)
+    → keys_in text ≡ []
 no_key_left [] key at h at_is key_is none = refl
-no_key_left (b ∷ bs) key at h at_is key_is none = absurd (none (subst IsKey (sym (key_is ∙ ap (slice_range (b ∷ bs) 0) at_is)) (popped (b ∷ bs) (omega arith) h).key_is))
+no_key_left (b ∷ bs) key at h at_is key_is none =
+    absurd (none (subst IsKey (sym (key_is ∙ ap (slice_range (b ∷ bs) 0) at_is))
+    (popped (b ∷ bs) (omega arith) h).key_is))

@@ -7,7 +7,13 @@ use Rattle.proto.specs.Words.{line_limit}
 use Rattle.proto.specs.Fronts.{IsKnown}
 use Rattle.proto.proofs.LineLaws.{asked_kept}
 
-pub known_more : (pending : Option Pending) (bytes more : List ℕ) → IsKnown pending bytes → IsKnown pending (bytes ++ more)
+pub known_more : (pending : Option Pending) (bytes more : List ℕ)
+    → IsKnown pending bytes
+    → IsKnown pending (bytes ++ more)
 known_more None bytes more known = tt
-known_more (Some p) bytes more known =
-    (asked_kept line_limit bytes more (Behind (record { size = p.size; fate = Put p.key p.verb p.silent }), p.line) known.0, omega (arith, length-append bytes more, known.1), known.2)
+known_more (Some p) bytes more known = (
+  asked_kept line_limit bytes more (Behind (record { size = p.size; fate = Put p.key p.verb p.silent }), p.line)
+      known.0,
+  omega (arith, length-append bytes more, known.1),
+  known.2,
+)

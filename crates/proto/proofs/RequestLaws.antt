@@ -1,5 +1,7 @@
 -- The requests of a stream, one after another: the one at the front, and those after it.
-use Rattle.std.proofs.Common.{◌≡◌, ℕ, zero, suc, ◌+◌, ◌-◌, ◌≤◌, Bool, true, false, cond, List, [], ◌∷◌, ◌++◌, length, drop, take, Option, None, Some, refl, sym, ap, subst, ◌∙◌, arith, nat_lt, length-append, length-drop}
+use Rattle.std.proofs.Common.{◌≡◌, ℕ, zero, suc, ◌+◌, ◌-◌, ◌≤◌, Bool, true, false, cond, List, [], ◌∷◌, ◌++◌, length}
+use Rattle.std.proofs.Common.{drop, take, Option, None, Some, refl, sym, ap, subst, ◌∙◌, arith, nat_lt, length-append}
+use Rattle.std.proofs.Common.{length-drop}
 use Rattle.std.specs.Prelude.{◌==◌}
 use Rattle.std.specs.List.{slice_range}
 use Rattle.std.proofs.lemmas.Bool.Decides.{nat_tests}
@@ -67,12 +69,18 @@ fuel (suc k) zero bytes hk hj = by_found (front bytes) refl
     by_found : (r : Front) → front bytes ≡ r → and_later r (λ n. requests_upto k (drop n bytes)) ≡ []
     by_found None e = refl
     by_found (Some found) e = let s = takes bytes found e in let a = s.least in let b = s.most in absurd (omega arith)
-fuel (suc k) (suc j) bytes hk hj = by_found (front bytes) refl (λ n below low. fuel k j (drop n bytes) (omega (arith, length-drop n bytes)) (omega (arith, length-drop n bytes)))
+fuel (suc k) (suc j) bytes hk hj =
+    by_found (front bytes) refl
+    (λ n below low. fuel k j (drop n bytes) (omega (arith, length-drop n bytes))
+    (omega (arith, length-drop n bytes)))
   where
-    by_found : (r : Front) → front bytes ≡ r → ((n : ℕ) → 1 ≤ n → n ≤ length bytes → requests_upto k (drop n bytes) ≡ requests_upto j (drop n bytes))
+    by_found : (r : Front)
+        → front bytes ≡ r
+        → ((n : ℕ) → 1 ≤ n → n ≤ length bytes → requests_upto k (drop n bytes) ≡ requests_upto j (drop n bytes))
         → and_later r (λ n. requests_upto k (drop n bytes)) ≡ and_later r (λ n. requests_upto j (drop n bytes))
     by_found None e ih = refl
-    by_found (Some found) e ih = let s = takes bytes found e in ap (λ later. found.0 ∷ cond (is_last found.0) [] later) (ih found.1 s.least s.most)
+    by_found (Some found) e ih = let s = takes bytes found e in ap (λ later. found.0 ∷ cond (is_last found.0) [] later)
+        (ih found.1 s.least s.most)
 
 -- a stream with no whole request at its front has no request
 pub requests_none : (bytes : List ℕ) → front bytes ≡ None → requests bytes ≡ []
@@ -83,19 +91,26 @@ requests_none bytes e = by_length (length bytes)
     by_length (suc k) = rw e refl
 
 -- the requests of a stream are the one at its front, and those after it
-pub requests_some : (bytes : List ℕ) (found : Request × ℕ) → front bytes ≡ Some found → requests bytes ≡ found.0 ∷ cond (is_last found.0) [] (requests (drop found.1 bytes))
+pub requests_some : (bytes : List ℕ) (found : Request × ℕ)
+    → front bytes ≡ Some found
+    → requests bytes ≡ found.0 ∷ cond (is_last found.0) [] (requests (drop found.1 bytes))
 requests_some bytes found e = by_length (length bytes) refl
   where
-    by_length : (k : ℕ) → length bytes ≡ k → requests_upto k bytes ≡ found.0 ∷ cond (is_last found.0) [] (requests (drop found.1 bytes))
+    by_length : (k : ℕ)
+        → length bytes ≡ k
+        → requests_upto k bytes ≡ found.0 ∷ cond (is_last found.0) [] (requests (drop found.1 bytes))
     by_length zero is = let s = takes bytes found e in let a = s.least in let b = s.most in absurd (omega arith)
     by_length (suc k) is =
         let s = takes bytes found e in
         let a = s.least in
-        let same = fuel k (length (drop found.1 bytes)) (drop found.1 bytes) (omega (arith, length-drop found.1 bytes)) (omega arith) in
+        let same = fuel k (length (drop found.1 bytes)) (drop found.1 bytes) (omega (arith, length-drop found.1 bytes))
+        (omega arith) in
         rw (e, same) refl
 
 -- what stands at the front stays there
-pub requests_more : (bytes more : List ℕ) (found : Request × ℕ) → front bytes ≡ Some found → requests (bytes ++ more) ≡ found.0 ∷ cond (is_last found.0) [] (requests (drop found.1 bytes ++ more))
+pub requests_more : (bytes more : List ℕ) (found : Request × ℕ)
+    → front bytes ≡ Some found
+    → requests (bytes ++ more) ≡ found.0 ∷ cond (is_last found.0) [] (requests (drop found.1 bytes ++ more))
 requests_more bytes more found e =
     let s = takes bytes found e in
     let cut = drop-append-le found.1 bytes more s.most in
@@ -105,17 +120,26 @@ requests_more bytes more found e =
 pub drop_two : (n : ℕ) (xs ys : List ℕ) → drop n (xs ++ ys) ≡ drop n xs ++ drop (n - length xs) ys
 drop_two zero xs ys = let none : 0 - length xs ≡ 0 = omega arith in rw none refl
 drop_two (suc n) [] ys = let all : suc n - 0 ≡ suc n = omega arith in rw all refl
-drop_two (suc n) (x ∷ xs) ys = let rest : suc n - length (x ∷ xs) ≡ n - length xs = omega arith in rw rest (drop_two n xs ys)
+drop_two (suc n) (x ∷ xs) ys =
+    let rest : suc n - length (x ∷ xs) ≡ n - length xs = omega arith in rw rest (drop_two n xs ys)
 
 -- a refused block that ends after so many bytes, if this many have come
 abbrev whole_at : ℕ → ℕ → Fault → Front
 whole_at come end fault = cond (nat_lt come end) None (Some (Bad fault, end))
 
 -- a refused block is whole as soon as it has come to its end
-refused_front : (bytes : List ℕ) (block : Block) (n : ℕ) (fault : Fault) → asked_at bytes ≡ Some (Behind block, n) → block.fate ≡ Refuse fault
+refused_front : (bytes : List ℕ) (block : Block) (n : ℕ) (fault : Fault)
+    → asked_at bytes ≡ Some (Behind block, n)
+    → block.fate ≡ Refuse fault
     → front bytes ≡ whole_at (length bytes) (n + block.size + 2) fault
 refused_front bytes block n fault asked fate =
-    ap (by_asked bytes) asked ∙ ap (λ f. cond (nat_lt (length bytes) (n + block.size + 2)) None (Some (finished f (slice_range bytes n (n + block.size)) (slice_range bytes (n + block.size) (n + block.size + 2)), n + block.size + 2))) fate
+    ap (by_asked bytes) asked
+    ∙ ap (λ f. cond (nat_lt (length bytes) (n + block.size + 2)) None
+    (Some (
+      finished f (slice_range bytes n (n + block.size))
+          (slice_range bytes (n + block.size) (n + block.size + 2)),
+      n + block.size + 2,
+    ))) fate
 
 not_whole : (come end : ℕ) (fault : Fault) → whole_at come end fault ≡ None → come ≤ end
 not_whole come end fault e = by_test (nat_lt come end) refl e
@@ -127,34 +151,55 @@ not_whole come end fault e = by_test (nat_lt come end) refl e
 -- the requests of bytes that begin with a refused block, by how much of it has still to come
 refused_requests : (unread more : List ℕ) (fault : Fault) (end : ℕ) → length unread ≤ end
     → front (unread ++ more) ≡ whole_at (length (unread ++ more)) end fault
-    → requests (unread ++ more) ≡ unread_requests (Some (record { fault = fault; left = end - length unread - length more })) (drop (end - length unread) more)
+    → requests (unread ++ more)
+    ≡ unread_requests (Some (record { fault = fault; left = end - length unread - length more }))
+    (drop (end - length unread) more)
 refused_requests unread more fault end within e = by_test (nat_lt (length (unread ++ more)) end) refl e
   where
-    by_test : (b : Bool) → nat_lt (length (unread ++ more)) end ≡ b → front (unread ++ more) ≡ cond b None (Some (Bad fault, end))
-        → requests (unread ++ more) ≡ unread_requests (Some (record { fault = fault; left = end - length unread - length more })) (drop (end - length unread) more)
+    by_test : (b : Bool)
+        → nat_lt (length (unread ++ more)) end ≡ b
+        → front (unread ++ more) ≡ cond b None (Some (Bad fault, end))
+        → requests (unread ++ more)
+        ≡ unread_requests (Some (record { fault = fault; left = end - length unread - length more }))
+        (drop (end - length unread) more)
     by_test true short is =
-        let some : (end - length unread - length more == 0) ≡ false = grind (arith, nat_tests, length-append unread more, short) in
+        let some : (end - length unread - length more == 0) ≡ false =
+        grind (arith, nat_tests, length-append unread more, short) in
         rw some (requests_none (unread ++ more) is)
     by_test false long is =
-        let all : (end - length unread - length more == 0) ≡ true = grind (arith, nat_tests, length-append unread more, long) in
-        let rest : drop end (unread ++ more) ≡ drop (end - length unread) more = drop_two end unread more ∙ ap (λ xs. xs ++ drop (end - length unread) more) (drop_all end unread within) in
+        let all : (end - length unread - length more == 0) ≡ true =
+        grind (arith, nat_tests, length-append unread more, long) in
+        let rest : drop end (unread ++ more) ≡ drop (end - length unread) more =
+        drop_two end unread more ∙ ap (λ xs. xs ++ drop (end - length unread) more) (drop_all end unread within) in
         rw (all, ← rest) (requests_some (unread ++ more) (Bad fault, end) is)
 
 -- From a refused block on that isn't whole, passing over its bytes gives what reading them would.
-pub refused_later : (unread more : List ℕ) (p : Passing) → front unread ≡ None → refused_at unread ≡ Some p → requests (unread ++ more) ≡ unread_requests (passed (Some p) more) (kept (Some p) more)
+pub refused_later : (unread more : List ℕ) (p : Passing)
+    → front unread ≡ None
+    → refused_at unread ≡ Some p
+    → requests (unread ++ more) ≡ unread_requests (passed (Some p) more) (kept (Some p) more)
 refused_later unread more p none refused = by_line (asked_at unread) refl refused
   where
-    by_fate : (block : Block) (n : ℕ) (fate : Fate) → block.fate ≡ fate → asked_at unread ≡ Some (Behind block, n) → refused_by fate (n + block.size + 2 - length unread) ≡ Some p
+    by_fate : (block : Block) (n : ℕ) (fate : Fate)
+        → block.fate ≡ fate
+        → asked_at unread ≡ Some (Behind block, n)
+        → refused_by fate (n + block.size + 2 - length unread) ≡ Some p
         → requests (unread ++ more) ≡ unread_requests (passed (Some p) more) (kept (Some p) more)
     by_fate block n (Put key verb silent) is asked e = cc
     by_fate block n (Refuse fault) is asked e =
         let still = asked_kept line_limit unread more (Behind block, n) asked in
-        let whole : whole_at (length unread) (n + block.size + 2) fault ≡ None = sym (refused_front unread block n fault asked is) ∙ none in
+        let whole : whole_at (length unread) (n + block.size + 2) fault ≡ None =
+        sym (refused_front unread block n fault asked is) ∙ none in
         let same : record { fault = fault; left = n + block.size + 2 - length unread } ≡ p = cc in
         subst (λ q. requests (unread ++ more) ≡ unread_requests (passed (Some q) more) (kept (Some q) more)) same
-        (refused_requests unread more fault (n + block.size + 2) (not_whole (length unread) (n + block.size + 2) fault whole) (refused_front (unread ++ more) block n fault still is))
+        (refused_requests unread more fault (n + block.size + 2)
+        (not_whole (length unread) (n + block.size + 2) fault whole)
+        (refused_front (unread ++ more) block n fault still is))
 
-    by_line : (asked : Option (Asked × ℕ)) → asked_at unread ≡ asked → refused_by_asked unread asked ≡ Some p → requests (unread ++ more) ≡ unread_requests (passed (Some p) more) (kept (Some p) more)
+    by_line : (asked : Option (Asked × ℕ))
+        → asked_at unread ≡ asked
+        → refused_by_asked unread asked ≡ Some p
+        → requests (unread ++ more) ≡ unread_requests (passed (Some p) more) (kept (Some p) more)
     by_line None asked e = cc
     by_line (Some (Whole request, n)) asked e = cc
     by_line (Some (Behind block, n)) asked e = by_fate block n block.fate refl asked e

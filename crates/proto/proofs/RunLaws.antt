@@ -1,5 +1,6 @@
 -- Along a run the turns that were given and those that are to come are those of the whole stream, and so is its end.
-use Rattle.std.proofs.Common.{◌≡◌, ℕ, List, [], ◌∷◌, ◌++◌, Option, None, Some, refl, sym, ap, ◌∙◌, append_assoc, append-nil}
+use Rattle.std.proofs.Common.{◌≡◌, ℕ, List, [], ◌∷◌, ◌++◌, Option, None, Some, refl, sym, ap, ◌∙◌, append_assoc}
+use Rattle.std.proofs.Common.{append-nil}
 use Rattle.proto.specs.Turns.{Turn}
 use Rattle.proto.specs.Sessions.{fed, next_of}
 use Rattle.proto.specs.Streams.{turns, ends, to_come, will_close, with_turn}
@@ -13,17 +14,21 @@ record TellsAll (run : Run) : Type 0 where
   turns : (more : List ℕ) → run.given ++ to_come (fed run.held more) ≡ turns (run.stream ++ more)
   end : (more : List ℕ) → will_close (fed run.held more) ≡ ends (run.stream ++ more)
 
-given_first : (given : List Turn) (turn : Option Turn) (later : List Turn) → (given ++ turn_given turn) ++ later ≡ given ++ with_turn turn later
+given_first : (given : List Turn) (turn : Option Turn) (later : List Turn)
+    → (given ++ turn_given turn) ++ later ≡ given ++ with_turn turn later
 given_first given None later = ap (λ ts. ts ++ later) (append-nil given)
 given_first given (Some turn) later = append_assoc given (turn ∷ []) later
 
 acted_tells : (run : Run) (action : Action) → TellsAll run → TellsAll (acted run action)
 acted_tells run (Feed piece) all = record {
-  turns = λ more. ap (λ h. run.given ++ to_come h) (fed_twice run.held piece more) ∙ (all.turns (piece ++ more) ∙ ap turns (sym (append_assoc run.stream piece more)));
-  end = λ more. ap will_close (fed_twice run.held piece more) ∙ (all.end (piece ++ more) ∙ ap ends (sym (append_assoc run.stream piece more)));
+  turns = λ more. ap (λ h. run.given ++ to_come h) (fed_twice run.held piece more)
+      ∙ (all.turns (piece ++ more) ∙ ap turns (sym (append_assoc run.stream piece more)));
+  end = λ more. ap will_close (fed_twice run.held piece more)
+      ∙ (all.end (piece ++ more) ∙ ap ends (sym (append_assoc run.stream piece more)));
 }
 acted_tells run Next all = record {
-  turns = λ more. given_first run.given (next_of run.held).0 (to_come (fed (next_of run.held).1 more)) ∙ (ap (λ ts. run.given ++ ts) (sym ((next_gives_first run.held).first more)) ∙ all.turns more);
+  turns = λ more. given_first run.given (next_of run.held).0 (to_come (fed (next_of run.held).1 more))
+      ∙ (ap (λ ts. run.given ++ ts) (sym ((next_gives_first run.held).first more)) ∙ all.turns more);
   end = λ more. sym ((keeps_end run.held).kept more) ∙ all.end more;
 }
 acted_tells run (Answer reply) all = record {
@@ -42,13 +47,19 @@ tells_all run (Acts earlier action is allowed) = acted_tells earlier action (tel
 -- the turns that were given and those that are still to come are those of all the bytes
 pub any_cutting : (run : Run) → IsRun run → run.given ++ to_come run.held ≡ turns run.stream
 any_cutting run is =
-    ap (λ h. run.given ++ to_come h) (sym (fed_none run.held)) ∙ ((tells_all run is).turns [] ∙ ap turns (append-nil run.stream))
+    ap (λ h. run.given ++ to_come h) (sym (fed_none run.held))
+    ∙ ((tells_all run is).turns [] ∙ ap turns (append-nil run.stream))
 
 -- if none is to come, all were given
 pub gives_all : (run : Run) → IsRun run → (next_of run.held).0 ≡ None → run.given ≡ turns run.stream
 gives_all run is none =
-    sym (append-nil run.given) ∙ (ap (λ ts. run.given ++ ts) (sym ((next_gives_first run.held).none none)) ∙ any_cutting run is)
+    sym (append-nil run.given)
+    ∙ (ap (λ ts. run.given ++ ts) (sym ((next_gives_first run.held).none none)) ∙ any_cutting run is)
 
-pub closes_at_last : (run : Run) → IsRun run → (next_of run.held).0 ≡ None → (next_of run.held).1.closed ≡ ends run.stream
+pub closes_at_last : (run : Run)
+    → IsRun run
+    → (next_of run.held).0 ≡ None
+    → (next_of run.held).1.closed ≡ ends run.stream
 closes_at_last run is none =
-    (keeps_end run.held).come none ∙ (ap will_close (sym (fed_none run.held)) ∙ ((tells_all run is).end [] ∙ ap ends (append-nil run.stream)))
+    (keeps_end run.held).come none
+    ∙ (ap will_close (sym (fed_none run.held)) ∙ ((tells_all run is).end [] ∙ ap ends (append-nil run.stream)))

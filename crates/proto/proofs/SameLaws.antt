@@ -12,11 +12,22 @@ use Rattle.proto.specs.Runs.{taken_from}
 same_to_come : (h : Held) (asked : Option Form) (out : List ℕ) → SameToCome h (record h { asked = asked; out = out })
 same_to_come h asked out = by_closed h.unread h.passing h.later h.unique h.asked h.out h.closed
   where
-    by_closed : (unread : List ℕ) (passing : Option Passing) (later : List (List ℕ)) (unique : Bool) (was : Option Form) (had : List ℕ) (closed : Bool)
-        → let h : Held = record { unread = unread; passing = passing; later = later; unique = unique; asked = was; out = had; closed = closed } in
+    by_closed : (unread : List ℕ) (passing : Option Passing) (later : List (List ℕ)) (unique : Bool) (was : Option Form)
+        (had : List ℕ) (closed : Bool)
+        → let h : Held = record {
+          unread = unread;
+          passing = passing;
+          later = later;
+          unique = unique;
+          asked = was;
+          out = had;
+          closed = closed;
+        } in
         SameToCome h (record h { asked = asked; out = out })
-    by_closed unread passing later unique was had true = record { turns = λ more. refl; end = λ more. refl; most = refl }
-    by_closed unread passing later unique was had false = record { turns = λ more. refl; end = λ more. refl; most = refl }
+    by_closed unread passing later unique was had true =
+        record { turns = λ more. refl; end = λ more. refl; most = refl }
+    by_closed unread passing later unique was had false =
+        record { turns = λ more. refl; end = λ more. refl; most = refl }
 
 answered_same : (h : Held) (asked : Option Form) (reply : Reply) → SameToCome h (answered_by asked h reply)
 answered_same h None reply = record { turns = λ more. refl; end = λ more. refl; most = refl }

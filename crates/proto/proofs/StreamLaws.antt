@@ -1,5 +1,6 @@
 -- Each step of a session gives the first of its turns, so the turns of a stream don't depend on how it was cut.
-use Rattle.std.proofs.Common.{◌≡◌, ℕ, ◌-◌, ◌<◌, Bool, true, false, cond, List, [], ◌∷◌, ◌++◌, length, drop, Option, None, Some, refl, sym, ap, ◌∙◌, arith, length-append, length-drop, append_assoc}
+use Rattle.std.proofs.Common.{◌≡◌, ℕ, ◌-◌, ◌<◌, Bool, true, false, cond, List, [], ◌∷◌, ◌++◌, length, drop, Option}
+use Rattle.std.proofs.Common.{None, Some, refl, sym, ap, ◌∙◌, arith, length-append, length-drop, append_assoc}
 use Rattle.std.specs.Prelude.{◌==◌}
 use Rattle.std.specs.List.{flat_map}
 use Rattle.std.proofs.Math.Seq.{drop-nil}
@@ -13,7 +14,8 @@ use Rattle.proto.specs.declared.texts.Form.{Form}
 use Rattle.proto.specs.Fronts.{Front, front, refused_at, found_of, is_last}
 use Rattle.proto.specs.Turns.{Faulty, turns_of, fault_text}
 use Rattle.proto.specs.Sessions.{Held, kept, passed, fed, by_found, by_passing, next_of}
-use Rattle.proto.specs.Streams.{requests, turns, turns_before, unread_turns, to_come, GivesFirst, most_faults, unread_requests}
+use Rattle.proto.specs.Streams.{requests, turns, turns_before, unread_turns, to_come, GivesFirst, most_faults}
+use Rattle.proto.specs.Streams.{unread_requests}
 use Rattle.proto.proofs.RequestLaws.{takes, requests_none, requests_some, requests_more, drop_two, refused_later}
 
 cond_turns : (b : Bool) (rs : List Request) → flat_map turns_of (cond b [] rs) ≡ cond b [] (flat_map turns_of rs)
@@ -21,65 +23,122 @@ cond_turns true rs = refl
 cond_turns false rs = refl
 
 -- what stands at the front stays there: its turns come first
-turns_more : (bytes more : List ℕ) (found : Request × ℕ) → front bytes ≡ Some found → turns (bytes ++ more) ≡ turns_of found.0 ++ cond (is_last found.0) [] (turns (drop found.1 bytes ++ more))
+turns_more : (bytes more : List ℕ) (found : Request × ℕ)
+    → front bytes ≡ Some found
+    → turns (bytes ++ more) ≡ turns_of found.0 ++ cond (is_last found.0) [] (turns (drop found.1 bytes ++ more))
 turns_more bytes more found e =
-    ap (flat_map turns_of) (requests_more bytes more found e) ∙ ap (λ ts. turns_of found.0 ++ ts) (cond_turns (is_last found.0) (requests (drop found.1 bytes ++ more)))
+    ap (flat_map turns_of) (requests_more bytes more found e)
+    ∙ ap (λ ts. turns_of found.0 ++ ts) (cond_turns (is_last found.0) (requests (drop found.1 bytes ++ more)))
 
 -- the turns of the requests that unread bytes still give
-unread_turned : (passing : Option Passing) (unread : List ℕ) → flat_map turns_of (unread_requests passing unread) ≡ unread_turns passing unread
+unread_turned : (passing : Option Passing) (unread : List ℕ)
+    → flat_map turns_of (unread_requests passing unread) ≡ unread_turns passing unread
 unread_turned None unread = refl
 unread_turned (Some p) unread = by_left (p.left == 0)
   where
-    by_left : (b : Bool) → flat_map turns_of (cond b (Bad p.fault ∷ cond (is_last (Bad p.fault)) [] (requests unread)) []) ≡ cond b (turns_before (Bad p.fault) (turns unread)) []
+    by_left : (b : Bool)
+        → flat_map turns_of (cond b (Bad p.fault ∷ cond (is_last (Bad p.fault)) [] (requests unread)) [])
+        ≡ cond b (turns_before (Bad p.fault) (turns unread)) []
     by_left true = ap (λ ts. Faulty p.fault ∷ ts) (cond_turns (is_last (Bad p.fault)) (requests unread))
     by_left false = refl
 
 -- after a fault are the turns of what is left, unless the session is closed by it
 behind_fault : (b : Bool) (unread : List ℕ) (unique : Bool) (asked : Option Form) (out more : List ℕ)
-    → cond b [] (turns (unread ++ more)) ≡ to_come (fed (record { unread = unread; passing = None; later = []; unique = unique; asked = asked; out = out; closed = b }) more)
+    → cond b [] (turns (unread ++ more))
+    ≡ to_come (fed (record {
+      unread = unread;
+      passing = None;
+      later = [];
+      unique = unique;
+      asked = asked;
+      out = out;
+      closed = b;
+    }) more)
 behind_fault true unread unique asked out more = refl
 behind_fault false unread unique asked out more = refl
 
 -- by what stands at the front
-by_front : (unread : List ℕ) (unique : Bool) (asked : Option Form) (out : List ℕ) (r : Front) (q : Option Passing) → front unread ≡ r → refused_at unread ≡ q
-    → let h : Held = record { unread = unread; passing = None; later = []; unique = unique; asked = asked; out = out; closed = false } in
+by_front : (unread : List ℕ) (unique : Bool) (asked : Option Form) (out : List ℕ) (r : Front) (q : Option Passing)
+    → front unread ≡ r
+    → refused_at unread ≡ q
+    → let h : Held = record
+    { unread = unread; passing = None; later = []; unique = unique; asked = asked; out = out; closed = false } in
     GivesFirst h (by_found (found_of r q) h).0 (by_found (found_of r q) h).1
-by_front unread unique asked out None None e f = record { first = λ more. refl; none = λ given. ap (flat_map turns_of) (requests_none unread e) }
-by_front unread unique asked out None (Some p) e f = record { first = λ more. ap (flat_map turns_of) (refused_later unread more p e f) ∙ unread_turned (passed (Some p) more) (kept (Some p) more); none = λ given. ap (flat_map turns_of) (requests_none unread e) }
+by_front unread unique asked out None None e f =
+    record { first = λ more. refl; none = λ given. ap (flat_map turns_of) (requests_none unread e) }
+by_front unread unique asked out None (Some p) e f =
+    record {
+      first = λ more. ap (flat_map turns_of) (refused_later unread more p e f)
+          ∙ unread_turned (passed (Some p) more) (kept (Some p) more);
+      none =
+          λ given. ap (flat_map turns_of) (requests_none unread e);
+    }
 by_front unread unique asked out (Some (Bad fault, n)) q e f = record {
-  first = λ more. turns_more unread more (Bad fault, n) e ∙ ap (λ ts. Faulty fault ∷ ts) (behind_fault (is_last (Bad fault)) (drop n unread) unique asked (out ++ fault_text fault) more);
+  first = λ more. turns_more unread more (Bad fault, n) e
+      ∙ ap (λ ts. Faulty fault ∷ ts)
+      (behind_fault (is_last (Bad fault)) (drop n unread) unique asked (out ++ fault_text fault) more);
   none = λ given. cc;
 }
 by_front unread unique asked out (Some (Get [] u, n)) q e f = absurd (takes unread (Get [] u, n) e).gets
-by_front unread unique asked out (Some (Get (key ∷ keys) u, n)) q e f = record { first = λ more. turns_more unread more (Get (key ∷ keys) u, n) e; none = λ given. cc }
-by_front unread unique asked out (Some (Store key op silent, n)) q e f = record { first = λ more. turns_more unread more (Store key op silent, n) e; none = λ given. cc }
-by_front unread unique asked out (Some (Arith key op silent, n)) q e f = record { first = λ more. turns_more unread more (Arith key op silent, n) e; none = λ given. cc }
-by_front unread unique asked out (Some (Delete key silent, n)) q e f = record { first = λ more. turns_more unread more (Delete key silent, n) e; none = λ given. cc }
-by_front unread unique asked out (Some (Flush silent, n)) q e f = record { first = λ more. turns_more unread more (Flush silent, n) e; none = λ given. cc }
-by_front unread unique asked out (Some (Quit, n)) q e f = record { first = λ more. turns_more unread more (Quit, n) e; none = λ given. ap (flat_map turns_of) (requests_some unread (Quit, n) e) }
+by_front unread unique asked out (Some (Get (key ∷ keys) u, n)) q e f =
+    record { first = λ more. turns_more unread more (Get (key ∷ keys) u, n) e; none = λ given. cc }
+by_front unread unique asked out (Some (Store key op silent, n)) q e f =
+    record { first = λ more. turns_more unread more (Store key op silent, n) e; none = λ given. cc }
+by_front unread unique asked out (Some (Arith key op silent, n)) q e f =
+    record { first = λ more. turns_more unread more (Arith key op silent, n) e; none = λ given. cc }
+by_front unread unique asked out (Some (Delete key silent, n)) q e f =
+    record { first = λ more. turns_more unread more (Delete key silent, n) e; none = λ given. cc }
+by_front unread unique asked out (Some (Flush silent, n)) q e f =
+    record { first = λ more. turns_more unread more (Flush silent, n) e; none = λ given. cc }
+by_front unread unique asked out (Some (Quit, n)) q e f =
+    record {
+      first = λ more. turns_more unread more (Quit, n) e;
+      none = λ given. ap (flat_map turns_of) (requests_some unread (Quit, n) e);
+    }
 
 -- by the refused block that is passed over, or the front
 by_skip : (unread : List ℕ) (passing : Option Passing) (unique : Bool) (asked : Option Form) (out : List ℕ)
-    → let h : Held = record { unread = unread; passing = passing; later = []; unique = unique; asked = asked; out = out; closed = false } in
+    → let h : Held = record
+    { unread = unread; passing = passing; later = []; unique = unique; asked = asked; out = out; closed = false } in
     GivesFirst h (by_passing passing h).0 (by_passing passing h).1
 by_skip unread None unique asked out = by_front unread unique asked out (front unread) (refused_at unread) refl refl
 by_skip unread (Some p) unique asked out = by_left (p.left == 0) refl
   where
     h : Held
-    h = record { unread = unread; passing = Some p; later = []; unique = unique; asked = asked; out = out; closed = false }
+    h = record {
+      unread = unread;
+      passing = Some p;
+      later = [];
+      unique = unique;
+      asked = asked;
+      out = out;
+      closed = false;
+    }
 
     by_left : (b : Bool) → (p.left == 0) ≡ b → GivesFirst h (by_passing (Some p) h).0 (by_passing (Some p) h).1
     by_left true e = record {
       first = λ more.
           let all : (p.left - length more == 0) ≡ true = grind (arith, nat_tests, e) in
-          let behind : drop p.left more ≡ more = (let zero_left : p.left ≡ 0 = grind (arith, nat_tests, e) in rw zero_left refl) in
-          rw (e, all, behind) (ap (λ ts. Faulty p.fault ∷ ts) (behind_fault (is_last (Bad p.fault)) unread unique asked (out ++ fault_text p.fault) more));
+          let behind : drop p.left more ≡ more =
+          (let zero_left : p.left ≡ 0 = grind (arith, nat_tests, e) in rw zero_left refl) in
+          rw (e, all, behind)
+          (ap (λ ts. Faulty p.fault ∷ ts)
+          (behind_fault (is_last (Bad p.fault)) unread unique asked (out ++ fault_text p.fault) more));
       none = rw e (λ given. cc);
     }
     by_left false e = rw e (record { first = λ more. refl; none = λ given. rw e refl })
 
-by_fields : (unread : List ℕ) (passing : Option Passing) (later : List (List ℕ)) (unique : Bool) (asked : Option Form) (out : List ℕ) (closed : Bool)
-    → let h : Held = record { unread = unread; passing = passing; later = later; unique = unique; asked = asked; out = out; closed = closed } in GivesFirst h (next_of h).0 (next_of h).1
+by_fields : (unread : List ℕ) (passing : Option Passing) (later : List (List ℕ)) (unique : Bool) (asked : Option Form)
+    (out : List ℕ) (closed : Bool)
+    → let h : Held = record {
+      unread = unread;
+      passing = passing;
+      later = later;
+      unique = unique;
+      asked = asked;
+      out = out;
+      closed = closed;
+    } in GivesFirst h (next_of h).0 (next_of h).1
 by_fields unread passing later unique asked out true = record { first = λ more. refl; none = λ given. refl }
 by_fields unread passing [] unique asked out false = by_skip unread passing unique asked out
 by_fields unread passing (key ∷ keys) unique asked out false = record { first = λ more. refl; none = λ given. cc }
@@ -89,12 +148,16 @@ pub next_gives_first : (h : Held) → GivesFirst h (next_of h).0 (next_of h).1
 next_gives_first h = by_fields h.unread h.passing h.later h.unique h.asked h.out h.closed
 
 -- the unread bytes of what is left after a fault at the front
-fewer_behind : (unread : List ℕ) (unique : Bool) (asked : Option Form) (out : List ℕ) (r : Front) (q : Option Passing) (fault : Fault) → front unread ≡ r
-    → let h : Held = record { unread = unread; passing = None; later = []; unique = unique; asked = asked; out = out; closed = false } in
+fewer_behind : (unread : List ℕ) (unique : Bool) (asked : Option Form) (out : List ℕ) (r : Front) (q : Option Passing)
+    (fault : Fault)
+    → front unread ≡ r
+    → let h : Held = record
+    { unread = unread; passing = None; later = []; unique = unique; asked = asked; out = out; closed = false } in
     (by_found (found_of r q) h).0 ≡ Some (Faulty fault) → most_faults (by_found (found_of r q) h).1 < most_faults h
 fewer_behind unread unique asked out None None fault e is = cc
 fewer_behind unread unique asked out None (Some p) fault e is = cc
-fewer_behind unread unique asked out (Some (Bad other, n)) q fault e is = let s = takes unread (Bad other, n) e in let a = s.least in let b = s.most in omega (arith, length-drop n unread)
+fewer_behind unread unique asked out (Some (Bad other, n)) q fault e is =
+    let s = takes unread (Bad other, n) e in let a = s.least in let b = s.most in omega (arith, length-drop n unread)
 fewer_behind unread unique asked out (Some (Get [] u, n)) q fault e is = cc
 fewer_behind unread unique asked out (Some (Get (key ∷ keys) u, n)) q fault e is = cc
 fewer_behind unread unique asked out (Some (Store key op silent, n)) q fault e is = cc
@@ -103,28 +166,53 @@ fewer_behind unread unique asked out (Some (Delete key silent, n)) q fault e is 
 fewer_behind unread unique asked out (Some (Flush silent, n)) q fault e is = cc
 fewer_behind unread unique asked out (Some (Quit, n)) q fault e is = cc
 
-fewer_skipped : (unread : List ℕ) (passing : Option Passing) (unique : Bool) (asked : Option Form) (out : List ℕ) (fault : Fault)
-    → let h : Held = record { unread = unread; passing = passing; later = []; unique = unique; asked = asked; out = out; closed = false } in
+fewer_skipped : (unread : List ℕ) (passing : Option Passing) (unique : Bool) (asked : Option Form) (out : List ℕ)
+    (fault : Fault)
+    → let h : Held = record
+    { unread = unread; passing = passing; later = []; unique = unique; asked = asked; out = out; closed = false } in
     (by_passing passing h).0 ≡ Some (Faulty fault) → most_faults (by_passing passing h).1 < most_faults h
-fewer_skipped unread None unique asked out fault is = fewer_behind unread unique asked out (front unread) (refused_at unread) fault refl is
+fewer_skipped unread None unique asked out fault is =
+    fewer_behind unread unique asked out (front unread) (refused_at unread) fault refl is
 fewer_skipped unread (Some p) unique asked out fault is = by_left (p.left == 0) refl is
   where
     h : Held
-    h = record { unread = unread; passing = Some p; later = []; unique = unique; asked = asked; out = out; closed = false }
+    h = record {
+      unread = unread;
+      passing = Some p;
+      later = [];
+      unique = unique;
+      asked = asked;
+      out = out;
+      closed = false;
+    }
 
-    by_left : (b : Bool) → (p.left == 0) ≡ b → (by_passing (Some p) h).0 ≡ Some (Faulty fault) → most_faults (by_passing (Some p) h).1 < most_faults h
+    by_left : (b : Bool)
+        → (p.left == 0) ≡ b
+        → (by_passing (Some p) h).0 ≡ Some (Faulty fault)
+        → most_faults (by_passing (Some p) h).1 < most_faults h
     by_left true e is = rw e (omega arith)
     by_left false e is = absurd (let none = rw e at is in cc)
 
-fewer_fields : (unread : List ℕ) (passing : Option Passing) (later : List (List ℕ)) (unique : Bool) (asked : Option Form) (out : List ℕ) (closed : Bool) (fault : Fault)
-    → let h : Held = record { unread = unread; passing = passing; later = later; unique = unique; asked = asked; out = out; closed = closed } in
+fewer_fields : (unread : List ℕ) (passing : Option Passing) (later : List (List ℕ)) (unique : Bool)
+    (asked : Option Form) (out : List ℕ) (closed : Bool) (fault : Fault)
+    → let h : Held = record {
+      unread = unread;
+      passing = passing;
+      later = later;
+      unique = unique;
+      asked = asked;
+      out = out;
+      closed = closed;
+    } in
     (next_of h).0 ≡ Some (Faulty fault) → most_faults (next_of h).1 < most_faults h
 fewer_fields unread passing later unique asked out true fault is = cc
 fewer_fields unread passing [] unique asked out false fault is = fewer_skipped unread passing unique asked out fault is
 fewer_fields unread passing (key ∷ keys) unique asked out false fault is = cc
 
 -- a fault takes a byte at least
-pub faults_take_bytes : (h : Held) (fault : Fault) → (next_of h).0 ≡ Some (Faulty fault) → most_faults (next_of h).1 < most_faults h
+pub faults_take_bytes : (h : Held) (fault : Fault)
+    → (next_of h).0 ≡ Some (Faulty fault)
+    → most_faults (next_of h).1 < most_faults h
 faults_take_bytes h fault is = fewer_fields h.unread h.passing h.later h.unique h.asked h.out h.closed fault is
 
 -- pieces one after another are one piece
@@ -136,7 +224,8 @@ passed_none : (passing : Option Passing) → passed passing [] ≡ passing
 passed_none None = refl
 passed_none (Some p) = let same : p.left - 0 ≡ p.left = omega arith in ap (λ left. Some (record p { left = left })) same
 
-kept_twice : (passing : Option Passing) (xs ys : List ℕ) → kept passing xs ++ kept (passed passing xs) ys ≡ kept passing (xs ++ ys)
+kept_twice : (passing : Option Passing) (xs ys : List ℕ)
+    → kept passing xs ++ kept (passed passing xs) ys ≡ kept passing (xs ++ ys)
 kept_twice None xs ys = refl
 kept_twice (Some p) xs ys = sym (drop_two p.left xs ys)
 
@@ -149,15 +238,39 @@ passed_twice (Some p) xs ys =
 pub fed_none : (h : Held) → fed h [] ≡ h
 fed_none h = by_closed h.unread h.passing h.later h.unique h.asked h.out h.closed
   where
-    by_closed : (unread : List ℕ) (passing : Option Passing) (later : List (List ℕ)) (unique : Bool) (asked : Option Form) (out : List ℕ) (closed : Bool)
-        → let h : Held = record { unread = unread; passing = passing; later = later; unique = unique; asked = asked; out = out; closed = closed } in fed h [] ≡ h
+    by_closed : (unread : List ℕ) (passing : Option Passing) (later : List (List ℕ)) (unique : Bool)
+        (asked : Option Form) (out : List ℕ) (closed : Bool)
+        → let h : Held = record {
+          unread = unread;
+          passing = passing;
+          later = later;
+          unique = unique;
+          asked = asked;
+          out = out;
+          closed = closed;
+        } in fed h [] ≡ h
     by_closed unread passing later unique asked out true = refl
-    by_closed unread passing later unique asked out false = rw (kept_none passing, passed_none passing, append-nil unread) refl
+    by_closed unread passing later unique asked out false =
+        rw (kept_none passing, passed_none passing, append-nil unread) refl
 
 pub fed_twice : (h : Held) (xs ys : List ℕ) → fed (fed h xs) ys ≡ fed h (xs ++ ys)
 fed_twice h xs ys = by_closed h.unread h.passing h.later h.unique h.asked h.out h.closed
   where
-    by_closed : (unread : List ℕ) (passing : Option Passing) (later : List (List ℕ)) (unique : Bool) (asked : Option Form) (out : List ℕ) (closed : Bool)
-        → let h : Held = record { unread = unread; passing = passing; later = later; unique = unique; asked = asked; out = out; closed = closed } in fed (fed h xs) ys ≡ fed h (xs ++ ys)
+    by_closed : (unread : List ℕ) (passing : Option Passing) (later : List (List ℕ)) (unique : Bool)
+        (asked : Option Form) (out : List ℕ) (closed : Bool)
+        → let h : Held = record {
+          unread = unread;
+          passing = passing;
+          later = later;
+          unique = unique;
+          asked = asked;
+          out = out;
+          closed = closed;
+        } in fed (fed h xs) ys ≡ fed h (xs ++ ys)
     by_closed unread passing later unique asked out true = refl
-    by_closed unread passing later unique asked out false = rw (append_assoc unread (kept passing xs) (kept (passed passing xs) ys), kept_twice passing xs ys, passed_twice passing xs ys) refl
+    by_closed unread passing later unique asked out false =
+        rw (
+          append_assoc unread (kept passing xs) (kept (passed passing xs) ys),
+          kept_twice passing xs ys,
+          passed_twice passing xs ys,
+        ) refl

@@ -1,5 +1,6 @@
 -- What a session's step and an answer write, and the texts of turns with their replies.
-use Rattle.std.proofs.Common.{◌≡◌, ℕ, ◌==◌, Bool, true, false, cond, List, [], ◌∷◌, ◌++◌, length, drop, Option, None, Some, refl, sym, ap, ◌∙◌, arith, append_assoc, append-nil}
+use Rattle.std.proofs.Common.{◌≡◌, ℕ, ◌==◌, Bool, true, false, cond, List, [], ◌∷◌, ◌++◌, length, drop, Option, None}
+use Rattle.std.proofs.Common.{Some, refl, sym, ap, ◌∙◌, arith, append_assoc, append-nil}
 use Rattle.table.specs.declared.operations.Call.{Call}
 use Rattle.table.specs.declared.operations.Reply.{Reply}
 use Rattle.proto.specs.declared.requests.Fault.{Fault}
@@ -11,7 +12,8 @@ use Rattle.proto.specs.declared.front.Found.TheVariants.{Request as Requested, R
 use Rattle.proto.specs.declared.texts.Form.{Form}
 use Rattle.proto.specs.Fronts.{found_at}
 use Rattle.proto.specs.Turns.{Turn, Faulty, Calls, calls_of, fault_text, text}
-use Rattle.proto.specs.Sessions.{Held, Given, Writes, by_keys, by_request, by_found, by_passing, by_later, next_of, answered_by}
+use Rattle.proto.specs.Sessions.{Held, Given, Writes, by_keys, by_request, by_found, by_passing, by_later, next_of}
+use Rattle.proto.specs.Sessions.{answered_by}
 use Rattle.proto.specs.Streams.{texts}
 
 keys_write : (keys : List (List ℕ)) (unique : Bool) (h : Held) → Writes h (by_keys keys unique h)
@@ -34,7 +36,8 @@ like h k (Some (Faulty fault), left) out asked w = (w.0 ∙ ap (λ bytes. bytes 
 like h k (Some (Calls call form), left) out asked w = (w.0 ∙ out, w.1)
 
 found_writes : (found : Found) (h : Held) → Writes h (by_found found h)
-found_writes (Requested request n) h = like h (record h { unread = drop n h.unread }) _ refl refl (request_writes request _)
+found_writes (Requested request n) h =
+    like h (record h { unread = drop n h.unread }) _ refl refl (request_writes request _)
 found_writes (Refused passing) h = (refl, refl)
 found_writes Nothing h = (refl, refl)
 
@@ -59,7 +62,9 @@ next_writes h = by_closed h.closed
     by_closed false = later_writes h.later h
 
 -- what an answer writes
-pub answer_writes : (h : Held) (form : Form) (reply : Reply) → h.asked ≡ Some form → (answered_by h.asked h reply).out ≡ h.out ++ text form reply
+pub answer_writes : (h : Held) (form : Form) (reply : Reply)
+    → h.asked ≡ Some form
+    → (answered_by h.asked h reply).out ≡ h.out ++ text form reply
 answer_writes h form reply e = rw e refl
 
 pub answer_idle : (h : Held) (reply : Reply) → (answered_by h.asked h reply).asked ≡ None
@@ -70,11 +75,15 @@ answer_idle h reply = by_asked h.asked refl
     by_asked (Some form) e = refl
 
 -- more turns and more replies have more text
-pub fewer_replies_begin : (ts us : List Turn) (rs ss : List Reply) → (rest : List ℕ) × (texts (ts ++ us) (rs ++ ss) ≡ texts ts rs ++ rest)
+pub fewer_replies_begin : (ts us : List Turn) (rs ss : List Reply)
+    → (rest : List ℕ) × (texts (ts ++ us) (rs ++ ss) ≡ texts ts rs ++ rest)
 fewer_replies_begin [] us rs ss = (texts us (rs ++ ss), refl)
 fewer_replies_begin (Faulty fault ∷ ts) us rs ss =
-    let more = fewer_replies_begin ts us rs ss in
-    (more.0, ap (λ bytes. fault_text fault ++ bytes) more.1 ∙ sym (append_assoc (fault_text fault) (texts ts rs) more.0))
+    let more = fewer_replies_begin ts us rs ss in (
+      more.0,
+      ap (λ bytes. fault_text fault ++ bytes) more.1
+          ∙ sym (append_assoc (fault_text fault) (texts ts rs) more.0),
+    )
 fewer_replies_begin (Calls call form ∷ ts) us [] ss = (texts (Calls call form ∷ ts ++ us) ss, refl)
 fewer_replies_begin (Calls call form ∷ ts) us (r ∷ rs) ss =
     let more = fewer_replies_begin ts us rs ss in
@@ -87,25 +96,36 @@ calls_of_more (Faulty fault ∷ ts) us = calls_of_more ts us
 calls_of_more (Calls call form ∷ ts) us = ap (λ calls. call ∷ calls) (calls_of_more ts us)
 
 -- a fault after turns whose calls are answered
-pub texts_fault : (fault : Fault) (ts : List Turn) (rs : List Reply) → length rs ≡ length (calls_of ts) → texts (ts ++ Faulty fault ∷ []) rs ≡ texts ts rs ++ fault_text fault
+pub texts_fault : (fault : Fault) (ts : List Turn) (rs : List Reply)
+    → length rs ≡ length (calls_of ts)
+    → texts (ts ++ Faulty fault ∷ []) rs ≡ texts ts rs ++ fault_text fault
 texts_fault fault [] rs h = append-nil (fault_text fault)
-texts_fault fault (Faulty g ∷ ts) rs h = rw (texts_fault fault ts rs h) (sym (append_assoc (fault_text g) (texts ts rs) (fault_text fault)))
+texts_fault fault (Faulty g ∷ ts) rs h =
+    rw (texts_fault fault ts rs h) (sym (append_assoc (fault_text g) (texts ts rs) (fault_text fault)))
 texts_fault fault (Calls call form ∷ ts) [] h = absurd (omega (arith, h))
-texts_fault fault (Calls call form ∷ ts) (r ∷ rs) h = rw (texts_fault fault ts rs (omega (arith, h))) (sym (append_assoc (text form r) (texts ts rs) (fault_text fault)))
+texts_fault fault (Calls call form ∷ ts) (r ∷ rs) h =
+    rw (texts_fault fault ts rs (omega (arith, h))) (sym (append_assoc (text form r) (texts ts rs) (fault_text fault)))
 
 -- a call without a reply after them
-pub texts_open : (call : Call) (form : Form) (ts : List Turn) (rs : List Reply) → length rs ≡ length (calls_of ts) → texts (ts ++ Calls call form ∷ []) rs ≡ texts ts rs
+pub texts_open : (call : Call) (form : Form) (ts : List Turn) (rs : List Reply)
+    → length rs ≡ length (calls_of ts)
+    → texts (ts ++ Calls call form ∷ []) rs ≡ texts ts rs
 texts_open call form [] [] h = refl
 texts_open call form [] (r ∷ rs) h = absurd (omega (arith, h))
 texts_open call form (Faulty g ∷ ts) rs h = ap (λ bytes. fault_text g ++ bytes) (texts_open call form ts rs h)
 texts_open call form (Calls other shape ∷ ts) [] h = absurd (omega (arith, h))
-texts_open call form (Calls other shape ∷ ts) (r ∷ rs) h = ap (λ bytes. text shape r ++ bytes) (texts_open call form ts rs (omega (arith, h)))
+texts_open call form (Calls other shape ∷ ts) (r ∷ rs) h =
+    ap (λ bytes. text shape r ++ bytes) (texts_open call form ts rs (omega (arith, h)))
 
 -- an answered call after them
-pub texts_call : (call : Call) (form : Form) (reply : Reply) (ts : List Turn) (rs : List Reply) → length rs ≡ length (calls_of ts)
+pub texts_call : (call : Call) (form : Form) (reply : Reply) (ts : List Turn) (rs : List Reply)
+    → length rs ≡ length (calls_of ts)
     → texts (ts ++ Calls call form ∷ []) (rs ++ reply ∷ []) ≡ texts ts rs ++ text form reply
 texts_call call form reply [] [] h = append-nil (text form reply)
 texts_call call form reply [] (r ∷ rs) h = absurd (omega (arith, h))
-texts_call call form reply (Faulty g ∷ ts) rs h = rw (texts_call call form reply ts rs h) (sym (append_assoc (fault_text g) (texts ts rs) (text form reply)))
+texts_call call form reply (Faulty g ∷ ts) rs h =
+    rw (texts_call call form reply ts rs h) (sym (append_assoc (fault_text g) (texts ts rs) (text form reply)))
 texts_call call form reply (Calls other shape ∷ ts) [] h = absurd (omega (arith, h))
-texts_call call form reply (Calls other shape ∷ ts) (r ∷ rs) h = rw (texts_call call form reply ts rs (omega (arith, h))) (sym (append_assoc (text shape r) (texts ts rs) (text form reply)))
+texts_call call form reply (Calls other shape ∷ ts) (r ∷ rs) h =
+    rw (texts_call call form reply ts rs (omega (arith, h)))
+    (sym (append_assoc (text shape r) (texts ts rs) (text form reply)))

@@ -1,5 +1,6 @@
 -- The request at the front of a stream, as a function: what its line asks for, and whether its block has come.
-use Rattle.std.specs.Prelude.{◌≡◌, ℕ, ◌+◌, ◌-◌, ◌^◌, ◌≤◌, ◌<◌, Bool, true, false, IsTrue, nat_lt, List, length, Option, None, Some, if◌then◌else◌}
+use Rattle.std.specs.Prelude.{◌≡◌, ℕ, ◌+◌, ◌-◌, ◌^◌, ◌≤◌, ◌<◌, Bool, true, false, IsTrue, nat_lt, List, length, Option}
+use Rattle.std.specs.Prelude.{None, Some, if◌then◌else◌}
 use Rattle.std.specs.List.{slice_range}
 use Rattle.std.specs.Str.{bytes_eq}
 use Rattle.table.specs.Items.{limit}
@@ -27,14 +28,19 @@ Front = Option (Request × ℕ)
 -- the request of a whole block, with the two bytes after it: data is to be followed by CR LF
 abbrev pub finished : Fate → List ℕ → List ℕ → Request
 finished (Refuse fault) block ends = Bad fault
-finished (Put key verb silent) block ends = if bytes_eq ends crlf then Store key (op_of verb block) silent else Bad DataChunk
+finished (Put key verb silent) block ends =
+    if bytes_eq ends crlf then Store key (op_of verb block) silent else Bad DataChunk
 
 -- the request that a line of n bytes begins, if all of it has come
 abbrev pub completed : List ℕ → Asked → ℕ → Front
 completed bytes (Whole request) n = Some (request, n)
 completed bytes (Behind block) n =
     if nat_lt (length bytes) (n + block.size + 2) then None
-    else Some (finished block.fate (slice_range bytes n (n + block.size)) (slice_range bytes (n + block.size) (n + block.size + 2)), n + block.size + 2)
+    else Some (
+      finished block.fate (slice_range bytes n (n + block.size))
+          (slice_range bytes (n + block.size) (n + block.size + 2)),
+      n + block.size + 2,
+    )
 
 -- the request that the line at the front begins, if both have come
 abbrev pub by_asked : List ℕ → Option (Asked × ℕ) → Front
@@ -112,8 +118,11 @@ IsFront (Requested request n) bytes = (n ≤ length bytes) × IsWhole request
 IsFront (Refused passing) bytes = Unit {0}
 IsFront Nothing bytes = Unit {0}
 
--- (This serves a hidden field of the code; no public contract needs it.) What was found out about the front is so: the line announces
+-- (This serves a hidden field of the code; no public contract needs it.) What was found out about the front is so: the
+-- line announces
 -- a block that is to be put.
 abbrev pub IsKnown : Option Pending → List ℕ → Type 0
 IsKnown None bytes = Unit {0}
-IsKnown (Some p) bytes = (asked_at bytes ≡ Some (Behind (record { size = p.size; fate = Put p.key p.verb p.silent }), p.line)) × (p.line ≤ length bytes) × (p.size ≤ limit)
+IsKnown (Some p) bytes =
+    (asked_at bytes ≡ Some (Behind (record { size = p.size; fate = Put p.key p.verb p.silent }), p.line))
+    × (p.line ≤ length bytes) × (p.size ≤ limit)

@@ -1,5 +1,6 @@
 -- The request grammar: which bytes spell which request, by the protocol's cases.
-use Rattle.std.specs.Prelude.{◌≡◌, ◌≢◌, ℕ, ◌^◌, ◌≤◌, ◌<◌, ◌⊎◌, Bool, true, false, not, ◌==◌, ◌&&◌, IsTrue, if◌then◌else◌, List, [], ◌∷◌, ◌++◌, length, Some, codes}
+use Rattle.std.specs.Prelude.{◌≡◌, ◌≢◌, ℕ, ◌^◌, ◌≤◌, ◌<◌, ◌⊎◌, Bool, true, false, not, ◌==◌, ◌&&◌, IsTrue}
+use Rattle.std.specs.Prelude.{if◌then◌else◌, List, [], ◌∷◌, ◌++◌, length, Some, codes}
 use Rattle.std.specs.List.{list_all, join_with_byte}
 use Rattle.table.specs.Keys.{IsKey, is_key}
 use Rattle.table.specs.Items.{limit}
@@ -26,7 +27,8 @@ has_no_lf bytes = list_all (λ b. not (b == lf)) bytes
 abbrev pub is_field : List ℕ → Bool
 is_field bytes = list_all (λ b. not (b == space) && not (b == lf)) bytes
 
--- A line of these fields, the command word first: one space between each two, CR LF at the end, and no more bytes than a line may have.
+-- A line of these fields, the command word first: one space between each two, CR LF at the end, and no more bytes than
+-- a line may have.
 pub record IsLine (fields : List (List ℕ)) (bytes : List ℕ) : Type 0 where
   pub spelled : bytes ≡ join_with_byte space fields ++ crlf
   pub separate : IsTrue (list_all is_field fields)
@@ -61,7 +63,8 @@ pub record AreKeys (fields : List (List ℕ)) : Type 0 where
   pub some : 1 ≤ length fields
   pub each : IsTrue (list_all is_key fields)
 
--- What a storage word makes of the flags, and of the fields between the size and `noreply`: there `cas` has a unique, and the others nothing.
+-- What a storage word makes of the flags, and of the fields between the size and `noreply`: there `cas` has a unique,
+-- and the others nothing.
 -- An append and a prepend leave an item's flags.
 abbrev pub IsVerb : Storing → ℕ → List (List ℕ) → Verb → Type 0
 IsVerb Set flags own verb = (own ≡ []) × (verb ≡ verbs.Set flags)
@@ -69,7 +72,8 @@ IsVerb Add flags own verb = (own ≡ []) × (verb ≡ verbs.Add flags)
 IsVerb Replace flags own verb = (own ≡ []) × (verb ≡ verbs.Replace flags)
 IsVerb Append flags own verb = (own ≡ []) × (verb ≡ verbs.Append)
 IsVerb Prepend flags own verb = (own ≡ []) × (verb ≡ verbs.Prepend)
-IsVerb Cas flags own verb = (field : List ℕ) × (unique : ℕ) × (own ≡ field ∷ []) × (number_of (2 ^ 64) field ≡ Some unique) × (verb ≡ verbs.Cas flags unique)
+IsVerb Cas flags own verb = (field : List ℕ) × (unique : ℕ) × (own ≡ field ∷ [])
+    × (number_of (2 ^ 64) field ≡ Some unique) × (verb ≡ verbs.Cas flags unique)
 
 -- set, add, replace, append, prepend: key flags exptime bytes [noreply]; cas: key flags exptime bytes unique [noreply]
 pub record AreStorage (storing : Storing) (fields : List (List ℕ)) (key : List ℕ) (line : StorageLine) : Type 0 where
@@ -122,7 +126,8 @@ pub record IsBlock (key : List ℕ) (line : StorageLine) (block ends bytes : Lis
 
 -- a storage line, its block and two bytes more, of which this is so
 abbrev pub HasBlock : (StorageLine → List ℕ → List ℕ → Type 0) → List ℕ → Type 0
-HasBlock IsSo bytes = (key : List ℕ) × (line : StorageLine) × (block : List ℕ) × (ends : List ℕ) × IsBlock key line block ends bytes × IsSo line block ends
+HasBlock IsSo bytes = (key : List ℕ) × (line : StorageLine) × (block : List ℕ) × (ends : List ℕ)
+    × IsBlock key line block ends bytes × IsSo line block ends
 
 -- a line feed with no CR before it, within the bytes that a line may have
 pub record IsBareLine (bytes : List ℕ) : Type 0 where
@@ -134,11 +139,13 @@ pub record IsBareLine (bytes : List ℕ) : Type 0 where
 
 -- a line whose first field is no command word
 abbrev pub IsUnknown : List ℕ → Type 0
-IsUnknown bytes = (field : List ℕ) × (fields : List (List ℕ)) × IsLine (field ∷ fields) bytes × ((word : Word) → field ≢ spelling word)
+IsUnknown bytes = (field : List ℕ) × (fields : List (List ℕ)) × IsLine (field ∷ fields) bytes
+    × ((word : Word) → field ≢ spelling word)
 
 -- a command whose fields don't fit it
 abbrev pub IsMisfit : List ℕ → Type 0
-IsMisfit bytes = (word : Word) × (fields : List (List ℕ)) × IsLine (spelling word ∷ fields) bytes × (Fitting word fields → ⊥)
+IsMisfit bytes =
+    (word : Word) × (fields : List (List ℕ)) × IsLine (spelling word ∷ fields) bytes × (Fitting word fields → ⊥)
 
 -- these bytes, and no fewer, spell the request
 abbrev pub Spells : Request → List ℕ → Type 0
@@ -146,14 +153,18 @@ abbrev pub Spells : Request → List ℕ → Type 0
 Spells (requests.Get keys unique) bytes = IsLine (spelling (get_word unique) ∷ keys) bytes × AreKeys keys
 -- a storage line without an expiry time, and a block of data within the limit, with CR LF after it
 Spells (requests.Store key op silent) bytes =
-    (line : StorageLine) × (block : List ℕ) × IsBlock key line block crlf bytes × (length block ≤ limit) × (line.expires ≡ false)
+    (line : StorageLine) × (block : List ℕ) × IsBlock key line block crlf bytes × (length block ≤ limit)
+    × (line.expires ≡ false)
     × (op_of line.verb block ≡ op) × (line.silent ≡ silent)
 -- incr <key> <value>, decr <key> <value>
-Spells (requests.Arith key (ops.Incr amount) silent) bytes = (fields : List (List ℕ)) × IsLine (spelling Incr ∷ fields) bytes × AreCounter fields key amount silent
-Spells (requests.Arith key (ops.Decr amount) silent) bytes = (fields : List (List ℕ)) × IsLine (spelling Decr ∷ fields) bytes × AreCounter fields key amount silent
+Spells (requests.Arith key (ops.Incr amount) silent) bytes =
+    (fields : List (List ℕ)) × IsLine (spelling Incr ∷ fields) bytes × AreCounter fields key amount silent
+Spells (requests.Arith key (ops.Decr amount) silent) bytes =
+    (fields : List (List ℕ)) × IsLine (spelling Decr ∷ fields) bytes × AreCounter fields key amount silent
 Spells (requests.Arith key other silent) bytes = ⊥
 -- delete <key>
-Spells (requests.Delete key silent) bytes = (fields : List (List ℕ)) × IsLine (spelling Delete ∷ fields) bytes × AreDelete fields key silent
+Spells (requests.Delete key silent) bytes =
+    (fields : List (List ℕ)) × IsLine (spelling Delete ∷ fields) bytes × AreDelete fields key silent
 -- flush_all
 Spells (requests.Flush silent) bytes = IsLine (spelling FlushAll ∷ noreply silent) bytes
 -- quit
@@ -165,5 +176,6 @@ Spells (requests.Bad TooLarge) bytes = HasBlock (λ line block ends. limit < len
 -- and so is one with an expiry time, whatever its last two bytes
 Spells (requests.Bad Expiry) bytes = HasBlock (λ line block ends. (length block ≤ limit) × (line.expires ≡ true)) bytes
 -- data that CR LF doesn't follow
-Spells (requests.Bad DataChunk) bytes = HasBlock (λ line block ends. (length block ≤ limit) × (line.expires ≡ false) × (ends ≢ crlf)) bytes
+Spells (requests.Bad DataChunk) bytes =
+    HasBlock (λ line block ends. (length block ≤ limit) × (line.expires ≡ false) × (ends ≢ crlf)) bytes
 Spells (requests.Bad LineTooLong) bytes = (length bytes ≡ line_limit) × IsTrue (has_no_lf bytes)

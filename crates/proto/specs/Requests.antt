@@ -1,5 +1,6 @@
 -- What the line at the front of a stream asks for, as a function.
-use Rattle.std.specs.Prelude.{ℕ, ◌+◌, ◌-◌, ◌^◌, Bool, true, false, ◌&&◌, nat_lt, nat_le, ◌==◌, List, [], ◌∷◌, length, take, Option, None, Some, if◌then◌else◌, slice_index, codes}
+use Rattle.std.specs.Prelude.{ℕ, ◌+◌, ◌-◌, ◌^◌, Bool, true, false, ◌&&◌, nat_lt, nat_le, ◌==◌, List, [], ◌∷◌, length}
+use Rattle.std.specs.Prelude.{take, Option, None, Some, if◌then◌else◌, slice_index, codes}
 use Rattle.std.specs.Option.{option_and_then, option_map}
 use Rattle.std.specs.Str.{bytes_eq}
 use Rattle.table.specs.Items.{limit}
@@ -63,7 +64,8 @@ verb_of Prepend flags fields = Some (verbs.Prepend, fields)
 verb_of Cas flags [] = None
 verb_of Cas flags (field ∷ fields) = option_map (λ unique. (verbs.Cas flags unique, fields)) (number_of (2 ^ 64) field)
 
--- what stands after the key of a storage line: flags exptime bytes, for a `cas` a unique, then `noreply` or nothing (protocol.txt, "Storage commands")
+-- what stands after the key of a storage line: flags exptime bytes, for a `cas` a unique, then `noreply` or nothing
+-- (protocol.txt, "Storage commands")
 abbrev pub storage_line : Storing → List (List ℕ) → Option StorageLine
 storage_line storing (flags ∷ exptime ∷ size ∷ fields) = do
   flags ← number_of (2 ^ 32) flags
@@ -128,8 +130,10 @@ abbrev pub asked_of : Word → List (List ℕ) → Option Asked
 asked_of Get fields = option_map Whole (get_line false fields)
 asked_of Gets fields = option_map Whole (get_line true fields)
 asked_of (Store storing) fields = option_map Behind (store_line storing fields)
-asked_of Incr fields = option_map (λ line. Whole (requests.Arith line.key (ops.Incr line.amount) line.silent)) (counter_line fields)
-asked_of Decr fields = option_map (λ line. Whole (requests.Arith line.key (ops.Decr line.amount) line.silent)) (counter_line fields)
+asked_of Incr fields =
+    option_map (λ line. Whole (requests.Arith line.key (ops.Incr line.amount) line.silent)) (counter_line fields)
+asked_of Decr fields =
+    option_map (λ line. Whole (requests.Arith line.key (ops.Decr line.amount) line.silent)) (counter_line fields)
 asked_of Delete fields = option_map Whole (delete_line fields)
 asked_of FlushAll fields = option_map Whole (flush_line fields)
 asked_of Quit fields = option_map Whole (quit_line fields)
@@ -152,7 +156,8 @@ by_fields (field ∷ fields) = by_word (word_of field) fields
 -- a line without its LF: its text is what stands before a CR, and without a CR it asks for nothing known
 abbrev pub by_line : List ℕ → Asked
 by_line line =
-    if nat_le 1 (length line) && slice_index line (length line - 1) == cr then by_fields (fields_of (take (length line - 1) line))
+    if nat_le 1 (length line) && slice_index line (length line - 1) == cr then by_fields
+    (fields_of (take (length line - 1) line))
     else Whole (requests.Bad Command)
 
 -- by the place of the first LF: what the line asks for, and how many bytes it has

@@ -1,5 +1,6 @@
 -- What a session holds, and what each of its calls makes of it.
-use Rattle.std.specs.Prelude.{◌≡◌, ℕ, ◌-◌, ◌==◌, ◌≤◌, Bool, true, false, not, List, [], ◌∷◌, ◌++◌, length, drop, Option, None, Some, if◌then◌else◌}
+use Rattle.std.specs.Prelude.{◌≡◌, ℕ, ◌-◌, ◌==◌, ◌≤◌, Bool, true, false, not, List, [], ◌∷◌, ◌++◌, length, drop, Option}
+use Rattle.std.specs.Prelude.{None, Some, if◌then◌else◌}
 use Rattle.table.specs.Operations.{Fits, Suits, is_update, is_value}
 use Rattle.table.specs.declared.operations.Target.{Target}
 use Rattle.table.specs.declared.operations.Target.TheVariants.{One, All}
@@ -19,8 +20,10 @@ use Rattle.proto.specs.declared.sessions.Step.TheVariants.{Call, Emit, Wait, Clo
 use Rattle.proto.specs.Fronts.{found_at, is_last}
 use Rattle.proto.specs.Turns.{Turn, Faulty, Calls, look, none_left, form_of, fault_text, text}
 
--- What a session holds: the bytes that no request has taken yet, the refused block that it passes over, the keys that the get
--- at hand has still to read and whether it shows uniques, the form of the open call's answer, the output that was not yet taken,
+-- What a session holds: the bytes that no request has taken yet, the refused block that it passes over, the keys that
+-- the get
+-- at hand has still to read and whether it shows uniques, the form of the open call's answer, the output that was not
+-- yet taken,
 -- and whether it is closed.
 pub record Held : Type 0 where
   pub unread : List ℕ
@@ -47,7 +50,8 @@ passed (Some p) piece = Some (record p { left = p.left - length piece })
 
 -- more bytes; a closed session takes none
 abbrev pub fed : Held → List ℕ → Held
-fed h piece = if h.closed then h else record h { unread = h.unread ++ kept h.passing piece; passing = passed h.passing piece }
+fed h piece =
+    if h.closed then h else record h { unread = h.unread ++ kept h.passing piece; passing = passed h.passing piece }
 
 -- the refused block has still to come for as many bytes at least
 abbrev pub IsWithinPassing : Option Passing → List ℕ → Type 0
@@ -83,7 +87,8 @@ by_request (Arith key op silent) h = opened (One key) op (form_of silent) h
 by_request (Delete key silent) h = opened (One key) DeleteOp (form_of silent) h
 by_request (Flush silent) h = opened All FlushOp (form_of silent) h
 by_request Quit h = (None, record h { closed = true })
-by_request (Bad fault) h = (Some (Faulty fault), record h { out = h.out ++ fault_text fault; closed = is_last (Bad fault) })
+by_request (Bad fault) h =
+    (Some (Faulty fault), record h { out = h.out ++ fault_text fault; closed = is_last (Bad fault) })
 
 -- the first turn of what is at the front; if that is an incomplete refused block, its bytes are skipped from now on
 abbrev pub by_found : Found → Held → Given

@@ -1,5 +1,6 @@
 -- Whole streams: their requests, their turns and the texts of these; and the turns that a session has still to give.
-use Rattle.std.specs.Prelude.{◌≡◌, ℕ, zero, suc, ◌+◌, ◌<◌, ◌==◌, Bool, ◌||◌, List, [], ◌∷◌, ◌++◌, length, drop, Option, None, Some, is_some, if◌then◌else◌}
+use Rattle.std.specs.Prelude.{◌≡◌, ℕ, zero, suc, ◌+◌, ◌<◌, ◌==◌, Bool, ◌||◌, List, [], ◌∷◌, ◌++◌, length, drop, Option}
+use Rattle.std.specs.Prelude.{None, Some, is_some, if◌then◌else◌}
 use Rattle.std.specs.List.{flat_map, list_any}
 use Rattle.table.specs.declared.operations.Reply.{Reply}
 use Rattle.proto.specs.declared.passing.Passing.{Passing}
@@ -47,7 +48,8 @@ texts (Calls call form ∷ ts) (reply ∷ replies) = text form reply ++ texts ts
 -- the requests that a session's bytes have still to give: if a refused block is being passed over, none before its end
 abbrev pub unread_requests : Option Passing → List ℕ → List Request
 unread_requests None unread = requests unread
-unread_requests (Some p) unread = if p.left == 0 then Bad p.fault ∷ (if is_last (Bad p.fault) then [] else requests unread) else []
+unread_requests (Some p) unread =
+    if p.left == 0 then Bad p.fault ∷ (if is_last (Bad p.fault) then [] else requests unread) else []
 
 -- the turns that a session's bytes have still to give: if a refused block is being passed over, none before its end
 abbrev pub unread_turns : Option Passing → List ℕ → List Turn

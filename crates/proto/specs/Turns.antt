@@ -1,12 +1,14 @@
 -- Turns: what a request asks of the table, one call after another, and what is written for each.
-use Rattle.std.specs.Prelude.{ℕ, Bool, true, false, List, [], ◌∷◌, ◌++◌, Option, None, Some, if◌then◌else◌, decimal, length, codes}
+use Rattle.std.specs.Prelude.{ℕ, Bool, true, false, List, [], ◌∷◌, ◌++◌, Option, None, Some, if◌then◌else◌, decimal}
+use Rattle.std.specs.Prelude.{length, codes}
 use Rattle.table.specs.declared.items.Item.{Item}
 use Rattle.table.specs.declared.operations.Call.{Call}
 use Rattle.table.specs.declared.operations.Target.TheVariants.{One, All}
 use Rattle.table.specs.declared.operations.Op.{Op}
 use Rattle.table.specs.declared.operations.Op.TheVariants.{Read, Delete as DeleteOp, Flush as FlushOp}
 use Rattle.table.specs.declared.operations.Reply.{Reply}
-use Rattle.table.specs.declared.operations.Reply.TheVariants.{Stored, NotStored, Exists, NotFound, Deleted, Number, Value, TooLarge as TooLargeReply, NotNumber, Flushed}
+use Rattle.table.specs.declared.operations.Reply.TheVariants.{Stored, NotStored, Exists, NotFound, Deleted, Number}
+use Rattle.table.specs.declared.operations.Reply.TheVariants.{Value, TooLarge as TooLargeReply, NotNumber, Flushed}
 use Rattle.proto.specs.Words.{space, crlf}
 use Rattle.proto.specs.declared.requests.Fault.{Fault}
 use Rattle.proto.specs.declared.requests.Fault.TheVariants.{Command, Format, DataChunk, TooLarge, LineTooLong, Expiry}
@@ -40,7 +42,9 @@ none_left (key ∷ keys) = false
 
 -- a read of one key of a get, before these keys
 abbrev pub look : List ℕ → Bool → List (List ℕ) → Turn
-look key unique later = Calls (record { target = One key; op = Read }) (Show (record { key = key; unique = unique; last = none_left later }))
+look key unique later =
+    Calls (record { target = One key; op = Read })
+    (Show (record { key = key; unique = unique; last = none_left later }))
 
 -- one read for each key, in order
 abbrev pub looks : List (List ℕ) → Bool → List Turn
@@ -85,7 +89,8 @@ unique_text unique n = if unique then number_text n else []
 -- VALUE <key> <flags> <bytes> [<unique>] (protocol.txt, "Retrieval command")
 abbrev pub value_line : List ℕ → Bool → Item → List ℕ
 value_line key unique item =
-    codes "VALUE " ++ key ++ number_text item.flags ++ number_text (length item.bytes) ++ unique_text unique item.unique ++ crlf
+    codes "VALUE " ++ key ++ number_text item.flags ++ number_text (length item.bytes) ++ unique_text unique
+    item.unique ++ crlf
 
 -- the line of an item, its data, and CR LF
 abbrev pub value_text : List ℕ → Bool → Item → List ℕ

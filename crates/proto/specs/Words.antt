@@ -1,5 +1,6 @@
 -- Bytes of lines and fields.
-use Rattle.std.specs.Prelude.{ℕ, Bool, false, not, nat_le, ◌==◌, ◌&&◌, List, [], ◌∷◌, length, Option, None, Some, unwrap_or, if◌then◌else◌, codes}
+use Rattle.std.specs.Prelude.{ℕ, Bool, false, not, nat_le, ◌==◌, ◌&&◌, List, [], ◌∷◌, length, Option, None, Some}
+use Rattle.std.specs.Prelude.{unwrap_or, if◌then◌else◌, codes}
 use Rattle.std.specs.List.{list_all, slice_split, position}
 use Rattle.std.specs.Char.{is_ascii_digit}
 
@@ -33,7 +34,8 @@ first_space text = position (λ b. b == space) text
 abbrev pub first_end : List ℕ → ℕ
 first_end text = unwrap_or (first_space text) (length text)
 
--- the fields of a line's text, cut at each single space: two spaces together, or one at an end, make an empty field (this project's rule)
+-- the fields of a line's text, cut at each single space: two spaces together, or one at an end, make an empty field
+-- (this project's rule)
 abbrev pub fields_of : List ℕ → List (List ℕ)
 fields_of text = slice_split (λ b. b == space) text
 
@@ -49,7 +51,8 @@ noreply_word = codes "noreply"
 -- an expiry time: digits, or a minus and digits
 abbrev pub is_exptime : List ℕ → Bool
 is_exptime [] = false
-is_exptime (c ∷ cs) = if c == 45 then nat_le 1 (length cs) && list_all is_ascii_digit cs else list_all is_ascii_digit (c ∷ cs)
+is_exptime (c ∷ cs) =
+    if c == 45 then nat_le 1 (length cs) && list_all is_ascii_digit cs else list_all is_ascii_digit (c ∷ cs)
 
 -- one that is made of the digit 0 alone
 abbrev pub is_zero : List ℕ → Bool

@@ -6,7 +6,8 @@ ghost use Rattle.std.specs.Option.{option_copied};
 ghost use Rattle.table.specs.Numbers.{number_of};
 ghost use Rattle.proto.specs.Keys.{key_of};
 ghost use Rattle.proto.specs.Requests.{silence_of};
-ghost use Rattle.proto.specs.Words.{first_lf, first_space, first_end, fields_of, fields_left, is_exptime, is_zero, expiry_of};
+ghost use Rattle.proto.specs.Words.{first_lf, first_space, first_end, fields_of, fields_left, is_exptime, is_zero};
+ghost use Rattle.proto.specs.Words.{expiry_of};
 
 use memchr::memchr;
 use std::alloc::{AllocError, Global};
@@ -21,8 +22,8 @@ pub fn first_line_end(bytes: &[u8]) -> Option<usize>
     memchr(b'\n', bytes)
 }
 
-/// The fields of a text that are left, cut at each single space by a vector search. They borrow the text, and nothing is allocated.
-/// Contracts see the list of them.
+/// The fields of a text that are left, cut at each single space by a vector search. They borrow the text, and nothing
+/// is allocated. Contracts see the list of them.
 #[derive(Drop)]
 pub struct Fields<'a> {
     rest: Option<&'a [u8]>,

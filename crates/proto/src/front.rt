@@ -95,7 +95,8 @@ fn behind(
 
 // A refused block that ends after `end` bytes, if `come` bytes have come.
 fn refused(fault: Fault, end: usize, come: usize) -> Found
-    ensures { result ≡ found_of (if nat_lt come end then None else Some (Bad fault, end)) (Some (record { fault = fault; left = end - come })) }
+    ensures { result ≡ found_of (if nat_lt come end then None else Some (Bad fault, end))
+        (Some (record { fault = fault; left = end - come })) }
 {
     if come < end {
         Found::Refused(Passing {
@@ -138,7 +139,8 @@ fn finished(
     ends: &[u8],
 ) -> Result<Request, AllocError>
     requires { length block.now ≤ limit }
-    ensures value { IfOk result (λ request. request ≡ finished (Put announced.key announced.verb announced.silent) block.now ends.now) }
+    ensures value { IfOk result
+        (λ request. request ≡ finished (Put announced.key announced.verb announced.silent) block.now ends.now) }
     ensures whole { IfOk result IsWhole }
 {
     if ends != b"\r\n".as_slice() {

@@ -67,9 +67,11 @@ impl Keys {
         Ok(Some(Keys { text }))
     }
 
-    /// Takes the first key off, in time of its length, with a copy. Both share the text's bytes. A refusal changes nothing.
+    /// Takes the first key off, in time of its length, with a copy. Both share the text's bytes. A refusal changes
+    /// nothing.
     pub fn pop(&mut self) -> Result<Option<(Key, Key)>, AllocError>
-        ensures ok { IfOk result (λ o. MatchOption o ((self.old ≡ []) × (self.new ≡ [])) (λ p. (p.0 ≡ p.1) × (self.old ≡ p.0 ∷ self.new))) }
+        ensures ok { IfOk result
+            (λ o. MatchOption o ((self.old ≡ []) × (self.new ≡ [])) (λ p. (p.0 ≡ p.1) × (self.old ≡ p.0 ∷ self.new))) }
         ensures err { OnErr result (self.new ≡ self.old) }
     {
         pop_key(&mut self.text)
@@ -98,7 +100,9 @@ fn are_keys(text: &[u8]) -> bool
 fn pop_key(text: &mut Bytes) -> Result<Option<(Key, Key)>, AllocError>
     requires keys { list_all is_key (keys_in text.old) ≡ true }
     ensures keys { list_all is_key (keys_in text.new) ≡ true }
-    ensures ok { IfOk result (λ o. MatchOption o ((keys_in text.old ≡ []) × (keys_in text.new ≡ [])) (λ p. (p.0 ≡ p.1) × (keys_in text.old ≡ p.0 ∷ keys_in text.new))) }
+    ensures ok { IfOk result
+        (λ o. MatchOption o ((keys_in text.old ≡ []) × (keys_in text.new ≡ []))
+        (λ p. (p.0 ≡ p.1) × (keys_in text.old ≡ p.0 ∷ keys_in text.new))) }
     ensures err { OnErr result (text.new ≡ text.old) }
 {
     let at = first_end(text.as_slice());

@@ -34,8 +34,8 @@ pub fn calls_have_replies()
         → length run.replies + open_calls run.held.asked ≡ length (calls_of run.given) }
 {}
 
-/// An open session that has no turn to give holds less than a line and a block of the largest size, with its two bytes more:
-/// no client can make it keep more.
+/// An open session that has no turn to give holds less than a line and a block of the largest size, with its two bytes
+/// more: no client can make it keep more.
 pub fn holds_little()
     ensures { (run : Run) → IsRun run → (next_of run.held).0 ≡ None → (next_of run.held).1.closed ≡ false
         → length (next_of run.held).1.unread < line_limit + limit + 2 }

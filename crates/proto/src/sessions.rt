@@ -22,9 +22,9 @@ pub enum Step {
     Close,
 }
 
-/// One connection's side of the protocol: it is fed with bytes in any pieces, gives their requests as steps, one call at a time,
-/// and keeps the output until it is taken. Fed with n bytes, it moves O(n) bytes in all, however they are cut.
-/// Of a block that is refused for its size or its expiry time it keeps no byte once `next` has met its line.
+/// One connection's side of the protocol: it is fed with bytes in any pieces, gives their requests as steps, one call
+/// at a time, and keeps the output until it is taken. Fed with n bytes, it moves O(n) bytes in all, however they are
+/// cut. Of a block that is refused for its size or its expiry time it keeps no byte once `next` has met its line.
 #[derive(Drop)]
 pub struct Session {
     pub(crate) alloc: Global,
@@ -44,14 +44,24 @@ impl Model for Session {
 
     ghost Value = { Held };
 
-    ghost view = { λ s. record { unread = s.unread.items; passing = s.passing; later = s.later; unique = s.unique; asked = s.asked; out = s.out.items; closed = s.closed } };
+    ghost view = { λ s. record {
+      unread = s.unread.items;
+      passing = s.passing;
+      later = s.later;
+      unique = s.unique;
+      asked = s.asked;
+      out = s.out.items;
+      closed = s.closed;
+    } };
 
     ghost invariant = { λ s. IsKnown s.pending s.unread.items };
 }
 
 impl Session {
-    ghost use Rattle.std.specs.Prelude.{◌≡◌, ◌↔◌, ◌≤◌, drop, length, true, None, IsOk, IfOk, OnOk, OnErr, IsErrOf, IsOkUnless};
-    ghost use Rattle.proto.specs.Sessions.{fresh, fed, next_of, step_of, answered_by, CanAnswer, IsInside, IsOpen, Tells};
+    ghost use Rattle.std.specs.Prelude.{◌≡◌, ◌↔◌, ◌≤◌, drop, length, true, None, IsOk, IfOk, OnOk, OnErr, IsErrOf};
+    ghost use Rattle.std.specs.Prelude.{IsOkUnless};
+    ghost use Rattle.proto.specs.Sessions.{fresh, fed, next_of, step_of, answered_by, CanAnswer, IsInside, IsOpen};
+    ghost use Rattle.proto.specs.Sessions.{Tells};
     ghost use Rattle.proto.specs.Streams.{LeavesFewer, most_turns};
 
     /// A session that was fed with nothing. It allocates nothing.
@@ -90,8 +100,8 @@ impl Session {
     }
 
     /// The next turn, if no call is open: a call, which is open from now on, or a fault, whose line is written at once.
-    /// `Memory` is its only refusal, and changes nothing. A line that isn't whole is searched again at each call, at most
-    /// 2,048 bytes; a block that hasn't all come costs a comparison.
+    /// `Memory` is its only refusal, and changes nothing. A line that isn't whole is searched again at each call, at
+    /// most 2,048 bytes; a block that hasn't all come costs a comparison.
     pub fn next(&mut self) -> Result<Step, ProtoFault>
         requires idle { self.old.asked ≡ None }
         ensures step { IfOk result (λ step. step ≡ step_of (next_of self.old)) }

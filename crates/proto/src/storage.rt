@@ -50,7 +50,8 @@ pub struct StorageLine {
 
 // The verb of a storage word, with the flags of its line; a `cas` takes the next field as its unique.
 fn verb_of(storing: Storing, flags: u32, fields: &mut Fields<'_>) -> Option<Verb>
-    ensures { MatchOption result (verb_of storing flags fields.old ≡ None) (λ verb. verb_of storing flags fields.old ≡ Some (verb, fields.new)) }
+    ensures { MatchOption result (verb_of storing flags fields.old ≡ None)
+        (λ verb. verb_of storing flags fields.old ≡ Some (verb, fields.new)) }
 {
     match storing {
         Storing::Set => Some(Verb::Set(flags)),

@@ -1,7 +1,8 @@
 //! Texts: what is written for faults and replies.
 ghost use Rattle.std.specs.Prelude.{◌≡◌, ◌+◌, ◌≤◌, ◌++◌, false, decimal, length, OnOk, OnErr};
 ghost use Rattle.proto.specs.Words.{crlf};
-ghost use Rattle.proto.specs.Turns.{fault_text, is_number, status_text, text, end_text, value_text, value_line, unique_text, number_text};
+ghost use Rattle.proto.specs.Turns.{fault_text, is_number, status_text, text, end_text, value_text, value_line};
+ghost use Rattle.proto.specs.Turns.{unique_text, number_text};
 
 use crate::Fault;
 use bytes::BytesMut;
@@ -108,7 +109,9 @@ fn write_number(out: &mut BytesMut, n: u64) -> Result<(), AllocError>
 }
 
 fn write_value(out: &mut BytesMut, look: &Look, item: &Item) -> Result<(), AllocError>
-    ensures ok { OnOk result (out.new.items ≡ out.old.items ++ (value_text look.now.key look.now.unique item.now ++ end_text look.now.last)) }
+    ensures ok { OnOk result
+        (out.new.items ≡ out.old.items
+        ++ (value_text look.now.key look.now.unique item.now ++ end_text look.now.last)) }
     ensures err { OnErr result (out.new.items ≡ out.old.items) }
 {
     let key = look.key.bytes();

@@ -134,7 +134,8 @@ impl Session {
         requires aimed { Suits target op }
         requires update { is_update op ≡ true }
         ensures step { result ≡ Step.Call target op }
-        ensures left { self.new ≡ (opened target op (form_of silent) (record self.old { unread = drop n self.old.unread })).1 }
+        ensures left { self.new
+            ≡ (opened target op (form_of silent) (record self.old { unread = drop n self.old.unread })).1 }
         ensures opens { IsOpen result self.new.asked }
     {
         self.consume(n);

@@ -1,5 +1,6 @@
 -- How a talk goes on, one action after another, and what it comes to.
-use Rattle.std.proofs.Common.{◌≡◌, ℕ, ◌+◌, Bool, true, false, List, [], ◌∷◌, ◌++◌, length, take, Option, None, Some, refl, sym, ap, subst, ◌∙◌, arith, append_assoc, append-nil}
+use Rattle.std.proofs.Common.{◌≡◌, ℕ, ◌+◌, Bool, true, false, List, [], ◌∷◌, ◌++◌, length, take, Option, None, Some}
+use Rattle.std.proofs.Common.{refl, sym, ap, subst, ◌∙◌, arith, append_assoc, append-nil}
 use Rattle.std.proofs.lemmas.List.{take_all, drop_all}
 use Rattle.table.specs.declared.operations.Call.{Call}
 use Rattle.table.specs.declared.operations.Reply.{Reply}
@@ -8,7 +9,8 @@ use Rattle.proto.specs.declared.texts.Form.{Form}
 use Rattle.proto.specs.Turns.{Turn, Faulty, Calls, calls_of}
 use Rattle.proto.specs.Sessions.{Held, fresh, fed, next_of, answered_by, CanAnswer}
 use Rattle.proto.specs.Streams.{ends, texts, to_come, turns}
-use Rattle.proto.specs.Runs.{Feed, Next, Answer, Take, Run, IsRun, Opens, Acts, opening_run, acted, turn_given, taken_from, open_calls}
+use Rattle.proto.specs.Runs.{Feed, Next, Answer, Take, Run, IsRun, Opens, Acts, opening_run, acted, turn_given}
+use Rattle.proto.specs.Runs.{taken_from, open_calls}
 use Rattle.std.proofs.Common.{Result, Ok, Err, IfOk, OnOk, IsErr, MatchResult}
 use Rattle.ends.specs.Ends.{WritesBeginning}
 use Rattle.serving.specs.declared.serving.ServeFault.{ServeFault}

@@ -1,12 +1,15 @@
 -- What one operation answers and does: one line a case.
-use Rattle.std.specs.Prelude.{ℕ, ◌+◌, ◌-◌, ◌^◌, ◌%◌, ◌==◌, nat_le, List, ◌++◌, length, Option, None, Some, decimal, if◌then◌else◌}
+use Rattle.std.specs.Prelude.{ℕ, ◌+◌, ◌-◌, ◌^◌, ◌%◌, ◌==◌, nat_le, List, ◌++◌, length, Option, None, Some, decimal}
+use Rattle.std.specs.Prelude.{if◌then◌else◌}
 use Rattle.table.specs.Items.{limit}
 use Rattle.table.specs.Numbers.{counter_of}
 use Rattle.table.specs.declared.items.Item.{Item}
 use Rattle.table.specs.declared.operations.Op.{Op}
-use Rattle.table.specs.declared.operations.Op.TheVariants.{Read, Set, Add, Replace, Append, Prepend, Cas, Incr, Decr, Delete, Flush}
+use Rattle.table.specs.declared.operations.Op.TheVariants.{Read, Set, Add, Replace, Append, Prepend, Cas, Incr, Decr}
+use Rattle.table.specs.declared.operations.Op.TheVariants.{Delete, Flush}
 use Rattle.table.specs.declared.operations.Reply.{Reply}
-use Rattle.table.specs.declared.operations.Reply.TheVariants.{Stored, NotStored, Exists, NotFound, Deleted, Number, Value, TooLarge, NotNumber, Flushed}
+use Rattle.table.specs.declared.operations.Reply.TheVariants.{Stored, NotStored, Exists, NotFound, Deleted, Number}
+use Rattle.table.specs.declared.operations.Reply.TheVariants.{Value, TooLarge, NotNumber, Flushed}
 use Rattle.table.specs.declared.operations.Change.{Change}
 use Rattle.table.specs.declared.operations.Change.TheVariants.{Keep, Put, Drop, Clear}
 
@@ -37,7 +40,8 @@ lowered flags None amount number = (NotNumber, Keep)
 lowered flags (Some old) amount number = counted flags (old - amount) number
 
 -- the reply and the change of an operation at a key that has this item or none, under this number
--- (protocol.txt, "Storage commands", "Retrieval command", "Deletion", "Increment/Decrement", and "Other commands" on flush_all;
+-- (protocol.txt, "Storage commands", "Retrieval command", "Deletion", "Increment/Decrement", and "Other commands" on
+-- flush_all;
 -- that an item's unique is its number, and what counts as a counter, are this project's rules)
 abbrev pub decision : Option Item → Op → ℕ → Decision
 decision item Read number = (Value item, Keep)
@@ -51,7 +55,8 @@ decision (Some old) (Append bytes) number = grown old.flags (old.bytes ++ bytes)
 decision None (Prepend bytes) number = (NotStored, Keep)
 decision (Some old) (Prepend bytes) number = grown old.flags (bytes ++ old.bytes) number
 decision None (Cas flags bytes unique) number = (NotFound, Keep)
-decision (Some old) (Cas flags bytes unique) number = if old.unique == unique then (Stored, put flags bytes number) else (Exists, Keep)
+decision (Some old) (Cas flags bytes unique) number =
+    if old.unique == unique then (Stored, put flags bytes number) else (Exists, Keep)
 decision None (Incr amount) number = (NotFound, Keep)
 decision (Some old) (Incr amount) number = raised old.flags (counter_of old.bytes) amount number
 decision None (Decr amount) number = (NotFound, Keep)

@@ -9,4 +9,5 @@ limit = 1048576
 
 -- an item is stored as its three fields
 abbrev pub coded_item : Coded Item
-coded_item = code_by (ℕ × (List ℕ × ℕ)) (coded× coded_ℕ (coded× (coded_list coded_ℕ) coded_ℕ)) (λ i. (i.flags, (i.bytes, i.unique))) (λ p. record { flags = p.0; bytes = p.1.0; unique = p.1.1 }) (λ _. refl)
+coded_item = code_by (ℕ × (List ℕ × ℕ)) (coded× coded_ℕ (coded× (coded_list coded_ℕ) coded_ℕ))
+    (λ i. (i.flags, (i.bytes, i.unique))) (λ p. record { flags = p.0; bytes = p.1.0; unique = p.1.1 }) (λ _. refl)

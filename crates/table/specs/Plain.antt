@@ -52,15 +52,20 @@ pub record PlainTable : Type 0 where
 
 -- a table is stored as its two fields
 abbrev pub coded_table : Coded PlainTable
-coded_table = code_by (Items × ℕ) (coded× (map.code (coded_list coded_ℕ) coded_item) coded_ℕ) (λ t. (t.items, t.count)) (λ p. record { items = p.0; count = p.1 }) (λ _. refl)
+coded_table = code_by (Items × ℕ) (coded× (map.code (coded_list coded_ℕ) coded_item) coded_ℕ) (λ t. (t.items, t.count))
+    (λ p. record { items = p.0; count = p.1 }) (λ _. refl)
 
 -- the empty table
 abbrev pub opening : PlainTable
 opening = record { items = map.empty; count = 0 }
 
 -- the reply to an operation on a target, and the table after it:
--- the operation is decided with the next number, and every operation but a read takes that number, refused or not (this project's rule)
+-- the operation is decided with the next number, and every operation but a read takes that number, refused or not (this
+-- project's rule)
 abbrev pub apply : PlainTable → Target → Op → Reply × PlainTable
 apply t target op =
-    let decided = decision (item_of t.items target) op (t.count + 1) in
-    (decided.0, record { items = changed t.items target decided.1; count = if is_update op then t.count + 1 else t.count })
+    let decided = decision (item_of t.items target) op (t.count + 1) in (
+      decided.0,
+      record
+          { items = changed t.items target decided.1; count = if is_update op then t.count + 1 else t.count },
+    )

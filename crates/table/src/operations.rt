@@ -39,7 +39,8 @@ pub enum Op {
     Decr(u64),
     /// Takes the item away (protocol.txt, "Deletion").
     Delete,
-    /// Takes all items away (protocol.txt, "Other commands"). It is the operation on all keys at once, and the only one.
+    /// Takes all items away (protocol.txt, "Other commands"). It is the operation on all keys at once, and the only
+    /// one.
     Flush,
 }
 

@@ -70,9 +70,9 @@ impl Table {
         }
     }
 
-    /// Carries out one operation on its target: in time logarithmic in the number of keys on one key, linear on all of them.
-    /// Refused with `Memory`, or with `Exhausted` exactly for an update at count 2^64 - 1; the table stays as it was on both.
-    /// An append or a prepend copies both pieces.
+    /// Carries out one operation on its target: in time logarithmic in the number of keys on one key, linear on all of
+    /// them. Refused with `Memory`, or with `Exhausted` exactly for an update at count 2^64 - 1; the table stays as it
+    /// was on both. An append or a prepend copies both pieces.
     pub fn call(&mut self, target: &Target, op: &Op) -> Result<Reply, TableFault>
         requires fits { Fits op.now }
         requires aimed { Suits target.now op.now }

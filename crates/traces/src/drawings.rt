@@ -53,9 +53,9 @@ const PALE: &[u8] = b"fill=\"#999999\"";
 
 const VALUE: &[u8] = b"fill=\"#2e7d32\" font-weight=\"bold\"";
 
-/// The picture of a run of these events over a chain whose connections have these homes: SVG 1.1 without script, in time linear
-/// in what the events did. An event that had no effect has no row. It is well-formed for any bytes in keys and data, which it
-/// shows in the escapes of transcripts.
+/// The picture of a run of these events over a chain whose connections have these homes: SVG 1.1 without script, in
+/// time linear in what the events did. An event that had no effect has no row. It is well-formed for any bytes in keys
+/// and data, which it shows in the escapes of transcripts.
 pub fn draw(
     alloc: Global,
     homes: &[usize],

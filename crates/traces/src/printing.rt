@@ -9,8 +9,8 @@ use crate::texts::Text;
 use std::alloc::{AllocError, Global};
 use world::{Event, Trace, print_transcript};
 
-/// The text of a run of these events: for each one its line, and what it did; how the run ends; and its transcript, byte for
-/// byte as `print_transcript` gives it. It takes time linear in what the events did.
+/// The text of a run of these events: for each one its line, and what it did; how the run ends; and its transcript,
+/// byte for byte as `print_transcript` gives it. It takes time linear in what the events did.
 pub fn print_trace(alloc: Global, events: &[Event], trace: Trace) -> Result<Vec<u8>, AllocError>
     ensures { IfOk result (λ text. EndsWithTranscript trace.world text.items) }
 {

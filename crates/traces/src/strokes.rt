@@ -87,7 +87,8 @@ pub fn put_cross(out: &mut Text, at: Place, attributes: &[u8]) -> Result<(), All
     put_line(out, left.moved(0, 7), right.moved_back(0, 7), attributes)
 }
 
-/// Adds a text that begins at a place, with these attributes: at most so many of its bytes, and two dots if there are more.
+/// Adds a text that begins at a place, with these attributes: at most so many of its bytes, and two dots if there are
+/// more.
 pub fn put_text(
     out: &mut Text,
     at: Place,
@@ -122,8 +123,8 @@ pub fn put_label(
     put_text(out, at, attributes, words, most)
 }
 
-// Bytes as the text of an element: what XML gives a meaning is spelled by its entity, and what XML 1.0 has no character for,
-// or no single byte in UTF-8, is a question mark. Texts in the escapes of transcripts have none of these.
+// Bytes as the text of an element: what XML gives a meaning is spelled by its entity, and what XML 1.0 has no character
+// for, or no single byte in UTF-8, is a question mark. Texts in the escapes of transcripts have none of these.
 fn put_marked_up(out: &mut Text, words: &[u8]) -> Result<(), AllocError> {
     for b in words {
         match *b {

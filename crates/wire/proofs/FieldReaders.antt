@@ -1,11 +1,14 @@
 -- Readers of single fields.
-use Rattle.std.proofs.Common.{◌≡◌, ◌⊎◌, ℕ, zero, suc, ◌-◌, ◌*◌, ◌^◌, ◌<◌, ◌≤◌, Bool, true, false, cond, List, [], ◌∷◌, ◌++◌, length, take, drop, Result, Ok, Err, refl, sym, ap, subst, ◌∙◌, arith, inl, inr, length-append, length-drop, length-take}
+use Rattle.std.proofs.Common.{◌≡◌, ◌⊎◌, ℕ, zero, suc, ◌-◌, ◌*◌, ◌^◌, ◌<◌, ◌≤◌, Bool, true, false, cond, List, [], ◌∷◌}
+use Rattle.std.proofs.Common.{◌++◌, length, take, drop, Result, Ok, Err, refl, sym, ap, subst, ◌∙◌, arith, inl, inr}
+use Rattle.std.proofs.Common.{length-append, length-drop, length-take}
 use Rattle.std.specs.Prelude.{nat_lt, not, ◌&&◌}
 use Rattle.std.specs.List.{list_all}
 use Rattle.std.specs.Int.{Width, w16, w32, w64, byte_len, from_be_bytes, to_be_bytes}
 use Rattle.std.proofs.lemmas.Bool.{cases_lt, le-ltb, lt-ltb}
 use Rattle.std.proofs.lemmas.List.{take_at, drop_at, take-append-drop, take-append-le, drop-append-le}
-use Rattle.std.proofs.lemmas.Nat.{be_bytes_2, be_bytes_4, be_bytes_8, from_be_bytes-to_be_bytes_2, from_be_bytes-to_be_bytes_4, from_be_bytes-to_be_bytes_8}
+use Rattle.std.proofs.lemmas.Nat.{be_bytes_2, be_bytes_4, be_bytes_8, from_be_bytes-to_be_bytes_2}
+use Rattle.std.proofs.lemmas.Nat.{from_be_bytes-to_be_bytes_4, from_be_bytes-to_be_bytes_8}
 use Rattle.table.specs.Keys.{is_key_byte}
 use Rattle.wire.specs.declared.fields.Stop.{Stop}
 use Rattle.wire.specs.declared.fields.Stop.TheVariants.{Short, Malformed, Old}
@@ -33,7 +36,9 @@ within_old false x e = cc
 
 -- ---- a byte
 
-pub byte_takes : (range : ℕ → Bool) (bytes : List ℕ) (x : ℕ) (rest : List ℕ) → byte_at range bytes ≡ Ok (x, rest) → (text : List ℕ) × (byte range).Spells x text × (bytes ≡ text ++ rest)
+pub byte_takes : (range : ℕ → Bool) (bytes : List ℕ) (x : ℕ) (rest : List ℕ)
+    → byte_at range bytes ≡ Ok (x, rest)
+    → (text : List ℕ) × (byte range).Spells x text × (bytes ≡ text ++ rest)
 byte_takes range [] x rest e = absurd cc
 byte_takes range (b ∷ bytes) x rest e =
     let w = within_ok (range b) (b, bytes) (x, rest) e in
@@ -41,7 +46,9 @@ byte_takes range (b ∷ bytes) x rest e =
     let behind : bytes ≡ rest = ap (λ (p : ℕ × List ℕ). p.1) w.1 in
     (x ∷ [], (subst (λ n. range n ≡ true) same w.0, refl), rw (same, behind) refl)
 
-byte_again : (range : ℕ → Bool) (x : ℕ) (text rest : List ℕ) → (byte range).Spells x text → byte_at range (text ++ rest) ≡ Ok (x, rest)
+byte_again : (range : ℕ → Bool) (x : ℕ) (text rest : List ℕ)
+    → (byte range).Spells x text
+    → byte_at range (text ++ rest) ≡ Ok (x, rest)
 byte_again range x text rest s = ap (λ (t : List ℕ). byte_at range (t ++ rest)) s.1 ∙ ap (λ b. within b (x, rest)) s.0
 
 byte_bad : (range : ℕ → Bool) (bytes : List ℕ) → byte_at range bytes ≡ Err Malformed → (byte range).Bad bytes
@@ -55,22 +62,31 @@ byte_old : (range : ℕ → Bool) (bytes : List ℕ) → byte_at range bytes ≡
 byte_old range [] e = cc
 byte_old range (b ∷ bytes) e = within_old (range b) (b, bytes) e
 
-byte_stays : (range : ℕ → Bool) (bytes more : List ℕ) (x : ℕ) (rest : List ℕ) → byte_at range bytes ≡ Ok (x, rest) → byte_at range (bytes ++ more) ≡ Ok (x, rest ++ more)
+byte_stays : (range : ℕ → Bool) (bytes more : List ℕ) (x : ℕ) (rest : List ℕ)
+    → byte_at range bytes ≡ Ok (x, rest)
+    → byte_at range (bytes ++ more) ≡ Ok (x, rest ++ more)
 byte_stays range [] more x rest e = absurd cc
 byte_stays range (b ∷ bytes) more x rest e =
     let w = within_ok (range b) (b, bytes) (x, rest) e in
     ap (λ t. within t (b, bytes ++ more)) w.0 ∙ ap (λ (p : ℕ × List ℕ). Ok (p.0, p.1 ++ more)) w.1
 
-byte_stays_bad : (range : ℕ → Bool) (bytes more : List ℕ) → byte_at range bytes ≡ Err Malformed → byte_at range (bytes ++ more) ≡ Err Malformed
+byte_stays_bad : (range : ℕ → Bool) (bytes more : List ℕ)
+    → byte_at range bytes ≡ Err Malformed
+    → byte_at range (bytes ++ more) ≡ Err Malformed
 byte_stays_bad range [] more e = absurd cc
 byte_stays_bad range (b ∷ bytes) more e = ap (λ t. within t (b, bytes ++ more)) (within_bad (range b) (b, bytes) e)
 
-byte_waits : (range : ℕ → Bool) (bytes more : List ℕ) (k : ℕ) → byte_at range bytes ≡ Err (Short k) → length more < k → byte_at range (bytes ++ more) ≡ Err (Short (k - length more))
+byte_waits : (range : ℕ → Bool) (bytes more : List ℕ) (k : ℕ)
+    → byte_at range bytes ≡ Err (Short k)
+    → length more < k
+    → byte_at range (bytes ++ more) ≡ Err (Short (k - length more))
 byte_waits range [] [] k e few = let one : 1 ≡ k = cc in let same : k - 0 ≡ 1 = omega arith in rw same refl
 byte_waits range [] (m ∷ more) k e few = let one : 1 ≡ k = cc in absurd (omega arith)
 byte_waits range (b ∷ bytes) more k e few = absurd (within_short (range b) (b, bytes) k e)
 
-byte_shrinks : (range : ℕ → Bool) (bytes : List ℕ) (x : ℕ) (rest : List ℕ) → byte_at range bytes ≡ Ok (x, rest) → length rest ≤ length bytes
+byte_shrinks : (range : ℕ → Bool) (bytes : List ℕ) (x : ℕ) (rest : List ℕ)
+    → byte_at range bytes ≡ Ok (x, rest)
+    → length rest ≤ length bytes
 byte_shrinks range [] x rest e = absurd cc
 byte_shrinks range (b ∷ bytes) x rest e =
     let w = within_ok (range b) (b, bytes) (x, rest) e in
@@ -92,7 +108,8 @@ byte_reader range = record {
 -- ---- n bytes that are there or not
 
 -- a test that tells whether n bytes are there
-here : (n : ℕ) (bytes : List ℕ) → (nat_lt (length bytes) n ≡ true) × (length bytes < n) ⊎ (nat_lt (length bytes) n ≡ false) × (n ≤ length bytes)
+here : (n : ℕ) (bytes : List ℕ)
+    → (nat_lt (length bytes) n ≡ true) × (length bytes < n) ⊎ (nat_lt (length bytes) n ≡ false) × (n ≤ length bytes)
 here n bytes =
     elim (cases_lt (length bytes) n) [
       | inl lt ↦ inl (lt-ltb _ _ lt, lt)
@@ -103,21 +120,30 @@ here n bytes =
 abbrev pub counted : {A : Type 0} → ℕ → (List ℕ → Result A Stop) → List ℕ → Result A Stop
 counted n f bytes = cond (nat_lt (length bytes) n) (Err (Short (n - length bytes))) (f bytes)
 
-pub counted_ok : {A : Type 0} (n : ℕ) (f : List ℕ → Result A Stop) (bytes : List ℕ) (x : A) → counted n f bytes ≡ Ok x → (n ≤ length bytes) × (f bytes ≡ Ok x)
+pub counted_ok : {A : Type 0} (n : ℕ) (f : List ℕ → Result A Stop) (bytes : List ℕ) (x : A)
+    → counted n f bytes ≡ Ok x
+    → (n ≤ length bytes) × (f bytes ≡ Ok x)
 counted_ok n f bytes x e =
     elim (here n bytes) [
       | inl short ↦ let stop : counted n f bytes ≡ Err (Short (n - length bytes)) = rw short.0 refl in absurd cc
       | inr long ↦ (long.1, (rw long.0 at e))
     ]
 
-pub counted_short : {A : Type 0} (n : ℕ) (f : List ℕ → Result A Stop) (bytes : List ℕ) (k : ℕ) → ((k : ℕ) → f bytes ≡ Err (Short k) → ⊥) → counted n f bytes ≡ Err (Short k) → (length bytes < n) × (n - length bytes ≡ k)
+pub counted_short : {A : Type 0} (n : ℕ) (f : List ℕ → Result A Stop) (bytes : List ℕ) (k : ℕ)
+    → ((k : ℕ) → f bytes ≡ Err (Short k) → ⊥)
+    → counted n f bytes ≡ Err (Short k)
+    → (length bytes < n) × (n - length bytes ≡ k)
 counted_short n f bytes k never e =
     elim (here n bytes) [
       | inl short ↦ let stop : counted n f bytes ≡ Err (Short (n - length bytes)) = rw short.0 refl in (short.1, cc)
       | inr long ↦ absurd (never k (rw long.0 at e))
     ]
 
-counted_waits : {A : Type 0} (n : ℕ) (f : List ℕ → Result A Stop) (bytes more : List ℕ) (k : ℕ) → ((k : ℕ) → f bytes ≡ Err (Short k) → ⊥) → counted n f bytes ≡ Err (Short k) → length more < k → counted n f (bytes ++ more) ≡ Err (Short (k - length more))
+counted_waits : {A : Type 0} (n : ℕ) (f : List ℕ → Result A Stop) (bytes more : List ℕ) (k : ℕ)
+    → ((k : ℕ) → f bytes ≡ Err (Short k) → ⊥)
+    → counted n f bytes ≡ Err (Short k)
+    → length more < k
+    → counted n f (bytes ++ more) ≡ Err (Short (k - length more))
 counted_waits n f bytes more k never e few =
     let s = counted_short n f bytes k never e in
     let a = s.0 in
@@ -126,14 +152,19 @@ counted_waits n f bytes more k never e few =
     let left : n - length (bytes ++ more) ≡ k - length more = omega (arith, length-append bytes more) in
     rw (test, left) refl
 
-counted_at : {A : Type 0} (n : ℕ) (f : List ℕ → Result A Stop) (bytes : List ℕ) → n ≤ length bytes → counted n f bytes ≡ f bytes
+counted_at : {A : Type 0} (n : ℕ) (f : List ℕ → Result A Stop) (bytes : List ℕ)
+    → n ≤ length bytes
+    → counted n f bytes ≡ f bytes
 counted_at n f bytes le = rw (le-ltb (length bytes) n le) refl
 
 -- ---- numbers
 
 pub record IsWide (w : Width) : Type 0 where
   pub len : (n : ℕ) → length (to_be_bytes w n) ≡ byte_len w
-  pub back : (bytes : List ℕ) → length bytes ≡ byte_len w → IsBytes bytes → to_be_bytes w (from_be_bytes w bytes) ≡ bytes
+  pub back : (bytes : List ℕ)
+      → length bytes ≡ byte_len w
+      → IsBytes bytes
+      → to_be_bytes w (from_be_bytes w bytes) ≡ bytes
   pub again : (n : ℕ) → n < 2 ^ (8 * byte_len w) → from_be_bytes w (to_be_bytes w n) ≡ n
   pub below : (bytes : List ℕ) → IsBytes bytes → from_be_bytes w bytes < 2 ^ (8 * byte_len w)
 
@@ -163,47 +194,79 @@ wide64 = record {
 
 -- the number at the front, judged
 abbrev pub judged : Width → (ℕ → Bool) → List ℕ → Read ℕ
-judged w range bytes = within (range (from_be_bytes w (take (byte_len w) bytes))) (from_be_bytes w (take (byte_len w) bytes), drop (byte_len w) bytes)
+judged w range bytes =
+    within (range (from_be_bytes w (take (byte_len w) bytes)))
+    (from_be_bytes w (take (byte_len w) bytes), drop (byte_len w) bytes)
 
 -- the bytes of the number that was read
-front_is : (w : Width) → IsWide w → (bytes : List ℕ) → byte_len w ≤ length bytes → IsBytes bytes → bytes ≡ to_be_bytes w (from_be_bytes w (take (byte_len w) bytes)) ++ drop (byte_len w) bytes
+front_is : (w : Width)
+    → IsWide w
+    → (bytes : List ℕ)
+    → byte_len w ≤ length bytes
+    → IsBytes bytes
+    → bytes ≡ to_be_bytes w (from_be_bytes w (take (byte_len w) bytes)) ++ drop (byte_len w) bytes
 front_is w wide bytes long fits =
-    let front = wide.back (take (byte_len w) bytes) (omega (arith, length-take (byte_len w) bytes)) (IsBytes-take (byte_len w) bytes fits) in
+    let front = wide.back (take (byte_len w) bytes) (omega (arith, length-take (byte_len w) bytes))
+    (IsBytes-take (byte_len w) bytes fits) in
     sym (ap (λ (t : List ℕ). t ++ drop (byte_len w) bytes) front ∙ take-append-drop (byte_len w) bytes)
 
 -- a spelled number is judged by its value
-judged_again : (w : Width) (range : ℕ → Bool) → IsWide w → (n : ℕ) (rest : List ℕ) → n < 2 ^ (8 * byte_len w) → number_at w range (to_be_bytes w n ++ rest) ≡ within (range n) (n, rest)
+judged_again : (w : Width) (range : ℕ → Bool)
+    → IsWide w
+    → (n : ℕ) (rest : List ℕ)
+    → n < 2 ^ (8 * byte_len w)
+    → number_at w range (to_be_bytes w n ++ rest) ≡ within (range n) (n, rest)
 judged_again w range wide n rest lt =
     let len = wide.len n in
-    counted_at (byte_len w) (judged w range) (to_be_bytes w n ++ rest) (omega (arith, length-append (to_be_bytes w n) rest))
-    ∙ rw (take_at (to_be_bytes w n) rest (byte_len w) len, drop_at (to_be_bytes w n) rest (byte_len w) len, wide.again n lt) refl
+    counted_at (byte_len w) (judged w range) (to_be_bytes w n ++ rest)
+    (omega (arith, length-append (to_be_bytes w n) rest))
+    ∙ rw (
+      take_at (to_be_bytes w n) rest (byte_len w) len,
+      drop_at (to_be_bytes w n) rest (byte_len w) len,
+      wide.again n lt,
+    ) refl
 
 judged_more : (w : Width) (range : ℕ → Bool) (bytes more : List ℕ) → byte_len w ≤ length bytes
-    → judged w range (bytes ++ more) ≡ within (range (from_be_bytes w (take (byte_len w) bytes))) (from_be_bytes w (take (byte_len w) bytes), drop (byte_len w) bytes ++ more)
-judged_more w range bytes more long = rw (take-append-le (byte_len w) bytes more long, drop-append-le (byte_len w) bytes more long) refl
+    → judged w range (bytes ++ more) ≡ within (range (from_be_bytes w (take (byte_len w) bytes)))
+    (from_be_bytes w (take (byte_len w) bytes), drop (byte_len w) bytes ++ more)
+judged_more w range bytes more long =
+    rw (take-append-le (byte_len w) bytes more long, drop-append-le (byte_len w) bytes more long) refl
 
 pub number_reader : (w : Width) (range : ℕ → Bool) → IsWide w → IsReader (number_at w range) (number w range)
 number_reader w range wide = record {
   takes = λ bytes x rest fits e.
       let c = counted_ok (byte_len w) (judged w range) bytes (x, rest) e in
-      let k = within_ok (range (from_be_bytes w (take (byte_len w) bytes))) (from_be_bytes w (take (byte_len w) bytes), drop (byte_len w) bytes) (x, rest) c.1 in
+      let k = within_ok (range (from_be_bytes w (take (byte_len w) bytes)))
+      (from_be_bytes w (take (byte_len w) bytes), drop (byte_len w) bytes) (x, rest) c.1 in
       let same : from_be_bytes w (take (byte_len w) bytes) ≡ x = ap (λ (p : ℕ × List ℕ). p.0) k.1 in
       let behind : drop (byte_len w) bytes ≡ rest = ap (λ (p : ℕ × List ℕ). p.1) k.1 in (
         to_be_bytes w x,
-        (subst (λ n. n < 2 ^ (8 * byte_len w)) same (wide.below (take (byte_len w) bytes) (IsBytes-take (byte_len w) bytes fits)), subst (λ n. range n ≡ true) same k.0, refl),
+        (
+          subst (λ n. n < 2 ^ (8 * byte_len w)) same
+              (wide.below (take (byte_len w) bytes) (IsBytes-take (byte_len w) bytes fits)),
+          subst (λ n. range n ≡ true) same k.0,
+          refl,
+        ),
         front_is w wide bytes c.0 fits ∙ ap (λ (p : ℕ × List ℕ). to_be_bytes w p.0 ++ p.1) k.1,
       );
   again = λ x text rest s.
-      ap (λ (t : List ℕ). number_at w range (t ++ rest)) s.2 ∙ judged_again w range wide x rest s.0 ∙ ap (λ b. within b (x, rest)) s.1;
+      ap (λ (t : List ℕ). number_at w range (t ++ rest)) s.2 ∙ judged_again w range wide x rest s.0
+      ∙ ap (λ b. within b (x, rest)) s.1;
   bad = λ bytes fits e.
-      let c = number_bad w range bytes e in
-      (from_be_bytes w (take (byte_len w) bytes), drop (byte_len w) bytes, wide.below (take (byte_len w) bytes) (IsBytes-take (byte_len w) bytes fits), front_is w wide bytes c.0 fits, c.1);
+      let c = number_bad w range bytes e in (
+        from_be_bytes w (take (byte_len w) bytes),
+        drop (byte_len w) bytes,
+        wide.below (take (byte_len w) bytes) (IsBytes-take (byte_len w) bytes fits),
+        front_is w wide bytes c.0 fits,
+        c.1,
+      );
   refuses = λ bytes b.
       ap (number_at w range) b.3 ∙ judged_again w range wide b.0 b.1 b.2 ∙ ap (λ t. within t (b.0, b.1)) b.4;
   never_old = λ bytes e. number_old w range bytes e;
   stays = λ bytes more x rest e.
       let c = counted_ok (byte_len w) (judged w range) bytes (x, rest) e in
-      let k = within_ok (range (from_be_bytes w (take (byte_len w) bytes))) (from_be_bytes w (take (byte_len w) bytes), drop (byte_len w) bytes) (x, rest) c.1 in
+      let k = within_ok (range (from_be_bytes w (take (byte_len w) bytes)))
+      (from_be_bytes w (take (byte_len w) bytes), drop (byte_len w) bytes) (x, rest) c.1 in
       counted_at (byte_len w) (judged w range) (bytes ++ more) (omega (arith, c.0, length-append bytes more))
       ∙ judged_more w range bytes more c.0
       ∙ ap (λ b. within b (from_be_bytes w (take (byte_len w) bytes), drop (byte_len w) bytes ++ more)) k.0
@@ -215,26 +278,37 @@ number_reader w range wide = record {
       ∙ ap (λ b. within b (from_be_bytes w (take (byte_len w) bytes), drop (byte_len w) bytes ++ more)) c.1;
   waits = λ bytes more k e few.
       counted_waits (byte_len w) (judged w range) bytes more k
-      (λ k e. within_short (range (from_be_bytes w (take (byte_len w) bytes))) (from_be_bytes w (take (byte_len w) bytes), drop (byte_len w) bytes) k e) e few;
+      (λ k e. within_short (range (from_be_bytes w (take (byte_len w) bytes)))
+      (from_be_bytes w (take (byte_len w) bytes), drop (byte_len w) bytes) k e) e few;
   shrinks = λ bytes x rest e.
       let c = counted_ok (byte_len w) (judged w range) bytes (x, rest) e in
-      let k = within_ok (range (from_be_bytes w (take (byte_len w) bytes))) (from_be_bytes w (take (byte_len w) bytes), drop (byte_len w) bytes) (x, rest) c.1 in
+      let k = within_ok (range (from_be_bytes w (take (byte_len w) bytes)))
+      (from_be_bytes w (take (byte_len w) bytes), drop (byte_len w) bytes) (x, rest) c.1 in
       let behind : drop (byte_len w) bytes ≡ rest = ap (λ (p : ℕ × List ℕ). p.1) k.1 in
       rw (← behind) (omega (arith, length-drop (byte_len w) bytes));
 }
   where
-    number_bad : (w : Width) (range : ℕ → Bool) (bytes : List ℕ) → number_at w range bytes ≡ Err Malformed → (byte_len w ≤ length bytes) × (range (from_be_bytes w (take (byte_len w) bytes)) ≡ false)
+    number_bad : (w : Width) (range : ℕ → Bool) (bytes : List ℕ)
+        → number_at w range bytes ≡ Err Malformed
+        → (byte_len w ≤ length bytes) × (range (from_be_bytes w (take (byte_len w) bytes)) ≡ false)
     number_bad w range bytes e =
         elim (here (byte_len w) bytes) [
-          | inl short ↦ let stop : number_at w range bytes ≡ Err (Short (byte_len w - length bytes)) = rw short.0 refl in absurd cc
-          | inr long ↦ (long.1, within_bad (range (from_be_bytes w (take (byte_len w) bytes))) (from_be_bytes w (take (byte_len w) bytes), drop (byte_len w) bytes) (rw long.0 at e))
+          | inl short ↦ let stop : number_at w range bytes ≡ Err (Short (byte_len w - length bytes)) =
+              rw short.0 refl in absurd cc
+          | inr long ↦ (
+            long.1,
+            within_bad (range (from_be_bytes w (take (byte_len w) bytes)))
+                (from_be_bytes w (take (byte_len w) bytes), drop (byte_len w) bytes) (rw long.0 at e),
+          )
         ]
 
     number_old : (w : Width) (range : ℕ → Bool) (bytes : List ℕ) → number_at w range bytes ≡ Err Old → ⊥
     number_old w range bytes e =
         elim (here (byte_len w) bytes) [
-          | inl short ↦ let stop : number_at w range bytes ≡ Err (Short (byte_len w - length bytes)) = rw short.0 refl in absurd cc
-          | inr long ↦ within_old (range (from_be_bytes w (take (byte_len w) bytes))) (from_be_bytes w (take (byte_len w) bytes), drop (byte_len w) bytes) (rw long.0 at e)
+          | inl short ↦ let stop : number_at w range bytes ≡ Err (Short (byte_len w - length bytes)) =
+              rw short.0 refl in absurd cc
+          | inr long ↦ within_old (range (from_be_bytes w (take (byte_len w) bytes)))
+              (from_be_bytes w (take (byte_len w) bytes), drop (byte_len w) bytes) (rw long.0 at e)
         ]
 
 -- ---- any n bytes
@@ -247,8 +321,14 @@ bytes_reader n = record {
   takes = λ bytes x rest fits e.
       let c = counted_ok n (cut n) bytes (x, rest) e in
       let p = parts_of (take n bytes) x (drop n bytes) rest c.1 in
-      let a = c.0 in
-      (x, (ap length (sym p.0) ∙ (let full : length (take n bytes) ≡ n = omega (arith, length-take n bytes) in full), refl), sym (take-append-drop n bytes) ∙ rw (p.0, p.1) refl);
+      let a = c.0 in (
+        x,
+        (
+          ap length (sym p.0) ∙ (let full : length (take n bytes) ≡ n = omega (arith, length-take n bytes) in full),
+          refl,
+        ),
+        sym (take-append-drop n bytes) ∙ rw (p.0, p.1) refl,
+      );
   again = λ x text rest s.
       let len = s.0 in
       ap (λ (t : List ℕ). bytes_at n (t ++ rest)) s.1
@@ -273,7 +353,8 @@ bytes_reader n = record {
 }
   where
     parts_of : (x y a b : List ℕ) → ◌≡◌ {A = Read (List ℕ)} (Ok (x, a)) (Ok (y, b)) → (x ≡ y) × (a ≡ b)
-    parts_of x y a b e = let pair : (x, a) ≡ (y, b) = cc in (ap (λ (p : List ℕ × List ℕ). p.0) pair, ap (λ (p : List ℕ × List ℕ). p.1) pair)
+    parts_of x y a b e = let pair : (x, a) ≡ (y, b) =
+        cc in (ap (λ (p : List ℕ × List ℕ). p.0) pair, ap (λ (p : List ℕ × List ℕ). p.1) pair)
 
     bytes_bad : (n : ℕ) (bytes : List ℕ) → bytes_at n bytes ≡ Err Malformed → ⊥
     bytes_bad n bytes e =
@@ -300,9 +381,11 @@ by_byte_reader : (n : ℕ) → IsReader (text_by_byte n) (text_of is_key_byte n)
 unfolding text_by_byte
 by_byte_reader zero = made []
 by_byte_reader (suc n) =
-    in_turn (byte_at is_key_byte) (byte is_key_byte) (λ b rest. text_by_byte n rest >>= λ bs. Ok (b ∷ bs.0, bs.1)) (λ b. followed (text_of is_key_byte n) (λ bs. makes (b ∷ bs)))
+    in_turn (byte_at is_key_byte) (byte is_key_byte) (λ b rest. text_by_byte n rest >>= λ bs. Ok (b ∷ bs.0, bs.1))
+    (λ b. followed (text_of is_key_byte n) (λ bs. makes (b ∷ bs)))
     (byte_reader is_key_byte)
-    (λ b. in_turn (text_by_byte n) (text_of is_key_byte n) (λ bs rest. Ok (b ∷ bs, rest)) (λ bs. makes (b ∷ bs)) (by_byte_reader n) (λ bs. made (b ∷ bs)))
+    (λ b. in_turn (text_by_byte n) (text_of is_key_byte n) (λ bs rest. Ok (b ∷ bs, rest)) (λ bs. makes (b ∷ bs))
+    (by_byte_reader n) (λ bs. made (b ∷ bs)))
 
 -- with this byte in front
 abbrev in_front : ℕ → List ℕ × List ℕ → Read (List ℕ)
@@ -318,7 +401,8 @@ one_less n k =
 
 -- by what is told of the bytes after the first one
 abbrev text_by : ℕ → Bool → Bool → List ℕ → Read (List ℕ)
-text_by n all short bytes = cond (not all) (Err Malformed) (cond short (Err (Short 1)) (Ok (take (suc n) bytes, drop (suc n) bytes)))
+text_by n all short bytes =
+    cond (not all) (Err Malformed) (cond short (Err (Short 1)) (Ok (take (suc n) bytes, drop (suc n) bytes)))
 
 -- as one: each byte that is there is judged
 text_same : (n : ℕ) (bytes : List ℕ) → text_by_byte n bytes ≡ text_at n bytes
@@ -330,13 +414,19 @@ text_same (suc n) (b ∷ bytes) =
     by_first (is_key_byte b)
     ∙ ap (λ r. cond (is_key_byte b) (r >>= in_front b) (Err Malformed)) (text_same n bytes)
     ∙ by_tests (is_key_byte b) (list_all is_key_byte (take n bytes)) (nat_lt (length bytes) n)
-    ∙ ap (λ (short : Bool). text_by n (is_key_byte b && list_all is_key_byte (take n bytes)) short (b ∷ bytes)) (one_less n (length bytes))
+    ∙ ap (λ (short : Bool). text_by n (is_key_byte b && list_all is_key_byte (take n bytes)) short (b ∷ bytes))
+    (one_less n (length bytes))
   where
-    by_first : (t : Bool) → ◌>>=◌ {A = ℕ × List ℕ} (within t (b, bytes)) (λ x. text_by_byte n x.1 >>= in_front x.0) ≡ cond t (text_by_byte n bytes >>= in_front b) (Err Malformed)
+    by_first : (t : Bool)
+        → ◌>>=◌ {A = ℕ × List ℕ} (within t (b, bytes)) (λ x. text_by_byte n x.1 >>= in_front x.0)
+        ≡ cond t (text_by_byte n bytes >>= in_front b) (Err Malformed)
     by_first true = refl
     by_first false = refl
 
-    by_tests : (t all short : Bool) → cond t (◌>>=◌ {A = List ℕ × List ℕ} (cond (not all) (Err Malformed) (cond short (Err (Short 1)) (Ok (take n bytes, drop n bytes)))) (in_front b)) (Err Malformed)
+    by_tests : (t all short : Bool)
+        → cond t (◌>>=◌ {A = List ℕ × List ℕ}
+        (cond (not all) (Err Malformed) (cond short (Err (Short 1)) (Ok (take n bytes, drop n bytes))))
+        (in_front b)) (Err Malformed)
         ≡ cond (not (t && all)) (Err Malformed) (cond short (Err (Short 1)) (Ok (b ∷ take n bytes, drop n bytes)))
     by_tests true true true = refl
     by_tests true true false = refl

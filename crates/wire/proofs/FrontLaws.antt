@@ -1,5 +1,6 @@
 -- What reading finds at the front of a stream is what the format says of it, and it stays so when more bytes come.
-use Rattle.std.proofs.Common.{◌≡◌, ◌⊎◌, ℕ, zero, suc, ◌+◌, ◌-◌, ◌<◌, List, [], ◌∷◌, ◌++◌, length, drop, Result, Ok, Err, refl, sym, ap, subst, ◌∙◌, arith, inl, inr, length-append}
+use Rattle.std.proofs.Common.{◌≡◌, ◌⊎◌, ℕ, zero, suc, ◌+◌, ◌-◌, ◌<◌, List, [], ◌∷◌, ◌++◌, length, drop, Result, Ok, Err}
+use Rattle.std.proofs.Common.{refl, sym, ap, subst, ◌∙◌, arith, inl, inr, length-append}
 use Rattle.std.specs.Prelude.{◌==◌, IsOk}
 use Rattle.std.proofs.lemmas.List.{append-nil, drop_at}
 use Rattle.std.proofs.lemmas.Bool.{cases_Bool, eqb-true, eqb-false}
@@ -19,7 +20,8 @@ use Rattle.wire.proofs.SpelledFrames.{frame_from, frame_to}
 
 -- an older server's format is told apart, and nothing else is
 abbrev ByFormat : List ℕ → Type 0
-ByFormat bytes = (IsOld bytes × (front bytes ≡ Err Old) × (plain_front bytes ≡ Err Malformed)) ⊎ ((IsOld bytes → ⊥) × (front bytes ≡ plain_front bytes))
+ByFormat bytes = (IsOld bytes × (front bytes ≡ Err Old) × (plain_front bytes ≡ Err Malformed))
+    ⊎ ((IsOld bytes → ⊥) × (front bytes ≡ plain_front bytes))
 
 by_format : (bytes : List ℕ) → ByFormat bytes
 unfolding front
@@ -31,7 +33,11 @@ by_format (b ∷ rest) =
     elim (cases_Bool (b == 1)) [
       | inl e ↦
           let one : b ≡ 1 = eqb-true b 1 e in
-          inl ((rest, ap (λ (b : ℕ). b ∷ rest) one), ap (λ (b : ℕ). front (b ∷ rest)) one, ap (λ (b : ℕ). plain_front (b ∷ rest)) one)
+          inl (
+            (rest, ap (λ (b : ℕ). b ∷ rest) one),
+            ap (λ (b : ℕ). front (b ∷ rest)) one,
+            ap (λ (b : ℕ). plain_front (b ∷ rest)) one,
+          )
       | inr e ↦ inr (λ o. eqb-false b 1 e (first_is b rest o.0 o.1), rw e refl)
     ]
   where
@@ -52,7 +58,10 @@ short_not_bad : {A : Type 0} (r : Result A Stop) (k : ℕ) → r ≡ Err (Short 
 short_not_bad r k e f = cc
 
 -- what reads as this without telling formats apart reads so, unless an older server speaks
-pub first_from : (bytes : List ℕ) (f : Frame) (rest : List ℕ) → IsBytes bytes → front bytes ≡ Ok (f, rest) → IsFirst f bytes rest
+pub first_from : (bytes : List ℕ) (f : Frame) (rest : List ℕ)
+    → IsBytes bytes
+    → front bytes ≡ Ok (f, rest)
+    → IsFirst f bytes rest
 first_from bytes f rest fits e =
     elim (by_format bytes) [
       | inl old ↦ absurd (ok_not_err (front bytes) (f, rest) Old e old.1)
@@ -64,7 +73,8 @@ first_from bytes f rest fits e =
 
 pub first_to : (bytes : List ℕ) (f : Frame) (rest : List ℕ) → IsFirst f bytes rest → front bytes ≡ Ok (f, rest)
 first_to bytes f rest h =
-    let read : plain_front bytes ≡ Ok (f, rest) = ap plain_front h.spelled ∙ plain_reader.again f (spelling f) rest (frame_to f h.in_range) in
+    let read : plain_front bytes ≡ Ok (f, rest) =
+    ap plain_front h.spelled ∙ plain_reader.again f (spelling f) rest (frame_to f h.in_range) in
     elim (by_format bytes) [
       | inl old ↦ absurd (ok_not_err (plain_front bytes) (f, rest) Malformed read old.2)
       | inr other ↦ other.1 ∙ read
@@ -122,7 +132,9 @@ frame_not_old bytes x e h = ok_not_err (front bytes) x Old e (old_to bytes h)
 
 -- ---- more bytes
 
-pub front_stays : (bytes more : List ℕ) (f : Frame) (rest : List ℕ) → front bytes ≡ Ok (f, rest) → front (bytes ++ more) ≡ Ok (f, rest ++ more)
+pub front_stays : (bytes more : List ℕ) (f : Frame) (rest : List ℕ)
+    → front bytes ≡ Ok (f, rest)
+    → front (bytes ++ more) ≡ Ok (f, rest ++ more)
 front_stays bytes more f rest e =
     elim (by_format bytes) [
       | inl old ↦ absurd (ok_not_err (front bytes) (f, rest) Old e old.1)
@@ -135,7 +147,8 @@ front_stays bytes more f rest e =
     ]
 
 pub old_stays : (bytes more : List ℕ) → front bytes ≡ Err Old → front (bytes ++ more) ≡ Err Old
-old_stays bytes more e = let o = old_from bytes e in old_to (bytes ++ more) (o.0 ++ more, ap (λ (t : List ℕ). t ++ more) o.1)
+old_stays bytes more e =
+    let o = old_from bytes e in old_to (bytes ++ more) (o.0 ++ more, ap (λ (t : List ℕ). t ++ more) o.1)
 
 -- the first byte is there already
 old_before : (bytes more : List ℕ) → IsOld (bytes ++ more) → (bytes ≡ []) ⊎ IsOld bytes
@@ -165,7 +178,10 @@ malformed_stays bytes more e =
           ]
     ]
 
-pub front_waits : (bytes more : List ℕ) (k : ℕ) → front bytes ≡ Err (Short k) → length more < k → front (bytes ++ more) ≡ Err (Short (k - length more))
+pub front_waits : (bytes more : List ℕ) (k : ℕ)
+    → front bytes ≡ Err (Short k)
+    → length more < k
+    → front (bytes ++ more) ≡ Err (Short (k - length more))
 front_waits bytes more k e few =
     elim (by_format bytes) [
       | inl old ↦ absurd (short_not_old (front bytes) k e old.1)
@@ -183,9 +199,11 @@ front_takes bytes f rest e =
     elim (by_format bytes) [
       | inl old ↦ absurd (ok_not_err (front bytes) (f, rest) Old e old.1)
       | inr other ↦
-          let a = bind_ok (byte_at (λ b. b == 2) bytes) (λ format. byte_at any format.1 >>= λ kind. of_kind_at kind.0 kind.1) (f, rest) (sym other.1 ∙ e) in
+          let a = bind_ok (byte_at (λ b. b == 2) bytes)
+          (λ format. byte_at any format.1 >>= λ kind. of_kind_at kind.0 kind.1) (f, rest) (sym other.1 ∙ e) in
           let t = byte_takes (λ b. b == 2) bytes a.0.0 a.0.1 a.1 in
-          let one : length bytes ≡ 1 + length a.0.1 = ap length (t.2 ∙ ap (λ (x : List ℕ). x ++ a.0.1) t.1.1) ∙ one_more a.0.0 a.0.1 in
+          let one : length bytes ≡ 1 + length a.0.1 =
+          ap length (t.2 ∙ ap (λ (x : List ℕ). x ++ a.0.1) t.1.1) ∙ one_more a.0.0 a.0.1 in
           let less = behind_format_reader.shrinks a.0.1 f rest a.2 in
           omega arith
     ]
@@ -193,16 +211,24 @@ front_takes bytes f rest e =
     one_more : (n : ℕ) (rest : List ℕ) → length ((n ∷ []) ++ rest) ≡ 1 + length rest
     one_more n rest = omega arith
 
-pub one_frame : (f g : Frame) (bytes more others : List ℕ) → IsFirst f bytes more → IsFirst g bytes others → (f ≡ g) × (more ≡ others)
+pub one_frame : (f g : Frame) (bytes more others : List ℕ)
+    → IsFirst f bytes more
+    → IsFirst g bytes others
+    → (f ≡ g) × (more ≡ others)
 one_frame f g bytes more others h k = same (sym (first_to bytes f more h) ∙ first_to bytes g others k)
   where
     same : ◌≡◌ {A = Read Frame} (Ok (f, more)) (Ok (g, others)) → (f ≡ g) × (more ≡ others)
-    same e = let pair : (f, more) ≡ (g, others) = cc in (ap (λ (p : Frame × List ℕ). p.0) pair, ap (λ (p : Frame × List ℕ). p.1) pair)
+    same e = let pair : (f, more) ≡ (g, others) =
+        cc in (ap (λ (p : Frame × List ℕ). p.0) pair, ap (λ (p : Frame × List ℕ). p.1) pair)
 
 -- ---- beginnings
 
 -- what is told of a front is told of all bytes; those of a whole frame are read as it
-pub beginning_short : (f : Frame) (some rest : List ℕ) → IsFrame f → spelling f ≡ some ++ rest → 0 < length rest → (k : ℕ) × (front some ≡ Err (Short k))
+pub beginning_short : (f : Frame) (some rest : List ℕ)
+    → IsFrame f
+    → spelling f ≡ some ++ rest
+    → 0 < length rest
+    → (k : ℕ) × (front some ≡ Err (Short k))
 beginning_short f some rest h e more = by_front (front some) refl
   where
     whole : front (some ++ rest) ≡ Ok (f, [])
@@ -217,14 +243,24 @@ beginning_short f some rest h e more = by_front (front some) refl
     by_front : (r : Read Frame) → front some ≡ r → (k : ℕ) × (front some ≡ Err (Short k))
     by_front (Ok x) e = absurd (nothing_behind x (sym (front_stays some rest x.0 x.1 e) ∙ whole))
     by_front (Err (Short k)) e = (k, e)
-    by_front (Err Malformed) e = absurd (ok_not_err (front (some ++ rest)) (f, []) Malformed whole (malformed_stays some rest e))
+    by_front (Err Malformed) e =
+        absurd (ok_not_err (front (some ++ rest)) (f, []) Malformed whole (malformed_stays some rest e))
     by_front (Err Old) e = absurd (ok_not_err (front (some ++ rest)) (f, []) Old whole (old_stays some rest e))
 
-pub beginning_waits : (f : Frame) (some rest : List ℕ) → IsFrame f → spelling f ≡ some ++ rest → 0 < length rest → IsPartial some
-beginning_waits f some rest h e more = let short = beginning_short f some rest h e more in partial_from some short.0 short.1
+pub beginning_waits : (f : Frame) (some rest : List ℕ)
+    → IsFrame f
+    → spelling f ≡ some ++ rest
+    → 0 < length rest
+    → IsPartial some
+beginning_waits f some rest h e more =
+    let short = beginning_short f some rest h e more in partial_from some short.0 short.1
 
 -- what a function failed with, by the fault
-pub stopped_is : (fault : ReadFault) (stop other : Stop) (r : Read Frame) → fault ≡ Stopped stop → stop ≡ other → Fails fault r → r ≡ Err other
+pub stopped_is : (fault : ReadFault) (stop other : Stop) (r : Read Frame)
+    → fault ≡ Stopped stop
+    → stop ≡ other
+    → Fails fault r
+    → r ≡ Err other
 stopped_is fault stop other r e f h = subst (λ fault. Fails fault r) e h ∙ ap (λ (s : Stop). Err s) f
 
 -- where memory was wanted a frame stands
@@ -232,13 +268,23 @@ no_error : (r : Read Frame) (s : Stop) → IsOk r → r ≡ Err s → ⊥
 no_error (Ok x) s h e = cc
 no_error (Err t) s h e = cc
 
-pub wanted_not_malformed : (fault : ReadFault) (bytes : List ℕ) → fault ≡ Memory → Fails fault (front bytes) → IsMalformed bytes → ⊥
-wanted_not_malformed fault bytes e h m = no_error (front bytes) Malformed (subst (λ fault. Fails fault (front bytes)) e h) (malformed_to bytes m)
+pub wanted_not_malformed : (fault : ReadFault) (bytes : List ℕ)
+    → fault ≡ Memory
+    → Fails fault (front bytes)
+    → IsMalformed bytes
+    → ⊥
+wanted_not_malformed fault bytes e h m =
+    no_error (front bytes) Malformed (subst (λ fault. Fails fault (front bytes)) e h) (malformed_to bytes m)
 
 pub wanted_not_old : (fault : ReadFault) (bytes : List ℕ) → fault ≡ Memory → Fails fault (front bytes) → IsOld bytes → ⊥
-wanted_not_old fault bytes e h o = no_error (front bytes) Old (subst (λ fault. Fails fault (front bytes)) e h) (old_to bytes o)
+wanted_not_old fault bytes e h o =
+    no_error (front bytes) Old (subst (λ fault. Fails fault (front bytes)) e h) (old_to bytes o)
 
-pub wanted_frame : (fault : ReadFault) (bytes : List ℕ) → IsBytes bytes → fault ≡ Memory → Fails fault (front bytes) → HasFrame bytes
+pub wanted_frame : (fault : ReadFault) (bytes : List ℕ)
+    → IsBytes bytes
+    → fault ≡ Memory
+    → Fails fault (front bytes)
+    → HasFrame bytes
 wanted_frame fault bytes fits e h = by_front (front bytes) refl (subst (λ fault. Fails fault (front bytes)) e h)
   where
     by_front : (r : Read Frame) → front bytes ≡ r → IsOk r → HasFrame bytes
@@ -246,11 +292,16 @@ wanted_frame fault bytes fits e h = by_front (front bytes) refl (subst (λ fault
     by_front (Err s) read ok = absurd cc
 
 -- what stands after the frame
-pub rest_behind : (bytes : List ℕ) (f : Frame) (rest : List ℕ) → IsFirst f bytes rest → drop (length bytes - length rest) bytes ≡ rest
+pub rest_behind : (bytes : List ℕ) (f : Frame) (rest : List ℕ)
+    → IsFirst f bytes rest
+    → drop (length bytes - length rest) bytes ≡ rest
 rest_behind bytes f rest h =
     let e = h.spelled in
-    let len : length (spelling f) ≡ length bytes - length rest = sym (ap (λ (t : List ℕ). length t - length rest) e ∙ (let all = length-append (spelling f) rest in omega arith)) in
-    ap (λ (t : List ℕ). drop (length bytes - length rest) t) e ∙ drop_at (spelling f) rest (length bytes - length rest) len
+    let len : length (spelling f) ≡ length bytes - length rest =
+    sym (ap (λ (t : List ℕ). length t - length rest) e
+    ∙ (let all = length-append (spelling f) rest in omega arith)) in
+    ap (λ (t : List ℕ). drop (length bytes - length rest) t) e
+    ∙ drop_at (spelling f) rest (length bytes - length rest) len
 
 -- ---- what a reader of frames keeps in mind
 
@@ -263,4 +314,5 @@ missing_fed k bytes piece h = by_left (k - length piece) refl
   where
     by_left : (j : ℕ) → k - length piece ≡ j → IsMissing j (bytes ++ piece)
     by_left zero e = tt
-    by_left (suc j) e = front_waits bytes piece k (waiting k bytes (omega arith) h) (omega arith) ∙ ap (λ (j : ℕ). Err (Short j)) e
+    by_left (suc j) e =
+        front_waits bytes piece k (waiting k bytes (omega arith) h) (omega arith) ∙ ap (λ (j : ℕ). Err (Short j)) e

@@ -1,5 +1,6 @@
 -- What a reader takes off is at most so long, and so is a front at which it waits.
-use Rattle.std.proofs.Common.{◌≡◌, ℕ, ◌+◌, ◌<◌, ◌≤◌, Bool, true, false, cond, List, [], ◌∷◌, length, take, drop, Ok, Err, refl, ap, arith, inl, inr, length-drop}
+use Rattle.std.proofs.Common.{◌≡◌, ℕ, ◌+◌, ◌<◌, ◌≤◌, Bool, true, false, cond, List, [], ◌∷◌, length, take, drop, Ok}
+use Rattle.std.proofs.Common.{Err, refl, ap, arith, inl, inr, length-drop}
 use Rattle.std.specs.Prelude.{nat_lt, not}
 use Rattle.std.specs.List.{list_all}
 use Rattle.std.specs.Int.{Width, byte_len, from_be_bytes}
@@ -23,7 +24,8 @@ wider most larger r le h = record {
 
 -- one reader after another, which may depend on what the first one gave
 pub within_turn : {A B : Type 0} (m n : ℕ) (r : List ℕ → Read A) (r2 : A → List ℕ → Read B) → IsWithin m r
-    → ((x : A) (bytes rest : List ℕ) → r bytes ≡ Ok (x, rest) → IsWithin n (r2 x)) → IsWithin (m + n) (λ bytes. r bytes >>= λ x. r2 x.0 x.1)
+    → ((x : A) (bytes rest : List ℕ) → r bytes ≡ Ok (x, rest) → IsWithin n (r2 x))
+    → IsWithin (m + n) (λ bytes. r bytes >>= λ x. r2 x.0 x.1)
 within_turn m n r r2 first second = record {
   takes = λ bytes y rest e.
       let a = bind_ok (r bytes) (λ x. r2 x.0 x.1) (y, rest) e in
@@ -47,22 +49,31 @@ within_made {A = A} value = record {
   waits = λ bytes k e. absurd cc;
 }
   where
-    behind : (A : Type 0) (value x : A) (bytes rest : List ℕ) → ◌≡◌ {A = Read A} (Ok (value, bytes)) (Ok (x, rest)) → length bytes ≤ 0 + length rest
+    behind : (A : Type 0) (value x : A) (bytes rest : List ℕ)
+        → ◌≡◌ {A = Read A} (Ok (value, bytes)) (Ok (x, rest))
+        → length bytes ≤ 0 + length rest
     behind A value x bytes rest e =
         let pair : ◌≡◌ {A = A × List ℕ} (value, bytes) (x, rest) = cc in
         let same : bytes ≡ rest = ap (λ (p : A × List ℕ). p.1) pair in
         rw same (omega arith)
 
 -- a reader, and a value made of what it gives
-pub within_mapped : {A B : Type 0} (m : ℕ) (r : List ℕ → Read A) (f : A → B) → IsWithin m r → IsWithin m (λ bytes. r bytes >>= λ x. Ok (f x.0, x.1))
-within_mapped m r f h = wider (m + 0) m _ (omega arith) (within_turn m 0 r (λ x rest. Ok (f x, rest)) h (λ x bytes rest e. within_made (f x)))
+pub within_mapped : {A B : Type 0} (m : ℕ) (r : List ℕ → Read A) (f : A → B)
+    → IsWithin m r
+    → IsWithin m (λ bytes. r bytes >>= λ x. Ok (f x.0, x.1))
+within_mapped m r f h =
+    wider (m + 0) m _ (omega arith)
+    (within_turn m 0 r (λ x rest. Ok (f x, rest)) h (λ x bytes rest e. within_made (f x)))
 
 -- out of range, whatever follows
 pub within_refusing : {A : Type 0} (most : ℕ) → IsWithin {A = A} most (λ bytes. Err Malformed)
 within_refusing most = record { takes = λ bytes x rest e. absurd cc; waits = λ bytes k e. absurd cc }
 
 -- one of two, by a test
-pub within_chosen : {A : Type 0} (m : ℕ) (b : Bool) (r s : List ℕ → Read A) → IsWithin m r → IsWithin m s → IsWithin m (λ bytes. cond b (r bytes) (s bytes))
+pub within_chosen : {A : Type 0} (m : ℕ) (b : Bool) (r s : List ℕ → Read A)
+    → IsWithin m r
+    → IsWithin m s
+    → IsWithin m (λ bytes. cond b (r bytes) (s bytes))
 within_chosen m true r s first second = first
 within_chosen m false r s first second = second
 
@@ -71,14 +82,18 @@ within_chosen m false r s first second = second
 pub within_byte : (range : ℕ → Bool) → IsWithin 1 (byte_at range)
 within_byte range = record { takes = byte_takes_one range; waits = byte_waits_one range }
   where
-    byte_takes_one : (range : ℕ → Bool) (bytes : List ℕ) (x : ℕ) (rest : List ℕ) → byte_at range bytes ≡ Ok (x, rest) → length bytes ≤ 1 + length rest
+    byte_takes_one : (range : ℕ → Bool) (bytes : List ℕ) (x : ℕ) (rest : List ℕ)
+        → byte_at range bytes ≡ Ok (x, rest)
+        → length bytes ≤ 1 + length rest
     byte_takes_one range [] x rest e = absurd cc
     byte_takes_one range (b ∷ bytes) x rest e =
         let w = within_ok (range b) (b, bytes) (x, rest) e in
         let same : bytes ≡ rest = ap (λ (p : ℕ × List ℕ). p.1) w.1 in
         rw same (omega arith)
 
-    byte_waits_one : (range : ℕ → Bool) (bytes : List ℕ) (k : ℕ) → byte_at range bytes ≡ Err (Short k) → length bytes < 1
+    byte_waits_one : (range : ℕ → Bool) (bytes : List ℕ) (k : ℕ)
+        → byte_at range bytes ≡ Err (Short k)
+        → length bytes < 1
     byte_waits_one range [] k e = omega arith
     byte_waits_one range (b ∷ bytes) k e = absurd (within_short (range b) (b, bytes) k e)
 
@@ -90,20 +105,24 @@ pub within_number : (w : Width) (range : ℕ → Bool) → IsWithin (byte_len w)
 within_number w range = record {
   takes = λ bytes x rest e.
       let c = counted_ok (byte_len w) (judged w range) bytes (x, rest) e in
-      let k = within_ok (range (from_be_bytes w (take (byte_len w) bytes))) (from_be_bytes w (take (byte_len w) bytes), drop (byte_len w) bytes) (x, rest) c.1 in
+      let k = within_ok (range (from_be_bytes w (take (byte_len w) bytes)))
+      (from_be_bytes w (take (byte_len w) bytes), drop (byte_len w) bytes) (x, rest) c.1 in
       after (byte_len w) bytes rest c.0 (ap (λ (p : ℕ × List ℕ). p.1) k.1);
   waits = λ bytes k e.
       (counted_short (byte_len w) (judged w range) bytes k
-      (λ k e. within_short (range (from_be_bytes w (take (byte_len w) bytes))) (from_be_bytes w (take (byte_len w) bytes), drop (byte_len w) bytes) k e) e).0;
+      (λ k e. within_short (range (from_be_bytes w (take (byte_len w) bytes)))
+      (from_be_bytes w (take (byte_len w) bytes), drop (byte_len w) bytes) k e) e).0;
 }
 
 -- what is left after n bytes
 behind_cut : (n : ℕ) (bytes x rest : List ℕ) → cut n bytes ≡ Ok (x, rest) → drop n bytes ≡ rest
-behind_cut n bytes x rest e = let pair : (take n bytes, drop n bytes) ≡ (x, rest) = cc in ap (λ (p : List ℕ × List ℕ). p.1) pair
+behind_cut n bytes x rest e =
+    let pair : (take n bytes, drop n bytes) ≡ (x, rest) = cc in ap (λ (p : List ℕ × List ℕ). p.1) pair
 
 pub within_bytes : (n : ℕ) → IsWithin n (bytes_at n)
 within_bytes n = record {
-  takes = λ bytes x rest e. let c = counted_ok n (cut n) bytes (x, rest) e in after n bytes rest c.0 (behind_cut n bytes x rest c.1);
+  takes = λ bytes x rest e. let c = counted_ok n (cut n) bytes (x, rest) e in after n bytes rest c.0
+      (behind_cut n bytes x rest c.1);
   waits = λ bytes k e. (counted_short n (cut n) bytes k (λ k e. cc) e).0;
 }
 
@@ -111,11 +130,14 @@ within_bytes n = record {
 abbrev text_judged : ℕ → Bool → List ℕ → Read (List ℕ)
 text_judged n all bytes = cond (not all) (Err Malformed) (cond (nat_lt (length bytes) n) (Err (Short 1)) (cut n bytes))
 
-text_takes : (n : ℕ) (bytes x rest : List ℕ) (all : Bool) → text_judged n all bytes ≡ Ok (x, rest) → length bytes ≤ n + length rest
+text_takes : (n : ℕ) (bytes x rest : List ℕ) (all : Bool)
+    → text_judged n all bytes ≡ Ok (x, rest)
+    → length bytes ≤ n + length rest
 text_takes n bytes x rest false e = absurd cc
 text_takes n bytes x rest true e =
     elim (cases_lt (length bytes) n) [
-      | inl lt ↦ let stopped : text_judged n true bytes ≡ Err (Short 1) = rw (lt-ltb (length bytes) n lt) refl in absurd cc
+      | inl lt ↦ let stopped : text_judged n true bytes ≡ Err (Short 1) =
+          rw (lt-ltb (length bytes) n lt) refl in absurd cc
       | inr le ↦ after n bytes rest le (behind_cut n bytes x rest (rw (le-ltb (length bytes) n le) at e))
     ]
 

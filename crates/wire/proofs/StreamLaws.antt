@@ -1,5 +1,6 @@
 -- The frames of a stream don't depend on how it was cut, and what was written is read again.
-use Rattle.std.proofs.Common.{◌≡◌, ℕ, zero, suc, ◌≤◌, Bool, true, false, List, [], ◌∷◌, ◌++◌, length, Ok, Err, refl, sym, ap, subst, ◌∙◌, append_assoc, arith}
+use Rattle.std.proofs.Common.{◌≡◌, ℕ, zero, suc, ◌≤◌, Bool, true, false, List, [], ◌∷◌, ◌++◌, length, Ok, Err, refl}
+use Rattle.std.proofs.Common.{sym, ap, subst, ◌∙◌, append_assoc, arith}
 use Rattle.std.specs.List.{flat_map, AllByRecursion}
 use Rattle.std.proofs.lemmas.List.{append-nil}
 use Rattle.std.proofs.lemmas.List.Concat.{flat_map-cons}
@@ -9,7 +10,8 @@ use Rattle.wire.specs.declared.frames.Frame.{Frame}
 use Rattle.wire.specs.Spellings.{spelling, IsFrame}
 use Rattle.wire.specs.Grammar.{IsFirst, IsMalformed}
 use Rattle.wire.specs.Fronts.{Read, front}
-use Rattle.wire.specs.Streams.{Held, fresh, fed, taken, Action, Feed, Next, with_frame, driven, stream_of, and_later, frames_upto, frames_in}
+use Rattle.wire.specs.Streams.{Held, fresh, fed, taken, Action, Feed, Next, with_frame, driven, stream_of, and_later}
+use Rattle.wire.specs.Streams.{frames_upto, frames_in}
 use Rattle.wire.proofs.FrontLaws.{first_to, malformed_to, front_takes, front_stays, malformed_stays, old_stays}
 
 -- a count that reaches the end gives all frames
@@ -27,10 +29,13 @@ fuel (suc k) zero bytes hk hj = by_front (front bytes) refl
     by_front (Ok x) e = let less = front_takes bytes x.0 x.1 e in absurd (omega arith)
 fuel (suc k) (suc j) bytes hk hj = by_front (front bytes) refl (λ rest below low. fuel k j rest below low)
   where
-    by_front : (r : Read Frame) → front bytes ≡ r → ((rest : List ℕ) → length rest ≤ k → length rest ≤ j → frames_upto k rest ≡ frames_upto j rest)
+    by_front : (r : Read Frame)
+        → front bytes ≡ r
+        → ((rest : List ℕ) → length rest ≤ k → length rest ≤ j → frames_upto k rest ≡ frames_upto j rest)
         → and_later r (frames_upto k) ≡ and_later r (frames_upto j)
     by_front (Err s) e ih = refl
-    by_front (Ok x) e ih = let less = front_takes bytes x.0 x.1 e in ap (λ (fs : List Frame). x.0 ∷ fs) (ih x.1 (omega arith) (omega arith))
+    by_front (Ok x) e ih = let less = front_takes bytes x.0 x.1 e in ap (λ (fs : List Frame). x.0 ∷ fs)
+        (ih x.1 (omega arith) (omega arith))
 
 -- nothing is read where reading stops
 pub frames_none : (bytes : List ℕ) (s : Stop) → front bytes ≡ Err s → frames_in bytes ≡ []
@@ -41,14 +46,17 @@ frames_none bytes s e = by_length (length bytes)
     by_length (suc k) = ap (λ r. and_later r (frames_upto k)) e
 
 -- the frame at the front, and those after it
-pub frames_some : (bytes : List ℕ) (f : Frame) (rest : List ℕ) → front bytes ≡ Ok (f, rest) → frames_in bytes ≡ f ∷ frames_in rest
+pub frames_some : (bytes : List ℕ) (f : Frame) (rest : List ℕ)
+    → front bytes ≡ Ok (f, rest)
+    → frames_in bytes ≡ f ∷ frames_in rest
 frames_some bytes f rest e = by_length (length bytes) refl
   where
     by_length : (k : ℕ) → length bytes ≡ k → frames_upto k bytes ≡ f ∷ frames_in rest
     by_length zero is = let less = front_takes bytes f rest e in absurd (omega arith)
     by_length (suc k) is =
         let less = front_takes bytes f rest e in
-        ap (λ r. and_later r (frames_upto k)) e ∙ ap (λ (fs : List Frame). f ∷ fs) (fuel k (length rest) rest (omega arith) (omega arith))
+        ap (λ r. and_later r (frames_upto k)) e
+        ∙ ap (λ (fs : List Frame). f ∷ fs) (fuel k (length rest) rest (omega arith) (omega arith))
 
 -- a front that no more bytes can change
 record IsEnded (bytes : List ℕ) : Type 0 where
@@ -61,11 +69,13 @@ IsSound h = h.closed ≡ true → IsEnded h.unread
 
 -- the frames from now on, whatever follows
 abbrev Follows : Held → List Action → Type 0
-Follows h actions = (driven h actions).0 ++ frames_in (driven h actions).1.unread ≡ frames_in (h.unread ++ stream_of actions)
+Follows h actions =
+    (driven h actions).0 ++ frames_in (driven h actions).1.unread ≡ frames_in (h.unread ++ stream_of actions)
 
 -- the same by what was read at the front
 abbrev After : Held → List Action → Read Frame → Type 0
-After h actions r = with_frame (taken h r).0 (driven (taken h r).1 actions).0 ++ frames_in (driven (taken h r).1 actions).1.unread ≡ frames_in (h.unread ++ stream_of actions)
+After h actions r = with_frame (taken h r).0 (driven (taken h r).1 actions).0
+    ++ frames_in (driven (taken h r).1 actions).1.unread ≡ frames_in (h.unread ++ stream_of actions)
 
 ended_none : (bytes more : List ℕ) → IsEnded bytes → frames_in (bytes ++ more) ≡ []
 ended_none bytes more e = frames_none (bytes ++ more) e.stop (e.stays more)
@@ -77,58 +87,88 @@ ended_not_ok bytes x e ok = let read : front bytes ≡ Err e.stop = ap front (sy
 abbrev Later : List Action → Type 0
 Later actions = (h : Held) → IsSound h → Follows h actions
 
-after_piece : (piece : List ℕ) (actions : List Action) (h : Held) → IsSound h → Later actions → (b : Bool) → h.closed ≡ b → Follows h (Feed piece ∷ actions)
+after_piece : (piece : List ℕ) (actions : List Action) (h : Held)
+    → IsSound h
+    → Later actions
+    → (b : Bool)
+    → h.closed ≡ b
+    → Follows h (Feed piece ∷ actions)
 after_piece piece actions h sound later true e =
     let same : fed h piece ≡ h = rw e refl in
     let ended = sound e in
-    subst (λ (g : Held). (driven g actions).0 ++ frames_in (driven g actions).1.unread ≡ frames_in (h.unread ++ (piece ++ stream_of actions))) (sym same)
-    (later h sound ∙ ended_none h.unread (stream_of actions) ended ∙ sym (ended_none h.unread (piece ++ stream_of actions) ended))
+    subst (λ (g : Held). (driven g actions).0 ++ frames_in (driven g actions).1.unread
+    ≡ frames_in (h.unread ++ (piece ++ stream_of actions))) (sym same)
+    (later h sound ∙ ended_none h.unread (stream_of actions) ended
+    ∙ sym (ended_none h.unread (piece ++ stream_of actions) ended))
 after_piece piece actions h sound later false e =
     let longer : Held = record h { unread = h.unread ++ piece } in
     let same : fed h piece ≡ longer = rw e refl in
-    subst (λ (g : Held). (driven g actions).0 ++ frames_in (driven g actions).1.unread ≡ frames_in (h.unread ++ (piece ++ stream_of actions))) (sym same)
-    (later longer (λ closed. absurd (never h.closed closed e)) ∙ ap frames_in (append_assoc h.unread piece (stream_of actions)))
+    subst (λ (g : Held). (driven g actions).0 ++ frames_in (driven g actions).1.unread
+    ≡ frames_in (h.unread ++ (piece ++ stream_of actions))) (sym same)
+    (later longer (λ closed. absurd (never h.closed closed e))
+    ∙ ap frames_in (append_assoc h.unread piece (stream_of actions)))
   where
     never : (b : Bool) → b ≡ true → b ≡ false → ⊥
     never b closed e = cc
 
-after_next : (actions : List Action) (h : Held) → IsSound h → Later actions → (r : Read Frame) → front h.unread ≡ r → Follows h (Next ∷ actions)
+after_next : (actions : List Action) (h : Held)
+    → IsSound h
+    → Later actions
+    → (r : Read Frame)
+    → front h.unread ≡ r
+    → Follows h (Next ∷ actions)
 after_next actions h sound later (Ok x) e =
     subst (After h actions) (sym e)
-    (ap (λ (fs : List Frame). x.0 ∷ fs) (later (record h { unread = x.1 }) (λ closed. absurd (ended_not_ok h.unread x (sound closed) e)))
-    ∙ sym (frames_some (h.unread ++ stream_of actions) x.0 (x.1 ++ stream_of actions) (front_stays h.unread (stream_of actions) x.0 x.1 e)))
+    (ap (λ (fs : List Frame). x.0 ∷ fs)
+    (later (record h { unread = x.1 }) (λ closed. absurd (ended_not_ok h.unread x (sound closed) e)))
+    ∙ sym (frames_some (h.unread ++ stream_of actions) x.0 (x.1 ++ stream_of actions)
+    (front_stays h.unread (stream_of actions) x.0 x.1 e)))
 after_next actions h sound later (Err (Short k)) e = subst (After h actions) (sym e) (later h sound)
 after_next actions h sound later (Err Malformed) e =
-    subst (After h actions) (sym e) (later (record h { closed = true }) (λ closed. record { stop = Malformed; stays = λ more. malformed_stays h.unread more e }))
+    subst (After h actions) (sym e)
+    (later (record h { closed = true })
+    (λ closed. record { stop = Malformed; stays = λ more. malformed_stays h.unread more e }))
 after_next actions h sound later (Err Old) e =
-    subst (After h actions) (sym e) (later (record h { closed = true }) (λ closed. record { stop = Old; stays = λ more. old_stays h.unread more e }))
+    subst (After h actions) (sym e)
+    (later (record h { closed = true })
+    (λ closed. record { stop = Old; stays = λ more. old_stays h.unread more e }))
 
 follows : (actions : List Action) → Later actions
 follows [] h sound = ap frames_in (sym (append-nil h.unread))
 follows (Feed piece ∷ actions) h sound = after_piece piece actions h sound (follows actions) h.closed refl
 follows (Next ∷ actions) h sound = after_next actions h sound (follows actions) (front h.unread) refl
 
-pub any_cutting : (actions : List Action) → (driven fresh actions).0 ++ frames_in (driven fresh actions).1.unread ≡ frames_in (stream_of actions)
+pub any_cutting : (actions : List Action)
+    → (driven fresh actions).0 ++ frames_in (driven fresh actions).1.unread ≡ frames_in (stream_of actions)
 any_cutting actions = follows actions fresh sound
   where
     sound : IsSound fresh
     sound closed = absurd cc
 
 -- frames that were written are read again, and then what follows
-pub written_again : (fs : List Frame) (more : List ℕ) → AllByRecursion IsFrame fs → frames_in (flat_map spelling fs ++ more) ≡ fs ++ frames_in more
+pub written_again : (fs : List Frame) (more : List ℕ)
+    → AllByRecursion IsFrame fs
+    → frames_in (flat_map spelling fs ++ more) ≡ fs ++ frames_in more
 written_again [] more h = refl
 written_again (f ∷ fs) more h =
-    let regrouped : flat_map spelling (f ∷ fs) ++ more ≡ spelling f ++ (flat_map spelling fs ++ more) = ap (λ (t : List ℕ). t ++ more) (flat_map-cons spelling f fs) ∙ append_assoc (spelling f) (flat_map spelling fs) more in
-    frames_some (flat_map spelling (f ∷ fs) ++ more) f (flat_map spelling fs ++ more) (first_to (flat_map spelling (f ∷ fs) ++ more) f (flat_map spelling fs ++ more) (record { in_range = h.0; spelled = regrouped }))
+    let regrouped : flat_map spelling (f ∷ fs) ++ more ≡ spelling f ++ (flat_map spelling fs ++ more) =
+    ap (λ (t : List ℕ). t ++ more) (flat_map-cons spelling f fs)
+    ∙ append_assoc (spelling f) (flat_map spelling fs) more in
+    frames_some (flat_map spelling (f ∷ fs) ++ more) f (flat_map spelling fs ++ more)
+    (first_to (flat_map spelling (f ∷ fs) ++ more) f (flat_map spelling fs ++ more)
+    (record { in_range = h.0; spelled = regrouped }))
     ∙ ap (λ (fs : List Frame). f ∷ fs) (written_again fs more h.1)
 
-pub written_is_read : (actions : List Action) (fs : List Frame) (more : List ℕ) → AllByRecursion IsFrame fs → stream_of actions ≡ flat_map spelling fs ++ more
+pub written_is_read : (actions : List Action) (fs : List Frame) (more : List ℕ)
+    → AllByRecursion IsFrame fs
+    → stream_of actions ≡ flat_map spelling fs ++ more
     → (driven fresh actions).0 ++ frames_in (driven fresh actions).1.unread ≡ fs ++ frames_in more
 written_is_read actions fs more h e = any_cutting actions ∙ ap frames_in e ∙ written_again fs more h
 
 -- after a bad front nothing is read
 pub bad_is_final : (f : Frame) (bytes more rest : List ℕ) → IsMalformed bytes → IsFirst f (bytes ++ more) rest → ⊥
-bad_is_final f bytes more rest m h = both (front (bytes ++ more)) (malformed_stays bytes more (malformed_to bytes m)) (first_to (bytes ++ more) f rest h)
+bad_is_final f bytes more rest m h =
+    both (front (bytes ++ more)) (malformed_stays bytes more (malformed_to bytes m)) (first_to (bytes ++ more) f rest h)
   where
     both : (r : Read Frame) → r ≡ Err Malformed → r ≡ Ok (f, rest) → ⊥
     both r e ok = cc

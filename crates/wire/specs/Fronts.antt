@@ -1,5 +1,6 @@
 -- Reading from left to right: a value and the bytes after it, or why there is none.
-use Rattle.std.specs.Prelude.{◌≡◌, ℕ, ◌-◌, Bool, not, nat_lt, ◌==◌, List, [], ◌∷◌, length, take, drop, Option, None, Some, Result, Ok, Err, IsOk, if◌then◌else◌}
+use Rattle.std.specs.Prelude.{◌≡◌, ℕ, ◌-◌, Bool, not, nat_lt, ◌==◌, List, [], ◌∷◌, length, take, drop, Option, None}
+use Rattle.std.specs.Prelude.{Some, Result, Ok, Err, IsOk, if◌then◌else◌}
 use Rattle.std.specs.List.{list_all}
 use Rattle.std.specs.Int.{Width, w16, w32, w64, byte_len, from_be_bytes}
 use Rattle.table.specs.Items.{limit}
@@ -8,9 +9,11 @@ use Rattle.table.specs.Operations.{is_all}
 use Rattle.table.specs.declared.operations.Target.{Target}
 use Rattle.table.specs.declared.operations.Target.TheVariants.{One, All}
 use Rattle.table.specs.declared.operations.Op.{Op}
-use Rattle.table.specs.declared.operations.Op.TheVariants.{Set, Add, Replace, Append, Prepend, Cas, Incr, Decr, Delete, Flush}
+use Rattle.table.specs.declared.operations.Op.TheVariants.{Set, Add, Replace, Append, Prepend, Cas, Incr, Decr, Delete}
+use Rattle.table.specs.declared.operations.Op.TheVariants.{Flush}
 use Rattle.table.specs.declared.operations.Reply.{Reply}
-use Rattle.table.specs.declared.operations.Reply.TheVariants.{Stored, NotStored, Exists, NotFound, Deleted, Number, TooLarge, NotNumber, Flushed}
+use Rattle.table.specs.declared.operations.Reply.TheVariants.{Stored, NotStored, Exists, NotFound, Deleted, Number}
+use Rattle.table.specs.declared.operations.Reply.TheVariants.{TooLarge, NotNumber, Flushed}
 use Rattle.table.specs.declared.operations.Change.{Change}
 use Rattle.table.specs.declared.operations.Change.TheVariants.{Keep, Put, Drop, Clear}
 use Rattle.node.specs.declared.messages.Body.{Body}
@@ -61,7 +64,8 @@ byte_at range (b ∷ rest) = within (range b) (b, rest)
 abbrev pub number_at : Width → (ℕ → Bool) → List ℕ → Read ℕ
 number_at w range bytes =
     if nat_lt (length bytes) (byte_len w) then Err (Short (byte_len w - length bytes))
-    else within (range (from_be_bytes w (take (byte_len w) bytes))) (from_be_bytes w (take (byte_len w) bytes), drop (byte_len w) bytes)
+    else within (range (from_be_bytes w (take (byte_len w) bytes)))
+    (from_be_bytes w (take (byte_len w) bytes), drop (byte_len w) bytes)
 
 -- n bytes
 abbrev pub bytes_at : ℕ → List ℕ → Read (List ℕ)
@@ -112,7 +116,9 @@ key_operation_at code bytes =
     else if code == 3 then (flagged_at bytes >>= λ x. Ok (Replace x.0.0 x.0.1, x.1))
     else if code == 4 then (block_at bytes >>= λ x. Ok (Append x.0, x.1))
     else if code == 5 then (block_at bytes >>= λ x. Ok (Prepend x.0, x.1))
-    else if code == 6 then (number_at w32 any bytes >>= λ flags. number_at w64 any flags.1 >>= λ unique. block_at unique.1 >>= λ x. Ok (Cas flags.0 x.0 unique.0, x.1))
+    else if code == 6 then
+    (number_at w32 any bytes >>= λ flags. number_at w64 any flags.1 >>= λ unique. block_at unique.1 >>= λ x. Ok
+    (Cas flags.0 x.0 unique.0, x.1))
     else if code == 7 then (number_at w64 any bytes >>= λ n. Ok (Incr n.0, n.1))
     else if code == 8 then (number_at w64 any bytes >>= λ n. Ok (Decr n.0, n.1))
     else if code == 9 then Ok (Delete, bytes)
@@ -147,7 +153,8 @@ reply_at all bytes = do
 unfoldable pub key_change_at : ℕ → ℕ → List ℕ → Read Change
 key_change_at number code bytes =
     if code == 0 then Ok (Keep, bytes)
-    else if code == 1 then (flagged_at bytes >>= λ x. Ok (Put (record { flags = x.0.0; bytes = x.0.1; unique = number }), x.1))
+    else if code == 1 then
+    (flagged_at bytes >>= λ x. Ok (Put (record { flags = x.0.0; bytes = x.0.1; unique = number }), x.1))
     else if code == 2 then Ok (Drop, bytes)
     else Err Malformed
 
@@ -174,7 +181,18 @@ forward_body_at bytes = do
   on ← target_at id.1
   told ← reply_at (is_all on.0) on.1
   done ← change_at (is_all on.0) number.0 told.1
-  Ok (bodies.Forward (record { number = number.0; origin = origin.0; id = id.0; target = on.0; reply = told.0; change = done.0 }), done.1)
+  Ok (
+    bodies.Forward
+        (record {
+          number = number.0;
+          origin = origin.0;
+          id = id.0;
+          target = on.0;
+          reply = told.0;
+          change = done.0;
+        }),
+    done.1,
+  )
 
 -- an acknowledged number
 unfoldable pub ack_body_at : List ℕ → Read Body

@@ -7,9 +7,11 @@ use Rattle.table.specs.Operations.{is_all}
 use Rattle.table.specs.declared.operations.Target.{Target}
 use Rattle.table.specs.declared.operations.Target.TheVariants.{One, All}
 use Rattle.table.specs.declared.operations.Op.{Op}
-use Rattle.table.specs.declared.operations.Op.TheVariants.{Set, Add, Replace, Append, Prepend, Cas, Incr, Decr, Delete, Flush}
+use Rattle.table.specs.declared.operations.Op.TheVariants.{Set, Add, Replace, Append, Prepend, Cas, Incr, Decr, Delete}
+use Rattle.table.specs.declared.operations.Op.TheVariants.{Flush}
 use Rattle.table.specs.declared.operations.Reply.{Reply}
-use Rattle.table.specs.declared.operations.Reply.TheVariants.{Stored, NotStored, Exists, NotFound, Deleted, Number, TooLarge, NotNumber, Flushed}
+use Rattle.table.specs.declared.operations.Reply.TheVariants.{Stored, NotStored, Exists, NotFound, Deleted, Number}
+use Rattle.table.specs.declared.operations.Reply.TheVariants.{TooLarge, NotNumber, Flushed}
 use Rattle.table.specs.declared.operations.Change.{Change}
 use Rattle.table.specs.declared.operations.Change.TheVariants.{Keep, Put, Drop, Clear}
 use Rattle.node.specs.declared.messages.Body.{Body}
@@ -72,7 +74,8 @@ key_operation code =
     (either (code == 3) (flagged >>= λ x. makes (Replace x.0 x.1))
     (either (code == 4) (block >>= λ bytes. makes (Append bytes))
     (either (code == 5) (block >>= λ bytes. makes (Prepend bytes))
-    (either (code == 6) (number w32 any >>= λ flags. number w64 any >>= λ unique. block >>= λ bytes. makes (Cas flags bytes unique))
+    (either (code == 6)
+    (number w32 any >>= λ flags. number w64 any >>= λ unique. block >>= λ bytes. makes (Cas flags bytes unique))
     (either (code == 7) (number w64 any >>= λ amount. makes (Incr amount))
     (either (code == 8) (number w64 any >>= λ amount. makes (Decr amount))
     (either (code == 9) (makes Delete) refused))))))))

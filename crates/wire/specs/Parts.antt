@@ -1,5 +1,6 @@
 -- Parts of a format: what spells a value of each, and at which fronts a field is out of its range.
--- Fields are judged in order, each as soon as all its bytes are there; each byte of a key is a field by itself (this project's rule).
+-- Fields are judged in order, each as soon as all its bytes are there; each byte of a key is a field by itself (this
+-- project's rule).
 use Rattle.std.specs.Prelude.{◌≡◌, ◌⊎◌, ℕ, zero, suc, ◌*◌, ◌<◌, ◌^◌, Bool, true, false, List, [], ◌∷◌, ◌++◌, length}
 use Rattle.std.specs.Int.{Width, byte_len, to_be_bytes}
 
@@ -12,8 +13,10 @@ pub record Part (A : Type 0) : Type 1 where
 -- one part and then another, which may depend on the first one's value
 abbrev pub followed : {A B : Type 0} → Part A → (A → Part B) → Part B
 followed {A = A} {B = B} first second = record {
-  Spells = λ y bytes. (x : A) × (front back : List ℕ) × first.Spells x front × (second x).Spells y back × (bytes ≡ front ++ back);
-  Bad = λ bytes. first.Bad bytes ⊎ ((x : A) × (front rest : List ℕ) × first.Spells x front × (bytes ≡ front ++ rest) × (second x).Bad rest);
+  Spells = λ y bytes. (x : A) × (front back : List ℕ) × first.Spells x front × (second x).Spells y back
+      × (bytes ≡ front ++ back);
+  Bad = λ bytes. first.Bad bytes
+      ⊎ ((x : A) × (front rest : List ℕ) × first.Spells x front × (bytes ≡ front ++ rest) × (second x).Bad rest);
 }
 
 infixl 10 ◌>>=◌
@@ -45,7 +48,8 @@ byte range = record {
 abbrev pub number : Width → (ℕ → Bool) → Part ℕ
 number w range = record {
   Spells = λ n bytes. (n < 2 ^ (8 * byte_len w)) × (range n ≡ true) × (bytes ≡ to_be_bytes w n);
-  Bad = λ bytes. (n : ℕ) × (rest : List ℕ) × (n < 2 ^ (8 * byte_len w)) × (bytes ≡ to_be_bytes w n ++ rest) × (range n ≡ false);
+  Bad = λ bytes. (n : ℕ) × (rest : List ℕ) × (n < 2 ^ (8 * byte_len w)) × (bytes ≡ to_be_bytes w n ++ rest)
+      × (range n ≡ false);
 }
 
 -- any n bytes

@@ -6,9 +6,11 @@ use Rattle.table.specs.Operations.{is_update}
 use Rattle.table.specs.declared.operations.Target.{Target}
 use Rattle.table.specs.declared.operations.Target.TheVariants.{One, All}
 use Rattle.table.specs.declared.operations.Op.{Op}
-use Rattle.table.specs.declared.operations.Op.TheVariants.{Read, Set, Add, Replace, Append, Prepend, Cas, Incr, Decr, Delete, Flush}
+use Rattle.table.specs.declared.operations.Op.TheVariants.{Read, Set, Add, Replace, Append, Prepend, Cas, Incr, Decr}
+use Rattle.table.specs.declared.operations.Op.TheVariants.{Delete, Flush}
 use Rattle.table.specs.declared.operations.Reply.{Reply}
-use Rattle.table.specs.declared.operations.Reply.TheVariants.{Stored, NotStored, Exists, NotFound, Deleted, Number, Value, TooLarge, NotNumber, Flushed}
+use Rattle.table.specs.declared.operations.Reply.TheVariants.{Stored, NotStored, Exists, NotFound, Deleted, Number}
+use Rattle.table.specs.declared.operations.Reply.TheVariants.{Value, TooLarge, NotNumber, Flushed}
 use Rattle.table.specs.declared.operations.Change.{Change}
 use Rattle.table.specs.declared.operations.Change.TheVariants.{Keep, Put, Drop, Clear}
 use Rattle.versions.specs.Entries.{LogEntry, IsEntry}
@@ -76,7 +78,9 @@ change_spelling Clear = 3 ∷ []
 -- an entry: its number, origin, id, target, reply and change
 abbrev pub entry_spelling : LogEntry → List ℕ
 entry_spelling e =
-    eight_bytes e.number ++ (e.origin ∷ (eight_bytes e.id ++ (target_spelling e.target ++ (reply_spelling e.reply ++ change_spelling e.change))))
+    eight_bytes e.number
+    ++ (e.origin ∷ (eight_bytes e.id
+    ++ (target_spelling e.target ++ (reply_spelling e.reply ++ change_spelling e.change))))
 
 -- the kind of a body
 abbrev pub kind_of : Body → ℕ
@@ -100,7 +104,8 @@ spelling (Hello id) = 2 ∷ 0 ∷ id ∷ []
 spelling (Peer peer) = 2 ∷ kind_of peer.body ∷ (to_be_bytes w16 peer.view ++ body_spelling peer.body)
 spelling (Gone id) = 2 ∷ 6 ∷ id ∷ []
 
--- A frame whose fields are in the ranges that no type keeps: a server has an id below 16, and 16 is the master, who may greet
+-- A frame whose fields are in the ranges that no type keeps: a server has an id below 16, and 16 is the master, who may
+-- greet
 -- and is never gone; a message is one that may be sent.
 abbrev pub IsInRange : Frame → Type 0
 IsInRange (Hello id) = id ≤ 16
@@ -147,7 +152,8 @@ pub record IsWireEntry (e : LogEntry) : Type 0 where
 
 -- a body all of whose fields are in their ranges
 abbrev pub IsBody : Body → Type 0
-IsBody (bodies.Op id call) = (1 ≤ id) × (id < 2 ^ 64) × IsTarget call.target × IsCall call × (is_update call.op ≡ true) × HasWidths call.op
+IsBody (bodies.Op id call) =
+    (1 ≤ id) × (id < 2 ^ 64) × IsTarget call.target × IsCall call × (is_update call.op ≡ true) × HasWidths call.op
 IsBody (bodies.Forward e) = IsWireEntry e
 IsBody (bodies.Ack n) = n < 2 ^ 64
 IsBody (bodies.Query ask key) = (1 ≤ ask) × (ask < 2 ^ 64) × IsKey key

@@ -1,5 +1,6 @@
 -- What a reader of frames holds, what each of its calls makes of it, and the frames of whole streams.
-use Rattle.std.specs.Prelude.{◌≡◌, ℕ, zero, suc, Bool, true, false, List, [], ◌∷◌, ◌++◌, length, Option, None, Some, Ok, Err, if◌then◌else◌}
+use Rattle.std.specs.Prelude.{◌≡◌, ℕ, zero, suc, Bool, true, false, List, [], ◌∷◌, ◌++◌, length, Option, None, Some, Ok}
+use Rattle.std.specs.Prelude.{Err, if◌then◌else◌}
 use Rattle.wire.specs.declared.fields.Stop.TheVariants.{Short, Malformed, Old}
 use Rattle.wire.specs.declared.frames.Frame.{Frame}
 use Rattle.wire.specs.Fronts.{Read, front}
@@ -47,7 +48,8 @@ with_frame (Some f) frames = f ∷ frames
 abbrev pub driven : Held → List Action → List Frame × Held
 driven h [] = ([], h)
 driven h (Feed piece ∷ actions) = driven (fed h piece) actions
-driven h (Next ∷ actions) = let given = next_of h in let rest = driven given.1 actions in (with_frame given.0 rest.0, rest.1)
+driven h (Next ∷ actions) =
+    let given = next_of h in let rest = driven given.1 actions in (with_frame given.0 rest.0, rest.1)
 
 -- the bytes that these actions feed, as one stream
 abbrev pub stream_of : List Action → List ℕ

@@ -2,7 +2,8 @@
 ghost use Rattle.std.specs.Prelude.{◌≡◌, ◌<◌, false, IfOk};
 ghost use Rattle.table.specs.Operations.{is_value};
 ghost use Rattle.versions.specs.Entries.{PutsOwn, is_clear, is_flushed};
-ghost use Rattle.wire.specs.Fronts.{Gives, GivesOwned, byte_at, change_at, key_change_at, forward_body_at, key_reply_at, reply_at};
+ghost use Rattle.wire.specs.Fronts.{Gives, GivesOwned, byte_at, change_at, key_change_at, forward_body_at};
+ghost use Rattle.wire.specs.Fronts.{key_reply_at, reply_at};
 ghost use Rattle.wire.specs.Grammar.{below};
 
 use crate::blocks::owned_flagged_at;

@@ -14,7 +14,10 @@ pub fn format_is_spelling()
 
 /// No spelling begins another, and no bytes spell two frames: at most one frame stands at the front of a stream.
 pub fn one_frame_at_a_front()
-    ensures { (f g : Frame) (bytes more others : List ℕ) → IsFirst f bytes more → IsFirst g bytes others → (f ≡ g) × (more ≡ others) }
+    ensures { (f g : Frame) (bytes more others : List ℕ)
+        → IsFirst f bytes more
+        → IsFirst g bytes others
+        → (f ≡ g) × (more ≡ others) }
 {}
 
 /// If a field is out of its range, no frame is read, whatever bytes follow.
@@ -24,13 +27,19 @@ pub fn bad_front_is_final()
 
 /// A bad front stays bad, whatever bytes follow.
 pub fn bad_front_stays()
-    ensures { (bytes more : List ℕ) → ((i : ℕ) → slice_index (bytes ++ more) i < 256) → IsMalformed bytes → IsMalformed (bytes ++ more) }
+    ensures { (bytes more : List ℕ)
+        → ((i : ℕ) → slice_index (bytes ++ more) i < 256)
+        → IsMalformed bytes
+        → IsMalformed (bytes ++ more) }
 {}
 
-/// What isn't whole is short: a front at which more bytes are waited for is shorter than the longest frame, and some such
-/// front is shorter by one byte alone.
+/// What isn't whole is short: a front at which more bytes are waited for is shorter than the longest frame, and some
+/// such front is shorter by one byte alone.
 pub fn partial_front_is_short()
-    ensures short { (bytes : List ℕ) → ((i : ℕ) → slice_index bytes i < 256) → IsPartial bytes → length bytes < longest }
+    ensures short { (bytes : List ℕ)
+        → ((i : ℕ) → slice_index bytes i < 256)
+        → IsPartial bytes
+        → length bytes < longest }
     ensures sharp { (bytes : List ℕ) × IsPartial bytes × (length bytes + 1 ≡ longest) }
 {}
 
@@ -42,18 +51,24 @@ pub fn longest_frame()
 
 /// At each beginning of a frame's spelling more bytes are waited for, until all of it is there.
 pub fn beginning_waits()
-    ensures { (f : Frame) (front rest : List ℕ) → IsFrame f → spelling f ≡ front ++ rest → 0 < length rest → IsPartial front }
+    ensures { (f : Frame) (front rest : List ℕ)
+        → IsFrame f
+        → spelling f ≡ front ++ rest
+        → 0 < length rest
+        → IsPartial front }
 {}
 
 /// The frames that a reader gave, and those that it has still to give, are those of all its bytes as one stream:
 /// they do not depend on how the stream was cut, nor on when the reader was asked.
 pub fn any_cutting()
-    ensures { (actions : List Action) →
-        (driven fresh actions).0 ++ frames_in (driven fresh actions).1.unread ≡ frames_in (stream_of actions) }
+    ensures { (actions : List Action)
+        → (driven fresh actions).0 ++ frames_in (driven fresh actions).1.unread ≡ frames_in (stream_of actions) }
 {}
 
 /// What was written is read again, whatever follows it, and however all of it is cut.
 pub fn written_is_read()
-    ensures { (actions : List Action) (fs : List Frame) (more : List ℕ) → AllByRecursion IsFrame fs → stream_of actions ≡ flat_map spelling fs ++ more →
-        (driven fresh actions).0 ++ frames_in (driven fresh actions).1.unread ≡ fs ++ frames_in more }
+    ensures { (actions : List Action) (fs : List Frame) (more : List ℕ)
+        → AllByRecursion IsFrame fs
+        → stream_of actions ≡ flat_map spelling fs ++ more
+        → (driven fresh actions).0 ++ frames_in (driven fresh actions).1.unread ≡ fs ++ frames_in more }
 {}

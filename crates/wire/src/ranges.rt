@@ -2,7 +2,8 @@
 ghost use Rattle.std.specs.Prelude.{◌<◌, ◌^◌};
 ghost use Rattle.table.specs.Keys.{IsKey};
 ghost use Rattle.node.specs.Lawful.{IsSendable};
-ghost use Rattle.wire.specs.Spellings.{HasChangeWidth, HasReplyWidth, HasWidths, IsBody, IsFrame, IsInRange, IsTarget, IsWireEntry};
+ghost use Rattle.wire.specs.Spellings.{HasChangeWidth, HasReplyWidth, HasWidths, IsBody, IsFrame, IsInRange, IsTarget};
+ghost use Rattle.wire.specs.Spellings.{IsWireEntry};
 
 use crate::Frame;
 use node::Body;

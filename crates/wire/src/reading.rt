@@ -1,6 +1,7 @@
 //! Frames read from the front. All of a frame is there and judged before any memory is asked for.
 ghost use Rattle.std.specs.Prelude.{◌≡◌, ℕ, ◌<◌, slice_index};
-ghost use Rattle.wire.specs.Fronts.{Gives, GivesOwned, ack_body_at, answer_body_at, body_at, format_at, front, message_at, of_kind_at, op_body_at, query_body_at};
+ghost use Rattle.wire.specs.Fronts.{Gives, GivesOwned, ack_body_at, answer_body_at, body_at, format_at, front};
+ghost use Rattle.wire.specs.Fronts.{message_at, of_kind_at, op_body_at, query_body_at};
 ghost use Rattle.wire.specs.declared.reading.ReadFault.TheVariants.{Memory, Stopped};
 
 use crate::Frame;

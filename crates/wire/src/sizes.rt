@@ -3,7 +3,8 @@ ghost use Rattle.std.specs.Prelude.{◌≡◌, ◌+◌, ◌≤◌, ◌<◌, true
 ghost use Rattle.table.specs.Items.{limit};
 ghost use Rattle.table.specs.Operations.{Fits, is_update, is_value};
 ghost use Rattle.node.specs.Lawful.{IsSendable};
-ghost use Rattle.wire.specs.Spellings.{IsInRange, body_spelling, change_spelling, op_spelling, reply_spelling, spelling, target_spelling};
+ghost use Rattle.wire.specs.Spellings.{IsInRange, body_spelling, change_spelling, op_spelling, reply_spelling};
+ghost use Rattle.wire.specs.Spellings.{spelling, target_spelling};
 
 use crate::Frame;
 use node::Body;

@@ -1,9 +1,12 @@
-//! The bytes of frames. There is room for all of a frame before its first byte is written, so that nothing is refused halfway.
+//! The bytes of frames. There is room for all of a frame before its first byte is written, so that nothing is refused
+//! halfway.
 ghost use Rattle.std.specs.Prelude.{◌≡◌, ◌+◌, ◌≤◌, ◌++◌, ◌∷◌, false, length, IfOk, OnOk, OnErr, IsOkUnless};
 ghost use Rattle.table.specs.Items.{limit};
 ghost use Rattle.table.specs.Operations.{Fits, is_value};
 ghost use Rattle.node.specs.Lawful.{IsSendable};
-ghost use Rattle.wire.specs.Spellings.{IsFrame, IsInRange, block_spelling, body_spelling, change_spelling, eight_bytes, entry_spelling, four_bytes, key_spelling, kind_of, op_spelling, reply_spelling, spelling, target_spelling};
+ghost use Rattle.wire.specs.Spellings.{IsFrame, IsInRange, block_spelling, body_spelling, change_spelling, eight_bytes};
+ghost use Rattle.wire.specs.Spellings.{entry_spelling, four_bytes, key_spelling, kind_of, op_spelling, reply_spelling};
+ghost use Rattle.wire.specs.Spellings.{spelling, target_spelling};
 
 use crate::frames::FORMAT;
 use crate::ranges::hold_ranges;
@@ -15,8 +18,8 @@ use std::alloc::Global;
 use table::{Change, Key, Op, Reply, Target};
 use versions::Entry;
 
-/// The one spelling of a frame in its ranges (docs/FORMATS.md, "Peer messages"; this project's rule), from which it is read
-/// again. Memory is its only refusal. An item's data is copied once.
+/// The one spelling of a frame in its ranges (docs/FORMATS.md, "Peer messages"; this project's rule), from which it is
+/// read again. Memory is its only refusal. An item's data is copied once.
 pub fn encode(alloc: Global, frame: &Frame) -> Result<Vec<u8>, WireFault>
     requires range { IsInRange frame.now }
     ensures spelling { IfOk result (λ bytes. bytes.items ≡ spelling frame.now) }

@@ -66,11 +66,13 @@ impl Frames {
     }
 
     /// The frame at the front, which is taken off, or none if it isn't complete yet.
-    /// `Memory` comes only if a frame stands there, and changes nothing. A bad front stays, so that every later call meets it again; so does an older server's.
+    /// `Memory` comes only if a frame stands there, and changes nothing. A bad front stays, so that every later call
+    /// meets it again; so does an older server's.
     pub fn next(&mut self) -> Result<Option<Frame>, WireFault>
         ensures frame { IfOk result (λ found. IfSome found (λ frame. IsFirst frame self.old.unread self.new.unread)) }
         ensures none { IfOk result (λ found. IfNone found (IsPartial self.old.unread)) }
-        // With none, all stays as it was, and that is shorter than the longest frame; if no more bytes come, no frame is left there.
+        // With none, all stays as it was, and that is shorter than the longest frame; if no more bytes come, no frame
+        // is left there.
         ensures kept { IfOk result (λ found. IfNone found (self.new ≡ self.old)) }
         ensures short { IfOk result (λ found. IfNone found (length self.new.unread < longest)) }
         ensures end { IfOk result (λ found. IfNone found (IsEnd self.old.unread PeerEnd.Input)) }

@@ -18,4 +18,5 @@ pub record IsAwaited (ks : List Connection) (i c : ℕ) (reply : Reply) : Type 0
 abbrev pub AreAwaited : List Connection → ℕ → List Output → Type 0
 AreAwaited ks i [] = Unit {0}
 AreAwaited ks i (To j peer ∷ os) = AreAwaited ks i os
-AreAwaited ks i (Replied c reply ∷ os) = IsAwaited ks i c reply × AreAwaited (changed_at ks c (λ k. replied k.stage reply k)) i os
+AreAwaited ks i (Replied c reply ∷ os) =
+    IsAwaited ks i c reply × AreAwaited (changed_at ks c (λ k. replied k.stage reply k)) i os

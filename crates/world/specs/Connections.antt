@@ -1,5 +1,6 @@
 -- Connections: what a client's connection holds, and what each event at it does.
-use Rattle.std.specs.Prelude.{ℕ, zero, suc, Bool, false, not, List, [], ◌∷◌, ◌++◌, length, Option, None, Some, slice_get, if◌then◌else◌}
+use Rattle.std.specs.Prelude.{ℕ, zero, suc, Bool, false, not, List, [], ◌∷◌, ◌++◌, length, Option, None, Some}
+use Rattle.std.specs.Prelude.{slice_get, if◌then◌else◌}
 use Rattle.table.specs.Operations.{is_update, is_value}
 use Rattle.table.specs.declared.operations.Call.{Call}
 use Rattle.table.specs.declared.operations.Reply.{Reply}
@@ -89,7 +90,8 @@ abbrev pub handed : Stage → Connection → Connection
 handed Idle k = k
 handed Begun k = k
 handed Asked k = k
-handed (Replied reply) k = record k { session = answered_by k.session.asked k.session reply; replies = k.replies ++ reply ∷ []; stage = Idle }
+handed (Replied reply) k =
+    record k { session = answered_by k.session.asked k.session reply; replies = k.replies ++ reply ∷ []; stage = Idle }
 
 -- the c-th connection, if there is one, changes so
 abbrev pub changed_at : List Connection → ℕ → (Connection → Connection) → List Connection

@@ -26,9 +26,11 @@ is_passed_over (b ∷ bs) = b == 35
 -- the lines that count, each with its number, if the first line has this number
 abbrev pub counted_from : ℕ → List (List ℕ) → List (ℕ × List ℕ)
 counted_from n [] = []
-counted_from n (line ∷ later) = if is_passed_over line then counted_from (n + 1) later else (n, line) ∷ counted_from (n + 1) later
+counted_from n (line ∷ later) =
+    if is_passed_over line then counted_from (n + 1) later else (n, line) ∷ counted_from (n + 1) later
 
--- what is left of a text's lines: those that count, each with its number; how many lines were taken; and how many there are in all
+-- what is left of a text's lines: those that count, each with its number; how many lines were taken; and how many there
+-- are in all
 pub record LinesLeft : Type 0 where
   pub counted : List (ℕ × List ℕ)
   pub taken : ℕ

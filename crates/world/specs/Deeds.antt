@@ -22,7 +22,8 @@ sent_between before after = drop (length before.session.out) after.session.out
 abbrev pub piece_deed : Connection → Deed
 piece_deed k = if k.session.closed then Nothing else Came
 
--- what a `begin` is, by the connection before and after: the bytes sent, and the call that waits for its work, if there is one
+-- what a `begin` is, by the connection before and after: the bytes sent, and the call that waits for its work, if there
+-- is one
 abbrev pub began : Connection → Connection → Deed
 began before after = Began (to_work after.stage after) (sent_between before after)
 

@@ -1,5 +1,6 @@
 -- The lines of a schedule after its head: an event each, or rounds of events.
-use Rattle.std.specs.Prelude.{ℕ, List, [], ◌∷◌, replicate, Option, None, Some, option_map, if◌then◌else◌, codes, bytes_eq}
+use Rattle.std.specs.Prelude.{ℕ, List, [], ◌∷◌, replicate, Option, None, Some, option_map, if◌then◌else◌, codes}
+use Rattle.std.specs.Prelude.{bytes_eq}
 use Rattle.world.specs.declared.events.Event.{Event}
 use Rattle.world.specs.declared.events.Event.TheVariants.{Piece, Begin, Work, Deliver, Fail, Tell, Hand}
 use Rattle.world.specs.declared.event_lines.EventLine.{EventLine}
@@ -78,7 +79,8 @@ word_line word rest =
 abbrev pub event_line : List ℕ → Option EventLine
 event_line line = do
   (word, rest) ← cut space line
-  if bytes_eq word (codes "settle") then option_map Settle (number_in 1 501 rest) else option_map One (word_line word rest)
+  if bytes_eq word (codes "settle") then option_map Settle (number_in 1 501 rest) else option_map One
+      (word_line word rest)
 
 -- the events that it stands for, with `count` servers and `connections` connections
 abbrev pub events_in : ℕ → ℕ → EventLine → List Event

@@ -1,5 +1,6 @@
 -- The two lines that open a schedule.
-use Rattle.std.specs.Prelude.{ℕ, ◌&&◌, nat_le, List, [], ◌∷◌, length, Option, None, Some, if◌then◌else◌, codes, bytes_eq}
+use Rattle.std.specs.Prelude.{ℕ, ◌&&◌, nat_le, List, [], ◌∷◌, length, Option, None, Some, if◌then◌else◌, codes}
+use Rattle.std.specs.Prelude.{bytes_eq}
 use Rattle.proto.specs.Requests.{◌>>=◌}
 use Rattle.world.specs.Cuts.{space, cut, fields_of}
 use Rattle.world.specs.Numbers.{number_in}
@@ -22,4 +23,5 @@ servers_line line = do
 abbrev pub homes_line : ℕ → List ℕ → Option (List ℕ)
 homes_line count line = do
   (word, homes) ← cut space line
-  if bytes_eq word (codes "homes") && nat_le (length (fields_of homes)) 64 then numbers_below count (fields_of homes) else None
+  if bytes_eq word (codes "homes") && nat_le (length (fields_of homes)) 64 then numbers_below count
+      (fields_of homes) else None

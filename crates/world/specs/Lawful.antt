@@ -1,4 +1,5 @@
--- Serves the fields of the code; no public contract needs it. What holds of a connection's fields at every moment: its open call
+-- Serves the fields of the code; no public contract needs it. What holds of a connection's fields at every moment: its
+-- open call
 -- is its session's.
 use Rattle.std.specs.Prelude.{◌≡◌, ◌+◌, List, length, Option, None, Some, slice_get}
 use Rattle.table.specs.declared.operations.Call.{Call}
@@ -17,6 +18,8 @@ HasOpen (Some call) asked = IsOpen (Calls call.target call.op) asked
 -- what holds at each stage: the open call is the first without a reply, and the session has it open
 abbrev pub IsLawful : Stage → List Call → List Reply → Option Form → Type 0
 IsLawful Idle calls replies asked = (asked ≡ None) × (length calls ≡ length replies)
-IsLawful Begun calls replies asked = HasOpen (slice_get calls (length replies)) asked × (length calls ≡ length replies + 1)
-IsLawful Asked calls replies asked = HasOpen (slice_get calls (length replies)) asked × (length calls ≡ length replies + 1)
+IsLawful Begun calls replies asked =
+    HasOpen (slice_get calls (length replies)) asked × (length calls ≡ length replies + 1)
+IsLawful Asked calls replies asked =
+    HasOpen (slice_get calls (length replies)) asked × (length calls ≡ length replies + 1)
 IsLawful (Replied reply) calls replies asked = CanAnswer asked reply × (length calls ≡ length replies + 1)

@@ -1,6 +1,7 @@
 -- Serves the contracts inside this crate; no public one needs it. What of a world counts: all but the states of its
 -- failed servers and the links to them.
-use Rattle.std.specs.Prelude.{◌≡◌, ℕ, zero, suc, Bool, List, [], ◌∷◌, length, map, slice_set, Option, None, Some, slice_get, if◌then◌else◌}
+use Rattle.std.specs.Prelude.{◌≡◌, ℕ, zero, suc, Bool, List, [], ◌∷◌, length, map, slice_set, Option, None, Some}
+use Rattle.std.specs.Prelude.{slice_get, if◌then◌else◌}
 use Rattle.node.specs.declared.messages.Input.{Input}
 use Rattle.node.specs.Views.{has, union, single}
 use Rattle.node.specs.Servers.{opening}

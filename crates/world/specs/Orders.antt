@@ -38,4 +38,7 @@ pub record IsLinearization (count : ℕ) (homes : List ℕ) (events : List Event
   pub answered : (x : CallId) (reply : Reply) → reply_to (run_of count homes events) x ≡ Some reply
       → (i : ℕ) × (at : StandsAt h i x) × (at.entry.reply ≡ reply)
   -- if x precedes y and y is in it, x is in it, at an earlier place.
-  pub in_time : (x y : CallId) (j : ℕ) → Precedes count homes events x y → StandsAt h j y → (i : ℕ) × (i < j) × StandsAt h i x
+  pub in_time : (x y : CallId) (j : ℕ)
+      → Precedes count homes events x y
+      → StandsAt h j y
+      → (i : ℕ) × (i < j) × StandsAt h i x

@@ -8,7 +8,8 @@ use Rattle.node.specs.Servers.{ServerState, Outcome}
 use Rattle.world.specs.declared.events.Event.{Event}
 use Rattle.world.specs.declared.events.Event.TheVariants.{Piece, Begin, Work, Deliver, Fail, Tell, Hand}
 use Rattle.world.specs.Connections.{Connection, to_work, asked}
-use Rattle.world.specs.Worlds.{World, server, link, with_link, with_connection, opening_world, lives, has_failed, acted, happens}
+use Rattle.world.specs.Worlds.{World, server, link, with_link, with_connection, opening_world, lives, has_failed, acted}
+use Rattle.world.specs.Worlds.{happens}
 
 -- what a server makes of an input, and what it puts out
 abbrev pub Stepping : Type 0

@@ -1,5 +1,6 @@
 -- The text of a transcript (the format is this project's).
-use Rattle.std.specs.Prelude.{ℕ, ◌+◌, Bool, List, [], ◌∷◌, ◌++◌, length, is_some, count_by, flat_map, decimal, if◌then◌else◌, codes}
+use Rattle.std.specs.Prelude.{ℕ, ◌+◌, Bool, List, [], ◌∷◌, ◌++◌, length, is_some, count_by, flat_map, decimal}
+use Rattle.std.specs.Prelude.{if◌then◌else◌, codes}
 use Rattle.world.specs.declared.transcripts.CallTranscript.{CallTranscript}
 use Rattle.world.specs.Cuts.{lf, parts}
 use Rattle.world.specs.Escapes.{escape}
@@ -16,7 +17,8 @@ labelled label number = label ++ decimal number
 -- `connection C server H begun B answered A`
 abbrev pub connection_line : ℕ → ConnectionShown → List ℕ
 connection_line number k =
-    labelled (codes "connection ") number ++ labelled (codes " server ") k.home ++ labelled (codes " begun ") (length k.calls)
+    labelled (codes "connection ") number ++ labelled (codes " server ") k.home ++ labelled (codes " begun ")
+    (length k.calls)
     ++ labelled (codes " answered ") (answered k.calls) ++ lf ∷ []
 
 -- a part of what was sent, escaped, as a line

@@ -22,7 +22,8 @@ all_below (suc n) test = all_below n test && test n
 abbrev pub is_server_quiet : World → ℕ → Bool
 is_server_quiet w j = all_below (length w.servers) (λ i. is_empty (link w i j)) && (server w j).view == w.failed
 
--- nothing waits at living servers: no message for them, no failure that they don't know, no call or reply at their connections
+-- nothing waits at living servers: no message for them, no failure that they don't know, no call or reply at their
+-- connections
 abbrev pub is_quiet : World → Bool
 is_quiet w =
     all_below (length w.servers) (λ j. not (lives w j) || is_server_quiet w j)

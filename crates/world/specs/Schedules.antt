@@ -33,7 +33,8 @@ events_of count connections (line ∷ later) = do
   more ← events_of count connections later
   Ok (events ++ more)
 
--- the schedule of the lines that count: the first is `servers N`, the second `homes H ..`, each further line one of events
+-- the schedule of the lines that count: the first is `servers N`, the second `homes H ..`, each further line one of
+-- events
 abbrev pub schedule_of_lines : ℕ → List (ℕ × List ℕ) → Result ScheduleShown ℕ
 schedule_of_lines end counted = do
   count ← first_says servers_line end counted

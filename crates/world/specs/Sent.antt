@@ -1,5 +1,6 @@
 -- What a connection has been sent: a function of its whole stream, independent of how that was cut.
-use Rattle.std.specs.Prelude.{ℕ, zero, suc, ◌+◌, Bool, ◌==◌, List, [], ◌∷◌, ◌++◌, take, drop, Option, None, Some, if◌then◌else◌, slice_get}
+use Rattle.std.specs.Prelude.{ℕ, zero, suc, ◌+◌, Bool, ◌==◌, List, [], ◌∷◌, ◌++◌, take, drop, Option, None, Some}
+use Rattle.std.specs.Prelude.{if◌then◌else◌, slice_get}
 use Rattle.table.specs.declared.operations.Call.{Call}
 use Rattle.table.specs.declared.operations.Reply.{Reply}
 use Rattle.proto.specs.Turns.{Turn, Faulty, Calls}
@@ -11,7 +12,8 @@ use Rattle.world.specs.declared.connections.Stage.TheVariants.{Idle, Begun, Aske
 use Rattle.world.specs.Connections.{Connection}
 use Rattle.world.specs.Worlds.{World, lives, happens, opening_world}
 
--- A connection's stream is what came to it while it was open and its server lived; its place, how many turns of that stream it has passed:
+-- A connection's stream is what came to it while it was open and its server lived; its place, how many turns of that
+-- stream it has passed:
 -- faults by `begin`, calls by `hand`.
 pub record Course : Type 0 where
   pub stream : List ℕ

@@ -8,7 +8,8 @@ use Rattle.node.specs.Servers.{ServerState}
 use Rattle.node.specs.Standings.{standing, entries_by}
 use Rattle.node.specs.Steps.{step}
 
--- The input, where the server stood before it, the entries that it appended, what it put out, and where it stood after it.
+-- The input, where the server stood before it, the entries that it appended, what it put out, and where it stood after
+-- it.
 pub record StepShown : Type 0 where
   pub input : Input
   pub before : Standing
@@ -19,4 +20,10 @@ pub record StepShown : Type 0 where
 -- what a server makes of an input
 abbrev pub step_shown : ServerState → Input → StepShown
 step_shown s input =
-    record { input = input; before = standing s; entries = entries_by s input; outputs = (step s input).outputs; after = standing (step s input).state }
+    record {
+      input = input;
+      before = standing s;
+      entries = entries_by s input;
+      outputs = (step s input).outputs;
+      after = standing (step s input).state;
+    }

@@ -16,7 +16,8 @@ pairs_with count i = filter (λ p. not (p.0 == p.1)) (map (λ j. (i, j)) (first_
 unfoldable pub pairs : ℕ → List (ℕ × ℕ)
 pairs count = flat_map (pairs_with count) (first_numbers count)
 
--- one round over such pairs: each first is told that its second has failed, each link between them delivers, each connection's call is worked, and each one's reply handed
+-- one round over such pairs: each first is told that its second has failed, each link between them delivers, each
+-- connection's call is worked, and each one's reply handed
 unfoldable pub round : List (ℕ × ℕ) → ℕ → List Event
 round links connections =
     map (λ p. Tell p.0 p.1) links ++ map (λ p. Deliver p.0 p.1) links

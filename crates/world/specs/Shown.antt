@@ -9,7 +9,8 @@ use Rattle.world.specs.Calls.{CallId}
 
 -- what is shown under the call's name
 abbrev pub shown_of : TranscriptShown → CallId → Option CallTranscript
-shown_of t x = option_and_then (λ (k : ConnectionShown). slice_get k.calls x.place) (slice_get t.connections x.connection)
+shown_of t x =
+    option_and_then (λ (k : ConnectionShown). slice_get k.calls x.place) (slice_get t.connections x.connection)
 
 -- a call as it was begun
 abbrev pub call_in : CallTranscript → Call

@@ -1,5 +1,6 @@
 -- The texts that spell a schedule, and the first bad line of one that spells none (this project's format).
-use Rattle.std.specs.Prelude.{◌≡◌, ℕ, ◌+◌, ◌≤◌, ◌<◌, ◌⊎◌, IsTrue, not, nat_lt, List, [], ◌∷◌, ◌++◌, length, map, filter, flat_map, replicate, decimal, codes}
+use Rattle.std.specs.Prelude.{◌≡◌, ℕ, ◌+◌, ◌≤◌, ◌<◌, ◌⊎◌, IsTrue, not, nat_lt, List, [], ◌∷◌, ◌++◌, length, map, filter}
+use Rattle.std.specs.Prelude.{flat_map, replicate, decimal, codes}
 use Rattle.std.specs.List.{list_all, join_with_byte}
 use Rattle.proto.specs.Grammar.{has_no_lf}
 use Rattle.world.specs.declared.events.Event.{Event}
@@ -11,7 +12,8 @@ use Rattle.world.specs.Escapes.{SpellsByte, SpellsBytes}
 use Rattle.world.specs.EventLines.{events_in}
 use Rattle.world.specs.Schedules.{ScheduleShown}
 
--- The lines of a text. An LF stands after each, and in none. After the last one it may be missing, if that line has a byte.
+-- The lines of a text. An LF stands after each, and in none. After the last one it may be missing, if that line has a
+-- byte.
 abbrev pub AreLines : List (List ℕ) → List ℕ → Type 0
 AreLines [] text = text ≡ []
 AreLines (line ∷ later) text =
@@ -87,7 +89,8 @@ AreEventLines [] [] = Unit {0}
 AreEventLines (said ∷ more) (line ∷ later) = IsEventLine said line × AreEventLines more later
 AreEventLines said others = ⊥
 
--- A text spells a schedule. Of its lines that count the first is `servers N`, the second is `homes H ..`, and each further
+-- A text spells a schedule. Of its lines that count the first is `servers N`, the second is `homes H ..`, and each
+-- further
 -- one is of events: those of one line follow those of the line before it.
 pub record SpellsSchedule (text : List ℕ) (schedule : ScheduleShown) : Type 0 where
   pub all : List (List ℕ)

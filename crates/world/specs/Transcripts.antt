@@ -22,7 +22,8 @@ pub record TranscriptShown : Type 0 where
 abbrev pub calls_shown : List Call → List Reply → List CallTranscript
 calls_shown [] replies = []
 calls_shown (call ∷ calls) [] = record { target = call.target; op = call.op; reply = None } ∷ calls_shown calls []
-calls_shown (call ∷ calls) (reply ∷ replies) = record { target = call.target; op = call.op; reply = Some reply } ∷ calls_shown calls replies
+calls_shown (call ∷ calls) (reply ∷ replies) =
+    record { target = call.target; op = call.op; reply = Some reply } ∷ calls_shown calls replies
 
 -- a connection's home, its begun calls with their replies, and the bytes that it was sent
 abbrev pub connection_shown : Connection → ConnectionShown

@@ -34,7 +34,8 @@ entry x call reply = record { id = x; call = call; reply = reply }
 abbrev pub said : List Entry → List (Call × Reply)
 said h = map (λ e. (e.call, e.reply)) h
 
--- ---- Three servers, two clients of the head. A get reads a key while the set of it is still on its way down the chain.
+-- ---- Three servers, two clients of the head. A get reads a key while the set of it is still on its way down the
+-- chain.
 
 abbrev pub dirty_homes : List ℕ
 dirty_homes = 0 ∷ 0 ∷ []
@@ -48,13 +49,22 @@ dirty_events =
 abbrev pub dirty_transcript : TranscriptShown
 dirty_transcript = record {
   connections =
-      record { home = 0; calls = record { target = One (codes "a"); op = Set 0 (codes "p"); reply = None } ∷ []; sent = [] }
-      ∷ record { home = 0; calls = record { target = One (codes "a"); op = Read; reply = Some (Value None) } ∷ []; sent = codes "END\r\n" }
+      record {
+        home = 0;
+        calls = record { target = One (codes "a"); op = Set 0 (codes "p"); reply = None } ∷ [];
+        sent = [];
+      }
+      ∷ record {
+        home = 0;
+        calls = record { target = One (codes "a"); op = Read; reply = Some (Value None) } ∷ [];
+        sent = codes "END\r\n";
+      }
       ∷ [];
   quiet = false;
 }
 
--- ---- Three servers, a client of the tail. The head takes an incr and fails before anyone has its entry; the tail sends the
+-- ---- Three servers, a client of the tail. The head takes an incr and fails before anyone has its entry; the tail
+-- sends the
 -- ---- incr again, to the next head.
 
 abbrev pub resent_homes : List ℕ
@@ -63,7 +73,8 @@ resent_homes = 2 ∷ []
 -- the set is done; the head takes the incr and fails; the others are told, and the incr is sent again
 unfoldable pub resent_before : List Event
 resent_before =
-    Piece 0 (codes "set n 0 0 1\r\n7\r\nincr n 1\r\nget n\r\n") ∷ Begin 0 ∷ Work 0 ∷ Deliver 2 0 ∷ Deliver 0 1 ∷ Deliver 1 2
+    Piece 0 (codes "set n 0 0 1\r\n7\r\nincr n 1\r\nget n\r\n") ∷ Begin 0 ∷ Work 0 ∷ Deliver 2 0 ∷ Deliver 0 1
+    ∷ Deliver 1 2
     ∷ Hand 0 ∷ Deliver 2 1 ∷ Deliver 1 0 ∷ Begin 0 ∷ Work 0 ∷ Deliver 2 0 ∷ Fail 0 ∷ Tell 1 0 ∷ Tell 2 0 ∷ []
 
 -- the next head has taken it, and the get follows
@@ -105,7 +116,8 @@ resent_twice =
 -- the one list of calls and replies that is right
 abbrev pub resent_order : List (Call × Reply)
 resent_order =
-    (set_of (codes "n") (codes "7"), Stored) ∷ (incr_of (codes "n"), Number 8) ∷ (get_of (codes "n"), Value (Some eight)) ∷ []
+    (set_of (codes "n") (codes "7"), Stored) ∷ (incr_of (codes "n"), Number 8)
+    ∷ (get_of (codes "n"), Value (Some eight)) ∷ []
 
 -- ---- Three servers, a client of the middle one, both of whose neighbours fail.
 
@@ -114,7 +126,8 @@ alone_homes = 1 ∷ []
 
 unfoldable pub alone_events : List Event
 alone_events =
-    Piece 0 (codes "set a 0 0 1\r\np\r\n") ∷ Begin 0 ∷ Work 0 ∷ Deliver 1 0 ∷ Fail 0 ∷ Fail 2 ∷ Tell 1 2 ∷ Deliver 0 1 ∷ Hand 0
+    Piece 0 (codes "set a 0 0 1\r\np\r\n") ∷ Begin 0 ∷ Work 0 ∷ Deliver 1 0 ∷ Fail 0 ∷ Fail 2 ∷ Tell 1 2 ∷ Deliver 0
+    1 ∷ Hand 0
     ∷ Tell 1 0 ∷ []
 
 -- the set is answered, and nothing waits
@@ -164,4 +177,5 @@ sets_transcript = record {
 
 -- wrong: the second set before the first, which a single table would answer so
 abbrev pub sets_exchanged : List Entry
-sets_exchanged = entry (name 1 0) (set_of (codes "b") (codes "q")) Stored ∷ entry (name 0 0) (set_of (codes "a") (codes "p")) Stored ∷ []
+sets_exchanged = entry (name 1 0) (set_of (codes "b") (codes "q")) Stored ∷ entry (name 0 0)
+    (set_of (codes "a") (codes "p")) Stored ∷ []

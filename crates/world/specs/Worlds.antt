@@ -1,5 +1,7 @@
--- The world: the servers of a chain, their links and the connections; what each event does; and the world after a schedule.
-use Rattle.std.specs.Prelude.{ℕ, zero, suc, Bool, false, not, ◌&&◌, nat_lt, List, [], ◌∷◌, ◌++◌, length, map, replicate, slice_index_or, slice_set, Option, None, Some, slice_get, if◌then◌else◌}
+-- The world: the servers of a chain, their links and the connections; what each event does; and the world after a
+-- schedule.
+use Rattle.std.specs.Prelude.{ℕ, zero, suc, Bool, false, not, ◌&&◌, nat_lt, List, [], ◌∷◌, ◌++◌, length, map, replicate}
+use Rattle.std.specs.Prelude.{slice_index_or, slice_set, Option, None, Some, slice_get, if◌then◌else◌}
 use Rattle.table.specs.declared.operations.Call.{Call}
 use Rattle.node.specs.declared.messages.Peer.{Peer}
 use Rattle.node.specs.declared.messages.Input.{Input}
@@ -54,7 +56,12 @@ opening_servers count (suc k) = opening_servers count k ++ opening k count ∷ [
 -- a chain of `count` servers before any event, all alive, with empty links, and a connection at each of these homes
 abbrev pub opening_world : ℕ → List ℕ → World
 opening_world count homes =
-    record { servers = opening_servers count count; failed = 0; links = replicate count (replicate count []); connections = map fresh homes }
+    record {
+      servers = opening_servers count count;
+      failed = 0;
+      links = replicate count (replicate count []);
+      connections = map fresh homes;
+    }
 
 -- server i is one of the chain, and hasn't failed
 abbrev pub lives : World → ℕ → Bool
@@ -69,7 +76,8 @@ home_lives w (Some k) = lives w k.home
 abbrev pub has_failed : World → ℕ → Bool
 has_failed w i = nat_lt i (length w.servers) && has w.failed i
 
--- an output of server i: a message goes at the end of its link, also towards a failed server; a reply waits at its connection
+-- an output of server i: a message goes at the end of its link, also towards a failed server; a reply waits at its
+-- connection
 abbrev pub put : World → ℕ → Output → World
 put w i (To j peer) = with_link w i j (link w i j ++ peer ∷ [])
 put w i (Replied c reply) = with_connection w c (λ k. replied k.stage reply k)

@@ -10,7 +10,8 @@ use Rattle.node.specs.declared.messages.Output.{Output}
 use Rattle.node.specs.declared.messages.Output.TheVariants.{To, Reply as Replied}
 use Rattle.node.specs.Views.{View, adds, single}
 use Rattle.node.specs.Servers.{ServerState, Outcome, silent, putting, and_then}
-use Rattle.node.specs.Joining.{widened, promoted_to_head, promoted_to_tail, forwarded, caught_up, acked_to_predecessor, asks_renewed}
+use Rattle.node.specs.Joining.{widened, promoted_to_head, promoted_to_tail, forwarded, caught_up, acked_to_predecessor}
+use Rattle.node.specs.Joining.{asks_renewed}
 use Rattle.node.specs.Steps.{call, received, is_heard, trimmed, step}
 
 -- ---- a server that never forwards an entry

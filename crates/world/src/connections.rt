@@ -41,7 +41,13 @@ impl Model for Connection {
 
     ghost Value = { Connection };
 
-    ghost view = { λ k. record { home = k.home; session = k.session; calls = k.calls.items; replies = k.replies.items; stage = k.stage } };
+    ghost view = { λ k. record {
+      home = k.home;
+      session = k.session;
+      calls = k.calls.items;
+      replies = k.replies.items;
+      stage = k.stage;
+    } };
 
     ghost invariant = { λ k. IsLawful k.stage k.calls.items k.replies.items k.session.asked };
 }
@@ -234,7 +240,8 @@ fn next_call(session: &mut Session) -> Result<Option<Call>, ProtoFault>
     requires idle { session.old.asked ≡ None }
     ensures call { IfOk result (λ call. call ≡ call_of (past_faults session.old).0) }
     ensures left { OnOk result (session.new ≡ (past_faults session.old).1) }
-    ensures opens { IfOk result (λ call. MatchOption call (session.new.asked ≡ None) (λ c. HasOpen (Some c) session.new.asked)) }
+    ensures opens { IfOk result
+        (λ call. MatchOption call (session.new.asked ≡ None) (λ c. HasOpen (Some c) session.new.asked)) }
     ensures only_memory { IsErrOf result ProtoFault.Closed → ⊥ }
     ensures err { OnErr result (session.new.asked ≡ None) }
 {

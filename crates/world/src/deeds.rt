@@ -36,7 +36,13 @@ impl Model for ServerStep {
 
     ghost Value = { StepShown };
 
-    ghost view = { λ s. record { input = s.input; before = s.before; entries = s.entries.items; outputs = s.outputs.items; after = s.after } };
+    ghost view = { λ s. record {
+      input = s.input;
+      before = s.before;
+      entries = s.entries.items;
+      outputs = s.outputs.items;
+      after = s.after;
+    } };
 }
 
 /// What an event did.

@@ -1,6 +1,7 @@
 //! The lines of a schedule after its head: an event each, or rounds of events.
 ghost use Rattle.std.specs.Prelude.{◌≡◌, ◌++◌, IfOk, OnOk};
-ghost use Rattle.world.specs.EventLines.{event_line, events_in, word_line, piece_line, fill_line, fill_fields, call_line, two_servers, server_number, connection_number, text_of};
+ghost use Rattle.world.specs.EventLines.{event_line, events_in, word_line, piece_line, fill_line, fill_fields};
+ghost use Rattle.world.specs.EventLines.{call_line, two_servers, server_number, connection_number, text_of};
 
 use crate::Event;
 use crate::cuts::cut;

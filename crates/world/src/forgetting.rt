@@ -24,8 +24,8 @@ ghost use Rattle.world.specs.ForgettingWorlds.{
 /// one.
 pub fn ordinary_steps()
     ensures step { (s : ServerState) (input : Input) → step_by as_ever s input ≡ step s input }
-    ensures run { (count : ℕ) (homes : List ℕ) (events : List Event) →
-        run_by step count homes events ≡ run_of count homes events }
+    ensures run { (count : ℕ) (homes : List ℕ) (events : List Event)
+        → run_by step count homes events ≡ run_of count homes events }
 {}
 
 /// A world can be quiet, and have forgotten a call.

@@ -60,7 +60,8 @@ fn numbers_below(
     high: usize,
     fields: &[&[u8]],
 ) -> Result<Option<Vec<usize>>, AllocError>
-    ensures { IfOk result (λ numbers. option_map (λ v. v.items) numbers ≡ numbers_below high (map (λ field. field.now) fields.now)) }
+    ensures { IfOk result
+        (λ numbers. option_map (λ v. v.items) numbers ≡ numbers_below high (map (λ field. field.now) fields.now)) }
 {
     let mut numbers = Vec::with_capacity(alloc, fields.len())?;
     for field in fields {

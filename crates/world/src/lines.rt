@@ -19,7 +19,11 @@ impl<'a> Model for Lines<'a> {
 
     ghost Value = { LinesLeft };
 
-    ghost view = { λ l. record { counted = counted_from (l.taken + 1) (lines l.rest.now); taken = l.taken; all = l.taken + length (lines l.rest.now) } };
+    ghost view = { λ l. record {
+      counted = counted_from (l.taken + 1) (lines l.rest.now);
+      taken = l.taken;
+      all = l.taken + length (lines l.rest.now);
+    } };
 
     ghost invariant = { λ l. l.taken + length l.rest.now < 2 ^ 64 };
 }
@@ -45,7 +49,8 @@ impl<'a> Lines<'a> {
 
     /// Takes the next line that counts: one that isn't empty and doesn't begin with `#`.
     pub fn next_counted(&mut self) -> Option<&'a [u8]>
-        ensures next { MatchOption result ((self.old.counted ≡ []) × (self.new.taken ≡ self.old.all)) (λ line. self.old.counted ≡ (self.new.taken, line.now) ∷ self.new.counted) }
+        ensures next { MatchOption result ((self.old.counted ≡ []) × (self.new.taken ≡ self.old.all))
+            (λ line. self.old.counted ≡ (self.new.taken, line.now) ∷ self.new.counted) }
         ensures all { self.new.all ≡ self.old.all }
     {
         while !self.rest.is_empty() {

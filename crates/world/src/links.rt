@@ -1,5 +1,6 @@
 //! Links: the messages on their way from each server to each.
-ghost use Rattle.std.specs.Prelude.{◌≡◌, ◌<◌, ◌≤◌, [], ◌∷◌, ◌++◌, drop, length, replicate, slice_get, slice_index_or, slice_set, IfOk, IfSome, OnOk};
+ghost use Rattle.std.specs.Prelude.{◌≡◌, ◌<◌, ◌≤◌, [], ◌∷◌, ◌++◌, drop, length, replicate, slice_get, slice_index_or};
+ghost use Rattle.std.specs.Prelude.{slice_set, IfOk, IfSome, OnOk};
 ghost use Rattle.std.specs.Option.{option_copied};
 ghost use Rattle.node.specs.Lawful.{IsBody};
 ghost use Rattle.world.specs.Links.{messages_between, with_messages, is_empty};
@@ -175,7 +176,8 @@ impl Links {
     /// Puts a message at the end of the link from server i to server j, if there is one.
     pub fn push(&mut self, i: usize, j: usize, message: Peer) -> Result<(), AllocError>
         requires message { IsBody message.body }
-        ensures ok { OnOk result (self.new ≡ with_messages self.old i j (messages_between self.old i j ++ message ∷ [])) }
+        ensures ok { OnOk result
+            (self.new ≡ with_messages self.old i j (messages_between self.old i j ++ message ∷ [])) }
     {
         if i < self.rows.len() {
             self.rows[i].push(j, message)?;

@@ -1,7 +1,8 @@
 //! The text of a transcript.
 ghost use Rattle.std.specs.Prelude.{◌≡◌, ◌<◌, ◌∷◌, ◌++◌, IfOk, OnOk, length};
 ghost use Rattle.world.specs.Cuts.{parts};
-ghost use Rattle.world.specs.Printing.{transcript_text, connection_text, connection_line, labelled, answered, sent_text, part_line, quiet_line};
+ghost use Rattle.world.specs.Printing.{transcript_text, connection_text, connection_line, labelled, answered};
+ghost use Rattle.world.specs.Printing.{sent_text, part_line, quiet_line};
 
 use crate::escapes::push_escaped;
 use crate::{CallTranscript, ConnectionTranscript, Transcript};

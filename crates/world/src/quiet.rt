@@ -19,7 +19,8 @@ impl World {
     // Whether no message waits for a living server, and no failure that it doesn't know.
     #[tactic(auto, using(crate::proofs::AllBelow::all_more, crate::proofs::AllBelow::all_broken))]
     fn are_servers_quiet(&self) -> bool
-        ensures { result ≡ all_below (length self.now.servers) (λ j. not (lives self.now j) || is_server_quiet self.now j) }
+        ensures { result ≡ all_below (length self.now.servers)
+            (λ j. not (lives self.now j) || is_server_quiet self.now j) }
     {
         for j in 0..self.servers.len() {
             if self.lives(j) && !self.is_server_quiet(j) {

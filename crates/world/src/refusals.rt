@@ -1,5 +1,6 @@
 //! Refusals: a run in which a server whose step is out of memory has failed.
-ghost use Rattle.std.specs.Prelude.{◌≡◌, ◌<◌, ◌≤◌, ℕ, ◌+◌, List, Some, take, ◌↔◌, true, false, length, slice_get, IsSome, IfOk, IfErr, IsErrOf};
+ghost use Rattle.std.specs.Prelude.{◌≡◌, ◌<◌, ◌≤◌, ℕ, ◌+◌, List, Some, take, ◌↔◌, true, false, length, slice_get};
+ghost use Rattle.std.specs.Prelude.{IsSome, IfOk, IfErr, IsErrOf};
 ghost use Rattle.proto.specs.Streams.{turns};
 ghost use Rattle.world.specs.declared.transcripts.CallTranscript.{CallTranscript};
 ghost use Rattle.world.specs.Calls.{CallId, begun_call, reply_to};
@@ -37,8 +38,8 @@ pub fn run_failing(
     // The named places rise,
     ensures rise { IfOk result (λ found. RiseFrom 0 found.1.items) }
     // and each named server is the one that would step at its event, and hasn't failed before.
-    ensures stepped { IfOk result (λ found. (n : ℕ) (p : ℕ × ℕ) → slice_get found.1.items n ≡ Some p →
-        WouldStep (opening_world count homes.now) events.now found.1.items p.0 p.1) }
+    ensures stepped { IfOk result (λ found. (n : ℕ) (p : ℕ × ℕ) → slice_get found.1.items n ≡ Some p
+        → WouldStep (opening_world count homes.now) events.now found.1.items p.0 p.1) }
     // One order of calls, each with the reply of a single table, whatever servers fail and when.
     ensures order { IfOk result (λ found. let events = with_failures events.now found.1.items in
         (h : List Entry) × IsLinearization count homes.now events h) }
@@ -52,29 +53,29 @@ pub fn run_failing(
     // that stream it has passed: faults by `begin`, calls by `hand`. It is shown to have been sent the texts of these
     // turns, fault lines among them, however its bytes were cut.
     ensures sent { IfOk result (λ found. let events = with_failures events.now found.1.items in
-        (c : ℕ) (k : ConnectionShown) → slice_get found.0.connections c ≡ Some k →
-        k.sent ≡ sent_bytes (course_of count homes.now events c) (replies_in k.calls)) }
+        (c : ℕ) (k : ConnectionShown) → slice_get found.0.connections c ≡ Some k
+        → k.sent ≡ sent_bytes (course_of count homes.now events c) (replies_in k.calls)) }
     // The calls that are shown of it are the first among the turns of its stream.
     ensures calls { IfOk result (λ found. let events = with_failures events.now found.1.items in
-        (c : ℕ) (k : ConnectionShown) → slice_get found.0.connections c ≡ Some k →
-        calls_in k.calls ≡ take (length k.calls) (calls_of (turns (course_of count homes.now events c).stream))) }
+        (c : ℕ) (k : ConnectionShown) → slice_get found.0.connections c ≡ Some k
+        → calls_in k.calls ≡ take (length k.calls) (calls_of (turns (course_of count homes.now events c).stream))) }
     // As many of them have replies as there are calls among the turns up to its place,
     ensures answered { IfOk result (λ found. let events = with_failures events.now found.1.items in
-        (c : ℕ) (k : ConnectionShown) → slice_get found.0.connections c ≡ Some k →
-        length (replies_in k.calls) ≡ length (calls_of (past (course_of count homes.now events c)))) }
+        (c : ℕ) (k : ConnectionShown) → slice_get found.0.connections c ≡ Some k
+        → length (replies_in k.calls) ≡ length (calls_of (past (course_of count homes.now events c)))) }
     // and these are the first.
-    ensures in_turn { IfOk result (λ found. (c : ℕ) (k : ConnectionShown) → slice_get found.0.connections c ≡ Some k →
-        (p : ℕ) (call : CallTranscript) → slice_get k.calls p ≡ Some call →
-        IsSome call.reply ↔ p < length (replies_in k.calls)) }
+    ensures in_turn { IfOk result (λ found. (c : ℕ) (k : ConnectionShown) → slice_get found.0.connections c ≡ Some k
+        → (p : ℕ) (call : CallTranscript) → slice_get k.calls p ≡ Some call
+        → IsSome call.reply ↔ p < length (replies_in k.calls)) }
     // At most one of them is open.
-    ensures one_open { IfOk result (λ found. (c : ℕ) (k : ConnectionShown) → slice_get found.0.connections c ≡ Some k →
-        length k.calls ≤ length (replies_in k.calls) + 1) }
+    ensures one_open { IfOk result (λ found. (c : ℕ) (k : ConnectionShown) → slice_get found.0.connections c ≡ Some k
+        → length k.calls ≤ length (replies_in k.calls) + 1) }
     // If the transcript says `quiet`, each call that it shows at a living home has its reply.
     ensures none_forgotten { IfOk result (λ found. let events = with_failures events.now found.1.items in
-        found.0.quiet ≡ true →
-        (c : ℕ) (k : ConnectionShown) → slice_get found.0.connections c ≡ Some k →
-        lives (run_of count homes.now events) k.home ≡ true →
-        (p : ℕ) (call : CallTranscript) → slice_get k.calls p ≡ Some call → IsSome call.reply) }
+        found.0.quiet ≡ true
+        → (c : ℕ) (k : ConnectionShown) → slice_get found.0.connections c ≡ Some k
+        → lives (run_of count homes.now events) k.home ≡ true
+        → (p : ℕ) (call : CallTranscript) → slice_get k.calls p ≡ Some call → IsSome call.reply) }
     ensures bad_count { IsErrOf result SceneFault.BadCount ↔ (is_count count ≡ false) }
     // At most 64 homes, each the number of a server.
     ensures bad_homes { IsErrOf result SceneFault.BadHomes ↔

@@ -1,5 +1,6 @@
 //! Scenes: a world that events change until one is refused, and the run of a whole schedule.
-ghost use Rattle.std.specs.Prelude.{◌≡◌, ◌<◌, ◌≤◌, ℕ, ◌+◌, List, Some, take, ◌↔◌, true, false, nat_lt, length, slice_get, IsSome, OnOk, OnErr, IfOk, IfErr, IsErrOf};
+ghost use Rattle.std.specs.Prelude.{◌≡◌, ◌<◌, ◌≤◌, ℕ, ◌+◌, List, Some, take, ◌↔◌, true, false, nat_lt, length};
+ghost use Rattle.std.specs.Prelude.{slice_get, IsSome, OnOk, OnErr, IfOk, IfErr, IsErrOf};
 ghost use Rattle.std.specs.List.{list_all};
 ghost use Rattle.proto.specs.Streams.{turns};
 ghost use Rattle.world.specs.declared.transcripts.CallTranscript.{CallTranscript};
@@ -70,9 +71,10 @@ impl Scene {
         })
     }
 
-    /// One event. A piece costs its bytes, which are copied once; a begin, the bytes that it reads; a hand, the reply's text;
-    /// a call, message or notice, the server's step, whose outputs are moved. None costs more because the world has run
-    /// long, but where a buffer grows. Refused with `Memory`, which spoils the scene, and with `Spoiled` from then on.
+    /// One event. A piece costs its bytes, which are copied once; a begin, the bytes that it reads; a hand, the reply's
+    /// text; a call, message or notice, the server's step, whose outputs are moved. None costs more because the world
+    /// has run long, but where a buffer grows. Refused with `Memory`, which spoils the scene, and with `Spoiled` from
+    /// then on.
     pub fn event(&mut self, event: &Event) -> Result<(), SceneFault>
         ensures ok { OnOk result (self.new ≡ going (happens self.old.world event.now)) }
         // Memory spoils the scene, and Spoiled is answered exactly from then on.
@@ -99,8 +101,8 @@ impl Scene {
         self.world.sent(c)
     }
 
-    /// Whether nothing waits at living servers. It looks at each pair of servers and each connection. Of a spoiled scene it
-    /// is that of a world whose last event may be done by half.
+    /// Whether nothing waits at living servers. It looks at each pair of servers and each connection. Of a spoiled
+    /// scene it is that of a world whose last event may be done by half.
     pub fn is_quiet(&self) -> bool
         ensures { result ≡ quiet.is_quiet self.now.world }
     {
@@ -123,8 +125,9 @@ impl Scene {
     }
 }
 
-/// Runs a schedule over a chain of this many servers, with a connection at each of these homes, and gives what it shows.
-/// Refused as `Scene::new` is, and with `Memory`. It keeps each begun call, each reply and each sent byte until it returns.
+/// Runs a schedule over a chain of this many servers, with a connection at each of these homes, and gives what it
+/// shows. Refused as `Scene::new` is, and with `Memory`. It keeps each begun call, each reply and each sent byte until
+/// it returns.
 pub fn run(
     alloc: Global,
     count: usize,
@@ -132,8 +135,8 @@ pub fn run(
     events: &[Event],
 ) -> Result<Transcript, SceneFault>
     ensures transcript { IfOk result (λ t. t ≡ transcript_of (run_of count homes.now events.now)) }
-    // One order of calls, each with the reply of a single table, whatever servers fail and when. It holds of the schedule,
-    // also where this run is refused.
+    // One order of calls, each with the reply of a single table, whatever servers fail and when. It holds of the
+    // schedule, also where this run is refused.
     ensures order { count ≤ 16 → (h : List Entry) × IsLinearization count homes.now events.now h }
     // Each begun call is shown under its name.
     ensures shown_calls { IfOk result (λ t. (x : CallId) → call_shown t x ≡ begun_call (run_of count homes.now events.now) x) }
@@ -142,26 +145,26 @@ pub fn run(
     // A connection's stream is what came to it while it was open and its server lived; its place, how many turns of
     // that stream it has passed: faults by `begin`, calls by `hand`. It is shown to have been sent the texts of these
     // turns, fault lines among them, however its bytes were cut.
-    ensures sent { IfOk result (λ t. (c : ℕ) (k : ConnectionShown) → slice_get t.connections c ≡ Some k →
-        k.sent ≡ sent_bytes (course_of count homes.now events.now c) (replies_in k.calls)) }
+    ensures sent { IfOk result (λ t. (c : ℕ) (k : ConnectionShown) → slice_get t.connections c ≡ Some k
+        → k.sent ≡ sent_bytes (course_of count homes.now events.now c) (replies_in k.calls)) }
     // The calls that are shown of it are the first among the turns of its stream.
-    ensures calls { IfOk result (λ t. (c : ℕ) (k : ConnectionShown) → slice_get t.connections c ≡ Some k →
-        calls_in k.calls ≡ take (length k.calls) (calls_of (turns (course_of count homes.now events.now c).stream))) }
+    ensures calls { IfOk result (λ t. (c : ℕ) (k : ConnectionShown) → slice_get t.connections c ≡ Some k
+        → calls_in k.calls ≡ take (length k.calls) (calls_of (turns (course_of count homes.now events.now c).stream))) }
     // As many of them have replies as there are calls among the turns up to its place,
-    ensures answered { IfOk result (λ t. (c : ℕ) (k : ConnectionShown) → slice_get t.connections c ≡ Some k →
-        length (replies_in k.calls) ≡ length (calls_of (past (course_of count homes.now events.now c)))) }
+    ensures answered { IfOk result (λ t. (c : ℕ) (k : ConnectionShown) → slice_get t.connections c ≡ Some k
+        → length (replies_in k.calls) ≡ length (calls_of (past (course_of count homes.now events.now c)))) }
     // and these are the first.
-    ensures in_turn { IfOk result (λ t. (c : ℕ) (k : ConnectionShown) → slice_get t.connections c ≡ Some k →
-        (p : ℕ) (call : CallTranscript) → slice_get k.calls p ≡ Some call →
-        IsSome call.reply ↔ p < length (replies_in k.calls)) }
+    ensures in_turn { IfOk result (λ t. (c : ℕ) (k : ConnectionShown) → slice_get t.connections c ≡ Some k
+        → (p : ℕ) (call : CallTranscript) → slice_get k.calls p ≡ Some call
+        → IsSome call.reply ↔ p < length (replies_in k.calls)) }
     // At most one of them is open.
-    ensures one_open { IfOk result (λ t. (c : ℕ) (k : ConnectionShown) → slice_get t.connections c ≡ Some k →
-        length k.calls ≤ length (replies_in k.calls) + 1) }
+    ensures one_open { IfOk result (λ t. (c : ℕ) (k : ConnectionShown) → slice_get t.connections c ≡ Some k
+        → length k.calls ≤ length (replies_in k.calls) + 1) }
     // If the transcript says `quiet`, each call that it shows at a living home has its reply.
-    ensures none_forgotten { IfOk result (λ t. t.quiet ≡ true →
-        (c : ℕ) (k : ConnectionShown) → slice_get t.connections c ≡ Some k →
-        lives (run_of count homes.now events.now) k.home ≡ true →
-        (p : ℕ) (call : CallTranscript) → slice_get k.calls p ≡ Some call → IsSome call.reply) }
+    ensures none_forgotten { IfOk result (λ t. t.quiet ≡ true
+        → (c : ℕ) (k : ConnectionShown) → slice_get t.connections c ≡ Some k
+        → lives (run_of count homes.now events.now) k.home ≡ true
+        → (p : ℕ) (call : CallTranscript) → slice_get k.calls p ≡ Some call → IsSome call.reply) }
     ensures bad_count { IsErrOf result SceneFault.BadCount ↔ (is_count count ≡ false) }
     // At most 64 homes, each the number of a server.
     ensures bad_homes { IsErrOf result SceneFault.BadHomes ↔ ((is_count count ≡ true) × (are_homes count homes.now ≡ false)) }

@@ -102,7 +102,8 @@ fn read_homes(
     lines: &mut Lines<'_>,
     count: usize,
 ) -> Result<Vec<usize>, ScheduleFault>
-    ensures ok { IfOk result (λ homes. first_says (homes_line count) (lines.old.all + 1) lines.old.counted ≡ Ok homes.items) }
+    ensures ok { IfOk result
+        (λ homes. first_says (homes_line count) (lines.old.all + 1) lines.old.counted ≡ Ok homes.items) }
     ensures bad_line { IfErr result (Names (first_says (homes_line count) (lines.old.all + 1) lines.old.counted)) }
     ensures later { OnOk result (lines.new.counted ≡ drop 1 lines.old.counted) }
 {

@@ -72,8 +72,10 @@ impl Servers {
     pub fn step(&mut self, i: usize, input: Input) -> Result<Vec<Output>, SceneFault>
         requires server { i < length self.old }
         requires input { IsInput input }
-        ensures state { OnOk result (self.new ≡ slice_set self.old i (steps.step (slice_index_or self.old i nobody) input).state) }
-        ensures outputs { IfOk result (λ outputs. outputs.items ≡ (steps.step (slice_index_or self.old i nobody) input).outputs) }
+        ensures state { OnOk result
+            (self.new ≡ slice_set self.old i (steps.step (slice_index_or self.old i nobody) input).state) }
+        ensures outputs { IfOk result
+            (λ outputs. outputs.items ≡ (steps.step (slice_index_or self.old i nobody) input).outputs) }
         ensures fit { IfOk result (λ outputs. AreFit outputs.items) }
         ensures only_memory { IfErr result (λ fault. fault ≡ SceneFault.Memory) }
         ensures chain { i < 16 }
@@ -115,9 +117,11 @@ impl Servers {
     ) -> Result<(ServerStep, Vec<Output>), SceneFault>
         requires server { i < length self.old }
         requires input { IsInput input }
-        ensures state { OnOk result (self.new ≡ slice_set self.old i (steps.step (slice_index_or self.old i nobody) input).state) }
+        ensures state { OnOk result
+            (self.new ≡ slice_set self.old i (steps.step (slice_index_or self.old i nobody) input).state) }
         ensures told { IfOk result (λ found. found.0 ≡ step_shown (slice_index_or self.old i nobody) input) }
-        ensures outputs { IfOk result (λ found. found.1.items ≡ (steps.step (slice_index_or self.old i nobody) input).outputs) }
+        ensures outputs { IfOk result
+            (λ found. found.1.items ≡ (steps.step (slice_index_or self.old i nobody) input).outputs) }
         ensures fit { IfOk result (λ found. AreFit found.1.items) }
         ensures only_memory { IfErr result (λ fault. fault ≡ SceneFault.Memory) }
     {
@@ -144,8 +148,10 @@ impl Servers {
     ) -> Result<(Vec<Output>, Vec<Entry>), SceneFault>
         requires server { i < length self.old }
         requires input { IsInput input }
-        ensures state { OnOk result (self.new ≡ slice_set self.old i (steps.step (slice_index_or self.old i nobody) input).state) }
-        ensures outputs { IfOk result (λ found. found.0.items ≡ (steps.step (slice_index_or self.old i nobody) input).outputs) }
+        ensures state { OnOk result
+            (self.new ≡ slice_set self.old i (steps.step (slice_index_or self.old i nobody) input).state) }
+        ensures outputs { IfOk result
+            (λ found. found.0.items ≡ (steps.step (slice_index_or self.old i nobody) input).outputs) }
         ensures entries { IfOk result (λ found. found.1.items ≡ entries_by (slice_index_or self.old i nobody) input) }
         ensures fit { IfOk result (λ found. AreFit found.0.items) }
         ensures only_memory { IfErr result (λ fault. fault ≡ SceneFault.Memory) }

@@ -1,5 +1,6 @@
 //! Traces: a run, with what each of its events did.
-ghost use Rattle.std.specs.Prelude.{◌≡◌, ◌<◌, ◌↔◌, ℕ, true, false, length, slice_get, slice_index_or, IfOk, IfErr, IsErrOf};
+ghost use Rattle.std.specs.Prelude.{◌≡◌, ◌<◌, ◌↔◌, ℕ, true, false, length, slice_get, slice_index_or, IfOk, IfErr};
+ghost use Rattle.std.specs.Prelude.{IsErrOf};
 ghost use Rattle.std.specs.Option.{option_copied};
 ghost use Rattle.node.specs.Nodes.{running};
 ghost use Rattle.world.specs.Deeds.{deeds_from, deeds_of, trace_of};
@@ -80,8 +81,9 @@ impl Trace {
     }
 }
 
-/// Runs a schedule as `run` does, and keeps what each event did: the world that it ends in is the run's. Refused as `run` is.
-/// Calls, entries, messages and replies that it keeps share their data; each event costs besides what it put out.
+/// Runs a schedule as `run` does, and keeps what each event did: the world that it ends in is the run's. Refused as
+/// `run` is. Calls, entries, messages and replies that it keeps share their data; each event costs besides what it put
+/// out.
 pub fn traced_run(
     alloc: Global,
     count: usize,

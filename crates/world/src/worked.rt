@@ -8,7 +8,8 @@ ghost use Rattle.world.specs.Transcripts.{transcript_of};
 ghost use Rattle.world.specs.WorkedSchedules.{name, said};
 ghost use Rattle.world.specs.WorkedSchedules.{alone_homes, alone_events, alone_transcript, alone_order};
 ghost use Rattle.world.specs.WorkedSchedules.{dirty_homes, dirty_events, dirty_transcript};
-ghost use Rattle.world.specs.WorkedSchedules.{resent_homes, resent_events, resent_transcript, resent_twice, resent_order};
+ghost use Rattle.world.specs.WorkedSchedules.{resent_homes, resent_events, resent_transcript, resent_twice};
+ghost use Rattle.world.specs.WorkedSchedules.{resent_order};
 ghost use Rattle.world.specs.WorkedSchedules.{sets_homes, sets_events, sets_transcript, sets_exchanged};
 ghost use Rattle.world.specs.Worlds.{run_of};
 
@@ -16,10 +17,17 @@ ghost use Rattle.world.specs.Worlds.{run_of};
 pub fn dirty_read()
     ensures transcript { transcript_of (run_of 3 dirty_homes dirty_events) ≡ dirty_transcript }
     // No order has the unanswered set before the get.
-    ensures set_before_get { (h : List Entry) → IsLinearization 3 dirty_homes dirty_events h → (i j : ℕ) → i < j → StandsAt h i (name 0 0) → StandsAt h j (name 1 0) → ⊥ }
+    ensures set_before_get { (h : List Entry)
+        → IsLinearization 3 dirty_homes dirty_events h
+        → (i j : ℕ)
+        → i < j
+        → StandsAt h i (name 0 0)
+        → StandsAt h j (name 1 0)
+        → ⊥ }
 {}
 
-/// The head takes an incr and fails before anyone has its entry. The incr is sent again to the next head, and acts once.
+/// The head takes an incr and fails before anyone has its entry. The incr is sent again to the next head, and acts
+/// once.
 pub fn resent_call()
     ensures transcript { transcript_of (run_of 3 resent_homes resent_events) ≡ resent_transcript }
     // A single table may take the incr twice, but no order does.
@@ -38,14 +46,16 @@ pub fn left_alone()
     ensures only { (h : List Entry) → IsLinearization 3 alone_homes alone_events h → said h ≡ alone_order }
 {}
 
-/// Two sets on two keys, the first of which is answered before the second begins. Their exchanged order is refused by time
-/// alone: all else that a linearization asks for holds of it.
+/// Two sets on two keys, the first of which is answered before the second begins. Their exchanged order is refused by
+/// time alone: all else that a linearization asks for holds of it.
 pub fn exchanged_sets()
     ensures transcript { transcript_of (run_of 2 sets_homes sets_events) ≡ sets_transcript }
     ensures legal { IsLegal (said sets_exchanged) }
-    ensures begun { (i : ℕ) (e : Entry) → slice_get sets_exchanged i ≡ Some e → begun_call (run_of 2 sets_homes sets_events) e.id ≡ Some e.call }
+    ensures begun { (i : ℕ) (e : Entry)
+        → slice_get sets_exchanged i ≡ Some e
+        → begun_call (run_of 2 sets_homes sets_events) e.id ≡ Some e.call }
     ensures once { (i j : ℕ) (x : CallId) → StandsAt sets_exchanged i x → StandsAt sets_exchanged j x → i ≡ j }
-    ensures answered { (x : CallId) (reply : Reply) → reply_to (run_of 2 sets_homes sets_events) x ≡ Some reply →
-        (i : ℕ) × (at : StandsAt sets_exchanged i x) × (at.entry.reply ≡ reply) }
+    ensures answered { (x : CallId) (reply : Reply) → reply_to (run_of 2 sets_homes sets_events) x ≡ Some reply
+        → (i : ℕ) × (at : StandsAt sets_exchanged i x) × (at.entry.reply ≡ reply) }
     ensures in_time { IsLinearization 2 sets_homes sets_events sets_exchanged → ⊥ }
 {}

@@ -31,7 +31,12 @@ impl Model for World {
 
     ghost coded = { Prim.hlevel (codes, coded_items) };
 
-    ghost view = { λ w. record { servers = w.servers; failed = w.failed; links = w.links; connections = w.connections.items } };
+    ghost view = { λ w. record {
+      servers = w.servers;
+      failed = w.failed;
+      links = w.links;
+      connections = w.connections.items;
+    } };
 }
 
 impl World {

@@ -20,8 +20,8 @@ fn schedule_text(rt: &HostRuntime) -> Result<String, Fail> {
     }
 }
 
-// What a run shows is what `run` shows of the events with a failure for each step that was refused. Where one was, the test
-// ends in that refusal. It writes the refused steps and the transcript, which `tools/refused_steps` reads.
+// What a run shows is what `run` shows of the events with a failure for each step that was refused. Where one was, the
+// test ends in that refusal. It writes the refused steps and the transcript, which `tools/refused_steps` reads.
 #[test]
 fn a_refused_step_is_a_failure(rt: HostRuntime) -> Result<(), Fail> {
     let text = schedule_text(&rt)?;

@@ -7,16 +7,23 @@ use Rattle.proto.proofs.requests.pop_key.Goals as goal
 
 pub returns-in_default-clause-ok : goal.returns-in_default-clause-ok
 returns-in_default-clause-ok c =
-    let none = no_key_left c.args.text.now c.in_ok-slice.field-0 c.first_end-at.result c.requires.keys (c.first_end-at.ensures ∙ ap first_end c.as_slice.ensures) c.in_ok-slice.ensures.ok (λ is. let bad = c.in_default.ensures.valid.1 is in cc) in
+    let none = no_key_left c.args.text.now c.in_ok-slice.field-0 c.first_end-at.result c.requires.keys
+    (c.first_end-at.ensures ∙ ap first_end c.as_slice.ensures) c.in_ok-slice.ensures.ok
+    (λ is. let bad = c.in_default.ensures.valid.1 is in cc) in
     (none, none)
 
 first : (c : goal.After-advance) → Popped c.args.text.now c.in_ok-slice.field-0 c.advance.new.self
 first c =
     let past = c.min.ensures ∙ ap (λ n. min n (c.first_end-at.result + 1)) c.len.ensures.value in
-    popped_key c.args.text.now c.in_ok-slice.field-0 c.advance.new.self c.first_end-at.result c.min.result c.requires.keys (c.first_end-at.ensures ∙ ap first_end c.as_slice.ensures) past c.in_ok-slice.ensures.ok c.advance.ensures (c.in-Some.ensures.valid.0 refl)
+    popped_key c.args.text.now c.in_ok-slice.field-0 c.advance.new.self c.first_end-at.result c.min.result
+    c.requires.keys (c.first_end-at.ensures ∙ ap first_end c.as_slice.ensures) past c.in_ok-slice.ensures.ok
+    c.advance.ensures (c.in-Some.ensures.valid.0 refl)
 
 pub returns-clause-keys : goal.returns-clause-keys
 returns-clause-keys c = (first c).keys
 
 pub returns-clause-ok : goal.returns-clause-ok
-returns-clause-ok c = (sym c.in_ok-copy.ensures.cases, (first c).first ∙ ap (λ k. k ∷ keys_in c.advance.new.self) (sym c.in-Some.ensures.bytes))
+returns-clause-ok c = (
+  sym c.in_ok-copy.ensures.cases,
+  (first c).first ∙ ap (λ k. k ∷ keys_in c.advance.new.self) (sym c.in-Some.ensures.bytes),
+)

@@ -1,7 +1,8 @@
 use Rattle.std.proofs.Common.{◌++◌, ℕ, List, [], take, refl, sym, subst, ◌∙◌, arith, append-nil}
 use Rattle.proto.specs.Runs.{Feed, acted}
 use Rattle.serving.specs.Talks.{HasAnswered}
-use Rattle.serving.proofs.Served.{stands_at_first, stands_on, served_closed, cut_unread, cut_unfed, cut_answering, tracks_on, given_on, by_fault}
+use Rattle.serving.proofs.Served.{stands_at_first, stands_on, served_closed, cut_unread, cut_unfed, cut_answering}
+use Rattle.serving.proofs.Served.{tracks_on, given_on, by_fault}
 use Rattle.serving.proofs.serving.serve.Goals as goal
 
 pub loop-init : goal.loop-init

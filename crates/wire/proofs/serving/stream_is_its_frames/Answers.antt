@@ -1,4 +1,5 @@
-use Rattle.wire.proofs.EndLaws.{frames_are_first, no_more, input_is, is_input, malformed_is, is_malformed, old_is, is_old}
+use Rattle.wire.proofs.EndLaws.{frames_are_first, no_more, input_is, is_input, malformed_is, is_malformed, old_is}
+use Rattle.wire.proofs.EndLaws.{is_old}
 use Rattle.wire.proofs.serving.stream_is_its_frames.Goals as goal
 
 pub returns-clause-frames : goal.returns-clause-frames

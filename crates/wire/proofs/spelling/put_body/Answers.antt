@@ -10,6 +10,8 @@ returns-in-Answer c =
     let done = c.extend_reserved-in-Answer-2.new.self.items in
     let ask = eight_bytes c.in-Answer.ask in
     let n = eight_bytes c.in-Answer.n in
-    let ask_put = spelled_so old asked c.to_be_bytes-in-Answer.result ask c.extend_reserved-in-Answer.ensures.items c.to_be_bytes-in-Answer.ensures in
-    let n_put = spelled_so asked done c.to_be_bytes-in-Answer-2.result n c.extend_reserved-in-Answer-2.ensures.items c.to_be_bytes-in-Answer-2.ensures in
+    let ask_put = spelled_so old asked c.to_be_bytes-in-Answer.result ask c.extend_reserved-in-Answer.ensures.items
+    c.to_be_bytes-in-Answer.ensures in
+    let n_put = spelled_so asked done c.to_be_bytes-in-Answer-2.result n c.extend_reserved-in-Answer-2.ensures.items
+    c.to_be_bytes-in-Answer-2.ensures in
     then_more old asked done ask n ask_put n_put ∙ ap (λ says. old ++ body_spelling says) (sym c.in-Answer.is)

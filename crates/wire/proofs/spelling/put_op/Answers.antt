@@ -13,7 +13,11 @@ returns-in-Cas c =
     let flags = four_bytes c.in-Cas.flags in
     let unique = eight_bytes c.in-Cas.unique in
     let block = block_spelling c.in-Cas.bytes in
-    let flags_put = spelled_so coded flagged c.to_be_bytes.result flags c.extend_reserved-in-Cas-2.ensures.items c.to_be_bytes.ensures in
-    let unique_put = spelled_so flagged marked c.to_be_bytes-in-Cas.result unique c.extend_reserved-in-Cas-3.ensures.items c.to_be_bytes-in-Cas.ensures in
-    let behind = then_more coded flagged done flags (unique ++ block) flags_put (then_more flagged marked done unique block unique_put c.put_block-in-Cas.ensures) in
-    then_more old coded done (6 ∷ []) (flags ++ (unique ++ block)) c.extend_reserved-in-Cas.ensures.items behind ∙ ap (λ op. old ++ op_spelling op) (sym c.in-Cas.is)
+    let flags_put = spelled_so coded flagged c.to_be_bytes.result flags c.extend_reserved-in-Cas-2.ensures.items
+    c.to_be_bytes.ensures in
+    let unique_put = spelled_so flagged marked c.to_be_bytes-in-Cas.result unique
+    c.extend_reserved-in-Cas-3.ensures.items c.to_be_bytes-in-Cas.ensures in
+    let behind = then_more coded flagged done flags (unique ++ block) flags_put
+    (then_more flagged marked done unique block unique_put c.put_block-in-Cas.ensures) in
+    then_more old coded done (6 ∷ []) (flags ++ (unique ++ block)) c.extend_reserved-in-Cas.ensures.items behind
+    ∙ ap (λ op. old ++ op_spelling op) (sym c.in-Cas.is)

@@ -5,14 +5,17 @@ use Rattle.wire.specs.Lengths.{longest}
 use Rattle.wire.specs.Fronts.{front}
 use Rattle.wire.specs.Streams.{Held, next_of, taken}
 use Rattle.wire.proofs.Readers.{IsBytes}
-use Rattle.wire.proofs.FrontLaws.{first_from, malformed_from, old_from, partial_from, frame_not_malformed, frame_not_old, front_takes, rest_behind, waiting, stopped_is, wanted_frame, wanted_not_malformed, wanted_not_old}
+use Rattle.wire.proofs.FrontLaws.{first_from, malformed_from, old_from, partial_from, frame_not_malformed}
+use Rattle.wire.proofs.FrontLaws.{frame_not_old, front_takes, rest_behind, waiting, stopped_is, wanted_frame}
+use Rattle.wire.proofs.FrontLaws.{wanted_not_malformed, wanted_not_old}
 use Rattle.wire.proofs.FrameLengths.{short_front}
 use Rattle.wire.proofs.EndLaws.{ends_there}
 use Rattle.wire.proofs.streams.Frames.next.Goals as goal
 
 waited_short : (c : goal.Then-self-gt0) → front c.args.self.now.unread ≡ Err (Short c.self.inside.missing)
 waited_short c =
-    ap (λ (h : Held). front h.unread) (sym c.self.view_is) ∙ waiting c.self.inside.missing c.self.inside.unread.items c.if-self-gt0.true c.self.invariant
+    ap (λ (h : Held). front h.unread) (sym c.self.view_is) ∙ waiting c.self.inside.missing c.self.inside.unread.items
+    c.if-self-gt0.true c.self.invariant
 
 waited : (c : goal.Then-self-gt0) → IsPartial c.args.self.now.unread
 waited c = partial_from c.args.self.now.unread c.self.inside.missing (waited_short c)
@@ -49,7 +52,8 @@ first c =
 -- what is left
 left_is : (c : goal.After-advance) → c.advance.new.self.items ≡ c.in-Ok.rest.now
 left_is c =
-    c.advance.ensures.items ∙ ap (λ (n : ℕ). drop (n - length c.in-Ok.rest.now) c.self.inside.unread.items) c.len.ensures.value
+    c.advance.ensures.items ∙ ap (λ (n : ℕ). drop (n - length c.in-Ok.rest.now) c.self.inside.unread.items)
+    c.len.ensures.value
     ∙ rest_behind c.self.inside.unread.items c.in-Ok.frame c.in-Ok.rest.now (first c)
 
 pub returns-in-Ok-clause-frame : goal.returns-in-Ok-clause-frame
@@ -65,7 +69,8 @@ returns-in-Ok-clause-left c = λ _.
     ∙ ap (λ (h : Held). (next_of h).1) c.self.view_is
 
 read_ok : (c : goal.After-advance) → front c.args.self.now.unread ≡ Ok (c.in-Ok.frame, c.in-Ok.rest.now)
-read_ok c = ap (λ (h : Held). front h.unread) (sym c.self.view_is) ∙ ap front (sym c.as_slice.ensures) ∙ c.in-Ok.ensures.gives
+read_ok c =
+    ap (λ (h : Held). front h.unread) (sym c.self.view_is) ∙ ap front (sym c.as_slice.ensures) ∙ c.in-Ok.ensures.gives
 
 pub returns-in-Ok-clause-malformed : goal.returns-in-Ok-clause-malformed
 returns-in-Ok-clause-malformed c = (λ e. absurd cc, λ m. absurd (frame_not_malformed _ _ (read_ok c) m))
@@ -77,28 +82,48 @@ held_bytes : (c : goal.In-Err-Memory) → c.as_slice.result.now ≡ c.args.self.
 held_bytes c = c.as_slice.ensures ∙ ap (λ (h : Held). h.unread) c.self.view_is
 
 pub returns-in-Err-Memory-clause-malformed : goal.returns-in-Err-Memory-clause-malformed
-returns-in-Err-Memory-clause-malformed c =
-    (λ e. absurd cc, λ m. absurd (wanted_not_malformed _ _ c.in-Err-Memory.field-0-is c.in-Err-Memory.ensures.gives (subst IsMalformed (sym (held_bytes c)) m)))
+returns-in-Err-Memory-clause-malformed c = (
+  λ e. absurd cc,
+  λ m. absurd
+      (wanted_not_malformed _ _ c.in-Err-Memory.field-0-is c.in-Err-Memory.ensures.gives
+      (subst IsMalformed (sym (held_bytes c)) m)),
+)
 
 pub returns-in-Err-Memory-clause-old_format : goal.returns-in-Err-Memory-clause-old_format
-returns-in-Err-Memory-clause-old_format c =
-    (λ e. absurd cc, λ o. absurd (wanted_not_old _ _ c.in-Err-Memory.field-0-is c.in-Err-Memory.ensures.gives (subst IsOld (sym (held_bytes c)) o)))
+returns-in-Err-Memory-clause-old_format c = (
+  λ e. absurd cc,
+  λ o. absurd
+      (wanted_not_old _ _ c.in-Err-Memory.field-0-is c.in-Err-Memory.ensures.gives
+      (subst IsOld (sym (held_bytes c)) o)),
+)
 
 pub returns-in-Err-Memory-clause-wanted : goal.returns-in-Err-Memory-clause-wanted
 returns-in-Err-Memory-clause-wanted c =
-    λ _. subst HasFrame (held_bytes c) (wanted_frame _ _ c.front.ensures.bytes c.in-Err-Memory.field-0-is c.in-Err-Memory.ensures.gives)
+    λ _. subst HasFrame (held_bytes c)
+    (wanted_frame _ _ c.front.ensures.bytes c.in-Err-Memory.field-0-is c.in-Err-Memory.ensures.gives)
 
 read_short : (c : goal.After-self-1) → front c.args.self.now.unread ≡ Err (Short c.in-Err-Stopped-Short.missing)
-read_short c = ap (λ (h : Held). front h.unread) (sym c.self.view_is) ∙ ap front (sym c.as_slice.ensures) ∙ stopped_is _ _ (Short c.in-Err-Stopped-Short.missing) _ c.in-Err-Stopped-Short.field-0-is c.in-Err-Stopped-Short.field-0-0-is c.in-Err-Stopped-Short.ensures.gives
+read_short c = ap (λ (h : Held). front h.unread) (sym c.self.view_is) ∙ ap front (sym c.as_slice.ensures)
+    ∙ stopped_is _ _ (Short c.in-Err-Stopped-Short.missing) _ c.in-Err-Stopped-Short.field-0-is
+    c.in-Err-Stopped-Short.field-0-0-is c.in-Err-Stopped-Short.ensures.gives
 
 pub returns-in-Err-Stopped-Short-clause-none : goal.returns-in-Err-Stopped-Short-clause-none
-returns-in-Err-Stopped-Short-clause-none c = partial_from c.args.self.now.unread c.in-Err-Stopped-Short.missing (read_short c)
+returns-in-Err-Stopped-Short-clause-none c =
+    partial_from c.args.self.now.unread c.in-Err-Stopped-Short.missing (read_short c)
 
 pub returns-in-Err-Stopped-Short-clause-malformed : goal.returns-in-Err-Stopped-Short-clause-malformed
-returns-in-Err-Stopped-Short-clause-malformed c = (λ e. absurd cc, λ m. absurd ((partial_from c.args.self.now.unread c.in-Err-Stopped-Short.missing (read_short c)).not_malformed m))
+returns-in-Err-Stopped-Short-clause-malformed c = (
+  λ e. absurd cc,
+  λ m. absurd
+      ((partial_from c.args.self.now.unread c.in-Err-Stopped-Short.missing (read_short c)).not_malformed m),
+)
 
 pub returns-in-Err-Stopped-Short-clause-old_format : goal.returns-in-Err-Stopped-Short-clause-old_format
-returns-in-Err-Stopped-Short-clause-old_format c = (λ e. absurd cc, λ o. absurd ((partial_from c.args.self.now.unread c.in-Err-Stopped-Short.missing (read_short c)).not_old o))
+returns-in-Err-Stopped-Short-clause-old_format c = (
+  λ e. absurd cc,
+  λ o. absurd
+      ((partial_from c.args.self.now.unread c.in-Err-Stopped-Short.missing (read_short c)).not_old o),
+)
 
 pub returns-in-Err-Stopped-Short-clause-short : goal.returns-in-Err-Stopped-Short-clause-short
 returns-in-Err-Stopped-Short-clause-short c =
@@ -106,12 +131,15 @@ returns-in-Err-Stopped-Short-clause-short c =
     (short_front c.args.self.now.unread c.in-Err-Stopped-Short.missing (read_short c))
 
 pub returns-in-Err-Stopped-Short-clause-end : goal.returns-in-Err-Stopped-Short-clause-end
-returns-in-Err-Stopped-Short-clause-end c = ends_there c.args.self.now.unread (Short c.in-Err-Stopped-Short.missing) (read_short c)
+returns-in-Err-Stopped-Short-clause-end c =
+    ends_there c.args.self.now.unread (Short c.in-Err-Stopped-Short.missing) (read_short c)
 
 bad_is : (c : goal.After-self-in-Err-Stopped-Malformed-1) → IsMalformed c.args.self.now.unread
 bad_is c =
     subst (λ (h : Held). IsMalformed h.unread) c.self.view_is
-    (malformed_from c.self.inside.unread.items (subst IsBytes c.as_slice.ensures c.front.ensures.bytes) (ap front (sym c.as_slice.ensures) ∙ stopped_is _ _ Malformed _ c.in-Err-Stopped-Malformed.field-0-is c.in-Err-Stopped-Malformed.field-0-0-is c.in-Err-Stopped-Malformed.ensures.gives))
+    (malformed_from c.self.inside.unread.items (subst IsBytes c.as_slice.ensures c.front.ensures.bytes)
+    (ap front (sym c.as_slice.ensures) ∙ stopped_is _ _ Malformed _ c.in-Err-Stopped-Malformed.field-0-is
+    c.in-Err-Stopped-Malformed.field-0-0-is c.in-Err-Stopped-Malformed.ensures.gives))
 
 pub returns-in-Err-Stopped-Malformed-clause-malformed : goal.returns-in-Err-Stopped-Malformed-clause-malformed
 returns-in-Err-Stopped-Malformed-clause-malformed c = (λ e. bad_is c, λ m. refl)
@@ -122,7 +150,9 @@ returns-in-Err-Stopped-Malformed-clause-old_format c = (λ e. absurd cc, λ o. a
 old_is : (c : goal.After-self-in-Err-Stopped-Old-1) → IsOld c.args.self.now.unread
 old_is c =
     subst (λ (h : Held). IsOld h.unread) c.self.view_is
-    (old_from c.self.inside.unread.items (ap front (sym c.as_slice.ensures) ∙ stopped_is _ _ Old _ c.in-Err-Stopped-Old.field-0-is c.in-Err-Stopped-Old.field-0-0-is c.in-Err-Stopped-Old.ensures.gives))
+    (old_from c.self.inside.unread.items
+    (ap front (sym c.as_slice.ensures) ∙ stopped_is _ _ Old _ c.in-Err-Stopped-Old.field-0-is
+    c.in-Err-Stopped-Old.field-0-0-is c.in-Err-Stopped-Old.ensures.gives))
 
 pub returns-in-Err-Stopped-Old-clause-malformed : goal.returns-in-Err-Stopped-Old-clause-malformed
 returns-in-Err-Stopped-Old-clause-malformed c = (λ e. absurd cc, λ m. absurd (m.not_old (old_is c)))
