@@ -5,8 +5,8 @@ use Rattle.craq.specs.declared.faults.ScenarioFault.{ScenarioFault}
 use Rattle.craq.specs.declared.faults.ScenarioFault.TheVariants.{Memory, Unreadable, BadLine, Run}
 use Rattle.ends.specs.declared.reading.ReadFault.{ReadFault}
 use Rattle.ends.specs.declared.reading.ReadFault.TheVariants as reading
-use Rattle.world.specs.declared.schedules.ScheduleFault.{ScheduleFault}
-use Rattle.world.specs.declared.schedules.ScheduleFault.TheVariants as schedules
+use Rattle.schedules.specs.declared.schedules.ScheduleFault.{ScheduleFault}
+use Rattle.schedules.specs.declared.schedules.ScheduleFault.TheVariants as schedules
 use Rattle.world.specs.declared.faults.SceneFault.{SceneFault}
 use Rattle.world.specs.declared.faults.SceneFault.TheVariants as scenes
 

@@ -1,9 +1,9 @@
 -- What a scenario shows of the schedule that it read.
 use Rattle.std.specs.Prelude.{◌≡◌, ◌⊎◌, ◌++◌, ℕ, List, Bool, true, Ok, Err}
-use Rattle.world.specs.Schedules.{ScheduleShown, schedule_of}
+use Rattle.schedules.specs.Schedules.{ScheduleShown, schedule_of}
 use Rattle.world.specs.Worlds.{run_of}
 use Rattle.world.specs.Transcripts.{transcript_of}
-use Rattle.world.specs.Printing.{transcript_text}
+use Rattle.schedules.specs.Printing.{transcript_text}
 use Rattle.ends.specs.Ends.{WritesBeginning}
 use Rattle.craq.specs.declared.faults.ScenarioFault.{ScenarioFault}
 use Rattle.craq.specs.declared.faults.ScenarioFault.TheVariants.{Memory, Unreadable, BadLine, Run}

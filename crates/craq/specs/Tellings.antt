@@ -1,6 +1,6 @@
 -- What a trace shows of a schedule's text.
 use Rattle.std.specs.Prelude.{◌≡◌, ℕ, List, Ok}
-use Rattle.world.specs.Schedules.{ScheduleShown, schedule_of}
+use Rattle.schedules.specs.Schedules.{ScheduleShown, schedule_of}
 use Rattle.world.specs.Worlds.{run_of}
 use Rattle.traces.specs.Printing.{EndsWithTranscript}
 

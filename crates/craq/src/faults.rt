@@ -6,7 +6,8 @@ use ends::{ReadFault, Sink, WriteFault, write_all};
 use itoa::Buffer;
 use std::alloc::AllocError;
 use thiserror::Error;
-use world::{SceneFault, ScheduleFault};
+use schedules::ScheduleFault;
+use world::SceneFault;
 
 /// The transcript was printed.
 pub const DONE: u8 = 0;

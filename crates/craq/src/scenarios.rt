@@ -8,7 +8,8 @@ ghost use Rattle.craq.specs.declared.faults.ScenarioFault.TheVariants.{Unreadabl
 use crate::faults::{DONE, FAILED, ScenarioFault};
 use ends::{Sink, Source, read_to_end, write_all};
 use std::alloc::Global;
-use world::{print_transcript, read_schedule, run};
+use schedules::{print_transcript, read_schedule};
+use world::run;
 
 /// Replays the schedule that the source holds, prints the transcript to the sink, and answers the exit status.
 /// The line of a fault goes to `errors`; `name` is the file's name in that line.

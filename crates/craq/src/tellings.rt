@@ -16,7 +16,8 @@ use std::fs;
 use std::io::ErrorKind as InputErrorKind;
 use std::rt::{Env, Files};
 use traces::{draw, print_trace};
-use world::{read_schedule, traced_run};
+use schedules::read_schedule;
+use world::traced_run;
 
 /// How a schedule is told.
 #[derive(Clone, Copy, Debug, PartialEq, Eq)]

@@ -2,7 +2,7 @@
 use Rattle.std.specs.Prelude.{◌≡◌, ℕ, List, ◌++◌}
 use Rattle.world.specs.Worlds.{World}
 use Rattle.world.specs.Transcripts.{transcript_of}
-use Rattle.world.specs.Printing.{transcript_text}
+use Rattle.schedules.specs.Printing.{transcript_text}
 
 -- the text ends with the transcript of this world
 abbrev pub EndsWithTranscript : World → List ℕ → Type 0

@@ -6,8 +6,9 @@ use crate::deeds::put_deed;
 use crate::ends::put_end;
 use crate::event_lines::put_event;
 use crate::texts::Text;
+use schedules::print_transcript;
 use std::alloc::{AllocError, Global};
-use world::{Event, Trace, print_transcript};
+use world::{Event, Trace};
 
 /// The text of a run of these events: for each one its line, and what it did; how the run ends; and its transcript,
 /// byte for byte as `print_transcript` gives it. It takes time linear in what the events did.

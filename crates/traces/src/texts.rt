@@ -1,8 +1,8 @@
 //! Texts that grow, in the escapes of transcripts.
 
 use itoa::Buffer;
+use schedules::push_escaped;
 use std::alloc::{AllocError, Global};
-use world::push_escaped;
 
 /// A text that grows.
 #[derive(Drop)]

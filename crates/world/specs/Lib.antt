@@ -1,11 +1,3 @@
-pub mod Cuts
-pub mod Numbers
-pub mod Escapes
-pub mod HeadLines
-pub mod Settling
-pub mod EventLines
-pub mod Schedules
-pub mod SpelledSchedules
 pub mod Connections
 pub mod Waiting
 pub mod Lawful
@@ -14,7 +6,6 @@ pub mod Worlds
 pub mod Scenes
 pub mod Quiet
 pub mod Transcripts
-pub mod Printing
 pub mod ServerSteps
 pub mod Deeds
 pub mod Calls

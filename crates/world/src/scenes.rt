@@ -24,10 +24,10 @@ use std::alloc::{AllocError, Global};
 use std::marker::Model;
 
 /// The most connections of a scene.
-const CONNECTIONS: usize = 64;
+pub const MOST_HOMES: usize = 64;
 
 /// The most servers of a scene.
-const SERVERS: usize = 16;
+pub const MOST_SERVERS: usize = 16;
 
 /// A world that events change, one after another. An event that runs out of memory spoils it for good.
 #[derive(Drop)]
@@ -186,13 +186,13 @@ pub fn run(
 pub(crate) fn is_count(count: usize) -> bool
     ensures { result ≡ is_count count }
 {
-    1 <= count && count <= SERVERS
+    1 <= count && count <= MOST_SERVERS
 }
 
 pub(crate) fn are_homes(count: usize, homes: &[usize]) -> bool
     ensures { result ≡ are_homes count homes.now }
 {
-    homes.len() <= CONNECTIONS && are_servers(count, homes)
+    homes.len() <= MOST_HOMES && are_servers(count, homes)
 }
 
 fn are_servers(count: usize, homes: &[usize]) -> bool

@@ -1,6 +1,7 @@
+use schedules::print_transcript;
 use std::test::Fail;
 use table::{Key, Op, Reply, Target};
-use world::{CallTranscript, ConnectionTranscript, Transcript, print_transcript};
+use world::{CallTranscript, ConnectionTranscript, Transcript};
 
 #[test]
 fn the_text_of_a_transcript(rt: HostRuntime) -> Result<(), Fail> {

@@ -1,8 +1,9 @@
 //! Tests of runs in which steps are refused.
+use schedules::{print_transcript, read_schedule};
 use std::fs;
 use std::io::{self, ErrorKind, Write};
 use std::test::Fail;
-use world::{Event, SceneFault, print_transcript, read_schedule, run, run_failing};
+use world::{Event, SceneFault, run, run_failing};
 
 // A schedule in the folder where the test runs, which `tools/refused_steps` puts there.
 const FILE: &str = "refused_steps.schedule";

@@ -1,8 +1,9 @@
 //! Tests of schedules that are read from their text.
 use bytes::Bytes;
+use schedules::{ScheduleFault, read_schedule};
 use std::alloc::Global;
 use std::test::Fail;
-use world::{Event, ScheduleFault, read_schedule};
+use world::Event;
 
 fn piece(alloc: Global, connection: usize, data: &[u8]) -> Result<Event, Fail> {
     Ok(Event::Piece(connection, Bytes::copy_from_slice(alloc, data)?))

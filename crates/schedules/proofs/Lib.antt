@@ -1,0 +1,16 @@
+pub mod Places
+pub mod Texts
+pub mod HeadLaws
+pub mod EscapeLaws
+pub mod NumberLaws
+pub mod CutLaws
+pub mod EventLineLaws
+pub mod HeadLineLaws
+pub mod ScheduleLaws
+pub mod StatedLines
+pub mod BadLineLaws
+pub mod FirstBadLines
+pub mod FieldNumbers
+pub mod SentTexts
+pub mod Readings
+pub mod Rounds

@@ -1,0 +1,5 @@
+use Rattle.schedules.proofs.SentTexts.{sent_text_tells}
+use Rattle.schedules.proofs.text_laws.sent_text_tells_what_was_sent.Goals as goal
+
+pub returns : goal.returns
+returns c = sent_text_tells

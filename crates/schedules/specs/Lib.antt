@@ -1,0 +1,9 @@
+pub mod Cuts
+pub mod Numbers
+pub mod Escapes
+pub mod HeadLines
+pub mod Settling
+pub mod EventLines
+pub mod Schedules
+pub mod SpelledSchedules
+pub mod Printing

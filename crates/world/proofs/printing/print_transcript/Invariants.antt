@@ -1,6 +1,0 @@
-use Rattle.std.proofs.Common.{◌≡◌, ◌++◌, drop}
-use Rattle.world.specs.Printing.{connections_text}
-use Rattle.world.proofs.printing.print_transcript.Given as goal
-
-abbrev pub invariant-loop-number : goal.invariant-loop-number
-invariant-loop-number l = l.text.items ++ connections_text l.number (drop l.number l.transcript.connections) ≡ connections_text 0 l.transcript.connections

@@ -1,7 +1,0 @@
-use Rattle.std.proofs.Common.{◌≡◌}
-use Rattle.std.specs.Prelude.{flat_map}
-use Rattle.world.specs.Settling.{first_numbers, pairs_with}
-use Rattle.world.proofs.settling.pairs.Given as goal
-
-abbrev pub invariant-loop-i : goal.invariant-loop-i
-invariant-loop-i l = l.pairs.items ≡ flat_map (pairs_with l.count) (first_numbers l.i)

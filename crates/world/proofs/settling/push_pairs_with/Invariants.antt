@@ -1,6 +1,0 @@
-use Rattle.std.proofs.Common.{◌≡◌, ◌++◌}
-use Rattle.world.specs.Settling.{pairs_with}
-use Rattle.world.proofs.settling.push_pairs_with.Given as goal
-
-abbrev pub invariant-loop-j : goal.invariant-loop-j
-invariant-loop-j l = l.pairs.items ≡ l.initial.pairs.items ++ pairs_with l.j l.i

@@ -1,7 +1,0 @@
-use Rattle.std.proofs.Common.{◌≡◌, ◌++◌}
-use Rattle.std.specs.List.{repeat}
-use Rattle.world.specs.Settling.{round}
-use Rattle.world.proofs.settling.push_rounds.Given as goal
-
-abbrev pub invariant-loop : goal.invariant-loop
-invariant-loop l = l.events.items ≡ l.initial.events.items ++ repeat l.counter (round l.pairs.items l.connections)

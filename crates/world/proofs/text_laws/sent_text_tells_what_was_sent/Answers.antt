@@ -1,5 +1,0 @@
-use Rattle.world.proofs.SentTexts.{sent_text_tells}
-use Rattle.world.proofs.text_laws.sent_text_tells_what_was_sent.Goals as goal
-
-pub returns : goal.returns
-returns c = sent_text_tells

@@ -1,8 +1,0 @@
-use Rattle.world.proofs.EscapeLaws.{spelled_bytes_read, read_bytes_spelled}
-use Rattle.world.proofs.text_laws.spelled_bytes_are_read.Goals as goal
-
-pub returns-clause-read : goal.returns-clause-read
-returns-clause-read c = spelled_bytes_read
-
-pub returns-clause-spelled : goal.returns-clause-spelled
-returns-clause-spelled c = read_bytes_spelled

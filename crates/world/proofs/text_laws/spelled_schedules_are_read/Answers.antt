@@ -1,8 +1,0 @@
-use Rattle.world.proofs.ScheduleLaws.{spelled_read, read_spelled}
-use Rattle.world.proofs.text_laws.spelled_schedules_are_read.Goals as goal
-
-pub returns-clause-read : goal.returns-clause-read
-returns-clause-read c = spelled_read
-
-pub returns-clause-spelled : goal.returns-clause-spelled
-returns-clause-spelled c = read_spelled
