@@ -1,5 +1,5 @@
 //! A server that shows its face: the node, the log of what it took, and the writer of its face.
-ghost use Rattle.std.specs.Prelude.{◌≡◌, ◌<◌, ◌^◌, [], false, IfOk};
+ghost use Rattle.std.specs.Prelude.{◌≡◌, ◌<◌, ◌^◌, [], false, IfOk, OnOk, OnErr};
 ghost use Rattle.node.specs.Lawful.{IsInput, AreFit};
 ghost use Rattle.faces.specs.Courses.{with_next};
 ghost use Rattle.faces.specs.Outputs.{last_outputs};
@@ -16,13 +16,14 @@ use std::alloc::Global;
 use std::marker::Model;
 use std::sync::Wait;
 
-/// A server that goes on and shows its face. Contracts see what it has published: the inputs that it took (`Course`).
-/// Its node is the server after them, and what is shown is the face of that server.
+/// A server that shows its face, until an input is refused. Contracts see what it has published: the inputs that it took
+/// (`Course`). Its node is the server after them, and what is shown is the face of that server.
 /// It isn't `Drop`: end it by `end`.
 pub struct Publisher {
     node: Node,
     log: Log,
-    writer: FaceWriter,
+    // None once an input was refused.
+    writer: Option<FaceWriter>,
     published: Published,
 }
 
@@ -31,8 +32,7 @@ impl Model for Publisher {
     ghost use Rattle.logbook.specs.Pages.{book_coded};
     ghost use Rattle.versions.specs.Stores.{coded_items};
     ghost use Rattle.faces.specs.Courses.{Course};
-    ghost use Rattle.faces.specs.Publishers.{IsCurrent};
-    ghost use Rattle.faces.specs.Showing.{Shows};
+    ghost use Rattle.faces.specs.Publishers.{IsShowing};
 
     ghost Value = { Course };
 
@@ -40,7 +40,7 @@ impl Model for Publisher {
 
     ghost view = { λ p. p.published };
 
-    ghost invariant = { λ p. IsCurrent p.node p.log p.published × Shows p.writer p.published };
+    ghost invariant = { λ p. IsShowing p.writer p.node p.log p.published };
 }
 
 impl Publisher {
@@ -70,7 +70,7 @@ impl Publisher {
         Ok(Publisher {
             node,
             log,
-            writer,
+            writer: Some(writer),
             published,
         })
     }
@@ -82,38 +82,40 @@ impl Publisher {
         &self.published
     }
 
-    /// One more reader, which has seen what is published. Refused if memory is out, or if there is no room for it.
+    /// One more reader, which has seen what is published. Refused if memory is out, if there is no room for it, or with
+    /// Closed after an input was refused.
     pub fn reader(&mut self) -> Result<Reader, FaceFault>
         ensures reader { IfOk result (λ reader. reader ≡ self.old) }
         ensures unchanged { self.new ≡ self.old }
     {
-        let front = self.published.front().again();
-        let place = place(&mut self.writer)?;
-        Ok(Reader::new(place, front))
+        let Some(writer) = &mut self.writer else {
+            return Err(FaceFault::Closed);
+        };
+        let place = place(writer)?;
+        Ok(Reader::new(place, self.published.front().again()))
     }
 
     /// Takes an input: the node makes its step, and the face after it is published. It gives all that the step put out.
     /// It waits for the readers that still look at the face before the last one. Refused with Closed if the log is
-    /// full: then the input wasn't taken; and with Memory. Either way nothing was published, and the face is taken
-    /// away.
-    pub fn take<R: Wait>(self, rt: &R, input: Input) -> Result<(Publisher, Vec<Output>), FaceFault>
+    /// full: then the input wasn't taken; and with Memory. Either way nothing was published, the face is taken away, and
+    /// each later input is refused with Closed.
+    pub fn take<R: Wait>(&mut self, rt: &R, input: Input) -> Result<Vec<Output>, FaceFault>
         requires { IsInput input }
-        ensures published { IfOk result (λ r. r.0 ≡ with_next self input) }
-        ensures outputs { IfOk result (λ r. r.1.items ≡ last_outputs r.0.origin.start r.0.inputs) }
+        ensures published { OnOk result (self.new ≡ with_next self.old input) }
+        ensures outputs { IfOk result (λ outputs. outputs.items ≡ last_outputs self.new.origin.start self.new.inputs) }
         // Each message may be sent, and handed in where it goes.
-        ensures fit { IfOk result (λ r. AreFit r.1.items) }
+        ensures fit { IfOk result (λ outputs. AreFit outputs.items) }
+        ensures unchanged { OnErr result (self.new ≡ self.old) }
     {
-        let Publisher {
-            mut node,
-            log,
-            writer,
-            published,
-        } = self;
-        let Some(front) = published.front().next(&log, &input) else {
+        let Some(writer) = self.writer.take() else {
+            drop(input);
+            return Err(FaceFault::Closed);
+        };
+        let Some(front) = self.published.front().next(&self.log, &input) else {
             writer.take(rt);
             return Err(FaceFault::Closed);
         };
-        let Ok((outputs, change)) = node.step_face(input) else {
+        let Ok((outputs, change)) = self.node.step_face(input) else {
             writer.take(rt);
             return Err(FaceFault::Memory);
         };
@@ -122,13 +124,11 @@ impl Publisher {
             writer.take(rt);
             return Err(FaceFault::Memory);
         };
-        let publisher = Publisher {
-            node,
-            log,
-            writer,
-            published,
-        };
-        Ok((publisher, outputs))
+        self.published = published;
+        if let Some(other) = self.writer.replace(writer) {
+            other.take(rt);
+        }
+        Ok(outputs)
     }
 
     /// Takes the face away: readers then get Closed. It waits for those that still look.
@@ -139,6 +139,8 @@ impl Publisher {
             writer,
             published: _published,
         } = self;
-        writer.take(rt);
+        if let Some(writer) = writer {
+            writer.take(rt);
+        }
     }
 }

@@ -57,15 +57,14 @@ fn is_closed(beside: &mut Reader, key: &Key) -> bool {
 }
 
 // An input that may be given is taken.
-fn feed<R: Wait>(rt: &R, publisher: Publisher, input: Input) -> Result<Publisher, FaceFault>
-    ensures { IfOk result (λ next. next.origin ≡ publisher.origin) }
+fn feed<R: Wait>(rt: &R, publisher: &mut Publisher, input: Input) -> Result<(), FaceFault>
+    ensures { publisher.new.origin ≡ publisher.old.origin }
 {
     if !input.is_fit() {
-        publisher.end(rt);
         return Err(FaceFault::Closed);
     }
-    let (publisher, _outputs) = publisher.take(rt, input)?;
-    Ok(publisher)
+    let _outputs = publisher.take(rt, input)?;
+    Ok(())
 }
 
 // A reader is told of what is published. Whether it then tells of all that.
@@ -77,25 +76,24 @@ fn tells(publisher: &Publisher, beside: &mut Reader) -> bool
     beside.tell().has_all_of(&told)
 }
 
-// Whether a reader that is told of a publish looks at the face before and after it, and finds none after the end.
+// Whether a reader that is told of a publish looks at the face before and after it.
 fn looks<R: Wait>(
     rt: &R,
-    publisher: Publisher,
+    publisher: &mut Publisher,
     beside: &mut Reader,
     input: Input,
     key: &Key,
 ) -> Result<bool, FaceFault>
-    requires { beside.old.origin ≡ publisher.origin }
+    requires { beside.old.origin ≡ publisher.old.origin }
 {
     let none = finds_none(beside, key);
-    let publisher = feed(rt, publisher, input)?;
-    let told = tells(&publisher, beside);
+    feed(rt, publisher, input)?;
+    let told = tells(publisher, beside);
     let item = finds_item(beside, key, 1);
-    publisher.end(rt);
-    Ok(none && told && item && is_closed(beside, key))
+    Ok(none && told && item)
 }
 
-// The same beside a first server.
+// The same beside a first server, whose face isn't found after the end.
 fn looks_at_first<R: Wait>(
     rt: &R,
     alloc: Global,
@@ -105,7 +103,11 @@ fn looks_at_first<R: Wait>(
     let node = first(alloc, 1)?;
     let mut publisher = Publisher::open(rt, alloc, node, 1)?;
     match publisher.reader() {
-        Ok(mut beside) => looks(rt, publisher, &mut beside, input, key),
+        Ok(mut beside) => {
+            let shown = looks(rt, &mut publisher, &mut beside, input, key);
+            publisher.end(rt);
+            Ok(shown? && is_closed(&mut beside, key))
+        }
         Err(fault) => {
             publisher.end(rt);
             Err(fault)
@@ -203,67 +205,57 @@ fn deletes(alloc: Global, keys: &[Key], last: u64) -> Result<Vec<Gone>, Fail> {
 
 fn feed_all<R: Wait>(
     rt: &R,
-    publisher: Publisher,
+    publisher: &mut Publisher,
     inputs: Vec<Input>,
-) -> Result<Publisher, FaceFault> {
-    let mut publisher = publisher;
+) -> Result<(), FaceFault> {
     for input in inputs {
-        publisher = feed(rt, publisher, input)?;
+        feed(rt, publisher, input)?;
     }
-    Ok(publisher)
+    Ok(())
 }
 
 // A key is deleted, and that is acknowledged. Whether a look after each shows it.
 fn delete_one<R: Wait>(
     rt: &R,
-    publisher: Publisher,
+    publisher: &mut Publisher,
     beside: &mut Reader,
     gone: Gone,
-) -> Result<(Publisher, bool), FaceFault> {
+) -> Result<bool, FaceFault> {
     let Gone {
         key,
         delete,
         number,
     } = gone;
-    let publisher = feed(rt, publisher, delete)?;
+    feed(rt, publisher, delete)?;
     let dirty = matches!(beside.look(&key), Ok(Look::Dirty));
-    let publisher = feed(rt, publisher, acknowledged(number))?;
-    Ok((publisher, dirty && finds_none(beside, &key)))
+    feed(rt, publisher, acknowledged(number))?;
+    Ok(dirty && finds_none(beside, &key))
 }
 
 // The same for each of these.
 fn delete_each<R: Wait>(
     rt: &R,
-    publisher: Publisher,
+    publisher: &mut Publisher,
     beside: &mut Reader,
     deletes: Vec<Gone>,
 ) -> Result<bool, FaceFault> {
-    let mut publisher = publisher;
     let mut shown = true;
     for gone in deletes {
-        let (next, both) = delete_one(rt, publisher, beside, gone)?;
-        publisher = next;
-        shown &= both;
+        shown &= delete_one(rt, publisher, beside, gone)?;
     }
-    publisher.end(rt);
     Ok(shown)
 }
 
 // All sets are taken, and then the deletes.
 fn fill_and_delete<R: Wait>(
     rt: &R,
-    publisher: Publisher,
+    publisher: &mut Publisher,
     sets: Vec<Input>,
     deletes: Vec<Gone>,
 ) -> Result<bool, FaceFault> {
-    let mut publisher = feed_all(rt, publisher, sets)?;
-    match publisher.reader() {
-        Ok(mut beside) => delete_each(rt, publisher, &mut beside, deletes),
-        Err(fault) => {
-            publisher.end(rt);
-            Err(fault)
-        }
-    }
+    feed_all(rt, publisher, sets)?;
+    let mut beside = publisher.reader()?;
+    delete_each(rt, publisher, &mut beside, deletes)
 }
 
 // The same with so many keys, the first 1,000 of which are deleted.
@@ -272,8 +264,10 @@ fn many<R: Wait>(rt: &R, alloc: Global, count: u32) -> Result<bool, Fail> {
     let some = keys.as_slice().get(..1_000).ok_or("a thousand keys")?;
     let deletes = deletes(alloc, some, u64::from(count))?;
     let sets = sets(alloc, keys.as_slice())?;
-    let publisher = Publisher::open(rt, alloc, first(alloc, 2)?, 1)?;
-    Ok(fill_and_delete(rt, publisher, sets, deletes)?)
+    let mut publisher = Publisher::open(rt, alloc, first(alloc, 2)?, 1)?;
+    let shown = fill_and_delete(rt, &mut publisher, sets, deletes);
+    publisher.end(rt);
+    Ok(shown?)
 }
 
 #[test]

@@ -1,5 +1,5 @@
 -- What a turn leaves of a worker.
-use Rattle.std.proofs.Common.{◌≡◌, ◌∙◌, ⊎_elim, ap, sym, subst, ℕ, true, false, length, [], ◌∷◌, ◌++◌, List, Option, None, Some, Ok, Err, OnOk, is_err, true≢false}
+use Rattle.std.proofs.Common.{◌≡◌, ◌∙◌, ⊎_elim, ap, sym, subst, ℕ, true, false, length, [], ◌∷◌, ◌++◌, List, Option, None, Some, Ok, Err, OnOk, OnErr, is_err, true≢false}
 use Rattle.std.specs.declared.result.Result.{Result}
 use Rattle.node.specs.declared.messages.Input.{Input}
 use Rattle.node.specs.declared.messages.Output.{Output}
@@ -16,6 +16,10 @@ use Rattle.rail.proofs.Ports.{lawful_next, open_next, replies_next}
 pub ok_by : {T E : Type 0} (r : Result T E) (P : Type 0) → is_err r ≡ false → OnOk r P → P
 ok_by (Ok x) P is p = p
 ok_by (Err e) P is p = absurd (true≢false is)
+
+pub err_by : {T E : Type 0} (r : Result T E) (P : Type 0) → is_err r ≡ true → OnErr r P → P
+err_by (Ok x) P is p = absurd (true≢false (sym is))
+err_by (Err e) P is p = p
 
 -- a worker whose server is stopped
 pub stopped_worker : (now : Option Course) (told' : Course) (posts posts' : List PostState) (ports : ℕ) (o : Origin)

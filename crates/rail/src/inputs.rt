@@ -1,5 +1,5 @@
 //! What a server that goes on does with an input.
-ghost use Rattle.std.specs.Prelude.{◌≡◌, [], ◌∷◌, length, IfSome, IfNone};
+ghost use Rattle.std.specs.Prelude.{◌≡◌, [], ◌∷◌, length, OnOk, OnErr};
 ghost use Rattle.node.specs.Lawful.{IsInput, IsLawful, HoldsEntry};
 ghost use Rattle.node.specs.Replies.{AreCallsBelow, AreOpenBelow};
 ghost use Rattle.faces.specs.Courses.{server_after, with_next};
@@ -10,38 +10,38 @@ use crate::posts::Post;
 use crate::turns::{put_messages, put_replies};
 use faces::{Publisher, Told};
 use node::Input;
+use std::alloc::AllocError;
 use std::sync::Wait;
 
-/// The node makes its step, the face after it is published, and only then its messages are put, and its replies. None where it is
-/// refused for want of memory; the face stands no longer then.
+/// The node makes its step, the face after it is published, and only then its messages are put, and its replies. Refused for want
+/// of memory; the publisher is to be ended then.
 pub fn advance<R: Wait, L: Links>(
     rt: &R,
-    publisher: Publisher,
+    publisher: &mut Publisher,
     told: &mut Told,
     posts: &mut Vec<Post>,
     links: &mut L,
     input: Input,
-) -> Option<Publisher>
+) -> Result<(), AllocError>
     requires input { IsInput input × HoldsEntry input }
-    requires told { told.old ≡ publisher }
-    requires posts { ArePosts publisher.origin 0 posts.old.items }
+    requires told { told.old ≡ publisher.old }
+    requires posts { ArePosts publisher.old.origin 0 posts.old.items }
     requires calls { AreCallsBelow (length posts.old.items) (input ∷ []) }
-    requires lawful { IsLawful (server_after publisher) }
-    requires open { AreOpenBelow (length posts.old.items) (server_after publisher) }
-    ensures next { IfSome result (λ p. (p ≡ with_next publisher input) × (told.new ≡ p)) }
-    ensures messages { IfSome result (λ p. HasPut (L.list links.old) (L.list links.new) (L.failures links.new) (messages_of (outputs_after p))) }
-    ensures replies { IfSome result (λ p. HasReplied p 0 posts.old.items posts.new.items (outputs_after p)) }
-    ensures cut { IfNone result (IsCut (L.list links.old) (L.list links.new) (L.failures links.new) publisher told.new input) }
-    ensures unreplied { IfNone result (posts.new.items ≡ posts.old.items) }
+    requires lawful { IsLawful (server_after publisher.old) }
+    requires open { AreOpenBelow (length posts.old.items) (server_after publisher.old) }
+    ensures next { OnOk result ((publisher.new ≡ with_next publisher.old input) × (told.new ≡ publisher.new)) }
+    ensures messages { OnOk result (HasPut (L.list links.old) (L.list links.new) (L.failures links.new) (messages_of (outputs_after publisher.new))) }
+    ensures replies { OnOk result (HasReplied publisher.new 0 posts.old.items posts.new.items (outputs_after publisher.new)) }
+    ensures cut { OnErr result (IsCut (L.list links.old) (L.list links.new) (L.failures links.new) publisher.old told.new input) }
+    ensures unreplied { OnErr result (posts.new.items ≡ posts.old.items) }
 {
-    let Ok((publisher, outputs)) = publisher.take(rt, input) else {
-        return None;
+    let Ok(outputs) = publisher.take(rt, input) else {
+        return Err(AllocError);
     };
     *told = publisher.published().tell();
     if put_messages(links, publisher.published(), outputs.as_slice()).is_err() {
-        publisher.end(rt);
-        return None;
+        return Err(AllocError);
     }
     put_replies(rt, posts, publisher.published(), outputs);
-    Some(publisher)
+    Ok(())
 }

@@ -150,30 +150,27 @@ impl<R: Wait + Drop> Worker<R> {
         ensures taken { self.new.taken ≡ self.old.taken }
         ensures did { Advanced self.old self.new (L.list links.old) (L.list links.new) (L.failures links.new) input result }
     {
-        let Some(publisher) = self.publisher.take() else {
+        let Some(publisher) = &mut self.publisher else {
             drop(input);
             return Ok(Turn::Stopped);
         };
         let input = input.into_input();
-        match advance(
+        let done = advance(
             &self.rt,
             publisher,
             &mut self.told,
             &mut self.posts,
             links,
             input,
-        ) {
-            Some(publisher) => {
-                if let Some(other) = self.publisher.replace(publisher) {
-                    other.end(&self.rt);
-                }
-                Ok(Turn::Went)
-            }
-            None => {
-                close_all(&mut self.posts);
-                Err(RailFault::Memory)
-            }
+        );
+        if done.is_ok() {
+            return Ok(Turn::Went);
         }
+        if let Some(publisher) = self.publisher.take() {
+            publisher.end(&self.rt);
+        }
+        close_all(&mut self.posts);
+        Err(RailFault::Memory)
     }
 
     // The server is stopped from now on.

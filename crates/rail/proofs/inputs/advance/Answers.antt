@@ -10,7 +10,7 @@ pub put_replies-requires-clause-ports : goal.put_replies-requires-clause-ports
 put_replies-requires-clause-ports g c =
     let n = length c.args.posts.now.items in
     subst (AreRepliesBelow n) (sym (c.in-Ok.ensures.outputs ∙ ap outputs_after c.in-Ok.ensures.published))
-    (replies_next c.args.publisher c.args.input n c.requires.input.0 c.requires.input.1 c.requires.lawful c.requires.«open» c.requires.calls)
+    (replies_next c.args.publisher.now c.args.input n c.requires.input.0 c.requires.input.1 c.requires.lawful c.requires.«open» c.requires.calls)
 
 pub returns-clause-messages : goal.returns-clause-messages
 returns-clause-messages g c =
