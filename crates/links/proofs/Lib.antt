@@ -1,0 +1,2 @@
+pub mod PeerLinked
+pub mod Waiting

@@ -1,0 +1,4 @@
+pub mod PeerLinks
+pub mod Places
+pub mod Speakers
+pub mod Waiting

@@ -1,0 +1,16 @@
+//! Links between server processes: what a worker puts is written to the other servers, and what they send is brought to
+//! it. The ends are of any kind: this crate opens no socket and starts no thread.
+#![tactic(auto)]
+
+mod guests;
+mod histories;
+mod lobbies;
+mod peer_links;
+mod places;
+mod speakers;
+
+pub use guests::Guest;
+pub use lobbies::{Cuts, Lobby};
+pub use peer_links::{PeerLink, PeerLinks};
+pub use places::{MASTER, Places};
+pub use speakers::Speaker;
