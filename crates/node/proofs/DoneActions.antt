@@ -9,8 +9,8 @@ use Rattle.node.specs.declared.messages.Output.{Output}
 use Rattle.node.specs.Views.{has}
 use Rattle.node.specs.Servers.{ServerState, Outcome, silent, putting, and_then, message_to}
 use Rattle.node.specs.Lawful.{IsSound}
-use Rattle.node.specs.Actions.{Action, Widen, Append, Reach, Settle, Send, Finish, Trim, Enter, Ask, Show, act, does, Cause, left, IsMade, IsPassed, MaySend, Guard, AreGuarded, IsDone}
-use Rattle.node.proofs.SoundActions.{sound_act, IsSeatOf, seat_act, grown_act}
+use Rattle.node.specs.Actions.{Action, Widen, Append, Reach, Settle, Send, Finish, Trim, Enter, Ask, Show, act, does, Cause, left, IsMade, IsPassed, MaySend, Guard, AreGuarded, IsDone, Due, IsTurn, IsTurnOf, due, due_after, AreInTurn, due_in_the_end}
+use Rattle.node.proofs.SoundActions.{sound_act, IsSeatOf, seat_act, Grown, grown_same, grown_then, grown_act}
 
 -- ---- a list behind a list
 
@@ -94,16 +94,13 @@ seat_does (a ∷ xs) s =
     let rest = seat_does xs (act s a).state in
     record { id = rest.id ∙ first.id; count = rest.count ∙ first.count }
 
--- who was known to have failed still is
-view_does : (xs : List Action) (c : Cause) (s : ServerState) (k : ℕ) → AreGuarded c s xs → has s.view k ≡ true → has (does s xs).state.view k ≡ true
+-- what a server knows and has numbered only grows
+pub grown_does : (actions : List Action) (c : Cause) (s : ServerState) → AreGuarded c s actions → Grown s (does s actions).state
 unfolding does
-view_does [] c s k g h = h
-view_does (a ∷ xs) c s k g h = view_does xs (left c) (act s a).state k g.2 ((grown_act c s a g.1).view k h)
+grown_does [] c s g = grown_same s
+grown_does (a ∷ later) c s g = grown_then s (act s a).state _ (grown_act c s a g.1) (grown_does later (left c) (act s a).state g.2)
 
 -- ---- rules that are lists of actions
-
-pub done_as : (c : Cause) (s : ServerState) (a b : Outcome) → b ≡ a → IsDone c s a → IsDone c s b
-done_as c s a b e h = record { actions = h.actions; guarded = h.guarded; same = e ∙ h.same }
 
 pub sound_after : (c : Cause) (s : ServerState) (a : Outcome) → IsDone c s a → IsSound a.state
 sound_after c s a h = subst (λ (r : Outcome). IsSound r.state) (sym h.same) (guarded_end h.actions c s h.guarded)
@@ -112,35 +109,102 @@ pub seat_after : (c : Cause) (s : ServerState) (a : Outcome) → IsDone c s a �
 seat_after c s a h = subst (λ (r : Outcome). IsSeatOf s r.state) (sym h.same) (seat_does h.actions s)
 
 pub view_after : (c : Cause) (s : ServerState) (a : Outcome) (k : ℕ) → IsDone c s a → has s.view k ≡ true → has a.state.view k ≡ true
-view_after c s a k h g = subst (λ (r : Outcome). has r.state.view k ≡ true) (sym h.same) (view_does h.actions c s k h.guarded g)
+view_after c s a k h g = subst (λ (r : Outcome). has r.state.view k ≡ true) (sym h.same) ((grown_does h.actions c s h.guarded).view k g)
 
-pub done_silent : (c : Cause) (s : ServerState) → IsSound s → IsDone c s (silent s)
-unfolding does
-done_silent c s h = record { actions = []; guarded = h; same = refl }
+-- ---- rules that are lists of actions in turn
 
-pub done_one : (c : Cause) (s : ServerState) (a : Action) → IsSound s → Guard c s a → IsDone c s (act s a)
+turns_then : (xs ys : List Action) (d : Due) (s : ServerState)
+    → AreInTurn d s xs
+    → AreInTurn (due_in_the_end d s xs) (does s xs).state ys
+    → AreInTurn d s (xs ++ ys)
 unfolding does
-done_one c s a h g = record {
-  actions = a ∷ [];
-  guarded = (h, g, sound_act c s a h g);
-  same = ap (λ (os : List Output). record { state = (act s a).state; outputs = os }) (sym (append-nil (act s a).outputs));
+turns_then [] ys d s h g = g
+turns_then (a ∷ xs) ys d s h g = (h.0, turns_then xs ys (due d s a) (act s a).state h.1 g)
+
+due_then : (xs ys : List Action) (d : Due) (s : ServerState)
+    → due_in_the_end d s (xs ++ ys) ≡ due_in_the_end (due_in_the_end d s xs) (does s xs).state ys
+unfolding does
+due_then [] ys d s = refl
+due_then (a ∷ xs) ys d s = due_then xs ys (due d s a) (act s a).state
+
+-- a rule is a list of actions in turn, and P holds of what is due after them
+pub record IsRule (c : Cause) (s : ServerState) (d : Due) (a : Outcome) (P : Due → Type 0) : Type 0 where
+  pub done : IsDone c s a
+  pub turns : AreInTurn d s done.actions
+  pub after : P (due_in_the_end d s done.actions)
+
+pub rule_as : (c : Cause) (s : ServerState) (d : Due) (a b : Outcome) (P : Due → Type 0) → b ≡ a → IsRule c s d a P → IsRule c s d b P
+rule_as c s d a b P e h = record {
+  done = record { actions = h.done.actions; guarded = h.done.guarded; same = e ∙ h.done.same };
+  turns = h.turns;
+  after = h.after;
 }
 
-pub done_then : (c : Cause) (s : ServerState) (a : Outcome) (rule : ServerState → Outcome) → IsDone c s a → (IsSound a.state → IsDone (left c) a.state (rule a.state)) → IsDone c s (and_then a rule)
-done_then c s a rule h f =
-    let d = f (sound_after c s a h) in
+pub rule_so : (c : Cause) (s : ServerState) (d : Due) (a : Outcome) (P Q : Due → Type 0)
+    → ((e : Due) → P e → Q e)
+    → IsRule c s d a P
+    → IsRule c s d a Q
+rule_so c s d a P Q f h = record { done = h.done; turns = h.turns; after = f _ h.after }
+
+pub rule_silent : (c : Cause) (s : ServerState) (d : Due) (P : Due → Type 0) → IsSound s → P d → IsRule c s d (silent s) P
+unfolding does
+rule_silent c s d P h p = record { done = record { actions = []; guarded = h; same = refl }; turns = tt; after = p }
+
+pub rule_one : (c : Cause) (s : ServerState) (d : Due) (a : Action) (P : Due → Type 0)
+    → IsSound s
+    → Guard c s a
+    → IsTurn d s a
+    → P (due d s a)
+    → IsRule c s d (act s a) P
+unfolding does
+rule_one c s d a P h g turn p = record {
+  done = record {
+    actions = a ∷ [];
+    guarded = (h, g, sound_act c s a h g);
+    same = ap (λ (os : List Output). record { state = (act s a).state; outputs = os }) (sym (append-nil (act s a).outputs));
+  };
+  turns = (turn, tt);
+  after = p;
+}
+
+-- one rule, and then another
+pub rule_then : (c : Cause) (s : ServerState) (d : Due) (a : Outcome) (rule : ServerState → Outcome) (P Q : Due → Type 0)
+    → IsRule c s d a P
+    → ((e : Due) → P e → IsSound a.state → IsRule (left c) a.state e (rule a.state) Q)
+    → IsRule c s d (and_then a rule) Q
+rule_then c s d a rule P Q h f =
+    let xs = h.done.actions in
+    let e = due_in_the_end d s xs in
+    let g = f e h.after (sound_after c s a h.done) in
+    let ys = g.done.actions in
     record {
-      actions = h.actions ++ d.actions;
-      guarded = guarded_then h.actions d.actions c s h.guarded (subst (λ (r : Outcome). AreGuarded (left c) r.state d.actions) h.same d.guarded);
-      same = ap (λ (r : Outcome). and_then a (λ _. r)) d.same ∙ ap (λ (r : Outcome). and_then r (λ t. does t d.actions)) h.same ∙ sym (does-append s h.actions d.actions);
+      done = record {
+        actions = xs ++ ys;
+        guarded = guarded_then xs ys c s h.done.guarded (subst (λ (r : Outcome). AreGuarded (left c) r.state ys) h.done.same g.done.guarded);
+        same = ap (λ (r : Outcome). and_then a (λ _. r)) g.done.same ∙ ap (λ (r : Outcome). and_then r (λ t. does t ys)) h.done.same ∙ sym (does-append s xs ys);
+      };
+      turns = turns_then xs ys d s h.turns (subst (λ (r : Outcome). AreInTurn e r.state ys) h.done.same g.turns);
+      after = subst Q (sym (due_then xs ys d s)) (subst (λ (r : Outcome). Q (due_in_the_end e r.state ys)) h.done.same g.after);
     }
 
 -- one action, and then a rule
-pub done_first : (c : Cause) (s : ServerState) (a : Action) (rule : ServerState → Outcome) → IsSound s → Guard c s a → (IsSound (act s a).state → IsDone (left c) (act s a).state (rule (act s a).state)) → IsDone c s (and_then (act s a) rule)
-done_first c s a rule h g f = done_then c s (act s a) rule (done_one c s a h g) f
+pub rule_first : (c : Cause) (s : ServerState) (d : Due) (a : Action) (rule : ServerState → Outcome) (Q : Due → Type 0)
+    → IsSound s
+    → Guard c s a
+    → IsTurn d s a
+    → (IsSound (act s a).state → IsRule (left c) (act s a).state (due d s a) (rule (act s a).state) Q)
+    → IsRule c s d (and_then (act s a) rule) Q
+rule_first c s d a rule Q h g turn f =
+    rule_then c s d (act s a) rule (λ e. e ≡ due d s a) Q
+    (rule_one c s d a (λ e. e ≡ due d s a) h g turn refl)
+    (λ e is sound. subst (λ x. IsRule (left c) (act s a).state x (rule (act s a).state) Q) (sym is) (f sound))
 
 -- a message to this server, if it is one
-pub done_message : (c : Cause) (s : ServerState) (to : Option ℕ) (body : Body) → IsSound s → ((j : ℕ) → to ≡ Some j → MaySend c s j body × (j < s.count)) → IsDone c s (putting s (message_to s to body))
+pub rule_message : (c : Cause) (s : ServerState) (d : Due) (to : Option ℕ) (body : Body) (P : Due → Type 0)
+    → IsSound s
+    → (to ≡ None → P d)
+    → ((j : ℕ) → to ≡ Some j → MaySend c s j body × (j < s.count) × IsTurnOf body d × P (due_after body d))
+    → IsRule c s d (putting s (message_to s to body)) P
 unfolding act
-done_message c s None body h f = done_silent c s h
-done_message c s (Some j) body h f = done_one c s (Send j body) h (f j refl)
+rule_message c s d None body P h p f = rule_silent c s d P h (p refl)
+rule_message c s d (Some j) body P h p f = let g = f j refl in rule_one c s d (Send j body) P h (g.0, g.1) g.2 g.3

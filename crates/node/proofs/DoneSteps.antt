@@ -1,6 +1,7 @@
--- One server's step is a list of actions, each done by a sound server that knows what the action needs.
-use Rattle.std.proofs.Common.{◌≡◌, ℕ, suc, ◌<◌, ◌≤◌, nat_lt, nat_le, ◌==◌, ◌&&◌, Bool, true, false, cond, not, List, [], ◌∷◌, length, Option, Some, None, inl, inr, refl, sym, ap, subst, ◌∙◌, arith, append-nil}
-use Rattle.std.proofs.lemmas.Bool.{cond_both, and_parts, both_ways, eqb-true, eqb-false, ltb-true, leb-true, not-true, false_from_ne_true}
+-- One server's step is a list of actions, each done by a sound server that knows what the action needs, and in its turn; nothing is left to
+-- do after it, and what its input says is taken in.
+use Rattle.std.proofs.Common.{◌≡◌, ◌≢◌, ℕ, zero, suc, ◌+◌, ◌<◌, ◌≤◌, nat_lt, nat_le, ◌==◌, ◌&&◌, Bool, true, false, cond, not, List, [], ◌∷◌, ◌++◌, length, Option, Some, None, inl, inr, refl, sym, ap, subst, ◌∙◌, arith, append-nil}
+use Rattle.std.proofs.lemmas.Bool.{cond_both, and_parts, and_from, both_ways, eq-eqb, eqb-true, eqb-false, ltb-true, lt-ltb, leb-true, le-leb, ne_eqb, not-true, not_from_false, false_from_ne_true}
 use Rattle.std.proofs.lemmas.Option.{same_Some}
 use Rattle.table.specs.Operations.{is_update}
 use Rattle.table.specs.declared.operations.Call.{Call}
@@ -14,21 +15,24 @@ use Rattle.node.specs.declared.messages.Peer.{Peer}
 use Rattle.node.specs.declared.messages.Input.{Input}
 use Rattle.node.specs.declared.messages.Input.TheVariants.{Call as Called, From, Gone}
 use Rattle.node.specs.declared.messages.Output.{Output}
+use Rattle.node.specs.declared.messages.Output.TheVariants.{To}
 use Rattle.node.specs.Views.{has, single, is_that}
-use Rattle.node.specs.Servers.{ServerState, Outcome, most, tail_of, is_tail, silent, putting, message_to}
-use Rattle.node.specs.Reading.{asked, dirty_read, read_of, receive_query, open_read, answered, receive_answer}
+use Rattle.node.specs.Servers.{ServerState, Outcome, most, seen_of, tail_of, is_tail, silent, putting, message_to}
+use Rattle.node.specs.Numbering.{is_taken}
+use Rattle.node.specs.Reading.{asked, dirty_read, read_of, receive_query, open_read, without_read, answered, receive_answer}
 use Rattle.node.specs.Joining.{join}
-use Rattle.node.specs.Steps.{call, gone, receive, received, is_heard, from_peer, taken_in, trimmed, step}
-use Rattle.node.specs.Lawful.{IsCall, IsBody, IsInput, HasEntry, HoldsEntry, IsSound, IsSettled, IsLawful}
-use Rattle.node.proofs.Lists.{In, get_last}
-use Rattle.node.specs.Actions.{Send, Finish, Trim, Ask, Show, act, Cause, left, IsDone}
-use Rattle.node.proofs.ViewLaws.{has-single_other, below-single}
-use Rattle.node.proofs.Neighbours.{that_is, tail_within}
-use Rattle.node.proofs.DoneActions.{done_as, done_silent, done_then, done_one, done_first, done_message, seat_after}
-use Rattle.node.proofs.DoneRules.{message_same, done_update, done_receive_op, done_receive_forward, done_receive_ack}
-use Rattle.node.proofs.DoneJoins.{done_join, join_knows}
-use Rattle.node.proofs.SoundLaws.{reads_bound}
-use Rattle.node.proofs.RuleLaws.{clean_at_last, heard}
+use Rattle.node.specs.Steps.{call, gone, receive, received, is_heard, from_peer, taken_in, least_open, trimmed, step}
+use Rattle.node.specs.Lawful.{AreReads, IsCall, IsBody, IsInput, HasEntry, HoldsEntry, IsSound, IsSettled, IsLawful}
+use Rattle.node.proofs.Lists.{In, get_last, in_behind}
+use Rattle.node.specs.Actions.{Send, Finish, Trim, Ask, Show, act, Cause, left, IsDone, Due, IsPaid, IsTakenIn, IsHeeded, IsWhole, nothing_due, but_first}
+use Rattle.node.proofs.ViewLaws.{has-single_other, has-single_itself, below-single}
+use Rattle.node.proofs.Neighbours.{that_is, is_itself, tail_within}
+use Rattle.node.proofs.DoneActions.{IsRule, rule_as, rule_so, rule_silent, rule_one, rule_then, rule_first, rule_message, seat_after, view_after}
+use Rattle.node.proofs.OpenLists.{read_above, read_apart}
+use Rattle.node.proofs.DoneRules.{message_same, rule_update, rule_receive_op, rule_receive_forward, rule_receive_ack}
+use Rattle.node.proofs.DoneJoins.{rule_join, has_tail}
+use Rattle.node.proofs.SoundLaws.{reads_bound, least_within}
+use Rattle.node.proofs.RuleLaws.{clean_at_last, heard, last-dropped}
 
 -- ---- own reads
 
@@ -47,36 +51,70 @@ seat_asked : (s : ServerState) (port : ℕ) (key : List ℕ) → (is_tail (asked
 unfolding asked
 seat_asked s port key = (refl, refl)
 
-done_query : (c : Cause) (s : ServerState) (port : ℕ) (key : List ℕ) → 1 ≤ s.next_ask → is_tail s ≡ false → IsSound (asked s port key) → IsDone c (asked s port key) (putting (asked s port key) (message_to s (tail_of s) (Query s.next_ask key)))
-done_query c s port key low other h =
+-- the read was asked for, and nothing else is left to do
+paid_query : (s : ServerState) (d : Due) (port : ℕ) (key : List ℕ) (rs : List OpenRead)
+    → is_tail s ≡ false
+    → IsPaid s d
+    → rs ≡ []
+    → IsPaid (asked s port key) (record d { unasked = rs })
+unfolding asked
+paid_query s d port key rs other p none = record {
+  forwarded = p.forwarded;
+  told = p.told;
+  settled = p.settled;
+  sent = p.sent;
+  taken = p.taken;
+  asked = λ _. none;
+  last = λ t. absurd (both_ways _ other t);
+}
+
+rule_query : (c : Cause) (s : ServerState) (d : Due) (port : ℕ) (key : List ℕ)
+    → 1 ≤ s.next_ask
+    → is_tail s ≡ false
+    → IsPaid s d
+    → IsSound (asked s port key)
+    → IsRule c (asked s port key) (record d { unasked = d.unasked ++ record { ask = s.next_ask; port = port; key = key; mark = s.store.acked } ∷ [] })
+    (putting (asked s port key) (message_to s (tail_of s) (Query s.next_ask key))) (IsPaid (asked s port key))
+rule_query c s d port key low other p h =
     let t = asked s port key in
     let seat = seat_asked s port key in
-    done_as c t _ _ (ap (λ (os : List Output). putting t os) (sym (message_same s t (tail_of s) (Query s.next_ask key) (view_asked s port key))))
-    (done_message c t (tail_of s) (Query s.next_ask key) h (λ j e. (
+    let r : OpenRead = record { ask = s.next_ask; port = port; key = key; mark = s.store.acked } in
+    let only : d.unasked ++ r ∷ [] ≡ r ∷ [] = ap (λ (rs : List OpenRead). rs ++ r ∷ []) (p.asked other) in
+    rule_as c t _ _ _ _ (ap (λ (os : List Output). putting t os) (sym (message_same s t (tail_of s) (Query s.next_ask key) (view_asked s port key))))
+    (rule_message c t _ (tail_of s) (Query s.next_ask key) (IsPaid t) h
+    (λ none. absurd (has_tail t h (seat.1 ∙ none)))
+    (λ j e. (
       (seat.1 ∙ e, seat.0 ∙ other, low, port, s.store.acked, asked_in s port key),
       tail_within t j (seat.1 ∙ e),
+      (port, s.store.acked, [], only),
+      paid_query s d port key _ other p (ap (λ (rs : List OpenRead). but_first rs) only),
     )))
 
-module _ (s : ServerState) (port : ℕ) (asked_call : Call) (h : IsSound s) (settled : IsSettled s) (is : is_update asked_call.op ≡ false) where
-  done_dirty_read : (key : List ℕ) → asked_call.target ≡ One key → is_clean s.store key ≡ false → IsDone (Some (Called port asked_call)) s (dirty_read s port key)
+module _ (s : ServerState) (d : Due) (port : ℕ) (asked_call : Call) (h : IsSound s) (p : IsPaid s d) (is : is_update asked_call.op ≡ false) where
+  rule_dirty_read : (key : List ℕ) → asked_call.target ≡ One key → is_clean s.store key ≡ false → IsRule (Some (Called port asked_call)) s d (dirty_read s port key) (IsPaid (dirty_read s port key).state)
   unfolding dirty_read act
-  done_dirty_read key one dirty = cond_both (nat_lt s.next_ask most) _ _ (λ (a : Outcome). IsDone (Some (Called port asked_call)) s a)
+  rule_dirty_read key one dirty = cond_both (nat_lt s.next_ask most) _ _ (λ (a : Outcome). IsRule (Some (Called port asked_call)) s d a (IsPaid a.state))
       (λ t. (let low = (reads_bound 0 s.store.floor s.asks s.next_ask s.store.acked h.reads).0 in
-      done_first (Some (Called port asked_call)) s (Ask port key) (λ u. putting u (message_to s (tail_of s) (Query s.next_ask key))) h (asked_call, refl, is, one, dirty, t)
-      (λ k. done_query None s port key low (dirty_elsewhere s key settled dirty) k)))
-      (λ f. done_silent (Some (Called port asked_call)) s h)
+      rule_first (Some (Called port asked_call)) s d (Ask port key) (λ u. putting u (message_to s (tail_of s) (Query s.next_ask key))) _ h (asked_call, refl, is, one, dirty, t) tt
+      (λ k. rule_query None s d port key low (dirty_elsewhere s key p.last dirty) p k)))
+      (λ f. rule_silent (Some (Called port asked_call)) s d _ h p)
 
-  done_read_of : (target : Target) → asked_call.target ≡ target → IsDone (Some (Called port asked_call)) s (read_of s port target)
+  rule_read_of : (target : Target) → asked_call.target ≡ target → IsRule (Some (Called port asked_call)) s d (read_of s port target) (IsPaid (read_of s port target).state)
   unfolding act
-  done_read_of (One key) one = cond_both (is_clean s.store key) _ _ (λ (a : Outcome). IsDone (Some (Called port asked_call)) s a)
-      (λ t. done_one (Some (Called port asked_call)) s (Show port key) h (asked_call, refl, is, one, t))
-      (λ f. done_dirty_read key one f)
-  done_read_of All one = done_silent (Some (Called port asked_call)) s h
+  rule_read_of (One key) one = cond_both (is_clean s.store key) _ _ (λ (a : Outcome). IsRule (Some (Called port asked_call)) s d a (IsPaid a.state))
+      (λ t. rule_one (Some (Called port asked_call)) s d (Show port key) _ h (asked_call, refl, is, one, t) tt p)
+      (λ f. rule_dirty_read key one f)
+  rule_read_of All one = rule_silent (Some (Called port asked_call)) s d _ h p
 
-done_call : (s : ServerState) (port : ℕ) (made : Call) → IsSound s → IsSettled s → IsCall made → IsDone (Some (Called port made)) s (call s port made)
-done_call s port made h settled fit = cond_both (is_update made.op) _ _ (λ (a : Outcome). IsDone (Some (Called port made)) s a)
-    (λ t. done_update s port made h fit t)
-    (λ f. done_read_of s port made h settled f made.target refl)
+rule_call : (s : ServerState) (d : Due) (port : ℕ) (made : Call)
+    → IsSound s
+    → IsPaid s d
+    → d.unsent ≡ []
+    → IsCall made
+    → IsRule (Some (Called port made)) s d (call s port made) (IsPaid (call s port made).state)
+rule_call s d port made h p none fit = cond_both (is_update made.op) _ _ (λ (a : Outcome). IsRule (Some (Called port made)) s d a (IsPaid a.state))
+    (λ t. rule_update s d port made h p none fit t)
+    (λ f. rule_read_of s d port made h p f made.target refl)
 
 -- ---- messages of reads
 
@@ -89,71 +127,247 @@ found_read : (rs : List OpenRead) (ask : ℕ) (q : OpenRead) → open_read rs as
 found_read [] ask q h = absurd cc
 found_read (r ∷ rs) ask q h = found_step _ r q _ ask rs refl (λ g. found_read rs ask q g) h
 
-module _ (s : ServerState) (i : ℕ) (m : Peer) (h : IsSound s) where
-  done_finished : (n : ℕ) (r : OpenRead) → m.body ≡ Answer r.ask n → tail_of s ≡ Some i → open_read s.asks r.ask ≡ Some r → In r s.asks → IsDone (Some (From i m)) s (answered s r.ask n (Some r))
-  unfolding answered act
-  done_finished n r is from found waits = cond_both (nat_le r.mark n && nat_le n (last_number s.store)) _ _ (λ (a : Outcome). IsDone (Some (From i m)) s a)
+-- an open read is found under its ask
+found_itself : (above mark : ℕ) (rs : List OpenRead) (next_ask acked : ℕ) (r : OpenRead) → AreReads above mark rs next_ask acked → In r rs → open_read rs r.ask ≡ Some r
+found_itself above mark [] next_ask acked r h i = absurd (let none = i.1 in cc)
+found_itself above mark (q ∷ rs) next_ask acked r h (zero, i) = let same : q ≡ r = same_Some q r i in rw (same, eq-eqb r.ask r.ask refl) refl
+found_itself above mark (q ∷ rs) next_ask acked r h (suc k, i) =
+    let more = read_above q.ask q.mark rs next_ask acked r h.2 (k, i) in
+    rw (ne_eqb q.ask r.ask (λ e. omega (arith, more.0, e))) (found_itself q.ask q.mark rs next_ask acked r h.2 (k, i))
+
+-- after a read is closed, it isn't open
+gone_read : (s : ServerState) (ask : ℕ) (r : OpenRead) → IsSound s → In r (without_read s.asks ask) → r.ask ≡ ask → ⊥
+gone_read s ask r h i same = read_apart 0 s.store.floor s.asks s.next_ask s.store.acked ask r h.reads i same
+
+module _ (s : ServerState) (d : Due) (i : ℕ) (m : Peer) (h : IsSound s) (p : IsPaid s d) where
+  -- what an answered read leaves
+  Answers : ℕ → ℕ → Outcome → Due → Type 0
+  Answers ask n a e = IsPaid a.state e × ((r : OpenRead) → In r a.state.asks → r.ask ≡ ask → r.mark ≤ n → n ≤ last_number a.state.store → ⊥)
+
+  rule_finished : (n : ℕ) (r : OpenRead)
+      → m.body ≡ Answer r.ask n
+      → tail_of s ≡ Some i
+      → open_read s.asks r.ask ≡ Some r
+      → In r s.asks
+      → IsRule (Some (From i m)) s d (answered s r.ask n (Some r)) (Answers r.ask n (answered s r.ask n (Some r)))
+  unfolding answered act Answers
+  rule_finished n r is from found waits = cond_both (nat_le r.mark n && nat_le n (last_number s.store)) _ _ (λ (a : Outcome). IsRule (Some (From i m)) s d a (Answers r.ask n a))
       (λ t. (let parts = and_parts (nat_le r.mark n) (nat_le n (last_number s.store)) t in
-      done_one (Some (From i m)) s (Finish r n) h (found, waits, leb-true _ _ parts.0, leb-true _ _ parts.1, inr (i, m, refl, is, from))))
-      (λ f. done_silent (Some (From i m)) s h)
+      rule_one (Some (From i m)) s d (Finish r n) _ h (found, waits, leb-true _ _ parts.0, leb-true _ _ parts.1, inr (i, m, refl, is, from)) tt (
+        record {
+          forwarded = p.forwarded;
+          told = p.told;
+          settled = p.settled;
+          sent = p.sent;
+          taken = p.taken;
+          asked = p.asked;
+          last = λ l. ((p.last l).0, ap (λ asks. without_read asks r.ask) (p.last l).1);
+        },
+        λ q k same _ _. gone_read s r.ask q h k same,
+      )))
+      (λ f. rule_silent (Some (From i m)) s d _ h (
+        p,
+        λ q k same low high.
+            let one : q ≡ r = same_Some q r (sym (found_itself 0 s.store.floor s.asks s.next_ask s.store.acked q h.reads k) ∙ ap (λ x. open_read s.asks x) same ∙ found) in
+            both_ways _ f (and_from _ _ (le-leb _ _ (subst (λ (x : OpenRead). x.mark ≤ n) one low)) (le-leb _ _ high)),
+      ))
 
-  done_answered : (ask n : ℕ) (r : Option OpenRead) → m.body ≡ Answer ask n → tail_of s ≡ Some i → open_read s.asks ask ≡ r → IsDone (Some (From i m)) s (answered s ask n r)
-  unfolding answered
-  done_answered ask n None is from found = done_silent (Some (From i m)) s h
-  done_answered ask n (Some r) is from found =
+  rule_answered : (ask n : ℕ) (r : Option OpenRead)
+      → m.body ≡ Answer ask n
+      → tail_of s ≡ Some i
+      → open_read s.asks ask ≡ r
+      → IsRule (Some (From i m)) s d (answered s ask n r) (Answers ask n (answered s ask n r))
+  unfolding answered Answers
+  rule_answered ask n None is from found = rule_silent (Some (From i m)) s d _ h (
+    p,
+    λ q k same _ _.
+        (let there = found_itself 0 s.store.floor s.asks s.next_ask s.store.acked q h.reads k in
+        let none : Some q ≡ None = sym there ∙ ap (λ x. open_read s.asks x) same ∙ found in
+        cc),
+  )
+  rule_answered ask n (Some r) is from found =
       let q = found_read s.asks ask r found in
-      subst (λ (x : ℕ). IsDone (Some (From i m)) s (answered s x n (Some r))) q.0
-      (done_finished n r (subst (λ (x : ℕ). m.body ≡ Answer x n) (sym q.0) is) from (subst (λ (x : ℕ). open_read s.asks x ≡ Some r) (sym q.0) found) q.1)
+      subst (λ (x : ℕ). IsRule (Some (From i m)) s d (answered s x n (Some r)) (Answers x n (answered s x n (Some r)))) q.0
+      (rule_finished n r (subst (λ (x : ℕ). m.body ≡ Answer x n) (sym q.0) is) from (subst (λ (x : ℕ). open_read s.asks x ≡ Some r) (sym q.0) found) q.1)
 
-  done_receive_answer : (ask n : ℕ) → m.body ≡ Answer ask n → IsDone (Some (From i m)) s (receive_answer s i ask n)
-  done_receive_answer ask n is = cond_both (is_that (tail_of s) i) _ _ (λ (a : Outcome). IsDone (Some (From i m)) s a)
-      (λ t. done_answered ask n (open_read s.asks ask) is (that_is _ i t) refl)
-      (λ f. done_silent (Some (From i m)) s h)
+  rule_receive_answer : (ask n : ℕ)
+      → m.body ≡ Answer ask n
+      → IsRule (Some (From i m)) s d (receive_answer s i ask n) (λ e. IsPaid (receive_answer s i ask n).state e × IsTakenIn i (Answer ask n) (receive_answer s i ask n))
+  unfolding Answers
+  rule_receive_answer ask n is =
+      cond_both (is_that (tail_of s) i) _ _ (λ (a : Outcome). IsRule (Some (From i m)) s d a (λ e. IsPaid a.state e × IsTakenIn i (Answer ask n) a))
+      (λ t. rule_so (Some (From i m)) s d _ _ _ (λ e x. (x.0, λ _. x.1)) (rule_answered ask n (open_read s.asks ask) is (that_is _ i t) refl))
+      (λ f. rule_silent (Some (From i m)) s d _ h (p, λ from. absurd (both_ways _ f (is_itself _ i from))))
 
-  done_receive_query : (ask : ℕ) (key : List ℕ) → m.body ≡ Query ask key → i < s.count → has s.view i ≡ false → IsDone (Some (From i m)) s (receive_query s i ask)
+  rule_receive_query : (ask : ℕ) (key : List ℕ)
+      → m.body ≡ Query ask key
+      → i < s.count
+      → has s.view i ≡ false
+      → IsRule (Some (From i m)) s d (receive_query s i ask) (λ e. IsPaid (receive_query s i ask).state e × IsTakenIn i (Query ask key) (receive_query s i ask))
   unfolding act
-  done_receive_query ask key is low lives = cond_both (is_tail s) _ _ (λ (a : Outcome). IsDone (Some (From i m)) s a)
-      (λ t. done_one (Some (From i m)) s (Send i (Answer ask (last_number s.store))) h ((t, refl, lives, m, key, refl, is), low))
-      (λ f. done_silent (Some (From i m)) s h)
+  rule_receive_query ask key is low lives =
+      cond_both (is_tail s) _ _ (λ (a : Outcome). IsRule (Some (From i m)) s d a (λ e. IsPaid a.state e × IsTakenIn i (Query ask key) a))
+      (λ t. rule_one (Some (From i m)) s d (Send i (Answer ask (last_number s.store))) _ h ((t, refl, lives, m, key, refl, is), low) tt
+      (p, λ _. (record { view = s.view; body = Answer ask (last_number s.store) }, (0, refl), refl)))
+      (λ f. rule_silent (Some (From i m)) s d _ h (p, λ t. absurd (both_ways _ f t)))
 
 -- ---- inputs
 
-done_receive : (s : ServerState) (i : ℕ) (m : Peer) (body : Body) → m.body ≡ body → IsSound s → i < s.count → has s.view i ≡ false → IsBody body → HasEntry body → ((k : ℕ) → has m.view k ≡ true → has s.view k ≡ true) → IsDone (Some (From i m)) s (receive s i body)
-done_receive s i m (Op id made) is h low lives fit valid joined = done_receive_op s i m h id made is (omega (arith, h.counted)) lives fit
-done_receive s i m (Forward e) is h low lives fit valid joined = done_receive_forward s i m h e is valid joined
-done_receive s i m (Ack n) is h low lives fit valid joined = done_receive_ack s i m h n is joined
-done_receive s i m (Query ask key) is h low lives fit valid joined = done_receive_query s i m h ask key is low lives
-done_receive s i m (Answer ask n) is h low lives fit valid joined = done_receive_answer s i m h ask n is
+rule_receive : (s : ServerState) (d : Due) (i : ℕ) (m : Peer) (body : Body)
+    → m.body ≡ body
+    → IsSound s
+    → IsPaid s d
+    → i < s.count
+    → i ≢ s.id
+    → has s.view i ≡ false
+    → IsBody body
+    → HasEntry body
+    → ((k : ℕ) → has m.view k ≡ true → has s.view k ≡ true)
+    → IsRule (Some (From i m)) s d (receive s i body) (λ e. IsPaid (receive s i body).state e × IsTakenIn i body (receive s i body))
+rule_receive s d i m (Op id made) is h p low other lives fit valid joined = rule_receive_op s d i m h p id made is (omega (arith, low, h.counted)) other lives fit
+rule_receive s d i m (Forward e) is h p low other lives fit valid joined = rule_receive_forward s d i m h p e is valid joined
+rule_receive s d i m (Ack n) is h p low other lives fit valid joined = rule_receive_ack s d i m h p n is joined
+rule_receive s d i m (Query ask key) is h p low other lives fit valid joined = rule_receive_query s d i m h p ask key is low lives
+rule_receive s d i m (Answer ask n) is h p low other lives fit valid joined = rule_receive_answer s d i m h p ask n is
 
-pub done_received : (s : ServerState) (i : ℕ) (m : Peer) → IsSound s → i < s.count → IsBody m.body → HasEntry m.body → ((k : ℕ) → has m.view k ≡ true → has s.view k ≡ true) → IsDone (Some (From i m)) s (received s i m.body)
-done_received s i m h low fit valid joined = cond_both (has s.view i) _ _ (λ (a : Outcome). IsDone (Some (From i m)) s a)
-    (λ t. done_silent (Some (From i m)) s h)
-    (λ f. done_receive s i m m.body refl h low f fit valid joined)
+pub rule_received : (s : ServerState) (d : Due) (i : ℕ) (m : Peer)
+    → IsSound s
+    → IsPaid s d
+    → i < s.count
+    → i ≢ s.id
+    → IsBody m.body
+    → HasEntry m.body
+    → ((k : ℕ) → has m.view k ≡ true → has s.view k ≡ true)
+    → IsRule (Some (From i m)) s d (received s i m.body) (λ e. IsPaid (received s i m.body).state e × (has s.view i ≡ false → IsTakenIn i m.body (received s i m.body)))
+rule_received s d i m h p low other fit valid joined =
+    cond_both (has s.view i) _ _ (λ (a : Outcome). IsRule (Some (From i m)) s d a (λ e. IsPaid a.state e × (has s.view i ≡ false → IsTakenIn i m.body a)))
+    (λ t. rule_silent (Some (From i m)) s d _ h (p, λ f. absurd (both_ways _ f t)))
+    (λ f. rule_so (Some (From i m)) s d _ _ _ (λ e x. (x.0, λ _. x.1)) (rule_receive s d i m m.body refl h p low other f fit valid joined))
 
-done_from_peer : (s : ServerState) (i : ℕ) (m : Peer) → IsSound s → IsBody m.body → HasEntry m.body → IsDone (Some (From i m)) s (from_peer s i m)
-done_from_peer s i m h fit valid = cond_both (is_heard s i m.view) _ _ (λ (a : Outcome). IsDone (Some (From i m)) s a)
+-- what is taken in stays so, whatever was put out before
+taken_behind : (i : ℕ) (body : Body) (a b : Outcome) → IsTakenIn i body b → IsTakenIn i body (record { state = b.state; outputs = a.outputs ++ b.outputs })
+taken_behind i (Op id made) a b h = h
+taken_behind i (Forward e) a b h = h
+taken_behind i (Ack n) a b h = h
+taken_behind i (Query ask key) a b h = λ t. (let x = h t in (x.0, in_behind a.outputs b.outputs (To i x.0) x.1, x.2))
+taken_behind i (Answer ask n) a b h = h
+
+-- nothing is due, and nothing is left to do
+pub paid_nothing : (s : ServerState) → IsSettled s → IsPaid s (nothing_due s)
+paid_nothing s settled = record {
+  forwarded = λ _ _. refl;
+  told = λ _ _. refl;
+  settled = refl;
+  sent = λ _. refl;
+  taken = λ _ u i. absurd (let none = i.1 in cc);
+  asked = λ _. refl;
+  last = settled;
+}
+
+rule_from_peer : (s : ServerState) (i : ℕ) (m : Peer)
+    → IsSound s
+    → IsSettled s
+    → IsBody m.body
+    → HasEntry m.body
+    → IsRule (Some (From i m)) s (nothing_due s) (from_peer s i m) (λ e. IsPaid (from_peer s i m).state e × IsHeeded (From i m) s (from_peer s i m))
+rule_from_peer s i m h settled fit valid =
+    let c : Cause = Some (From i m) in
+    let d = nothing_due s in
+    cond_both (is_heard s i m.view) _ _ (λ (a : Outcome). IsRule c s d a (λ e. IsPaid a.state e × IsHeeded (From i m) s a))
     (λ t. (let hears = heard s i m.view t in
-    let first = done_join (Some (From i m)) s m.view h (inl (i, m, refl, refl)) hears.outside hears.below in
-    let seat = seat_after (Some (From i m)) s _ first in
-    done_then (Some (From i m)) s _ (λ u. received u i m.body) first (λ k. done_received (join s m.view).state i m k (omega (arith, hears.placed, seat.count)) fit valid
-    (λ x g. join_knows (Some (From i m)) s m.view x h (inl (i, m, refl, refl)) hears.outside hears.below g))))
-    (λ f. done_silent (Some (From i m)) s h)
+    let first = rule_join c s m.view h (paid_nothing s settled) (inl (i, m, refl, refl)) hears.outside hears.below in
+    let seat = seat_after c s _ first.done in
+    let mid = (join s m.view).state in
+    rule_then c s d (join s m.view) (λ u. received u i m.body) _ _ first
+    (λ e j k. (let rest = rule_received mid e i m k j.paid (omega (arith, hears.placed, seat.count)) (λ same. eqb-false i s.id hears.other (same ∙ seat.id)) fit valid j.knows in
+    rule_so c mid e _ _ _
+    (λ g x. (
+      x.0,
+      λ _. (
+        λ n y. view_after c mid _ n rest.done (j.knows n y),
+        λ out. taken_behind i m.body (join s m.view) (received mid i m.body) (x.1 (false_from_ne_true _ (λ y. both_ways _ out (view_after c mid _ i rest.done y)))),
+      ),
+    )) rest))))
+    (λ f. rule_silent c s d _ h (paid_nothing s settled, λ t. absurd (both_ways _ f t)))
 
-done_gone : (s : ServerState) (j : ℕ) → IsSound s → IsDone (Some (Gone j)) s (gone s j)
-done_gone s j h = cond_both (nat_lt j s.count && not (j == s.id)) _ _ (λ (a : Outcome). IsDone (Some (Gone j)) s a)
+rule_gone : (s : ServerState) (j : ℕ)
+    → IsSound s
+    → IsSettled s
+    → IsRule (Some (Gone j)) s (nothing_due s) (gone s j) (λ e. IsPaid (gone s j).state e × IsHeeded (Gone j) s (gone s j))
+rule_gone s j h settled =
+    cond_both (nat_lt j s.count && not (j == s.id)) _ _ (λ (a : Outcome). IsRule (Some (Gone j)) s (nothing_due s) a (λ e. IsPaid a.state e × IsHeeded (Gone j) s a))
     (λ t. (let parts = and_parts (nat_lt j s.count) (not (j == s.id)) t in
-    done_join (Some (Gone j)) s (single j) h (inr (j, refl, refl)) (has-single_other j s.id (λ same. eqb-false j s.id (not-true _ parts.1) (sym same))) (below-single j s.count (ltb-true _ _ parts.0))))
-    (λ f. done_silent (Some (Gone j)) s h)
+    rule_so (Some (Gone j)) s (nothing_due s) _ _ _ (λ e x. (x.paid, λ _ _. x.knows j (has-single_itself j)))
+    (rule_join (Some (Gone j)) s (single j) h (paid_nothing s settled) (inr (j, refl, refl))
+    (has-single_other j s.id (λ same. eqb-false j s.id (not-true _ parts.1) (sym same))) (below-single j s.count (ltb-true _ _ parts.0)))))
+    (λ f. rule_silent (Some (Gone j)) s (nothing_due s) _ h (paid_nothing s settled, λ low other. absurd (both_ways _ f (and_from _ _ (lt-ltb _ _ low) (not_from_false _ (ne_eqb j s.id other))))))
 
-done_taken_in : (s : ServerState) (input : Input) → IsLawful s → IsInput input → HoldsEntry input → IsDone (Some input) s (taken_in s input)
-done_taken_in s (Called port made) h fit valid = done_call s port made h.sound h.settled fit
-done_taken_in s (From i m) h fit valid = done_from_peer s i m h.sound fit valid
-done_taken_in s (Gone j) h fit valid = done_gone s j h.sound
+rule_taken_in : (s : ServerState) (input : Input)
+    → IsLawful s
+    → IsInput input
+    → HoldsEntry input
+    → IsRule (Some input) s (nothing_due s) (taken_in s input) (λ e. IsPaid (taken_in s input).state e × IsHeeded input s (taken_in s input))
+rule_taken_in s (Called port made) h fit valid =
+    rule_so _ s _ _ _ _ (λ e x. (x, tt)) (rule_call s (nothing_due s) port made h.sound (paid_nothing s h.settled) refl fit)
+rule_taken_in s (From i m) h fit valid = rule_from_peer s i m h.sound h.settled fit valid
+rule_taken_in s (Gone j) h fit valid = rule_gone s j h.sound h.settled
+
+-- ---- the floor
+
+pub last_trimmed : (s : ServerState) → IsSound s → last_number (trimmed s).store ≡ last_number s.store
+unfolding trimmed
+last_trimmed s h =
+    let between = least_within 0 s.store.floor s.asks s.next_ask s.store.acked h.reads in
+    last-dropped s.store (least_open s.store.acked s.asks) between.0 (omega (arith, between.1, h.store.acked_held))
+
+taken_trimmed : (s : ServerState) (origin id : ℕ) → IsSound s → is_taken (trimmed s) origin id ≡ is_taken s origin id
+unfolding trimmed
+taken_trimmed s origin id h = ap (λ n. id == seen_of s origin + 1 && nat_lt n most) (last_trimmed s h)
+
+paid_trimmed : (s : ServerState) (d : Due) → IsSound s → IsPaid s d → IsPaid (trimmed s) d
+unfolding trimmed
+paid_trimmed s d h p =
+    let last = last_trimmed s h in
+    record {
+      forwarded = λ j n. p.forwarded j n ∙ sym last;
+      told = p.told;
+      settled = p.settled;
+      sent = p.sent;
+      taken = λ t u i. taken_trimmed s s.id u.id h ∙ p.taken t u i;
+      asked = p.asked;
+      last = λ t. ((p.last t).0 ∙ sym last, (p.last t).1);
+    }
+
+taken_in_trimmed : (s : ServerState) (i : ℕ) (body : Body) (os : List Output)
+    → IsSound s
+    → IsTakenIn i body (record { state = s; outputs = os })
+    → IsTakenIn i body (record { state = trimmed s; outputs = os })
+unfolding trimmed
+taken_in_trimmed s i (Op id made) os h x = λ t u. taken_trimmed s i id h ∙ x t u
+taken_in_trimmed s i (Forward e) os h x = λ from is. x from (omega (arith, is, last_trimmed s h))
+taken_in_trimmed s i (Ack n) os h x = λ to high. x to (omega (arith, high, last_trimmed s h))
+taken_in_trimmed s i (Query ask key) os h x = λ t. (let g = x t in (g.0, g.1, g.2 ∙ ap (λ n. Answer ask n) (sym (last_trimmed s h))))
+taken_in_trimmed s i (Answer ask n) os h x = λ from r waits same low high. x from r waits same low (omega (arith, high, last_trimmed s h))
+
+heeded_trimmed : (s : ServerState) (input : Input) (a : Outcome) → IsSound a.state → IsHeeded input s a → IsHeeded input s (record { state = trimmed a.state; outputs = a.outputs })
+unfolding trimmed
+heeded_trimmed s (Called port made) a h x = tt
+heeded_trimmed s (From i m) a h x = λ t. (let g = x t in (g.0, λ out. taken_in_trimmed a.state i m.body a.outputs h (g.1 out)))
+heeded_trimmed s (Gone j) a h x = x
 
 -- a step is such a list, and the floor's is the last of it
-pub step_done : (s : ServerState) (input : Input) → IsLawful s → IsInput input → HoldsEntry input → IsDone (Some input) s (step s input)
+pub step_whole : (s : ServerState) (input : Input) → IsLawful s → IsInput input → HoldsEntry input → IsWhole input s (step s input)
 unfolding act
-step_done s input h fit valid =
-    let rest = (taken_in s input).outputs in
-    done_as (Some input) s _ _ (ap (λ (os : List Output). record { state = trimmed (taken_in s input).state; outputs = os }) (sym (append-nil rest)))
-    (done_then (Some input) s (taken_in s input) (λ t. silent (trimmed t)) (done_taken_in s input h fit valid) (λ k. done_one (left (Some input)) (taken_in s input).state Trim k tt))
+step_whole s input h fit valid =
+    let a = taken_in s input in
+    let d = nothing_due s in
+    let c : Cause = Some input in
+    let first = rule_taken_in s input h fit valid in
+    let whole = rule_as c s d _ (step s input) (λ e. IsPaid (trimmed a.state) e × IsHeeded input s (step s input))
+    (ap (λ (os : List Output). record { state = trimmed a.state; outputs = os }) (sym (append-nil a.outputs)))
+    (rule_then c s d a (λ t. silent (trimmed t)) _ _ first
+    (λ e x k. rule_one (left c) a.state e Trim _ k tt tt (paid_trimmed a.state e k x.0, heeded_trimmed s input a k x.1))) in
+    record { done = whole.done; turns = whole.turns; paid = whole.after.0; heeded = whole.after.1 }
+
+pub step_done : (s : ServerState) (input : Input) → IsLawful s → IsInput input → HoldsEntry input → IsDone (Some input) s (step s input)
+step_done s input h fit valid = (step_whole s input h fit valid).done

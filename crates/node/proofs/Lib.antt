@@ -28,6 +28,7 @@ pub mod Lists
 pub mod StoreChanges
 pub mod OpenCalls
 pub mod Neighbours
+pub mod OpenLists
 pub mod SoundActions
 pub mod DoneActions
 pub mod DoneRules

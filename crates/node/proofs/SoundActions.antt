@@ -1,5 +1,5 @@
 -- Each single action keeps what every server keeps, and a server's place and count; and what a server knows only grows.
-use Rattle.std.proofs.Common.{◌≡◌, ℕ, ◌+◌, ◌≤◌, true, ◌⊎◌, inl, inr, refl, ap, arith}
+use Rattle.std.proofs.Common.{◌≡◌, ℕ, ◌+◌, ◌≤◌, true, ◌⊎◌, inl, inr, refl, ap, ◌∙◌, arith}
 use Rattle.std.proofs.lemmas.Bool.{or_left}
 use Rattle.versions.specs.Entries.{LogEntry}
 use Rattle.versions.specs.Stores.{last_number}
@@ -61,6 +61,16 @@ pub record Grown (s t : ServerState) : Type 0 where
 
 pub grown_same : (s : ServerState) → Grown s s
 grown_same s = record { id = refl; count = refl; view = λ k h. h; acked = omega arith; next_id = omega arith; next_ask = omega arith }
+
+pub grown_then : (s t u : ServerState) → Grown s t → Grown t u → Grown s u
+grown_then s t u h g = record {
+  id = g.id ∙ h.id;
+  count = g.count ∙ h.count;
+  view = λ k x. g.view k (h.view k x);
+  acked = omega (arith, h.acked, g.acked);
+  next_id = omega (arith, h.next_id, g.next_id);
+  next_ask = omega (arith, h.next_ask, g.next_ask);
+}
 
 pub grown_act : (cause : Cause) (s : ServerState) (a : Action) → Guard cause s a → Grown s (act s a).state
 unfolding act widened appended entered asked trimmed

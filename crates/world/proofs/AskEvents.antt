@@ -19,7 +19,7 @@ use Rattle.world.proofs.Traces.{Traced, count, outset}
 use Rattle.world.proofs.Layers.{Later, Lawful}
 use Rattle.world.proofs.Outsets.{count_outset, server_outset, nothing_in}
 use Rattle.world.proofs.ForwardRuns.{in_sent}
-use Rattle.world.proofs.AskTellings.{inquires_step}
+use Rattle.world.proofs.StepTellings.{inquires_step}
 use Rattle.world.proofs.Asking.{Tailed, IsOnItsWay, Asking, query_met, answer_met}
 use Rattle.world.proofs.Stepped.{Stepped, stepped_tells, stepped_works, stepped_delivers}
 use Rattle.world.proofs.Ways.{Way, Stays, Comes, Starts, Hands, Fails, Works, Delivers, Tells}

@@ -27,7 +27,7 @@ use Rattle.world.proofs.Traces.{Traced, done, reconnected, unlinked}
 use Rattle.world.proofs.Layers.{Lawful, IsWith, IsKnown}
 use Rattle.world.proofs.IdLaws.{living_parts}
 use Rattle.node.proofs.OpenCalls.{update_in}
-use Rattle.world.proofs.OpenLists.{IsClosed, closed_by}
+use Rattle.node.proofs.OpenLists.{IsClosed, closed_by}
 use Rattle.world.proofs.StepInputs.{IsStep, within, known_of, acked_committed}
 use Rattle.world.proofs.TraceLaws.{server_done, lives_done}
 use Rattle.world.proofs.ChangeLaws.{lives_reconnected, lives_unlinked}

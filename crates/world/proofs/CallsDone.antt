@@ -20,7 +20,7 @@ use Rattle.node.specs.Actions.{Action, Widen, Append, Reach, Settle, Send, Finis
 use Rattle.world.proofs.Traces.{Traced, issued_by, count, open_id, done}
 use Rattle.world.proofs.Layers.{IsWith}
 use Rattle.world.proofs.TraceLaws.{new_issued, server_done, server_other, issued_other, issued_done, connection_done, open_id_done}
-use Rattle.world.proofs.OpenLists.{updates_act, reads_act}
+use Rattle.node.proofs.OpenLists.{updates_act, reads_act}
 use Rattle.world.proofs.StepInputs.{IsStep, within, known_of}
 use Rattle.world.proofs.Replying.{given}
 

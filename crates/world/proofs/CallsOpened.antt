@@ -1,5 +1,5 @@
 -- An own call that is taken in is open behind the step, or answered by it, where numbers are left.
-use Rattle.std.proofs.Common.{◌≡◌, ℕ, ◌<◌, Bool, true, false, not, List, None, refl, sym, subst, ◌⊎◌, inl, inr}
+use Rattle.std.proofs.Common.{◌≡◌, ℕ, ◌<◌, Bool, true, false, not, List, [], ◌∷◌, None, refl, sym, subst, ◌⊎◌, inl, inr}
 use Rattle.std.proofs.lemmas.Bool.{cond_both, and_from, lt-ltb, or_right}
 use Rattle.table.specs.Operations.{is_update, Suits}
 use Rattle.table.specs.declared.operations.Call.{Call}
@@ -18,9 +18,10 @@ use Rattle.node.specs.Reading.{dirty_read, read_of}
 use Rattle.node.specs.Steps.{trimmed, step}
 use Rattle.node.specs.Lawful.{IsCall, IsLawful}
 use Rattle.node.proofs.RuleLaws.{good-entered, updated}
+use Rattle.node.specs.Actions.{nothing_due}
 use Rattle.node.proofs.Lists.{In}
-use Rattle.node.proofs.DoneRules.{entered_in, done_called}
-use Rattle.node.proofs.DoneSteps.{asked_in}
+use Rattle.node.proofs.DoneRules.{entered_in, clear_paid, clear_entered, rule_called}
+use Rattle.node.proofs.DoneSteps.{asked_in, paid_nothing}
 use Rattle.world.proofs.KeptOpen.{AnswersPort, open_done}
 
 -- an own call of this port waits at the server
@@ -41,7 +42,9 @@ taken_update : (s : ServerState) (port : ℕ) (made : Call) → IsLawful s → I
 taken_update s port made h fit is room =
     let u : OpenUpdate = record { id = s.next_id; port = port; call = made } in
     let sound = (good-entered s port made fit is (record { sound = h.sound; settled = h.settled })).sound in
-    let kept = open_done None (entered s port made) _ (done_called None (entered s port made) s.next_id port made sound fit is (entered_in s port made)) in
+    let kept = open_done None (entered s port made) _
+    (rule_called None (entered s port made) (record (nothing_due s) { unsent = u ∷ [] }) s.next_id port made sound
+    (clear_entered s (nothing_due s) port made (u ∷ []) (clear_paid s (nothing_due s) (paid_nothing s h.settled))) fit is (entered_in s port made) refl).done in
     let may : is_room_for_update s ≡ true = and_from _ _ (lt-ltb _ _ room.id) (or_right _ _ (lt-ltb _ _ room.number)) in
     rw (updated s port made may) (elim (kept.updates u (entered_in s port made)) [
       | inl waits ↦ inl (inl (u, waits, refl))

@@ -26,7 +26,7 @@ use Rattle.world.proofs.Traces.{Traced, issued_by, count, open_id, done}
 use Rattle.world.proofs.Layers.{IsWith, IsAnswer, IsKnown, Asks}
 use Rattle.world.proofs.WorldLaws.{Answers}
 use Rattle.world.proofs.TraceLaws.{new_issued, server_done, server_other, link_done, issued_other, issued_done, connection_done, connection_before, begun_done, replied_done}
-use Rattle.world.proofs.OpenLists.{in_without}
+use Rattle.node.proofs.OpenLists.{in_without}
 use Rattle.world.proofs.Kept.{answer_later, asks_later}
 use Rattle.world.proofs.OpenIds.{open_id_is, place_of, with_begun}
 use Rattle.world.proofs.StepInputs.{IsStep, within, known_of}

@@ -15,7 +15,7 @@ use Rattle.node.proofs.SoundLaws.{updates_bound}
 use Rattle.node.proofs.RuleLaws.{sound-taken, same_is}
 use Rattle.world.proofs.Streaming.{IsRun}
 use Rattle.world.proofs.ForwardRuns.{run_up}
-use Rattle.world.proofs.Tellings.{last_appended}
+use Rattle.node.proofs.DoneRules.{last_appended}
 use Rattle.world.proofs.Opening.{ids, Own, IsOpen, IsAnswered}
 use Rattle.world.proofs.OwnIds.{seen_same}
 use Rattle.world.proofs.Advances.{ops_to, ops_to-append, Advances, advances_then, advances_silent, advances_appended}

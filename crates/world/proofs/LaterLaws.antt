@@ -1,7 +1,6 @@
 -- What was known is known still after each move.
-use Rattle.std.proofs.Common.{◌≡◌, ℕ, ◌<◌, ◌≤◌, true, length, refl, arith, inl, inr, ◌∙◌}
+use Rattle.std.proofs.Common.{ℕ, ◌<◌, length, refl, arith, inl, inr, ◌∙◌}
 use Rattle.std.proofs.lemmas.Bool.{cases_eq}
-use Rattle.node.specs.Servers.{ServerState}
 use Rattle.node.proofs.SoundActions.{Grown, grown_same, grown_act}
 use Rattle.world.specs.Worlds.{server}
 use Rattle.node.proofs.Lists.{Begins, get_front}

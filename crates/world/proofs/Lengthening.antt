@@ -15,7 +15,7 @@ use Rattle.node.specs.Steps.{received}
 use Rattle.node.specs.Lawful.{IsCall, AreUpdates, IsSound}
 use Rattle.node.proofs.SoundLaws.{sound-widened, updates_bound}
 use Rattle.node.proofs.RuleLaws.{sound-taken, silent-caught_up, silent-acked_to_predecessor}
-use Rattle.world.proofs.Tellings.{last_appended}
+use Rattle.node.proofs.DoneRules.{last_appended}
 use Rattle.world.proofs.OwnIds.{seen_same}
 use Rattle.world.proofs.HeadTakes.{is_next, may_take, advances_taken, advances_taken_all}
 use Rattle.world.proofs.JoinsOpen.{is_head_at}

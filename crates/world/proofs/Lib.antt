@@ -33,7 +33,6 @@ pub mod Fronts
 pub mod EntryCounts
 pub mod Kept
 pub mod OpenIds
-pub mod OpenLists
 pub mod StepInputs
 pub mod Replying
 pub mod CallsDone
@@ -66,8 +65,6 @@ pub mod Linearization
 pub mod OneOrder
 pub mod Streaming
 pub mod ForwardRuns
-pub mod Tellings
-pub mod JoinTellings
 pub mod StepTellings
 pub mod StreamSteps
 pub mod StreamDeliveries
@@ -94,7 +91,6 @@ pub mod InStep
 pub mod Stages
 pub mod Bounds
 pub mod StageEvents
-pub mod AskTellings
 pub mod Asking
 pub mod Stepped
 pub mod AskEvents

@@ -25,7 +25,7 @@ use Rattle.world.proofs.Beginnings.{begins-take, begins-length}
 use Rattle.world.proofs.HeldLogs.{held_last, held_value, held_after}
 use Rattle.world.proofs.LastLiving.{alive}
 use Rattle.world.proofs.LoggedActions.{tail_log}
-use Rattle.world.proofs.OpenLists.{read_above}
+use Rattle.node.proofs.OpenLists.{read_above}
 use Rattle.world.proofs.Untouched.{untouched, untouched_later}
 use Rattle.world.proofs.StepInputs.{IsStep, within, known_of}
 

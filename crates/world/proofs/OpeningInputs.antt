@@ -1,5 +1,5 @@
 -- What is known of the message that a server takes: an own entry that comes is its next one, and an update that comes is seen.
-use Rattle.std.proofs.Common.{◌≡◌, ◌≢◌, ℕ, ◌+◌, ◌-◌, ◌<◌, ◌≤◌, true, false, List, length, take, Some, None, refl, sym, ap, subst, ◌∙◌, arith, inl}
+use Rattle.std.proofs.Common.{◌≡◌, ◌≢◌, ℕ, ◌+◌, ◌-◌, ◌<◌, ◌≤◌, true, false, List, length, take, Some, refl, sym, ap, subst, ◌∙◌, arith, inl}
 use Rattle.std.specs.Prelude.{slice_index_or}
 use Rattle.std.proofs.lemmas.Bool.{both_ways, false_from_ne_true}
 use Rattle.std.proofs.lemmas.List.{take_all}
@@ -24,8 +24,8 @@ use Rattle.world.proofs.Layers.{Goes, Carries, Asks, IsAddressed, IsIssued, Lawf
 use Rattle.world.proofs.Beginnings.{begins-take}
 use Rattle.world.proofs.IdLaws.{previous_of, at_head, head_from, is_itself}
 use Rattle.node.proofs.DoneActions.{view_after}
-use Rattle.node.proofs.DoneJoins.{done_join, known_after}
-use Rattle.world.proofs.StepTellings.{step_heard}
+use Rattle.node.proofs.DoneJoins.{rule_join}
+use Rattle.node.proofs.DoneSteps.{paid_nothing}
 use Rattle.world.proofs.StreamSteps.{last_is}
 use Rattle.world.proofs.StreamDeliveries.{sender_apart, is_heard_there}
 use Rattle.world.proofs.Opening.{Own, HasSeen}
@@ -41,6 +41,9 @@ pub record HasRooms (w : World) : Type 0 where
   pub own : (i : ℕ) → i < length w.servers → HasRoom (server w i)
   pub more : (i j : ℕ) → i < length w.servers → j < length w.servers → i ≢ j → seen_of (server w i) j + 1 < (server w j).next_id
       → last_number (server w i).store + (server w i).next_id ≤ most + seen_of (server w i) (server w i).id
+
+step_heard : (s : ServerState) (i : ℕ) (m : Peer) → is_heard s i m.view ≡ true → (step s (From i m)).state ≡ trimmed (received (join s m.view).state i m.body).state
+step_heard s i m h = rw h refl
 
 module _ (t : Traced) (l : Lawful t) (i a : ℕ) (m : Peer) (there : In m (link t.world i a)) (lawful : IsLawful (server t.world a)) where
   addressed : IsAddressed t i a m
@@ -61,7 +64,7 @@ module _ (t : Traced) (l : Lawful t) (i a : ℕ) (m : Peer) (there : In m (link 
       let low : a < 16 = omega (arith, here, l.framed.most) in
       let id : j.id ≡ a = long.id ∙ l.framed.id a here in
       let still = long.still (false_from_ne_true _ (λ e. both_ways _ p.out ((at_head j e).below i p.below))) in
-      let joined = done_join (Some (From i m)) s m.view sound (inl (i, m, refl, refl)) hears.outside hears.below in
+      let joined = (rule_join (Some (From i m)) s m.view sound (paid_nothing s lawful.settled) (inl (i, m, refl, refl)) hears.outside hears.below).done in
       let out : has s.view i ≡ false = false_from_ne_true _ (λ e. both_ways _ p.out (view_after (Some (From i m)) s (join s m.view) i joined e)) in
       let c : Carries t i m.view (Forward e) = subst (λ b. Carries t i m.view b) is (l.logged.carries i a m there) in
       let begins = l.logged.begins i a (omega (arith, p.below, id)) here out in
@@ -116,7 +119,7 @@ module _ (t : Traced) (l : Lawful t) (i a : ℕ) (m : Peer) (there : In m (link 
       let head : is_head j ≡ true = is_itself (head_of j) j.id (head_from j.view j.count j.id (record {
         within = good.sound.placed;
         out = good.sound.outside;
-        below = λ x p. known_after None s m.view sound hears.outside hears.below x (g.1 x (omega (arith, p, jid)));
+        below = λ x p. (rule_join (Some (From i m)) s m.view sound (paid_nothing s lawful.settled) (inl (i, m, refl, refl)) hears.outside hears.below).after.knows x (g.1 x (omega (arith, p, jid)));
       })) in
       let seen = joined.seen i low in
       let own_seen = ap (λ o. seen_of j o) long.id in

@@ -19,7 +19,7 @@ use Rattle.world.proofs.Traces.{Traced, AnsweredRead, issued_by, count, open_id,
 use Rattle.world.proofs.Layers.{Lawful, IsWith, IsNamed, IsAnswer}
 use Rattle.world.proofs.TraceLaws.{new_reads, reads_done}
 use Rattle.node.proofs.OpenCalls.{update_in}
-use Rattle.world.proofs.OpenLists.{IsClosed, closed_by, reply_there, update_apart, read_apart, in_without}
+use Rattle.node.proofs.OpenLists.{IsClosed, closed_by, reply_there, update_apart, read_apart, in_without}
 use Rattle.world.proofs.Kept.{named_later}
 use Rattle.world.proofs.OpenIds.{with_same}
 use Rattle.world.proofs.StepInputs.{IsStep, within, known_of, acked_committed}

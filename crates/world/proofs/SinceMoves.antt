@@ -20,7 +20,7 @@ use Rattle.world.proofs.Beginnings.{begins-length}
 use Rattle.world.proofs.HeldLogs.{held_last}
 use Rattle.world.proofs.LastLiving.{alive, last_found}
 use Rattle.world.proofs.IdLaws.{that_is, previous_is}
-use Rattle.world.proofs.OpenLists.{reads_act}
+use Rattle.node.proofs.OpenLists.{reads_act}
 use Rattle.node.specs.Actions.{Action, Widen, Append, Reach, Settle, Send, Finish, Trim, Enter, Ask, Show, Cause}
 use Rattle.world.proofs.Traces.{Traced, AnsweredRead, log, count, done}
 use Rattle.world.proofs.TraceLaws.{new_entries, new_reads, count_done, server_done, server_other, link_done, log_done, log_other, reads_done, open_id_done}

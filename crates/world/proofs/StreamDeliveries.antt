@@ -11,23 +11,20 @@ use Rattle.node.specs.declared.messages.Body.{Body}
 use Rattle.node.specs.declared.messages.Body.TheVariants.{Op, Forward, Ack, Query, Answer}
 use Rattle.node.specs.declared.messages.Peer.{Peer}
 use Rattle.node.specs.declared.messages.Input.TheVariants.{From}
-use Rattle.node.specs.Views.{View, has, is_below, successor, predecessor}
+use Rattle.node.specs.Views.{View, has, is_below, predecessor}
 use Rattle.node.specs.Servers.{ServerState, previous, next}
-use Rattle.node.specs.Joining.{join}
-use Rattle.node.specs.Steps.{received, is_heard, trimmed, step}
+use Rattle.node.specs.Steps.{is_heard, step}
 use Rattle.node.specs.Lawful.{IsSound, IsLawful}
-use Rattle.node.proofs.RuleLaws.{good-join, good-received}
 use Rattle.world.specs.Worlds.{server, link}
 use Rattle.node.proofs.Lists.{in_more}
 use Rattle.world.proofs.Traces.{Traced, count}
 use Rattle.world.proofs.Layers.{Goes, Carries, IsAddressed, Framed}
 use Rattle.world.proofs.Beginnings.{begins-length}
 use Rattle.world.proofs.IdLaws.{following_from, previous_from, previous_of}
-use Rattle.node.proofs.DoneJoins.{join_knows}
+use Rattle.node.specs.Actions.{IsTakenIn}
+use Rattle.node.proofs.DoneSteps.{step_whole}
 use Rattle.world.proofs.Streaming.{forwarded_number, numbers, IsRun, Linked, Stream, LinkedBack, IsTold}
-use Rattle.world.proofs.Tellings.{tells_received, tells_trimmed}
-use Rattle.world.proofs.StepTellings.{informs_join, received_forward, received_ack, step_heard}
-use Rattle.world.proofs.StreamSteps.{Between, last_is, last_later, linked_other, linked_back_other}
+use Rattle.world.proofs.StreamSteps.{Between, next_in, last_is, last_later, linked_other, linked_back_other}
 
 -- ---- a message that is heard
 
@@ -65,70 +62,27 @@ is_heard_there t i a m f h s =
     rw (f.chain a h.receiver, f.id a h.receiver)
     (and_from _ _ (and_from _ _ (and_from _ _ (lt-ltb _ _ h.sender) (not_from_false _ (ne_eqb i a (sender_apart t i a m h)))) below) (not_from_false _ h.to))
 
--- what a server makes of a message
-record IsTaken (t u : Traced) (i a : ℕ) (m : Peer) : Type 0 where
-  middle : ServerState
-  joined : (k : ℕ) → has m.view k ≡ true → has middle.view k ≡ true
-  id : middle.id ≡ a
-  count : middle.count ≡ count t
-  view : (server u.world a).view ≡ middle.view
-  last : last_number (server t.world a).store ≤ last_number middle.store
-  longer : last_number middle.store ≤ last_number (received middle i m.body).state.store
-  more : last_number (received middle i m.body).state.store ≤ last_number (server u.world a).store
-  acked : (server u.world a).store.acked ≡ (received middle i m.body).state.store.acked
-
-trimmed_parts : (s : ServerState) → ((trimmed s).view ≡ s.view) × ((trimmed s).store.acked ≡ s.store.acked)
-unfolding trimmed
-trimmed_parts s = (refl, refl)
-
 module _ (t u : Traced) (i a : ℕ) (m : Peer) (ms : List Peer) (h : Between t u a (step (server t.world a) (From i m))) (first : link t.world i a ≡ m ∷ ms)
     (from : IsSound (server t.world i)) (lawful : IsLawful (server t.world a)) where
   addressed : IsAddressed t i a m
   addressed = h.before.framed.sound i a m (rw first (0, refl))
 
-  taken : IsTaken t u i a m
-  taken =
-      let f = h.before.framed in
-      let s = server t.world a in
-      let id = f.id a addressed.receiver in
-      let chain = f.chain a addressed.receiver in
-      let hears = is_heard_there t i a m f addressed from in
-      let below = part-below (server t.world i).view m.view s.count addressed.part (ap (λ n. is_below (server t.world i).view n) (chain ∙ sym (f.chain i addressed.sender)) ∙ from.within) in
-      let outside : has m.view s.id ≡ false = ap (λ k. has m.view k) id ∙ addressed.to in
-      let good = good-join s m.view below outside (record { sound = lawful.sound; settled = lawful.settled }) in
-      let j = (join s m.view).state in
-      let joins = informs_join s m.view below outside lawful.sound in
-      let tells = tells_received j i m.body in
-      let r = (received j i m.body).state in
-      let low : i < 16 = omega (arith, addressed.sender, f.most) in
-      let trims = tells_trimmed r (good-received j i m.body low addressed.fit addressed.entry good).sound in
-      let now : server u.world a ≡ trimmed r = h.own ∙ step_heard s i m hears in
-      record {
-        middle = j;
-        joined = λ k. join_knows (Some (From i m)) s m.view k lawful.sound (inl (i, m, refl, refl)) outside below;
-        id = joins.id ∙ id;
-        count = joins.count ∙ chain;
-        view = ap (λ x. x.view) now ∙ (trimmed_parts r).0 ∙ tells.at.view;
-        last = joins.last;
-        longer = tells.last;
-        more = omega (arith, trims.last, ap (λ x. last_number x.store) now);
-        acked = ap (λ x. x.store.acked) now ∙ (trimmed_parts r).1;
-      }
+  -- what the message says is taken in
+  heeded : ((k : ℕ) → has m.view k ≡ true → has (server u.world a).view k ≡ true) × (has (server u.world a).view i ≡ false → IsTakenIn i m.body (step (server t.world a) (From i m)))
+  heeded = rw h.own ((step_whole (server t.world a) (From i m) lawful addressed.fit addressed.entry).heeded (is_heard_there t i a m h.before.framed addressed from))
 
   -- ---- the stream of forwards
 
-  -- the next entry is appended, where it wasn't yet
+  -- the next entry is appended, if it wasn't yet
   reached_next : (e : LogEntry) (f : ℕ) → m.body ≡ Forward e → e.number ≡ f + 1 → f ≤ last_number (server t.world a).store → has (server u.world a).view i ≡ false → f + 1 ≤ last_number (server u.world a).store
   reached_next e f is number low unaware =
-      let k = taken in
-      let out : has k.middle.view i ≡ false = ap (λ v. has v i) (sym k.view) ∙ unaware in
+      let s = server u.world a in
       let g : Goes i a m.view (count t) (Forward e) = subst (λ b. Goes i a m.view (count t) b) is addressed.goes in
-      elim (cases_lt (last_number k.middle.store) (f + 1)) [
-        | inr held ↦ omega (arith, held, k.longer, k.more)
-        | inl less ↦ (let previous : predecessor k.middle.view k.middle.id ≡ Some i = ap (λ x. predecessor k.middle.view x) k.id ∙ previous_from k.middle.view a i (record { below = g.0; out = out; between = λ x p q. k.joined x (g.1 x p q) }) in
-            let took = received_forward k.middle i e out previous (omega (arith, number, less, low, k.last)) in
-            let more = subst (λ b. last_number (received k.middle i b).state.store ≤ last_number (server u.world a).store) is k.more in
-            omega (arith, number, took, more))
+      let from : previous s ≡ Some i = ap (λ x. predecessor s.view x) (h.after.framed.id a (rw h.later.count h.here)) ∙ previous_from s.view a i (record { below = g.0; out = unaware; between = λ x p q. heeded.0 x (g.1 x p q) }) in
+      let took : previous s ≡ Some i → e.number ≢ last_number s.store + 1 = subst (λ b. IsTakenIn i b (record { state = s; outputs = (step (server t.world a) (From i m)).outputs })) is (rw h.own (heeded.1 unaware)) in
+      elim (cases_lt (last_number s.store) (f + 1)) [
+        | inr held ↦ held
+        | inl less ↦ absurd (took from (omega (arith, number, less, low, h.informs.last, ap (λ (x : ServerState). last_number x.store) h.own)))
       ]
 
   stream_step : (b : Body) → m.body ≡ b → (s : Stream t.world i a) → IsRun s.from (last_number (server t.world i).store) (forwarded_number b ++ numbers ms)
@@ -154,16 +108,16 @@ module _ (t u : Traced) (i a : ℕ) (m : Peer) (ms : List Peer) (h : Between t u
   -- the sender's number is reached
   reached_ack : (n : ℕ) → m.body ≡ Ack n → previous (server t.world i) ≡ Some a → has (server u.world a).view i ≡ false → n ≤ (server u.world a).store.acked
   reached_ack n is before unaware =
-      let k = taken in
-      let out : has k.middle.view i ≡ false = ap (λ v. has v i) (sym k.view) ∙ unaware in
+      let s = server u.world a in
+      let here : a < count u = rw h.later.count h.here in
       let g : Goes i a m.view (count t) (Ack n) = subst (λ b. Goes i a m.view (count t) b) is addressed.goes in
       let c : Carries t i m.view (Ack n) = subst (λ b. Carries t i m.view b) is (h.before.logged.carries i a m (rw first (0, refl))) in
       let held = (h.before.logged.holds i addressed.sender).acked in
       let begins = begins-length _ _ (h.before.logged.begins a i g.0 addressed.sender (previous_of (server t.world i) a before).out) in
-      let following : next k.middle ≡ Some i = ap (λ x. successor k.middle.view k.middle.count x) k.id ∙ ap (λ x. successor k.middle.view x a) k.count ∙ following_from k.middle.view (count t) a i (record { above = g.0; within = addressed.sender; out = out; between = λ x p q. k.joined x (g.1 x p q) }) in
-      let took = received_ack k.middle i n out following (omega (arith, c.0, held, begins, last_is t h.before.logged a h.here, k.last)) in
-      let acked = k.acked ∙ ap (λ b. (received k.middle i b).state.store.acked) is in
-      omega (arith, took, acked)
+      let inside : i < count u = rw h.later.count addressed.sender in
+      let following : next s ≡ Some i = next_in u h.after.framed a here ∙ following_from s.view (count u) a i (record { above = g.0; within = inside; out = unaware; between = λ x p q. heeded.0 x (g.1 x p q) }) in
+      let took : next s ≡ Some i → n ≤ last_number s.store → n ≤ s.store.acked = subst (λ b. IsTakenIn i b (record { state = s; outputs = (step (server t.world a) (From i m)).outputs })) is (rw h.own (heeded.1 unaware)) in
+      took following (omega (arith, c.0, held, begins, last_is t h.before.logged a h.here, h.informs.last, ap (λ (x : ServerState). last_number x.store) h.own))
 
   pub acks_delivered : link u.world i a ≡ ms → (LinkedBack t.world a i → IsTold t.world a i) → LinkedBack u.world a i → IsTold u.world a i
   acks_delivered left f l =

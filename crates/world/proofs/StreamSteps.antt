@@ -1,8 +1,7 @@
 -- A step keeps the streams between servers: those of others stay, and the server's own go on.
-use Rattle.std.proofs.Common.{◌≡◌, ◌≢◌, ℕ, suc, ◌<◌, ◌≤◌, false, List, [], ◌∷◌, ◌++◌, length, get_or, Option, Some, None, refl, sym, ap, subst, ◌∙◌, arith, inl, inr, ◌⊎◌}
-use Rattle.std.proofs.lemmas.Bool.{cases_eq}
+use Rattle.std.proofs.Common.{◌≡◌, ◌≢◌, ℕ, suc, ◌<◌, ◌≤◌, false, List, [], ◌∷◌, ◌++◌, length, get_or, Some, refl, sym, ap, subst, ◌∙◌, arith, inl, inr}
 use Rattle.std.proofs.lemmas.List.{length-set}
-use Rattle.std.proofs.lemmas.Option.{same_Some, slice_get-get_or, none-some}
+use Rattle.std.proofs.lemmas.Option.{slice_get-get_or}
 use Rattle.versions.specs.Entries.{LogEntry}
 use Rattle.versions.specs.Stores.{last_number}
 use Rattle.node.specs.declared.messages.Body.{Body}
@@ -20,7 +19,8 @@ use Rattle.world.proofs.HeldLogs.{held_last}
 use Rattle.world.proofs.IdLaws.{next_of, following_from, previous_of}
 use Rattle.world.proofs.Streaming.{forwarded_number, numbers, sent_to, Linked, Stream, LinkedBack, IsTold}
 use Rattle.world.proofs.ForwardRuns.{run-append, run_as, numbers-append, in_sent, HasLink, link-put_all_to, link-put_all_from}
-use Rattle.world.proofs.JoinTellings.{Informs}
+pub use Rattle.world.proofs.StepTellings.{some_or_not}
+use Rattle.world.proofs.StepTellings.{Informs}
 use Rattle.world.proofs.LoggedLaws.{still_out}
 
 -- ---- what a step leaves
@@ -111,10 +111,6 @@ pub record Between (t u : Traced) (a : ℕ) (o : Outcome) : Type 0 where
   pub sent : (y : ℕ) → y < count t → link u.world a y ≡ link t.world a y ++ sent_to y o.outputs
   pub informs : Informs (server t.world a) o
 
-pub some_or_not : (found : Option ℕ) (y : ℕ) → (found ≡ Some y) ⊎ (found ≡ Some y → ⊥)
-some_or_not None y = inr (λ e. none-some y e)
-some_or_not (Some x) y = elim (cases_eq x y) [ inl same ↦ inl (ap Some same) | inr other ↦ inr (λ e. other (same_Some x y e)) ]
-
 module _ (t u : Traced) (a : ℕ) (o : Outcome) (h : Between t u a o) where
   pub linked_other : (x y : ℕ) → x ≢ a → Linked u.world x y → Linked t.world x y
   linked_other x y other l = record {
@@ -153,10 +149,12 @@ module _ (t u : Traced) (a : ℕ) (o : Outcome) (h : Between t u a o) where
             })
         | inr new ↦ (let none = nothing_sent t h.before.framed a y h.here inside (still_out t u h.later a y follows.out) new in
             let told = h.after.logged.acks a y above l.inside follows.out in
+            let r = h.informs.new y new to in
+            let acked : (server u.world a).store.acked ≡ o.state.store.acked = ap (λ s. s.store.acked) h.own in
             record {
-              from = (server t.world a).store.acked;
-              reached = omega (arith, h.later.acks a, told, (h.after.logged.holds y l.inside).acked, last_is u h.after.logged y l.inside);
-              run = run_as _ _ _ _ _ _ refl last (now ∙ ap (λ ks. ks ++ numbers (sent_to y o.outputs)) none) (h.informs.new y new to);
+              from = r.0;
+              reached = omega (arith, r.1, acked, told, (h.after.logged.holds y l.inside).acked, last_is u h.after.logged y l.inside);
+              run = run_as _ _ _ _ _ _ refl last (now ∙ ap (λ ks. ks ++ numbers (sent_to y o.outputs)) none) r.2;
             })
       ]
 
