@@ -4,6 +4,10 @@ ghost use Rattle.node.specs.Nodes.{is_idle};
 
 use crate::doors::serve_seats;
 use crate::working::work;
+use command_line::Numbers;
+use commands::{FAILED, MEMORY};
+use ends::{Sink, write_all};
+use itoa::Buffer;
 use node::{Master, Node};
 use rail::{Inlet, Server, Stand, Worker, open};
 use seats::{InProcessLinks, Link, Mark, SeatCaller};
@@ -15,19 +19,6 @@ use std::thread;
 use std::thread::{JoinHandle, Threads};
 use std::time::{Clock, Duration};
 use thiserror::Error;
-
-/// How large a chain is, and where it listens.
-#[derive(Clone, Copy, Debug, PartialEq, Eq)]
-pub struct Numbers {
-    /// How many servers there are: 1 to 16.
-    pub servers: u8,
-    /// The port of server 0; server i listens on the i-th after it.
-    pub port: u16,
-    /// How many connections each server serves at a time: 1 to 16.
-    pub seats: u8,
-    /// How many connections each of them serves one after another, or 0 for no end.
-    pub serves: u64,
-}
 
 /// Why a chain can't be run.
 #[derive(Clone, Copy, Debug, PartialEq, Eq, Error)]
@@ -41,6 +32,34 @@ pub enum ClusterFault {
     /// The chain has no such server.
     #[error("run failed")]
     Run,
+}
+
+impl ClusterFault {
+    /// The exit status: 3 for want of memory, else 1.
+    pub fn status(self) -> u8 {
+        match self {
+            ClusterFault::Memory => MEMORY,
+            _ => FAILED,
+        }
+    }
+
+    /// Tells the fault in one line. It allocates nothing.
+    pub fn tell<X: Sink>(self, errors: &mut X) {
+        match self {
+            ClusterFault::Memory => {
+                let _ = write_all(errors, b"craq: out of memory\n");
+            }
+            ClusterFault::Port(port) => {
+                let mut digits = Buffer::new();
+                let _ = write_all(errors, b"craq: cannot listen on port ");
+                let _ = write_all(errors, digits.format(port).as_bytes());
+                let _ = write_all(errors, b"\n");
+            }
+            ClusterFault::Run => {
+                let _ = write_all(errors, b"craq: run failed\n");
+            }
+        }
+    }
 }
 
 impl From<AllocError> for ClusterFault {
@@ -240,8 +259,8 @@ fn all_listeners<R: Net<Listener = TcpListener, Stream = TcpStream>>(
     Ok(listeners)
 }
 
-// The servers, with a stand for each seat, and an inlet for each other server and for the program's own thread.
-fn all_servers<R: Wait + Copy + Drop>(
+/// The servers, with a stand for each seat, and an inlet for each other server and for the program's own thread.
+pub fn all_servers<R: Wait + Copy + Drop>(
     rt: R,
     alloc: Global,
     numbers: Numbers,
@@ -272,8 +291,8 @@ fn idle_node(alloc: Global, id: u8, count: u8) -> Result<Node, ClusterFault>
     }
 }
 
-// The links of all servers.
-fn all_links<R: Wait + Copy + Drop>(
+/// The links of all servers.
+pub fn all_links<R: Wait + Copy + Drop>(
     rt: R,
     alloc: Global,
     count: u8,
@@ -293,8 +312,8 @@ fn all_links<R: Wait + Copy + Drop>(
     Ok(all)
 }
 
-// Starts a worker's thread.
-fn start_worker<R: Wait + Threads + Copy + Drop + Send + 'static>(
+/// Starts a worker's thread.
+pub fn start_worker<R: Wait + Threads + Copy + Drop + Send + 'static>(
     rt: R,
     worker: Worker<R>,
     links: InProcessLinks<R>,
@@ -311,8 +330,8 @@ fn start_worker<R: Wait + Threads + Copy + Drop + Send + 'static>(
     }
 }
 
-// A caller for each stand.
-fn all_callers(
+/// A caller for each stand.
+pub fn all_callers(
     alloc: Global,
     stands: Vec<Stand>,
     failed: &Mark,

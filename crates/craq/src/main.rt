@@ -1,31 +1,26 @@
-//! The program `craq`: its command line, and what its commands do between a source and a sink.
+//! The program `craq`: its threads and its sockets, between the commands and what its users see.
 #![tactic(auto)]
 
-mod cluster_words;
 mod clusters;
-mod commands;
 mod doors;
-mod faults;
-mod program;
-mod scenarios;
 mod steering;
-mod tellings;
-mod words;
 mod working;
 
-use commands::UsageFault;
-use ends::{TrackedReader, TrackedWriter, write_all};
-use faults::{MEMORY, USAGE};
-use program::words_of_cluster;
+use command_line::{Command, Serve};
+use commands::{read_arguments, run, tell_file};
+use ends::{TrackedReader, TrackedWriter};
 use std::process::ExitCode;
 use steering::cluster;
-use tellings::run_or_tell;
 
 fn main(rt: HostRuntime) -> ExitCode {
     let mut output = TrackedWriter::new(rt.stdout());
     let mut errors = TrackedWriter::new(rt.stderr());
-    let status = match words_of_cluster(&rt) {
-        Ok(Some(numbers)) => {
+    let status = match read_arguments(&rt) {
+        Ok(Command::Print(print)) => run(&rt, Ok(print), &mut output, &mut errors),
+        Ok(Command::Tell { telling, file }) => {
+            tell_file(&rt, telling, file, &mut output, &mut errors)
+        }
+        Ok(Command::Serve(Serve::Cluster(numbers))) => {
             let mut input = TrackedReader::new(rt.reader());
             cluster(
                 rt,
@@ -36,18 +31,7 @@ fn main(rt: HostRuntime) -> ExitCode {
                 &mut errors,
             )
         }
-        Ok(None) => run_or_tell(&rt, &mut output, &mut errors),
-        Err(UsageFault::Usage(text)) => {
-            let _ = write_all(&mut errors, text.as_bytes());
-            USAGE
-        }
-        Err(UsageFault::Memory) => {
-            let _ = write_all(&mut errors, b"craq: out of memory\n");
-            MEMORY
-        }
+        Err(fault) => run(&rt, Err(fault), &mut output, &mut errors),
     };
     ExitCode::from(status)
 }
-
-#[cfg(test)]
-mod tests;

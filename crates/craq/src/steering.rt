@@ -1,7 +1,8 @@
 //! The command `cluster`: runs a chain, and fails the servers that its input names.
 
-use crate::clusters::{Cluster, ClusterFault, Numbers};
-use crate::faults::{DONE, FAILED, MEMORY};
+use crate::clusters::{Cluster, ClusterFault};
+use command_line::Numbers;
+use commands::DONE;
 use ends::{Sink, Source, write_all};
 use itoa::Buffer;
 use std::alloc::Global;
@@ -32,11 +33,8 @@ pub fn cluster<
     match steer(rt, alloc, numbers, input, output) {
         Ok(()) => DONE,
         Err(fault) => {
-            tell(fault, errors);
-            match fault {
-                ClusterFault::Memory => MEMORY,
-                _ => FAILED,
-            }
+            fault.tell(errors);
+            fault.status()
         }
     }
 }
@@ -125,23 +123,5 @@ fn print<W: Sink>(output: &mut W, text: &[u8]) -> Result<(), ClusterFault> {
     match write_all(output, text) {
         Ok(()) => Ok(()),
         Err(_) => Err(ClusterFault::Run),
-    }
-}
-
-// Tells a fault in one line.
-fn tell<X: Sink>(fault: ClusterFault, errors: &mut X) {
-    match fault {
-        ClusterFault::Memory => {
-            let _ = write_all(errors, b"craq: out of memory\n");
-        }
-        ClusterFault::Port(port) => {
-            let mut digits = Buffer::new();
-            let _ = write_all(errors, b"craq: cannot listen on port ");
-            let _ = write_all(errors, digits.format(port).as_bytes());
-            let _ = write_all(errors, b"\n");
-        }
-        ClusterFault::Run => {
-            let _ = write_all(errors, b"craq: run failed\n");
-        }
     }
 }

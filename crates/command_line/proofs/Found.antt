@@ -1,0 +1,159 @@
+-- What clap found, as the command that was named and what it was given.
+use Rattle.std.proofs.Common.{◌≡◌, ◌∙◌, ◌↔◌, ◌<◌, ◌^◌, ℕ, List, true, false, Option, None, Some, IfSome, IsSome, is_some, codes, option_map, refl, ap, sym, subst, []}
+use Rattle.std.specs.Str.Parse.{IsNumeral, digits_value, without_leading_plus}
+use Rattle.clap.proofs.WalkLemmas.{first_value-rows, one_text-rows}
+use Rattle.clap.specs.Words.{HasMatchesOf, Row, Text, app_of, fault_of, first_of, first_value, is_simple, one_of, one_text, rows_of, subcommand_name_of, subcommand_of, subcommand_rows, subcommand_rows_of}
+use Rattle.clap.specs.declared.builder.command.Command.{Command as Parser}
+use Rattle.clap.specs.declared.parser.matches.ArgMatches.{ArgMatches}
+use Rattle.clap.specs.declared.parser.matches.ArgMatches.TheViews.{out-ArgMatches}
+use Rattle.clap.specs.declared.parser.matches.Found.{Found}
+use Rattle.command_line.specs.ClusterWords.{GivesNumber, NamesNumbers}
+use Rattle.command_line.specs.Commands.{IsAskedFor}
+use Rattle.command_line.specs.Words.{IsNamed, NamesFile, program_app}
+use Rattle.command_line.specs.declared.numbers.Numbers.{Numbers}
+use Rattle.command_line.specs.declared.commands.Command.{Command}
+use Rattle.command_line.specs.declared.commands.Command.TheVariants.{Print, Tell, Serve}
+use Rattle.command_line.specs.declared.commands.Print.TheVariants.{Scenario, Version}
+use Rattle.command_line.specs.declared.commands.Serve.TheVariants.{Cluster}
+use Rattle.command_line.specs.declared.commands.Telling.TheVariants.{Trace, Draw}
+
+-- a pair, part by part
+both : {X Y : Type 0} (o : Option (X × Y)) (x : X) (y : Y)
+    → option_map (λ p. p.0) o ≡ Some x
+    → option_map (λ p. p.1) o ≡ Some y
+    → o ≡ Some (x, y)
+both None x y p q = cc
+both (Some (a, b)) x y p q =
+    let first : a ≡ x = cc in
+    let second : b ≡ y = cc in
+    rw (first, second) refl
+
+-- the first parts of pairs that are made of what there is
+firsts : {A X Y : Type 0} (f : A → X) (g : A → Y) (o : Option A)
+    → option_map f o ≡ option_map (λ (p : X × Y). p.0) (option_map (λ a. (f a, g a)) o)
+firsts f g None = refl
+firsts f g (Some a) = refl
+
+-- the name of the command that was found stands with its rows
+named : (m : ArgMatches) → subcommand_name_of m ≡ option_map (λ p. p.0) (subcommand_rows_of m)
+named m = firsts _ _ (out-ArgMatches m).subcommand
+
+-- the matches of a command by its name are its rows
+pub found_given : {X : Type 0} (r : Option X) (rows : X → List Row) (m : ArgMatches) (name : Text)
+    → (IsSome r ↔ (subcommand_name_of m ≡ Some name))
+    → IfSome r (λ x. option_map (λ p. p.1) (subcommand_rows (out-ArgMatches m).subcommand) ≡ Some (rows x))
+    → IfSome r (λ x. subcommand_rows_of m ≡ Some (name, rows x))
+found_given None rows m name is all = tt
+found_given (Some x) rows m name is all = both (subcommand_rows_of m) name (rows x) (sym (named m) ∙ is.0 refl) all
+
+-- and if there are none, another command was found
+pub found_none : {X : Type 0} (r : Option X) (m : ArgMatches) (name : Text)
+    → (IsSome r ↔ (subcommand_name_of m ≡ Some name)) → r ≡ None
+    → (rows : List Row) → subcommand_rows_of m ≡ Some (name, rows) → ⊥
+found_none r m name is none rows e =
+    let some : is_some r ≡ true = is.1 (named m ∙ ap (λ o. option_map (λ p. p.0) o) e) in
+    let bad : is_some r ≡ false = rw none refl in
+    cc
+
+some_same : {X : Type 0} (x y : X) → Some x ≡ Some y → x ≡ y
+some_same x y e = cc
+
+-- the rows of one command are the same
+pub same_rows : {X Y : Type 0} (o : Option (X × Y)) (x : X) (y z : Y)
+    → o ≡ Some (x, y)
+    → o ≡ Some (x, z)
+    → y ≡ z
+same_rows o x y z p q = ap (λ p. p.1) (some_same _ _ (sym p ∙ q))
+
+-- what is no value is none
+pub none_if : {X : Type 0} (o : Option X) → ((x : X) → o ≡ Some x → ⊥) → o ≡ None
+none_if None never = refl
+none_if (Some x) never = absurd (never x refl)
+
+-- the FILE that was given is the one that is named
+pub names_file : {X : Type 0} (r : Option X) (now : X → Text) (f : Found) (o : Option (Text × List Row))
+    (name : Text)
+    → o ≡ Some (name, rows_of f)
+    → option_map now r ≡ first_value f (codes "FILE")
+    → IfSome r (λ file. NamesFile name o (now file))
+names_file None now f o name e given = tt
+names_file (Some x) now f o name e given = record {
+  rows = rows_of f;
+  named = e;
+  given = sym (first_value-rows f (codes "FILE")) ∙ sym given;
+}
+
+-- and if none was given, none is named
+pub names_no_file : {X : Type 0} (r : Option X) (now : X → Text) (f : Found) (o : Option (Text × List Row))
+    (name : Text)
+    → o ≡ Some (name, rows_of f)
+    → option_map now r ≡ first_value f (codes "FILE")
+    → r ≡ None
+    → (file : List ℕ) → NamesFile name o file → ⊥
+names_no_file r now f o name e given none file n =
+    let same : rows_of f ≡ n.rows = same_rows o _ _ _ e n.named in
+    let first : first_of (codes "FILE") (rows_of f) ≡ Some file = rw same n.given in
+    let nothing : option_map now r ≡ None = rw none refl in
+    let bad : Some file ≡ None = sym first ∙ (sym (first_value-rows f (codes "FILE")) ∙ (sym given ∙ nothing)) in
+    cc
+
+-- a decimal number of this many bits
+abbrev IsNumber : ℕ → List ℕ → Type 0
+IsNumber bits t = IsNumeral 10 (without_leading_plus t) × (digits_value 10 (without_leading_plus t) < 2 ^ bits)
+
+-- Of one option with a number of this many bits.
+module _ (bits : ℕ) (f : Found) (id : Text) where
+  number : (n : ℕ) (o : Option Text)
+      → one_text f id ≡ o
+      → (one_text f id ≡ None → Some n ≡ None)
+      → ((t : List ℕ) → one_text f id ≡ Some t → IsNumber bits t × (n ≡ digits_value 10 (without_leading_plus t)))
+      → GivesNumber bits id (rows_of f) n
+  number n None e none reads = let bad : Some n ≡ None = none e in cc
+  number n (Some t) e none reads =
+      let p = reads t e in
+      (t, sym (one_text-rows f id) ∙ e, p.0.0, p.0.1, p.1)
+
+  -- the number that was read is the one that is given
+  pub gives_number : (n : ℕ)
+      → (one_text f id ≡ None → Some n ≡ None)
+      → ((t : List ℕ) → one_text f id ≡ Some t → IsNumber bits t × (n ≡ digits_value 10 (without_leading_plus t)))
+      → GivesNumber bits id (rows_of f) n
+  gives_number n none reads = number n (one_text f id) refl none reads
+
+  -- if none was read, none is given
+  pub gives_no_number : (rows : List Row)
+      → rows_of f ≡ rows
+      → ((t : List ℕ) → one_text f id ≡ Some t → IsNumber bits t → ⊥)
+      → (n : ℕ) → GivesNumber bits id rows n → ⊥
+  gives_no_number rows same reads n (t, one, numeral, below, value) =
+      let text : one_text f id ≡ Some t = one_text-rows f id ∙ (ap (λ all. one_of id all) same ∙ one) in
+      reads t text (numeral, below)
+
+-- if no command's arguments are found, no command is named
+pub unnamed : (o : Option (Text × List Row))
+    → ((file : List ℕ) → NamesFile (codes "scenario") o file → ⊥)
+    → ((file : List ℕ) → NamesFile (codes "trace") o file → ⊥)
+    → ((file : List ℕ) → NamesFile (codes "draw") o file → ⊥)
+    → ((numbers : Numbers) → NamesNumbers o numbers → ⊥)
+    → (command : Command) → IsNamed o command → ⊥
+unnamed o scenario trace draw cluster (Print (Scenario file)) n = scenario _ n
+unnamed o scenario trace draw cluster (Print Version) n = n
+unnamed o scenario trace draw cluster (Tell Trace file) n = trace _ n
+unnamed o scenario trace draw cluster (Tell Draw file) n = draw _ n
+unnamed o scenario trace draw cluster (Serve (Cluster numbers)) n = cluster numbers n
+
+-- a command that is found is asked for
+pub asked : (words : List (List ℕ)) (command : Command) → fault_of program_app words ≡ []
+    → IsNamed (subcommand_of program_app words) command → IsAskedFor words command
+asked words (Print (Scenario file)) fine n = (fine, n)
+asked words (Print Version) fine n = absurd n
+asked words (Tell telling file) fine n = (fine, n)
+asked words (Serve serve) fine n = (fine, n)
+
+program_is_simple : is_simple program_app ≡ true
+program_is_simple = refl
+
+-- what a parse by the program's parser finds
+pub found_as : (parser : Parser) (m : ArgMatches) (words : List Text) → app_of parser ≡ program_app
+    → HasMatchesOf (app_of parser) words m → subcommand_rows_of m ≡ subcommand_of program_app words
+found_as parser m words same has = (subst (λ a. HasMatchesOf a words m) same has program_is_simple).1

@@ -1,0 +1,12 @@
+use Rattle.command_line.proofs.Parsers.{with_command}
+use Rattle.command_line.proofs.words.parser.Goals as goal
+
+pub returns : goal.returns
+returns c =
+    let scenario = with_command _ _ _ _ _ c.program_parser.ensures c.in_ok-scenario.ensures.app
+    c.in_ok-scenario.ensures.local c.in_ok-subcommand.ensures in
+    let trace = with_command _ _ _ _ _ scenario c.in_ok-trace.ensures.app c.in_ok-trace.ensures.local
+    c.in_ok-subcommand-2.ensures in
+    let draw = with_command _ _ _ _ _ trace c.in_ok-draw.ensures.app c.in_ok-draw.ensures.local
+    c.in_ok-subcommand-3.ensures in
+    with_command _ _ _ _ _ draw c.in_ok-cluster.ensures.app c.in_ok-cluster.ensures.local c.in_ok-program.ensures

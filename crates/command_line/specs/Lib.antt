@@ -1,0 +1,3 @@
+pub mod ClusterWords
+pub mod Words
+pub mod Commands

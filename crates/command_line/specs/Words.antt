@@ -1,0 +1,65 @@
+-- The command line, by clap's own account of what a parser finds in words.
+use Rattle.std.specs.Prelude.{◌≡◌, ◌⊎◌, ℕ, List, [], codes, Option, Some, true, string_bytes}
+use Rattle.clap.specs.Words.{App, Row, Rule, Text, first_of, new_app, new_rule, subcommand_of, takes, with_rule, with_subcommand}
+use Rattle.clap.specs.Kinds.{IsAmong}
+use Rattle.clap.specs.declared.builder.ArgAction.TheVariants.{Set}
+use Rattle.clap.specs.declared.error.kind.ErrorKind.{ErrorKind}
+use Rattle.clap.specs.declared.error.kind.ErrorKind.TheVariants.{MissingSubcommand, OutOfMemory}
+use Rattle.command_line.specs.ClusterWords.{NamesNumbers, cluster_app}
+use Rattle.command_line.specs.declared.commands.Command.{Command}
+use Rattle.command_line.specs.declared.commands.Command.TheVariants.{Print, Tell, Serve}
+use Rattle.command_line.specs.declared.commands.Print.TheVariants.{Scenario, Version}
+use Rattle.command_line.specs.declared.commands.Serve.TheVariants.{Cluster}
+use Rattle.command_line.specs.declared.commands.Telling.{Telling}
+use Rattle.command_line.specs.declared.commands.Telling.TheVariants.{Trace, Draw}
+
+-- FILE, which has to be given
+abbrev pub file_rule : Rule
+file_rule = record (new_rule (codes "FILE")) { required = true; action = Some Set }
+
+-- a command of this name with a FILE
+abbrev pub file_app : List ℕ → App
+file_app name = with_rule (new_app name) file_rule
+
+-- the program, which has a version, and of which a command has to be named
+abbrev pub named_app : App
+named_app =
+    let named = new_app (codes "craq") in
+    record named { top = record named.top { has_version = true; subcommand_required = true } }
+
+-- the program with its commands
+abbrev pub program_app : App
+program_app =
+    let scenario = with_subcommand named_app (file_app (codes "scenario")).top in
+    let trace = with_subcommand scenario (file_app (codes "trace")).top in
+    let draw = with_subcommand trace (file_app (codes "draw")).top in
+    with_subcommand draw cluster_app.top
+
+-- the command that was found has this name and this FILE
+pub record NamesFile (name : List ℕ) (found : Option (Text × List Row)) (file : List ℕ) : Type 0 where
+  pub rows : List Row
+  pub named : found ≡ Some (name, rows)
+  pub given : first_of (codes "FILE") rows ≡ Some file
+
+-- the name of a command that tells what a schedule does
+abbrev pub telling_name : Telling → List ℕ
+telling_name Trace = codes "trace"
+telling_name Draw = codes "draw"
+
+-- what was found names this command, with its arguments
+abbrev pub IsNamed : Option (Text × List Row) → Command → Type 0
+IsNamed found (Print (Scenario file)) = NamesFile (codes "scenario") found (string_bytes file)
+IsNamed found (Print Version) = ⊥
+IsNamed found (Tell telling file) = NamesFile (telling_name telling) found (string_bytes file)
+IsNamed found (Serve (Cluster numbers)) = NamesNumbers found numbers
+
+-- the parser takes these words, and they name a command
+abbrev pub IsTaken : List (List ℕ) → Type 0
+IsTaken words =
+    (takes program_app words ≡ true) × (command : Command) × IsNamed (subcommand_of program_app words) command
+
+-- the kind of an error of the parser, if its account finds these kinds: out of memory, one of them,
+-- or, if there is none, that no command is named
+abbrev pub IsRefusedFor : List ErrorKind → ErrorKind → Type 0
+IsRefusedFor kinds kind =
+    (kind ≡ OutOfMemory) ⊎ (IsAmong kind kinds ⊎ ((kinds ≡ []) × (kind ≡ MissingSubcommand)))

@@ -1,0 +1,14 @@
+//! The words of a command line of `craq`, read by one parser, and what they ask for.
+#![tactic(auto)]
+
+mod cluster_words;
+mod commands;
+mod numbers;
+mod words;
+
+pub use commands::{Command, Print, Serve, Telling, UsageFault};
+pub use numbers::Numbers;
+pub use words::read_command;
+
+#[cfg(test)]
+mod tests;

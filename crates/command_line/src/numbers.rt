@@ -1,0 +1,14 @@
+//! The numbers of a chain in one process.
+
+/// How large a chain is, and where it listens.
+#[derive(Clone, Copy, Debug, PartialEq, Eq)]
+pub struct Numbers {
+    /// How many servers there are: 1 to 16.
+    pub servers: u8,
+    /// The port of server 0; server i listens on the i-th after it.
+    pub port: u16,
+    /// How many connections each server serves at a time: 1 to 16.
+    pub seats: u8,
+    /// How many connections each of them serves one after another, or 0 for no end.
+    pub serves: u64,
+}

@@ -1,0 +1,155 @@
+//! The words of a command line, and the command that they spell.
+ghost use Rattle.std.specs.Prelude.{◌≡◌, ℕ, List, [], IfOk, IfErr, IfSome, OnOk, None, Some, map, false};
+ghost use Rattle.clap.specs.Words.{Row, app_of, fault_of, found_of, kind_of, rows_of, subcommand_of, subcommand_rows_of};
+ghost use Rattle.clap.specs.declared.builder.command.Command.TheViews.{out-Command};
+ghost use Rattle.command_line.specs.Words.{IsNamed, IsRefusedFor, IsTaken, NamesFile, file_app, named_app, program_app};
+ghost use Rattle.command_line.specs.declared.commands.Command.{Command as Shown};
+ghost use Rattle.command_line.specs.Commands.{AskForVersion, IsAskedFor};
+
+use crate::cluster_words::{cluster_parser, numbers_given};
+use crate::commands::{Command, Print, Serve, Telling, UsageFault};
+use clap::error::ErrorKind;
+use clap::{Arg, ArgAction, ArgMatches, Command as Parser, Error};
+use std::alloc::{AllocError, Global};
+
+/// The command that these words spell. The first word is the program's own name. Words that name a file or a chain in
+/// the parser's grammar, or ask for the version, are refused only if memory is out. Asking for help is a usage fault,
+/// with the help as its text.
+#[tactic(auto, using(crate::proofs::Found::asked, crate::proofs::Parsers::version_asked, crate::proofs::Parsers::version_served))]
+pub fn read_command(alloc: Global, words: &[&str]) -> Result<Command, UsageFault>
+    ensures asked { IfOk result (λ command. IsAskedFor (map (λ w. w.now) words.entry.now) command) }
+    ensures served { IsTaken (map (λ w. w.now) words.entry.now) →
+        IfErr result (λ fault. fault ≡ UsageFault.Memory) }
+    ensures version { AskForVersion (map (λ w. w.now) words.entry.now) →
+        IfErr result (λ fault. fault ≡ UsageFault.Memory) }
+{
+    match named(alloc, words) {
+        Ok(command) => Ok(command),
+        Err(error) if error.kind() == ErrorKind::DisplayVersion => {
+            Ok(Command::Print(Print::Version))
+        }
+        Err(error) => Err(usage_fault(alloc, error)),
+    }
+}
+
+// The command that the words name.
+fn named<'a>(alloc: Global, words: &'a [&'a str]) -> Result<Command, Error>
+    ensures taken { OnOk result (fault_of program_app (map (λ w. w.now) words.entry.now) ≡ []) }
+    ensures named { IfOk result (λ command.
+        IsNamed (subcommand_of program_app (map (λ w. w.now) words.entry.now)) command) }
+    ensures served { IsTaken (map (λ w. w.now) words.entry.now) →
+        IfErr result (λ e. kind_of e ≡ ErrorKind.OutOfMemory) }
+    ensures refused { IfErr result (λ e.
+        IsRefusedFor (fault_of program_app (map (λ w. w.now) words.entry.now)) (kind_of e)) }
+{
+    let matches = parser(alloc)?.try_get_matches_from(words)?;
+    match command_given(alloc, &matches)? {
+        Some(command) => Ok(command),
+        None => Err(parser(alloc)?.error(ErrorKind::MissingSubcommand, "no such command")?),
+    }
+}
+
+// The command that was found, with what was given to it.
+fn command_given<'a>(alloc: Global, matches: &ArgMatches<'a>) -> Result<Option<Command>, AllocError>
+    ensures given { IfOk result (λ given. IfSome given (IsNamed (subcommand_rows_of matches.now))) }
+    ensures none { IfOk result (λ given. given ≡ None →
+        (command : Shown) → IsNamed (subcommand_rows_of matches.now) command → ⊥) }
+{
+    if let Some(file) = file_given(matches, "scenario") {
+        let file = String::from_str(alloc, file)?;
+        return Ok(Some(Command::Print(Print::Scenario { file })));
+    }
+    if let Some(file) = file_given(matches, "trace") {
+        let file = String::from_str(alloc, file)?;
+        let telling = Telling::Trace;
+        return Ok(Some(Command::Tell { telling, file }));
+    }
+    if let Some(file) = file_given(matches, "draw") {
+        let file = String::from_str(alloc, file)?;
+        let telling = Telling::Draw;
+        return Ok(Some(Command::Tell { telling, file }));
+    }
+    if let Some(numbers) = numbers_given(matches) {
+        return Ok(Some(Command::Serve(Serve::Cluster(numbers))));
+    }
+    Ok(None)
+}
+
+// The FILE that was given to the command of this name, if that is the command.
+fn file_given<'a>(matches: &ArgMatches<'a>, name: &str) -> Option<&'a str>
+    ensures given { IfSome result (λ file. NamesFile name.now (subcommand_rows_of matches.now) file.now) }
+    ensures none { result ≡ None → (file : List ℕ) → NamesFile name.now (subcommand_rows_of matches.now) file → ⊥ }
+{
+    let given = given_to(matches, name)?;
+    given.get_str("FILE")
+}
+
+/// What was given to the command of this name, if that is the command.
+pub fn given_to<'m, 'a>(matches: &'m ArgMatches<'a>, name: &str) -> Option<&'m ArgMatches<'a>>
+    ensures given { IfSome result (λ given.
+        subcommand_rows_of matches.now ≡ Some (name.now, rows_of (found_of given.now))) }
+    ensures none { result ≡ None → (rows : List Row) → subcommand_rows_of matches.now ≡ Some (name.now, rows) → ⊥ }
+{
+    matches.subcommand_matches(name)
+}
+
+fn parser<'a>(alloc: Global) -> Result<Parser<'a>, AllocError>
+    ensures { IfOk result (λ parser. app_of parser ≡ program_app) }
+{
+    let scenario = file_parser(
+        alloc,
+        "scenario",
+        "Replays a schedule over a chain of servers and prints the transcript",
+    )?;
+    let trace = file_parser(
+        alloc,
+        "trace",
+        "Replays a schedule and prints what each of its events did, and the transcript",
+    )?;
+    let draw = file_parser(
+        alloc,
+        "draw",
+        "Replays a schedule and prints a picture of it, SVG 1.1",
+    )?;
+    let cluster = cluster_parser(alloc)?;
+    let program = program_parser(alloc)
+        .subcommand(scenario)?
+        .subcommand(trace)?
+        .subcommand(draw)?
+        .subcommand(cluster)?;
+    Ok(program)
+}
+
+fn program_parser<'a>(alloc: Global) -> Parser<'a>
+    ensures { app_of result ≡ named_app }
+{
+    Parser::new(alloc, "craq")
+        .about("A replicated object cache (CRAQ) that speaks memcached's text protocol")
+        .version("0.1.0")
+        .subcommand_required(true)
+}
+
+// The parser of a command that takes a FILE.
+fn file_parser<'a>(alloc: Global, name: &'a str, about: &'a str) -> Result<Parser<'a>, AllocError>
+    ensures app { IfOk result (λ parser. app_of parser ≡ file_app name.entry.now) }
+    ensures local { IfOk result (λ parser. (out-Command parser).has_globals ≡ false) }
+{
+    let file = Arg::new(alloc, "FILE")
+        .help("The schedule: servers, homes, and one event a line; - is the standard input")
+        .required(true)
+        .action(ArgAction::Set);
+    let command = Parser::new(alloc, name).about(about).arg(file)?;
+    Ok(command)
+}
+
+fn usage_fault(alloc: Global, error: Error) -> UsageFault
+    ensures { kind_of error ≡ ErrorKind.OutOfMemory → result ≡ UsageFault.Memory }
+{
+    if error.kind() == ErrorKind::OutOfMemory {
+        return UsageFault::Memory;
+    }
+    match error.to_string(alloc) {
+        Ok(text) => UsageFault::Usage(text),
+        Err(AllocError) => UsageFault::Memory,
+    }
+}

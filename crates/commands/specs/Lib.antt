@@ -1,0 +1,4 @@
+pub mod Faults
+pub mod Scenarios
+pub mod Programs
+pub mod Tellings

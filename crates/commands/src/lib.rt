@@ -1,0 +1,15 @@
+//! What the program `craq` does without threads and sockets: it reads its arguments, replays schedules, and prints.
+#![tactic(auto)]
+
+mod faults;
+mod program;
+mod scenarios;
+mod tellings;
+
+pub use faults::{DONE, FAILED, MEMORY, ScenarioFault, USAGE};
+pub use program::{read_arguments, run};
+pub use scenarios::scenario;
+pub use tellings::tell_file;
+
+#[cfg(test)]
+mod tests;

@@ -1,6 +1,0 @@
-pub mod Words
-pub mod Commands
-pub mod Faults
-pub mod Scenarios
-pub mod Programs
-pub mod Tellings
