@@ -237,7 +237,21 @@ def judge(chain, clients, counter):
     judge_counter(calls, faults)
     for key in keys:
         judge_key(key, [c for c in calls if c.key == key], faults)
+    judge_settled(chain, faults)
+    chain.settled[counter] = calls[-1].result
     return faults
+
+
+def judge_settled(chain, faults):
+    """The counters of earlier phases, which nobody raises any more, are what they came to, at each living server."""
+    for home in living(chain):
+        connection = Connection(chain.ports[home])
+        for counter, number in chain.settled.items():
+            found = connection.gets(counter)
+            if found is None or int(found[0]) != number:
+                faults.append(f"at server {home} the earlier counter {counter!r} is {found!r}, not {number}")
+        connection.send(b"quit\r\n")
+        connection.close()
 
 
 def run_clients(chain, rounds, at_each, phase, fail=None):

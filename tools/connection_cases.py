@@ -88,6 +88,30 @@ def never_reads(cluster):
     return faults
 
 
+def most_memory(process):
+    """The most memory that a process has held so far, in MB."""
+    with open(f"/proc/{process.pid}/status", encoding="ascii") as status:
+        return next(int(line.split()[1]) for line in status if line.startswith("VmHWM:")) // 1024
+
+
+def asks_for_much(cluster):
+    """One line asks 500 times for the largest item: memory is bounded, whether the replies are read or not."""
+    connection = Connection(cluster.ports[0])
+    faults = differs("a set", stored(connection, b"a", LARGEST), b"STORED")
+    before = most_memory(cluster.process)
+    connection.send(b"get" + b" a" * 500 + b"\r\n")
+    beside = Connection(cluster.ports[0])
+    faults += differs("a set beside it", stored(beside, b"b", 1), b"STORED")
+    for _ in range(500):
+        faults += differs("the head of an item", connection.line(), b"VALUE a 7 %d" % LARGEST)
+        faults += differs("an item", connection.block(LARGEST), b"x" * LARGEST)
+    faults += differs("the end", connection.line(), b"END")
+    grown = most_memory(cluster.process) - before
+    beside.close()
+    connection.close()
+    return faults + ([f"memory grew by {grown} MB"] if grown > 64 else [])
+
+
 def idle(cluster):
     """Sixteen idle connections, and at each server one that works."""
     quiet = [Connection(cluster.ports[i % 2]) for i in range(16)]

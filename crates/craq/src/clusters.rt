@@ -35,7 +35,7 @@ pub enum ClusterFault {
 }
 
 impl ClusterFault {
-    /// The exit status: 3 for want of memory, else 1.
+    /// The exit status: 3 if memory is out, else 1.
     pub fn status(self) -> u8 {
         match self {
             ClusterFault::Memory => MEMORY,
@@ -111,8 +111,8 @@ struct Home {
 }
 
 impl Cluster {
-    /// Opens a chain: all its ports, its servers and their threads. Refused with Port if nobody can listen there, else with
-    /// Memory if memory or threads run out, and with Run if no chain has such numbers.
+    /// Opens a chain: all its ports, its servers and their threads. Refused with Port if nobody can listen there, else
+    /// with Memory if memory or threads run out, and with Run if no chain has such numbers.
     pub fn open<
         R: Wait
             + Threads
@@ -181,8 +181,8 @@ impl Cluster {
         Ok(())
     }
 
-    /// Fails a server: its callers answer no more calls, its worker puts out nothing more, and then the others are told.
-    /// Of one that has failed already nobody is told.
+    /// Fails a server: its callers answer no more calls, its worker puts out nothing more, and then the others are
+    /// told. Of one that has failed already nobody is told.
     pub fn fail<R: Wait + Clock>(&mut self, rt: &R, j: u8) -> Result<(), ClusterFault> {
         if let Some(home) = self.homes.get_mut(usize::from(j)) {
             home.stop(rt);

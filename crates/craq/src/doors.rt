@@ -9,8 +9,9 @@ use std::sync::Wait;
 use std::thread;
 use std::thread::{JoinHandle, Threads};
 
-/// Starts one thread for each caller. It accepts a connection, serves it whole, and accepts the next; with `serves` above 0 it
-/// ends after that many. A connection that it accepts while the mark is set is closed without a byte, and counts.
+/// Starts one thread for each caller. It accepts a connection, serves it whole, and accepts the next; with `serves`
+/// above 0 it ends after that many. A connection that it accepts while the mark is set is closed without a byte, and
+/// counts.
 pub fn serve_seats<
     R: Wait + Threads + Copy + Drop + Send + 'static,
     C: Caller + Drop + Send + 'static,

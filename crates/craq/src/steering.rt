@@ -14,9 +14,10 @@ use std::time::Clock;
 /// The most bytes of a line that are kept: more than any line has that means something.
 const KEPT: usize = 16;
 
-/// Runs a chain of servers that serve clients over TCP, until the input and every seat's thread have ended. It says `ready` when
-/// all listen. For each line `fail J` of the input server J is failed, and `gone J` printed; any other line prints `bad line`.
-/// It answers the exit status: 0, or 1 if a port is taken or the output can't be written, or 3 if memory is out.
+/// Runs a chain of servers that serve clients over TCP, until the input and every seat's thread have ended. It says
+/// `ready` when all listen. For each line `fail J` of the input server J is failed, and `gone J` printed; any other
+/// line prints `bad line`. It answers the exit status: 0, or 1 if a port is taken or the output can't be written, or 3
+/// if memory is out.
 pub fn cluster<
     R: Wait
         + Threads
