@@ -6,13 +6,14 @@ ghost use Rattle.faces.specs.Shown.{Shown, applied};
 ghost use Rattle.faces.specs.declared.faces.Act.TheVariants.{Step, Reach};
 
 use crate::fronts::Front;
-use crate::tombstones::{set, shared, take_away};
+use crate::tombstones::{set, shared, take_away, version_of};
 use left_right::Absorb;
 use node::{FaceChange, FaceStep, Look, Tombstone, Version};
 use std::alloc::{AllocError, Global};
 use std::collections::{BTreeMap, VecDeque};
 use std::marker::Model;
-use table::{Item, Key};
+use table::{Item, Key, Place};
+use versions::Litter;
 
 /// One change of a face.
 #[derive(Drop)]
@@ -26,11 +27,13 @@ pub enum Act {
 /// A server's face, with the inputs that it is said to follow. Contracts see both (`Shown`).
 #[derive(Drop)]
 pub struct Face {
-    versions: BTreeMap<Key, Version>,
+    versions: BTreeMap<Place, Version>,
     tombstones: VecDeque<Tombstone>,
     cleared: u64,
     acked: u64,
     front: Front,
+    // What clears took away.
+    litter: Litter<Version>,
 }
 
 impl Model for Face {
@@ -64,6 +67,7 @@ impl Face {
             cleared: 0,
             acked: 0,
             front,
+            litter: Litter::new(alloc),
         }
     }
 
@@ -105,7 +109,7 @@ impl Face {
     pub fn look(&self, key: &Key) -> Result<Look<Item>, AllocError>
         ensures { IfOk result (λ look. look ≡ look_at self.now.face key.now) }
     {
-        match self.versions.get(key) {
+        match version_of(&self.versions, key) {
             Some(version) => {
                 if version.number <= self.acked {
                     Ok(Look::Clean(shared(&version.item)?))
@@ -132,7 +136,7 @@ impl Face {
                 set(&mut self.versions, &mut self.tombstones, key, version)
             }
             FaceStep::Clear(number) => {
-                self.versions.clear();
+                self.litter.take(&mut self.versions);
                 self.tombstones.clear();
                 self.cleared = *number;
                 Ok(())
@@ -149,6 +153,7 @@ impl Face {
         }
         self.acked = acked;
         self.front = front.again();
+        self.litter.sweep();
     }
 }
 

@@ -272,6 +272,6 @@ fn many<R: Wait>(rt: &R, alloc: Global, count: u32) -> Result<bool, Fail> {
 
 #[test]
 fn many_keys_some_of_them_deleted(rt: HostRuntime) -> Result<(), Fail> {
-    assert!(rt; many(&rt, rt.alloc(), 10_000)?);
+    assert!(rt; many(&rt, rt.alloc(), 100_000)?);
     Ok(())
 }

@@ -2,18 +2,26 @@
 //! numbers, so that none is searched for.
 ghost use Rattle.std.specs.Prelude.{◌≡◌, ◌≤◌, ◌++◌, ◌∷◌, [], IfOk, OnOk, OnErr};
 ghost use Rattle.std.specs.FinMap as maps;
+ghost use Rattle.std.specs.Option.{option_copied};
 ghost use Rattle.node.specs.Faces.{IsQueued, IsRising, is_removed};
 ghost use Rattle.faces.specs.Tombstones.{map_of, taken_at, without_removed};
 
 use node::{Tombstone, Version};
 use std::alloc::AllocError;
 use std::collections::{BTreeMap, VecDeque};
-use table::{Item, Key};
+use table::{Item, Key, Place};
+
+/// The version of a key, if there is one.
+pub fn version_of<'a>(versions: &'a BTreeMap<Place, Version>, key: &Key) -> Option<&'a Version>
+    ensures { option_copied result ≡ maps.get (map_of versions.now.entries) key.now }
+{
+    versions.get(key.place())
+}
 
 /// Sets a key's version. Refused if memory is out, or if the version has no item and its number is below one that waits
 /// (the numbers of a log rise); then no version changes.
 pub fn set(
-    versions: &mut BTreeMap<Key, Version>,
+    versions: &mut BTreeMap<Place, Version>,
     tombstones: &mut VecDeque<Tombstone>,
     key: &Key,
     version: &Version,
@@ -52,7 +60,7 @@ fn note(tombstones: &mut VecDeque<Tombstone>, key: &Key, number: u64) -> Result<
 }
 
 fn put(
-    versions: &mut BTreeMap<Key, Version>,
+    versions: &mut BTreeMap<Place, Version>,
     key: &Key,
     version: &Version,
 ) -> Result<(), AllocError>
@@ -60,7 +68,7 @@ fn put(
         (map_of versions.new.entries ≡ maps.insert (map_of versions.old.entries) key.now version.now) }
     ensures err { OnErr result (map_of versions.new.entries ≡ map_of versions.old.entries) }
 {
-    versions.insert(key.clone()?, copy_of(version)?)?;
+    versions.insert(key.to_place()?, copy_of(version)?)?;
     Ok(())
 }
 
@@ -86,7 +94,7 @@ pub fn shared(item: &Option<Item>) -> Result<Option<Item>, AllocError>
 /// Takes away the versions without item up to a number. Time is logarithmic in the number of keys for each tombstone
 /// that is taken out.
 pub fn take_away(
-    versions: &mut BTreeMap<Key, Version>,
+    versions: &mut BTreeMap<Place, Version>,
     tombstones: &mut VecDeque<Tombstone>,
     acked: u64,
 )
@@ -106,18 +114,18 @@ pub fn take_away(
 }
 
 // Takes the key's version away, where it has no item and its number is at most this one.
-fn take_away_at(versions: &mut BTreeMap<Key, Version>, key: &Key, acked: u64)
+fn take_away_at(versions: &mut BTreeMap<Place, Version>, key: &Key, acked: u64)
     ensures { map_of versions.new.entries ≡ taken_at acked key.now (map_of versions.old.entries) }
 {
     if is_to_go(versions, key, acked) {
-        versions.remove(key);
+        versions.remove(key.place());
     }
 }
 
-fn is_to_go(versions: &BTreeMap<Key, Version>, key: &Key, acked: u64) -> bool
+fn is_to_go(versions: &BTreeMap<Place, Version>, key: &Key, acked: u64) -> bool
     ensures { result ≡ is_removed acked (maps.get (map_of versions.now.entries) key.now) }
 {
-    match versions.get(key) {
+    match version_of(versions, key) {
         Some(version) => version.item.is_none() && version.number <= acked,
         None => true,
     }

@@ -7,6 +7,7 @@ ghost use Rattle.std.specs.Cmp.Lexicographic.{pointwise};
 ghost use Rattle.std.specs.Cmp.{partial_equiv_from_equiv};
 ghost use Rattle.table.specs.Keys.{IsKey, is_key, is_key_byte};
 
+use crate::Place;
 use bytes::Bytes;
 use std::alloc::{AllocError, Global};
 use std::cmp::Ordering;
@@ -17,7 +18,7 @@ use std::marker::Model;
 /// Contracts see a key as its bytes. A clone shares them.
 #[derive(Debug, Drop)]
 pub struct Key {
-    bytes: Bytes,
+    place: Place,
 }
 
 impl Model for Key {
@@ -25,11 +26,7 @@ impl Model for Key {
 
     ghost Value = { List ℕ };
 
-    ghost use Rattle.table.specs.Keys.{IsKey};
-
-    ghost view = { λ key. key.bytes };
-
-    ghost invariant = { λ key. IsKey key.bytes };
+    ghost view = { λ key. key.place };
 }
 
 impl Key {
@@ -45,8 +42,9 @@ impl Key {
         if !is_key(bytes) {
             return Ok(None);
         }
+        let bytes = Bytes::copy_from_slice(alloc, bytes)?;
         Ok(Some(Key {
-            bytes: Bytes::copy_from_slice(alloc, bytes)?,
+            place: Place::new(bytes),
         }))
     }
 
@@ -57,10 +55,18 @@ impl Key {
         ensures valid { IsSome result ↔ IsKey bytes }
     {
         if is_key(bytes.as_slice()) {
-            Some(Key { bytes })
+            let place = Place::new(bytes);
+            Some(Key { place })
         } else {
             None
         }
+    }
+
+    // The key that stands there.
+    pub(crate) fn at(place: Place) -> Key
+        ensures { result ≡ place }
+    {
+        Key { place }
     }
 
     /// The bytes of the key.
@@ -68,7 +74,21 @@ impl Key {
         ensures bytes { result.now ≡ self.now }
         ensures valid { IsKey self.now }
     {
-        self.bytes.as_slice()
+        self.place.bytes()
+    }
+
+    /// The key as a tree holds it.
+    pub fn place(&self) -> &Place
+        ensures { result.now ≡ self.now }
+    {
+        &self.place
+    }
+
+    /// A copy of the key as a tree holds it, which shares the bytes. Refused only for want of memory.
+    pub fn to_place(&self) -> Result<Place, AllocError>
+        ensures { IfOk result (λ place. place ≡ self.now) }
+    {
+        self.place.copy()
     }
 }
 
@@ -95,9 +115,7 @@ impl Clone for Key {
     ghost is_clone = { λ key copy. copy ≡ key };
 
     fn clone(&self) -> Result<Key, AllocError> {
-        Ok(Key {
-            bytes: self.bytes.clone()?,
-        })
+        self.place.key()
     }
 }
 

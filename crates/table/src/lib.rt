@@ -6,6 +6,7 @@ mod items;
 mod keys;
 mod numbers;
 mod operations;
+mod places;
 mod plain;
 
 pub use decisions::decide;
@@ -13,4 +14,5 @@ pub use items::{Item, LIMIT};
 pub use keys::{Key, is_key};
 pub use numbers::number;
 pub use operations::{Call, Change, Op, Reply, Target};
+pub use places::Place;
 pub use plain::{Table, TableFault};

@@ -1,5 +1,5 @@
 -- What the changes of a store keep.
-use Rattle.std.proofs.Common.{◌≡◌, ℕ, ◌+◌, ◌-◌, ◌≤◌, List, [], ◌∷◌, ◌++◌, length, drop, arith, length-drop, length-append}
+use Rattle.std.proofs.Common.{◌≡◌, ℕ, ◌+◌, ◌-◌, ◌≤◌, [], ◌∷◌, ◌++◌, length, drop, arith, length-drop, length-append}
 use Rattle.versions.specs.Entries.{LogEntry, IsEntry}
 use Rattle.versions.specs.Stores.{StoreState, IsStore, last_number, pushed, acked_to, dropped_to}
 use Rattle.versions.proofs.Logs.{log-push, log-drop}

@@ -2,3 +2,4 @@ pub mod Entries
 pub mod Stores
 pub mod Numbers
 pub mod Records
+pub mod Held

@@ -1,21 +1,21 @@
 //! How entries come into the index, and how they leave it for the base.
-ghost use Rattle.std.specs.Prelude.{◌≡◌, ◌≤◌, ℕ, List, [], ◌∷◌, ◌++◌, drop, take, length, OnOk, OnErr, IsTrue, IsSome, if◌then◌else◌};
+ghost use Rattle.std.specs.Prelude.{◌≡◌, ◌≤◌, ℕ, List, [], ◌∷◌, ◌++◌, drop, take, length, OnOk, OnErr, IsTrue, IsSome, true, if◌then◌else◌};
 ghost use Rattle.versions.specs.Entries.{is_clear};
 ghost use Rattle.versions.specs.Stores.{items_after, sets};
 ghost use Rattle.versions.specs.Numbers.{numbers_of};
 ghost use Rattle.versions.specs.Records.{IsIndex, base_of, record_at, base_item, key_numbers, SameItems, SameNumbers, item_after, is_set, is_cleared};
 
-use crate::Entry;
 use crate::numbers::Numbers;
 use crate::records::{self, Record};
+use crate::{Entry, Litter};
 use std::alloc::{AllocError, Global};
 use std::collections::{BTreeMap, VecDeque};
-use table::{Change, Key, Target};
+use table::{Change, Place, Target};
 
 /// Notes the entry at its key, or among the clears. Refused, it leaves the items and the numbers as they were.
 pub(crate) fn note(
     alloc: Global,
-    records: &mut BTreeMap<Key, Record>,
+    records: &mut BTreeMap<Place, Record>,
     clears: &mut Numbers,
     entry: &Entry,
 ) -> Result<(), AllocError>
@@ -36,9 +36,10 @@ pub(crate) fn note(
 
 /// Moves the first n entries to the base.
 pub(crate) fn settle_first(
-    records: &mut BTreeMap<Key, Record>,
+    records: &mut BTreeMap<Place, Record>,
     clears: &mut Numbers,
     entries: &mut VecDeque<Entry>,
+    litter: &mut Litter<Record>,
     count: u64,
 )
     requires enough { count ≤ length entries.old.items }
@@ -48,15 +49,16 @@ pub(crate) fn settle_first(
     ensures base { base_of records.new.entries ≡ items_after (base_of records.old.entries) (take count entries.old.items) }
 {
     for _moved in 0..count {
-        settle_next(records, clears, entries);
+        settle_next(records, clears, entries, litter);
     }
 }
 
 // Moves the first entry to the base, if there is one.
 fn settle_next(
-    records: &mut BTreeMap<Key, Record>,
+    records: &mut BTreeMap<Place, Record>,
     clears: &mut Numbers,
     entries: &mut VecDeque<Entry>,
+    litter: &mut Litter<Record>,
 )
     requires { IsIndex records.old.entries clears.old entries.old.items }
     ensures entries { entries.new.items ≡ drop 1 entries.old.items }
@@ -67,17 +69,20 @@ fn settle_next(
         return;
     };
     let (target, change) = entry.into_change();
-    settle(records, clears, &target, change);
+    settle(records, clears, litter, &target, change, entries.is_empty());
 }
 
-// Makes the change in the base, and drops its number where one was noted.
+// Makes the change in the base, and drops its number where one was noted. The last entry leaves no numbers if it clears.
 fn settle(
-    records: &mut BTreeMap<Key, Record>,
+    records: &mut BTreeMap<Place, Record>,
     clears: &mut Numbers,
+    litter: &mut Litter<Record>,
     target: &Target,
     change: Change,
+    is_last: bool,
 )
     requires noted { (q : List ℕ) → IsTrue (sets q target.now change) → IsSome (record_at records.old.entries q) }
+    requires last { IsTrue is_last → is_clear change ≡ true → (q : List ℕ) → key_numbers records.old.entries q ≡ [] }
     ensures items { (q : List ℕ) → base_item records.new.entries q ≡ item_after q target.now change (base_item records.old.entries q) }
     ensures numbers { (q : List ℕ) → key_numbers records.new.entries q ≡ (if sets q target.now change then drop 1 (key_numbers records.old.entries q) else key_numbers records.old.entries q) }
     ensures clears { clears.new ≡ (if is_clear change then drop 1 clears.old else clears.old) }
@@ -86,7 +91,7 @@ fn settle(
         (Target::One(key), Change::Put(item)) => records::settle(records, key, Some(item)),
         (Target::One(key), Change::Drop) => records::settle(records, key, None),
         (_, Change::Clear) => {
-            records::clear(records);
+            records::clear(records, litter, is_last);
             clears.drop_first();
         }
         (_, Change::Keep) | (Target::All, _) => {}

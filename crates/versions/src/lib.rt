@@ -5,6 +5,7 @@ mod changes;
 mod entries;
 mod items;
 mod laws;
+mod litter;
 mod lookups;
 mod numbers;
 mod queues;
@@ -13,4 +14,5 @@ mod stores;
 
 pub use entries::Entry;
 pub use laws::{items_follow_the_log, parts_are_logs, stores_stay_stores};
+pub use litter::Litter;
 pub use stores::{Store, StoreFault};

@@ -1,11 +1,13 @@
 //! A record for each key that has an item in the base or entries above the floor.
-ghost use Rattle.std.specs.Prelude.{◌≡◌, ℕ, List, [], ◌∷◌, ◌++◌, drop, OnOk, OnErr, IsSome, Some, None, false};
+ghost use Rattle.std.specs.Prelude.{◌≡◌, ℕ, List, [], ◌∷◌, ◌++◌, drop, OnOk, OnErr, IsSome, IsTrue, Some, None, false};
+ghost use Rattle.std.specs.Option.{option_copied};
 ghost use Rattle.versions.specs.Records.{record_at, base_item, key_numbers, SameItems, SameNumbers, HasItem, HasNumbers};
 
+use crate::Litter;
 use crate::numbers::Numbers;
 use std::alloc::{AllocError, Global};
 use std::collections::BTreeMap;
-use table::{Item, Key};
+use table::{Item, Key, Place};
 
 /// The item that a key has in the base, or none, and the numbers of the entries above the floor that put or drop it.
 #[derive(Drop)]
@@ -14,10 +16,17 @@ pub(crate) struct Record {
     pub(crate) numbers: Numbers,
 }
 
+/// The record of a key, if there is one.
+pub(crate) fn record_of<'a>(records: &'a BTreeMap<Place, Record>, key: &Key) -> Option<&'a Record>
+    ensures value { option_copied result ≡ record_at records.now.entries key.now }
+{
+    records.get(key.place())
+}
+
 /// Adds the number of an entry that sets the key. A key without a record gets one, so that its item has a place later on.
 pub(crate) fn note(
     alloc: Global,
-    records: &mut BTreeMap<Key, Record>,
+    records: &mut BTreeMap<Place, Record>,
     key: &Key,
     number: u64,
 ) -> Result<(), AllocError>
@@ -25,13 +34,13 @@ pub(crate) fn note(
     ensures numbers { OnOk result (HasNumbers key.now (key_numbers records.old.entries key.now ++ number ∷ []) records.old.entries records.new.entries) }
     ensures err { OnErr result (SameNumbers records.old.entries records.new.entries) }
 {
-    match records.get_mut(key) {
+    match records.get_mut(key.place()) {
         Some(record) => record.numbers.push(number),
         None => {
             let mut numbers = Numbers::new(alloc);
             numbers.push(number)?;
             records.insert(
-                key.clone()?,
+                key.to_place()?,
                 Record {
                     item: None,
                     numbers,
@@ -43,26 +52,32 @@ pub(crate) fn note(
 }
 
 /// Gives the key this item in the base, or none, and drops its first number. A record that is empty then is taken away.
-pub(crate) fn settle(records: &mut BTreeMap<Key, Record>, key: &Key, item: Option<Item>)
+pub(crate) fn settle(records: &mut BTreeMap<Place, Record>, key: &Key, item: Option<Item>)
     requires noted { IsSome (record_at records.old.entries key.now) }
     ensures items { HasItem key.now item records.old.entries records.new.entries }
     ensures numbers { HasNumbers key.now (drop 1 (key_numbers records.old.entries key.now)) records.old.entries records.new.entries }
 {
-    let Some(record) = records.get_mut(key) else {
+    let Some(record) = records.get_mut(key.place()) else {
         return;
     };
     record.item = item;
     record.numbers.drop_first();
     if record.item.is_none() && record.numbers.is_empty() {
-        records.remove(key);
+        records.remove(key.place());
     }
 }
 
-/// Takes all items out of the base, and with them each record that has no numbers.
-pub(crate) fn clear(records: &mut BTreeMap<Key, Record>)
+/// Takes all items out of the base, and with them each record that has no numbers. If none has any, it takes constant
+/// time, and the records are freed later on.
+pub(crate) fn clear(records: &mut BTreeMap<Place, Record>, litter: &mut Litter<Record>, none: bool)
+    requires none { IsTrue none → (q : List ℕ) → key_numbers records.old.entries q ≡ [] }
     ensures items { (q : List ℕ) → base_item records.new.entries q ≡ None }
     ensures numbers { SameNumbers records.old.entries records.new.entries }
 {
+    if none {
+        litter.take(records);
+        return;
+    }
     records.retain(|_, record| take_item(record));
 }
 

@@ -7,18 +7,18 @@ ghost use Rattle.std.specs.VecDeque.Iter.{deque_iter_rest, deque_iter_steps};
 ghost use Rattle.versions.specs.declared.stores.StoreFault.TheVariants.{Memory};
 ghost use Rattle.versions.specs.Stores.{IsStore, opening_store, last_number, value_at, IsClean, entries_after, items_put, pushed, acked_to, dropped_to};
 
-use crate::Entry;
 use crate::changes::{note, settle_first};
 use crate::items::items_of;
 use crate::lookups::{is_above, item_from};
 use crate::numbers::Numbers;
 use crate::queues::give_back;
-use crate::records::Record;
+use crate::records::{Record, record_of};
+use crate::{Entry, Litter};
 use std::alloc::{AllocError, Global};
 use std::collections::vec_deque::Iter;
 use std::collections::{BTreeMap, VecDeque};
 use std::marker::Model;
-use table::{Item, Key};
+use table::{Item, Key, Place};
 use thiserror::Error;
 
 // The room that the entries keep where none is left: enough for a chain under load, without a block of memory each time.
@@ -45,9 +45,11 @@ impl From<AllocError> for StoreFault {
 #[derive(Drop)]
 pub struct Store {
     alloc: Global,
-    records: BTreeMap<Key, Record>,
+    records: BTreeMap<Place, Record>,
     entries: VecDeque<Entry>,
     clears: Numbers,
+    // What clears took away.
+    litter: Litter<Record>,
     floor: u64,
     acked: u64,
     last: u64,
@@ -78,6 +80,7 @@ impl Store {
             records: BTreeMap::new(alloc),
             entries: VecDeque::new(alloc),
             clears: Numbers::new(alloc),
+            litter: Litter::new(alloc),
             floor: 0,
             acked: 0,
             last: 0,
@@ -133,8 +136,9 @@ impl Store {
     }
 
     /// Raises the floor to `n`: the items of the entries up to it move to the base. No item is copied, and no memory taken.
-    /// Time is logarithmic in the number of keys for each entry; a clear among them takes time linear in the number of keys
-    /// that have a record, whose items it takes away. Where no entry is left, the room that many of them took is given back.
+    /// Time is logarithmic in the number of keys for each entry. A clear among them takes time linear in the number of keys
+    /// that have a record, whose items it takes away; but the last entry's takes constant time, and the items are freed by
+    /// and by, some at each later call. If no entry is left, the room that many of them took is given back.
     pub fn drop_to(&mut self, n: u64)
         requires above { self.old.floor ≤ n }
         requires acked { n ≤ self.old.acked }
@@ -145,9 +149,11 @@ impl Store {
             &mut self.records,
             &mut self.clears,
             &mut self.entries,
+            &mut self.litter,
             count,
         );
         give_back(&mut self.entries, KEPT);
+        self.litter.sweep();
         self.floor = n;
     }
 
@@ -155,7 +161,7 @@ impl Store {
     pub fn newest(&self, key: &Key) -> Option<&Item>
         ensures { option_copied result ≡ value_at self.now key.now (last_number self.now) }
     {
-        let record = self.records.get(key)?;
+        let record = record_of(&self.records, key)?;
         let set = record.numbers.last();
         item_from(
             record.item.as_ref(),
@@ -173,7 +179,7 @@ impl Store {
         requires known { n ≤ last_number self.now }
         ensures { option_copied result ≡ value_at self.now key.now n }
     {
-        let record = self.records.get(key)?;
+        let record = record_of(&self.records, key)?;
         let set = record.numbers.last_up_to(n);
         item_from(
             record.item.as_ref(),
@@ -223,7 +229,7 @@ impl Store {
         if is_above(self.acked, cleared) {
             return None;
         }
-        let Some(record) = self.records.get(key) else {
+        let Some(record) = record_of(&self.records, key) else {
             return Some(None);
         };
         let newest = record.numbers.last();

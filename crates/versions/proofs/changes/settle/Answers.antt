@@ -1,6 +1,6 @@
-use Rattle.std.proofs.Common.{◌∙◌}
-use Rattle.versions.specs.Records.{numbers_in, record_at}
-use Rattle.versions.proofs.Bases.{dropped_at, itself}
+use Rattle.std.proofs.Common.{◌∙◌, None, Some}
+use Rattle.versions.specs.Records.{base_item, numbers_in, record_at}
+use Rattle.versions.proofs.Bases.{dropped_at, itself, set_at}
 use Rattle.versions.proofs.changes.settle.Goals as goal
 
 pub settle-requires : goal.settle-requires
@@ -14,3 +14,9 @@ returns-in-One-Put-clause-numbers c = λ q. rw (c.in-One-Put.is-0, c.in-One-Put.
 
 pub returns-in-One-Drop-clause-numbers : goal.returns-in-One-Drop-clause-numbers
 returns-in-One-Drop-clause-numbers c = λ q. rw (c.in-One-Drop.is-0, c.in-One-Drop.is-1) (c.settle-in-One-Drop.ensures.numbers q ∙ dropped_at (λ x. numbers_in (record_at c.args.records.now.entries x)) c.in-One-Drop.key q)
+
+pub returns-in-One-Put-clause-items : goal.returns-in-One-Put-clause-items
+returns-in-One-Put-clause-items c = λ q. rw (c.in-One-Put.is-0, c.in-One-Put.is-1) (c.settle.ensures.items q ∙ set_at (Some c.in-One-Put.item) (base_item c.args.records.now.entries q) c.in-One-Put.key q)
+
+pub returns-in-One-Drop-clause-items : goal.returns-in-One-Drop-clause-items
+returns-in-One-Drop-clause-items c = λ q. rw (c.in-One-Drop.is-0, c.in-One-Drop.is-1) (c.settle-in-One-Drop.ensures.items q ∙ set_at None (base_item c.args.records.now.entries q) c.in-One-Drop.key q)

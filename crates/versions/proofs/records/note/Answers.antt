@@ -1,7 +1,7 @@
 use Rattle.std.proofs.Common.{sym, ap, ◌∙◌, None}
 use Rattle.std.specs.Option.{is_some}
 use Rattle.std.proofs.lemmas.Result.{on_err_weaker}
-use Rattle.versions.specs.Records.{item_in, numbers_in}
+use Rattle.versions.specs.Records.{item_in, numbers_in, record_at}
 use Rattle.versions.proofs.Bases.{items_stay, numbers_stay}
 use Rattle.versions.proofs.records.note.Goals as goal
 
@@ -17,5 +17,5 @@ returns-in-Some-clause-err c =
 
 pub returns-in_ok-insert-in-None-clause-items : goal.returns-in_ok-insert-in-None-clause-items
 returns-in_ok-insert-in-None-clause-items c =
-    items_stay c.args.records.now.entries _ c.args.key.now (record { item = None; numbers = c.push-in-None.new.self }) (ap item_in c.in-None.ensures.value)
-    (λ q. rw (← c.in_ok-clone-in-None.ensures.cases, ← c.get_mut.follows.holds-at-none) (c.in_ok-insert-in-None.ensures.updates.0 q))
+    items_stay c.args.records.now.entries _ c.args.key.now (record { item = None; numbers = c.push-in-None.new.self }) (ap item_in (c.in-None.ensures.value ∙ ap (record_at c.args.records.now.entries) c.place.ensures))
+    (λ q. rw (← c.in_ok-to_place-in-None.ensures, ← c.get_mut.follows.holds-at-none) (c.in_ok-insert-in-None.ensures.updates.0 q))
