@@ -24,7 +24,7 @@ does-append s (a ∷ xs) ys =
 
 -- ---- what is left of a cause allows no more than the cause
 
-came_left : (c : Cause) (input : Input) → left c ≡ Some input → c ≡ Some input
+pub came_left : (c : Cause) (input : Input) → left c ≡ Some input → c ≡ Some input
 came_left None input h = h
 came_left (Some (Called port call)) input h = absurd cc
 came_left (Some (From i m)) input h = h
@@ -41,7 +41,7 @@ made_left c s e h = record {
   origin = h.origin;
   id = h.id;
   call = h.call;
-  wanted = elim h.wanted [ inl own ↦ inl own | inr g ↦ inr (g.0, came_left c _ g.1, g.2, g.3) ];
+  wanted = elim h.wanted [ inl own ↦ inl own | inr g ↦ inr (g.0, came_left c _ g.1, g.2, g.3, g.4) ];
   fits = h.fits;
   update = h.update;
   head = h.head;

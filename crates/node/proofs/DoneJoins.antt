@@ -23,7 +23,7 @@ use Rattle.node.proofs.Neighbours.{that_is, previous_below, next_within, head_wi
 use Rattle.node.proofs.OpenCalls.{update_in, asked_above}
 use Rattle.node.proofs.StoreChanges.{held_after}
 use Rattle.node.proofs.DoneActions.{IsRule, rule_as, rule_so, rule_silent, rule_then, rule_first, rule_message, view_after}
-use Rattle.node.proofs.DoneRules.{IsRisen, not_last, has_head, rule_rise, made_guard, not_taken, taken_once, seen_same}
+use Rattle.node.proofs.DoneRules.{IsRisen, not_last, has_head, rule_rise, made_guard, not_taken, taken_once, seen_same, nothing_in}
 use Rattle.node.proofs.SoundLaws.{reads_bound}
 use Rattle.node.proofs.RuleLaws.{same_is, sound-taken, IsPlacedAs, made-promoted_to_head, ready}
 
@@ -70,7 +70,7 @@ rule_taken_all (u ∷ us) c s d h first f =
     let e = entry_of s s.id u.id u.call in
     cond_both (is_taken s s.id u.id) _ s (λ t. IsRule c s d (silent (taken_all t us)) (λ e. e ≡ d))
     (λ t. rule_first c s d (Append e) (λ v. silent (taken_all v us)) _ h
-    (made_guard c s s.id u.id u.call (omega (arith, h.placed, h.counted)) (inl (refl, u.port, waits)) fit.0 fit.1 first t) tt
+    (made_guard c s s.id u.id u.call (omega (arith, h.placed, h.counted)) (inl (refl, u.port, waits)) fit.0 fit.1 first t) (λ other. absurd (other refl))
     (λ k. rule_taken_all us (left c) (appended s e) d k (head_appended s e ∙ first) (λ v i. rw ((same_appended s e).0) (f v (suc i.0, i.1)))))
     (λ x. rule_taken_all us c s d h first (λ v i. f v (suc i.0, i.1)))
 
@@ -94,9 +94,6 @@ placed_taken_all (u ∷ us) s =
     let one = kept_taken s u in
     let all = placed_taken_all us (taken s s.id u.id u.call) in
     record { id = all.id ∙ one.id; head = all.head ∙ one.head; next_id = all.next_id ∙ one.next_id }
-
-nothing_in : {X : Type 0} (x : X) → In x [] → ⊥
-nothing_in x i = let none = i.1 in cc
 
 -- what couldn't be taken still can't, as calls with greater ids are
 untaken_then : (s : ServerState) (u : OpenUpdate) (id : ℕ) → s.id < length s.seen → id < u.id → is_taken s s.id id ≡ false → is_taken (taken s s.id u.id u.call) s.id id ≡ false

@@ -264,12 +264,13 @@ pub rule_appended : (c : Cause) (s : ServerState) (d : Due) (e : LogEntry)
     → IsSound s
     → IsClear s d
     → Guard c s (Append e)
+    → (e.origin ≢ s.id → (u : OpenUpdate) → In u d.unsent → is_taken s s.id u.id ≡ false)
     → (is_head s ≡ false → d.unsent ≡ [])
     → (is_head s ≡ true → (u : OpenUpdate) → In u d.unsent → is_taken (appended s e) s.id u.id ≡ false)
     → IsRule c s d (passed_on (appended s e) e) (IsPaid (passed_on (appended s e) e).state)
 unfolding act
-rule_appended c s d e h p g sent taken =
-    rule_first c s d (Append e) (λ t. passed_on t e) _ h g tt (λ k. rule_passed (left c) s d e k p (appended_next c s e g.1) sent taken)
+rule_appended c s d e h p g first sent taken =
+    rule_first c s d (Append e) (λ t. passed_on t e) _ h g first (λ k. rule_passed (left c) s d e k p (appended_next c s e g.1) sent taken)
 
 -- ---- taking
 
@@ -303,14 +304,15 @@ pub rule_take_update : (c : Cause) (s : ServerState) (d : Due) (origin id : ℕ)
     → IsCall call
     → is_update call.op ≡ true
     → is_head s ≡ true
+    → (origin ≢ s.id → (u : OpenUpdate) → In u d.unsent → is_taken s s.id u.id ≡ false)
     → ((e : LogEntry) → e.origin ≡ origin → e.id ≡ id → (u : OpenUpdate) → In u d.unsent → is_taken (appended s e) s.id u.id ≡ false)
     → (is_taken s origin id ≡ false → (u : OpenUpdate) → In u d.unsent → is_taken s s.id u.id ≡ false)
     → IsRule c s d (take_update s origin id call) (IsTaken (take_update s origin id call).state origin id)
 unfolding take_update
-rule_take_update c s d origin id call h p low wanted fit is first after before = cond_both (is_taken s origin id) _ _ (λ (a : Outcome). IsRule c s d a (IsTaken a.state origin id))
+rule_take_update c s d origin id call h p low wanted fit is first own after before = cond_both (is_taken s origin id) _ _ (λ (a : Outcome). IsRule c s d a (IsTaken a.state origin id))
     (λ t. (let e = entry_of s origin id call in
     rule_so c s d _ _ _ (λ x paid. record { paid = paid; once = taken_passed (appended s e) e origin id ∙ taken_once s e id (omega (arith, low, h.seen)) (omega arith) })
-    (rule_appended c s d e h p (made_guard c s origin id call low wanted fit is first t) (λ f. absurd (both_ways _ f first)) (λ _. after e refl refl))))
+    (rule_appended c s d e h p (made_guard c s origin id call low wanted fit is first t) own (λ f. absurd (both_ways _ f first)) (λ _. after e refl refl))))
     (λ f. rule_silent c s d _ h (record {
       paid = record {
         forwarded = p.forwarded;
@@ -334,6 +336,9 @@ pub clear_entered : (s : ServerState) (d : Due) (port : ℕ) (call : Call) (us :
 unfolding entered
 clear_entered s d port call us p = record { forwarded = p.forwarded; told = p.told; settled = p.settled; asked = p.asked; last = p.last }
 
+pub nothing_in : {X : Type 0} (x : X) → In x [] → ⊥
+nothing_in x i = let none = i.1 in cc
+
 one_in : (u v : OpenUpdate) → In v (u ∷ []) → v ≡ u
 one_in u v i = elim (in_more u [] v i) [ inl same ↦ same | inr more ↦ absurd (let no = more.1 in cc) ]
 
@@ -350,7 +355,7 @@ rule_called c s d id port call h p fit is waits only =
     let own : (v : OpenUpdate) → In v d.unsent → v ≡ u = λ v i. one_in u v (subst (λ us. In v us) only i) in
     let low : s.id < 16 = omega (arith, h.placed, h.counted) in
     cond_both (is_head s) _ _ (λ (a : Outcome). IsRule c s d a (IsPaid a.state))
-    (λ t. rule_so c s d _ _ _ (λ e x. x.paid) (rule_take_update c s d s.id id call h p low (inl (refl, port, waits)) fit is t
+    (λ t. rule_so c s d _ _ _ (λ e x. x.paid) (rule_take_update c s d s.id id call h p low (inl (refl, port, waits)) fit is t (λ other. absurd (other refl))
     (λ e from same v i. ap (λ (x : OpenUpdate). is_taken (appended s e) s.id x.id) (own v i) ∙ ap (λ o. is_taken (appended s e) o id) (sym from)
     ∙ taken_once s e id (omega (arith, from, low, h.seen)) (omega (arith, same)))
     (λ f v i. ap (λ (x : OpenUpdate). is_taken s s.id x.id) (own v i) ∙ f)))
@@ -402,7 +407,7 @@ module _ (s : ServerState) (d : Due) (i : ℕ) (m : Peer) (h : IsSound s) (p : I
       (λ (a : Outcome). IsRule (Some (From i m)) s d a (λ e. IsPaid a.state e × (is_head a.state ≡ true → is_update call.op ≡ true → is_taken a.state i id ≡ false)))
       (λ t. (let parts = and_parts (is_head s) (is_update call.op) t in
       rule_so (Some (From i m)) s d _ _ _ (λ e x. (x.paid, λ _ _. x.once))
-      (rule_take_update (Some (From i m)) s d i id call h (clear_paid s d p) low (inr (m, refl, is, lives)) fit parts.1 parts.0
+      (rule_take_update (Some (From i m)) s d i id call h (clear_paid s d p) low (inr (m, refl, is, lives, other)) fit parts.1 parts.0 (λ _. p.taken parts.0)
       (λ e from same u k. still_untaken s e s.id u.id (λ own. other (sym from ∙ sym own)) (p.taken parts.0 u k))
       (λ _. p.taken parts.0))))
       (λ f. rule_silent (Some (From i m)) s d _ h (p, λ t u. absurd (both_ways _ f (and_from _ _ t u))))
@@ -422,7 +427,7 @@ module _ (s : ServerState) (d : Due) (i : ℕ) (m : Peer) (h : IsSound s) (p : I
       rule_so (Some (From i m)) s d _ _ _ (λ x paid. (paid, λ _ next. omega (arith, number, next, last_passed (appended s e) e, last_appended s e)))
       (rule_appended (Some (From i m)) s d e h (clear_paid s d p)
       (valid, inr (record { from = i; message = m; came = refl; body = is; joined = joined; previous = from; next = number }))
-      p.sent (λ first. absurd (not_first s i from first)))))
+      (λ _ u k. absurd (nothing_in u (subst (λ us. In u us) (p.sent (false_from_ne_true _ (λ first. not_first s i from first))) k))) p.sent (λ first. absurd (not_first s i from first)))))
       (λ f. rule_silent (Some (From i m)) s d _ h (p, λ from number. absurd (both_ways _ f (and_from _ _ (is_itself _ i from) (eq-eqb _ _ number)))))
 
   pub rule_receive_ack : (n : ℕ)

@@ -302,7 +302,7 @@ rule_gone s j h settled =
     (has-single_other j s.id (λ same. eqb-false j s.id (not-true _ parts.1) (sym same))) (below-single j s.count (ltb-true _ _ parts.0)))))
     (λ f. rule_silent (Some (Gone j)) s (nothing_due s) _ h (paid_nothing s settled, λ low other. absurd (both_ways _ f (and_from _ _ (lt-ltb _ _ low) (not_from_false _ (ne_eqb j s.id other))))))
 
-rule_taken_in : (s : ServerState) (input : Input)
+pub rule_taken_in : (s : ServerState) (input : Input)
     → IsLawful s
     → IsInput input
     → HoldsEntry input

@@ -13,8 +13,6 @@ pub mod Retaking
 pub mod Rejoining
 pub mod Addresses
 pub mod StepAddresses
-pub mod Fitness
-pub mod StepFitness
 pub mod Counts
 pub mod Closing
 pub mod StepCloses
@@ -34,3 +32,4 @@ pub mod DoneActions
 pub mod DoneRules
 pub mod DoneJoins
 pub mod DoneSteps
+pub mod Fitness

@@ -11,8 +11,7 @@ use Rattle.node.specs.Replies.{is_call_at, is_reply_at, calls_at, replies_at, op
 use Rattle.node.proofs.RuleLaws.{lawful-step}
 use Rattle.node.proofs.Addresses.{others_append}
 use Rattle.node.proofs.StepAddresses.{others_taken_in}
-use Rattle.node.proofs.Fitness.{fit_append}
-use Rattle.node.proofs.StepFitness.{fit_taken_in}
+use Rattle.node.proofs.Fitness.{fit_append, fit_taken_in}
 use Rattle.node.proofs.Counts.{count-append}
 use Rattle.node.proofs.StepCloses.{answers-step}
 
@@ -44,7 +43,7 @@ pub fit-after : (s : ServerState) (inputs : List Input) → AreInputs inputs →
 fit-after s [] valid h = tt
 fit-after s (i ∷ is) valid h =
     fit_append (step s i).outputs (put_out (step s i).state is)
-    (fit_taken_in s i valid.0 valid.1 h.sound)
+    (fit_taken_in s i valid.0 valid.1 h)
     (fit-after (step s i).state is valid.2 (lawful-step s i valid.0 valid.1 h))
 
 pub after-append : (s : ServerState) (first more : List Input) → after s (first ++ more) ≡ after (after s first) more

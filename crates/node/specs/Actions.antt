@@ -51,7 +51,7 @@ In x xs = (k : ℕ) × (slice_get xs k ≡ Some x)
 abbrev pub IsWanted : Cause → ServerState → ℕ → ℕ → Call → Type 0
 IsWanted input s origin id call =
     ((origin ≡ s.id) × (port : ℕ) × In (record { id = id; port = port; call = call }) s.pend)
-    ⊎ ((m : Peer) × (input ≡ Some (From origin m)) × (m.body ≡ Op id call) × (has s.view origin ≡ false))
+    ⊎ ((m : Peer) × (input ≡ Some (From origin m)) × (m.body ≡ Op id call) × (has s.view origin ≡ false) × (origin ≢ s.id))
 
 -- an entry that the head makes
 pub record IsMade (input : Cause) (s : ServerState) (e : LogEntry) : Type 0 where
@@ -103,6 +103,8 @@ IsAnswered input s ask n =
 
 -- What a step has begun and has yet to do: history variables, as TLA+ calls them. Between steps nothing is due.
 pub record Due : Type 0 where
+  -- the server as the step began
+  pub since : ServerState
   -- the successor was sent the entries up to this number
   pub forwarded : ℕ
   -- the predecessor has yet to be told the acknowledged number
@@ -116,13 +118,14 @@ pub record Due : Type 0 where
 
 -- nothing is due
 abbrev pub nothing_due : ServerState → Due
-nothing_due s = record { forwarded = last_number s.store; untold = false; unsettled = []; unsent = []; unasked = [] }
+nothing_due s = record { since = s; forwarded = last_number s.store; untold = false; unsettled = []; unsent = []; unasked = [] }
 
 -- What a join makes due, from the server before it to the one whose view was widened: a new successor needs the entries that aren't
 -- acknowledged, a new predecessor the acknowledged number, a new head the own updates, and a new tail the own reads.
 abbrev pub due_to_new : ServerState → ServerState → Due
 due_to_new s t =
     record {
+      since = s;
       forwarded = if is_same (next s) (next t) then last_number s.store else s.store.acked;
       untold = not (is_same (previous s) (previous t));
       unsettled = [];
@@ -214,7 +217,7 @@ meaning input s (Append e) =
     record {
       guard = IsEntry e × (IsMade input s e ⊎ IsPassed input s e);
       effect = silent (appended s e);
-      turn = λ d. Unit {0};
+      turn = λ d. e.origin ≢ s.id → (u : OpenUpdate) → In u d.unsent → is_taken s s.id u.id ≡ false;
       due = λ d. d;
     }
 meaning input s (Reach n) =

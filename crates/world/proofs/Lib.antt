@@ -74,11 +74,7 @@ pub mod AtRest
 pub mod Opening
 pub mod OwnIds
 pub mod StaysOpen
-pub mod Advances
-pub mod HeadTakes
-pub mod JoinsOpen
 pub mod OpenSteps
-pub mod Lengthening
 pub mod OpeningSteps
 pub mod OpeningInputs
 pub mod OpeningEvents

@@ -23,8 +23,7 @@ use Rattle.world.proofs.StreamSteps.{has_link, Between}
 use Rattle.world.proofs.StreamDeliveries.{sender_apart}
 use Rattle.world.proofs.StreamEvents.{IsStill, still_self, still_connection, still_failing, Follows, IsReady, between, links_from, ready_self, ready_taken, links_taken, ready_asked}
 use Rattle.world.proofs.Opening.{op_id, op_ids, Own, HasSeen, Headed, Sends, Opening}
-use Rattle.world.proofs.JoinsOpen.{Serves}
-use Rattle.world.proofs.OpenSteps.{IsExpected, serves_step}
+use Rattle.world.proofs.OpenSteps.{Serves, IsExpected, serves_step}
 use Rattle.world.proofs.OpeningSteps.{headed_other, seen_later, sends_other, sends_own}
 use Rattle.world.proofs.OpeningInputs.{HasRooms, expected, seen_there}
 use Rattle.world.proofs.WorldLaws.{link-with_connection}
@@ -46,11 +45,11 @@ opening_still w w' h s = record {
 }
 
 module _ (t u : Traced) (h : Follows t u) (streaming : Streaming t.world) (before : Opening t.world) (rooms : HasRooms t.world) where
-  pub serves : (a : ℕ) (input : Input) → a < count t → IsInput input → HoldsEntry input → IsExpected (server t.world a) input → Serves (server t.world a) (step (server t.world a) input)
+  pub serves : (a : ℕ) (input : Input) → a < count t → IsInput input → HoldsEntry input → IsExpected (server t.world a) input → Serves (server t.world a) input (step (server t.world a) input)
   serves a input here fit valid next = serves_step (server t.world a) input (h.servers a here) fit valid (before.own a here) (before.first a here) (rooms.own a here) next
 
   -- what a step leaves, but for the updates on their way
-  opening_by : (a : ℕ) (input : Input) → Between t u a (step (server t.world a) input) → Serves (server t.world a) (step (server t.world a) input) → ((x y : ℕ) → Headed u.world x y → Sends u.world x y) → Opening u.world
+  opening_by : (a : ℕ) (input : Input) → Between t u a (step (server t.world a) input) → Serves (server t.world a) input (step (server t.world a) input) → ((x y : ℕ) → Headed u.world x y → Sends u.world x y) → Opening u.world
   opening_by a input b s ops = record {
     own = λ o l. elim (cases_eq o a) [ inl is ↦ rw (is, b.own) s.own | inr other ↦ rw (b.others o other) (before.own o (rw (← h.later.count) l)) ];
     first = λ o l. elim (cases_eq o a) [ inl is ↦ rw (is, b.own) s.first | inr other ↦ rw (b.others o other) (before.first o (rw (← h.later.count) l)) ];
@@ -65,24 +64,24 @@ module _ (t u : Traced) (h : Follows t u) (streaming : Streaming t.world) (befor
       let s = serves a input here fit valid next in
       let links = λ (x y : ℕ) (other : x ≢ a). links_from t u h streaming v a input (rw r.count here) e x y other ∙ same x y in
       opening_by a input b s (λ x y. elim (cases_eq x a) [
-        | inl own ↦ subst (λ z. Headed u.world z y → Sends u.world z y) (sym own) (sends_own t u a o b s y (before.ops a y))
-        | inr other ↦ sends_other t u a o b s x y other (links x y other) (before.ops x y)
+        | inl own ↦ subst (λ z. Headed u.world z y → Sends u.world z y) (sym own) (sends_own t u a input o b s y (before.ops a y))
+        | inr other ↦ sends_other t u a input o b s x y other (links x y other) (before.ops x y)
       ])
 
   -- ---- deliveries
 
-  kept : (i a : ℕ) (m : Peer) (ms : List Peer) → Between t u a (step (server t.world a) (From i m)) → Serves (server t.world a) (step (server t.world a) (From i m)) → link u.world i a ≡ ms
+  kept : (i a : ℕ) (m : Peer) (ms : List Peer) → Between t u a (step (server t.world a) (From i m)) → Serves (server t.world a) (From i m) (step (server t.world a) (From i m)) → link u.world i a ≡ ms
       → (s : Sends t.world i a) → IsRun s.from s.last (op_ids ms) → i ≢ a → Headed u.world i a → Sends u.world i a
   kept i a m ms b serve left s run other l = record {
     from = s.from;
     last = s.last;
     issued = ap (λ (v : ServerState). v.next_id) (b.others i other) ∙ s.issued;
-    seen = omega (arith, s.seen, seen_later t u a (step (server t.world a) (From i m)) b serve i a (rw (← h.later.count) l.here));
+    seen = omega (arith, s.seen, seen_later t u a (From i m) (step (server t.world a) (From i m)) b serve i a (rw (← h.later.count) l.here));
     run = rw left run;
   }
 
   -- what is left on its way, once the first was delivered
-  left_by : (i a : ℕ) (m : Peer) (ms : List Peer) → link t.world i a ≡ m ∷ ms → Between t u a (step (server t.world a) (From i m)) → Serves (server t.world a) (step (server t.world a) (From i m)) → link u.world i a ≡ ms
+  left_by : (i a : ℕ) (m : Peer) (ms : List Peer) → link t.world i a ≡ m ∷ ms → Between t u a (step (server t.world a) (From i m)) → Serves (server t.world a) (From i m) (step (server t.world a) (From i m)) → link u.world i a ≡ ms
       → (b : Body) → m.body ≡ b → (s : Sends t.world i a) → IsRun s.from s.last (op_id b ++ op_ids ms) → i ≢ a → Headed u.world i a → Sends u.world i a
   left_by i a m ms first b serve left (Op id call) is s run other l =
       let there : In m (link t.world i a) = rw first (0, refl) in
@@ -90,7 +89,7 @@ module _ (t u : Traced) (h : Follows t u) (streaming : Streaming t.world) (befor
       let from = h.before.framed.sound i a m there in
       let unaware = ap (λ (x : ServerState). has x.view i) (sym b.own) ∙ l.unaware in
       let up = run_up (op_ids ms) (s.from + 1) s.last run.1 in
-      let took = seen_there t h.before i a m there (h.servers a here) id call is (h.servers i from.sender).sound (before.own a here) (before.first a here) rooms (omega (arith, run.0, s.seen)) (omega (arith, run.0, up, s.issued)) unaware in
+      let took = seen_there t h.before i a m there (h.servers a here) id call is (h.servers i from.sender).sound serve rooms (omega (arith, run.0, s.seen)) (omega (arith, run.0, up, s.issued)) unaware in
       record {
         from = s.from + 1;
         last = s.last;
@@ -113,16 +112,16 @@ module _ (t u : Traced) (h : Follows t u) (streaming : Streaming t.world) (befor
       let o = step (server t.world a) (From i m) in
       let r = ready_taken t u h streaming i a ms apart in
       let b = between t u h streaming v a (From i m) r here addressed.fit addressed.entry e in
-      let s = serves a (From i m) here addressed.fit addressed.entry (expected t h.before i a m there (h.servers a here)) in
+      let s = serves a (From i m) here addressed.fit addressed.entry (expected t h.before i a m there) in
       let links = λ (x y : ℕ) (other : x ≢ a). links_from t u h streaming v a (From i m) (rw r.count here) e x y other in
       let left : link u.world i a ≡ ms = links i a apart ∙ same_link t.world i a ms (has_link t h.before.framed i a addressed.sender here) in
       opening_by a (From i m) b s (λ x y. elim (cases_eq x a) [
-        | inl own ↦ subst (λ z. Headed u.world z y → Sends u.world z y) (sym own) (sends_own t u a o b s y (before.ops a y))
+        | inl own ↦ subst (λ z. Headed u.world z y → Sends u.world z y) (sym own) (sends_own t u a (From i m) o b s y (before.ops a y))
         | inr other ↦ elim (links_taken t u h streaming i a x y ms) [
           | inl it ↦ subst (λ z. Headed u.world z y → Sends u.world z y) (sym it.0) (subst (λ z. Headed u.world i z → Sends u.world i z) (sym it.1) (λ l.
-              let old = before.ops i a (headed_other t u a o b s i a apart l) in
+              let old = before.ops i a (headed_other t u a (From i m) o b s i a apart l) in
               left_by i a m ms first b s left m.body refl old (subst (λ xs. IsRun old.from old.last xs) (ap (λ xs. op_ids xs) first) old.run) apart l))
-          | inr same ↦ sends_other t u a o b s x y other (links x y other ∙ same) (before.ops x y)
+          | inr same ↦ sends_other t u a (From i m) o b s x y other (links x y other ∙ same) (before.ops x y)
         ]
       ])
 

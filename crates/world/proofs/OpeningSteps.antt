@@ -1,27 +1,28 @@
 -- A step keeps what is on its way to heads: what others send stays, and the server's own goes on.
 use Rattle.std.proofs.Common.{◌≡◌, ◌≢◌, ℕ, suc, ◌<◌, ◌≤◌, false, List, [], ◌∷◌, ◌++◌, length, take, drop, Some, refl, sym, ap, subst, ◌∙◌, arith, inl, inr, ◌⊎◌}
-use Rattle.std.proofs.lemmas.Bool.{cases_eq, cases_lt, both_ways}
+use Rattle.std.proofs.lemmas.Bool.{cases_eq, cases_lt, both_ways, false_from_ne_true}
+use Rattle.std.proofs.lemmas.Option.{same_Some}
 use Rattle.std.proofs.lemmas.List.{take-append-drop, take_all}
 use Rattle.versions.specs.Entries.{LogEntry}
 use Rattle.node.specs.declared.messages.Body.{Body}
 use Rattle.node.specs.declared.messages.Body.TheVariants.{Op, Forward, Ack, Query, Answer}
 use Rattle.node.specs.declared.messages.Peer.{Peer}
 use Rattle.node.specs.Views.{has, head}
-use Rattle.node.specs.Servers.{Outcome, seen_of, head_of}
+use Rattle.node.specs.declared.messages.Input.{Input}
+use Rattle.node.specs.Servers.{ServerState, Outcome, seen_of, head_of, is_head}
 use Rattle.table.specs.declared.operations.Call.{Call}
 use Rattle.world.specs.Worlds.{server, link}
 use Rattle.node.proofs.Lists.{In, Begins}
 use Rattle.world.proofs.Traces.{Traced, log, count}
 use Rattle.world.proofs.Layers.{Goes, Framed, Lawful, entries_of}
 use Rattle.world.proofs.Beginnings.{begins-take}
-use Rattle.world.proofs.IdLaws.{head_of_is, head_from}
+use Rattle.world.proofs.IdLaws.{that_is, head_of_is, head_from}
 use Rattle.world.proofs.EntryCounts.{entries-joined}
 use Rattle.world.proofs.Streaming.{sent_to}
 use Rattle.world.proofs.ForwardRuns.{run-append}
 use Rattle.world.proofs.StreamSteps.{Between, some_or_not}
 use Rattle.world.proofs.Opening.{op_id, op_ids, Headed, Sends}
-use Rattle.world.proofs.Advances.{ops_to, op_ids-append}
-use Rattle.world.proofs.JoinsOpen.{Serves}
+use Rattle.world.proofs.OpenSteps.{ops_to, op_ids-append, Serves}
 use Rattle.world.proofs.LoggedLaws.{still_out}
 
 -- ---- what a lawful world tells
@@ -69,7 +70,7 @@ below_or_above x y other = elim (cases_lt x y) [
 
 -- ---- updates on their way
 
-module _ (t u : Traced) (a : ℕ) (o : Outcome) (h : Between t u a o) (serves : Serves (server t.world a) o) where
+module _ (t u : Traced) (a : ℕ) (input : Input) (o : Outcome) (h : Between t u a o) (serves : Serves (server t.world a) input o) where
   pub headed_other : (x y : ℕ) → x ≢ a → Headed u.world x y → Headed t.world x y
   headed_other x y other l = record {
     here = rw (← h.later.count) l.here;
@@ -101,17 +102,17 @@ module _ (t u : Traced) (a : ℕ) (o : Outcome) (h : Between t u a o) (serves : 
   pub sends_own : (y : ℕ) → (Headed t.world a y → Sends t.world a y) → Headed u.world a y → Sends u.world a y
   sends_own y f l =
       let inside : y < count t = rw (← h.later.count) l.inside in
-      let is : (server t.world a).id ≡ a = h.before.framed.id a h.here in
-      let apart : y ≢ (server t.world a).id = λ e. l.other (e ∙ is) in
+      let is : o.state.id ≡ a = serves.id ∙ h.before.framed.id a h.here in
       let first = head_of_is (server u.world a) y l.head in
       let to : head_of o.state ≡ Some y = ap (λ s. head_of s) (sym h.own) ∙ l.head in
+      let apart : is_head o.state ≡ false = false_from_ne_true _ (λ e. l.other (same_Some y a (sym to ∙ that_is _ o.state.id e ∙ ap Some is))) in
       let out = still_out t u h.later a y first.out in
       let now : op_ids (link u.world a y) ≡ op_ids (link t.world a y) ++ ops_to y o.outputs = ap (λ ms. op_ids ms) (h.sent y inside) ∙ op_ids-append (link t.world a y) (sent_to y o.outputs) in
       let issued = ap (λ s. s.next_id) h.own in
       elim (some_or_not (head_of (server t.world a)) y) [
         | inl was ↦
             let s = f (record { here = h.here; inside = inside; head = was; other = l.other; unaware = ap (λ s. has s.view a) (sym (h.others y l.other)) ∙ l.unaware }) in
-            let r = serves.same y apart was to s.last s.issued in
+            let r = serves.same y was to apart s.last s.issued in
             record {
               from = s.from;
               last = r.0;
@@ -121,13 +122,13 @@ module _ (t u : Traced) (a : ℕ) (o : Outcome) (h : Between t u a o) (serves : 
             }
         | inr new ↦
             let none = none_sent t h.before.framed a y h.here inside out new in
-            let r = serves.new y apart new to in
+            let r = serves.new y new to apart in
             let below : y < a = elim (below_or_above y a l.other) [ inl low ↦ low | inr high ↦ absurd (both_ways _ (h.after.framed.own a (rw h.later.count h.here)) (first.below a high)) ] in
             record {
               from = r.0;
               last = r.1;
               issued = issued ∙ r.3;
-              seen = omega (arith, r.2, ap (λ i. seen_of (server t.world a) i) is, seen_before t h.before a y h.here below out, seen_later a y h.here);
+              seen = omega (arith, r.2, ap (λ i. seen_of o.state i) is, ap (λ (v : ServerState). seen_of v a) h.own, seen_before u h.after a y (rw h.later.count h.here) below first.out);
               run = rw (now, none) r.4;
             }
       ]

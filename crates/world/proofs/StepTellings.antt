@@ -237,7 +237,7 @@ does_ack (a ∷ later) c d s x n g t h p low =
 -- ---- both
 
 -- the last number doesn't fall
-act_last : (c : Cause) (s : ServerState) (a : Action) → IsSound s → last_number s.store ≤ last_number (act s a).state.store
+pub act_last : (c : Cause) (s : ServerState) (a : Action) → IsSound s → last_number s.store ≤ last_number (act s a).state.store
 unfolding act widened entered asked
 act_last c s (Widen v) h = omega arith
 act_last c s (Append e) h = omega (arith, last_appended s e)

@@ -1,6 +1,6 @@
 use Rattle.node.proofs.RuleLaws.{lawful-opening, lawful-step}
 use Rattle.node.proofs.StepAddresses.{others_taken_in}
-use Rattle.node.proofs.StepFitness.{fit_taken_in}
+use Rattle.node.proofs.Fitness.{fit_taken_in}
 use Rattle.node.proofs.FaceChanges.{face-changed}
 use Rattle.node.proofs.laws.steps.steps_are_lawful.Goals as goal
 
@@ -14,7 +14,7 @@ pub returns-clause-addressed : goal.returns-clause-addressed
 returns-clause-addressed c s input h = others_taken_in s input (record { sound = h.sound; settled = h.settled })
 
 pub returns-clause-fit : goal.returns-clause-fit
-returns-clause-fit c s input h fit valid = fit_taken_in s input fit valid h.sound
+returns-clause-fit c s input h fit valid = fit_taken_in s input fit valid h
 
 pub returns-clause-face : goal.returns-clause-face
 returns-clause-face c s input h fit valid = face-changed s input fit valid h

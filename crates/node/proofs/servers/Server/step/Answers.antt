@@ -1,6 +1,6 @@
 use Rattle.node.proofs.RuleLaws.{good-taken_in, lawful-trimmed}
 use Rattle.node.proofs.StepAddresses.{others_taken_in}
-use Rattle.node.proofs.StepFitness.{fit_taken_in}
+use Rattle.node.proofs.Fitness.{fit_taken_in}
 use Rattle.node.proofs.servers.Server.step.Goals as goal
 
 pub trim-requires : goal.trim-requires
@@ -19,4 +19,4 @@ returns-clause-addressed c =
 
 pub returns-clause-fit : goal.returns-clause-fit
 returns-clause-fit c =
-    rw (c.in_ok-take_in.ensures.outputs, c.new-outputs.ensures.items) (fit_taken_in c.args.self.now c.args.input c.requires.input c.hold_entry.ensures c.requires.lawful.sound)
+    rw (c.in_ok-take_in.ensures.outputs, c.new-outputs.ensures.items) (fit_taken_in c.args.self.now c.args.input c.requires.input c.hold_entry.ensures c.requires.lawful)

@@ -4,7 +4,7 @@ use Rattle.node.specs.Steps.{taken_in}
 use Rattle.node.specs.Faces.{face_changed, face_of, steps_by, acked_by}
 use Rattle.node.proofs.RuleLaws.{good-taken_in, lawful-trimmed}
 use Rattle.node.proofs.StepAddresses.{others_taken_in}
-use Rattle.node.proofs.StepFitness.{fit_taken_in}
+use Rattle.node.proofs.Fitness.{fit_taken_in}
 use Rattle.node.proofs.Growth.{grows-taken_in, last-grown}
 use Rattle.node.proofs.FaceChanges.{face-changed}
 use Rattle.node.proofs.servers.Server.step_face.Goals as goal
@@ -39,4 +39,4 @@ returns-clause-face c =
 
 pub returns-clause-fit : goal.returns-clause-fit
 returns-clause-fit c =
-    rw (c.in_ok-take_in.ensures.outputs, c.new-outputs.ensures.items) (fit_taken_in c.args.self.now c.args.input c.requires.input c.hold_entry.ensures c.requires.lawful.sound)
+    rw (c.in_ok-take_in.ensures.outputs, c.new-outputs.ensures.items) (fit_taken_in c.args.self.now c.args.input c.requires.input c.hold_entry.ensures c.requires.lawful)

@@ -2,7 +2,7 @@ use Rattle.std.proofs.Common.{rules, ◌≡◌}
 use Rattle.versions.specs.Stores.{last_number}
 use Rattle.node.specs.Steps.{taken_in}
 use Rattle.node.proofs.RuleLaws.{good-taken_in, lawful-trimmed}
-use Rattle.node.proofs.StepFitness.{fit_taken_in}
+use Rattle.node.proofs.Fitness.{fit_taken_in}
 use Rattle.node.proofs.Growth.{grows-taken_in, last-grown}
 use Rattle.node.proofs.servers.Server.step_logged.Goals as goal
 
@@ -24,4 +24,4 @@ entries_above-requires c =
 
 pub returns-clause-fit : goal.returns-clause-fit
 returns-clause-fit c =
-    rw (c.in_ok-take_in.ensures.outputs, c.new-outputs.ensures.items) (fit_taken_in c.args.self.now c.args.input c.requires.input c.hold_entry.ensures c.requires.lawful.sound)
+    rw (c.in_ok-take_in.ensures.outputs, c.new-outputs.ensures.items) (fit_taken_in c.args.self.now c.args.input c.requires.input c.hold_entry.ensures c.requires.lawful)
