@@ -1,0 +1,6 @@
+//! Chains that serve clients over sockets. Each port is one that nobody listens on.
+
+mod callers;
+mod chains;
+mod clients;
+mod running;
