@@ -10,11 +10,15 @@ use Rattle.clap.specs.declared.parser.matches.Found.{Found}
 use Rattle.command_line.specs.ClusterWords.{GivesNumber, NamesNumbers}
 use Rattle.command_line.specs.Commands.{IsAskedFor}
 use Rattle.command_line.specs.Words.{IsNamed, NamesFile, program_app}
+use Rattle.command_line.specs.ProcessWords.{NamesHosts, NamesMaster, NamesServer}
 use Rattle.command_line.specs.declared.numbers.Numbers.{Numbers}
+use Rattle.command_line.specs.declared.processes.Hosts.{Hosts}
+use Rattle.command_line.specs.declared.processes.MasterNumbers.{MasterNumbers}
+use Rattle.command_line.specs.declared.processes.ServerNumbers.{ServerNumbers}
 use Rattle.command_line.specs.declared.commands.Command.{Command}
 use Rattle.command_line.specs.declared.commands.Command.TheVariants.{Print, Tell, Serve}
 use Rattle.command_line.specs.declared.commands.Print.TheVariants.{Scenario, Version}
-use Rattle.command_line.specs.declared.commands.Serve.TheVariants.{Cluster}
+use Rattle.command_line.specs.declared.commands.Serve.TheVariants.{Cluster, Server, Master}
 use Rattle.command_line.specs.declared.commands.Telling.TheVariants.{Trace, Draw}
 
 -- a pair, part by part
@@ -97,6 +101,27 @@ names_no_file r now f o name e given none file n =
     let bad : Some file ≡ None = sym first ∙ (sym (first_value-rows f (codes "FILE")) ∙ (sym given ∙ nothing)) in
     cc
 
+-- the first value of an option, as it was read
+pub first_given : {X : Type 0} (r : Option X) (now : X → Text) (f : Found) (id : Text)
+    → option_map now r ≡ first_value f id
+    → first_of id (rows_of f) ≡ option_map now r
+first_given r now f id given = sym (first_value-rows f id) ∙ sym given
+
+-- if an option's text wasn't read, it isn't given
+pub none_given : {X : Type 0} (r : Option X) (now : X → Text) (f : Found) (o : Option (Text × List Row))
+    (name id : Text) (rows : List Row) (text : Text)
+    → o ≡ Some (name, rows_of f)
+    → option_map now r ≡ first_value f id
+    → r ≡ None
+    → o ≡ Some (name, rows)
+    → first_of id rows ≡ Some text → ⊥
+none_given r now f o name id rows text e given none named first =
+    let same : rows_of f ≡ rows = same_rows o _ _ _ e named in
+    let here : first_of id (rows_of f) ≡ Some text = rw same first in
+    let nothing : option_map now r ≡ None = rw none refl in
+    let bad : Some text ≡ None = sym here ∙ (sym (first_value-rows f id) ∙ (sym given ∙ nothing)) in
+    cc
+
 -- a decimal number of this many bits
 abbrev IsNumber : ℕ → List ℕ → Type 0
 IsNumber bits t = IsNumeral 10 (without_leading_plus t) × (digits_value 10 (without_leading_plus t) < 2 ^ bits)
@@ -135,12 +160,16 @@ pub unnamed : (o : Option (Text × List Row))
     → ((file : List ℕ) → NamesFile (codes "trace") o file → ⊥)
     → ((file : List ℕ) → NamesFile (codes "draw") o file → ⊥)
     → ((numbers : Numbers) → NamesNumbers o numbers → ⊥)
+    → ((numbers : ServerNumbers) (hosts : Hosts) → NamesServer o numbers → NamesHosts (codes "server") o hosts → ⊥)
+    → ((numbers : MasterNumbers) (hosts : Hosts) → NamesMaster o numbers → NamesHosts (codes "master") o hosts → ⊥)
     → (command : Command) → IsNamed o command → ⊥
-unnamed o scenario trace draw cluster (Print (Scenario file)) n = scenario _ n
-unnamed o scenario trace draw cluster (Print Version) n = n
-unnamed o scenario trace draw cluster (Tell Trace file) n = trace _ n
-unnamed o scenario trace draw cluster (Tell Draw file) n = draw _ n
-unnamed o scenario trace draw cluster (Serve (Cluster numbers)) n = cluster numbers n
+unnamed o scenario trace draw cluster server master (Print (Scenario file)) n = scenario _ n
+unnamed o scenario trace draw cluster server master (Print Version) n = n
+unnamed o scenario trace draw cluster server master (Tell Trace file) n = trace _ n
+unnamed o scenario trace draw cluster server master (Tell Draw file) n = draw _ n
+unnamed o scenario trace draw cluster server master (Serve (Cluster numbers)) n = cluster numbers n
+unnamed o scenario trace draw cluster server master (Serve (Server numbers hosts)) n = server numbers hosts n.0 n.1
+unnamed o scenario trace draw cluster server master (Serve (Master numbers hosts)) n = master numbers hosts n.0 n.1
 
 -- a command that is found is asked for
 pub asked : (words : List (List ℕ)) (command : Command) → fault_of program_app words ≡ []

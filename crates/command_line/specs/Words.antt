@@ -6,10 +6,11 @@ use Rattle.clap.specs.declared.builder.ArgAction.TheVariants.{Set}
 use Rattle.clap.specs.declared.error.kind.ErrorKind.{ErrorKind}
 use Rattle.clap.specs.declared.error.kind.ErrorKind.TheVariants.{MissingSubcommand, OutOfMemory}
 use Rattle.command_line.specs.ClusterWords.{NamesNumbers, cluster_app}
+use Rattle.command_line.specs.ProcessWords.{NamesHosts, NamesMaster, NamesServer, master_app, server_app}
 use Rattle.command_line.specs.declared.commands.Command.{Command}
 use Rattle.command_line.specs.declared.commands.Command.TheVariants.{Print, Tell, Serve}
 use Rattle.command_line.specs.declared.commands.Print.TheVariants.{Scenario, Version}
-use Rattle.command_line.specs.declared.commands.Serve.TheVariants.{Cluster}
+use Rattle.command_line.specs.declared.commands.Serve.TheVariants.{Cluster, Server, Master}
 use Rattle.command_line.specs.declared.commands.Telling.{Telling}
 use Rattle.command_line.specs.declared.commands.Telling.TheVariants.{Trace, Draw}
 
@@ -33,7 +34,9 @@ program_app =
     let scenario = with_subcommand named_app (file_app (codes "scenario")).top in
     let trace = with_subcommand scenario (file_app (codes "trace")).top in
     let draw = with_subcommand trace (file_app (codes "draw")).top in
-    with_subcommand draw cluster_app.top
+    let cluster = with_subcommand draw cluster_app.top in
+    let server = with_subcommand cluster server_app.top in
+    with_subcommand server master_app.top
 
 -- the command that was found has this name and this FILE
 pub record NamesFile (name : List ℕ) (found : Option (Text × List Row)) (file : List ℕ) : Type 0 where
@@ -52,6 +55,8 @@ IsNamed found (Print (Scenario file)) = NamesFile (codes "scenario") found (stri
 IsNamed found (Print Version) = ⊥
 IsNamed found (Tell telling file) = NamesFile (telling_name telling) found (string_bytes file)
 IsNamed found (Serve (Cluster numbers)) = NamesNumbers found numbers
+IsNamed found (Serve (Server numbers hosts)) = NamesServer found numbers × NamesHosts (codes "server") found hosts
+IsNamed found (Serve (Master numbers hosts)) = NamesMaster found numbers × NamesHosts (codes "master") found hosts
 
 -- the parser takes these words, and they name a command
 abbrev pub IsTaken : List (List ℕ) → Type 0

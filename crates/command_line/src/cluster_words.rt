@@ -42,7 +42,8 @@ pub fn cluster_parser<'a>(alloc: Global) -> Result<Parser<'a>, AllocError>
     Ok(cluster)
 }
 
-fn servers_option<'a>(alloc: Global) -> Arg<'a>
+/// The option `--servers`.
+pub fn servers_option<'a>(alloc: Global) -> Arg<'a>
     ensures rule { rule_of result ≡ servers_rule }
     ensures local { result.global ≡ false }
 {
@@ -54,19 +55,21 @@ fn servers_option<'a>(alloc: Global) -> Arg<'a>
         .value_parser(value_parser!(u8).range(1..=16))
 }
 
-fn port_option<'a>(alloc: Global) -> Arg<'a>
+/// The option `--port`.
+pub fn port_option<'a>(alloc: Global) -> Arg<'a>
     ensures rule { rule_of result ≡ port_rule }
     ensures local { result.global ≡ false }
 {
     Arg::new(alloc, "port")
         .long("port")
         .value_name("P")
-        .help("The port of server 0 on 127.0.0.1; server i listens on port P + i")
+        .help("The port of server 0; server i listens on port P + i")
         .required(true)
         .value_parser(value_parser!(u16).range(1..=65520))
 }
 
-fn seats_option<'a>(alloc: Global) -> Arg<'a>
+/// The option `--seats`.
+pub fn seats_option<'a>(alloc: Global) -> Arg<'a>
     ensures rule { rule_of result ≡ seats_rule }
     ensures local { result.global ≡ false }
 {

@@ -1,6 +1,7 @@
 //! What a command line asks for.
 
 use crate::numbers::Numbers;
+use crate::processes::{Hosts, MasterNumbers, ServerNumbers};
 use std::alloc::AllocError;
 use thiserror::Error;
 
@@ -46,6 +47,10 @@ pub enum Telling {
 pub enum Serve {
     /// Runs a chain in one process.
     Cluster(Numbers),
+    /// Runs one server of a chain of processes.
+    Server(ServerNumbers, Hosts),
+    /// Tells the servers of such a chain of failures.
+    Master(MasterNumbers, Hosts),
 }
 
 /// Why a command line is refused.

@@ -1,5 +1,6 @@
 use crate::commands::{Command, Print, Serve, UsageFault};
 use crate::numbers::Numbers;
+use crate::processes::{Hosts, MasterNumbers, ServerNumbers};
 use crate::words::read_command;
 use std::test::Fail;
 
@@ -37,7 +38,7 @@ fn words_ask_for_the_version(rt: HostRuntime) -> Result<(), Fail> {
 
 #[test]
 fn other_words_are_refused(rt: HostRuntime) -> Result<(), Fail> {
-    let rows: [&[&str]; 10] = [
+    let rows: [&[&str]; 11] = [
         &["craq"],
         &["craq", "--help"],
         &["craq", "help"],
@@ -48,6 +49,7 @@ fn other_words_are_refused(rt: HostRuntime) -> Result<(), Fail> {
         &["craq", "Scenario", "a"],
         &["craq", "cluster", "--servers", "3"],
         &["craq", "cluster", "--port", "4000"],
+        &["craq", "master", "--servers", "3"],
     ];
     for words in rows {
         match read_command(rt.alloc(), words) {
@@ -98,4 +100,69 @@ fn words_give_the_numbers_of_a_chain(rt: HostRuntime) -> Result<(), Fail> {
         _ => return Err("numbers were given".into()),
     }
     Ok(())
+}
+
+#[test]
+fn words_tell_a_server(rt: HostRuntime) -> Result<(), Fail> {
+    let words = [
+        "craq",
+        "server",
+        "--id=2",
+        "--servers=3",
+        "--port=4000",
+        "--peer-port",
+        "5000",
+        "--peers",
+        "a,b,c",
+    ];
+    let numbers = ServerNumbers {
+        id: 2,
+        servers: 3,
+        port: 4000,
+        peer_port: 5000,
+        seats: 4,
+    };
+    match read_command(rt.alloc(), words.as_slice()) {
+        Ok(Command::Serve(Serve::Server(given, hosts))) => {
+            assert_eq!(rt; given, numbers);
+            assert!(rt; has_hosts(hosts, "127.0.0.1", "a,b,c"));
+        }
+        _ => return Err("a server was told".into()),
+    }
+    Ok(())
+}
+
+#[test]
+fn words_tell_a_master(rt: HostRuntime) -> Result<(), Fail> {
+    let words = [
+        "craq",
+        "master",
+        "--peer-port=5000",
+        "--address",
+        "a",
+        "--servers",
+        "3",
+    ];
+    let numbers = MasterNumbers {
+        servers: 3,
+        peer_port: 5000,
+    };
+    match read_command(rt.alloc(), words.as_slice()) {
+        Ok(Command::Serve(Serve::Master(given, hosts))) => {
+            assert_eq!(rt; given, numbers);
+            assert!(rt; has_hosts(hosts, "a", ""));
+        }
+        _ => return Err("a master was told".into()),
+    }
+    Ok(())
+}
+
+// Whether these hosts are the address and the list of hosts, or no list if it is empty.
+fn has_hosts(hosts: Hosts, wanted: &str, list: &str) -> bool {
+    let Hosts { address, peers } = hosts;
+    let is_listed = match peers {
+        Some(peers) => peers.as_str() == list,
+        None => list.is_empty(),
+    };
+    is_listed && address.as_str() == wanted
 }

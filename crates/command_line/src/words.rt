@@ -1,13 +1,20 @@
 //! The words of a command line, and the command that they spell.
-ghost use Rattle.std.specs.Prelude.{◌≡◌, ℕ, List, [], IfOk, IfErr, IfSome, OnOk, None, Some, map, false};
+ghost use Rattle.std.specs.Prelude.{◌≡◌, ℕ, codes, List, [], IfOk, IfErr, IfSome, OnOk, None, Some, map, false};
 ghost use Rattle.clap.specs.Words.{Row, app_of, fault_of, found_of, kind_of, rows_of, subcommand_of, subcommand_rows_of};
 ghost use Rattle.clap.specs.declared.builder.command.Command.TheViews.{out-Command};
 ghost use Rattle.command_line.specs.Words.{IsNamed, IsRefusedFor, IsTaken, NamesFile, file_app, named_app, program_app};
 ghost use Rattle.command_line.specs.declared.commands.Command.{Command as Shown};
+ghost use Rattle.command_line.specs.ProcessWords.{NamesHosts, NamesMaster, NamesServer};
+ghost use Rattle.command_line.specs.declared.processes.Hosts.{Hosts};
+ghost use Rattle.command_line.specs.declared.processes.MasterNumbers.{MasterNumbers};
+ghost use Rattle.command_line.specs.declared.processes.ServerNumbers.{ServerNumbers};
 ghost use Rattle.command_line.specs.Commands.{AskForVersion, IsAskedFor};
 
 use crate::cluster_words::{cluster_parser, numbers_given};
 use crate::commands::{Command, Print, Serve, Telling, UsageFault};
+use crate::process_words::{
+    hosts_given, master_numbers, master_parser, server_numbers, server_parser,
+};
 use clap::error::ErrorKind;
 use clap::{Arg, ArgAction, ArgMatches, Command as Parser, Error};
 use std::alloc::{AllocError, Global};
@@ -72,6 +79,36 @@ fn command_given<'a>(alloc: Global, matches: &ArgMatches<'a>) -> Result<Option<C
     if let Some(numbers) = numbers_given(matches) {
         return Ok(Some(Command::Serve(Serve::Cluster(numbers))));
     }
+    let process = process_given(alloc, matches)?;
+    match process {
+        Some(serve) => Ok(Some(Command::Serve(serve))),
+        None => Ok(None),
+    }
+}
+
+// The process that was asked for, with what was given to it.
+fn process_given<'a>(alloc: Global, matches: &ArgMatches<'a>) -> Result<Option<Serve>, AllocError>
+    ensures given { IfOk result (λ given.
+        IfSome given (λ serve. IsNamed (subcommand_rows_of matches.now) (Command.Serve serve))) }
+    ensures no_server { IfOk result (λ given. given ≡ None →
+        (numbers : ServerNumbers) (hosts : Hosts) → NamesServer (subcommand_rows_of matches.now) numbers →
+        NamesHosts (codes "server") (subcommand_rows_of matches.now) hosts → ⊥) }
+    ensures no_master { IfOk result (λ given. given ≡ None →
+        (numbers : MasterNumbers) (hosts : Hosts) → NamesMaster (subcommand_rows_of matches.now) numbers →
+        NamesHosts (codes "master") (subcommand_rows_of matches.now) hosts → ⊥) }
+{
+    if let Some(numbers) = server_numbers(matches) {
+        return match hosts_given(alloc, matches, "server")? {
+            Some(hosts) => Ok(Some(Serve::Server(numbers, hosts))),
+            None => Ok(None),
+        };
+    }
+    if let Some(numbers) = master_numbers(matches) {
+        return match hosts_given(alloc, matches, "master")? {
+            Some(hosts) => Ok(Some(Serve::Master(numbers, hosts))),
+            None => Ok(None),
+        };
+    }
     Ok(None)
 }
 
@@ -112,11 +149,15 @@ fn parser<'a>(alloc: Global) -> Result<Parser<'a>, AllocError>
         "Replays a schedule and prints a picture of it, SVG 1.1",
     )?;
     let cluster = cluster_parser(alloc)?;
+    let server = server_parser(alloc)?;
+    let master = master_parser(alloc)?;
     let program = program_parser(alloc)
         .subcommand(scenario)?
         .subcommand(trace)?
         .subcommand(draw)?
-        .subcommand(cluster)?;
+        .subcommand(cluster)?
+        .subcommand(server)?
+        .subcommand(master)?;
     Ok(program)
 }
 

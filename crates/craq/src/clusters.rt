@@ -281,8 +281,8 @@ pub fn all_servers<R: Wait + Copy + Drop>(
     Ok(servers)
 }
 
-// A server before any input.
-fn idle_node(alloc: Global, id: u8, count: u8) -> Result<Node, ClusterFault>
+/// A server before any input.
+pub fn idle_node(alloc: Global, id: u8, count: u8) -> Result<Node, ClusterFault>
     ensures { IfOk result (λ node. is_idle node ≡ true) }
 {
     match Node::new(alloc, id, count) {
@@ -330,7 +330,7 @@ pub fn start_worker<R: Wait + Threads + Copy + Drop + Send + 'static>(
     }
 }
 
-/// A caller for each stand.
+//// A caller for each stand.
 pub fn all_callers(
     alloc: Global,
     stands: Vec<Stand>,

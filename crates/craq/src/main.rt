@@ -2,14 +2,29 @@
 #![tactic(auto)]
 
 mod clusters;
+mod cuts;
 mod doors;
+mod greetings;
+mod input_lines;
+mod masters;
+mod peer_doors;
+mod servers;
+mod settings;
 mod steering;
 mod working;
 
-use command_line::{Command, Serve};
+use command_line::{Command, Serve, UsageFault};
 use commands::{read_arguments, run, tell_file};
-use ends::{TrackedReader, TrackedWriter};
+use ends::{Sink, Source, TrackedReader, TrackedWriter};
+use masters::master;
+use servers::server;
+use settings::{MasterSettings, ServerSettings};
+use std::alloc::Global;
+use std::net::{Net, TcpListener, TcpStream};
 use std::process::ExitCode;
+use std::sync::Wait;
+use std::thread::Threads;
+use std::time::Clock;
 use steering::cluster;
 
 fn main(rt: HostRuntime) -> ExitCode {
@@ -20,20 +35,58 @@ fn main(rt: HostRuntime) -> ExitCode {
         Ok(Command::Tell { telling, file }) => {
             tell_file(&rt, telling, file, &mut output, &mut errors)
         }
-        Ok(Command::Serve(Serve::Cluster(numbers))) => {
+        Ok(Command::Serve(command)) => {
             let mut input = TrackedReader::new(rt.reader());
-            cluster(
+            match serve(
                 rt,
                 rt.alloc(),
-                numbers,
+                command,
                 &mut input,
                 &mut output,
                 &mut errors,
-            )
+            ) {
+                Ok(status) => status,
+                Err(fault) => run(&rt, Err(fault), &mut output, &mut errors),
+            }
         }
         Err(fault) => run(&rt, Err(fault), &mut output, &mut errors),
     };
     ExitCode::from(status)
+}
+
+// Serves until it ends, and answers the exit status. Refused if the words don't fit one another.
+fn serve<
+    R: Wait
+        + Threads
+        + Clock
+        + Eprint
+        + Net<Listener = TcpListener, Stream = TcpStream>
+        + Copy
+        + Drop
+        + Send
+        + 'static,
+    S: Source,
+    W: Sink,
+    X: Sink,
+>(
+    rt: R,
+    alloc: Global,
+    command: Serve,
+    input: &mut S,
+    output: &mut W,
+    errors: &mut X,
+) -> Result<u8, UsageFault> {
+    match command {
+        Serve::Cluster(numbers) => Ok(cluster(rt, alloc, numbers, input, output, errors)),
+        Serve::Server(numbers, hosts) => {
+            let settings = ServerSettings::new(alloc, numbers, hosts)?;
+            Ok(server(rt, alloc, &settings, output, errors))
+        }
+        Serve::Master(numbers, hosts) => {
+            let settings = MasterSettings::new(alloc, numbers, hosts)?;
+            Ok(master(&rt, alloc, &settings, input, output, errors))
+        }
+    }
 }
 
 #[cfg(test)]

@@ -1,6 +1,7 @@
 //! The command `cluster`: runs a chain, and fails the servers that its input names.
 
 use crate::clusters::{Cluster, ClusterFault};
+use crate::input_lines::{next_line, server_named};
 use command_line::Numbers;
 use commands::DONE;
 use ends::{Sink, Source, write_all};
@@ -10,9 +11,6 @@ use std::net::{Net, TcpListener, TcpStream};
 use std::sync::Wait;
 use std::thread::Threads;
 use std::time::Clock;
-
-/// The most bytes of a line that are kept: more than any line has that means something.
-const KEPT: usize = 16;
 
 /// Runs a chain of servers that serve clients over TCP, until the input and every seat's thread have ended. It says
 /// `ready` when all listen. For each line `fail J` of the input server J is failed, and `gone J` printed; any other
@@ -67,7 +65,7 @@ fn steer<
             cluster.end(&rt);
             return Ok(());
         }
-        match server_named(line.as_slice(), numbers.servers) {
+        match server_named(line.as_slice(), b"fail", numbers.servers) {
             Some(j) => {
                 cluster.fail(&rt, j)?;
                 print(output, b"gone ")?;
@@ -78,46 +76,6 @@ fn steer<
         }
     }
     unreachable!()
-}
-
-// The next line without its end, or a beginning of it if it is long. It tells whether there is one.
-fn next_line<S: Source>(input: &mut S, line: &mut Vec<u8>) -> Result<bool, ClusterFault> {
-    line.clear();
-    for _ in 0..u64::MAX {
-        let mut byte = [0u8];
-        match input.read(byte.as_mut_slice()) {
-            Ok(0) => return Ok(!line.is_empty()),
-            Ok(_) => {
-                if byte[0] == b'\n' {
-                    return Ok(true);
-                }
-                if line.len() < KEPT {
-                    line.push(byte[0])?;
-                }
-            }
-            Err(_) => return Ok(!line.is_empty()),
-        }
-    }
-    Ok(false)
-}
-
-// The server that a line `fail J` names, below `count` and without leading zeros.
-fn server_named(line: &[u8], count: u8) -> Option<u8> {
-    for j in 0..count {
-        let mut digits = Buffer::new();
-        if is_failing(line, digits.format(j).as_bytes()) {
-            return Some(j);
-        }
-    }
-    None
-}
-
-// The line is `fail` with these digits.
-fn is_failing(line: &[u8], digits: &[u8]) -> bool {
-    match line.strip_prefix(b"fail ".as_slice()) {
-        Some(named) => named == digits,
-        None => false,
-    }
 }
 
 fn print<W: Sink>(output: &mut W, text: &[u8]) -> Result<(), ClusterFault> {

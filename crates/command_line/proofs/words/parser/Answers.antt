@@ -9,4 +9,8 @@ returns c =
     c.in_ok-subcommand-2.ensures in
     let draw = with_command _ _ _ _ _ trace c.in_ok-draw.ensures.app c.in_ok-draw.ensures.local
     c.in_ok-subcommand-3.ensures in
-    with_command _ _ _ _ _ draw c.in_ok-cluster.ensures.app c.in_ok-cluster.ensures.local c.in_ok-program.ensures
+    let cluster = with_command _ _ _ _ _ draw c.in_ok-cluster.ensures.app c.in_ok-cluster.ensures.local
+    c.in_ok-subcommand-4.ensures in
+    let server = with_command _ _ _ _ _ cluster c.in_ok-server.ensures.app c.in_ok-server.ensures.local
+    c.in_ok-subcommand-5.ensures in
+    with_command _ _ _ _ _ server c.in_ok-master.ensures.app c.in_ok-master.ensures.local c.in_ok-program.ensures

@@ -1,0 +1,34 @@
+//! What the words say of servers in processes of their own.
+
+/// The numbers of one server.
+#[derive(Clone, Copy, Debug, PartialEq, Eq)]
+pub struct ServerNumbers {
+    /// Which server it is: 0 to 15.
+    pub id: u8,
+    /// How many servers the chain has: 1 to 16.
+    pub servers: u8,
+    /// The port of server 0 for clients; server i listens on the i-th after it.
+    pub port: u16,
+    /// The port of server 0 for other servers and the master, likewise.
+    pub peer_port: u16,
+    /// How many connections it serves at a time: 1 to 16.
+    pub seats: u8,
+}
+
+/// The numbers of a master.
+#[derive(Clone, Copy, Debug, PartialEq, Eq)]
+pub struct MasterNumbers {
+    /// How many servers the chain has: 1 to 16.
+    pub servers: u8,
+    /// The port of server 0 for other servers and the master; server i listens on the i-th after it.
+    pub peer_port: u16,
+}
+
+/// Where the servers of a chain are.
+#[derive(Debug, Drop)]
+pub struct Hosts {
+    /// Where a server listens, and where each is if there is no list.
+    pub address: String,
+    /// The host of each, in the order of their ids, with commas between them.
+    pub peers: Option<String>,
+}

@@ -1,0 +1,184 @@
+"""Running servers and masters of a chain in processes of their own. Talks to this machine alone.
+
+Each process ends with the tool that started it, however the tool ends: by `end`, and by the kernel if the tool is
+killed.
+"""
+import ctypes
+import os
+import select
+import signal
+import socket
+import subprocess
+import tempfile
+import time
+from pathlib import Path
+
+import chain_clients
+from chain_clients import LIMIT, Wrong
+
+PROGRAM = os.environ.get("CRAQ", str(Path(__file__).resolve().parent.parent / "craq"))
+PR_SET_PDEATHSIG = 1
+LIBC = ctypes.CDLL(None)
+# Ports from here on are tried, below those that the system gives to connections.
+FIRST_PORT, LAST_PORT = 21000, 32000
+next_port = FIRST_PORT
+running = []
+
+
+def free_ports(count):
+    """The first of `count` ports in a row that nobody listens on and that weren't given before."""
+    global next_port
+    while next_port + count < LAST_PORT:
+        first, next_port = next_port, next_port + count
+        if all(is_free(port) for port in range(first, first + count)):
+            return first
+    raise SystemExit("no free ports")
+
+
+def is_free(port):
+    try:
+        with socket.socket() as tried:
+            tried.setsockopt(socket.SOL_SOCKET, socket.SO_REUSEADDR, 1)
+            tried.bind(("127.0.0.1", port))
+        return True
+    except OSError:
+        return False
+
+
+def end_with_the_tool():
+    LIBC.prctl(PR_SET_PDEATHSIG, signal.SIGKILL)
+
+
+def end_all():
+    """Ends each process that was started and still runs."""
+    for process in list(running):
+        process.end()
+
+
+class Process:
+    """A run of the program, with its standard output as lines and its standard error in a file."""
+
+    def __init__(self, words):
+        self.words, self.unread = words, b""
+        self.errors = tempfile.TemporaryFile()
+        self.process = subprocess.Popen(
+            [PROGRAM, *words], stdin=subprocess.PIPE, stdout=subprocess.PIPE, stderr=self.errors,
+            preexec_fn=end_with_the_tool)
+        running.append(self)
+
+    @property
+    def id(self):
+        return self.process.pid
+
+    def line(self):
+        """The next line of its output, with its end; what is left if the output ends."""
+        end = time.monotonic() + LIMIT
+        while b"\n" not in self.unread:
+            ready, _, _ = select.select([self.process.stdout], [], [], max(0.0, end - time.monotonic()))
+            if not ready:
+                raise Wrong(f"{self.words[0]}: no line in time")
+            piece = os.read(self.process.stdout.fileno(), 4096)
+            if not piece:
+                break
+            self.unread += piece
+        line, found, self.unread = self.unread.partition(b"\n")
+        return (line + found).decode()
+
+    def say(self, text):
+        self.process.stdin.write(text.encode())
+        self.process.stdin.flush()
+
+    def told(self):
+        """What it has written to its standard error."""
+        self.errors.seek(0)
+        return self.errors.read().decode()
+
+    def status(self):
+        """Its exit status, once it has ended by itself."""
+        try:
+            return self.process.wait(LIMIT)
+        except subprocess.TimeoutExpired as fault:
+            raise Wrong(f"{self.words[0]}: it doesn't end") from fault
+
+    def signal(self, number):
+        self.process.send_signal(number)
+
+    def figure(self, name):
+        """A number of its /proc/ID/status."""
+        for line in Path(f"/proc/{self.id}/status").read_text().splitlines():
+            if line.startswith(name + ":"):
+                return int(line.split()[1])
+        raise Wrong(f"no {name} of process {self.id}")
+
+    def end(self):
+        """Kills it, if it still runs."""
+        if self in running:
+            running.remove(self)
+            self.process.kill()
+            self.process.wait()
+            for stream in (self.process.stdin, self.process.stdout):
+                try:
+                    stream.close()
+                except OSError:
+                    pass
+
+
+def ended(*words):
+    """The status, standard output and standard error of a run that ends by itself."""
+    process = Process(words)
+    try:
+        process.process.stdin.close()
+        status = process.status()
+        return status, (process.unread + process.process.stdout.read()).decode(), process.told()
+    finally:
+        process.end()
+
+
+class Chain:
+    """Server processes of a chain, and a master. The clients of chain_clients run over it."""
+
+    def __init__(self, servers=3, seats=10, words=()):
+        self.count = servers
+        first, self.peer_port = free_ports(servers), free_ports(servers)
+        self.ports, self.failed = [first + i for i in range(servers)], set()
+        chain = ("--servers", str(servers), "--peer-port", str(self.peer_port), *words)
+        clients = ("--port", str(first), "--seats", str(seats))
+        self.servers = [Process(("server", "--id", str(i), *clients, *chain)) for i in range(servers)]
+        self.master = Process(("master", *chain))
+        for i, server in enumerate(self.servers):
+            if server.line() != "ready\n":
+                raise Wrong(f"server {i} isn't ready: {server.told()!r}")
+
+    def kill(self, server):
+        """Ends a server's process, and tells nobody."""
+        self.failed.add(server)
+        self.servers[server].end()
+
+    def tell(self, server):
+        """Has the master tell the others. Each living one is told."""
+        self.master.say(f"gone {server}\n")
+        told, living = self.master.line(), self.count - len(self.failed)
+        if told != f"gone {server} told {living}\n":
+            raise Wrong(f"gone {server} was answered {told!r}, with {living} living servers")
+
+    def fail(self, server):
+        self.kill(server)
+        self.tell(server)
+
+    def judge_living(self):
+        """What is wrong with the processes themselves, in words."""
+        faults = []
+        for i, server in enumerate(self.servers):
+            if i not in self.failed and server.process.poll() is not None:
+                faults.append(f"server {i} has ended: {server.told()!r}")
+        return faults
+
+    def end(self):
+        for process in [*self.servers, self.master]:
+            process.end()
+
+
+def run_clients(chain, rounds, at_each, phase, fail=None):
+    """As chain_clients.run_clients, and judges the processes too."""
+    faults, calls = chain_clients.run_clients(chain, rounds, at_each, phase, fail)
+    return faults + chain.judge_living(), calls
