@@ -180,7 +180,12 @@ fn reader_beside_a_waiting_worker(rt: HostRuntime) -> Result<(), Fail> {
     };
     let (turned, clean) = thread::join(
         &rt,
-        || server.worker.turn(&mut held),
+        || {
+            let turned = server.worker.turn(&mut held);
+            // A turn that failed lets the other thread go on too.
+            entered.store(1, Ordering::SeqCst);
+            turned
+        },
         || looks_beside(&rt, &mut second, &b, &entered, &looked),
     );
     assert!(rt; turned? == Turn::Went);
