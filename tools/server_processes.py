@@ -138,7 +138,7 @@ class Chain:
     """Server processes of a chain, and a master. The clients of chain_clients run over it."""
 
     def __init__(self, servers=3, seats=10, words=()):
-        self.count = servers
+        self.count, self.seats = servers, seats
         first, self.peer_port = free_ports(servers), free_ports(servers)
         self.ports, self.failed = [first + i for i in range(servers)], set()
         chain = ("--servers", str(servers), "--peer-port", str(self.peer_port), *words)
