@@ -7,7 +7,6 @@ import ctypes
 import os
 import select
 import signal
-import socket
 import subprocess
 import tempfile
 import time
@@ -15,34 +14,12 @@ from pathlib import Path
 
 import chain_clients
 from chain_clients import LIMIT, Wrong
+from ports import free_ports
 
 PROGRAM = os.environ.get("CRAQ", str(Path(__file__).resolve().parent.parent / "craq"))
 PR_SET_PDEATHSIG = 1
 LIBC = ctypes.CDLL(None)
-# Ports from here on are tried, below those that the system gives to connections.
-FIRST_PORT, LAST_PORT = 21000, 32000
-next_port = FIRST_PORT
 running = []
-
-
-def free_ports(count):
-    """The first of `count` ports in a row that nobody listens on and that weren't given before."""
-    global next_port
-    while next_port + count < LAST_PORT:
-        first, next_port = next_port, next_port + count
-        if all(is_free(port) for port in range(first, first + count)):
-            return first
-    raise SystemExit("no free ports")
-
-
-def is_free(port):
-    try:
-        with socket.socket() as tried:
-            tried.setsockopt(socket.SOL_SOCKET, socket.SO_REUSEADDR, 1)
-            tried.bind(("127.0.0.1", port))
-        return True
-    except OSError:
-        return False
 
 
 def end_with_the_tool():
@@ -139,6 +116,7 @@ class Chain:
 
     def __init__(self, servers=3, seats=10, words=()):
         self.count, self.seats = servers, seats
+        self.settled = {}  # what each counter of an earlier phase came to
         first, self.peer_port = free_ports(servers), free_ports(servers)
         self.ports, self.failed = [first + i for i in range(servers)], set()
         chain = ("--servers", str(servers), "--peer-port", str(self.peer_port), *words)
