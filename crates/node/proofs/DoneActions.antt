@@ -1,5 +1,7 @@
--- Lists of actions done one after another: what is known at their end, and how rules that are such lists follow each other.
-use Rattle.std.proofs.Common.{◌≡◌, ℕ, ◌<◌, true, List, [], ◌∷◌, ◌++◌, Option, Some, None, inl, inr, refl, sym, ap, subst, ◌∙◌, append_assoc, append-nil}
+-- Lists of actions done one after another: what is known at their end, and how rules that are such lists follow each
+-- other.
+use Rattle.std.proofs.Common.{◌≡◌, ℕ, ◌<◌, true, List, [], ◌∷◌, ◌++◌, Option, Some, None, inl, inr, refl, sym, ap}
+use Rattle.std.proofs.Common.{subst, ◌∙◌, append_assoc, append-nil}
 use Rattle.versions.specs.Entries.{LogEntry}
 use Rattle.node.specs.declared.messages.Body.{Body}
 use Rattle.node.specs.declared.messages.Body.TheVariants.{Op, Forward, Ack, Query, Answer}
@@ -9,7 +11,9 @@ use Rattle.node.specs.declared.messages.Output.{Output}
 use Rattle.node.specs.Views.{has}
 use Rattle.node.specs.Servers.{ServerState, Outcome, silent, putting, and_then, message_to}
 use Rattle.node.specs.Lawful.{IsSound}
-use Rattle.node.specs.Actions.{Action, Widen, Append, Reach, Settle, Send, Finish, Trim, Enter, Ask, Show, act, does, Cause, left, IsMade, IsPassed, MaySend, Guard, AreGuarded, IsDone, Due, IsTurn, IsTurnOf, due, due_after, AreInTurn, due_in_the_end}
+use Rattle.node.specs.Actions.{Action, Widen, Append, Reach, Settle, Send, Finish, Trim, Enter, Ask, Show, act, does}
+use Rattle.node.specs.Actions.{Cause, left, IsMade, IsPassed, MaySend, Guard, AreGuarded, IsDone, Due, IsTurn, IsTurnOf}
+use Rattle.node.specs.Actions.{due, due_after, AreInTurn, due_in_the_end}
 use Rattle.node.proofs.SoundActions.{sound_act, IsSeatOf, seat_act, Grown, grown_same, grown_then, grown_act}
 
 -- ---- a list behind a list
@@ -20,7 +24,8 @@ does-append s [] ys = refl
 does-append s (a ∷ xs) ys =
     let t = (act s a).state in
     ap (λ (r : Outcome). and_then (act s a) (λ _. r)) (does-append t xs ys)
-    ∙ ap (λ (os : List Output). record { state = (does (does t xs).state ys).state; outputs = os }) (sym (append_assoc (act s a).outputs (does t xs).outputs _))
+    ∙ ap (λ (os : List Output). record { state = (does (does t xs).state ys).state; outputs = os })
+    (sym (append_assoc (act s a).outputs (does t xs).outputs _))
 
 -- ---- what is left of a cause allows no more than the cause
 
@@ -50,7 +55,16 @@ made_left c s e h = record {
 }
 
 passed_left : (c : Cause) (s : ServerState) (e : LogEntry) → IsPassed (left c) s e → IsPassed c s e
-passed_left c s e h = record { from = h.from; message = h.message; came = came_left c _ h.came; body = h.body; joined = h.joined; previous = h.previous; next = h.next }
+passed_left c s e h =
+    record {
+      from = h.from;
+      message = h.message;
+      came = came_left c _ h.came;
+      body = h.body;
+      joined = h.joined;
+      previous = h.previous;
+      next = h.next;
+    }
 
 may_left : (c : Cause) (s : ServerState) (j : ℕ) (body : Body) → MaySend (left c) s j body → MaySend c s j body
 may_left c s j (Op id call) h = h
@@ -60,12 +74,15 @@ may_left c s j (Query ask key) h = h
 may_left c s j (Answer ask n) h = (h.0, h.1, h.2, h.3, h.4, came_left c _ h.5, h.6)
 
 pub guard_left : (c : Cause) (s : ServerState) (a : Action) → Guard (left c) s a → Guard c s a
-guard_left c s (Widen v) h = (elim h.0 [ inl g ↦ inl (g.0, g.1, came_left c _ g.2, g.3) | inr g ↦ inr (g.0, came_left c _ g.1, g.2) ], h.1, h.2)
+guard_left c s (Widen v) h =
+    (elim h.0 [ inl g ↦ inl (g.0, g.1, came_left c _ g.2, g.3) | inr g ↦ inr (g.0, came_left c _ g.1, g.2) ], h.1, h.2)
 guard_left c s (Append e) h = (h.0, elim h.1 [ inl m ↦ inl (made_left c s e m) | inr p ↦ inr (passed_left c s e p) ])
-guard_left c s (Reach n) h = (h.0, h.1, elim h.2 [ inl g ↦ inl g | inr g ↦ inr (g.0, g.1, came_left c _ g.2, g.3, g.4, g.5) ])
+guard_left c s (Reach n) h =
+    (h.0, h.1, elim h.2 [ inl g ↦ inl g | inr g ↦ inr (g.0, g.1, came_left c _ g.2, g.3, g.4, g.5) ])
 guard_left c s (Settle e) h = h
 guard_left c s (Send j body) h = (may_left c s j body h.0, h.1)
-guard_left c s (Finish r n) h = (h.0, h.1, h.2, h.3, elim h.4 [ inl g ↦ inl g | inr g ↦ inr (g.0, g.1, came_left c _ g.2, g.3, g.4) ])
+guard_left c s (Finish r n) h =
+    (h.0, h.1, h.2, h.3, elim h.4 [ inl g ↦ inl g | inr g ↦ inr (g.0, g.1, came_left c _ g.2, g.3, g.4) ])
 guard_left c s Trim h = tt
 guard_left c s (Enter port call) h = (came_left c _ h.0, h.1, h.2, h.3)
 guard_left c s (Ask port key) h = (h.0, came_left c _ h.1, h.2, h.3, h.4, h.5)
@@ -80,11 +97,18 @@ unfolding does
 guarded_end [] c s h = h
 guarded_end (a ∷ xs) c s h = guarded_end xs (left c) (act s a).state h.2
 
-guarded_then : (xs ys : List Action) (c : Cause) (s : ServerState) → AreGuarded c s xs → AreGuarded (left c) (does s xs).state ys → AreGuarded c s (xs ++ ys)
+guarded_then : (xs ys : List Action) (c : Cause) (s : ServerState)
+    → AreGuarded c s xs
+    → AreGuarded (left c) (does s xs).state ys
+    → AreGuarded c s (xs ++ ys)
 unfolding does
 guarded_then [] ys c s h g = guarded_left ys c s g
-guarded_then (a ∷ xs) ys c s h g =
-    (h.0, h.1, guarded_then xs ys (left c) (act s a).state h.2 (subst (λ (d : Cause). AreGuarded d (does (act s a).state xs).state ys) (sym (left_twice c)) g))
+guarded_then (a ∷ xs) ys c s h g = (
+  h.0,
+  h.1,
+  guarded_then xs ys (left c) (act s a).state h.2
+      (subst (λ (d : Cause). AreGuarded d (does (act s a).state xs).state ys) (sym (left_twice c)) g),
+)
 
 seat_does : (xs : List Action) (s : ServerState) → IsSeatOf s (does s xs).state
 unfolding does
@@ -95,10 +119,13 @@ seat_does (a ∷ xs) s =
     record { id = rest.id ∙ first.id; count = rest.count ∙ first.count }
 
 -- what a server knows and has numbered only grows
-pub grown_does : (actions : List Action) (c : Cause) (s : ServerState) → AreGuarded c s actions → Grown s (does s actions).state
+pub grown_does : (actions : List Action) (c : Cause) (s : ServerState)
+    → AreGuarded c s actions
+    → Grown s (does s actions).state
 unfolding does
 grown_does [] c s g = grown_same s
-grown_does (a ∷ later) c s g = grown_then s (act s a).state _ (grown_act c s a g.1) (grown_does later (left c) (act s a).state g.2)
+grown_does (a ∷ later) c s g =
+    grown_then s (act s a).state _ (grown_act c s a g.1) (grown_does later (left c) (act s a).state g.2)
 
 -- ---- rules that are lists of actions
 
@@ -108,8 +135,12 @@ sound_after c s a h = subst (λ (r : Outcome). IsSound r.state) (sym h.same) (gu
 pub seat_after : (c : Cause) (s : ServerState) (a : Outcome) → IsDone c s a → IsSeatOf s a.state
 seat_after c s a h = subst (λ (r : Outcome). IsSeatOf s r.state) (sym h.same) (seat_does h.actions s)
 
-pub view_after : (c : Cause) (s : ServerState) (a : Outcome) (k : ℕ) → IsDone c s a → has s.view k ≡ true → has a.state.view k ≡ true
-view_after c s a k h g = subst (λ (r : Outcome). has r.state.view k ≡ true) (sym h.same) ((grown_does h.actions c s h.guarded).view k g)
+pub view_after : (c : Cause) (s : ServerState) (a : Outcome) (k : ℕ)
+    → IsDone c s a
+    → has s.view k ≡ true
+    → has a.state.view k ≡ true
+view_after c s a k h g =
+    subst (λ (r : Outcome). has r.state.view k ≡ true) (sym h.same) ((grown_does h.actions c s h.guarded).view k g)
 
 -- ---- rules that are lists of actions in turn
 
@@ -133,7 +164,10 @@ pub record IsRule (c : Cause) (s : ServerState) (d : Due) (a : Outcome) (P : Due
   pub turns : AreInTurn d s done.actions
   pub after : P (due_in_the_end d s done.actions)
 
-pub rule_as : (c : Cause) (s : ServerState) (d : Due) (a b : Outcome) (P : Due → Type 0) → b ≡ a → IsRule c s d a P → IsRule c s d b P
+pub rule_as : (c : Cause) (s : ServerState) (d : Due) (a b : Outcome) (P : Due → Type 0)
+    → b ≡ a
+    → IsRule c s d a P
+    → IsRule c s d b P
 rule_as c s d a b P e h = record {
   done = record { actions = h.done.actions; guarded = h.done.guarded; same = e ∙ h.done.same };
   turns = h.turns;
@@ -146,7 +180,10 @@ pub rule_so : (c : Cause) (s : ServerState) (d : Due) (a : Outcome) (P Q : Due �
     → IsRule c s d a Q
 rule_so c s d a P Q f h = record { done = h.done; turns = h.turns; after = f _ h.after }
 
-pub rule_silent : (c : Cause) (s : ServerState) (d : Due) (P : Due → Type 0) → IsSound s → P d → IsRule c s d (silent s) P
+pub rule_silent : (c : Cause) (s : ServerState) (d : Due) (P : Due → Type 0)
+    → IsSound s
+    → P d
+    → IsRule c s d (silent s) P
 unfolding does
 rule_silent c s d P h p = record { done = record { actions = []; guarded = h; same = refl }; turns = tt; after = p }
 
@@ -161,14 +198,16 @@ rule_one c s d a P h g turn p = record {
   done = record {
     actions = a ∷ [];
     guarded = (h, g, sound_act c s a h g);
-    same = ap (λ (os : List Output). record { state = (act s a).state; outputs = os }) (sym (append-nil (act s a).outputs));
+    same = ap (λ (os : List Output). record { state = (act s a).state; outputs = os })
+        (sym (append-nil (act s a).outputs));
   };
   turns = (turn, tt);
   after = p;
 }
 
 -- one rule, and then another
-pub rule_then : (c : Cause) (s : ServerState) (d : Due) (a : Outcome) (rule : ServerState → Outcome) (P Q : Due → Type 0)
+pub rule_then : (c : Cause) (s : ServerState) (d : Due) (a : Outcome) (rule : ServerState → Outcome)
+    (P Q : Due → Type 0)
     → IsRule c s d a P
     → ((e : Due) → P e → IsSound a.state → IsRule (left c) a.state e (rule a.state) Q)
     → IsRule c s d (and_then a rule) Q
@@ -180,11 +219,14 @@ rule_then c s d a rule P Q h f =
     record {
       done = record {
         actions = xs ++ ys;
-        guarded = guarded_then xs ys c s h.done.guarded (subst (λ (r : Outcome). AreGuarded (left c) r.state ys) h.done.same g.done.guarded);
-        same = ap (λ (r : Outcome). and_then a (λ _. r)) g.done.same ∙ ap (λ (r : Outcome). and_then r (λ t. does t ys)) h.done.same ∙ sym (does-append s xs ys);
+        guarded = guarded_then xs ys c s h.done.guarded
+            (subst (λ (r : Outcome). AreGuarded (left c) r.state ys) h.done.same g.done.guarded);
+        same = ap (λ (r : Outcome). and_then a (λ _. r)) g.done.same ∙ ap (λ (r : Outcome). and_then r (λ t. does t ys))
+            h.done.same ∙ sym (does-append s xs ys);
       };
       turns = turns_then xs ys d s h.turns (subst (λ (r : Outcome). AreInTurn e r.state ys) h.done.same g.turns);
-      after = subst Q (sym (due_then xs ys d s)) (subst (λ (r : Outcome). Q (due_in_the_end e r.state ys)) h.done.same g.after);
+      after = subst Q (sym (due_then xs ys d s))
+          (subst (λ (r : Outcome). Q (due_in_the_end e r.state ys)) h.done.same g.after);
     }
 
 -- one action, and then a rule

@@ -1,6 +1,9 @@
 -- Joining a view as a list of actions in turn, step by step.
-use Rattle.std.proofs.Common.{◌≡◌, ℕ, suc, ◌+◌, ◌-◌, ◌<◌, ◌≤◌, nat_lt, ◌==◌, ◌&&◌, Bool, true, false, cond, not, List, [], ◌∷◌, ◌++◌, length, Option, Some, None, ◌⊎◌, inl, inr, refl, sym, subst, ap, ◌∙◌, arith}
-use Rattle.std.proofs.lemmas.Bool.{cond_both, and_parts, and_from, both_ways, or_right, eq-eqb, eqb-true, ltb-true, ltb-false, false_from_ne_true}
+use Rattle.std.proofs.Common.{◌≡◌, ℕ, suc, ◌+◌, ◌-◌, ◌<◌, ◌≤◌, nat_lt, ◌==◌, ◌&&◌, Bool, true, false, cond, not, List}
+use Rattle.std.proofs.Common.{[], ◌∷◌, ◌++◌, length, Option, Some, None, ◌⊎◌, inl, inr, refl, sym, subst, ap, ◌∙◌}
+use Rattle.std.proofs.Common.{arith}
+use Rattle.std.proofs.lemmas.Bool.{cond_both, and_parts, and_from, both_ways, or_right, eq-eqb, eqb-true, ltb-true}
+use Rattle.std.proofs.lemmas.Bool.{ltb-false, false_from_ne_true}
 use Rattle.std.proofs.lemmas.List.{length-drop}
 use Rattle.table.specs.declared.operations.Reply.TheVariants.{Value}
 use Rattle.versions.specs.Entries.{LogEntry}
@@ -11,25 +14,32 @@ use Rattle.node.specs.declared.servers.OpenRead.{OpenRead}
 use Rattle.node.specs.declared.messages.Body.TheVariants.{Op, Forward, Ack, Query}
 use Rattle.node.specs.declared.messages.Output.{Output}
 use Rattle.node.specs.Views.{View, has, union, is_below, adds, head, tail, predecessor, successor, is_that, is_same}
-use Rattle.node.specs.Servers.{ServerState, Outcome, head_of, tail_of, is_head, is_tail, previous, next, silent, putting, message_to, reply_at}
+use Rattle.node.specs.Servers.{ServerState, Outcome, head_of, tail_of, is_head, is_tail, previous, next, silent}
+use Rattle.node.specs.Servers.{putting, message_to, reply_at}
 use Rattle.node.specs.Numbering.{appended, entry_of, is_taken, taken, risen}
 use Rattle.node.specs.Reading.{open_read, without_read}
-use Rattle.node.specs.Joining.{widened, taken_all, sent_again, promoted_to_head, promoted_to_tail, forwarded, needed_above, caught_up, acked_to_predecessor, replies_to, asked_again, asks_renewed, rejoined, join}
+use Rattle.node.specs.Joining.{widened, taken_all, sent_again, promoted_to_head, promoted_to_tail, forwarded}
+use Rattle.node.specs.Joining.{needed_above, caught_up, acked_to_predecessor, replies_to, asked_again, asks_renewed}
+use Rattle.node.specs.Joining.{rejoined, join}
 use Rattle.node.specs.Lawful.{IsSound, AreUpdates}
-use Rattle.node.specs.Actions.{Widen, Append, Finish, act, Cause, left, IsBrought, Due, IsPaid, nothing_due, due_to_new, but_first}
+use Rattle.node.specs.Actions.{Widen, Append, Finish, act, Cause, left, IsBrought, Due, IsPaid, nothing_due, due_to_new}
+use Rattle.node.specs.Actions.{but_first}
 use Rattle.node.proofs.Lists.{In, in_more}
 use Rattle.node.proofs.ViewLaws.{has-union}
 use Rattle.node.proofs.Neighbours.{that_is, previous_below, next_within, head_within, head_other, tail_within, no_tail}
 use Rattle.node.proofs.OpenCalls.{update_in, asked_above}
 use Rattle.node.proofs.StoreChanges.{held_after}
-use Rattle.node.proofs.DoneActions.{IsRule, rule_as, rule_so, rule_silent, rule_then, rule_first, rule_message, view_after}
-use Rattle.node.proofs.DoneRules.{IsRisen, not_last, has_head, rule_rise, made_guard, not_taken, taken_once, seen_same, nothing_in}
+use Rattle.node.proofs.DoneActions.{IsRule, rule_as, rule_so, rule_silent, rule_then, rule_first, rule_message}
+use Rattle.node.proofs.DoneActions.{view_after}
+use Rattle.node.proofs.DoneRules.{IsRisen, not_last, has_head, rule_rise, made_guard, not_taken, taken_once, seen_same}
+use Rattle.node.proofs.DoneRules.{nothing_in}
 use Rattle.node.proofs.SoundLaws.{reads_bound}
 use Rattle.node.proofs.RuleLaws.{same_is, sound-taken, IsPlacedAs, made-promoted_to_head, ready}
 
 -- ---- what is due on the way
 
--- What holds between the steps of a join, where the successor is to be sent the entries above `from`, and `owed` says what is known of
+-- What holds between the steps of a join, where the successor is to be sent the entries above `from`, and `owed` says
+-- what is known of
 -- the predecessor; who is the tail has acknowledged the `whole` log. `old` is the view before the join.
 pub record IsUnderway (old : View) (from : ℕ) (owed whole : Type 0) (s : ServerState) (d : Due) : Type 0 where
   pub forwarded : (j : ℕ) → next s ≡ Some j → d.forwarded ≡ from
@@ -70,8 +80,10 @@ rule_taken_all (u ∷ us) c s d h first f =
     let e = entry_of s s.id u.id u.call in
     cond_both (is_taken s s.id u.id) _ s (λ t. IsRule c s d (silent (taken_all t us)) (λ e. e ≡ d))
     (λ t. rule_first c s d (Append e) (λ v. silent (taken_all v us)) _ h
-    (made_guard c s s.id u.id u.call (omega (arith, h.placed, h.counted)) (inl (refl, u.port, waits)) fit.0 fit.1 first t) (λ other. absurd (other refl))
-    (λ k. rule_taken_all us (left c) (appended s e) d k (head_appended s e ∙ first) (λ v i. rw ((same_appended s e).0) (f v (suc i.0, i.1)))))
+    (made_guard c s s.id u.id u.call (omega (arith, h.placed, h.counted)) (inl (refl, u.port, waits)) fit.0 fit.1 first
+    t) (λ other. absurd (other refl))
+    (λ k. rule_taken_all us (left c) (appended s e) d k (head_appended s e ∙ first)
+    (λ v i. rw ((same_appended s e).0) (f v (suc i.0, i.1)))))
     (λ x. rule_taken_all us c s d h first (λ v i. f v (suc i.0, i.1)))
 
 -- what taking own calls leaves
@@ -82,9 +94,11 @@ record IsKept (s t : ServerState) : Type 0 where
 
 kept_taken : (s : ServerState) (u : OpenUpdate) → IsKept s (taken s s.id u.id u.call)
 unfolding taken appended
-kept_taken s u = cond_both (is_taken s s.id u.id) _ _ (λ (t : ServerState). IsKept s t) (λ t. record { id = refl; head = refl; next_id = refl }) (λ f. record { id = refl; head = refl; next_id = refl })
+kept_taken s u = cond_both (is_taken s s.id u.id) _ _ (λ (t : ServerState). IsKept s t)
+    (λ t. record { id = refl; head = refl; next_id = refl }) (λ f. record { id = refl; head = refl; next_id = refl })
 
-placed_taken : (s : ServerState) (u : OpenUpdate) → ((taken s s.id u.id u.call).id ≡ s.id) × ((taken s s.id u.id u.call).next_id ≡ s.next_id)
+placed_taken : (s : ServerState) (u : OpenUpdate)
+    → ((taken s s.id u.id u.call).id ≡ s.id) × ((taken s s.id u.id u.call).next_id ≡ s.next_id)
 placed_taken s u = let k = kept_taken s u in (k.id, k.next_id)
 
 placed_taken_all : (us : List OpenUpdate) (s : ServerState) → IsKept s (taken_all s us)
@@ -96,16 +110,23 @@ placed_taken_all (u ∷ us) s =
     record { id = all.id ∙ one.id; head = all.head ∙ one.head; next_id = all.next_id ∙ one.next_id }
 
 -- what couldn't be taken still can't, as calls with greater ids are
-untaken_then : (s : ServerState) (u : OpenUpdate) (id : ℕ) → s.id < length s.seen → id < u.id → is_taken s s.id id ≡ false → is_taken (taken s s.id u.id u.call) s.id id ≡ false
+untaken_then : (s : ServerState) (u : OpenUpdate) (id : ℕ)
+    → s.id < length s.seen
+    → id < u.id
+    → is_taken s s.id id ≡ false
+    → is_taken (taken s s.id u.id u.call) s.id id ≡ false
 unfolding taken
-untaken_then s u id low less never = cond_both (is_taken s s.id u.id) _ _ (λ (t : ServerState). is_taken t s.id id ≡ false)
+untaken_then s u id low less never =
+    cond_both (is_taken s s.id u.id) _ _ (λ (t : ServerState). is_taken t s.id id ≡ false)
     (λ t. (let e = entry_of s s.id u.id u.call in
     let new = seen_same s e low in
     not_taken (appended s e) s.id id (λ is. omega (arith, new, less, is))))
     (λ f. never)
 
 -- what was taken can't be again
-untaken_now : (s : ServerState) (u : OpenUpdate) → s.id < length s.seen → is_taken (taken s s.id u.id u.call) s.id u.id ≡ false
+untaken_now : (s : ServerState) (u : OpenUpdate)
+    → s.id < length s.seen
+    → is_taken (taken s s.id u.id u.call) s.id u.id ≡ false
 unfolding taken
 untaken_now s u low = cond_both (is_taken s s.id u.id) _ _ (λ (t : ServerState). is_taken t s.id u.id ≡ false)
     (λ t. taken_once s (entry_of s s.id u.id u.call) u.id low (omega arith))
@@ -126,7 +147,8 @@ untaken_all (u ∷ us) s above id calls h low never =
     let sound = sound-taken s s.id u.id u.call (omega (arith, h.placed, h.counted)) calls.1 calls.2 h in
     let here = untaken_then s u id (omega (arith, h.placed, h.counted, h.seen)) (omega (arith, low, calls.0)) never in
     subst (λ o. is_taken (taken_all t us) o id ≡ false) placed.0
-    (untaken_all us t u.id id (subst (λ n. AreUpdates u.id us n) (sym placed.1) calls.3) sound (omega (arith, low, calls.0)) (subst (λ o. is_taken t o id ≡ false) (sym placed.0) here))
+    (untaken_all us t u.id id (subst (λ n. AreUpdates u.id us n) (sym placed.1) calls.3) sound
+    (omega (arith, low, calls.0)) (subst (λ o. is_taken t o id ≡ false) (sym placed.0) here))
 
 all_untaken : (us : List OpenUpdate) (s : ServerState) (above : ℕ)
     → AreUpdates above us s.next_id
@@ -144,7 +166,9 @@ all_untaken (u ∷ us) s above calls h v i =
     subst (λ o. is_taken (taken_all t us) o v.id ≡ false) placed.0
     (elim (in_more u us v i) [
       | inl same ↦ untaken_all us t u.id v.id calls2 sound (omega (arith, ap (λ (x : OpenUpdate). x.id) same))
-          (subst (λ o. is_taken t o v.id ≡ false) (sym placed.0) (ap (λ (x : OpenUpdate). is_taken t s.id x.id) same ∙ untaken_now s u (omega (arith, h.placed, h.counted, h.seen))))
+          (subst (λ o. is_taken t o v.id ≡ false) (sym placed.0)
+          (ap (λ (x : OpenUpdate). is_taken t s.id x.id) same
+          ∙ untaken_now s u (omega (arith, h.placed, h.counted, h.seen))))
       | inr more ↦ all_untaken us t u.id calls2 sound v more
     ])
 
@@ -155,17 +179,21 @@ rule_sent_again : (us : List OpenUpdate) (c : Cause) (s : ServerState) (d : Due)
     → d.unsent ≡ us
     → IsRule c s d (putting s (sent_again s us)) (λ e. e ≡ record d { unsent = [] })
 unfolding sent_again
-rule_sent_again [] c s d h other f due = rule_silent c s d _ h (ap (λ (us : List OpenUpdate). record d { unsent = us }) due)
+rule_sent_again [] c s d h other f due =
+    rule_silent c s d _ h (ap (λ (us : List OpenUpdate). record d { unsent = us }) due)
 rule_sent_again (u ∷ us) c s d h other f due =
     let waits = f u (0, refl) in
     let fit = update_in s.pend s.next_id u h.updates waits in
     let d2 : Due = record d { unsent = but_first d.unsent } in
-    rule_then c s d (putting s (message_to s (head_of s) (Op u.id u.call))) (λ t. putting t (sent_again t us)) (λ e. e ≡ d2) _
+    rule_then c s d (putting s (message_to s (head_of s) (Op u.id u.call))) (λ t. putting t (sent_again t us))
+    (λ e. e ≡ d2) _
     (rule_message c s d (head_of s) (Op u.id u.call) (λ e. e ≡ d2) h
     (λ none. absurd (has_head s h none))
     (λ j e. ((e, head_other s j other e, fit.1, fit.0, u.port, waits), head_within s j e, (u.port, us, due), refl)))
-    (λ e is k. subst (λ x. IsRule (left c) s x (putting s (sent_again s us)) (λ e. e ≡ record d { unsent = [] })) (sym is)
-    (rule_sent_again us (left c) s d2 k other (λ v i. f v (suc i.0, i.1)) (ap (λ (xs : List OpenUpdate). but_first xs) due)))
+    (λ e is k. subst (λ x. IsRule (left c) s x (putting s (sent_again s us))
+    (λ e. e ≡ record d { unsent = [] })) (sym is)
+    (rule_sent_again us (left c) s d2 k other (λ v i. f v (suc i.0, i.1))
+    (ap (λ (xs : List OpenUpdate). but_first xs) due)))
 
 -- what is due after the second step
 record IsHeaded (s : ServerState) (d e : Due) : Type 0 where
@@ -201,12 +229,14 @@ unfolding promoted_to_head
 rule_promoted_to_head c old s d h due = cond_both (is_head s) _ _ (λ (a : Outcome). IsRule c s d a (IsHeaded a.state d))
     (λ t. cond_both (is_that (head old s.count) s.id) _ _ (λ (a : Outcome). IsRule c s d a (IsHeaded a.state d))
     (λ u. (let none : d.unsent ≡ [] = rw (same_self _ _ s.id (that_is _ s.id u) (that_is _ s.id t)) at due in
-    rule_silent c s d _ h (headed s d d d.unsent refl (λ _. none) (λ _ v i. absurd (nothing_in v (subst (λ us. In v us) none i))))))
+    rule_silent c s d _ h
+    (headed s d d d.unsent refl (λ _. none) (λ _ v i. absurd (nothing_in v (subst (λ us. In v us) none i))))))
     (λ u. (let kept = placed_taken_all s.pend s in
     rule_so c s d _ (λ e. e ≡ d) _
     (λ e is. headed (taken_all s s.pend) d e d.unsent is
     (λ f. absurd (both_ways _ f (kept.head ∙ t)))
-    (λ _ v i. ap (λ o. is_taken (taken_all s s.pend) o v.id) kept.id ∙ all_untaken s.pend s 0 h.updates h v (within v (subst (λ us. In v us) due i))))
+    (λ _ v i. ap (λ o. is_taken (taken_all s s.pend) o v.id) kept.id
+    ∙ all_untaken s.pend s 0 h.updates h v (within v (subst (λ us. In v us) due i))))
     (rule_taken_all s.pend c s d h t (λ v i. i)))))
     (λ f. cond_both (is_same (head old s.count) (head_of s)) _ _ (λ (a : Outcome). IsRule c s d a (IsHeaded a.state d))
     (λ u. (let none : d.unsent ≡ [] = rw u at due in
@@ -217,7 +247,8 @@ rule_promoted_to_head c old s d h due = cond_both (is_head s) _ _ (λ (a : Outco
     (rule_sent_again s.pend c s d h f (λ v i. i) all))))
   where
     within : (v : OpenUpdate) → In v (cond (is_same (head old s.count) (head_of s)) [] s.pend) → In v s.pend
-    within v = cond_both (is_same (head old s.count) (head_of s)) [] s.pend (λ (us : List OpenUpdate). In v us → In v s.pend) (λ _ i. absurd (nothing_in v i)) (λ _ i. i)
+    within v = cond_both (is_same (head old s.count) (head_of s)) [] s.pend
+        (λ (us : List OpenUpdate). In v us → In v s.pend) (λ _ i. absurd (nothing_in v i)) (λ _ i. i)
 
 acked_taken_all : (us : List OpenUpdate) (s : ServerState) → (taken_all s us).store.acked ≡ s.store.acked
 unfolding taken_all taken appended
@@ -229,8 +260,10 @@ acked_taken_all (u ∷ us) s =
 acked_second : (old : View) (s : ServerState) → (promoted_to_head old s).state.store.acked ≡ s.store.acked
 unfolding promoted_to_head
 acked_second old s = cond_both (is_head s) _ _ (λ (a : Outcome). a.state.store.acked ≡ s.store.acked)
-    (λ t. cond_both (is_that (head old s.count) s.id) _ _ (λ (a : Outcome). a.state.store.acked ≡ s.store.acked) (λ u. refl) (λ u. acked_taken_all s.pend s))
-    (λ f. cond_both (is_same (head old s.count) (head_of s)) _ _ (λ (a : Outcome). a.state.store.acked ≡ s.store.acked) (λ u. refl) (λ u. refl))
+    (λ t. cond_both (is_that (head old s.count) s.id) _ _ (λ (a : Outcome). a.state.store.acked ≡ s.store.acked)
+    (λ u. refl) (λ u. acked_taken_all s.pend s))
+    (λ f. cond_both (is_same (head old s.count) (head_of s)) _ _ (λ (a : Outcome). a.state.store.acked ≡ s.store.acked)
+    (λ u. refl) (λ u. refl))
 
 -- what is due as the second step begins
 record IsBegun (old : View) (n m : ℕ) (s : ServerState) (d : Due) : Type 0 where
@@ -267,9 +300,12 @@ rule_second : (c : Cause) (old : View) (n m : ℕ) (s : ServerState) (d : Due)
     → IsSound s
     → IsBegun old n m s d
     → IsRule c s d (promoted_to_head old s)
-    (λ e. IsUnderway old (needed_above old n (promoted_to_head old s).state) (IsOwed old m (promoted_to_head old s).state e.untold) (Unit {0}) (promoted_to_head old s).state e)
+    (λ e. IsUnderway old (needed_above old n (promoted_to_head old s).state)
+    (IsOwed old m (promoted_to_head old s).state e.untold) (Unit {0}) (promoted_to_head old s).state e)
 rule_second c old n m s d h b =
-    rule_so c s d _ _ _ (λ e p. underway_as old n m s (promoted_to_head old s).state d e (made-promoted_to_head old s h).placed (acked_second old s) b p)
+    rule_so c s d _ _ _
+    (λ e p. underway_as old n m s (promoted_to_head old s).state d e (made-promoted_to_head old s h).placed
+    (acked_second old s) b p)
     (rule_promoted_to_head c old s d h b.unsent)
 
 -- ---- third: the tail
@@ -279,12 +315,16 @@ rule_promoted_to_tail : (c : Cause) (old : View) (n m : ℕ) (s : ServerState) (
     → s.store.acked ≡ m
     → IsUnderway old (needed_above old n s) (IsOwed old m s d.untold) (Unit {0}) s d
     → IsRule c s d (promoted_to_tail s)
-    (λ e. IsUnderway old (needed_above old n (promoted_to_tail s).state) (IsOwed old m (promoted_to_tail s).state e.untold)
-    ((promoted_to_tail s).state.store.acked ≡ last_number (promoted_to_tail s).state.store) (promoted_to_tail s).state e)
+    (λ e. IsUnderway old (needed_above old n (promoted_to_tail s).state)
+    (IsOwed old m (promoted_to_tail s).state e.untold)
+    ((promoted_to_tail s).state.store.acked ≡ last_number (promoted_to_tail s).state.store)
+    (promoted_to_tail s).state e)
 unfolding promoted_to_tail risen
 rule_promoted_to_tail c old n m s d h same p =
     cond_both (is_tail s && nat_lt s.store.acked (last_number s.store)) _ _
-    (λ (a : Outcome). IsRule c s d a (λ e. IsUnderway old (needed_above old n a.state) (IsOwed old m a.state e.untold) (a.state.store.acked ≡ last_number a.state.store) a.state e))
+    (λ (a : Outcome). IsRule c s d a
+    (λ e. IsUnderway old (needed_above old n a.state) (IsOwed old m a.state e.untold)
+    (a.state.store.acked ≡ last_number a.state.store) a.state e))
     (λ t. (let parts = and_parts (is_tail s) (nat_lt s.store.acked (last_number s.store)) t in
     let low = ltb-true _ _ parts.1 in
     rule_so c s d _ (IsRisen s d) _
@@ -307,7 +347,9 @@ rule_promoted_to_tail c old n m s d h same p =
       taken = p.taken;
       asked = p.asked;
       none = p.none;
-      last = λ (t : is_tail s ≡ true). (let over : nat_lt s.store.acked (last_number s.store) ≡ false = rw t at f in omega (arith, ltb-false _ _ over, h.store.acked_held));
+      last = λ (t : is_tail s ≡ true).
+          (let over : nat_lt s.store.acked (last_number s.store)
+          ≡ false = rw t at f in omega (arith, ltb-false _ _ over, h.store.acked_held));
     }))
 
 -- ---- fourth: the successor
@@ -329,11 +371,25 @@ rule_forwarded : (es : List LogEntry) (c : Cause) (s : ServerState) (d : Due) (f
     → IsRule c s d (putting s (forwarded s es)) (λ e. IsForwarded s d e to)
 unfolding forwarded
 rule_forwarded [] c s d from to h f log high due =
-    rule_silent c s d _ h (record { forwarded = λ j n. omega (arith, high, due j n); untold = refl; unsettled = refl; unsent = refl; unasked = refl })
+    rule_silent c s d _ h
+    (record {
+      forwarded = λ j n. omega (arith, high, due j n);
+      untold = refl;
+      unsettled = refl;
+      unsent = refl;
+      unasked = refl;
+    })
 rule_forwarded (x ∷ es) c s d from to h f log high due =
-    rule_then c s d (putting s (message_to s (next s) (Forward x))) (λ t. putting t (forwarded t es)) (λ e. IsForwarded s d e (from + 1)) _
+    rule_then c s d (putting s (message_to s (next s) (Forward x))) (λ t. putting t (forwarded t es))
+    (λ e. IsForwarded s d e (from + 1)) _
     (rule_message c s d (next s) (Forward x) (λ e. IsForwarded s d e (from + 1)) h
-    (λ none. record { forwarded = λ j n. absurd (let no = sym none ∙ n in cc); untold = refl; unsettled = refl; unsent = refl; unasked = refl })
+    (λ none. record {
+      forwarded = λ j n. absurd (let no = sym none ∙ n in cc);
+      untold = refl;
+      unsettled = refl;
+      unsent = refl;
+      unasked = refl;
+    })
     (λ j n. (
       (n, f x (0, refl)),
       (next_within s j h.placed n).1,
@@ -348,7 +404,8 @@ rule_forwarded (x ∷ es) c s d from to h f log high due =
       unsent = q.unsent ∙ r.unsent;
       unasked = q.unasked ∙ r.unasked;
     })
-    (rule_forwarded es (left c) s e (from + 1) to k (λ y i. f y (suc i.0, i.1)) log.2 (omega (arith, high)) r.forwarded))
+    (rule_forwarded es (left c) s e (from + 1) to k (λ y i. f y (suc i.0, i.1)) log.2 (omega (arith, high))
+    r.forwarded))
 
 needed_within : (old : View) (n : ℕ) (s : ServerState)
     → IsSound s
@@ -356,7 +413,8 @@ needed_within : (old : View) (n : ℕ) (s : ServerState)
     → n ≤ last_number s.store
     → (s.store.floor ≤ needed_above old n s) × (needed_above old n s ≤ last_number s.store)
 needed_within old n s h low high =
-    cond_both (is_same (successor old s.count s.id) (next s)) n s.store.acked (λ (k : ℕ). (s.store.floor ≤ k) × (k ≤ last_number s.store))
+    cond_both (is_same (successor old s.count s.id) (next s)) n s.store.acked
+    (λ (k : ℕ). (s.store.floor ≤ k) × (k ≤ last_number s.store))
     (λ _. (low, high))
     (λ _. (h.store.floor_acked, h.store.acked_held))
 
@@ -365,13 +423,15 @@ rule_caught_up : (c : Cause) (old : View) (n m : ℕ) (s : ServerState) (d : Due
     → s.store.floor ≤ n
     → n ≤ last_number s.store
     → IsUnderway old (needed_above old n s) (IsOwed old m s d.untold) (s.store.acked ≡ last_number s.store) s d
-    → IsRule c s d (caught_up old n s) (λ e. IsUnderway old (last_number s.store) (IsOwed old m s e.untold) (s.store.acked ≡ last_number s.store) s e)
+    → IsRule c s d (caught_up old n s)
+    (λ e. IsUnderway old (last_number s.store) (IsOwed old m s e.untold) (s.store.acked ≡ last_number s.store) s e)
 unfolding caught_up
 rule_caught_up c old n m s d h low high p =
     let k = needed_above old n s in
     let within = needed_within old n s h low high in
     let es = entries_after s.store k in
-    let log : IsLog k es = log-drop s.store.floor (k - s.store.floor) k s.store.rest (omega (arith, within.0)) h.store.log in
+    let log : IsLog k es =
+    log-drop s.store.floor (k - s.store.floor) k s.store.rest (omega (arith, within.0)) h.store.log in
     let long = length-drop (k - s.store.floor) s.store.rest in
     rule_so c s d _ (λ e. IsForwarded s d e (last_number s.store)) _
     (λ e r. record {
@@ -384,7 +444,8 @@ rule_caught_up c old n m s d h low high p =
       none = p.none;
       last = p.last;
     })
-    (rule_forwarded es c s d k (last_number s.store) h (λ e i. held_after s.store k e i) log (omega (arith, long, within.0, within.1)) p.forwarded)
+    (rule_forwarded es c s d k (last_number s.store) h (λ e i. held_after s.store k e i) log
+    (omega (arith, long, within.0, within.1)) p.forwarded)
 
 -- ---- fifth: the predecessor
 
@@ -393,11 +454,14 @@ rule_acked_to_predecessor : (c : Cause) (old : View) (m : ℕ) (s : ServerState)
     → IsUnderway old (last_number s.store) (IsOwed old m s d.untold) (s.store.acked ≡ last_number s.store) s d
     → IsRule c s d (acked_to_predecessor old m s)
     (λ e. IsUnderway old (last_number (acked_to_predecessor old m s).state.store) (e.untold ≡ false)
-    ((acked_to_predecessor old m s).state.store.acked ≡ last_number (acked_to_predecessor old m s).state.store) (acked_to_predecessor old m s).state e)
+    ((acked_to_predecessor old m s).state.store.acked ≡ last_number (acked_to_predecessor old m s).state.store)
+    (acked_to_predecessor old m s).state e)
 unfolding acked_to_predecessor
 rule_acked_to_predecessor c old m s d h p =
     cond_both (not (is_same (predecessor old s.id) (previous s)) && s.store.acked == m) _ _
-    (λ (a : Outcome). IsRule c s d a (λ e. IsUnderway old (last_number a.state.store) (e.untold ≡ false) (a.state.store.acked ≡ last_number a.state.store) a.state e))
+    (λ (a : Outcome). IsRule c s d a
+    (λ e. IsUnderway old (last_number a.state.store) (e.untold ≡ false)
+    (a.state.store.acked ≡ last_number a.state.store) a.state e))
     (λ t. (let parts = and_parts (not (is_same (predecessor old s.id) (previous s))) (s.store.acked == m) t in
     rule_message c s d (previous s) (Ack s.store.acked) _ h
     (λ none. record {
@@ -413,7 +477,8 @@ rule_acked_to_predecessor c old m s d h p =
     (λ j q. (
       (q, refl),
       omega (arith, previous_below s j q, h.placed),
-      elim (p.told j q) [ inl x ↦ x.0 ∙ parts.0 | inr x ↦ absurd (let same = eqb-true _ _ parts.1 in omega (arith, x.1, same)) ],
+      elim (p.told j q)
+          [ inl x ↦ x.0 ∙ parts.0 | inr x ↦ absurd (let same = eqb-true _ _ parts.1 in omega (arith, x.1, same)) ],
       record {
         forwarded = p.forwarded;
         told = λ _ _. refl;
@@ -462,16 +527,29 @@ rule_closing : (rs : List OpenRead) (c : Cause) (s : ServerState) (d : Due)
     → is_tail s ≡ true
     → IsRule c s d (closing rs s) (λ e. e ≡ d)
 unfolding replies_to act
-rule_closing [] c s d h all last = rule_as c s d (silent s) _ _ (ap (λ (xs : List OpenRead). silent (record s { asks = xs })) (sym all)) (rule_silent c s d _ h refl)
+rule_closing [] c s d h all last =
+    rule_as c s d (silent s) _ _ (ap (λ (xs : List OpenRead). silent (record s { asks = xs })) (sym all))
+    (rule_silent c s d _ h refl)
 rule_closing (r ∷ rs) c s d h all last =
     let n = last_number s.store in
     let low : r.mark ≤ s.store.acked = (reads_bound r.ask r.mark rs s.next_ask s.store.acked (rw all at h.reads).2).1 in
     let t = (act s (Finish r n)).state in
     let rest : t.asks ≡ rs = rw all (without_first_read r rs) in
-    let whole = rule_first c s d (Finish r n) (closing rs) (λ e. e ≡ d) h
-    (rw all (first_read r rs), rw all (0, refl), omega (arith, low, h.store.acked_held), omega arith, inl (last, refl)) tt
+    let whole = rule_first c s d (Finish r n) (closing rs) (λ e. e ≡ d) h (
+      rw all (first_read r rs),
+      rw all (0, refl),
+      omega (arith, low, h.store.acked_held),
+      omega arith,
+      inl (last, refl),
+    ) tt
     (λ k. rule_closing rs (left c) t d k rest last) in
-    rule_as c s d _ _ _ (ap (λ (os : List Output). record { state = record s { asks = [] }; outputs = reply_at r.port (Value (value_at s.store r.key n)) ++ os }) (sym (replies_same s t rs refl))) whole
+    rule_as c s d _ _ _
+    (ap (λ (os : List Output).
+    record {
+      state = record s { asks = [] };
+      outputs = reply_at r.port (Value (value_at s.store r.key n))
+          ++ os;
+    }) (sym (replies_same s t rs refl))) whole
 
 -- there is a tail
 pub has_tail : (s : ServerState) → IsSound s → tail_of s ≡ None → ⊥
@@ -484,11 +562,13 @@ rule_asked_again : (rs : List OpenRead) (c : Cause) (s : ServerState) (d : Due)
     → d.unasked ≡ rs
     → IsRule c s d (putting s (asked_again s rs)) (λ e. e ≡ record d { unasked = [] })
 unfolding asked_again
-rule_asked_again [] c s d h other f due = rule_silent c s d _ h (ap (λ (rs : List OpenRead). record d { unasked = rs }) due)
+rule_asked_again [] c s d h other f due =
+    rule_silent c s d _ h (ap (λ (rs : List OpenRead). record d { unasked = rs }) due)
 rule_asked_again (r ∷ rs) c s d h other f due =
     let waits = f r (0, refl) in
     let d2 : Due = record d { unasked = but_first d.unasked } in
-    rule_then c s d (putting s (message_to s (tail_of s) (Query r.ask r.key))) (λ t. putting t (asked_again t rs)) (λ e. e ≡ d2) _
+    rule_then c s d (putting s (message_to s (tail_of s) (Query r.ask r.key))) (λ t. putting t (asked_again t rs))
+    (λ e. e ≡ d2) _
     (rule_message c s d (tail_of s) (Query r.ask r.key) (λ e. e ≡ d2) h
     (λ none. absurd (has_tail s h none))
     (λ j e. (
@@ -497,8 +577,10 @@ rule_asked_again (r ∷ rs) c s d h other f due =
       (r.port, r.mark, rs, due),
       refl,
     )))
-    (λ e is k. subst (λ x. IsRule (left c) s x (putting s (asked_again s rs)) (λ e. e ≡ record d { unasked = [] })) (sym is)
-    (rule_asked_again rs (left c) s d2 k other (λ q i. f q (suc i.0, i.1)) (ap (λ (xs : List OpenRead). but_first xs) due)))
+    (λ e is k. subst (λ x. IsRule (left c) s x (putting s (asked_again s rs))
+    (λ e. e ≡ record d { unasked = [] })) (sym is)
+    (rule_asked_again rs (left c) s d2 k other (λ q i. f q (suc i.0, i.1))
+    (ap (λ (xs : List OpenRead). but_first xs) due)))
 
 -- what was underway is paid, once the reads are
 paid_asked : (old : View) (s : ServerState) (d e : Due)
@@ -522,7 +604,8 @@ rule_asks_renewed : (c : Cause) (old : View) (s : ServerState) (d : Due)
     → IsUnderway old (last_number s.store) (d.untold ≡ false) (s.store.acked ≡ last_number s.store) s d
     → IsRule c s d (asks_renewed old s) (IsPaid (asks_renewed old s).state)
 unfolding asks_renewed
-rule_asks_renewed c old s d h p = cond_both (is_same (tail old s.count) (tail_of s)) _ _ (λ (a : Outcome). IsRule c s d a (IsPaid a.state))
+rule_asks_renewed c old s d h p =
+    cond_both (is_same (tail old s.count) (tail_of s)) _ _ (λ (a : Outcome). IsRule c s d a (IsPaid a.state))
     (λ t. rule_silent c s d _ h (paid_asked old s d d p refl
     (λ _. p.asked ∙ rw t refl)
     (λ l. p.none (ap (λ o. is_that o s.id) (same_is _ _ t) ∙ l))))
@@ -539,7 +622,8 @@ rule_asks_renewed c old s d h p = cond_both (is_same (tail old s.count) (tail_of
     }))
     (rule_closing s.asks c s d h refl t))
     (λ u. rule_so c s d _ (λ e. e ≡ record d { unasked = [] }) _
-    (λ e is. paid_asked old s d e p (is ∙ ap (λ (rs : List OpenRead). record d { unasked = rs }) (sym (ap (λ (x : Due). x.unasked) is)))
+    (λ e is. paid_asked old s d e p
+    (is ∙ ap (λ (rs : List OpenRead). record d { unasked = rs }) (sym (ap (λ (x : Due). x.unasked) is)))
     (λ _. ap (λ (x : Due). x.unasked) is) (λ t. absurd (both_ways _ u t)))
     (rule_asked_again s.asks c s d h u (λ r i. i) (p.asked ∙ rw f refl))))
 
@@ -556,9 +640,12 @@ rule_rejoined c old n m s d h b low high =
     let r = ready old n s h low high in
     let acked2 = acked_second old s ∙ b.acked in
     let second = rule_second c old n m s d h b in
-    let third = rule_then c s d _ promoted_to_tail _ _ second (λ e p k. rule_promoted_to_tail (left c) old n m _ e k acked2 p) in
-    let fourth = rule_then c s d _ (caught_up old n) _ _ third (λ e p k. rule_caught_up (left c) old n m _ e k r.low r.high p) in
-    let fifth = rule_then c s d _ (acked_to_predecessor old m) _ _ fourth (λ e p k. rule_acked_to_predecessor (left c) old m _ e k p) in
+    let third = rule_then c s d _ promoted_to_tail _ _ second
+    (λ e p k. rule_promoted_to_tail (left c) old n m _ e k acked2 p) in
+    let fourth =
+    rule_then c s d _ (caught_up old n) _ _ third (λ e p k. rule_caught_up (left c) old n m _ e k r.low r.high p) in
+    let fifth = rule_then c s d _ (acked_to_predecessor old m) _ _ fourth
+    (λ e p k. rule_acked_to_predecessor (left c) old m _ e k p) in
     rule_then c s d _ (asks_renewed old) _ _ fifth (λ e p k. rule_asks_renewed (left c) old _ e k p)
 
 twice_not : (b : Bool) → not (not b) ≡ true → b ≡ true
@@ -576,11 +663,24 @@ known_widened : (s : ServerState) (v : View) (k : ℕ) → has v k ≡ true → 
 unfolding widened
 known_widened s v k h = rw (has-union s.view v k) (or_right _ _ h)
 
-begun_widened : (s : ServerState) (v : View) → IsPaid s (nothing_due s) → IsBegun s.view (last_number s.store) s.store.acked (widened s v) (due_to_new s (widened s v))
+begun_widened : (s : ServerState) (v : View)
+    → IsPaid s (nothing_due s)
+    → IsBegun s.view (last_number s.store) s.store.acked (widened s v) (due_to_new s (widened s v))
 unfolding widened
-begun_widened s v p = record { forwarded = refl; untold = refl; settled = refl; unsent = refl; asked = refl; acked = refl; none = λ t. (p.last t).1 }
+begun_widened s v p =
+    record {
+      forwarded = refl;
+      untold = refl;
+      settled = refl;
+      unsent = refl;
+      asked = refl;
+      acked = refl;
+      none = λ t. (p.last t).1;
+    }
 
-bounds_widened : (s : ServerState) (v : View) → IsSound s → ((widened s v).store.floor ≤ last_number s.store) × (last_number s.store ≤ last_number (widened s v).store)
+bounds_widened : (s : ServerState) (v : View)
+    → IsSound s
+    → ((widened s v).store.floor ≤ last_number s.store) × (last_number s.store ≤ last_number (widened s v).store)
 unfolding widened
 bounds_widened s v h = (omega arith, omega arith)
 
@@ -597,10 +697,16 @@ pub rule_join : (c : Cause) (s : ServerState) (v : View)
     → is_below v s.count ≡ true
     → IsRule c s (nothing_due s) (join s v) (IsJoined (join s v).state v)
 unfolding act
-rule_join c s v h p brought out below = cond_both (not (adds s.view v)) _ _ (λ (a : Outcome). IsRule c s (nothing_due s) a (IsJoined a.state v))
+rule_join c s v h p brought out below =
+    cond_both (not (adds s.view v)) _ _ (λ (a : Outcome). IsRule c s (nothing_due s) a (IsJoined a.state v))
     (λ t. rule_silent c s (nothing_due s) _ h (record { paid = p; knows = λ k. nothing_added s.view v k t }))
     (λ f. (let within = bounds_widened s v h in
-    rule_first c s (nothing_due s) (Widen v) (rejoined s.view (last_number s.store) s.store.acked) _ h (brought, out, below) refl
-    (λ k. (let rest = rule_rejoined (left c) s.view (last_number s.store) s.store.acked (widened s v) (due_to_new s (widened s v)) k (begun_widened s v p) within.0 within.1 in
+    rule_first c s (nothing_due s) (Widen v) (rejoined s.view (last_number s.store) s.store.acked) _ h
+    (brought, out, below) refl
+    (λ k. (let rest = rule_rejoined (left c) s.view (last_number s.store) s.store.acked (widened s v)
+    (due_to_new s (widened s v)) k (begun_widened s v p) within.0 within.1 in
     rule_so (left c) (widened s v) (due_to_new s (widened s v)) _ _ _
-    (λ e paid. record { paid = paid; knows = λ x g. view_after (left c) (widened s v) _ x rest.done (known_widened s v x g) }) rest))))
+    (λ e paid. record {
+      paid = paid;
+      knows = λ x g. view_after (left c) (widened s v) _ x rest.done (known_widened s v x g);
+    }) rest))))

@@ -1,6 +1,9 @@
 -- Updates as lists of actions in turn: acknowledging, appending, taking, and the messages of updates.
-use Rattle.std.proofs.Common.{◌≡◌, ◌≢◌, ℕ, suc, ◌+◌, ◌<◌, ◌≤◌, nat_lt, nat_le, ◌==◌, ◌&&◌, max, true, false, List, [], ◌∷◌, ◌++◌, length, Option, Some, None, inl, inr, refl, sym, ap, subst, ◌∙◌, arith, length-append}
-use Rattle.std.proofs.lemmas.Bool.{cond_both, cases_eq, and_parts, and_from, both_ways, eqb-true, eq-eqb, ne_eqb, ltb-true, lt-ltb, leb-true, le-leb, cases_lt, false_from_ne_true}
+use Rattle.std.proofs.Common.{◌≡◌, ◌≢◌, ℕ, suc, ◌+◌, ◌<◌, ◌≤◌, nat_lt, nat_le, ◌==◌, ◌&&◌, max, true, false, List, []}
+use Rattle.std.proofs.Common.{◌∷◌, ◌++◌, length, Option, Some, None, inl, inr, refl, sym, ap, subst, ◌∙◌, arith}
+use Rattle.std.proofs.Common.{length-append}
+use Rattle.std.proofs.lemmas.Bool.{cond_both, cases_eq, and_parts, and_from, both_ways, eqb-true, eq-eqb, ne_eqb}
+use Rattle.std.proofs.lemmas.Bool.{ltb-true, lt-ltb, leb-true, le-leb, cases_lt, false_from_ne_true}
 use Rattle.std.proofs.lemmas.List.{get_or-set_same, get_or-set_other}
 use Rattle.table.specs.Operations.{is_update}
 use Rattle.table.specs.declared.operations.Call.{Call}
@@ -13,12 +16,17 @@ use Rattle.node.specs.declared.messages.Peer.{Peer}
 use Rattle.node.specs.declared.messages.Input.TheVariants.{Call as Called, From}
 use Rattle.node.specs.declared.messages.Output.{Output}
 use Rattle.node.specs.Views.{has, is_that}
-use Rattle.node.specs.Servers.{ServerState, Outcome, most, seen_of, head_of, is_head, is_tail, previous, next, putting, message_to}
-use Rattle.node.specs.Numbering.{left_open, replies, newly_acked, risen, rise, appended, passed_on, entry_of, is_taken, take_update, entered, is_room_for_update, called, update, receive_op, receive_forward, receive_ack}
+use Rattle.node.specs.Servers.{ServerState, Outcome, most, seen_of, head_of, is_head, is_tail, previous, next, putting}
+use Rattle.node.specs.Servers.{message_to}
+use Rattle.node.specs.Numbering.{left_open, replies, newly_acked, risen, rise, appended, passed_on, entry_of, is_taken}
+use Rattle.node.specs.Numbering.{take_update, entered, is_room_for_update, called, update, receive_op, receive_forward}
+use Rattle.node.specs.Numbering.{receive_ack}
 use Rattle.node.specs.Lawful.{IsCall, IsSound}
-use Rattle.node.specs.Actions.{Append, Reach, Settle, Enter, act, Cause, left, IsWanted, IsReached, Guard, Due, IsPaid, but_first}
+use Rattle.node.specs.Actions.{Append, Reach, Settle, Enter, act, Cause, left, IsWanted, IsReached, Guard, Due, IsPaid}
+use Rattle.node.specs.Actions.{but_first}
 use Rattle.node.proofs.Lists.{In, get_last, in_more}
-use Rattle.node.proofs.Neighbours.{that_is, is_itself, at_head, at_tail, next_of, previous_of, no_head, previous_below, next_within, head_within, head_other}
+use Rattle.node.proofs.Neighbours.{that_is, is_itself, at_head, at_tail, next_of, previous_of, no_head, previous_below}
+use Rattle.node.proofs.Neighbours.{next_within, head_within, head_other}
 use Rattle.node.proofs.StoreChanges.{held_between}
 use Rattle.node.proofs.SoundActions.{appended_next}
 use Rattle.node.proofs.DoneActions.{IsRule, rule_as, rule_so, rule_silent, rule_then, rule_first, rule_message}
@@ -61,9 +69,12 @@ unfolding left_open replies act
 rule_settling [] c t d h f due = rule_silent c t d _ h (ap (λ (es : List LogEntry). record d { unsettled = es }) due)
 rule_settling (e ∷ es) c t d h f due =
     rule_first c t d (Settle e) (settling es) _ h (f e (0, refl)) (es, due)
-    (λ k. rule_settling es (left c) (act t (Settle e)).state (record d { unsettled = but_first d.unsettled }) k (λ x i. f x (suc i.0, i.1)) (ap (λ (xs : List LogEntry). but_first xs) due))
+    (λ k. rule_settling es (left c) (act t (Settle e)).state (record d { unsettled = but_first d.unsettled }) k
+    (λ x i. f x (suc i.0, i.1)) (ap (λ (xs : List LogEntry). but_first xs) due))
 
-pub message_same : (s t : ServerState) (to : Option ℕ) (body : Body) → t.view ≡ s.view → message_to t to body ≡ message_to s to body
+pub message_same : (s t : ServerState) (to : Option ℕ) (body : Body)
+    → t.view ≡ s.view
+    → message_to t to body ≡ message_to s to body
 message_same s t None body e = refl
 message_same s t (Some j) body e = rw e refl
 
@@ -86,17 +97,33 @@ rule_rise c s d n h low high reached due =
     let end = rule_then c s d _ told (λ e. e ≡ d2) (IsRisen s d) all
     (λ e is k. subst (λ x. IsRule (left c) (risen s n) x (told (risen s n)) (IsRisen s d)) (sym is)
     (rule_message (left c) (risen s n) d2 (previous s) (Ack n) (IsRisen s d) k
-    (λ none. record { forwarded = refl; told = λ j p. absurd (let no = sym none ∙ p in cc); settled = refl; unsent = refl; unasked = refl })
-    (λ j p. ((p, refl), omega (arith, previous_below s j p, h.placed), refl, record { forwarded = refl; told = λ _ _. refl; settled = refl; unsent = refl; unasked = refl })))) in
-    rule_as c s d _ _ _ (ap (λ (os : List Output). record { state = risen s n; outputs = replies s.id s.pend es ++ os }) (sym (message_same s (risen s n) (previous s) (Ack n) refl))) end
+    (λ none. record {
+      forwarded = refl;
+      told = λ j p. absurd (let no = sym none ∙ p in cc);
+      settled = refl;
+      unsent = refl;
+      unasked = refl;
+    })
+    (λ j p. (
+      (p, refl),
+      omega (arith, previous_below s j p, h.placed),
+      refl,
+      record { forwarded = refl; told = λ _ _. refl; settled = refl; unsent = refl; unasked = refl },
+    )))) in
+    rule_as c s d _ _ _
+    (ap (λ (os : List Output). record { state = risen s n; outputs = replies s.id s.pend es ++ os })
+    (sym (message_same s (risen s n) (previous s) (Ack n) refl))) end
 
 -- ---- appending
 
 pub last_appended : (s : ServerState) (e : LogEntry) → last_number (appended s e).store ≡ last_number s.store + 1
 unfolding appended
-last_appended s e = let l : length (s.store.rest ++ e ∷ []) ≡ length s.store.rest + 1 = length-append s.store.rest (e ∷ []) in omega (arith, l)
+last_appended s e = let l : length (s.store.rest ++ e ∷ []) ≡ length s.store.rest + 1 =
+    length-append s.store.rest (e ∷ []) in omega (arith, l)
 
-pub seen_same : (s : ServerState) (e : LogEntry) → e.origin < length s.seen → seen_of (appended s e) e.origin ≡ max (seen_of s e.origin) e.id
+pub seen_same : (s : ServerState) (e : LogEntry)
+    → e.origin < length s.seen
+    → seen_of (appended s e) e.origin ≡ max (seen_of s e.origin) e.id
 unfolding appended
 seen_same s e l = get_or-set_same s.seen e.origin (max (seen_of s e.origin) e.id) 0 l
 
@@ -104,7 +131,10 @@ pub seen_other : (s : ServerState) (e : LogEntry) (o : ℕ) → o ≢ e.origin �
 unfolding appended
 seen_other s e o other = get_or-set_other s.seen e.origin o _ 0 other
 
-pub seen_grows : (s : ServerState) (e : LogEntry) (o : ℕ) → length s.seen ≡ 16 → o < 16 → seen_of s o ≤ seen_of (appended s e) o
+pub seen_grows : (s : ServerState) (e : LogEntry) (o : ℕ)
+    → length s.seen ≡ 16
+    → o < 16
+    → seen_of s o ≤ seen_of (appended s e) o
 seen_grows s e o all low = elim (cases_eq o e.origin) [
   | inl same ↦ (let new = seen_same s e (rw (all, ← same) low) in rw same (omega (arith, new)))
   | inr other ↦ omega (arith, seen_other s e o other)
@@ -127,7 +157,8 @@ record IsPlaced (s t : ServerState) : Type 0 where
 
 placed_appended : (s : ServerState) (e : LogEntry) → IsPlaced s (appended s e)
 unfolding appended
-placed_appended s e = record { id = refl; head = refl; tail = refl; next = refl; previous = refl; acked = refl; same_asks = refl }
+placed_appended s e =
+    record { id = refl; head = refl; tail = refl; next = refl; previous = refl; acked = refl; same_asks = refl }
 
 -- ---- which updates may be taken
 
@@ -144,21 +175,33 @@ may_take s origin id t =
     let parts = and_parts (id == seen_of s origin + 1) (nat_lt (last_number s.store) most) t in
     record { next = eqb-true _ _ parts.0; room = ltb-true _ _ parts.1 }
 
-pub taken_from : (s : ServerState) (origin id : ℕ) → id ≡ seen_of s origin + 1 → last_number s.store < most → is_taken s origin id ≡ true
-taken_from s origin id is room = and_from (id == seen_of s origin + 1) (nat_lt (last_number s.store) most) (eq-eqb id _ is) (lt-ltb _ _ room)
+pub taken_from : (s : ServerState) (origin id : ℕ)
+    → id ≡ seen_of s origin + 1
+    → last_number s.store < most
+    → is_taken s origin id ≡ true
+taken_from s origin id is room =
+    and_from (id == seen_of s origin + 1) (nat_lt (last_number s.store) most) (eq-eqb id _ is) (lt-ltb _ _ room)
 
 -- an update that was taken isn't taken again
-pub taken_once : (s : ServerState) (e : LogEntry) (id : ℕ) → e.origin < length s.seen → id ≤ e.id → is_taken (appended s e) e.origin id ≡ false
+pub taken_once : (s : ServerState) (e : LogEntry) (id : ℕ)
+    → e.origin < length s.seen
+    → id ≤ e.id
+    → is_taken (appended s e) e.origin id ≡ false
 taken_once s e id low le =
     let new = seen_same s e low in
     not_taken (appended s e) e.origin id (λ is. omega (arith, new, le, is))
 
 -- one that can't be taken still can't, after an entry of another origin
-pub still_untaken : (s : ServerState) (e : LogEntry) (origin id : ℕ) → origin ≢ e.origin → is_taken s origin id ≡ false → is_taken (appended s e) origin id ≡ false
+pub still_untaken : (s : ServerState) (e : LogEntry) (origin id : ℕ)
+    → origin ≢ e.origin
+    → is_taken s origin id ≡ false
+    → is_taken (appended s e) origin id ≡ false
 still_untaken s e origin id other never =
     false_from_ne_true _ (λ t.
     let may = may_take (appended s e) origin id t in
-    both_ways _ never (taken_from s origin id (omega (arith, may.next, seen_other s e origin other)) (omega (arith, may.room, last_appended s e))))
+    both_ways _ never
+    (taken_from s origin id (omega (arith, may.next, seen_other s e origin other))
+    (omega (arith, may.room, last_appended s e))))
 
 -- ---- passing on
 
@@ -171,7 +214,8 @@ pub record IsClear (s : ServerState) (d : Due) : Type 0 where
   pub last : is_tail s ≡ true → (s.store.acked ≡ last_number s.store) × (s.asks ≡ [])
 
 pub clear_paid : (s : ServerState) (d : Due) → IsPaid s d → IsClear s d
-clear_paid s d p = record { forwarded = p.forwarded; told = p.told; settled = p.settled; asked = p.asked; last = p.last }
+clear_paid s d p =
+    record { forwarded = p.forwarded; told = p.told; settled = p.settled; asked = p.asked; last = p.last }
 
 -- a tail that has risen to its last number has paid
 paid_risen : (s : ServerState) (d e : Due)
@@ -195,14 +239,19 @@ paid_risen s d e t none sent taken r = record {
 -- nothing is lost as an entry is passed on
 last_passed : (s : ServerState) (e : LogEntry) → last_number (passed_on s e).state.store ≡ last_number s.store
 unfolding passed_on risen
-last_passed s e = cond_both (is_tail s) _ _ (λ (a : Outcome). last_number a.state.store ≡ last_number s.store) (λ t. refl) (λ f. refl)
+last_passed s e =
+    cond_both (is_tail s) _ _ (λ (a : Outcome). last_number a.state.store ≡ last_number s.store) (λ t. refl) (λ f. refl)
 
 acked_risen : (s : ServerState) (n : ℕ) → n ≤ (rise s n).state.store.acked
 unfolding risen
 acked_risen s n = omega arith
 
 -- who has a successor and rises to what that has acknowledged has paid
-paid_acked : (s : ServerState) (d e : Due) (n i : ℕ) → next s ≡ Some i → IsPaid s d → IsRisen s d e → IsPaid (rise s n).state e
+paid_acked : (s : ServerState) (d e : Due) (n i : ℕ)
+    → next s ≡ Some i
+    → IsPaid s d
+    → IsRisen s d e
+    → IsPaid (rise s n).state e
 unfolding risen
 paid_acked s d e n i to p r = record {
   forwarded = λ j k. r.forwarded ∙ p.forwarded j k;
@@ -233,7 +282,8 @@ rule_passed c s d e k p number sent taken =
     cond_both (is_tail t) _ _ (λ (a : Outcome). IsRule c t d a (IsPaid a.state))
     (λ l. (let was = p.last (sym at.tail ∙ l) in
     rule_so c t d _ (IsRisen t d) _ (λ e2 r. paid_risen t d e2 l (at.same_asks ∙ was.1) sent2 taken2 r)
-    (rule_rise c t d (last_number t.store) k (omega (arith, at.acked, was.0, more)) (omega arith) (inl (l, refl)) p.settled)))
+    (rule_rise c t d (last_number t.store) k (omega (arith, at.acked, was.0, more)) (omega arith) (inl (l, refl))
+    p.settled)))
     (λ f. rule_message c t d (next t) (Forward e) (IsPaid t) k
     (λ none. record {
       forwarded = λ j n. absurd (let no = sym none ∙ n in cc);
@@ -270,7 +320,8 @@ pub rule_appended : (c : Cause) (s : ServerState) (d : Due) (e : LogEntry)
     → IsRule c s d (passed_on (appended s e) e) (IsPaid (passed_on (appended s e) e).state)
 unfolding act
 rule_appended c s d e h p g first sent taken =
-    rule_first c s d (Append e) (λ t. passed_on t e) _ h g first (λ k. rule_passed (left c) s d e k p (appended_next c s e g.1) sent taken)
+    rule_first c s d (Append e) (λ t. passed_on t e) _ h g first
+    (λ k. rule_passed (left c) s d e k p (appended_next c s e g.1) sent taken)
 
 -- ---- taking
 
@@ -283,8 +334,20 @@ pub made_guard : (c : Cause) (s : ServerState) (origin id : ℕ) (call : Call)
     → is_head s ≡ true
     → is_taken s origin id ≡ true
     → Guard c s (Append (entry_of s origin id call))
-made_guard c s origin id call low wanted fit is first may =
-    (entry_of-valid s origin id call low fit is may, inl (record { origin = origin; id = id; call = call; wanted = wanted; fits = fit; update = is; head = first; taken = may; made = refl }))
+made_guard c s origin id call low wanted fit is first may = (
+  entry_of-valid s origin id call low fit is may,
+  inl (record {
+    origin = origin;
+    id = id;
+    call = call;
+    wanted = wanted;
+    fits = fit;
+    update = is;
+    head = first;
+    taken = may;
+    made = refl;
+  }),
+)
 
 -- what the head makes of an update: nothing is left to do, and the update can't be taken again
 pub record IsTaken (s : ServerState) (origin id : ℕ) (e : Due) : Type 0 where
@@ -292,9 +355,12 @@ pub record IsTaken (s : ServerState) (origin id : ℕ) (e : Due) : Type 0 where
   pub once : is_taken s origin id ≡ false
 
 -- what can be taken doesn't change as an entry is passed on
-taken_passed : (s : ServerState) (e : LogEntry) (origin id : ℕ) → is_taken (passed_on s e).state origin id ≡ is_taken s origin id
+taken_passed : (s : ServerState) (e : LogEntry) (origin id : ℕ)
+    → is_taken (passed_on s e).state origin id ≡ is_taken s origin id
 unfolding passed_on risen
-taken_passed s e origin id = cond_both (is_tail s) _ _ (λ (a : Outcome). is_taken a.state origin id ≡ is_taken s origin id) (λ t. refl) (λ f. refl)
+taken_passed s e origin id =
+    cond_both (is_tail s) _ _ (λ (a : Outcome). is_taken a.state origin id ≡ is_taken s origin id) (λ t. refl)
+    (λ f. refl)
 
 pub rule_take_update : (c : Cause) (s : ServerState) (d : Due) (origin id : ℕ) (call : Call)
     → IsSound s
@@ -305,14 +371,22 @@ pub rule_take_update : (c : Cause) (s : ServerState) (d : Due) (origin id : ℕ)
     → is_update call.op ≡ true
     → is_head s ≡ true
     → (origin ≢ s.id → (u : OpenUpdate) → In u d.unsent → is_taken s s.id u.id ≡ false)
-    → ((e : LogEntry) → e.origin ≡ origin → e.id ≡ id → (u : OpenUpdate) → In u d.unsent → is_taken (appended s e) s.id u.id ≡ false)
+    → ((e : LogEntry) → e.origin ≡ origin → e.id ≡ id → (u : OpenUpdate) → In u d.unsent
+    → is_taken (appended s e) s.id u.id ≡ false)
     → (is_taken s origin id ≡ false → (u : OpenUpdate) → In u d.unsent → is_taken s s.id u.id ≡ false)
     → IsRule c s d (take_update s origin id call) (IsTaken (take_update s origin id call).state origin id)
 unfolding take_update
-rule_take_update c s d origin id call h p low wanted fit is first own after before = cond_both (is_taken s origin id) _ _ (λ (a : Outcome). IsRule c s d a (IsTaken a.state origin id))
+rule_take_update c s d origin id call h p low wanted fit is first own after before =
+    cond_both (is_taken s origin id) _ _ (λ (a : Outcome). IsRule c s d a (IsTaken a.state origin id))
     (λ t. (let e = entry_of s origin id call in
-    rule_so c s d _ _ _ (λ x paid. record { paid = paid; once = taken_passed (appended s e) e origin id ∙ taken_once s e id (omega (arith, low, h.seen)) (omega arith) })
-    (rule_appended c s d e h p (made_guard c s origin id call low wanted fit is first t) own (λ f. absurd (both_ways _ f first)) (λ _. after e refl refl))))
+    rule_so c s d _ _ _
+    (λ x paid. record {
+      paid = paid;
+      once = taken_passed (appended s e) e origin id
+          ∙ taken_once s e id (omega (arith, low, h.seen)) (omega arith);
+    })
+    (rule_appended c s d e h p (made_guard c s origin id call low wanted fit is first t) own
+    (λ f. absurd (both_ways _ f first)) (λ _. after e refl refl))))
     (λ f. rule_silent c s d _ h (record {
       paid = record {
         forwarded = p.forwarded;
@@ -328,13 +402,17 @@ rule_take_update c s d origin id call h p low wanted fit is first own after befo
 
 -- ---- the inputs and messages of updates
 
-pub entered_in : (s : ServerState) (port : ℕ) (call : Call) → In (record { id = s.next_id; port = port; call = call }) (entered s port call).pend
+pub entered_in : (s : ServerState) (port : ℕ) (call : Call)
+    → In (record { id = s.next_id; port = port; call = call }) (entered s port call).pend
 unfolding entered
 entered_in s port call = (length s.pend, get_last s.pend (record { id = s.next_id; port = port; call = call }))
 
-pub clear_entered : (s : ServerState) (d : Due) (port : ℕ) (call : Call) (us : List OpenUpdate) → IsClear s d → IsClear (entered s port call) (record d { unsent = us })
+pub clear_entered : (s : ServerState) (d : Due) (port : ℕ) (call : Call) (us : List OpenUpdate)
+    → IsClear s d
+    → IsClear (entered s port call) (record d { unsent = us })
 unfolding entered
-clear_entered s d port call us p = record { forwarded = p.forwarded; told = p.told; settled = p.settled; asked = p.asked; last = p.last }
+clear_entered s d port call us p =
+    record { forwarded = p.forwarded; told = p.told; settled = p.settled; asked = p.asked; last = p.last }
 
 pub nothing_in : {X : Type 0} (x : X) → In x [] → ⊥
 nothing_in x i = let none = i.1 in cc
@@ -355,8 +433,11 @@ rule_called c s d id port call h p fit is waits only =
     let own : (v : OpenUpdate) → In v d.unsent → v ≡ u = λ v i. one_in u v (subst (λ us. In v us) only i) in
     let low : s.id < 16 = omega (arith, h.placed, h.counted) in
     cond_both (is_head s) _ _ (λ (a : Outcome). IsRule c s d a (IsPaid a.state))
-    (λ t. rule_so c s d _ _ _ (λ e x. x.paid) (rule_take_update c s d s.id id call h p low (inl (refl, port, waits)) fit is t (λ other. absurd (other refl))
-    (λ e from same v i. ap (λ (x : OpenUpdate). is_taken (appended s e) s.id x.id) (own v i) ∙ ap (λ o. is_taken (appended s e) o id) (sym from)
+    (λ t. rule_so c s d _ _ _ (λ e x. x.paid)
+    (rule_take_update c s d s.id id call h p low (inl (refl, port, waits)) fit is t
+    (λ other. absurd (other refl))
+    (λ e from same v i. ap (λ (x : OpenUpdate). is_taken (appended s e) s.id x.id) (own v i)
+    ∙ ap (λ o. is_taken (appended s e) o id) (sym from)
     ∙ taken_once s e id (omega (arith, from, low, h.seen)) (omega (arith, same)))
     (λ f v i. ap (λ (x : OpenUpdate). is_taken s s.id x.id) (own v i) ∙ f)))
     (λ f. rule_message c s d (head_of s) (Op id call) (IsPaid s) h
@@ -401,13 +482,17 @@ module _ (s : ServerState) (d : Due) (i : ℕ) (m : Peer) (h : IsSound s) (p : I
       → has s.view i ≡ false
       → IsCall call
       → IsRule (Some (From i m)) s d (receive_op s i id call) (λ e. IsPaid (receive_op s i id call).state e
-      × (is_head (receive_op s i id call).state ≡ true → is_update call.op ≡ true → is_taken (receive_op s i id call).state i id ≡ false))
+      × (is_head (receive_op s i id call).state ≡ true → is_update call.op ≡ true
+      → is_taken (receive_op s i id call).state i id ≡ false))
   rule_receive_op id call is low other lives fit =
       cond_both (is_head s && is_update call.op) _ _
-      (λ (a : Outcome). IsRule (Some (From i m)) s d a (λ e. IsPaid a.state e × (is_head a.state ≡ true → is_update call.op ≡ true → is_taken a.state i id ≡ false)))
+      (λ (a : Outcome). IsRule (Some (From i m)) s d a
+      (λ e. IsPaid a.state e
+      × (is_head a.state ≡ true → is_update call.op ≡ true → is_taken a.state i id ≡ false)))
       (λ t. (let parts = and_parts (is_head s) (is_update call.op) t in
       rule_so (Some (From i m)) s d _ _ _ (λ e x. (x.paid, λ _ _. x.once))
-      (rule_take_update (Some (From i m)) s d i id call h (clear_paid s d p) low (inr (m, refl, is, lives, other)) fit parts.1 parts.0 (λ _. p.taken parts.0)
+      (rule_take_update (Some (From i m)) s d i id call h (clear_paid s d p) low (inr (m, refl, is, lives, other)) fit
+      parts.1 parts.0 (λ _. p.taken parts.0)
       (λ e from same u k. still_untaken s e s.id u.id (λ own. other (sym from ∙ sym own)) (p.taken parts.0 u k))
       (λ _. p.taken parts.0))))
       (λ f. rule_silent (Some (From i m)) s d _ h (p, λ t u. absurd (both_ways _ f (and_from _ _ t u))))
@@ -417,36 +502,50 @@ module _ (s : ServerState) (d : Due) (i : ℕ) (m : Peer) (h : IsSound s) (p : I
       → IsEntry e
       → ((k : ℕ) → has m.view k ≡ true → has s.view k ≡ true)
       → IsRule (Some (From i m)) s d (receive_forward s i e) (λ x. IsPaid (receive_forward s i e).state x
-      × (previous (receive_forward s i e).state ≡ Some i → e.number ≢ last_number (receive_forward s i e).state.store + 1))
+      × (previous (receive_forward s i e).state ≡ Some i
+      → e.number ≢ last_number (receive_forward s i e).state.store + 1))
   rule_receive_forward e is valid joined =
       cond_both (is_that (previous s) i && e.number == last_number s.store + 1) _ _
-      (λ (a : Outcome). IsRule (Some (From i m)) s d a (λ x. IsPaid a.state x × (previous a.state ≡ Some i → e.number ≢ last_number a.state.store + 1)))
+      (λ (a : Outcome). IsRule (Some (From i m)) s d a
+      (λ x. IsPaid a.state x × (previous a.state ≡ Some i → e.number ≢ last_number a.state.store + 1)))
       (λ t. (let parts = and_parts (is_that (previous s) i) (e.number == last_number s.store + 1) t in
       let from = that_is _ i parts.0 in
       let number = eqb-true _ _ parts.1 in
-      rule_so (Some (From i m)) s d _ _ _ (λ x paid. (paid, λ _ next. omega (arith, number, next, last_passed (appended s e) e, last_appended s e)))
-      (rule_appended (Some (From i m)) s d e h (clear_paid s d p)
-      (valid, inr (record { from = i; message = m; came = refl; body = is; joined = joined; previous = from; next = number }))
-      (λ _ u k. absurd (nothing_in u (subst (λ us. In u us) (p.sent (false_from_ne_true _ (λ first. not_first s i from first))) k))) p.sent (λ first. absurd (not_first s i from first)))))
-      (λ f. rule_silent (Some (From i m)) s d _ h (p, λ from number. absurd (both_ways _ f (and_from _ _ (is_itself _ i from) (eq-eqb _ _ number)))))
+      rule_so (Some (From i m)) s d _ _ _
+      (λ x paid. (paid, λ _ next. omega (arith, number, next, last_passed (appended s e) e, last_appended s e)))
+      (rule_appended (Some (From i m)) s d e h (clear_paid s d p) (
+        valid,
+        inr (record
+            { from = i; message = m; came = refl; body = is; joined = joined; previous = from; next = number }),
+      )
+      (λ _ u k. absurd (nothing_in u
+      (subst (λ us. In u us) (p.sent (false_from_ne_true _ (λ first. not_first s i from first))) k))) p.sent
+      (λ first. absurd (not_first s i from first)))))
+      (λ f. rule_silent (Some (From i m)) s d _ h
+      (p, λ from number. absurd (both_ways _ f (and_from _ _ (is_itself _ i from) (eq-eqb _ _ number)))))
 
   pub rule_receive_ack : (n : ℕ)
       → m.body ≡ Ack n
       → ((k : ℕ) → has m.view k ≡ true → has s.view k ≡ true)
       → IsRule (Some (From i m)) s d (receive_ack s i n) (λ e. IsPaid (receive_ack s i n).state e
-      × (next (receive_ack s i n).state ≡ Some i → n ≤ last_number (receive_ack s i n).state.store → n ≤ (receive_ack s i n).state.store.acked))
+      × (next (receive_ack s i n).state ≡ Some i → n ≤ last_number (receive_ack s i n).state.store
+      → n ≤ (receive_ack s i n).state.store.acked))
   rule_receive_ack n is joined =
       cond_both (is_that (next s) i && nat_lt s.store.acked n && nat_le n (last_number s.store)) _ _
-      (λ (a : Outcome). IsRule (Some (From i m)) s d a (λ e. IsPaid a.state e × (next a.state ≡ Some i → n ≤ last_number a.state.store → n ≤ a.state.store.acked)))
+      (λ (a : Outcome). IsRule (Some (From i m)) s d a
+      (λ e. IsPaid a.state e
+      × (next a.state ≡ Some i → n ≤ last_number a.state.store → n ≤ a.state.store.acked)))
       (λ t. (let parts = and_parts (is_that (next s) i && nat_lt s.store.acked n) (nat_le n (last_number s.store)) t in
       let first = and_parts (is_that (next s) i) (nat_lt s.store.acked n) parts.0 in
       let to = that_is _ i first.0 in
       rule_so (Some (From i m)) s d _ (IsRisen s d) _ (λ e r. (paid_acked s d e n i to p r, λ _ _. acked_risen s n))
-      (rule_rise (Some (From i m)) s d n h (ltb-true _ _ first.1) (leb-true _ _ parts.1) (inr (i, m, refl, is, to, joined)) p.settled)))
+      (rule_rise (Some (From i m)) s d n h (ltb-true _ _ first.1) (leb-true _ _ parts.1)
+      (inr (i, m, refl, is, to, joined)) p.settled)))
       (λ f. rule_silent (Some (From i m)) s d _ h (
         p,
         λ to high. elim (cases_lt s.store.acked n) [
-          | inl low ↦ absurd (both_ways _ f (and_from _ _ (and_from _ _ (is_itself _ i to) (lt-ltb _ _ low)) (le-leb _ _ high)))
+          | inl low ↦ absurd
+              (both_ways _ f (and_from _ _ (and_from _ _ (is_itself _ i to) (lt-ltb _ _ low)) (le-leb _ _ high)))
           | inr held ↦ held
         ],
       ))

@@ -1,7 +1,11 @@
--- One server's step is a list of actions, each done by a sound server that knows what the action needs, and in its turn; nothing is left to
+-- One server's step is a list of actions, each done by a sound server that knows what the action needs, and in its
+-- turn; nothing is left to
 -- do after it, and what its input says is taken in.
-use Rattle.std.proofs.Common.{◌≡◌, ◌≢◌, ℕ, zero, suc, ◌+◌, ◌<◌, ◌≤◌, nat_lt, nat_le, ◌==◌, ◌&&◌, Bool, true, false, cond, not, List, [], ◌∷◌, ◌++◌, length, Option, Some, None, inl, inr, refl, sym, ap, subst, ◌∙◌, arith, append-nil}
-use Rattle.std.proofs.lemmas.Bool.{cond_both, and_parts, and_from, both_ways, eq-eqb, eqb-true, eqb-false, ltb-true, lt-ltb, leb-true, le-leb, ne_eqb, not-true, not_from_false, false_from_ne_true}
+use Rattle.std.proofs.Common.{◌≡◌, ◌≢◌, ℕ, zero, suc, ◌+◌, ◌<◌, ◌≤◌, nat_lt, nat_le, ◌==◌, ◌&&◌, Bool, true, false}
+use Rattle.std.proofs.Common.{cond, not, List, [], ◌∷◌, ◌++◌, length, Option, Some, None, inl, inr, refl, sym, ap}
+use Rattle.std.proofs.Common.{subst, ◌∙◌, arith, append-nil}
+use Rattle.std.proofs.lemmas.Bool.{cond_both, and_parts, and_from, both_ways, eq-eqb, eqb-true, eqb-false, ltb-true}
+use Rattle.std.proofs.lemmas.Bool.{lt-ltb, leb-true, le-leb, ne_eqb, not-true, not_from_false, false_from_ne_true}
 use Rattle.std.proofs.lemmas.Option.{same_Some}
 use Rattle.table.specs.Operations.{is_update}
 use Rattle.table.specs.declared.operations.Call.{Call}
@@ -19,15 +23,18 @@ use Rattle.node.specs.declared.messages.Output.TheVariants.{To}
 use Rattle.node.specs.Views.{has, single, is_that}
 use Rattle.node.specs.Servers.{ServerState, Outcome, most, seen_of, tail_of, is_tail, silent, putting, message_to}
 use Rattle.node.specs.Numbering.{is_taken}
-use Rattle.node.specs.Reading.{asked, dirty_read, read_of, receive_query, open_read, without_read, answered, receive_answer}
+use Rattle.node.specs.Reading.{asked, dirty_read, read_of, receive_query, open_read, without_read, answered}
+use Rattle.node.specs.Reading.{receive_answer}
 use Rattle.node.specs.Joining.{join}
 use Rattle.node.specs.Steps.{call, gone, receive, received, is_heard, from_peer, taken_in, least_open, trimmed, step}
 use Rattle.node.specs.Lawful.{AreReads, IsCall, IsBody, IsInput, HasEntry, HoldsEntry, IsSound, IsSettled, IsLawful}
 use Rattle.node.proofs.Lists.{In, get_last, in_behind}
-use Rattle.node.specs.Actions.{Send, Finish, Trim, Ask, Show, act, Cause, left, IsDone, Due, IsPaid, IsTakenIn, IsHeeded, IsWhole, nothing_due, but_first}
+use Rattle.node.specs.Actions.{Send, Finish, Trim, Ask, Show, act, Cause, left, IsDone, Due, IsPaid, IsTakenIn}
+use Rattle.node.specs.Actions.{IsHeeded, IsWhole, nothing_due, but_first}
 use Rattle.node.proofs.ViewLaws.{has-single_other, has-single_itself, below-single}
 use Rattle.node.proofs.Neighbours.{that_is, is_itself, tail_within}
-use Rattle.node.proofs.DoneActions.{IsRule, rule_as, rule_so, rule_silent, rule_one, rule_then, rule_first, rule_message, seat_after, view_after}
+use Rattle.node.proofs.DoneActions.{IsRule, rule_as, rule_so, rule_silent, rule_one, rule_then, rule_first}
+use Rattle.node.proofs.DoneActions.{rule_message, seat_after, view_after}
 use Rattle.node.proofs.OpenLists.{read_above, read_apart}
 use Rattle.node.proofs.DoneRules.{message_same, rule_update, rule_receive_op, rule_receive_forward, rule_receive_ack}
 use Rattle.node.proofs.DoneJoins.{rule_join, has_tail}
@@ -37,17 +44,21 @@ use Rattle.node.proofs.RuleLaws.{clean_at_last, heard, last-dropped}
 -- ---- own reads
 
 dirty_elsewhere : (s : ServerState) (key : List ℕ) → IsSettled s → is_clean s.store key ≡ false → is_tail s ≡ false
-dirty_elsewhere s key settled dirty = false_from_ne_true (is_tail s) (λ t. both_ways _ dirty (clean_at_last s key (settled t).0))
+dirty_elsewhere s key settled dirty =
+    false_from_ne_true (is_tail s) (λ t. both_ways _ dirty (clean_at_last s key (settled t).0))
 
-pub asked_in : (s : ServerState) (port : ℕ) (key : List ℕ) → In (record { ask = s.next_ask; port = port; key = key; mark = s.store.acked }) (asked s port key).asks
+pub asked_in : (s : ServerState) (port : ℕ) (key : List ℕ)
+    → In (record { ask = s.next_ask; port = port; key = key; mark = s.store.acked }) (asked s port key).asks
 unfolding asked
-asked_in s port key = (length s.asks, get_last s.asks (record { ask = s.next_ask; port = port; key = key; mark = s.store.acked }))
+asked_in s port key =
+    (length s.asks, get_last s.asks (record { ask = s.next_ask; port = port; key = key; mark = s.store.acked }))
 
 view_asked : (s : ServerState) (port : ℕ) (key : List ℕ) → (asked s port key).view ≡ s.view
 unfolding asked
 view_asked s port key = refl
 
-seat_asked : (s : ServerState) (port : ℕ) (key : List ℕ) → (is_tail (asked s port key) ≡ is_tail s) × (tail_of (asked s port key) ≡ tail_of s)
+seat_asked : (s : ServerState) (port : ℕ) (key : List ℕ)
+    → (is_tail (asked s port key) ≡ is_tail s) × (tail_of (asked s port key) ≡ tail_of s)
 unfolding asked
 seat_asked s port key = (refl, refl)
 
@@ -73,14 +84,20 @@ rule_query : (c : Cause) (s : ServerState) (d : Due) (port : ℕ) (key : List �
     → is_tail s ≡ false
     → IsPaid s d
     → IsSound (asked s port key)
-    → IsRule c (asked s port key) (record d { unasked = d.unasked ++ record { ask = s.next_ask; port = port; key = key; mark = s.store.acked } ∷ [] })
+    → IsRule c (asked s port key)
+    (record d {
+      unasked = d.unasked
+          ++ record { ask = s.next_ask; port = port; key = key; mark = s.store.acked } ∷ [];
+    })
     (putting (asked s port key) (message_to s (tail_of s) (Query s.next_ask key))) (IsPaid (asked s port key))
 rule_query c s d port key low other p h =
     let t = asked s port key in
     let seat = seat_asked s port key in
     let r : OpenRead = record { ask = s.next_ask; port = port; key = key; mark = s.store.acked } in
     let only : d.unasked ++ r ∷ [] ≡ r ∷ [] = ap (λ (rs : List OpenRead). rs ++ r ∷ []) (p.asked other) in
-    rule_as c t _ _ _ _ (ap (λ (os : List Output). putting t os) (sym (message_same s t (tail_of s) (Query s.next_ask key) (view_asked s port key))))
+    rule_as c t _ _ _ _
+    (ap (λ (os : List Output). putting t os)
+    (sym (message_same s t (tail_of s) (Query s.next_ask key) (view_asked s port key))))
     (rule_message c t _ (tail_of s) (Query s.next_ask key) (IsPaid t) h
     (λ none. absurd (has_tail t h (seat.1 ∙ none)))
     (λ j e. (
@@ -90,18 +107,30 @@ rule_query c s d port key low other p h =
       paid_query s d port key _ other p (ap (λ (rs : List OpenRead). but_first rs) only),
     )))
 
-module _ (s : ServerState) (d : Due) (port : ℕ) (asked_call : Call) (h : IsSound s) (p : IsPaid s d) (is : is_update asked_call.op ≡ false) where
-  rule_dirty_read : (key : List ℕ) → asked_call.target ≡ One key → is_clean s.store key ≡ false → IsRule (Some (Called port asked_call)) s d (dirty_read s port key) (IsPaid (dirty_read s port key).state)
+module _ (s : ServerState) (d : Due) (port : ℕ) (asked_call : Call) (h : IsSound s) (p : IsPaid s d)
+    (is : is_update asked_call.op ≡ false) where
+  rule_dirty_read : (key : List ℕ)
+      → asked_call.target ≡ One key
+      → is_clean s.store key ≡ false
+      → IsRule (Some (Called port asked_call)) s d (dirty_read s port key) (IsPaid (dirty_read s port key).state)
   unfolding dirty_read act
-  rule_dirty_read key one dirty = cond_both (nat_lt s.next_ask most) _ _ (λ (a : Outcome). IsRule (Some (Called port asked_call)) s d a (IsPaid a.state))
+  rule_dirty_read key one dirty =
+      cond_both (nat_lt s.next_ask most) _ _
+      (λ (a : Outcome). IsRule (Some (Called port asked_call)) s d a (IsPaid a.state))
       (λ t. (let low = (reads_bound 0 s.store.floor s.asks s.next_ask s.store.acked h.reads).0 in
-      rule_first (Some (Called port asked_call)) s d (Ask port key) (λ u. putting u (message_to s (tail_of s) (Query s.next_ask key))) _ h (asked_call, refl, is, one, dirty, t) tt
+      rule_first (Some (Called port asked_call)) s d (Ask port key)
+      (λ u. putting u (message_to s (tail_of s) (Query s.next_ask key))) _ h
+      (asked_call, refl, is, one, dirty, t) tt
       (λ k. rule_query None s d port key low (dirty_elsewhere s key p.last dirty) p k)))
       (λ f. rule_silent (Some (Called port asked_call)) s d _ h p)
 
-  rule_read_of : (target : Target) → asked_call.target ≡ target → IsRule (Some (Called port asked_call)) s d (read_of s port target) (IsPaid (read_of s port target).state)
+  rule_read_of : (target : Target)
+      → asked_call.target ≡ target
+      → IsRule (Some (Called port asked_call)) s d (read_of s port target) (IsPaid (read_of s port target).state)
   unfolding act
-  rule_read_of (One key) one = cond_both (is_clean s.store key) _ _ (λ (a : Outcome). IsRule (Some (Called port asked_call)) s d a (IsPaid a.state))
+  rule_read_of (One key) one =
+      cond_both (is_clean s.store key) _ _
+      (λ (a : Outcome). IsRule (Some (Called port asked_call)) s d a (IsPaid a.state))
       (λ t. rule_one (Some (Called port asked_call)) s d (Show port key) _ h (asked_call, refl, is, one, t) tt p)
       (λ f. rule_dirty_read key one f)
   rule_read_of All one = rule_silent (Some (Called port asked_call)) s d _ h p
@@ -112,14 +141,20 @@ rule_call : (s : ServerState) (d : Due) (port : ℕ) (made : Call)
     → d.unsent ≡ []
     → IsCall made
     → IsRule (Some (Called port made)) s d (call s port made) (IsPaid (call s port made).state)
-rule_call s d port made h p none fit = cond_both (is_update made.op) _ _ (λ (a : Outcome). IsRule (Some (Called port made)) s d a (IsPaid a.state))
+rule_call s d port made h p none fit =
+    cond_both (is_update made.op) _ _ (λ (a : Outcome). IsRule (Some (Called port made)) s d a (IsPaid a.state))
     (λ t. rule_update s d port made h p none fit t)
     (λ f. rule_read_of s d port made h p f made.target refl)
 
 -- ---- messages of reads
 
-found_step : (b : Bool) (r q : OpenRead) (rest : Option OpenRead) (ask : ℕ) (rs : List OpenRead) → (r.ask == ask) ≡ b → (rest ≡ Some q → (q.ask ≡ ask) × In q rs) → cond b (Some r) rest ≡ Some q → (q.ask ≡ ask) × In q (r ∷ rs)
-found_step true r q rest ask rs e f h = let same : r ≡ q = same_Some r q h in (rw (← same) (eqb-true r.ask ask e), (0, ap Some same))
+found_step : (b : Bool) (r q : OpenRead) (rest : Option OpenRead) (ask : ℕ) (rs : List OpenRead)
+    → (r.ask == ask) ≡ b
+    → (rest ≡ Some q → (q.ask ≡ ask) × In q rs)
+    → cond b (Some r) rest ≡ Some q
+    → (q.ask ≡ ask) × In q (r ∷ rs)
+found_step true r q rest ask rs e f h =
+    let same : r ≡ q = same_Some r q h in (rw (← same) (eqb-true r.ask ask e), (0, ap Some same))
 found_step false r q rest ask rs e f h = let g = f h in (g.0, (suc g.1.0, g.1.1))
 
 -- the open read of an ask has it, and waits
@@ -128,9 +163,13 @@ found_read [] ask q h = absurd cc
 found_read (r ∷ rs) ask q h = found_step _ r q _ ask rs refl (λ g. found_read rs ask q g) h
 
 -- an open read is found under its ask
-found_itself : (above mark : ℕ) (rs : List OpenRead) (next_ask acked : ℕ) (r : OpenRead) → AreReads above mark rs next_ask acked → In r rs → open_read rs r.ask ≡ Some r
+found_itself : (above mark : ℕ) (rs : List OpenRead) (next_ask acked : ℕ) (r : OpenRead)
+    → AreReads above mark rs next_ask acked
+    → In r rs
+    → open_read rs r.ask ≡ Some r
 found_itself above mark [] next_ask acked r h i = absurd (let none = i.1 in cc)
-found_itself above mark (q ∷ rs) next_ask acked r h (zero, i) = let same : q ≡ r = same_Some q r i in rw (same, eq-eqb r.ask r.ask refl) refl
+found_itself above mark (q ∷ rs) next_ask acked r h (zero, i) =
+    let same : q ≡ r = same_Some q r i in rw (same, eq-eqb r.ask r.ask refl) refl
 found_itself above mark (q ∷ rs) next_ask acked r h (suc k, i) =
     let more = read_above q.ask q.mark rs next_ask acked r h.2 (k, i) in
     rw (ne_eqb q.ask r.ask (λ e. omega (arith, more.0, e))) (found_itself q.ask q.mark rs next_ask acked r h.2 (k, i))
@@ -142,7 +181,9 @@ gone_read s ask r h i same = read_apart 0 s.store.floor s.asks s.next_ask s.stor
 module _ (s : ServerState) (d : Due) (i : ℕ) (m : Peer) (h : IsSound s) (p : IsPaid s d) where
   -- what an answered read leaves
   Answers : ℕ → ℕ → Outcome → Due → Type 0
-  Answers ask n a e = IsPaid a.state e × ((r : OpenRead) → In r a.state.asks → r.ask ≡ ask → r.mark ≤ n → n ≤ last_number a.state.store → ⊥)
+  Answers ask n a e =
+      IsPaid a.state e ×
+      ((r : OpenRead) → In r a.state.asks → r.ask ≡ ask → r.mark ≤ n → n ≤ last_number a.state.store → ⊥)
 
   rule_finished : (n : ℕ) (r : OpenRead)
       → m.body ≡ Answer r.ask n
@@ -151,9 +192,11 @@ module _ (s : ServerState) (d : Due) (i : ℕ) (m : Peer) (h : IsSound s) (p : I
       → In r s.asks
       → IsRule (Some (From i m)) s d (answered s r.ask n (Some r)) (Answers r.ask n (answered s r.ask n (Some r)))
   unfolding answered act Answers
-  rule_finished n r is from found waits = cond_both (nat_le r.mark n && nat_le n (last_number s.store)) _ _ (λ (a : Outcome). IsRule (Some (From i m)) s d a (Answers r.ask n a))
+  rule_finished n r is from found waits = cond_both (nat_le r.mark n && nat_le n (last_number s.store)) _ _
+      (λ (a : Outcome). IsRule (Some (From i m)) s d a (Answers r.ask n a))
       (λ t. (let parts = and_parts (nat_le r.mark n) (nat_le n (last_number s.store)) t in
-      rule_one (Some (From i m)) s d (Finish r n) _ h (found, waits, leb-true _ _ parts.0, leb-true _ _ parts.1, inr (i, m, refl, is, from)) tt (
+      rule_one (Some (From i m)) s d (Finish r n) _ h
+      (found, waits, leb-true _ _ parts.0, leb-true _ _ parts.1, inr (i, m, refl, is, from)) tt (
         record {
           forwarded = p.forwarded;
           told = p.told;
@@ -168,7 +211,9 @@ module _ (s : ServerState) (d : Due) (i : ℕ) (m : Peer) (h : IsSound s) (p : I
       (λ f. rule_silent (Some (From i m)) s d _ h (
         p,
         λ q k same low high.
-            let one : q ≡ r = same_Some q r (sym (found_itself 0 s.store.floor s.asks s.next_ask s.store.acked q h.reads k) ∙ ap (λ x. open_read s.asks x) same ∙ found) in
+            let one : q ≡ r =
+            same_Some q r (sym (found_itself 0 s.store.floor s.asks s.next_ask s.store.acked q h.reads k)
+            ∙ ap (λ x. open_read s.asks x) same ∙ found) in
             both_ways _ f (and_from _ _ (le-leb _ _ (subst (λ (x : OpenRead). x.mark ≤ n) one low)) (le-leb _ _ high)),
       ))
 
@@ -187,27 +232,35 @@ module _ (s : ServerState) (d : Due) (i : ℕ) (m : Peer) (h : IsSound s) (p : I
   )
   rule_answered ask n (Some r) is from found =
       let q = found_read s.asks ask r found in
-      subst (λ (x : ℕ). IsRule (Some (From i m)) s d (answered s x n (Some r)) (Answers x n (answered s x n (Some r)))) q.0
-      (rule_finished n r (subst (λ (x : ℕ). m.body ≡ Answer x n) (sym q.0) is) from (subst (λ (x : ℕ). open_read s.asks x ≡ Some r) (sym q.0) found) q.1)
+      subst (λ (x : ℕ). IsRule (Some (From i m)) s d (answered s x n (Some r))
+      (Answers x n (answered s x n (Some r)))) q.0
+      (rule_finished n r (subst (λ (x : ℕ). m.body ≡ Answer x n) (sym q.0) is) from
+      (subst (λ (x : ℕ). open_read s.asks x ≡ Some r) (sym q.0) found) q.1)
 
   rule_receive_answer : (ask n : ℕ)
       → m.body ≡ Answer ask n
-      → IsRule (Some (From i m)) s d (receive_answer s i ask n) (λ e. IsPaid (receive_answer s i ask n).state e × IsTakenIn i (Answer ask n) (receive_answer s i ask n))
+      → IsRule (Some (From i m)) s d (receive_answer s i ask n)
+      (λ e. IsPaid (receive_answer s i ask n).state e × IsTakenIn i (Answer ask n) (receive_answer s i ask n))
   unfolding Answers
   rule_receive_answer ask n is =
-      cond_both (is_that (tail_of s) i) _ _ (λ (a : Outcome). IsRule (Some (From i m)) s d a (λ e. IsPaid a.state e × IsTakenIn i (Answer ask n) a))
-      (λ t. rule_so (Some (From i m)) s d _ _ _ (λ e x. (x.0, λ _. x.1)) (rule_answered ask n (open_read s.asks ask) is (that_is _ i t) refl))
+      cond_both (is_that (tail_of s) i) _ _
+      (λ (a : Outcome). IsRule (Some (From i m)) s d a (λ e. IsPaid a.state e × IsTakenIn i (Answer ask n) a))
+      (λ t. rule_so (Some (From i m)) s d _ _ _ (λ e x. (x.0, λ _. x.1))
+      (rule_answered ask n (open_read s.asks ask) is (that_is _ i t) refl))
       (λ f. rule_silent (Some (From i m)) s d _ h (p, λ from. absurd (both_ways _ f (is_itself _ i from))))
 
   rule_receive_query : (ask : ℕ) (key : List ℕ)
       → m.body ≡ Query ask key
       → i < s.count
       → has s.view i ≡ false
-      → IsRule (Some (From i m)) s d (receive_query s i ask) (λ e. IsPaid (receive_query s i ask).state e × IsTakenIn i (Query ask key) (receive_query s i ask))
+      → IsRule (Some (From i m)) s d (receive_query s i ask)
+      (λ e. IsPaid (receive_query s i ask).state e × IsTakenIn i (Query ask key) (receive_query s i ask))
   unfolding act
   rule_receive_query ask key is low lives =
-      cond_both (is_tail s) _ _ (λ (a : Outcome). IsRule (Some (From i m)) s d a (λ e. IsPaid a.state e × IsTakenIn i (Query ask key) a))
-      (λ t. rule_one (Some (From i m)) s d (Send i (Answer ask (last_number s.store))) _ h ((t, refl, lives, m, key, refl, is), low) tt
+      cond_both (is_tail s) _ _
+      (λ (a : Outcome). IsRule (Some (From i m)) s d a (λ e. IsPaid a.state e × IsTakenIn i (Query ask key) a))
+      (λ t. rule_one (Some (From i m)) s d (Send i (Answer ask (last_number s.store))) _ h
+      ((t, refl, lives, m, key, refl, is), low) tt
       (p, λ _. (record { view = s.view; body = Answer ask (last_number s.store) }, (0, refl), refl)))
       (λ f. rule_silent (Some (From i m)) s d _ h (p, λ t. absurd (both_ways _ f t)))
 
@@ -223,11 +276,15 @@ rule_receive : (s : ServerState) (d : Due) (i : ℕ) (m : Peer) (body : Body)
     → IsBody body
     → HasEntry body
     → ((k : ℕ) → has m.view k ≡ true → has s.view k ≡ true)
-    → IsRule (Some (From i m)) s d (receive s i body) (λ e. IsPaid (receive s i body).state e × IsTakenIn i body (receive s i body))
-rule_receive s d i m (Op id made) is h p low other lives fit valid joined = rule_receive_op s d i m h p id made is (omega (arith, low, h.counted)) other lives fit
-rule_receive s d i m (Forward e) is h p low other lives fit valid joined = rule_receive_forward s d i m h p e is valid joined
+    → IsRule (Some (From i m)) s d (receive s i body)
+    (λ e. IsPaid (receive s i body).state e × IsTakenIn i body (receive s i body))
+rule_receive s d i m (Op id made) is h p low other lives fit valid joined =
+    rule_receive_op s d i m h p id made is (omega (arith, low, h.counted)) other lives fit
+rule_receive s d i m (Forward e) is h p low other lives fit valid joined =
+    rule_receive_forward s d i m h p e is valid joined
 rule_receive s d i m (Ack n) is h p low other lives fit valid joined = rule_receive_ack s d i m h p n is joined
-rule_receive s d i m (Query ask key) is h p low other lives fit valid joined = rule_receive_query s d i m h p ask key is low lives
+rule_receive s d i m (Query ask key) is h p low other lives fit valid joined =
+    rule_receive_query s d i m h p ask key is low lives
 rule_receive s d i m (Answer ask n) is h p low other lives fit valid joined = rule_receive_answer s d i m h p ask n is
 
 pub rule_received : (s : ServerState) (d : Due) (i : ℕ) (m : Peer)
@@ -238,14 +295,20 @@ pub rule_received : (s : ServerState) (d : Due) (i : ℕ) (m : Peer)
     → IsBody m.body
     → HasEntry m.body
     → ((k : ℕ) → has m.view k ≡ true → has s.view k ≡ true)
-    → IsRule (Some (From i m)) s d (received s i m.body) (λ e. IsPaid (received s i m.body).state e × (has s.view i ≡ false → IsTakenIn i m.body (received s i m.body)))
+    → IsRule (Some (From i m)) s d (received s i m.body)
+    (λ e. IsPaid (received s i m.body).state e × (has s.view i ≡ false → IsTakenIn i m.body (received s i m.body)))
 rule_received s d i m h p low other fit valid joined =
-    cond_both (has s.view i) _ _ (λ (a : Outcome). IsRule (Some (From i m)) s d a (λ e. IsPaid a.state e × (has s.view i ≡ false → IsTakenIn i m.body a)))
+    cond_both (has s.view i) _ _
+    (λ (a : Outcome). IsRule (Some (From i m)) s d a
+    (λ e. IsPaid a.state e × (has s.view i ≡ false → IsTakenIn i m.body a)))
     (λ t. rule_silent (Some (From i m)) s d _ h (p, λ f. absurd (both_ways _ f t)))
-    (λ f. rule_so (Some (From i m)) s d _ _ _ (λ e x. (x.0, λ _. x.1)) (rule_receive s d i m m.body refl h p low other f fit valid joined))
+    (λ f. rule_so (Some (From i m)) s d _ _ _ (λ e x. (x.0, λ _. x.1))
+    (rule_receive s d i m m.body refl h p low other f fit valid joined))
 
 -- what is taken in stays so, whatever was put out before
-taken_behind : (i : ℕ) (body : Body) (a b : Outcome) → IsTakenIn i body b → IsTakenIn i body (record { state = b.state; outputs = a.outputs ++ b.outputs })
+taken_behind : (i : ℕ) (body : Body) (a b : Outcome)
+    → IsTakenIn i body b
+    → IsTakenIn i body (record { state = b.state; outputs = a.outputs ++ b.outputs })
 taken_behind i (Op id made) a b h = h
 taken_behind i (Forward e) a b h = h
 taken_behind i (Ack n) a b h = h
@@ -269,23 +332,27 @@ rule_from_peer : (s : ServerState) (i : ℕ) (m : Peer)
     → IsSettled s
     → IsBody m.body
     → HasEntry m.body
-    → IsRule (Some (From i m)) s (nothing_due s) (from_peer s i m) (λ e. IsPaid (from_peer s i m).state e × IsHeeded (From i m) s (from_peer s i m))
+    → IsRule (Some (From i m)) s (nothing_due s) (from_peer s i m)
+    (λ e. IsPaid (from_peer s i m).state e × IsHeeded (From i m) s (from_peer s i m))
 rule_from_peer s i m h settled fit valid =
     let c : Cause = Some (From i m) in
     let d = nothing_due s in
-    cond_both (is_heard s i m.view) _ _ (λ (a : Outcome). IsRule c s d a (λ e. IsPaid a.state e × IsHeeded (From i m) s a))
+    cond_both (is_heard s i m.view) _ _
+    (λ (a : Outcome). IsRule c s d a (λ e. IsPaid a.state e × IsHeeded (From i m) s a))
     (λ t. (let hears = heard s i m.view t in
     let first = rule_join c s m.view h (paid_nothing s settled) (inl (i, m, refl, refl)) hears.outside hears.below in
     let seat = seat_after c s _ first.done in
     let mid = (join s m.view).state in
     rule_then c s d (join s m.view) (λ u. received u i m.body) _ _ first
-    (λ e j k. (let rest = rule_received mid e i m k j.paid (omega (arith, hears.placed, seat.count)) (λ same. eqb-false i s.id hears.other (same ∙ seat.id)) fit valid j.knows in
+    (λ e j k. (let rest = rule_received mid e i m k j.paid (omega (arith, hears.placed, seat.count))
+    (λ same. eqb-false i s.id hears.other (same ∙ seat.id)) fit valid j.knows in
     rule_so c mid e _ _ _
     (λ g x. (
       x.0,
       λ _. (
         λ n y. view_after c mid _ n rest.done (j.knows n y),
-        λ out. taken_behind i m.body (join s m.view) (received mid i m.body) (x.1 (false_from_ne_true _ (λ y. both_ways _ out (view_after c mid _ i rest.done y)))),
+        λ out. taken_behind i m.body (join s m.view) (received mid i m.body)
+            (x.1 (false_from_ne_true _ (λ y. both_ways _ out (view_after c mid _ i rest.done y)))),
       ),
     )) rest))))
     (λ f. rule_silent c s d _ h (paid_nothing s settled, λ t. absurd (both_ways _ f t)))
@@ -293,22 +360,31 @@ rule_from_peer s i m h settled fit valid =
 rule_gone : (s : ServerState) (j : ℕ)
     → IsSound s
     → IsSettled s
-    → IsRule (Some (Gone j)) s (nothing_due s) (gone s j) (λ e. IsPaid (gone s j).state e × IsHeeded (Gone j) s (gone s j))
+    → IsRule (Some (Gone j)) s (nothing_due s) (gone s j)
+    (λ e. IsPaid (gone s j).state e × IsHeeded (Gone j) s (gone s j))
 rule_gone s j h settled =
-    cond_both (nat_lt j s.count && not (j == s.id)) _ _ (λ (a : Outcome). IsRule (Some (Gone j)) s (nothing_due s) a (λ e. IsPaid a.state e × IsHeeded (Gone j) s a))
+    cond_both (nat_lt j s.count && not (j == s.id)) _ _
+    (λ (a : Outcome). IsRule (Some (Gone j)) s (nothing_due s) a (λ e. IsPaid a.state e × IsHeeded (Gone j) s a))
     (λ t. (let parts = and_parts (nat_lt j s.count) (not (j == s.id)) t in
     rule_so (Some (Gone j)) s (nothing_due s) _ _ _ (λ e x. (x.paid, λ _ _. x.knows j (has-single_itself j)))
     (rule_join (Some (Gone j)) s (single j) h (paid_nothing s settled) (inr (j, refl, refl))
-    (has-single_other j s.id (λ same. eqb-false j s.id (not-true _ parts.1) (sym same))) (below-single j s.count (ltb-true _ _ parts.0)))))
-    (λ f. rule_silent (Some (Gone j)) s (nothing_due s) _ h (paid_nothing s settled, λ low other. absurd (both_ways _ f (and_from _ _ (lt-ltb _ _ low) (not_from_false _ (ne_eqb j s.id other))))))
+    (has-single_other j s.id (λ same. eqb-false j s.id (not-true _ parts.1) (sym same)))
+    (below-single j s.count (ltb-true _ _ parts.0)))))
+    (λ f. rule_silent (Some (Gone j)) s (nothing_due s) _ h (
+      paid_nothing s settled,
+      λ low other. absurd
+          (both_ways _ f (and_from _ _ (lt-ltb _ _ low) (not_from_false _ (ne_eqb j s.id other)))),
+    ))
 
 pub rule_taken_in : (s : ServerState) (input : Input)
     → IsLawful s
     → IsInput input
     → HoldsEntry input
-    → IsRule (Some input) s (nothing_due s) (taken_in s input) (λ e. IsPaid (taken_in s input).state e × IsHeeded input s (taken_in s input))
+    → IsRule (Some input) s (nothing_due s) (taken_in s input)
+    (λ e. IsPaid (taken_in s input).state e × IsHeeded input s (taken_in s input))
 rule_taken_in s (Called port made) h fit valid =
-    rule_so _ s _ _ _ _ (λ e x. (x, tt)) (rule_call s (nothing_due s) port made h.sound (paid_nothing s h.settled) refl fit)
+    rule_so _ s _ _ _ _ (λ e x. (x, tt))
+    (rule_call s (nothing_due s) port made h.sound (paid_nothing s h.settled) refl fit)
 rule_taken_in s (From i m) h fit valid = rule_from_peer s i m h.sound h.settled fit valid
 rule_taken_in s (Gone j) h fit valid = rule_gone s j h.sound h.settled
 
@@ -346,17 +422,27 @@ unfolding trimmed
 taken_in_trimmed s i (Op id made) os h x = λ t u. taken_trimmed s i id h ∙ x t u
 taken_in_trimmed s i (Forward e) os h x = λ from is. x from (omega (arith, is, last_trimmed s h))
 taken_in_trimmed s i (Ack n) os h x = λ to high. x to (omega (arith, high, last_trimmed s h))
-taken_in_trimmed s i (Query ask key) os h x = λ t. (let g = x t in (g.0, g.1, g.2 ∙ ap (λ n. Answer ask n) (sym (last_trimmed s h))))
-taken_in_trimmed s i (Answer ask n) os h x = λ from r waits same low high. x from r waits same low (omega (arith, high, last_trimmed s h))
+taken_in_trimmed s i (Query ask key) os h x =
+    λ t. (let g = x t in (g.0, g.1, g.2 ∙ ap (λ n. Answer ask n) (sym (last_trimmed s h))))
+taken_in_trimmed s i (Answer ask n) os h x =
+    λ from r waits same low high. x from r waits same low (omega (arith, high, last_trimmed s h))
 
-heeded_trimmed : (s : ServerState) (input : Input) (a : Outcome) → IsSound a.state → IsHeeded input s a → IsHeeded input s (record { state = trimmed a.state; outputs = a.outputs })
+heeded_trimmed : (s : ServerState) (input : Input) (a : Outcome)
+    → IsSound a.state
+    → IsHeeded input s a
+    → IsHeeded input s (record { state = trimmed a.state; outputs = a.outputs })
 unfolding trimmed
 heeded_trimmed s (Called port made) a h x = tt
-heeded_trimmed s (From i m) a h x = λ t. (let g = x t in (g.0, λ out. taken_in_trimmed a.state i m.body a.outputs h (g.1 out)))
+heeded_trimmed s (From i m) a h x =
+    λ t. (let g = x t in (g.0, λ out. taken_in_trimmed a.state i m.body a.outputs h (g.1 out)))
 heeded_trimmed s (Gone j) a h x = x
 
 -- a step is such a list, and the floor's is the last of it
-pub step_whole : (s : ServerState) (input : Input) → IsLawful s → IsInput input → HoldsEntry input → IsWhole input s (step s input)
+pub step_whole : (s : ServerState) (input : Input)
+    → IsLawful s
+    → IsInput input
+    → HoldsEntry input
+    → IsWhole input s (step s input)
 unfolding act
 step_whole s input h fit valid =
     let a = taken_in s input in
@@ -366,8 +452,13 @@ step_whole s input h fit valid =
     let whole = rule_as c s d _ (step s input) (λ e. IsPaid (trimmed a.state) e × IsHeeded input s (step s input))
     (ap (λ (os : List Output). record { state = trimmed a.state; outputs = os }) (sym (append-nil a.outputs)))
     (rule_then c s d a (λ t. silent (trimmed t)) _ _ first
-    (λ e x k. rule_one (left c) a.state e Trim _ k tt tt (paid_trimmed a.state e k x.0, heeded_trimmed s input a k x.1))) in
+    (λ e x k. rule_one (left c) a.state e Trim _ k tt tt
+    (paid_trimmed a.state e k x.0, heeded_trimmed s input a k x.1))) in
     record { done = whole.done; turns = whole.turns; paid = whole.after.0; heeded = whole.after.1 }
 
-pub step_done : (s : ServerState) (input : Input) → IsLawful s → IsInput input → HoldsEntry input → IsDone (Some input) s (step s input)
+pub step_done : (s : ServerState) (input : Input)
+    → IsLawful s
+    → IsInput input
+    → HoldsEntry input
+    → IsDone (Some input) s (step s input)
 step_done s input h fit valid = (step_whole s input h fit valid).done

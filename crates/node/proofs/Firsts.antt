@@ -1,5 +1,6 @@
 -- The first element of a list that passes a test: its place, and the list without it.
-use Rattle.std.proofs.Common.{◌≡◌, ℕ, suc, ◌+◌, ◌<◌, ◌≤◌, nat_lt, Bool, true, false, not, cond, List, [], ◌∷◌, length, get_or, Option, Some, None, refl, sym, ap, ◌∙◌, arith, Bor}
+use Rattle.std.proofs.Common.{◌≡◌, ℕ, suc, ◌+◌, ◌<◌, ◌≤◌, nat_lt, Bool, true, false, not, cond, List, [], ◌∷◌, length}
+use Rattle.std.proofs.Common.{get_or, Option, Some, None, refl, sym, ap, ◌∙◌, arith, Bor}
 use Rattle.std.specs.Option.{option_copied}
 use Rattle.std.specs.Prelude.{position, find, remove, IsSome, IfSome, OnSome, ◌↔◌}
 use Rattle.std.proofs.lemmas.Option.{same_Some}
@@ -14,12 +15,20 @@ module _ {X : Type 0} (test : X → Bool) where
     pub found : (d : X) → find test xs ≡ Some (get_or xs i d)
     pub left : without_first test xs ≡ remove xs i
 
-  at_step : (b : Bool) (x : X) (xs : List X) (k : ℕ) → (k < length xs → IsAt xs k) → test x ≡ b → cond (not b) (1 + k) 0 < suc (length xs) → IsAt (x ∷ xs) (cond (not b) (1 + k) 0)
+  at_step : (b : Bool) (x : X) (xs : List X) (k : ℕ)
+      → (k < length xs → IsAt xs k)
+      → test x ≡ b
+      → cond (not b) (1 + k) 0 < suc (length xs)
+      → IsAt (x ∷ xs) (cond (not b) (1 + k) 0)
   at_step true x xs k f is low = record { within = omega arith; found = λ d. rw is refl; left = rw is refl }
   at_step false x xs k f is low =
       let g = f (omega arith) in
       let next : 1 + k ≡ suc k = omega arith in
-      rw next (record { within = omega (arith, g.within); found = λ d. rw is (g.found d); left = rw is (ap (λ r. x ∷ r) g.left) })
+      rw next (record {
+        within = omega (arith, g.within);
+        found = λ d. rw is (g.found d);
+        left = rw is (ap (λ r. x ∷ r) g.left);
+      })
 
   at_place : (xs : List X) → position_or_len test xs < length xs → IsAt xs (position_or_len test xs)
   at_place [] low = absurd (omega arith)
@@ -38,9 +47,14 @@ module _ {X : Type 0} (test : X → Bool) where
     pub none : find test xs ≡ None
     pub same : without_first test xs ≡ xs
 
-  nowhere_step : (b : Bool) (x : X) (xs : List X) (k : ℕ) → (length xs ≤ k → IsNowhere xs) → test x ≡ b → suc (length xs) ≤ cond (not b) (1 + k) 0 → IsNowhere (x ∷ xs)
+  nowhere_step : (b : Bool) (x : X) (xs : List X) (k : ℕ)
+      → (length xs ≤ k → IsNowhere xs)
+      → test x ≡ b
+      → suc (length xs) ≤ cond (not b) (1 + k) 0
+      → IsNowhere (x ∷ xs)
   nowhere_step true x xs k f is low = absurd (omega arith)
-  nowhere_step false x xs k f is low = let g = f (omega arith) in record { none = rw is g.none; same = rw is (ap (λ r. x ∷ r) g.same) }
+  nowhere_step false x xs k f is low =
+      let g = f (omega arith) in record { none = rw is g.none; same = rw is (ap (λ r. x ∷ r) g.same) }
 
   no_place : (xs : List X) → length xs ≤ position_or_len test xs → IsNowhere xs
   no_place [] low = record { none = refl; same = refl }
@@ -54,15 +68,33 @@ module _ {X : Type 0} (test : X → Bool) where
   no_position xs h = no_place xs (none_step (position_or_len test xs) (length xs) _ refl h)
 
 -- what `remove` gives at that place, and what it leaves
-pub removed_found : {X : Type 0} (xs : List X) (i n : ℕ) (found r : Option X) → i < length xs → ((d : X) → found ≡ Some (get_or xs i d)) → n ≡ length xs → (IsSome r ↔ (i < n)) → IfSome r (λ y. y ≡ get_or xs i y) → r ≡ found
+pub removed_found : {X : Type 0} (xs : List X) (i n : ℕ) (found r : Option X)
+    → i < length xs
+    → ((d : X) → found ≡ Some (get_or xs i d))
+    → n ≡ length xs
+    → (IsSome r ↔ (i < n))
+    → IfSome r (λ y. y ≡ get_or xs i y)
+    → r ≡ found
 removed_found xs i n found None low is len there value = let never : false ≡ true = there.1 (omega arith) in absurd cc
 removed_found xs i n found (Some y) low is len there value = ap Some value ∙ sym (is y)
 
-pub removed_left : {X : Type 0} (xs ys left : List X) (i n : ℕ) (r : Option X) → i < length xs → left ≡ remove xs i → n ≡ length xs → (IsSome r ↔ (i < n)) → OnSome r (ys ≡ remove xs i) → ys ≡ left
+pub removed_left : {X : Type 0} (xs ys left : List X) (i n : ℕ) (r : Option X)
+    → i < length xs
+    → left ≡ remove xs i
+    → n ≡ length xs
+    → (IsSome r ↔ (i < n))
+    → OnSome r (ys ≡ remove xs i)
+    → ys ≡ left
 removed_left xs ys left i n None low is len there items = let never : false ≡ true = there.1 (omega arith) in absurd cc
 removed_left xs ys left i n (Some y) low is len there items = items ∙ sym is
 
 -- what `get` shows there
-pub got_found : {X : Type 0} (xs : List X) (i n : ℕ) (found : Option X) (r : Option (Bor X)) → i < length xs → ((d : X) → found ≡ Some (get_or xs i d)) → n ≡ length xs → (IsSome r ↔ (i < n)) → IfSome r (λ y. y.now ≡ get_or xs i y.now) → option_copied r ≡ found
+pub got_found : {X : Type 0} (xs : List X) (i n : ℕ) (found : Option X) (r : Option (Bor X))
+    → i < length xs
+    → ((d : X) → found ≡ Some (get_or xs i d))
+    → n ≡ length xs
+    → (IsSome r ↔ (i < n))
+    → IfSome r (λ y. y.now ≡ get_or xs i y.now)
+    → option_copied r ≡ found
 got_found xs i n found None low is len there value = let never : false ≡ true = there.1 (omega arith) in absurd cc
 got_found xs i n found (Some y) low is len there value = ap Some value ∙ sym (is y.now)

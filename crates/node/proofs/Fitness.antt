@@ -16,7 +16,8 @@ use Rattle.node.specs.Servers.{ServerState, Outcome}
 use Rattle.node.specs.Numbering.{open_update, replied, reply_to}
 use Rattle.node.specs.Steps.{taken_in}
 use Rattle.node.specs.Lawful.{IsBody, IsInput, HoldsEntry, IsSendable, IsSound, IsLawful, AreFit}
-use Rattle.node.specs.Actions.{Action, Widen, Append, Reach, Settle, Send, Finish, Trim, Enter, Ask, Show, act, does, Cause, left, MaySend, Guard, AreGuarded}
+use Rattle.node.specs.Actions.{Action, Widen, Append, Reach, Settle, Send, Finish, Trim, Enter, Ask, Show, act, does}
+use Rattle.node.specs.Actions.{Cause, left, MaySend, Guard, AreGuarded}
 use Rattle.node.proofs.OpenLists.{update_above}
 use Rattle.node.proofs.DoneActions.{came_left}
 use Rattle.node.proofs.DoneSteps.{rule_taken_in}
@@ -42,7 +43,11 @@ log_entry floor k [] e log h = absurd cc
 log_entry floor zero (x ∷ es) e log h = subst (λ y. IsEntry y) (same_Some x e h) log.0
 log_entry floor (suc k) (x ∷ es) e log h = log_entry (floor + 1) k es e log.2 h
 
-sendable : (c : Cause) (s : ServerState) (j : ℕ) (body : Body) → IsSound s → IsGiven c → MaySend c s j body → IsSendable body
+sendable : (c : Cause) (s : ServerState) (j : ℕ) (body : Body)
+    → IsSound s
+    → IsGiven c
+    → MaySend c s j body
+    → IsSendable body
 sendable c s j (Op id call) h given g = (omega (arith, update_above 0 s.pend s.next_id _ h.updates g.5), g.3, g.2)
 sendable c s j (Forward e) h given g = log_entry s.store.floor g.1.0 s.store.rest e h.store.log g.1.1
 sendable c s j (Ack n) h given g = tt
@@ -54,7 +59,8 @@ replied_fit reply None = tt
 replied_fit reply (Some u) = (tt, tt)
 
 reply_fit : (own : ℕ) (pend : List OpenUpdate) (e : LogEntry) → AreFit (reply_to own pend e)
-reply_fit own pend e = cond_both (e.origin == own) _ _ (λ (os : List Output). AreFit os) (λ t. replied_fit e.reply (open_update pend e.id)) (λ f. tt)
+reply_fit own pend e = cond_both (e.origin == own) _ _ (λ (os : List Output). AreFit os)
+    (λ t. replied_fit e.reply (open_update pend e.id)) (λ f. tt)
 
 fit_act : (c : Cause) (s : ServerState) (a : Action) → IsSound s → IsGiven c → Guard c s a → AreFit (act s a).outputs
 unfolding act
@@ -69,14 +75,22 @@ fit_act c s (Enter port call) h given g = tt
 fit_act c s (Ask port key) h given g = tt
 fit_act c s (Show port key) h given g = (tt, tt)
 
-fit_does : (actions : List Action) (c : Cause) (s : ServerState) → IsGiven c → AreGuarded c s actions → AreFit (does s actions).outputs
+fit_does : (actions : List Action) (c : Cause) (s : ServerState)
+    → IsGiven c
+    → AreGuarded c s actions
+    → AreFit (does s actions).outputs
 unfolding does
 fit_does [] c s given g = tt
 fit_does (a ∷ later) c s given g =
-    fit_append (act s a).outputs _ (fit_act c s a g.0 given g.1) (fit_does later (left c) (act s a).state (λ input e. given input (came_left c input e)) g.2)
+    fit_append (act s a).outputs _ (fit_act c s a g.0 given g.1)
+    (fit_does later (left c) (act s a).state (λ input e. given input (came_left c input e)) g.2)
 
 -- what a step of a lawful server puts out
-pub fit_taken_in : (s : ServerState) (input : Input) → IsInput input → HoldsEntry input → IsLawful s → AreFit (taken_in s input).outputs
+pub fit_taken_in : (s : ServerState) (input : Input)
+    → IsInput input
+    → HoldsEntry input
+    → IsLawful s
+    → AreFit (taken_in s input).outputs
 fit_taken_in s input fit valid h =
     let d = (rule_taken_in s input h fit valid).done in
     subst (λ (o : Outcome). AreFit o.outputs) (sym d.same)

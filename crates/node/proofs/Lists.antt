@@ -19,7 +19,9 @@ pub in_pushed : {X : Type 0} (xs : List X) (y x : X) → In x (xs ++ y ∷ []) �
 in_pushed xs y x h = at_pushed xs y x h.0 h.1
 
 -- a list begins itself with more at its end
-pub get_front : {X : Type 0} (xs ys : List X) (k : ℕ) (x : X) → slice_get xs k ≡ Some x → slice_get (xs ++ ys) k ≡ Some x
+pub get_front : {X : Type 0} (xs ys : List X) (k : ℕ) (x : X)
+    → slice_get xs k ≡ Some x
+    → slice_get (xs ++ ys) k ≡ Some x
 get_front [] ys k x h = absurd cc
 get_front (z ∷ xs) ys zero x h = h
 get_front (z ∷ xs) ys (suc k) x h = get_front xs ys k x h
@@ -29,7 +31,9 @@ get_last [] x = refl
 get_last (y ∷ xs) x = get_last xs x
 
 -- what was pushed stands at the end
-pub pushed_cases : {X : Type 0} (xs : List X) (y : X) (k : ℕ) (x : X) → slice_get (xs ++ y ∷ []) k ≡ Some x → (slice_get xs k ≡ Some x) ⊎ ((k ≡ length xs) × (x ≡ y))
+pub pushed_cases : {X : Type 0} (xs : List X) (y : X) (k : ℕ) (x : X)
+    → slice_get (xs ++ y ∷ []) k ≡ Some x
+    → (slice_get xs k ≡ Some x) ⊎ ((k ≡ length xs) × (x ≡ y))
 pushed_cases [] y zero x h = inr (refl, sym (same_Some y x h))
 pushed_cases [] y (suc k) x h = absurd cc
 pushed_cases (z ∷ xs) y zero x h = inl h

@@ -1,4 +1,5 @@
--- Heads, tails, successors and predecessors: what it means to be one, that there is only one, and whom a server takes for its own.
+-- Heads, tails, successors and predecessors: what it means to be one, that there is only one, and whom a server takes
+-- for its own.
 use Rattle.std.proofs.Common.{◌≡◌, ◌≢◌, ℕ, suc, ◌-◌, ◌<◌, true, false, Option, Some, None, refl, arith, inl, inr, ap}
 use Rattle.std.proofs.lemmas.Bool.{both_ways, cases_order, eqb-true, eq-eqb}
 use Rattle.node.specs.Views.{View, has, predecessor, successor, head, tail, is_that}
@@ -24,7 +25,11 @@ pub record IsHead (v : View) (n j : ℕ) : Type 0 where
 pub head_is : (v : View) (n j : ℕ) → head v n ≡ Some j → IsHead v n j
 head_is v n j h =
     let r = next_is v 0 n j h in
-    record { within = omega (arith, next_within_many v 0 n j h); out = r.out; below = λ x l. r.between x (omega arith) l }
+    record {
+      within = omega (arith, next_within_many v 0 n j h);
+      out = r.out;
+      below = λ x l. r.between x (omega arith) l;
+    }
 
 pub no_head : (v : View) (n : ℕ) → head v n ≡ None → (x : ℕ) → x < n → has v x ≡ true
 no_head v n h x l = no_next v 0 n h x (omega arith) (omega arith)

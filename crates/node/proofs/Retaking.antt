@@ -1,5 +1,6 @@
 -- The own calls that a new head takes, one after another.
-use Rattle.std.proofs.Common.{◌≡◌, ℕ, zero, suc, ◌+◌, true, List, [], ◌∷◌, drop, get_or, Option, Some, None, refl, sym, ap, ◌∙◌, arith}
+use Rattle.std.proofs.Common.{◌≡◌, ℕ, zero, suc, ◌+◌, true, List, [], ◌∷◌, drop, get_or, Option, Some, None, refl, sym}
+use Rattle.std.proofs.Common.{ap, ◌∙◌, arith}
 use Rattle.std.proofs.lemmas.Bool.{cond_both}
 use Rattle.std.proofs.lemmas.Option.{same_Some}
 use Rattle.table.specs.Operations.{is_update}
@@ -17,11 +18,18 @@ pub record IsCallAt (us : List OpenUpdate) (i : ℕ) (id : ℕ) (made : Call) : 
   pub is_call : made ≡ update.call
   pub rest : drop i us ≡ update ∷ drop (i + 1) us
 
-pub call_at_is : (us : List OpenUpdate) (i : ℕ) (id : ℕ) (made : Call) → ◌≡◌ {A = Option (ℕ × Call)} (Some (id, made)) (call_at us i) → IsCallAt us i id made
+pub call_at_is : (us : List OpenUpdate) (i : ℕ) (id : ℕ) (made : Call)
+    → ◌≡◌ {A = Option (ℕ × Call)} (Some (id, made)) (call_at us i)
+    → IsCallAt us i id made
 call_at_is [] i id made h = absurd cc
 call_at_is (u ∷ us) zero id made h =
     let same = same_Some (id, made) (u.id, u.call) h in
-    record { update = u; is_id = ap (λ (p : ℕ × Call). p.0) same; is_call = ap (λ (p : ℕ × Call). p.1) same; rest = refl }
+    record {
+      update = u;
+      is_id = ap (λ (p : ℕ × Call). p.0) same;
+      is_call = ap (λ (p : ℕ × Call). p.1) same;
+      rest = refl;
+    }
 call_at_is (u ∷ us) (suc i) id made h =
     let g = call_at_is us i id made h in
     let next : suc i + 1 ≡ suc (i + 1) = omega arith in
@@ -34,17 +42,23 @@ no_call_at (u ∷ us) zero h = absurd cc
 no_call_at (u ∷ us) (suc i) h = no_call_at us i h
 
 -- an own call that waits fits, and is an update
-pub waiting : (above : ℕ) (us : List OpenUpdate) (next_id i : ℕ) (u : OpenUpdate) (rest : List OpenUpdate) → AreUpdates above us next_id → drop i us ≡ u ∷ rest → IsCall u.call × (is_update u.call.op ≡ true)
+pub waiting : (above : ℕ) (us : List OpenUpdate) (next_id i : ℕ) (u : OpenUpdate) (rest : List OpenUpdate)
+    → AreUpdates above us next_id
+    → drop i us ≡ u ∷ rest
+    → IsCall u.call × (is_update u.call.op ≡ true)
 waiting above [] next_id zero u rest h e = absurd cc
 waiting above [] next_id (suc i) u rest h e = absurd cc
-waiting above (v ∷ us) next_id zero u rest h e = let same : v ≡ u = ap (λ (xs : List OpenUpdate). get_or xs 0 v) e in rw (← same) (h.1, h.2)
+waiting above (v ∷ us) next_id zero u rest h e =
+    let same : v ≡ u = ap (λ (xs : List OpenUpdate). get_or xs 0 v) e in rw (← same) (h.1, h.2)
 waiting above (v ∷ us) next_id (suc i) u rest h e = waiting v.id us next_id i u rest h.3 e
 
 pub pend-taken : (s : ServerState) (origin id : ℕ) (made : Call) → (taken s origin id made).pend ≡ s.pend
 unfolding taken appended
-pend-taken s origin id made = cond_both (is_taken s origin id) _ _ (λ (t : ServerState). t.pend ≡ s.pend) (λ t. refl) (λ f. refl)
+pend-taken s origin id made =
+    cond_both (is_taken s origin id) _ _ (λ (t : ServerState). t.pend ≡ s.pend) (λ t. refl) (λ f. refl)
 
-taken_all_more : (s : ServerState) (u : OpenUpdate) (us : List OpenUpdate) → taken_all s (u ∷ us) ≡ taken_all (taken s s.id u.id u.call) us
+taken_all_more : (s : ServerState) (u : OpenUpdate) (us : List OpenUpdate)
+    → taken_all s (u ∷ us) ≡ taken_all (taken s s.id u.id u.call) us
 unfolding taken_all
 taken_all_more s u us = refl
 
@@ -53,11 +67,16 @@ unfolding taken_all
 taken_all_none s = refl
 
 -- one call more was taken
-pub taken_step : (whole s next : ServerState) (i id : ℕ) (made : Call) → IsCallAt s.pend i id made → next ≡ taken s s.id id made → whole ≡ taken_all s (drop i s.pend) → whole ≡ taken_all next (drop (i + 1) next.pend)
+pub taken_step : (whole s next : ServerState) (i id : ℕ) (made : Call)
+    → IsCallAt s.pend i id made
+    → next ≡ taken s s.id id made
+    → whole ≡ taken_all s (drop i s.pend)
+    → whole ≡ taken_all next (drop (i + 1) next.pend)
 taken_step whole s next i id made at is h =
     let stays : next.pend ≡ s.pend = ap (λ (t : ServerState). t.pend) is ∙ pend-taken s s.id id made in
     h ∙ ap (taken_all s) at.rest ∙ taken_all_more s at.update _
-    ∙ ap (λ (t : ServerState). taken_all t (drop (i + 1) s.pend)) (ap (λ n. taken s s.id n at.update.call) (sym at.is_id) ∙ ap (taken s s.id id) (sym at.is_call) ∙ sym is)
+    ∙ ap (λ (t : ServerState). taken_all t (drop (i + 1) s.pend))
+    (ap (λ n. taken s s.id n at.update.call) (sym at.is_id) ∙ ap (taken s s.id id) (sym at.is_call) ∙ sym is)
     ∙ ap (λ us. taken_all next (drop (i + 1) us)) (sym stays)
 
 pub taken_end : (whole s : ServerState) (i : ℕ) → drop i s.pend ≡ [] → whole ≡ taken_all s (drop i s.pend) → s ≡ whole

@@ -21,23 +21,36 @@ lawful-after s (i ∷ is) valid h = lawful-after (step s i).state is valid.2 (la
 
 pub id-after : (s : ServerState) (inputs : List Input) → AreInputs inputs → IsLawful s → (after s inputs).id ≡ s.id
 id-after s [] valid h = refl
-id-after s (i ∷ is) valid h = id-after (step s i).state is valid.2 (lawful-step s i valid.0 valid.1 h) ∙ (answers-step s i valid.0 valid.1 h).id
+id-after s (i ∷ is) valid h =
+    id-after (step s i).state is valid.2 (lawful-step s i valid.0 valid.1 h) ∙ (answers-step s i valid.0 valid.1 h).id
 
-pub count-after : (s : ServerState) (inputs : List Input) → AreInputs inputs → IsLawful s → (after s inputs).count ≡ s.count
+pub count-after : (s : ServerState) (inputs : List Input)
+    → AreInputs inputs
+    → IsLawful s
+    → (after s inputs).count ≡ s.count
 count-after s [] valid h = refl
-count-after s (i ∷ is) valid h = count-after (step s i).state is valid.2 (lawful-step s i valid.0 valid.1 h) ∙ (answers-step s i valid.0 valid.1 h).count
+count-after s (i ∷ is) valid h = count-after (step s i).state is valid.2 (lawful-step s i valid.0 valid.1 h)
+    ∙ (answers-step s i valid.0 valid.1 h).count
 
-moved : (id count : ℕ) (s : ServerState) (os : List Output) → s.id ≡ id → s.count ≡ count → AreToOthers s.id s.count os → AreToOthers id count os
+moved : (id count : ℕ) (s : ServerState) (os : List Output)
+    → s.id ≡ id
+    → s.count ≡ count
+    → AreToOthers s.id s.count os
+    → AreToOthers id count os
 moved id count s os same_id same_count h = rw (← same_id, ← same_count) h
 
-pub others-after : (s : ServerState) (inputs : List Input) → AreInputs inputs → IsLawful s → AreToOthers s.id s.count (put_out s inputs)
+pub others-after : (s : ServerState) (inputs : List Input)
+    → AreInputs inputs
+    → IsLawful s
+    → AreToOthers s.id s.count (put_out s inputs)
 others-after s [] valid h = tt
 others-after s (i ∷ is) valid h =
     let next = (step s i).state in
     let done = answers-step s i valid.0 valid.1 h in
     others_append s.id s.count (step s i).outputs (put_out next is)
     (others_taken_in s i (record { sound = h.sound; settled = h.settled }))
-    (moved s.id s.count next (put_out next is) done.id done.count (others-after next is valid.2 (lawful-step s i valid.0 valid.1 h)))
+    (moved s.id s.count next (put_out next is) done.id done.count
+    (others-after next is valid.2 (lawful-step s i valid.0 valid.1 h)))
 
 pub fit-after : (s : ServerState) (inputs : List Input) → AreInputs inputs → IsLawful s → AreFit (put_out s inputs)
 fit-after s [] valid h = tt
@@ -50,24 +63,39 @@ pub after-append : (s : ServerState) (first more : List Input) → after s (firs
 after-append s [] more = refl
 after-append s (i ∷ is) more = after-append (step s i).state is more
 
-pub put_out-append : (s : ServerState) (first more : List Input) → put_out s (first ++ more) ≡ put_out s first ++ put_out (after s first) more
+pub put_out-append : (s : ServerState) (first more : List Input)
+    → put_out s (first ++ more) ≡ put_out s first ++ put_out (after s first) more
 put_out-append s [] more = refl
-put_out-append s (i ∷ is) more = ap (λ os. (step s i).outputs ++ os) (put_out-append (step s i).state is more) ∙ sym (append_assoc (step s i).outputs (put_out (step s i).state is) (put_out (after (step s i).state is) more))
+put_out-append s (i ∷ is) more = ap (λ os. (step s i).outputs ++ os) (put_out-append (step s i).state is more)
+    ∙ sym (append_assoc (step s i).outputs (put_out (step s i).state is) (put_out (after (step s i).state is) more))
 
 -- ---- calls and replies
 
 -- an input opens no more than comes
-pub opened-calls : (port : ℕ) (reads : Bool) (s : ServerState) (input : Input) → opened_at port reads s input ≤ calls_at port reads (input ∷ [])
-opened-calls port reads s input = cond_both (has_room s input) _ _ (λ (n : ℕ). n ≤ calls_at port reads (input ∷ [])) (λ t. omega arith) (λ f. omega arith)
+pub opened-calls : (port : ℕ) (reads : Bool) (s : ServerState) (input : Input)
+    → opened_at port reads s input ≤ calls_at port reads (input ∷ [])
+opened-calls port reads s input = cond_both (has_room s input) _ _ (λ (n : ℕ). n ≤ calls_at port reads (input ∷ []))
+    (λ t. omega arith) (λ f. omega arith)
 
-pub closed-after : (s : ServerState) (inputs : List Input) (port : ℕ) (reads : Bool) → AreInputs inputs → IsLawful s → open_at port reads (after s inputs) + replies_at port reads (put_out s inputs) ≤ open_at port reads s + calls_at port reads inputs
+pub closed-after : (s : ServerState) (inputs : List Input) (port : ℕ) (reads : Bool)
+    → AreInputs inputs
+    → IsLawful s
+    → open_at port reads (after s inputs) + replies_at port reads (put_out s inputs) ≤ open_at port reads s + calls_at
+    port reads inputs
 closed-after s [] port reads valid h = omega arith
 closed-after s (i ∷ is) port reads valid h =
     let next = (step s i).state in
     let later = closed-after next is port reads valid.2 (lawful-step s i valid.0 valid.1 h) in
     let done = (answers-step s i valid.0 valid.1 h).calls port reads in
     let came = count-append (is_call_at port reads) (i ∷ []) is in
-    omega (arith, later, done, came, opened-calls port reads s i, count-append (is_reply_at port reads) (step s i).outputs (put_out next is))
+    omega (
+      arith,
+      later,
+      done,
+      came,
+      opened-calls port reads s i,
+      count-append (is_reply_at port reads) (step s i).outputs (put_out next is),
+    )
 
 pub inputs-append : (first more : List Input) → AreInputs first → AreInputs more → AreInputs (first ++ more)
 inputs-append [] more h g = g

@@ -10,12 +10,16 @@ use Rattle.node.specs.Reading.{asked, without_read}
 use Rattle.node.specs.Joining.{widened}
 use Rattle.node.specs.Steps.{trimmed}
 use Rattle.node.specs.Lawful.{IsSound}
-use Rattle.node.specs.Actions.{Action, Widen, Append, Reach, Settle, Send, Finish, Trim, Enter, Ask, Show, act, Cause, IsMade, IsPassed, Guard}
+use Rattle.node.specs.Actions.{Action, Widen, Append, Reach, Settle, Send, Finish, Trim, Enter, Ask, Show, act, Cause}
+use Rattle.node.specs.Actions.{IsMade, IsPassed, Guard}
 use Rattle.node.proofs.ViewLaws.{has-union}
-use Rattle.node.proofs.SoundLaws.{updates-left, reads-without, sound-widened, sound-appended, sound-acked, sound-updates, sound-closed, sound-trimmed, sound-entered, sound-asked}
+use Rattle.node.proofs.SoundLaws.{updates-left, reads-without, sound-widened, sound-appended, sound-acked}
+use Rattle.node.proofs.SoundLaws.{sound-updates, sound-closed, sound-trimmed, sound-entered, sound-asked}
 
 -- an entry that may be appended has the next number
-pub appended_next : (c : Cause) (s : ServerState) (e : LogEntry) → IsMade c s e ⊎ IsPassed c s e → e.number ≡ last_number s.store + 1
+pub appended_next : (c : Cause) (s : ServerState) (e : LogEntry)
+    → IsMade c s e ⊎ IsPassed c s e
+    → e.number ≡ last_number s.store + 1
 appended_next c s e (inl m) = ap (λ (x : LogEntry). x.number) m.made
 appended_next c s e (inr p) = p.next
 
@@ -24,9 +28,12 @@ unfolding act
 sound_act c s (Widen v) h g = sound-widened s v g.2 g.1 h
 sound_act c s (Append e) h g = sound-appended s e g.0 (appended_next c s e g.1) h
 sound_act c s (Reach n) h g = sound-acked s n (omega (arith, g.0)) g.1 h
-sound_act c s (Settle e) h g = sound-updates s (left_open_by s.id s.pend e) s.next_id (updates-left s.id s.pend s.next_id e h.updates) h
+sound_act c s (Settle e) h g =
+    sound-updates s (left_open_by s.id s.pend e) s.next_id (updates-left s.id s.pend s.next_id e h.updates) h
 sound_act c s (Send j body) h g = h
-sound_act c s (Finish r n) h g = sound-closed s (without_read s.asks r.ask) (reads-without 0 s.store.floor s.asks s.next_ask s.store.acked r.ask h.reads) h
+sound_act c s (Finish r n) h g =
+    sound-closed s (without_read s.asks r.ask)
+    (reads-without 0 s.store.floor s.asks s.next_ask s.store.acked r.ask h.reads) h
 sound_act c s Trim h g = sound-trimmed s h
 sound_act c s (Enter port call) h g = sound-entered s port call g.1 g.2 h
 sound_act c s (Ask port key) h g = sound-asked s port key h
@@ -60,7 +67,8 @@ pub record Grown (s t : ServerState) : Type 0 where
   pub next_ask : s.next_ask ≤ t.next_ask
 
 pub grown_same : (s : ServerState) → Grown s s
-grown_same s = record { id = refl; count = refl; view = λ k h. h; acked = omega arith; next_id = omega arith; next_ask = omega arith }
+grown_same s = record
+    { id = refl; count = refl; view = λ k h. h; acked = omega arith; next_id = omega arith; next_ask = omega arith }
 
 pub grown_then : (s t u : ServerState) → Grown s t → Grown t u → Grown s u
 grown_then s t u h g = record {
@@ -74,13 +82,77 @@ grown_then s t u h g = record {
 
 pub grown_act : (cause : Cause) (s : ServerState) (a : Action) → Guard cause s a → Grown s (act s a).state
 unfolding act widened appended entered asked trimmed
-grown_act cause s (Widen v) g = record { id = refl; count = refl; view = λ k h. rw (has-union s.view v k) (or_left _ _ h); acked = omega arith; next_id = omega arith; next_ask = omega arith }
-grown_act cause s (Append e) g = record { id = refl; count = refl; view = λ k h. h; acked = omega arith; next_id = omega arith; next_ask = omega arith }
-grown_act cause s (Reach n) g = record { id = refl; count = refl; view = λ k h. h; acked = omega (arith, g.0); next_id = omega arith; next_ask = omega arith }
-grown_act cause s (Settle e) g = record { id = refl; count = refl; view = λ k h. h; acked = omega arith; next_id = omega arith; next_ask = omega arith }
+grown_act cause s (Widen v) g =
+    record {
+      id = refl;
+      count = refl;
+      view = λ k h. rw (has-union s.view v k) (or_left _ _ h);
+      acked = omega arith;
+      next_id = omega arith;
+      next_ask = omega arith;
+    }
+grown_act cause s (Append e) g =
+    record {
+      id = refl;
+      count = refl;
+      view = λ k h. h;
+      acked = omega arith;
+      next_id = omega arith;
+      next_ask = omega arith;
+    }
+grown_act cause s (Reach n) g =
+    record {
+      id = refl;
+      count = refl;
+      view = λ k h. h;
+      acked = omega (arith, g.0);
+      next_id = omega arith;
+      next_ask = omega arith;
+    }
+grown_act cause s (Settle e) g =
+    record {
+      id = refl;
+      count = refl;
+      view = λ k h. h;
+      acked = omega arith;
+      next_id = omega arith;
+      next_ask = omega arith;
+    }
 grown_act cause s (Send j body) g = grown_same s
-grown_act cause s (Finish r n) g = record { id = refl; count = refl; view = λ k h. h; acked = omega arith; next_id = omega arith; next_ask = omega arith }
-grown_act cause s Trim g = record { id = refl; count = refl; view = λ k h. h; acked = omega arith; next_id = omega arith; next_ask = omega arith }
-grown_act cause s (Enter port call) g = record { id = refl; count = refl; view = λ k h. h; acked = omega arith; next_id = omega arith; next_ask = omega arith }
-grown_act cause s (Ask port key) g = record { id = refl; count = refl; view = λ k h. h; acked = omega arith; next_id = omega arith; next_ask = omega arith }
+grown_act cause s (Finish r n) g =
+    record {
+      id = refl;
+      count = refl;
+      view = λ k h. h;
+      acked = omega arith;
+      next_id = omega arith;
+      next_ask = omega arith;
+    }
+grown_act cause s Trim g =
+    record {
+      id = refl;
+      count = refl;
+      view = λ k h. h;
+      acked = omega arith;
+      next_id = omega arith;
+      next_ask = omega arith;
+    }
+grown_act cause s (Enter port call) g =
+    record {
+      id = refl;
+      count = refl;
+      view = λ k h. h;
+      acked = omega arith;
+      next_id = omega arith;
+      next_ask = omega arith;
+    }
+grown_act cause s (Ask port key) g =
+    record {
+      id = refl;
+      count = refl;
+      view = λ k h. h;
+      acked = omega arith;
+      next_id = omega arith;
+      next_ask = omega arith;
+    }
 grown_act cause s (Show port key) g = grown_same s

@@ -1,5 +1,6 @@
 -- What every server keeps within a step: each change of a server keeps it.
-use Rattle.std.proofs.Common.{◌≡◌, ℕ, ◌+◌, ◌-◌, ◌<◌, ◌≤◌, ◌==◌, Bool, true, false, cond, List, [], ◌∷◌, ◌++◌, length, take, get_or, Option, Some, None, refl, sym, ◌∙◌, arith, length-set, length-take-le}
+use Rattle.std.proofs.Common.{◌≡◌, ℕ, ◌+◌, ◌-◌, ◌<◌, ◌≤◌, ◌==◌, Bool, true, false, cond, List, [], ◌∷◌, ◌++◌, length}
+use Rattle.std.proofs.Common.{take, get_or, Option, Some, None, refl, sym, ◌∙◌, arith, length-set, length-take-le}
 use Rattle.std.specs.List.{find}
 use Rattle.std.proofs.lemmas.Option.{same_Some}
 use Rattle.table.specs.Operations.{is_update}
@@ -34,93 +35,151 @@ pub updates_bound : (above : ℕ) (us : List OpenUpdate) (next_id : ℕ) → Are
 updates_bound above [] next_id h = h
 updates_bound above (u ∷ us) next_id h = omega (arith, h.0, updates_bound u.id us next_id h.3)
 
-lower_updates : (low above : ℕ) (us : List OpenUpdate) (next_id : ℕ) → low ≤ above → AreUpdates above us next_id → AreUpdates low us next_id
+lower_updates : (low above : ℕ) (us : List OpenUpdate) (next_id : ℕ)
+    → low ≤ above
+    → AreUpdates above us next_id
+    → AreUpdates low us next_id
 lower_updates low above [] next_id le h = omega (arith, h)
 lower_updates low above (u ∷ us) next_id le h = (omega (arith, h.0), h.1, h.2, h.3)
 
-kept_step : (b : Bool) (above : ℕ) (u : OpenUpdate) (us rest : List OpenUpdate) (next_id : ℕ) → AreUpdates above (u ∷ us) next_id → AreUpdates u.id rest next_id → AreUpdates above (cond b us (u ∷ rest)) next_id
+kept_step : (b : Bool) (above : ℕ) (u : OpenUpdate) (us rest : List OpenUpdate) (next_id : ℕ)
+    → AreUpdates above (u ∷ us) next_id
+    → AreUpdates u.id rest next_id
+    → AreUpdates above (cond b us (u ∷ rest)) next_id
 kept_step true above u us rest next_id h g = lower_updates above u.id us next_id (omega (arith, h.0)) h.3
 kept_step false above u us rest next_id h g = (h.0, h.1, h.2, g)
 
 -- fewer own calls wait
-pub updates-without : (above : ℕ) (us : List OpenUpdate) (next_id id : ℕ) → AreUpdates above us next_id → AreUpdates above (without_update us id) next_id
+pub updates-without : (above : ℕ) (us : List OpenUpdate) (next_id id : ℕ)
+    → AreUpdates above us next_id
+    → AreUpdates above (without_update us id) next_id
 updates-without above [] next_id id h = h
-updates-without above (u ∷ us) next_id id h = kept_step _ above u us _ next_id h (updates-without u.id us next_id id h.3)
+updates-without above (u ∷ us) next_id id h =
+    kept_step _ above u us _ next_id h (updates-without u.id us next_id id h.3)
 
-left_step : (b : Bool) (us : List OpenUpdate) (next_id id : ℕ) → AreUpdates 0 us next_id → AreUpdates 0 (cond b (without_update us id) us) next_id
+left_step : (b : Bool) (us : List OpenUpdate) (next_id id : ℕ)
+    → AreUpdates 0 us next_id
+    → AreUpdates 0 (cond b (without_update us id) us) next_id
 left_step true us next_id id h = updates-without 0 us next_id id h
 left_step false us next_id id h = h
 
 -- an acknowledged entry may close one
-pub updates-left : (id : ℕ) (us : List OpenUpdate) (next_id : ℕ) (e : LogEntry) → AreUpdates 0 us next_id → AreUpdates 0 (left_open_by id us e) next_id
+pub updates-left : (id : ℕ) (us : List OpenUpdate) (next_id : ℕ) (e : LogEntry)
+    → AreUpdates 0 us next_id
+    → AreUpdates 0 (left_open_by id us e) next_id
 updates-left id us next_id e h = left_step _ us next_id e.id h
 
-pub updates-left_open : (id : ℕ) (es : List LogEntry) (us : List OpenUpdate) (next_id : ℕ) → AreUpdates 0 us next_id → AreUpdates 0 (left_open id us es) next_id
+pub updates-left_open : (id : ℕ) (es : List LogEntry) (us : List OpenUpdate) (next_id : ℕ)
+    → AreUpdates 0 us next_id
+    → AreUpdates 0 (left_open id us es) next_id
 unfolding left_open
 updates-left_open id [] us next_id h = h
-updates-left_open id (e ∷ es) us next_id h = updates-left_open id es (left_open_by id us e) next_id (updates-left id us next_id e h)
+updates-left_open id (e ∷ es) us next_id h =
+    updates-left_open id es (left_open_by id us e) next_id (updates-left id us next_id e h)
 
 -- one more waits, under the next id
-pub updates-push : (above : ℕ) (us : List OpenUpdate) (u : OpenUpdate) → IsCall u.call → is_update u.call.op ≡ true → AreUpdates above us u.id → AreUpdates above (us ++ u ∷ []) (u.id + 1)
+pub updates-push : (above : ℕ) (us : List OpenUpdate) (u : OpenUpdate)
+    → IsCall u.call
+    → is_update u.call.op ≡ true
+    → AreUpdates above us u.id
+    → AreUpdates above (us ++ u ∷ []) (u.id + 1)
 updates-push above [] u call is h = (h, call, is, omega arith)
 updates-push above (v ∷ us) u call is h = (h.0, h.1, h.2, updates-push v.id us u call is h.3)
 
 -- ---- own reads
 
-pub reads_bound : (above mark : ℕ) (rs : List OpenRead) (next_ask acked : ℕ) → AreReads above mark rs next_ask acked → (above < next_ask) × (mark ≤ acked)
+pub reads_bound : (above mark : ℕ) (rs : List OpenRead) (next_ask acked : ℕ)
+    → AreReads above mark rs next_ask acked
+    → (above < next_ask) × (mark ≤ acked)
 reads_bound above mark [] next_ask acked h = h
 reads_bound above mark (r ∷ rs) next_ask acked h =
     let g = reads_bound r.ask r.mark rs next_ask acked h.2 in (omega (arith, h.0, g.0), omega (arith, h.1, g.1))
 
-lower_reads : (a b m n : ℕ) (rs : List OpenRead) (next_ask acked : ℕ) → a ≤ b → m ≤ n → AreReads b n rs next_ask acked → AreReads a m rs next_ask acked
+lower_reads : (a b m n : ℕ) (rs : List OpenRead) (next_ask acked : ℕ)
+    → a ≤ b
+    → m ≤ n
+    → AreReads b n rs next_ask acked
+    → AreReads a m rs next_ask acked
 lower_reads a b m n [] next_ask acked le leq h = (omega (arith, h.0), omega (arith, h.1))
 lower_reads a b m n (r ∷ rs) next_ask acked le leq h = (omega (arith, h.0), omega (arith, h.1), h.2)
 
 -- the acknowledged number may rise
-pub reads-acked : (above mark : ℕ) (rs : List OpenRead) (next_ask acked n : ℕ) → acked ≤ n → AreReads above mark rs next_ask acked → AreReads above mark rs next_ask n
+pub reads-acked : (above mark : ℕ) (rs : List OpenRead) (next_ask acked n : ℕ)
+    → acked ≤ n
+    → AreReads above mark rs next_ask acked
+    → AreReads above mark rs next_ask n
 reads-acked above mark [] next_ask acked n le h = (h.0, omega (arith, h.1))
 reads-acked above mark (r ∷ rs) next_ask acked n le h = (h.0, h.1, reads-acked r.ask r.mark rs next_ask acked n le h.2)
 
-read_step : (b : Bool) (above mark : ℕ) (r : OpenRead) (rs rest : List OpenRead) (next_ask acked : ℕ) → AreReads above mark (r ∷ rs) next_ask acked → AreReads r.ask r.mark rest next_ask acked → AreReads above mark (cond b rs (r ∷ rest)) next_ask acked
-read_step true above mark r rs rest next_ask acked h g = lower_reads above r.ask mark r.mark rs next_ask acked (omega (arith, h.0)) h.1 h.2
+read_step : (b : Bool) (above mark : ℕ) (r : OpenRead) (rs rest : List OpenRead) (next_ask acked : ℕ)
+    → AreReads above mark (r ∷ rs) next_ask acked
+    → AreReads r.ask r.mark rest next_ask acked
+    → AreReads above mark (cond b rs (r ∷ rest)) next_ask acked
+read_step true above mark r rs rest next_ask acked h g =
+    lower_reads above r.ask mark r.mark rs next_ask acked (omega (arith, h.0)) h.1 h.2
 read_step false above mark r rs rest next_ask acked h g = (h.0, h.1, g)
 
-pub reads-without : (above mark : ℕ) (rs : List OpenRead) (next_ask acked ask : ℕ) → AreReads above mark rs next_ask acked → AreReads above mark (without_read rs ask) next_ask acked
+pub reads-without : (above mark : ℕ) (rs : List OpenRead) (next_ask acked ask : ℕ)
+    → AreReads above mark rs next_ask acked
+    → AreReads above mark (without_read rs ask) next_ask acked
 reads-without above mark [] next_ask acked ask h = h
-reads-without above mark (r ∷ rs) next_ask acked ask h = read_step _ above mark r rs _ next_ask acked h (reads-without r.ask r.mark rs next_ask acked ask h.2)
+reads-without above mark (r ∷ rs) next_ask acked ask h =
+    read_step _ above mark r rs _ next_ask acked h (reads-without r.ask r.mark rs next_ask acked ask h.2)
 
-pub reads-push : (above mark : ℕ) (rs : List OpenRead) (r : OpenRead) → AreReads above mark rs r.ask r.mark → AreReads above mark (rs ++ r ∷ []) (r.ask + 1) r.mark
+pub reads-push : (above mark : ℕ) (rs : List OpenRead) (r : OpenRead)
+    → AreReads above mark rs r.ask r.mark
+    → AreReads above mark (rs ++ r ∷ []) (r.ask + 1) r.mark
 reads-push above mark [] r h = (h.0, h.1, (omega arith, omega arith))
 reads-push above mark (q ∷ rs) r h = (h.0, h.1, reads-push q.ask q.mark rs r h.2)
 
 -- the open read of an ask is among them: its mark is between the floor and the acknowledged number
-found_step : (b : Bool) (r q : OpenRead) (rest : Option OpenRead) (mark acked : ℕ) → (mark ≤ r.mark) → (r.mark ≤ acked) → (rest ≡ Some q → (mark ≤ q.mark) × (q.mark ≤ acked)) → cond b (Some r) rest ≡ Some q → (mark ≤ q.mark) × (q.mark ≤ acked)
+found_step : (b : Bool) (r q : OpenRead) (rest : Option OpenRead) (mark acked : ℕ)
+    → (mark ≤ r.mark)
+    → (r.mark ≤ acked)
+    → (rest ≡ Some q → (mark ≤ q.mark) × (q.mark ≤ acked))
+    → cond b (Some r) rest ≡ Some q
+    → (mark ≤ q.mark) × (q.mark ≤ acked)
 found_step true r q rest mark acked low high f h = let same : r ≡ q = same_Some r q h in rw (← same) (low, high)
 found_step false r q rest mark acked low high f h = f h
 
-pub read-found : (above mark : ℕ) (rs : List OpenRead) (next_ask acked ask : ℕ) (q : OpenRead) → AreReads above mark rs next_ask acked → find (λ r. r.ask == ask) rs ≡ Some q → (mark ≤ q.mark) × (q.mark ≤ acked)
+pub read-found : (above mark : ℕ) (rs : List OpenRead) (next_ask acked ask : ℕ) (q : OpenRead)
+    → AreReads above mark rs next_ask acked
+    → find (λ r. r.ask == ask) rs ≡ Some q
+    → (mark ≤ q.mark) × (q.mark ≤ acked)
 read-found above mark [] next_ask acked ask q h e = absurd cc
 read-found above mark (r ∷ rs) next_ask acked ask q h e =
     found_step _ r q _ mark acked h.1 (reads_bound r.ask r.mark rs next_ask acked h.2).1
     (λ g. let k = read-found r.ask r.mark rs next_ask acked ask q h.2 g in (omega (arith, k.0, h.1), k.1)) e
 
 -- the least of the acknowledged number and the marks is the first mark, or the acknowledged number
-pub least_first : (above mark : ℕ) (r : OpenRead) (rs : List OpenRead) (next_ask acked : ℕ) → AreReads above mark (r ∷ rs) next_ask acked → least_open acked (r ∷ rs) ≡ r.mark
+pub least_first : (above mark : ℕ) (r : OpenRead) (rs : List OpenRead) (next_ask acked : ℕ)
+    → AreReads above mark (r ∷ rs) next_ask acked
+    → least_open acked (r ∷ rs) ≡ r.mark
 least_first above mark r [] next_ask acked h = omega (arith, h.2)
-least_first above mark r (q ∷ rs) next_ask acked h = omega (arith, h.2.1, least_first r.ask r.mark q rs next_ask acked h.2)
+least_first above mark r (q ∷ rs) next_ask acked h =
+    omega (arith, h.2.1, least_first r.ask r.mark q rs next_ask acked h.2)
 
-pub least_within : (above mark : ℕ) (rs : List OpenRead) (next_ask acked : ℕ) → AreReads above mark rs next_ask acked → (mark ≤ least_open acked rs) × (least_open acked rs ≤ acked)
+pub least_within : (above mark : ℕ) (rs : List OpenRead) (next_ask acked : ℕ)
+    → AreReads above mark rs next_ask acked
+    → (mark ≤ least_open acked rs) × (least_open acked rs ≤ acked)
 least_within above mark [] next_ask acked h = (h.1, omega arith)
-least_within above mark (r ∷ rs) next_ask acked h = let g = least_within r.ask r.mark rs next_ask acked h.2 in (omega (arith, g.0, h.1), omega (arith, g.1))
+least_within above mark (r ∷ rs) next_ask acked h =
+    let g = least_within r.ask r.mark rs next_ask acked h.2 in (omega (arith, g.0, h.1), omega (arith, g.1))
 
 -- the first open read has it
-pub least_at_front : (above mark : ℕ) (rs : List OpenRead) (next_ask acked : ℕ) (r : OpenRead) → AreReads above mark rs next_ask acked → 0 < length rs → r ≡ get_or rs 0 r → (r.mark ≡ least_open acked rs) × (r.mark ≤ acked)
+pub least_at_front : (above mark : ℕ) (rs : List OpenRead) (next_ask acked : ℕ) (r : OpenRead)
+    → AreReads above mark rs next_ask acked
+    → 0 < length rs
+    → r ≡ get_or rs 0 r
+    → (r.mark ≡ least_open acked rs) × (r.mark ≤ acked)
 least_at_front above mark [] next_ask acked r h some is = absurd (omega arith)
 least_at_front above mark (q ∷ rs) next_ask acked r h some is =
     rw is (sym (least_first above mark q rs next_ask acked h), (reads_bound q.ask q.mark rs next_ask acked h.2).1)
 
 -- the floor may rise to it
-pub reads-least : (above mark : ℕ) (rs : List OpenRead) (next_ask acked : ℕ) → AreReads above mark rs next_ask acked → AreReads above (least_open acked rs) rs next_ask acked
+pub reads-least : (above mark : ℕ) (rs : List OpenRead) (next_ask acked : ℕ)
+    → AreReads above mark rs next_ask acked
+    → AreReads above (least_open acked rs) rs next_ask acked
 reads-least above mark [] next_ask acked h = (h.0, omega arith)
 reads-least above mark (r ∷ rs) next_ask acked h = (h.0, omega arith, h.2)
 
@@ -130,39 +189,69 @@ reads-least above mark (r ∷ rs) next_ask acked h = (h.0, omega arith, h.2)
 abbrev IsPutBy : Items → ℕ → Type 0
 IsPutBy items n = (key : List ℕ) (item : Item) → item_at items key ≡ Some item → item.unique ≤ n
 
-found_put : (b : Bool) (new item : Item) (old : Option Item) (n : ℕ) → new.unique ≤ n → (old ≡ Some item → item.unique ≤ n) → cond b (Some new) old ≡ Some item → item.unique ≤ n
+found_put : (b : Bool) (new item : Item) (old : Option Item) (n : ℕ)
+    → new.unique ≤ n
+    → (old ≡ Some item → item.unique ≤ n)
+    → cond b (Some new) old ≡ Some item
+    → item.unique ≤ n
 found_put true new item old n low f h = let same : new ≡ item = same_Some new item h in rw (← same) low
 found_put false new item old n low f h = f h
 
-found_left : (b : Bool) (item : Item) (old : Option Item) (n : ℕ) → (old ≡ Some item → item.unique ≤ n) → cond b None old ≡ Some item → item.unique ≤ n
+found_left : (b : Bool) (item : Item) (old : Option Item) (n : ℕ)
+    → (old ≡ Some item → item.unique ≤ n)
+    → cond b None old ≡ Some item
+    → item.unique ≤ n
 found_left true item old n f h = absurd cc
 found_left false item old n f h = f h
 
-put-changed : (items : Items) (target : Target) (change : Change) (floor number : ℕ) → number ≡ floor + 1 → PutsOwn number change → IsPutBy items floor → IsPutBy (changed items target change) (floor + 1)
+put-changed : (items : Items) (target : Target) (change : Change) (floor number : ℕ)
+    → number ≡ floor + 1
+    → PutsOwn number change
+    → IsPutBy items floor
+    → IsPutBy (changed items target change) (floor + 1)
 put-changed items (One k) Keep floor number is own h key item e = omega (arith, h key item e)
 put-changed items (One k) (Put new) floor number is own h key item e =
-    found_put _ new item _ (floor + 1) (omega (arith, own.0)) (λ (f : item_at items key ≡ Some item). omega (arith, h key item f)) (sym (get-insert nat_list_cmp_total items k new key) ∙ e)
+    found_put _ new item _ (floor + 1) (omega (arith, own.0))
+    (λ (f : item_at items key ≡ Some item). omega (arith, h key item f))
+    (sym (get-insert nat_list_cmp_total items k new key) ∙ e)
 put-changed items (One k) Drop floor number is own h key item e =
-    found_left _ item _ (floor + 1) (λ (f : item_at items key ≡ Some item). omega (arith, h key item f)) (sym (get-remove nat_list_cmp_total items k key) ∙ e)
-put-changed items (One k) Clear floor number is own h key item e = let none = sym (get-empty key_cmp key) ∙ e in absurd cc
+    found_left _ item _ (floor + 1) (λ (f : item_at items key ≡ Some item). omega (arith, h key item f))
+    (sym (get-remove nat_list_cmp_total items k key) ∙ e)
+put-changed items (One k) Clear floor number is own h key item e =
+    let none = sym (get-empty key_cmp key) ∙ e in absurd cc
 put-changed items All Keep floor number is own h key item e = omega (arith, h key item e)
 put-changed items All (Put new) floor number is own h key item e = omega (arith, h key item e)
 put-changed items All Drop floor number is own h key item e = omega (arith, h key item e)
 put-changed items All Clear floor number is own h key item e = let none = sym (get-empty key_cmp key) ∙ e in absurd cc
 
-put-after : (floor n : ℕ) (es : List LogEntry) (items : Items) → n ≡ floor + length es → IsLog floor es → IsPutBy items floor → IsPutBy (items_after items es) n
+put-after : (floor n : ℕ) (es : List LogEntry) (items : Items)
+    → n ≡ floor + length es
+    → IsLog floor es
+    → IsPutBy items floor
+    → IsPutBy (items_after items es) n
 put-after floor n [] items is log h = λ key item e. omega (arith, h key item e)
-put-after floor n (e ∷ es) items is log h = put-after (floor + 1) n es (changed items e.target e.change) (omega arith) log.2 (put-changed items e.target e.change floor e.number log.1 log.0.put h)
+put-after floor n (e ∷ es) items is log h = put-after (floor + 1) n es (changed items e.target e.change) (omega arith)
+    log.2 (put-changed items e.target e.change floor e.number log.1 log.0.put h)
 
 -- at a number up to the last, each item was put under a number up to it
-pub put-at : (s : StoreState) (n : ℕ) → s.floor ≤ n → n ≤ last_number s → IsStore s → IsPutBy s.base s.floor → IsPutBy (items_at s n) n
+pub put-at : (s : StoreState) (n : ℕ)
+    → s.floor ≤ n
+    → n ≤ last_number s
+    → IsStore s
+    → IsPutBy s.base s.floor
+    → IsPutBy (items_at s n) n
 put-at s n low high h put =
     let l : length (take (n - s.floor) s.rest) ≡ n - s.floor = length-take-le (n - s.floor) s.rest (omega arith) in
-    put-after s.floor n (take (n - s.floor) s.rest) s.base (omega (arith, l)) (log-take s.floor (n - s.floor) s.rest h.log) put
+    put-after s.floor n (take (n - s.floor) s.rest) s.base (omega (arith, l))
+    (log-take s.floor (n - s.floor) s.rest h.log) put
 
 -- ---- the changes of a server
 
-pub sound-widened : (s : ServerState) (v : View) → is_below v s.count ≡ true → has v s.id ≡ false → IsSound s → IsSound (widened s v)
+pub sound-widened : (s : ServerState) (v : View)
+    → is_below v s.count ≡ true
+    → has v s.id ≡ false
+    → IsSound s
+    → IsSound (widened s v)
 unfolding widened
 sound-widened s v below out h = record {
   placed = h.placed;
@@ -180,7 +269,11 @@ pub store-widened : (s : ServerState) (v : View) → (widened s v).store ≡ s.s
 unfolding widened
 store-widened s v = refl
 
-pub sound-appended : (s : ServerState) (e : LogEntry) → IsEntry e → e.number ≡ last_number s.store + 1 → IsSound s → IsSound (appended s e)
+pub sound-appended : (s : ServerState) (e : LogEntry)
+    → IsEntry e
+    → e.number ≡ last_number s.store + 1
+    → IsSound s
+    → IsSound (appended s e)
 unfolding appended
 sound-appended s e valid next h = record {
   placed = h.placed;
@@ -195,7 +288,10 @@ sound-appended s e valid next h = record {
 }
 
 -- other own calls wait
-pub sound-updates : (s : ServerState) (us : List OpenUpdate) (next_id : ℕ) → AreUpdates 0 us next_id → IsSound s → IsSound (record s { pend = us; next_id = next_id })
+pub sound-updates : (s : ServerState) (us : List OpenUpdate) (next_id : ℕ)
+    → AreUpdates 0 us next_id
+    → IsSound s
+    → IsSound (record s { pend = us; next_id = next_id })
 sound-updates s us next_id updates h = record {
   placed = h.placed;
   counted = h.counted;
@@ -209,7 +305,10 @@ sound-updates s us next_id updates h = record {
 }
 
 -- other own reads wait
-pub sound-reads : (s : ServerState) (rs : List OpenRead) (next_ask : ℕ) → AreReads 0 s.store.floor rs next_ask s.store.acked → IsSound s → IsSound (record s { asks = rs; next_ask = next_ask })
+pub sound-reads : (s : ServerState) (rs : List OpenRead) (next_ask : ℕ)
+    → AreReads 0 s.store.floor rs next_ask s.store.acked
+    → IsSound s
+    → IsSound (record s { asks = rs; next_ask = next_ask })
 sound-reads s rs next_ask reads h = record {
   placed = h.placed;
   counted = h.counted;
@@ -222,7 +321,11 @@ sound-reads s rs next_ask reads h = record {
   reads = reads;
 }
 
-pub sound-acked : (s : ServerState) (n : ℕ) → s.store.acked ≤ n → n ≤ last_number s.store → IsSound s → IsSound (record s { store = acked_to s.store n })
+pub sound-acked : (s : ServerState) (n : ℕ)
+    → s.store.acked ≤ n
+    → n ≤ last_number s.store
+    → IsSound s
+    → IsSound (record s { store = acked_to s.store n })
 sound-acked s n low high h = record {
   placed = h.placed;
   counted = h.counted;
@@ -235,12 +338,21 @@ sound-acked s n low high h = record {
   reads = reads-acked 0 s.store.floor s.asks s.next_ask s.store.acked n low h.reads;
 }
 
-pub sound-risen : (s : ServerState) (n : ℕ) → s.store.acked ≤ n → n ≤ last_number s.store → IsSound s → IsSound (risen s n)
+pub sound-risen : (s : ServerState) (n : ℕ)
+    → s.store.acked ≤ n
+    → n ≤ last_number s.store
+    → IsSound s
+    → IsSound (risen s n)
 unfolding risen
 sound-risen s n low high h =
-    sound-updates (record s { store = acked_to s.store n }) (left_open s.id s.pend (newly_acked s n)) s.next_id (updates-left_open s.id (newly_acked s n) s.pend s.next_id h.updates) (sound-acked s n low high h)
+    sound-updates (record s { store = acked_to s.store n }) (left_open s.id s.pend (newly_acked s n)) s.next_id
+    (updates-left_open s.id (newly_acked s n) s.pend s.next_id h.updates) (sound-acked s n low high h)
 
-pub sound-entered : (s : ServerState) (port : ℕ) (call : Call) → IsCall call → is_update call.op ≡ true → IsSound s → IsSound (entered s port call)
+pub sound-entered : (s : ServerState) (port : ℕ) (call : Call)
+    → IsCall call
+    → is_update call.op ≡ true
+    → IsSound s
+    → IsSound (entered s port call)
 unfolding entered
 sound-entered s port call fit is h =
     let u : OpenUpdate = record { id = s.next_id; port = port; call = call } in
@@ -253,7 +365,10 @@ sound-asked s port key h =
     sound-reads s (s.asks ++ r ∷ []) (s.next_ask + 1) (reads-push 0 s.store.floor s.asks r h.reads) h
 
 -- fewer reads wait
-pub sound-closed : (s : ServerState) (asks : List OpenRead) → AreReads 0 s.store.floor asks s.next_ask s.store.acked → IsSound s → IsSound (record s { asks = asks })
+pub sound-closed : (s : ServerState) (asks : List OpenRead)
+    → AreReads 0 s.store.floor asks s.next_ask s.store.acked
+    → IsSound s
+    → IsSound (record s { asks = asks })
 sound-closed s asks reads h = sound-reads s asks s.next_ask reads h
 
 pub sound-trimmed : (s : ServerState) → IsSound s → IsSound (trimmed s)
@@ -266,7 +381,8 @@ sound-trimmed s h =
       outside = h.outside;
       within = h.within;
       store = store-dropped s.store (least_open s.store.acked s.asks) between.0 between.1 h.store;
-      based = put-at s.store (least_open s.store.acked s.asks) between.0 (omega (arith, between.1, h.store.acked_held)) h.store h.based;
+      based = put-at s.store (least_open s.store.acked s.asks) between.0 (omega (arith, between.1, h.store.acked_held))
+          h.store h.based;
       seen = h.seen;
       updates = h.updates;
       reads = reads-least 0 s.store.floor s.asks s.next_ask s.store.acked h.reads;

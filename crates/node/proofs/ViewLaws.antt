@@ -1,10 +1,12 @@
 -- What views tell.
-use Rattle.std.proofs.Common.{◌≡◌, ℕ, zero, suc, ◌+◌, ◌<◌, ◌≤◌, Bool, true, false, Option, Some, None, refl, arith, inl, inr, cond}
+use Rattle.std.proofs.Common.{◌≡◌, ℕ, zero, suc, ◌+◌, ◌<◌, ◌≤◌, Bool, true, false, Option, Some, None, refl, arith, inl}
+use Rattle.std.proofs.Common.{inr, cond}
 use Rattle.std.specs.Prelude.{◌||◌}
 use Rattle.std.proofs.lemmas.Bool.{cases_eq, ltb-true, lt-ltb}
 use Rattle.std.proofs.lemmas.Bool.Decides.{nat_tests}
 use Rattle.std.proofs.lemmas.Nat.{or_lt, pow_below, pow_pos}
-use Rattle.std.proofs.lemmas.Nat.Bits.{bit_at_or, bit_at-lt, bit_at-pow_other, bit_at-pow_same, bit_at-zero, bit_at_above}
+use Rattle.std.proofs.lemmas.Nat.Bits.{bit_at_or, bit_at-lt, bit_at-pow_other, bit_at-pow_same, bit_at-zero}
+use Rattle.std.proofs.lemmas.Nat.Bits.{bit_at_above}
 use Rattle.std.proofs.lemmas.Option.{same_Some}
 use Rattle.node.specs.Views.{View, has, union, single, is_below, next_from, predecessor}
 pub use Rattle.node.specs.Chains.{IsNext, IsPrevious}
@@ -20,7 +22,11 @@ has-single_other j i other = rw (bit_at-pow_other j i other) refl
 
 pub has_single : (j i : ℕ) → has (single j) i ≡ true → i ≡ j
 has_single j i h =
-    elim (cases_eq i j) [ inl same ↦ same | inr other ↦ (let never : has (single j) i ≡ false = has-single_other j i other in absurd cc) ]
+    elim (cases_eq i j) [
+      | inl same ↦ same
+      | inr other ↦
+          (let never : has (single j) i ≡ false = has-single_other j i other in absurd cc)
+    ]
 
 pub has-single_itself : (j : ℕ) → has (single j) j ≡ true
 unfolding has single
@@ -30,7 +36,10 @@ pub nowhere : (i : ℕ) → has 0 i ≡ false
 unfolding has
 nowhere i = rw (bit_at-zero i) refl
 
-pub below-union : (u v : View) (count : ℕ) → is_below u count ≡ true → is_below v count ≡ true → is_below (union u v) count ≡ true
+pub below-union : (u v : View) (count : ℕ)
+    → is_below u count ≡ true
+    → is_below v count ≡ true
+    → is_below (union u v) count ≡ true
 unfolding is_below union
 below-union u v count h g = lt-ltb _ _ (or_lt count u v (ltb-true _ _ h) (ltb-true _ _ g))
 
@@ -47,10 +56,18 @@ pub named-below : (v : View) (count i : ℕ) → is_below v count ≡ true → c
 unfolding is_below has
 named-below v count i h le = rw (bit_at_above v count i (ltb-true _ _ h) le) refl
 
-next_step : (v : View) (k j : ℕ) (b : Bool) (rest : Option ℕ) → has v k ≡ b → (rest ≡ Some j → IsNext v (suc k) j) → cond b rest (Some k) ≡ Some j → IsNext v k j
+next_step : (v : View) (k j : ℕ) (b : Bool) (rest : Option ℕ)
+    → has v k ≡ b
+    → (rest ≡ Some j → IsNext v (suc k) j)
+    → cond b rest (Some k) ≡ Some j
+    → IsNext v k j
 next_step v k j true rest e f h =
     let r = f h in
-    record { above = omega (arith, r.above); out = r.out; between = λ x a l. elim (cases_eq x k) [ inl same ↦ rw same e | inr other ↦ r.between x (omega arith) l ] }
+    record {
+      above = omega (arith, r.above);
+      out = r.out;
+      between = λ x a l. elim (cases_eq x k) [ inl same ↦ rw same e | inr other ↦ r.between x (omega arith) l ];
+    }
 next_step v k j false rest e f h =
     let same = same_Some k j h in
     record { above = omega arith; out = rw (← same) e; between = λ x a l. absurd (omega arith) }
@@ -60,29 +77,50 @@ unfolding next_from
 next_is v k zero j h = grind arith
 next_is v k (suc many) j h = next_step v k j (has v k) (next_from v (suc k) many) refl (next_is v (suc k) many j) h
 
-within_step : (k many j : ℕ) (b : Bool) (rest : Option ℕ) → (rest ≡ Some j → j < suc k + many) → cond b rest (Some k) ≡ Some j → j < k + suc many
+within_step : (k many j : ℕ) (b : Bool) (rest : Option ℕ)
+    → (rest ≡ Some j → j < suc k + many)
+    → cond b rest (Some k) ≡ Some j
+    → j < k + suc many
 within_step k many j true rest f h = omega (arith, f h)
 within_step k many j false rest f h = let same = same_Some k j h in omega arith
 
 pub next_within_many : (v : View) (k many j : ℕ) → next_from v k many ≡ Some j → j < k + many
 unfolding next_from
 next_within_many v k zero j h = absurd cc
-next_within_many v k (suc many) j h = within_step k many j (has v k) (next_from v (suc k) many) (next_within_many v (suc k) many j) h
+next_within_many v k (suc many) j h =
+    within_step k many j (has v k) (next_from v (suc k) many) (next_within_many v (suc k) many j) h
 
 -- where there is none, all are in the view
-all_step : (v : View) (k many : ℕ) (b : Bool) (rest : Option ℕ) → has v k ≡ b → (rest ≡ None → (x : ℕ) → suc k ≤ x → x < suc k + many → has v x ≡ true) → cond b rest (Some k) ≡ None → (x : ℕ) → k ≤ x → x < k + suc many → has v x ≡ true
-all_step v k many true rest e f h x a l = elim (cases_eq x k) [ inl same ↦ rw same e | inr other ↦ f h x (omega arith) (omega arith) ]
+all_step : (v : View) (k many : ℕ) (b : Bool) (rest : Option ℕ)
+    → has v k ≡ b
+    → (rest ≡ None → (x : ℕ) → suc k ≤ x → x < suc k + many → has v x ≡ true)
+    → cond b rest (Some k) ≡ None
+    → (x : ℕ)
+    → k ≤ x
+    → x < k + suc many
+    → has v x ≡ true
+all_step v k many true rest e f h x a l =
+    elim (cases_eq x k) [ inl same ↦ rw same e | inr other ↦ f h x (omega arith) (omega arith) ]
 all_step v k many false rest e f h x a l = absurd cc
 
 pub no_next : (v : View) (k many : ℕ) → next_from v k many ≡ None → (x : ℕ) → k ≤ x → x < k + many → has v x ≡ true
 unfolding next_from
 no_next v k zero h x a l = absurd (omega arith)
-no_next v k (suc many) h x a l = all_step v k many (has v k) (next_from v (suc k) many) refl (no_next v (suc k) many) h x a l
+no_next v k (suc many) h x a l =
+    all_step v k many (has v k) (next_from v (suc k) many) refl (no_next v (suc k) many) h x a l
 
-previous_step : (v : View) (k p : ℕ) (b : Bool) (rest : Option ℕ) → has v k ≡ b → (rest ≡ Some p → IsPrevious v k p) → cond b rest (Some k) ≡ Some p → IsPrevious v (suc k) p
+previous_step : (v : View) (k p : ℕ) (b : Bool) (rest : Option ℕ)
+    → has v k ≡ b
+    → (rest ≡ Some p → IsPrevious v k p)
+    → cond b rest (Some k) ≡ Some p
+    → IsPrevious v (suc k) p
 previous_step v k p true rest e f h =
     let r = f h in
-    record { below = omega (arith, r.below); out = r.out; between = λ x a l. elim (cases_eq x k) [ inl same ↦ rw same e | inr other ↦ r.between x a (omega arith) ] }
+    record {
+      below = omega (arith, r.below);
+      out = r.out;
+      between = λ x a l. elim (cases_eq x k) [ inl same ↦ rw same e | inr other ↦ r.between x a (omega arith) ];
+    }
 previous_step v k p false rest e f h =
     let same = same_Some k p h in
     record { below = omega arith; out = rw (← same) e; between = λ x a l. absurd (omega arith) }
@@ -92,7 +130,13 @@ unfolding predecessor
 previous_is v zero p h = grind arith
 previous_is v (suc k) p h = previous_step v k p (has v k) (predecessor v k) refl (previous_is v k p) h
 
-none_step : (v : View) (k : ℕ) (b : Bool) (rest : Option ℕ) → has v k ≡ b → (rest ≡ None → (x : ℕ) → x < k → has v x ≡ true) → cond b rest (Some k) ≡ None → (x : ℕ) → x < suc k → has v x ≡ true
+none_step : (v : View) (k : ℕ) (b : Bool) (rest : Option ℕ)
+    → has v k ≡ b
+    → (rest ≡ None → (x : ℕ) → x < k → has v x ≡ true)
+    → cond b rest (Some k) ≡ None
+    → (x : ℕ)
+    → x < suc k
+    → has v x ≡ true
 none_step v k true rest e f h x l = elim (cases_eq x k) [ inl same ↦ rw same e | inr other ↦ f h x (omega arith) ]
 none_step v k false rest e f h x l = absurd cc
 

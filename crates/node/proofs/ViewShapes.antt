@@ -10,7 +10,9 @@ next_zero : (v : View) (i : ℕ) → next_from v i 0 ≡ None
 unfolding next_from
 next_zero v i = refl
 
-pub next_within : (v : View) (i count : ℕ) → i < count → next_from v i (count - i) ≡ cond (has v i) (next_from v (i + 1) (count - (i + 1))) (Some i)
+pub next_within : (v : View) (i count : ℕ)
+    → i < count
+    → next_from v i (count - i) ≡ cond (has v i) (next_from v (i + 1) (count - (i + 1))) (Some i)
 next_within v i count l =
     let a : count - i ≡ suc (count - (i + 1)) = omega arith in
     let b : i + 1 ≡ suc i = omega arith in
@@ -30,5 +32,9 @@ none_below v = refl
 pub previous_zero : (v : View) (k : ℕ) → k ≤ 0 → predecessor v k ≡ None
 previous_zero v k h = let e : k ≡ 0 = omega arith in rw e (none_below v)
 
-pub previous_more : (v : View) (k : ℕ) → 0 < k → predecessor v k ≡ cond (has v (k - 1)) (predecessor v (k - 1)) (Some (k - 1))
-previous_more v k l = let e : k ≡ suc (k - 1) = omega arith in subst (λ n. predecessor v n ≡ cond (has v (k - 1)) (predecessor v (k - 1)) (Some (k - 1))) (sym e) (previous_suc v (k - 1))
+pub previous_more : (v : View) (k : ℕ)
+    → 0 < k
+    → predecessor v k ≡ cond (has v (k - 1)) (predecessor v (k - 1)) (Some (k - 1))
+previous_more v k l = let e : k ≡ suc (k - 1) =
+    omega arith in subst (λ n. predecessor v n ≡ cond (has v (k - 1)) (predecessor v (k - 1)) (Some (k - 1))) (sym e)
+    (previous_suc v (k - 1))

@@ -1,7 +1,11 @@
--- A server's step as a list of single guarded actions, as a TLA+ specification has them (docs/CHAIN.md has the rules in words; CRAQ,
--- "Chain Replication with Apportioned Queries" and "Failure Recovery in CRAQ"). `meaning` says of each action what is known when it is
--- done, and what it makes of the server. The law `steps_are_actions` says that each step of a lawful server is such a list.
-use Rattle.std.specs.Prelude.{◌≡◌, ◌≢◌, ℕ, ◌+◌, ◌<◌, ◌≤◌, nat_lt, Bool, true, false, not, List, [], ◌∷◌, ◌++◌, slice_get, Option, Some, None, ◌⊎◌, if◌then◌else◌}
+-- A server's step as a list of single guarded actions, as a TLA+ specification has them (docs/CHAIN.md has the rules in
+-- words; CRAQ,
+-- "Chain Replication with Apportioned Queries" and "Failure Recovery in CRAQ"). `meaning` says of each action what is
+-- known when it is
+-- done, and what it makes of the server. The law `steps_are_actions` says that each step of a lawful server is such a
+-- list.
+use Rattle.std.specs.Prelude.{◌≡◌, ◌≢◌, ℕ, ◌+◌, ◌<◌, ◌≤◌, nat_lt, Bool, true, false, not, List, [], ◌∷◌, ◌++◌}
+use Rattle.std.specs.Prelude.{slice_get, Option, Some, None, ◌⊎◌, if◌then◌else◌}
 use Rattle.table.specs.Operations.{is_update}
 use Rattle.table.specs.declared.operations.Call.{Call}
 use Rattle.table.specs.declared.operations.Reply.TheVariants.{Value}
@@ -17,8 +21,10 @@ use Rattle.node.specs.declared.messages.Input.{Input}
 use Rattle.node.specs.declared.messages.Input.TheVariants.{Call as Called, From, Gone}
 use Rattle.node.specs.declared.messages.Output.TheVariants.{To}
 use Rattle.node.specs.Views.{View, has, single, is_below, is_same}
-use Rattle.node.specs.Servers.{ServerState, Outcome, most, head_of, tail_of, is_head, is_tail, previous, next, silent, putting, and_then, message_to, reply_at}
-use Rattle.node.specs.Numbering.{newly_acked, left_open_by, reply_to, appended, entry_of, is_taken, entered, is_room_for_update}
+use Rattle.node.specs.Servers.{ServerState, Outcome, most, head_of, tail_of, is_head, is_tail, previous, next, silent}
+use Rattle.node.specs.Servers.{putting, and_then, message_to, reply_at}
+use Rattle.node.specs.Numbering.{newly_acked, left_open_by, reply_to, appended, entry_of, is_taken, entered}
+use Rattle.node.specs.Numbering.{is_room_for_update}
 use Rattle.node.specs.Reading.{asked, open_read, without_read}
 use Rattle.node.specs.Joining.{widened}
 use Rattle.node.specs.Steps.{is_heard, trimmed}
@@ -39,7 +45,8 @@ left (Some (Gone j)) = Some (Gone j)
 
 -- the view that an input brings
 abbrev pub IsBrought : Cause → View → Type 0
-IsBrought input v = ((i : ℕ) × (m : Peer) × (input ≡ Some (From i m)) × (v ≡ m.view)) ⊎ ((j : ℕ) × (input ≡ Some (Gone j)) × (v ≡ single j))
+IsBrought input v = ((i : ℕ) × (m : Peer) × (input ≡ Some (From i m)) × (v ≡ m.view))
+    ⊎ ((j : ℕ) × (input ≡ Some (Gone j)) × (v ≡ single j))
 
 -- ---- what the guards speak of
 
@@ -51,7 +58,8 @@ In x xs = (k : ℕ) × (slice_get xs k ≡ Some x)
 abbrev pub IsWanted : Cause → ServerState → ℕ → ℕ → Call → Type 0
 IsWanted input s origin id call =
     ((origin ≡ s.id) × (port : ℕ) × In (record { id = id; port = port; call = call }) s.pend)
-    ⊎ ((m : Peer) × (input ≡ Some (From origin m)) × (m.body ≡ Op id call) × (has s.view origin ≡ false) × (origin ≢ s.id))
+    ⊎ ((m : Peer) × (input ≡ Some (From origin m)) × (m.body ≡ Op id call) × (has s.view origin ≡ false)
+    × (origin ≢ s.id))
 
 -- an entry that the head makes
 pub record IsMade (input : Cause) (s : ServerState) (e : LogEntry) : Type 0 where
@@ -80,18 +88,22 @@ pub record IsPassed (input : Cause) (s : ServerState) (e : LogEntry) : Type 0 wh
 abbrev pub IsReached : Cause → ServerState → ℕ → Type 0
 IsReached input s n =
     ((is_tail s ≡ true) × (n ≡ last_number s.store))
-    ⊎ ((i : ℕ) × (m : Peer) × (input ≡ Some (From i m)) × (m.body ≡ Ack n) × (next s ≡ Some i) × ((k : ℕ) → has m.view k ≡ true → has s.view k ≡ true))
+    ⊎ ((i : ℕ) × (m : Peer) × (input ≡ Some (From i m)) × (m.body ≡ Ack n) × (next s ≡ Some i)
+    × ((k : ℕ) → has m.view k ≡ true → has s.view k ≡ true))
 
 -- a message that may be put out to server j
 abbrev pub MaySend : Cause → ServerState → ℕ → Body → Type 0
 MaySend input s j (Op id call) =
-    (head_of s ≡ Some j) × (j ≢ s.id) × (is_update call.op ≡ true) × IsCall call × (port : ℕ) × In (record { id = id; port = port; call = call }) s.pend
+    (head_of s ≡ Some j) × (j ≢ s.id) × (is_update call.op ≡ true) × IsCall call × (port : ℕ)
+    × In (record { id = id; port = port; call = call }) s.pend
 MaySend input s j (Forward e) = (next s ≡ Some j) × In e s.store.rest
 MaySend input s j (Ack n) = (previous s ≡ Some j) × (n ≡ s.store.acked)
 MaySend input s j (Query ask key) =
-    (tail_of s ≡ Some j) × (is_tail s ≡ false) × (1 ≤ ask) × (port : ℕ) × (mark : ℕ) × In (record { ask = ask; port = port; key = key; mark = mark }) s.asks
+    (tail_of s ≡ Some j) × (is_tail s ≡ false) × (1 ≤ ask) × (port : ℕ) × (mark : ℕ)
+    × In (record { ask = ask; port = port; key = key; mark = mark }) s.asks
 MaySend input s j (Answer ask n) =
-    (is_tail s ≡ true) × (n ≡ last_number s.store) × (has s.view j ≡ false) × (m : Peer) × (key : List ℕ) × (input ≡ Some (From j m)) × (m.body ≡ Query ask key)
+    (is_tail s ≡ true) × (n ≡ last_number s.store) × (has s.view j ≡ false) × (m : Peer) × (key : List ℕ)
+    × (input ≡ Some (From j m)) × (m.body ≡ Query ask key)
 
 -- the number that answers an open read: the tail's last number, its own or one that it sent
 abbrev pub IsAnswered : Cause → ServerState → ℕ → ℕ → Type 0
@@ -118,9 +130,11 @@ pub record Due : Type 0 where
 
 -- nothing is due
 abbrev pub nothing_due : ServerState → Due
-nothing_due s = record { since = s; forwarded = last_number s.store; untold = false; unsettled = []; unsent = []; unasked = [] }
+nothing_due s =
+    record { since = s; forwarded = last_number s.store; untold = false; unsettled = []; unsent = []; unasked = [] }
 
--- What a join makes due, from the server before it to the one whose view was widened: a new successor needs the entries that aren't
+-- What a join makes due, from the server before it to the one whose view was widened: a new successor needs the entries
+-- that aren't
 -- acknowledged, a new predecessor the acknowledged number, a new head the own updates, and a new tail the own reads.
 abbrev pub due_to_new : ServerState → ServerState → Due
 due_to_new s t =
@@ -138,13 +152,16 @@ abbrev pub but_first : {X : Type 0} → List X → List X
 but_first [] = []
 but_first (x ∷ xs) = xs
 
--- it is the turn of a message: the successor's next entry, the new acknowledged number, the first own update or read that is due
+-- it is the turn of a message: the successor's next entry, the new acknowledged number, the first own update or read
+-- that is due
 abbrev pub IsTurnOf : Body → Due → Type 0
-IsTurnOf (Op id call) d = (port : ℕ) × (more : List OpenUpdate) × (d.unsent ≡ record { id = id; port = port; call = call } ∷ more)
+IsTurnOf (Op id call) d =
+    (port : ℕ) × (more : List OpenUpdate) × (d.unsent ≡ record { id = id; port = port; call = call } ∷ more)
 IsTurnOf (Forward e) d = e.number ≡ d.forwarded + 1
 IsTurnOf (Ack n) d = d.untold ≡ true
 IsTurnOf (Query ask key) d =
-    (port : ℕ) × (mark : ℕ) × (more : List OpenRead) × (d.unasked ≡ record { ask = ask; port = port; key = key; mark = mark } ∷ more)
+    (port : ℕ) × (mark : ℕ) × (more : List OpenRead)
+    × (d.unasked ≡ record { ask = ask; port = port; key = key; mark = mark } ∷ more)
 IsTurnOf (Answer ask n) d = Unit {0}
 
 -- what is due after a message
@@ -165,7 +182,8 @@ pub record IsPaid (s : ServerState) (d : Due) : Type 0 where
   -- the own updates that were due were sent to the head; who is the head has taken those that it could
   pub sent : is_head s ≡ false → d.unsent ≡ []
   pub taken : is_head s ≡ true → (u : OpenUpdate) → In u d.unsent → is_taken s s.id u.id ≡ false
-  -- the tail was asked for the own reads that were due; who is the tail has acknowledged everything, and answered all its reads
+  -- the tail was asked for the own reads that were due; who is the tail has acknowledged everything, and answered all
+  -- its reads
   pub asked : is_tail s ≡ false → d.unasked ≡ []
   pub last : is_tail s ≡ true → (s.store.acked ≡ last_number s.store) × (s.asks ≡ [])
 
@@ -243,8 +261,12 @@ meaning input s (Send j body) =
     }
 meaning input s (Finish r n) =
     record {
-      guard = (open_read s.asks r.ask ≡ Some r) × In r s.asks × (r.mark ≤ n) × (n ≤ last_number s.store) × IsAnswered input s r.ask n;
-      effect = record { state = record s { asks = without_read s.asks r.ask }; outputs = reply_at r.port (Value (value_at s.store r.key n)) };
+      guard = (open_read s.asks r.ask ≡ Some r) × In r s.asks × (r.mark ≤ n) × (n ≤ last_number s.store)
+          × IsAnswered input s r.ask n;
+      effect = record {
+        state = record s { asks = without_read s.asks r.ask };
+        outputs = reply_at r.port (Value (value_at s.store r.key n));
+      };
       turn = λ d. Unit {0};
       due = λ d. d;
     }
@@ -257,7 +279,8 @@ meaning input s Trim =
     }
 meaning input s (Enter port call) =
     record {
-      guard = (input ≡ Some (Called port call)) × IsCall call × (is_update call.op ≡ true) × (is_room_for_update s ≡ true);
+      guard =
+          (input ≡ Some (Called port call)) × IsCall call × (is_update call.op ≡ true) × (is_room_for_update s ≡ true);
       effect = silent (entered s port call);
       turn = λ d. Unit {0};
       due = λ d. record d { unsent = d.unsent ++ record { id = s.next_id; port = port; call = call } ∷ [] };
@@ -269,11 +292,13 @@ meaning input s (Ask port key) =
           × (is_clean s.store key ≡ false) × (nat_lt s.next_ask most ≡ true);
       effect = silent (asked s port key);
       turn = λ d. Unit {0};
-      due = λ d. record d { unasked = d.unasked ++ record { ask = s.next_ask; port = port; key = key; mark = s.store.acked } ∷ [] };
+      due = λ d. record d
+          { unasked = d.unasked ++ record { ask = s.next_ask; port = port; key = key; mark = s.store.acked } ∷ [] };
     }
 meaning input s (Show port key) =
     record {
-      guard = (call : Call) × (input ≡ Some (Called port call)) × (is_update call.op ≡ false) × (call.target ≡ One key) × (is_clean s.store key ≡ true);
+      guard = (call : Call) × (input ≡ Some (Called port call)) × (is_update call.op ≡ false) × (call.target ≡ One key)
+          × (is_clean s.store key ≡ true);
       effect = putting s (reply_at port (Value (value_at s.store key (last_number s.store))));
       turn = λ d. Unit {0};
       due = λ d. d;
@@ -325,16 +350,20 @@ due_in_the_end d s (a ∷ later) = due_in_the_end (due d s a) (act s a).state la
 
 -- ---- steps
 
--- what a message from server i says is taken in, by a server that doesn't know i to have failed: a head has taken an update if it could,
--- an entry of the predecessor isn't the next one any more, a number of the successor is acknowledged, a query is answered by the tail,
+-- what a message from server i says is taken in, by a server that doesn't know i to have failed: a head has taken an
+-- update if it could,
+-- an entry of the predecessor isn't the next one any more, a number of the successor is acknowledged, a query is
+-- answered by the tail,
 -- and an answer of the tail that is in range leaves its read closed
 abbrev pub IsTakenIn : ℕ → Body → Outcome → Type 0
 IsTakenIn i (Op id call) a = is_head a.state ≡ true → is_update call.op ≡ true → is_taken a.state i id ≡ false
 IsTakenIn i (Forward e) a = previous a.state ≡ Some i → e.number ≢ last_number a.state.store + 1
 IsTakenIn i (Ack n) a = next a.state ≡ Some i → n ≤ last_number a.state.store → n ≤ a.state.store.acked
-IsTakenIn i (Query ask key) a = is_tail a.state ≡ true → (m : Peer) × In (To i m) a.outputs × (m.body ≡ Answer ask (last_number a.state.store))
+IsTakenIn i (Query ask key) a =
+    is_tail a.state ≡ true → (m : Peer) × In (To i m) a.outputs × (m.body ≡ Answer ask (last_number a.state.store))
 IsTakenIn i (Answer ask n) a =
-    tail_of a.state ≡ Some i → (r : OpenRead) → In r a.state.asks → r.ask ≡ ask → r.mark ≤ n → n ≤ last_number a.state.store → ⊥
+    tail_of a.state ≡ Some i → (r : OpenRead) → In r a.state.asks → r.ask ≡ ask → r.mark ≤ n
+    → n ≤ last_number a.state.store → ⊥
 
 -- what an input says is known after its step: a message's view and body, if it is heard, and a notice's server
 abbrev pub IsHeeded : Input → ServerState → Outcome → Type 0

@@ -1,5 +1,6 @@
 -- The face of a server: what readers beside it see, and how a step changes it (this project's rule).
-use Rattle.std.specs.Prelude.{◌≡◌, ◌≤◌, ◌⊎◌, ℕ, Bool, true, not, ◌&&◌, nat_le, List, [], ◌∷◌, map, filter_map, is_some, Option, Some, None, if◌then◌else◌}
+use Rattle.std.specs.Prelude.{◌≡◌, ◌≤◌, ◌⊎◌, ℕ, Bool, true, not, ◌&&◌, nat_le, List, [], ◌∷◌, map, filter_map, is_some}
+use Rattle.std.specs.Prelude.{Option, Some, None, if◌then◌else◌}
 use Rattle.std.specs.Option.{option_copied}
 use Rattle.std.specs.Borrow.{Bor}
 use Rattle.std.specs.FinMap as maps
@@ -58,7 +59,8 @@ abbrev pub is_removed : ℕ → Option Version → Bool
 is_removed n None = true
 is_removed n (Some v) = not (is_some v.item) && nat_le v.number n
 
--- the face with n as its acknowledged number: the versions without item up to n are taken away, and a clear up to n as well
+-- the face with n as its acknowledged number: the versions without item up to n are taken away, and a clear up to n as
+-- well
 abbrev pub face_at : ℕ → FaceState → FaceState
 face_at n f =
     record {
@@ -82,7 +84,10 @@ Waits number key (t ∷ ts) = ((t.number ≡ number) × (t.key ≡ key)) ⊎ Wai
 -- until its turn comes, which then removes nothing.
 pub record IsQueued (versions : Versions) (tombstones : List Tombstone) : Type 0 where
   pub rising : IsRising 0 tombstones
-  pub waits : (key : List ℕ) (v : Version) → maps.get versions key ≡ Some v → v.item ≡ None → Waits v.number key tombstones
+  pub waits : (key : List ℕ) (v : Version)
+      → maps.get versions key ≡ Some v
+      → v.item ≡ None
+      → Waits v.number key tombstones
 
 -- a change is done: its steps in order, and then the acknowledged number
 abbrev pub face_changed : FaceState → List FaceStep → ℕ → FaceState
@@ -103,7 +108,8 @@ face_steps es = filter_map (λ e. face_step e.number e.target e.change) es
 
 -- an item of the base is a version under the number that put it, which is its unique
 abbrev pub versions_of : Items → Versions
-versions_of items = maps.from_entries (map (λ e. (e.0, record { number = e.1.unique; item = Some e.1 })) (maps.entries items))
+versions_of items =
+    maps.from_entries (map (λ e. (e.0, record { number = e.1.unique; item = Some e.1 })) (maps.entries items))
 
 -- the change that sets it
 abbrev pub base_step : List ℕ × Item → FaceStep
@@ -116,7 +122,9 @@ no_face = record { versions = maps.empty; cleared = 0; acked = 0 }
 -- the face of a server: the base's items, changed by the entries above the floor, at the acknowledged number
 abbrev pub face_of : ServerState → FaceState
 face_of s =
-    face_at s.store.acked (face_after_all (record { versions = versions_of s.store.base; cleared = 0; acked = s.store.floor }) (face_steps s.store.rest))
+    face_at s.store.acked
+    (face_after_all (record { versions = versions_of s.store.base; cleared = 0; acked = s.store.floor })
+    (face_steps s.store.rest))
 
 -- how a step changes the face: by the entries that it appends, and to the acknowledged number after it
 abbrev pub steps_by : ServerState → Input → List FaceStep

@@ -2,7 +2,8 @@
 -- "Failure Recovery in CRAQ";
 -- that a new head takes its own open calls, and that views come with messages, are this project's rules).
 -- `old` is the server's view before the join.
-use Rattle.std.specs.Prelude.{ℕ, not, ◌&&◌, ◌==◌, nat_lt, List, [], ◌∷◌, ◌++◌, Option, option_map, slice_get, if◌then◌else◌}
+use Rattle.std.specs.Prelude.{ℕ, not, ◌&&◌, ◌==◌, nat_lt, List, [], ◌∷◌, ◌++◌, Option, option_map, slice_get}
+use Rattle.std.specs.Prelude.{if◌then◌else◌}
 use Rattle.table.specs.declared.operations.Call.{Call}
 use Rattle.table.specs.declared.operations.Reply.TheVariants.{Value}
 use Rattle.versions.specs.Entries.{LogEntry}
@@ -12,7 +13,8 @@ use Rattle.node.specs.declared.servers.OpenRead.{OpenRead}
 use Rattle.node.specs.declared.messages.Body.TheVariants.{Op, Forward, Ack, Query}
 use Rattle.node.specs.declared.messages.Output.{Output}
 use Rattle.node.specs.Views.{View, union, adds, head, tail, predecessor, successor, is_that, is_same}
-use Rattle.node.specs.Servers.{ServerState, Outcome, head_of, tail_of, is_head, is_tail, previous, next, silent, putting, and_then, message_to, reply_at}
+use Rattle.node.specs.Servers.{ServerState, Outcome, head_of, tail_of, is_head, is_tail, previous, next, silent}
+use Rattle.node.specs.Servers.{putting, and_then, message_to, reply_at}
 use Rattle.node.specs.Numbering.{taken, rise}
 
 -- First: the view becomes the union.
@@ -41,7 +43,8 @@ promoted_to_head old s =
 
 -- Third: the tail acknowledges all that it holds.
 unfoldable pub promoted_to_tail : ServerState → Outcome
-promoted_to_tail s = if is_tail s && nat_lt s.store.acked (last_number s.store) then rise s (last_number s.store) else silent s
+promoted_to_tail s =
+    if is_tail s && nat_lt s.store.acked (last_number s.store) then rise s (last_number s.store) else silent s
 
 -- each of these entries goes to the successor, in order
 unfoldable pub forwarded : ServerState → List LogEntry → List Output
@@ -77,12 +80,14 @@ asked_again s (r ∷ rs) = message_to s (tail_of s) (Query r.ask r.key) ++ asked
 unfoldable pub asks_renewed : View → ServerState → Outcome
 asks_renewed old s =
     if is_same (tail old s.count) (tail_of s) then silent s
-    else (if is_tail s then record { state = record s { asks = [] }; outputs = replies_to s s.asks } else putting s (asked_again s s.asks))
+    else (if is_tail s then record { state = record s { asks = [] }; outputs = replies_to s s.asks } else putting s
+    (asked_again s s.asks))
 
 -- the steps after the first, of a server whose view was widened
 abbrev pub rejoined : View → ℕ → ℕ → ServerState → Outcome
 rejoined old last_before acked_before s =
-    and_then (and_then (and_then (and_then (promoted_to_head old s) promoted_to_tail) (caught_up old last_before)) (acked_to_predecessor old acked_before)) (asks_renewed old)
+    and_then (and_then (and_then (and_then (promoted_to_head old s) promoted_to_tail) (caught_up old last_before))
+    (acked_to_predecessor old acked_before)) (asks_renewed old)
 
 -- Join a view: if it adds nothing, nothing happens; otherwise the six steps, in order.
 abbrev pub join : ServerState → View → Outcome

@@ -103,7 +103,8 @@ AreToOthers id count [] = Unit {0}
 AreToOthers id count (o ∷ os) = IsToOther id count o × AreToOthers id count os
 
 -- a body that may be sent: each field that its type doesn't keep in the range of the wire format is in it
--- (docs/FORMATS.md, "Peer messages"). What an op asks is an update that fits and suits its target; a query's key is kept by its type.
+-- (docs/FORMATS.md, "Peer messages"). What an op asks is an update that fits and suits its target; a query's key is
+-- kept by its type.
 abbrev pub IsSendable : Body → Type 0
 IsSendable (Op id call) = (1 ≤ id) × IsCall call × (is_update call.op ≡ true)
 IsSendable (Forward e) = IsEntry e

@@ -1,5 +1,6 @@
 -- Numbering and forwarding: how an update gets its entry, how entries go down the chain, and how they are acknowledged.
-use Rattle.std.specs.Prelude.{ℕ, ◌+◌, ◌-◌, max, Bool, not, ◌&&◌, ◌||◌, ◌==◌, nat_lt, nat_le, List, [], ◌∷◌, ◌++◌, take, find, slice_set, Option, Some, None, if◌then◌else◌}
+use Rattle.std.specs.Prelude.{ℕ, ◌+◌, ◌-◌, max, Bool, not, ◌&&◌, ◌||◌, ◌==◌, nat_lt, nat_le, List, [], ◌∷◌, ◌++◌, take}
+use Rattle.std.specs.Prelude.{find, slice_set, Option, Some, None, if◌then◌else◌}
 use Rattle.table.specs.Operations.{is_update}
 use Rattle.table.specs.Decisions.{decision}
 use Rattle.table.specs.declared.items.Item.{Item}
@@ -13,7 +14,8 @@ use Rattle.node.specs.declared.servers.OpenUpdate.{OpenUpdate}
 use Rattle.node.specs.declared.messages.Body.TheVariants.{Op, Forward, Ack}
 use Rattle.node.specs.declared.messages.Output.{Output}
 use Rattle.node.specs.Views.{is_that}
-use Rattle.node.specs.Servers.{ServerState, Outcome, most, seen_of, head_of, is_head, is_tail, previous, next, silent, putting, message_to, reply_at, without_first}
+use Rattle.node.specs.Servers.{ServerState, Outcome, most, seen_of, head_of, is_head, is_tail, previous, next, silent}
+use Rattle.node.specs.Servers.{putting, message_to, reply_at, without_first}
 
 -- acknowledgement
 
@@ -52,7 +54,8 @@ replies id pend (e ∷ es) = reply_to id pend e ++ replies id (left_open_by id p
 abbrev pub newly_acked : ServerState → ℕ → List LogEntry
 newly_acked s n = take (n - s.store.acked) (entries_after s.store s.store.acked)
 
--- Rise to n, a number above the acknowledged one: it becomes the acknowledged number, the own calls among the entries newly passed
+-- Rise to n, a number above the acknowledged one: it becomes the acknowledged number, the own calls among the entries
+-- newly passed
 -- are answered in order, and then the predecessor is told (CRAQ, "Chain Replication with Apportioned Queries":
 -- acknowledgements go back up the chain)
 unfoldable pub risen : ServerState → ℕ → ServerState
@@ -81,12 +84,20 @@ abbrev pub newest : StoreState → Target → Option Item
 newest store (One key) = value_at store key (last_number store)
 newest store All = None
 
--- the entry that the head makes of an update: decided with the next number (that a refused update takes a number and travels
+-- the entry that the head makes of an update: decided with the next number (that a refused update takes a number and
+-- travels
 -- as an entry, and that a conditional one is decided on the newest version, are this project's rules)
 abbrev pub entry_of : ServerState → ℕ → ℕ → Call → LogEntry
 entry_of s origin id call =
     let decided = decision (newest s.store call.target) call.op (last_number s.store + 1) in
-    record { number = last_number s.store + 1; origin = origin; id = id; target = call.target; reply = decided.0; change = decided.1 }
+    record {
+      number = last_number s.store + 1;
+      origin = origin;
+      id = id;
+      target = call.target;
+      reply = decided.0;
+      change = decided.1;
+    }
 
 -- the update is the origin's next one, and a number is left for it: an update is taken once (this project's rule)
 abbrev pub is_taken : ServerState → ℕ → ℕ → Bool
@@ -99,7 +110,8 @@ taken s origin id call = if is_taken s origin id then appended s (entry_of s ori
 -- Take, only at the head: the same, and the entry is passed on
 unfoldable pub take_update : ServerState → ℕ → ℕ → Call → Outcome
 take_update s origin id call =
-    if is_taken s origin id then passed_on (appended s (entry_of s origin id call)) (entry_of s origin id call) else silent s
+    if is_taken s origin id then passed_on (appended s (entry_of s origin id call)) (entry_of s origin id call)
+    else silent s
 
 -- the inputs and messages of updates
 
@@ -127,8 +139,11 @@ receive_op s i id call = if is_head s && is_update call.op then take_update s i 
 
 -- `Forward` from server i: from the predecessor the entry with the next number is appended and passed on
 abbrev pub receive_forward : ServerState → ℕ → LogEntry → Outcome
-receive_forward s i e = if is_that (previous s) i && e.number == last_number s.store + 1 then passed_on (appended s e) e else silent s
+receive_forward s i e =
+    if is_that (previous s) i && e.number == last_number s.store + 1 then passed_on (appended s e) e else silent s
 
--- `Ack` from server i: from the successor, with a number above the acknowledged one and not above the last, this server rises to it
+-- `Ack` from server i: from the successor, with a number above the acknowledged one and not above the last, this server
+-- rises to it
 abbrev pub receive_ack : ServerState → ℕ → ℕ → Outcome
-receive_ack s i n = if is_that (next s) i && nat_lt s.store.acked n && nat_le n (last_number s.store) then rise s n else silent s
+receive_ack s i n =
+    if is_that (next s) i && nat_lt s.store.acked n && nat_le n (last_number s.store) then rise s n else silent s

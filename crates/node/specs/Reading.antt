@@ -1,6 +1,7 @@
 -- Reading: clean keys at once, dirty ones by asking the tail for its last number (CRAQ,
 -- "Chain Replication with Apportioned Queries").
-use Rattle.std.specs.Prelude.{ℕ, ◌+◌, ◌&&◌, ◌==◌, nat_lt, nat_le, List, [], ◌∷◌, ◌++◌, find, Option, Some, None, if◌then◌else◌}
+use Rattle.std.specs.Prelude.{ℕ, ◌+◌, ◌&&◌, ◌==◌, nat_lt, nat_le, List, [], ◌∷◌, ◌++◌, find, Option, Some, None}
+use Rattle.std.specs.Prelude.{if◌then◌else◌}
 use Rattle.table.specs.declared.operations.Reply.TheVariants.{Value}
 use Rattle.table.specs.declared.operations.Target.{Target}
 use Rattle.table.specs.declared.operations.Target.TheVariants.{One, All}
@@ -8,22 +9,28 @@ use Rattle.versions.specs.Stores.{last_number, value_at, is_clean}
 use Rattle.node.specs.declared.servers.OpenRead.{OpenRead}
 use Rattle.node.specs.declared.messages.Body.TheVariants.{Query, Answer}
 use Rattle.node.specs.Views.{is_that}
-use Rattle.node.specs.Servers.{ServerState, Outcome, most, tail_of, is_tail, silent, putting, message_to, reply_at, without_first}
+use Rattle.node.specs.Servers.{ServerState, Outcome, most, tail_of, is_tail, silent, putting, message_to, reply_at}
+use Rattle.node.specs.Servers.{without_first}
 
 -- a read waits for an answer under the next ask: its mark is the acknowledged number (this project's rule)
 unfoldable pub asked : ServerState → ℕ → List ℕ → ServerState
 asked s port key =
-    record s { asks = s.asks ++ record { ask = s.next_ask; port = port; key = key; mark = s.store.acked } ∷ []; next_ask = s.next_ask + 1 }
+    record s {
+      asks = s.asks ++ record { ask = s.next_ask; port = port; key = key; mark = s.store.acked } ∷ [];
+      next_ask = s.next_ask + 1;
+    }
 
 -- a read of a dirty key: the tail is asked, if an ask is left
 unfoldable pub dirty_read : ServerState → ℕ → List ℕ → Outcome
 dirty_read s port key =
-    if nat_lt s.next_ask most then putting (asked s port key) (message_to s (tail_of s) (Query s.next_ask key)) else silent s
+    if nat_lt s.next_ask most then putting (asked s port key) (message_to s (tail_of s) (Query s.next_ask key))
+    else silent s
 
 -- a read: of a clean key the newest version is the answer
 abbrev pub read : ServerState → ℕ → List ℕ → Outcome
 read s port key =
-    if is_clean s.store key then putting s (reply_at port (Value (value_at s.store key (last_number s.store)))) else dirty_read s port key
+    if is_clean s.store key then putting s (reply_at port (Value (value_at s.store key (last_number s.store))))
+    else dirty_read s port key
 
 -- a read is of one key
 abbrev pub read_of : ServerState → ℕ → Target → Outcome
@@ -32,7 +39,8 @@ read_of s port All = silent s
 
 -- `Query` from server i: the tail answers its last number, whatever the key
 abbrev pub receive_query : ServerState → ℕ → ℕ → Outcome
-receive_query s i ask = if is_tail s then putting s (message_to s (Some i) (Answer ask (last_number s.store))) else silent s
+receive_query s i ask =
+    if is_tail s then putting s (message_to s (Some i) (Answer ask (last_number s.store))) else silent s
 
 -- the open read of this ask, if there is one
 abbrev pub open_read : List OpenRead → ℕ → Option OpenRead
@@ -48,7 +56,10 @@ unfoldable pub answered : ServerState → ℕ → ℕ → Option OpenRead → Ou
 answered s ask n None = silent s
 answered s ask n (Some r) =
     if nat_le r.mark n && nat_le n (last_number s.store)
-    then record { state = record s { asks = without_read s.asks ask }; outputs = reply_at r.port (Value (value_at s.store r.key n)) }
+    then record {
+      state = record s { asks = without_read s.asks ask };
+      outputs = reply_at r.port (Value (value_at s.store r.key n));
+    }
     else silent s
 
 -- `Answer` from server i: it counts from the tail alone

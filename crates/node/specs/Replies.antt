@@ -1,6 +1,8 @@
--- Calls and replies at a port, the reads apart from the updates: how many calls came, how many are open, and how many were
+-- Calls and replies at a port, the reads apart from the updates: how many calls came, how many are open, and how many
+-- were
 -- answered (this project's rule).
-use Rattle.std.specs.Prelude.{◌≡◌, ℕ, ◌<◌, ◌≤◌, Bool, false, not, ◌&&◌, ◌||◌, ◌==◌, nat_lt, List, [], ◌∷◌, count_by, if◌then◌else◌}
+use Rattle.std.specs.Prelude.{◌≡◌, ℕ, ◌<◌, ◌≤◌, Bool, false, not, ◌&&◌, ◌||◌, ◌==◌, nat_lt, List, [], ◌∷◌, count_by}
+use Rattle.std.specs.Prelude.{if◌then◌else◌}
 use Rattle.std.specs.Bool.{beq}
 use Rattle.table.specs.Operations.{is_update, is_value}
 use Rattle.table.specs.declared.operations.Target.{Target}
@@ -37,7 +39,8 @@ replies_at port reads outputs = count_by (is_reply_at port reads) outputs
 -- how many are open
 abbrev pub open_at : ℕ → Bool → ServerState → ℕ
 open_at port reads s =
-    if reads then count_by (λ (r : OpenRead). r.port == port) s.asks else count_by (λ (u : OpenUpdate). u.port == port) s.pend
+    if reads then count_by (λ (r : OpenRead). r.port == port) s.asks else count_by
+    (λ (u : OpenUpdate). u.port == port) s.pend
 
 -- a read is answered at once, or an ask is left for it
 abbrev pub is_room_for_read : ServerState → Target → Bool

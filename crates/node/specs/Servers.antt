@@ -1,5 +1,6 @@
 -- One server of the chain: what it holds, and what a rule makes of it.
-use Rattle.std.specs.Prelude.{ℕ, ◌-◌, ◌^◌, Bool, List, [], ◌∷◌, ◌++◌, replicate, slice_index_or, Option, Some, None, if◌then◌else◌}
+use Rattle.std.specs.Prelude.{ℕ, ◌-◌, ◌^◌, Bool, List, [], ◌∷◌, ◌++◌, replicate, slice_index_or, Option, Some, None}
+use Rattle.std.specs.Prelude.{if◌then◌else◌}
 use Rattle.table.specs.declared.operations.Reply.{Reply}
 use Rattle.versions.specs.Stores.{StoreState, opening_store}
 use Rattle.node.specs.declared.servers.OpenUpdate.{OpenUpdate}
@@ -30,7 +31,17 @@ most = 2 ^ 64 - 1
 -- a server of a chain before any input: all numbers are 0, the next id and the next ask are 1
 abbrev pub opening : ℕ → ℕ → ServerState
 opening id count =
-    record { id = id; count = count; view = 0; store = opening_store; seen = replicate 16 0; pend = []; next_id = 1; asks = []; next_ask = 1 }
+    record {
+      id = id;
+      count = count;
+      view = 0;
+      store = opening_store;
+      seen = replicate 16 0;
+      pend = [];
+      next_id = 1;
+      asks = [];
+      next_ask = 1;
+    }
 
 -- the greatest call id of this origin among its entries so far
 abbrev pub seen_of : ServerState → ℕ → ℕ

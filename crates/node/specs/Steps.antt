@@ -40,9 +40,11 @@ received s i body = if has s.view i then silent s else receive s i body
 abbrev pub is_heard : ServerState → ℕ → View → Bool
 is_heard s i v = nat_lt i s.count && not (i == s.id) && is_below v s.count && not (has v s.id)
 
--- a message from server i: its view is joined first, and then it is judged whether its sender has failed (this project's rule)
+-- a message from server i: its view is joined first, and then it is judged whether its sender has failed (this
+-- project's rule)
 abbrev pub from_peer : ServerState → ℕ → Peer → Outcome
-from_peer s i peer = if is_heard s i peer.view then and_then (join s peer.view) (λ t. received t i peer.body) else silent s
+from_peer s i peer =
+    if is_heard s i peer.view then and_then (join s peer.view) (λ t. received t i peer.body) else silent s
 
 -- what an input does, but for the floor
 abbrev pub taken_in : ServerState → Input → Outcome

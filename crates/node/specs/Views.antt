@@ -1,5 +1,6 @@
 -- Views: sets of servers known to have failed (this project's rule), and the chain's order in one.
-use Rattle.std.specs.Prelude.{ℕ, zero, suc, ◌-◌, ◌^◌, bit_or, Bool, true, false, not, nat_eq, nat_lt, Option, Some, None, if◌then◌else◌}
+use Rattle.std.specs.Prelude.{ℕ, zero, suc, ◌-◌, ◌^◌, bit_or, Bool, true, false, not, nat_eq, nat_lt, Option, Some}
+use Rattle.std.specs.Prelude.{None, if◌then◌else◌}
 use Rattle.std.specs.Int.{bit_at}
 
 -- a set of servers: server i is the bit of value 2^i

@@ -20,8 +20,8 @@ pub struct Version {
     pub item: Option<Item>,
 }
 
-/// A key whose version of this number has no item. It waits in a queue, in the order of the numbers, until this number is
-/// acknowledged: then the version is taken away, unless the key has a later one (this project's rule).
+/// A key whose version of this number has no item. It waits in a queue, in the order of the numbers, until this number
+/// is acknowledged: then the version is taken away, unless the key has a later one (this project's rule).
 #[derive(Debug, Drop)]
 pub struct Tombstone {
     /// The number of the version.
@@ -90,7 +90,9 @@ fn step_of(entry: &Entry) -> Result<Option<FaceStep>, AllocError>
 
 // The same behind the steps so far.
 fn put_step(entry: &Entry, steps: &mut Vec<FaceStep>) -> Result<(), AllocError>
-    ensures { OnOk result (steps.new.items ≡ steps.old.items ++ cons_option (faces.face_step entry.now.number entry.now.target entry.now.change) []) }
+    ensures { OnOk result
+        (steps.new.items ≡ steps.old.items
+        ++ cons_option (faces.face_step entry.now.number entry.now.target entry.now.change) []) }
 {
     if let Some(step) = step_of(entry)? {
         steps.push(step)?;
@@ -99,10 +101,12 @@ fn put_step(entry: &Entry, steps: &mut Vec<FaceStep>) -> Result<(), AllocError>
 }
 
 impl Node {
-    /// How its face is made from one without versions, for readers that begin beside it now. It copies no item's data. Time is
-    /// linear in the number of keys and in the entries above the floor.
+    /// How its face is made from one without versions, for readers that begin beside it now. It copies no item's data.
+    /// Time is linear in the number of keys and in the entries above the floor.
     pub fn face(&self) -> Result<FaceChange, AllocError>
-        ensures { IfOk result (λ change. faces.face_changed faces.no_face change.steps.items change.acked ≡ faces.face_of self.now.server) }
+        ensures { IfOk result
+            (λ change. faces.face_changed faces.no_face change.steps.items change.acked
+            ≡ faces.face_of self.now.server) }
     {
         self.server.whole_face()
     }
@@ -111,7 +115,8 @@ impl Node {
 impl Server {
     // The versions of the base's items, then what the entries above the floor change, and the acknowledged number.
     fn whole_face(&self) -> Result<FaceChange, AllocError>
-        ensures { IfOk result (λ change. faces.face_changed faces.no_face change.steps.items change.acked ≡ faces.face_of self.now) }
+        ensures { IfOk result
+            (λ change. faces.face_changed faces.no_face change.steps.items change.acked ≡ faces.face_of self.now) }
     {
         let mut steps = Vec::new(self.alloc);
         put_base(self.store.base()?, &mut steps)?;
@@ -123,7 +128,8 @@ impl Server {
     /// How the entries above a number change the face, with the acknowledged number. It copies no item's data.
     pub(crate) fn change_after(&self, above: u64) -> Result<FaceChange, AllocError>
         requires above { (self.now.store.floor ≤ above) × (above ≤ last_number self.now.store) }
-        ensures steps { IfOk result (λ change. change.steps.items ≡ faces.face_steps (entries_after self.now.store above)) }
+        ensures steps { IfOk result
+            (λ change. change.steps.items ≡ faces.face_steps (entries_after self.now.store above)) }
         ensures acked { IfOk result (λ change. change.acked ≡ self.now.store.acked) }
     {
         let mut steps = Vec::new(self.alloc);
@@ -135,7 +141,8 @@ impl Server {
     // The steps of these entries, in order.
     fn put_steps_after(&self, above: u64, steps: &mut Vec<FaceStep>) -> Result<(), AllocError>
         requires above { (self.now.store.floor ≤ above) × (above ≤ last_number self.now.store) }
-        ensures { OnOk result (steps.new.items ≡ steps.old.items ++ faces.face_steps (entries_after self.now.store above)) }
+        ensures { OnOk result
+            (steps.new.items ≡ steps.old.items ++ faces.face_steps (entries_after self.now.store above)) }
     {
         for entry in self.store.entries_after(above) {
             put_step(entry, steps)?;

@@ -40,7 +40,8 @@ fn settle(
 ) -> Result<(), AllocError>
     requires order { IsRising 0 (map (λ u. u.id) pend.old.items) }
     ensures left { OnOk result (pend.new.items ≡ numbering.left_open_by id pend.old.items entry.now) }
-    ensures replies { OnOk result (outputs.new.items ≡ outputs.old.items ++ numbering.reply_to id pend.old.items entry.now) }
+    ensures replies { OnOk result
+        (outputs.new.items ≡ outputs.old.items ++ numbering.reply_to id pend.old.items entry.now) }
 {
     if entry.origin() == id {
         if let Some(update) = take_out(pend, entry.id()) {
@@ -59,8 +60,11 @@ fn settle_first(
     outputs: &mut Vec<Output>,
 ) -> Result<(), AllocError>
     requires order { IsRising 0 (map (λ u. u.id) pend.old.items) }
-    ensures left { OnOk result (pend.new.items ≡ numbering.left_open id pend.old.items (take count (deque_iter_rest entries.entry))) }
-    ensures replies { OnOk result (outputs.new.items ≡ outputs.old.items ++ numbering.replies id pend.old.items (take count (deque_iter_rest entries.entry))) }
+    ensures left { OnOk result
+        (pend.new.items ≡ numbering.left_open id pend.old.items (take count (deque_iter_rest entries.entry))) }
+    ensures replies { OnOk result
+        (outputs.new.items ≡ outputs.old.items ++ numbering.replies id pend.old.items
+        (take count (deque_iter_rest entries.entry))) }
 {
     let mut entries = entries;
     for _settled in 0..count {
@@ -105,7 +109,8 @@ impl Server {
         Ok(())
     }
 
-    /// An entry with the next number is appended: at the tail it is acknowledged, otherwise it goes on to the successor.
+    /// An entry with the next number is appended: at the tail it is acknowledged, otherwise it goes on to the
+    /// successor.
     #[tactic(auto, unfolding(crate::specs::Numbering::passed_on, crate::specs::Numbering::appended))]
     pub(crate) fn append_and_pass(
         &mut self,
@@ -115,7 +120,9 @@ impl Server {
         requires chain { IsSound self.old }
         requires next { entry.number ≡ last_number self.old.store + 1 }
         ensures state { OnOk result (self.new ≡ (numbering.passed_on (numbering.appended self.old entry) entry).state) }
-        ensures outputs { OnOk result (outputs.new.items ≡ outputs.old.items ++ (numbering.passed_on (numbering.appended self.old entry) entry).outputs) }
+        ensures outputs { OnOk result
+            (outputs.new.items
+            ≡ outputs.old.items ++ (numbering.passed_on (numbering.appended self.old entry) entry).outputs) }
     {
         let _number = entry.number();
         if self.is_tail() {
@@ -136,7 +143,8 @@ impl Server {
     ) -> Result<(), AllocError>
         requires chain { IsSound self.old }
         ensures state { OnOk result (self.new ≡ (numbering.receive_forward self.old i entry).state) }
-        ensures outputs { OnOk result (outputs.new.items ≡ outputs.old.items ++ (numbering.receive_forward self.old i entry).outputs) }
+        ensures outputs { OnOk result
+            (outputs.new.items ≡ outputs.old.items ++ (numbering.receive_forward self.old i entry).outputs) }
     {
         let last = self.store.last();
         if is_that(self.previous(), i) && last < entry.number() && entry.number() - last == 1 {
@@ -146,8 +154,8 @@ impl Server {
         }
     }
 
-    /// `Ack` from server i: from the successor, with a number above the acknowledged one and not above the last, this server
-    /// rises to it.
+    /// `Ack` from server i: from the successor, with a number above the acknowledged one and not above the last, this
+    /// server rises to it.
     pub(crate) fn receive_ack(
         &mut self,
         i: u8,
@@ -156,7 +164,8 @@ impl Server {
     ) -> Result<(), AllocError>
         requires chain { IsSound self.old }
         ensures state { OnOk result (self.new ≡ (numbering.receive_ack self.old i n).state) }
-        ensures outputs { OnOk result (outputs.new.items ≡ outputs.old.items ++ (numbering.receive_ack self.old i n).outputs) }
+        ensures outputs { OnOk result
+            (outputs.new.items ≡ outputs.old.items ++ (numbering.receive_ack self.old i n).outputs) }
     {
         if is_that(self.next(), i) && self.store.acked() < n && n <= self.store.last() {
             self.rise(n, outputs)

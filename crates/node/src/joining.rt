@@ -53,7 +53,9 @@ impl Server {
         requires chain { IsSound self.old }
         requires last_before { (self.old.store.floor ≤ last_before) × (last_before ≤ last_number self.old.store) }
         ensures state { OnOk result (self.new ≡ (joining.rejoined old last_before acked_before self.old).state) }
-        ensures outputs { OnOk result (outputs.new.items ≡ outputs.old.items ++ (joining.rejoined old last_before acked_before self.old).outputs) }
+        ensures outputs { OnOk result
+            (outputs.new.items
+            ≡ outputs.old.items ++ (joining.rejoined old last_before acked_before self.old).outputs) }
     {
         self.promote_to_head(old, outputs)?;
         self.promote_to_tail(outputs)?;
@@ -75,7 +77,8 @@ impl Server {
     fn promote_to_head(&mut self, old: View, outputs: &mut Vec<Output>) -> Result<(), AllocError>
         requires chain { IsSound self.old }
         ensures state { OnOk result (self.new ≡ (joining.promoted_to_head old self.old).state) }
-        ensures outputs { OnOk result (outputs.new.items ≡ outputs.old.items ++ (joining.promoted_to_head old self.old).outputs) }
+        ensures outputs { OnOk result
+            (outputs.new.items ≡ outputs.old.items ++ (joining.promoted_to_head old self.old).outputs) }
     {
         if self.is_head() {
             if is_that(old.head(self.count), self.id) {
@@ -130,7 +133,8 @@ impl Server {
     fn promote_to_tail(&mut self, outputs: &mut Vec<Output>) -> Result<(), AllocError>
         requires chain { IsSound self.old }
         ensures state { OnOk result (self.new ≡ (joining.promoted_to_tail self.old).state) }
-        ensures outputs { OnOk result (outputs.new.items ≡ outputs.old.items ++ (joining.promoted_to_tail self.old).outputs) }
+        ensures outputs { OnOk result
+            (outputs.new.items ≡ outputs.old.items ++ (joining.promoted_to_tail self.old).outputs) }
     {
         let last = self.store.last();
         if self.is_tail() && self.store.acked() < last {
@@ -150,7 +154,8 @@ impl Server {
     ) -> Result<(), AllocError>
         requires chain { IsSound self.now }
         requires last_before { (self.now.store.floor ≤ last_before) × (last_before ≤ last_number self.now.store) }
-        ensures { OnOk result (outputs.new.items ≡ outputs.old.items ++ (joining.caught_up old last_before self.now).outputs) }
+        ensures { OnOk result
+            (outputs.new.items ≡ outputs.old.items ++ (joining.caught_up old last_before self.now).outputs) }
     {
         let next = self.next();
         let known = is_same(old.successor(self.count, self.id), next);
@@ -171,7 +176,8 @@ impl Server {
     ) -> Result<(), AllocError>
         requires next { next ≡ servers.next self.now }
         requires above { (self.now.store.floor ≤ above) × (above ≤ last_number self.now.store) }
-        ensures { OnOk result (outputs.new.items ≡ outputs.old.items ++ joining.forwarded self.now (entries_after self.now.store above)) }
+        ensures { OnOk result
+            (outputs.new.items ≡ outputs.old.items ++ joining.forwarded self.now (entries_after self.now.store above)) }
     {
         for entry in self.store.entries_after(above) {
             self.send(next, Body::Forward(entry.clone()?), outputs)?;
@@ -188,7 +194,9 @@ impl Server {
         outputs: &mut Vec<Output>,
     ) -> Result<(), AllocError>
         requires chain { IsSound self.now }
-        ensures { OnOk result (outputs.new.items ≡ outputs.old.items ++ (joining.acked_to_predecessor old acked_before self.now).outputs) }
+        ensures { OnOk result
+            (outputs.new.items
+            ≡ outputs.old.items ++ (joining.acked_to_predecessor old acked_before self.now).outputs) }
     {
         let previous = self.previous();
         let acked = self.store.acked();
@@ -203,7 +211,8 @@ impl Server {
     fn renew_asks(&mut self, old: View, outputs: &mut Vec<Output>) -> Result<(), AllocError>
         requires chain { IsSound self.old }
         ensures state { OnOk result (self.new ≡ (joining.asks_renewed old self.old).state) }
-        ensures outputs { OnOk result (outputs.new.items ≡ outputs.old.items ++ (joining.asks_renewed old self.old).outputs) }
+        ensures outputs { OnOk result
+            (outputs.new.items ≡ outputs.old.items ++ (joining.asks_renewed old self.old).outputs) }
     {
         if is_same(old.tail(self.count), self.tail()) {
             return Ok(());

@@ -32,7 +32,8 @@ impl<T: Drop> From<AllocFailed<T>> for MasterFault {
     }
 }
 
-/// How many servers a chain has, and which of them have failed so far (this project's rule). Contracts see a `MasterState`.
+/// How many servers a chain has, and which of them have failed so far (this project's rule). Contracts see a
+/// `MasterState`.
 #[derive(Drop)]
 pub struct Master {
     count: u8,
@@ -62,9 +63,9 @@ impl Master {
         }
     }
 
-    /// Server `j` has failed. The notices (i, j) to give: one for each other server i that lives, in the order of their ids;
-    /// none where `j` was known to have failed already or isn't of the chain.
-    /// Refused for want of memory, it leaves the master as it was. At most 16 looks.
+    /// Server `j` has failed. The notices (i, j) to give: one for each other server i that lives, in the order of their
+    /// ids; none where `j` was known to have failed already or isn't of the chain. Refused for want of memory, it
+    /// leaves the master as it was. At most 16 looks.
     pub fn gone(&mut self, alloc: Global, j: u8) -> Result<Vec<(u8, u8)>, MasterFault>
         ensures notices { IfOk result (λ given. given.items ≡ notices self.old j) }
         ensures told { OnOk result (self.new ≡ told self.old j) }

@@ -63,8 +63,8 @@ impl Body {
         }
     }
 
-    /// Whether it may be sent: an operation has an id of at least 1 and is an update that fits and suits its target, and an ask
-    /// is at least 1. An entry is one by its type.
+    /// Whether it may be sent: an operation has an id of at least 1 and is an update that fits and suits its target,
+    /// and an ask is at least 1. An entry is one by its type.
     pub fn is_sendable(&self) -> bool
         ensures sendable { IsTrue result ↔ IsSendable self.now }
     {

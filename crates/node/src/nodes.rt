@@ -81,19 +81,20 @@ impl Node {
         })
     }
 
-    /// One step. Its outputs stand in the order in which the rules give them. Refused with Memory, and the node is stopped from
-    /// then on; with Stopped, exactly from then on.
-    /// It copies an item's data only where the head joins two pieces for an append or a prepend. Each entry that it appends,
-    /// acknowledges, puts out or moves to the base takes time logarithmic in the number of keys; a flush that the floor passes
-    /// takes time linear in it, and a join time linear in the open calls. An own open call is found by a binary search. Answers
-    /// come in order from servers that keep to the rules; after one that doesn't, the open calls on the shorter side of the
-    /// answered one are moved by one place.
+    /// One step. Its outputs stand in the order in which the rules give them. Refused with Memory, and the node is
+    /// stopped from then on; with Stopped, exactly from then on. It copies an item's data only where the head joins two
+    /// pieces for an append or a prepend. Each entry that it appends, acknowledges, puts out or moves to the base takes
+    /// time logarithmic in the number of keys; a flush that the floor passes takes time linear in it, and a join time
+    /// linear in the open calls. An own open call is found by a binary search. Answers come in order from servers that
+    /// keep to the rules; after one that doesn't, the open calls on the shorter side of the answered one are moved by
+    /// one place.
     pub fn step(&mut self, input: Input) -> Result<Vec<Output>, NodeFault>
         requires input { IsInput input }
         ensures state { OnOk result (self.new ≡ running (steps.step self.old.server input).state) }
         ensures outputs { IfOk result (λ outputs. outputs.items ≡ (steps.step self.old.server input).outputs) }
         // No message goes to the node itself, nor to a server that isn't of the chain.
-        ensures addressed { IfOk result (λ outputs. AreToOthers self.old.server.id self.old.server.count outputs.items) }
+        ensures addressed { IfOk result
+            (λ outputs. AreToOthers self.old.server.id self.old.server.count outputs.items) }
         // Each message may be sent, and handed in where it goes.
         ensures fit { IfOk result (λ outputs. AreFit outputs.items) }
         ensures lawful { OnOk result (IsLawful self.new.server) }
@@ -113,10 +114,10 @@ impl Node {
     }
 
     /// The same step, and how it changes the face that readers beside the node see: the steps in order, and then the
-    /// acknowledged number, with which the versions without item up to it are taken away. Refused with Memory, and the node is
-    /// stopped from then on; with Stopped, exactly from then on.
-    /// It copies an item's data only where the head joins two pieces for an append or a prepend. Besides the time of `step` it
-    /// takes time linear in the entries that it appends.
+    /// acknowledged number, with which the versions without item up to it are taken away. Refused with Memory, and the
+    /// node is stopped from then on; with Stopped, exactly from then on. It copies an item's data only where the head
+    /// joins two pieces for an append or a prepend. Besides the time of `step` it takes time linear in the entries that
+    /// it appends.
     pub fn step_face(&mut self, input: Input) -> Result<(Vec<Output>, FaceChange), NodeFault>
         requires input { IsInput input }
         ensures state { OnOk result (self.new ≡ running (steps.step self.old.server input).state) }
@@ -127,7 +128,9 @@ impl Node {
         ensures steps { IfOk result (λ found. found.1.steps.items ≡ steps_by self.old.server input) }
         ensures acked { IfOk result (λ found. found.1.acked ≡ acked_by self.old.server input) }
         // The change, done on the face before, gives the face after.
-        ensures face { IfOk result (λ found. face_changed (face_of self.old.server) found.1.steps.items found.1.acked ≡ face_of (steps.step self.old.server input).state) }
+        ensures face { IfOk result
+            (λ found. face_changed (face_of self.old.server) found.1.steps.items found.1.acked
+            ≡ face_of (steps.step self.old.server input).state) }
         // Memory stops the node, and Stopped is answered exactly from then on.
         ensures stopped { IsErrOf result NodeFault.Stopped ↔ (self.old.stopped ≡ true) }
         ensures unchanged { IsErrOf result NodeFault.Stopped → self.new ≡ self.old }
@@ -143,7 +146,8 @@ impl Node {
         Ok(step)
     }
 
-    /// The same step as `step`, and copies of the entries that it appends, which share their data. Refused as `step` is.
+    /// The same step as `step`, and copies of the entries that it appends, which share their data. Refused as `step`
+    /// is.
     pub fn step_logged(&mut self, input: Input) -> Result<(Vec<Output>, Vec<Entry>), NodeFault>
         requires input { IsInput input }
         ensures state { OnOk result (self.new ≡ running (steps.step self.old.server input).state) }

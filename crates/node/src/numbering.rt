@@ -76,7 +76,8 @@ impl Server {
         requires call { IsCall call.now }
         requires update { is_update call.now.op ≡ true }
         ensures state { OnOk result (self.new ≡ (numbering.take_update self.old origin id call.now).state) }
-        ensures outputs { OnOk result (outputs.new.items ≡ outputs.old.items ++ (numbering.take_update self.old origin id call.now).outputs) }
+        ensures outputs { OnOk result
+            (outputs.new.items ≡ outputs.old.items ++ (numbering.take_update self.old origin id call.now).outputs) }
     {
         if !self.is_taken(origin, id) {
             return Ok(());
@@ -97,7 +98,8 @@ impl Server {
         requires call { IsCall call.now }
         requires update { is_update call.now.op ≡ true }
         ensures state { OnOk result (self.new ≡ (numbering.update self.old port call.now).state) }
-        ensures outputs { OnOk result (outputs.new.items ≡ outputs.old.items ++ (numbering.update self.old port call.now).outputs) }
+        ensures outputs { OnOk result
+            (outputs.new.items ≡ outputs.old.items ++ (numbering.update self.old port call.now).outputs) }
     {
         if !self.is_room_for_update() {
             return Ok(());
@@ -135,7 +137,8 @@ impl Server {
         requires call { IsCall call.now }
         requires update { is_update call.now.op ≡ true }
         ensures state { OnOk result (self.new ≡ (numbering.called self.old id call.now).state) }
-        ensures outputs { OnOk result (outputs.new.items ≡ outputs.old.items ++ (numbering.called self.old id call.now).outputs) }
+        ensures outputs { OnOk result
+            (outputs.new.items ≡ outputs.old.items ++ (numbering.called self.old id call.now).outputs) }
     {
         if self.is_head() {
             self.take_update(self.id, id, call, outputs)
@@ -156,7 +159,8 @@ impl Server {
         requires server { i < 16 }
         requires call { IsCall call.now }
         ensures state { OnOk result (self.new ≡ (numbering.receive_op self.old i id call.now).state) }
-        ensures outputs { OnOk result (outputs.new.items ≡ outputs.old.items ++ (numbering.receive_op self.old i id call.now).outputs) }
+        ensures outputs { OnOk result
+            (outputs.new.items ≡ outputs.old.items ++ (numbering.receive_op self.old i id call.now).outputs) }
     {
         if self.is_head() && call.op.is_update() {
             self.take_update(i, id, call, outputs)

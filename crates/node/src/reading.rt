@@ -50,7 +50,8 @@ impl Server {
     ) -> Result<(), AllocError>
         requires chain { IsSound self.old }
         ensures state { OnOk result (self.new ≡ (reading.read_of self.old port target).state) }
-        ensures outputs { OnOk result (outputs.new.items ≡ outputs.old.items ++ (reading.read_of self.old port target).outputs) }
+        ensures outputs { OnOk result
+            (outputs.new.items ≡ outputs.old.items ++ (reading.read_of self.old port target).outputs) }
     {
         let Target::One(key) = target else {
             return Ok(());
@@ -68,7 +69,8 @@ impl Server {
     fn ask(&mut self, port: usize, key: Key, outputs: &mut Vec<Output>) -> Result<(), AllocError>
         requires chain { IsSound self.old }
         ensures state { OnOk result (self.new ≡ (reading.dirty_read self.old port key).state) }
-        ensures outputs { OnOk result (outputs.new.items ≡ outputs.old.items ++ (reading.dirty_read self.old port key).outputs) }
+        ensures outputs { OnOk result
+            (outputs.new.items ≡ outputs.old.items ++ (reading.dirty_read self.old port key).outputs) }
     {
         if self.next_ask == u64::MAX {
             return Ok(());
@@ -95,7 +97,8 @@ impl Server {
         outputs: &mut Vec<Output>,
     ) -> Result<(), AllocError>
         requires chain { IsSound self.now }
-        ensures { OnOk result (outputs.new.items ≡ outputs.old.items ++ (reading.receive_query self.now i ask).outputs) }
+        ensures { OnOk result
+            (outputs.new.items ≡ outputs.old.items ++ (reading.receive_query self.now i ask).outputs) }
     {
         if self.is_tail() {
             self.send(Some(i), Body::Answer(ask, self.store.last()), outputs)?;
@@ -113,7 +116,8 @@ impl Server {
     ) -> Result<(), AllocError>
         requires chain { IsSound self.old }
         ensures state { OnOk result (self.new ≡ (reading.receive_answer self.old i ask n).state) }
-        ensures outputs { OnOk result (outputs.new.items ≡ outputs.old.items ++ (reading.receive_answer self.old i ask n).outputs) }
+        ensures outputs { OnOk result
+            (outputs.new.items ≡ outputs.old.items ++ (reading.receive_answer self.old i ask n).outputs) }
     {
         if !is_that(self.tail(), i) {
             return Ok(());
@@ -125,8 +129,12 @@ impl Server {
     #[tactic(auto, unfolding(crate::specs::Reading::answered))]
     fn answer(&mut self, ask: u64, n: u64, outputs: &mut Vec<Output>) -> Result<(), AllocError>
         requires chain { IsSound self.old }
-        ensures state { OnOk result (self.new ≡ (reading.answered self.old ask n (reading.open_read self.old.asks ask)).state) }
-        ensures outputs { OnOk result (outputs.new.items ≡ outputs.old.items ++ (reading.answered self.old ask n (reading.open_read self.old.asks ask)).outputs) }
+        ensures state { OnOk result
+            (self.new ≡ (reading.answered self.old ask n (reading.open_read self.old.asks ask)).state) }
+        ensures outputs { OnOk result
+            (outputs.new.items
+            ≡ outputs.old.items
+            ++ (reading.answered self.old ask n (reading.open_read self.old.asks ask)).outputs) }
     {
         let Some(read) = open_read(&self.asks, ask) else {
             return Ok(());

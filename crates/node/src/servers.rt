@@ -58,7 +58,17 @@ impl Model for Server {
 
     ghost coded = { Prim.hlevel (codes, coded_items) };
 
-    ghost view = { λ s. record { id = s.id; count = s.count; view = s.view; store = s.store; seen = s.seen; pend = s.pend.items; next_id = s.next_id; asks = s.asks.items; next_ask = s.next_ask } };
+    ghost view = { λ s. record {
+      id = s.id;
+      count = s.count;
+      view = s.view;
+      store = s.store;
+      seen = s.seen;
+      pend = s.pend.items;
+      next_id = s.next_id;
+      asks = s.asks.items;
+      next_ask = s.next_ask;
+    } };
 }
 
 impl Server {

@@ -44,7 +44,9 @@ impl Server {
         ensures fit { IfOk result (λ found. AreFit found.0.items) }
         ensures steps { IfOk result (λ found. found.1.steps.items ≡ steps_by self.old input) }
         ensures acked { IfOk result (λ found. found.1.acked ≡ acked_by self.old input) }
-        ensures face { IfOk result (λ found. face_changed (face_of self.old) found.1.steps.items found.1.acked ≡ face_of (steps.step self.old input).state) }
+        ensures face { IfOk result
+            (λ found. face_changed (face_of self.old) found.1.steps.items found.1.acked
+            ≡ face_of (steps.step self.old input).state) }
     {
         hold_entry(&input);
         let before = self.store.last();
@@ -94,7 +96,8 @@ impl Server {
         requires lawful { IsLawful self.old }
         requires input { IsInput input }
         ensures state { OnOk result (self.new ≡ (steps.taken_in self.old input).state) }
-        ensures outputs { OnOk result (outputs.new.items ≡ outputs.old.items ++ (steps.taken_in self.old input).outputs) }
+        ensures outputs { OnOk result
+            (outputs.new.items ≡ outputs.old.items ++ (steps.taken_in self.old input).outputs) }
     {
         match input {
             Input::Call(port, call) => self.call(port, call, outputs),
@@ -108,7 +111,8 @@ impl Server {
         requires chain { IsSound self.old }
         requires call { IsCall call }
         ensures state { OnOk result (self.new ≡ (steps.call self.old port call).state) }
-        ensures outputs { OnOk result (outputs.new.items ≡ outputs.old.items ++ (steps.call self.old port call).outputs) }
+        ensures outputs { OnOk result
+            (outputs.new.items ≡ outputs.old.items ++ (steps.call self.old port call).outputs) }
     {
         if call.op.is_update() {
             return self.update(port, &call, outputs);
@@ -130,7 +134,8 @@ impl Server {
         }
     }
 
-    // The sender is another server of the chain, and the view names neither this server nor one that isn't of the chain.
+    // The sender is another server of the chain, and the view names neither this server nor one that isn't of the
+    // chain.
     fn is_heard(&self, i: u8, v: View) -> bool
         requires chain { IsSound self.now }
         ensures { result ≡ steps.is_heard self.now i v }
@@ -143,7 +148,8 @@ impl Server {
         requires lawful { IsLawful self.old }
         requires body { IsBody peer.body }
         ensures state { OnOk result (self.new ≡ (steps.from_peer self.old i peer).state) }
-        ensures outputs { OnOk result (outputs.new.items ≡ outputs.old.items ++ (steps.from_peer self.old i peer).outputs) }
+        ensures outputs { OnOk result
+            (outputs.new.items ≡ outputs.old.items ++ (steps.from_peer self.old i peer).outputs) }
     {
         if !self.is_heard(i, peer.view) {
             return Ok(());
@@ -158,7 +164,8 @@ impl Server {
         requires server { i < 16 }
         requires body { IsBody body }
         ensures state { OnOk result (self.new ≡ (steps.received self.old i body).state) }
-        ensures outputs { OnOk result (outputs.new.items ≡ outputs.old.items ++ (steps.received self.old i body).outputs) }
+        ensures outputs { OnOk result
+            (outputs.new.items ≡ outputs.old.items ++ (steps.received self.old i body).outputs) }
     {
         if self.view.has(i) {
             return Ok(());

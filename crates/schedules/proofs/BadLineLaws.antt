@@ -1,5 +1,7 @@
 -- The bad line that is named is the first that is not as stated.
-use Rattle.std.proofs.Common.{◌≡◌, ℕ, ◌+◌, ◌<◌, ◌⊎◌, inl, inr, Bool, true, false, cond, List, [], ◌∷◌, ◌++◌, length, drop, Option, None, Some, refl, ap, sym, ◌∙◌, subst, arith, append_assoc, append-nil, length-append, lit<}
+use Rattle.std.proofs.Common.{◌≡◌, ℕ, ◌+◌, ◌<◌, ◌⊎◌, inl, inr, Bool, true, false, cond, List, [], ◌∷◌, ◌++◌, length}
+use Rattle.std.proofs.Common.{drop, Option, None, Some, refl, ap, sym, ◌∙◌, subst, arith, append_assoc, append-nil}
+use Rattle.std.proofs.Common.{length-append, lit<}
 use Rattle.std.specs.Prelude.{Result, Ok, Err, ok_or, not}
 use Rattle.std.specs.Option.{option_map}
 use Rattle.std.proofs.lemmas.Option.{same_Some}
@@ -10,12 +12,14 @@ use Rattle.schedules.specs.Cuts.{is_passed_over, lines, counted_from}
 use Rattle.schedules.specs.HeadLines.{servers_line, homes_line}
 use Rattle.schedules.specs.EventLines.{event_line, events_in, events_line}
 use Rattle.schedules.specs.Schedules.{ScheduleShown, ◌>>=◌, first_says, events_of, schedule_of_lines, schedule_of}
-use Rattle.schedules.specs.SpelledSchedules.{counted_lines, AreLines, IsServersLine, IsHomesLine, AreEventLines, AreAsStated, IsFirstBad}
+use Rattle.schedules.specs.SpelledSchedules.{counted_lines, AreLines, IsServersLine, IsHomesLine, AreEventLines}
+use Rattle.schedules.specs.SpelledSchedules.{AreAsStated, IsFirstBad}
 use Rattle.schedules.proofs.CutLaws.{lines_spelled}
 use Rattle.schedules.proofs.EventLineLaws.{event_read, event_spelled}
 use Rattle.schedules.proofs.HeadLineLaws.{servers_read, servers_spelled, homes_read, homes_spelled}
 use Rattle.schedules.proofs.ScheduleLaws.{wide}
-use Rattle.schedules.proofs.StatedLines.{IsFirstOf, same_Err, one_counts, one_passed, one_longer, regrouped, are_more, last_is}
+use Rattle.schedules.proofs.StatedLines.{IsFirstOf, same_Err, one_counts, one_passed, one_longer, regrouped, are_more}
+use Rattle.schedules.proofs.StatedLines.{last_is}
 
 module _ (count : ℕ) (homes : List ℕ) (first second : List ℕ) (servers : IsServersLine count first)
     (at_homes : IsHomesLine count homes second) (connections : ℕ) (all : List (List ℕ)) (n : ℕ) where

@@ -1,12 +1,16 @@
 -- Texts that spell bytes: what spells them is read as them, and what is read was spelled so.
-use Rattle.std.proofs.Common.{◌≡◌, ℕ, zero, suc, ◌+◌, ◌-◌, ◌*◌, ◌/◌, ◌%◌, ◌<◌, ◌≤◌, inl, inr, true, false, cond, List, [], ◌∷◌, ◌++◌, length, Option, None, Some, refl, ap, sym, ◌∙◌, subst, arith, nat_le, nat_lt, length-append, lit<, append-nil}
+use Rattle.std.proofs.Common.{◌≡◌, ℕ, zero, suc, ◌+◌, ◌-◌, ◌*◌, ◌/◌, ◌%◌, ◌<◌, ◌≤◌, inl, inr, true, false, cond, List}
+use Rattle.std.proofs.Common.{[], ◌∷◌, ◌++◌, length, Option, None, Some, refl, ap, sym, ◌∙◌, subst, arith, nat_le}
+use Rattle.std.proofs.Common.{nat_lt, length-append, lit<, append-nil}
 use Rattle.std.specs.Prelude.{◌==◌, ◌&&◌, IsTrue, flat_map, option_and_then}
 use Rattle.std.specs.Char.{digit_char}
 use Rattle.std.specs.List.{list_all}
-use Rattle.std.proofs.lemmas.Bool.{cases_lt, cases_Bool, and_parts, leb-true, ltb-true, eqb-true, le-leb, lt-leb, lt-ltb, le-ltb, ne_eqb}
+use Rattle.std.proofs.lemmas.Bool.{cases_lt, cases_Bool, and_parts, leb-true, ltb-true, eqb-true, le-leb, lt-leb}
+use Rattle.std.proofs.lemmas.Bool.{lt-ltb, le-ltb, ne_eqb}
 use Rattle.std.proofs.lemmas.Option.{same_Some}
 use Rattle.schedules.specs.Cuts.{lf, cr}
-use Rattle.schedules.specs.Escapes.{backslash, is_printable, escape, hexadecimal, hex_digit, hex_byte, escaped_byte, front_byte, unescape_upto, unescape, one_byte, SpellsByte, SpellsBytes}
+use Rattle.schedules.specs.Escapes.{backslash, is_printable, escape, hexadecimal, hex_digit, hex_byte, escaped_byte}
+use Rattle.schedules.specs.Escapes.{front_byte, unescape_upto, unescape, one_byte, SpellsByte, SpellsBytes}
 
 -- a digit below 16 is read from the character that writes it
 digit_read : (d : ℕ) → d < 16 → hex_digit (digit_char d) ≡ Some d

@@ -1,5 +1,6 @@
 -- Lines behind the head: a line is read as what it is the line of, and as nothing else.
-use Rattle.std.proofs.Common.{◌≡◌, ℕ, ◌^◌, ◌<◌, ◌≤◌, ◌⊎◌, inl, inr, Bool, true, false, cond, List, [], ◌∷◌, ◌++◌, length, Option, None, Some, refl, ap, ◌∙◌, subst, arith, lit≤}
+use Rattle.std.proofs.Common.{◌≡◌, ℕ, ◌^◌, ◌<◌, ◌≤◌, ◌⊎◌, inl, inr, Bool, true, false, cond, List, [], ◌∷◌, ◌++◌}
+use Rattle.std.proofs.Common.{length, Option, None, Some, refl, ap, ◌∙◌, subst, arith, lit≤}
 use Rattle.std.specs.Prelude.{codes, decimal, replicate}
 use Rattle.std.specs.Option.{option_and_then, option_map}
 use Rattle.std.specs.Str.{bytes_eq}
@@ -12,7 +13,8 @@ use Rattle.schedules.specs.declared.event_lines.EventLine.TheVariants.{One, Sett
 use Rattle.schedules.specs.Cuts.{space, cut}
 use Rattle.schedules.specs.Numbers.{number_in}
 use Rattle.schedules.specs.Escapes.{one_byte, SpellsByte, SpellsBytes}
-use Rattle.schedules.specs.EventLines.{connection_number, server_number, text_of, piece_line, fill_fields, fill_line, two_servers, call_line, word_line, event_line}
+use Rattle.schedules.specs.EventLines.{connection_number, server_number, text_of, piece_line, fill_fields, fill_line}
+use Rattle.schedules.specs.EventLines.{two_servers, call_line, word_line, event_line}
 use Rattle.schedules.specs.SpelledSchedules.{IsPieceLine, IsFillLine, IsCallLine, IsPairLine, IsLineOf, IsEventLine}
 use Rattle.schedules.proofs.EscapeLaws.{spelled_bytes_read, read_bytes_spelled, one_byte_read, one_byte_spelled}
 use Rattle.schedules.proofs.NumberLaws.{number_read, number_spelled, no_space_in_number}

@@ -1,5 +1,7 @@
 -- Numbers read from fields, one after another.
-use Rattle.std.proofs.Common.{◌≡◌, ℕ, ◌+◌, ◌<◌, ◌≤◌, List, [], ◌∷◌, ◌++◌, length, map, drop, get_or, Option, None, Some, option_map, option_and_then, refl, ap, sym, ◌∙◌, append_assoc, append-nil, add-one, drop-cons}
+use Rattle.std.proofs.Common.{◌≡◌, ℕ, ◌+◌, ◌<◌, ◌≤◌, List, [], ◌∷◌, ◌++◌, length, map, drop, get_or, Option, None, Some}
+use Rattle.std.proofs.Common.{option_map, option_and_then, refl, ap, sym, ◌∙◌, append_assoc, append-nil, add-one}
+use Rattle.std.proofs.Common.{drop-cons}
 use Rattle.std.proofs.lemmas.List.{drop_all}
 use Rattle.schedules.specs.HeadLines.{numbers_below}
 use Rattle.schedules.specs.Numbers.{number_in}

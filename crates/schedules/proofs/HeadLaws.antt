@@ -5,7 +5,9 @@ use Rattle.world.specs.Scenes.{are_homes, is_count}
 use Rattle.schedules.specs.Schedules.{ScheduleShown}
 use Rattle.schedules.specs.SpelledSchedules.{SpellsSchedule}
 
-pub can_run : (text : List ℕ) (s : ScheduleShown) → SpellsSchedule text s → (is_count s.count ≡ true) × (are_homes s.count s.homes ≡ true)
+pub can_run : (text : List ℕ) (s : ScheduleShown)
+    → SpellsSchedule text s
+    → (is_count s.count ≡ true) × (are_homes s.count s.homes ≡ true)
 can_run text s h = (
   and_from _ _ (le-leb 1 s.count h.servers.0) (le-leb s.count 16 h.servers.1),
   and_from _ _ (le-leb (length s.homes) 64 h.homes.few) h.homes.each,

@@ -1,5 +1,6 @@
 -- The two lines that open a schedule: each is read as what it is the line of, and as nothing else.
-use Rattle.std.proofs.Common.{◌≡◌, ℕ, ◌^◌, ◌≤◌, inl, inr, Bool, true, false, cond, List, [], ◌∷◌, ◌++◌, length, map, None, Some, refl, ap, sym, ◌∙◌, subst, arith, nat_le, nat_lt, lit≤, suc}
+use Rattle.std.proofs.Common.{◌≡◌, ℕ, ◌^◌, ◌≤◌, inl, inr, Bool, true, false, cond, List, [], ◌∷◌, ◌++◌, length, map}
+use Rattle.std.proofs.Common.{None, Some, refl, ap, sym, ◌∙◌, subst, arith, nat_le, nat_lt, lit≤, suc}
 use Rattle.std.specs.Prelude.{◌&&◌, IsTrue, codes, decimal}
 use Rattle.std.specs.List.{list_all}
 use Rattle.std.specs.Str.{bytes_eq}

@@ -1,10 +1,12 @@
 -- Numbers in lines: a field is read as a number exactly if it is how the number is written.
-use Rattle.std.proofs.Common.{◌≡◌, ℕ, zero, suc, ◌^◌, ◌<◌, ◌≤◌, true, false, List, [], ◌∷◌, length, get_or, Option, None, Some, refl, ap, sym, ◌∙◌, arith, nat_le, nat_lt, cond, lit<, inl, inr}
+use Rattle.std.proofs.Common.{◌≡◌, ℕ, zero, suc, ◌^◌, ◌<◌, ◌≤◌, true, false, List, [], ◌∷◌, length, get_or, Option}
+use Rattle.std.proofs.Common.{None, Some, refl, ap, sym, ◌∙◌, arith, nat_le, nat_lt, cond, lit<, inl, inr}
 use Rattle.std.specs.Prelude.{◌==◌, ◌&&◌, not, decimal, option_and_then}
 use Rattle.std.specs.Char.{is_ascii_digit}
 use Rattle.std.specs.List.{list_all}
 use Rattle.std.specs.Str.Parse.{AllDigits, digits_value}
-use Rattle.std.proofs.lemmas.Bool.{cases_Bool, and_parts, and_from, leb-true, ltb-true, le-leb, lt-ltb, eq-eqb, not-true, ne_eqb, not_from_false}
+use Rattle.std.proofs.lemmas.Bool.{cases_Bool, and_parts, and_from, leb-true, ltb-true, le-leb, lt-ltb, eq-eqb}
+use Rattle.std.proofs.lemmas.Bool.{not-true, ne_eqb, not_from_false}
 use Rattle.std.proofs.lemmas.Bool.Decides.{nat_tests}
 use Rattle.std.proofs.lemmas.Fmt.{decimal_is_IsNumeral, decimal-digits_value, first_decimal, decimal_digit}
 use Rattle.std.proofs.lemmas.Option.{cond_some}

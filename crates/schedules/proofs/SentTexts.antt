@@ -1,5 +1,7 @@
--- What a transcript shows of the bytes that a connection was sent: a line for each part, and the same lines for no other bytes.
-use Rattle.std.proofs.Common.{◌≡◌, ℕ, ◌+◌, ◌/◌, ◌%◌, inl, inr, Bool, true, false, cond, List, [], ◌∷◌, ◌++◌, map, drop, Some, refl, ap, sym, ◌∙◌, arith, nat_lt, append_assoc}
+-- What a transcript shows of the bytes that a connection was sent: a line for each part, and the same lines for no
+-- other bytes.
+use Rattle.std.proofs.Common.{◌≡◌, ℕ, ◌+◌, ◌/◌, ◌%◌, inl, inr, Bool, true, false, cond, List, [], ◌∷◌, ◌++◌, map, drop}
+use Rattle.std.proofs.Common.{Some, refl, ap, sym, ◌∙◌, arith, nat_lt, append_assoc}
 use Rattle.std.specs.Prelude.{◌==◌, not, IsTrue, flat_map, codes}
 use Rattle.std.specs.Char.{digit_char}
 use Rattle.std.specs.List.{list_all, onto_first}

@@ -1,5 +1,6 @@
 -- The order of places tells keys apart as the order of their bytes does.
-use Rattle.std.proofs.Common.{◌≡◌, ℕ, Bool, true, false, cond, List, [], ◌∷◌, Option, None, Some, drop, refl, ap, sym, ◌∙◌}
+use Rattle.std.proofs.Common.{◌≡◌, ℕ, Bool, true, false, cond, List, [], ◌∷◌, Option, None, Some, drop, refl, ap, sym}
+use Rattle.std.proofs.Common.{◌∙◌}
 use Rattle.std.specs.Cmp.{IsTotalOrder, eq_by_cmp_equiv, on_total}
 use Rattle.std.specs.Cmp.Lexicographic.{nat_list_cmp_total}
 use Rattle.std.specs.Map.{lookup}
@@ -45,13 +46,20 @@ same_lookup [] q = refl
 same_lookup (e ∷ es) q = λ i. cond (same_tie q e.0 i) (Some e.1) (same_lookup es q i)
 
 -- what the map of a tree's entries has at a key
-pub get_place : {X : Type 0} (es : List (List ℕ × X)) (q : List ℕ) → get (from_entries {R = key_cmp} es) q ≡ placed_at es q
+pub get_place : {X : Type 0} (es : List (List ℕ × X)) (q : List ℕ)
+    → get (from_entries {R = key_cmp} es) q ≡ placed_at es q
 get_place es q = get_entry es q ∙ sym (same_lookup es q)
 
 -- trees that differ at one place by a new value make maps that do
-pub place_put : {X : Type 0} (es fs : List (List ℕ × X)) (k : List ℕ) (v : X) → ((q : List ℕ) → placed_at fs q ≡ cond (is_at (place_cmp k) q) (Some v) (placed_at es q)) → from_entries {R = key_cmp} fs ≡ insert (from_entries es) k v
-place_put es fs k v h = one_put es fs k v (λ q. sym (same_lookup fs q) ∙ h q ∙ (λ i. cond (same_tie k q i) (Some v) (same_lookup es q i)))
+pub place_put : {X : Type 0} (es fs : List (List ℕ × X)) (k : List ℕ) (v : X)
+    → ((q : List ℕ) → placed_at fs q ≡ cond (is_at (place_cmp k) q) (Some v) (placed_at es q))
+    → from_entries {R = key_cmp} fs ≡ insert (from_entries es) k v
+place_put es fs k v h =
+    one_put es fs k v (λ q. sym (same_lookup fs q) ∙ h q ∙ (λ i. cond (same_tie k q i) (Some v) (same_lookup es q i)))
 
 -- trees that differ at one place by its absence make maps that do
-pub place_removed : {X : Type 0} (es fs : List (List ℕ × X)) (k : List ℕ) → ((q : List ℕ) → placed_at fs q ≡ cond (is_at (place_cmp k) q) None (placed_at es q)) → from_entries {R = key_cmp} fs ≡ remove (from_entries es) k
-place_removed es fs k h = one_removed es fs k (λ q. sym (same_lookup fs q) ∙ h q ∙ (λ i. cond (same_tie k q i) None (same_lookup es q i)))
+pub place_removed : {X : Type 0} (es fs : List (List ℕ × X)) (k : List ℕ)
+    → ((q : List ℕ) → placed_at fs q ≡ cond (is_at (place_cmp k) q) None (placed_at es q))
+    → from_entries {R = key_cmp} fs ≡ remove (from_entries es) k
+place_removed es fs k h =
+    one_removed es fs k (λ q. sym (same_lookup fs q) ∙ h q ∙ (λ i. cond (same_tie k q i) None (same_lookup es q i)))

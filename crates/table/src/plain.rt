@@ -81,7 +81,8 @@ impl Table {
         // An item is shown exactly to a read.
         ensures kind { IfOk result (λ reply. is_value reply ≡ not (is_update op.now)) }
         // Only an update takes a number, and only after 2^64 - 1 of them none is left.
-        ensures exhausted { IsErrOf result TableFault.Exhausted ↔ (IsTrue (is_update op.now) × (self.old.count ≡ 2 ^ 64 - 1)) }
+        ensures exhausted { IsErrOf result TableFault.Exhausted
+            ↔ (IsTrue (is_update op.now) × (self.old.count ≡ 2 ^ 64 - 1)) }
         ensures unchanged { OnErr result (self.new ≡ self.old) }
     {
         if !op.is_update() {

@@ -1,6 +1,8 @@
--- Serves the fields of the code; no public contract needs it. How they stand for what a store holds: a record for each key,
+-- Serves the fields of the code; no public contract needs it. How they stand for what a store holds: a record for each
+-- key,
 -- and the numbers of the clears.
-use Rattle.std.specs.Prelude.{◌≡◌, ℕ, ◌+◌, ◌-◌, length, Bool, cond, nat_lt, List, [], ◌∷◌, ◌++◌, Option, None, Some, if◌then◌else◌}
+use Rattle.std.specs.Prelude.{◌≡◌, ℕ, ◌+◌, ◌-◌, length, Bool, cond, nat_lt, List, [], ◌∷◌, ◌++◌, Option, None, Some}
+use Rattle.std.specs.Prelude.{if◌then◌else◌}
 use Rattle.std.specs.FinMap as map
 use Rattle.std.specs.Map.{lookup}
 use Rattle.std.specs.List.{slice_get}
@@ -52,7 +54,8 @@ HasItem key item old new = (q : List ℕ) → base_item new q ≡ cond (is_at (p
 
 -- a key has these numbers, and no other key's change
 abbrev pub HasNumbers : List ℕ → List ℕ → List (List ℕ × Record) → List (List ℕ × Record) → Type 0
-HasNumbers key numbers old new = (q : List ℕ) → key_numbers new q ≡ cond (is_at (place_cmp key) q) numbers (key_numbers old q)
+HasNumbers key numbers old new =
+    (q : List ℕ) → key_numbers new q ≡ cond (is_at (place_cmp key) q) numbers (key_numbers old q)
 
 -- with this item at a key, or without one
 abbrev pub with_item : Items → List ℕ → Option Item → Items
@@ -105,7 +108,8 @@ item_after key target change item =
     if is_clear change then None else (if sets key target change then item_put change else item)
 
 -- what a store keeps of its fields
-pub record IsHeld (records : List (List ℕ × Record)) (clears : List ℕ) (entries : List LogEntry) (floor acked last : ℕ) : Type 0 where
+pub record IsHeld (records : List (List ℕ × Record)) (clears : List ℕ) (entries : List LogEntry) (floor acked last : ℕ)
+    : Type 0 where
   pub store : IsStore (record { base = base_of records; floor = floor; rest = entries; acked = acked })
   pub index : IsIndex records clears entries
   pub counted : last ≡ floor + length entries

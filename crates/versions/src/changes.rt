@@ -1,9 +1,11 @@
 //! How entries come into the index, and how they leave it for the base.
-ghost use Rattle.std.specs.Prelude.{◌≡◌, ◌≤◌, ℕ, List, [], ◌∷◌, ◌++◌, drop, take, length, OnOk, OnErr, IsTrue, IsSome, true, if◌then◌else◌};
+ghost use Rattle.std.specs.Prelude.{◌≡◌, ◌≤◌, ℕ, List, [], ◌∷◌, ◌++◌, drop, take, length, OnOk, OnErr, IsTrue, IsSome};
+ghost use Rattle.std.specs.Prelude.{true, if◌then◌else◌};
 ghost use Rattle.versions.specs.Entries.{is_clear};
 ghost use Rattle.versions.specs.Stores.{items_after, sets};
 ghost use Rattle.versions.specs.Numbers.{numbers_of};
-ghost use Rattle.versions.specs.Records.{IsIndex, base_of, record_at, base_item, key_numbers, SameItems, SameNumbers, item_after, is_set, is_cleared};
+ghost use Rattle.versions.specs.Records.{IsIndex, base_of, record_at, base_item, key_numbers, SameItems, SameNumbers};
+ghost use Rattle.versions.specs.Records.{item_after, is_set, is_cleared};
 
 use crate::numbers::Numbers;
 use crate::records::{self, Record};
@@ -20,7 +22,9 @@ pub(crate) fn note(
     entry: &Entry,
 ) -> Result<(), AllocError>
     ensures items { SameItems records.old.entries records.new.entries }
-    ensures numbers { OnOk result ((q : List ℕ) → key_numbers records.new.entries q ≡ key_numbers records.old.entries q ++ numbers_of (is_set q) (entry.now ∷ [])) }
+    ensures numbers { OnOk result
+        ((q : List ℕ) → key_numbers records.new.entries q ≡ key_numbers records.old.entries q ++ numbers_of (is_set q)
+        (entry.now ∷ [])) }
     ensures clears { OnOk result (clears.new ≡ clears.old ++ numbers_of is_cleared (entry.now ∷ [])) }
     ensures numbers_stay { OnErr result (SameNumbers records.old.entries records.new.entries) }
     ensures clears_stay { OnErr result (clears.new ≡ clears.old) }
@@ -46,7 +50,8 @@ pub(crate) fn settle_first(
     requires index { IsIndex records.old.entries clears.old entries.old.items }
     ensures entries { entries.new.items ≡ drop count entries.old.items }
     ensures index { IsIndex records.new.entries clears.new entries.new.items }
-    ensures base { base_of records.new.entries ≡ items_after (base_of records.old.entries) (take count entries.old.items) }
+    ensures base { base_of records.new.entries ≡ items_after (base_of records.old.entries)
+        (take count entries.old.items) }
 {
     for _moved in 0..count {
         settle_next(records, clears, entries, litter);
@@ -72,7 +77,8 @@ fn settle_next(
     settle(records, clears, litter, &target, change, entries.is_empty());
 }
 
-// Makes the change in the base, and drops its number where one was noted. The last entry leaves no numbers if it clears.
+// Makes the change in the base, and drops its number where one was noted. The last entry leaves no numbers if it
+// clears.
 fn settle(
     records: &mut BTreeMap<Place, Record>,
     clears: &mut Numbers,
@@ -83,8 +89,12 @@ fn settle(
 )
     requires noted { (q : List ℕ) → IsTrue (sets q target.now change) → IsSome (record_at records.old.entries q) }
     requires last { IsTrue is_last → is_clear change ≡ true → (q : List ℕ) → key_numbers records.old.entries q ≡ [] }
-    ensures items { (q : List ℕ) → base_item records.new.entries q ≡ item_after q target.now change (base_item records.old.entries q) }
-    ensures numbers { (q : List ℕ) → key_numbers records.new.entries q ≡ (if sets q target.now change then drop 1 (key_numbers records.old.entries q) else key_numbers records.old.entries q) }
+    ensures items { (q : List ℕ)
+        → base_item records.new.entries q ≡ item_after q target.now change (base_item records.old.entries q) }
+    ensures numbers { (q : List ℕ)
+        → key_numbers records.new.entries q
+        ≡ (if sets q target.now change then drop 1 (key_numbers records.old.entries q) else key_numbers
+        records.old.entries q) }
     ensures clears { clears.new ≡ (if is_clear change then drop 1 clears.old else clears.old) }
 {
     match (target, change) {

@@ -25,7 +25,14 @@ impl Model for Entry {
 
     ghost Value = { LogEntry };
 
-    ghost view = { λ e. record { number = e.number; origin = e.origin; id = e.id; target = e.target; reply = e.reply; change = e.change } };
+    ghost view = { λ e. record {
+      number = e.number;
+      origin = e.origin;
+      id = e.id;
+      target = e.target;
+      reply = e.reply;
+      change = e.change;
+    } };
 
     ghost invariant = { λ e. IsEntry (record { number = e.number; origin = e.origin; id = e.id; target = e.target; reply = e.reply; change = e.change }) };
 
@@ -50,7 +57,8 @@ impl Entry {
         requires put { PutsOwn number change }
         requires cleared { is_clear change ≡ is_all target }
         requires flushed { is_flushed reply ≡ is_all target }
-        ensures { result ≡ record { number = number; origin = origin; id = id; target = target; reply = reply; change = change } }
+        ensures { result ≡
+            record { number = number; origin = origin; id = id; target = target; reply = reply; change = change } }
     {
         Entry {
             number,

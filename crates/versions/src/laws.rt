@@ -1,14 +1,15 @@
-//! Laws of items, logs and stores, for crates above: facts about the definitions of `specs/`, as contracts of functions that do
-//! nothing.
+//! Laws of items, logs and stores, for crates above: facts about the definitions of `specs/`, as contracts of functions
+//! that do nothing.
 ghost use Rattle.std.specs.Prelude.{◌≡◌, ℕ, ◌+◌, ◌≤◌, List, [], ◌∷◌, ◌++◌, length, take, drop, None, if◌then◌else◌};
 ghost use Rattle.table.specs.Plain.{Items, changed, item_at};
 ghost use Rattle.table.specs.declared.operations.Change.{Change};
 ghost use Rattle.table.specs.declared.operations.Target.{Target};
 ghost use Rattle.versions.specs.Entries.{IsEntry, LogEntry, is_clear, item_put};
-ghost use Rattle.versions.specs.Stores.{IsLog, IsStore, StoreState, acked_to, dropped_to, items_after, last_number, pushed, sets};
+ghost use Rattle.versions.specs.Stores.{IsLog, IsStore, StoreState, acked_to, dropped_to, items_after, last_number};
+ghost use Rattle.versions.specs.Stores.{pushed, sets};
 
-/// The items after entries: a change leaves a key what it puts there, nothing if it clears all keys, and else what was there; and
-/// one list of entries after another is both together.
+/// The items after entries: a change leaves a key what it puts there, nothing if it clears all keys, and else what was
+/// there; and one list of entries after another is both together.
 pub fn items_follow_the_log()
     ensures changed { (items : Items) (target : Target) (change : Change) (key : List ℕ)
         → item_at (changed items target change) key
@@ -28,8 +29,8 @@ pub fn parts_are_logs()
         → IsLog before (es ++ e ∷ []) }
 {}
 
-/// A store stays one: with its next entry, with a greater acknowledged number up to the last, and with a greater floor up to the
-/// acknowledged number, which loses no entry's number.
+/// A store stays one: with its next entry, with a greater acknowledged number up to the last, and with a greater floor
+/// up to the acknowledged number, which loses no entry's number.
 pub fn stores_stay_stores()
     ensures pushed { (s : StoreState) (e : LogEntry)
         → IsEntry e

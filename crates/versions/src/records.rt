@@ -1,7 +1,8 @@
 //! A record for each key that has an item in the base or entries above the floor.
 ghost use Rattle.std.specs.Prelude.{◌≡◌, ℕ, List, [], ◌∷◌, ◌++◌, drop, OnOk, OnErr, IsSome, IsTrue, Some, None, false};
 ghost use Rattle.std.specs.Option.{option_copied};
-ghost use Rattle.versions.specs.Records.{record_at, base_item, key_numbers, SameItems, SameNumbers, HasItem, HasNumbers};
+ghost use Rattle.versions.specs.Records.{record_at, base_item, key_numbers, SameItems, SameNumbers, HasItem};
+ghost use Rattle.versions.specs.Records.{HasNumbers};
 
 use crate::Litter;
 use crate::numbers::Numbers;
@@ -23,7 +24,8 @@ pub(crate) fn record_of<'a>(records: &'a BTreeMap<Place, Record>, key: &Key) -> 
     records.get(key.place())
 }
 
-/// Adds the number of an entry that sets the key. A key without a record gets one, so that its item has a place later on.
+/// Adds the number of an entry that sets the key. A key without a record gets one, so that its item has a place later
+/// on.
 pub(crate) fn note(
     alloc: Global,
     records: &mut BTreeMap<Place, Record>,
@@ -31,7 +33,9 @@ pub(crate) fn note(
     number: u64,
 ) -> Result<(), AllocError>
     ensures items { SameItems records.old.entries records.new.entries }
-    ensures numbers { OnOk result (HasNumbers key.now (key_numbers records.old.entries key.now ++ number ∷ []) records.old.entries records.new.entries) }
+    ensures numbers { OnOk result
+        (HasNumbers key.now (key_numbers records.old.entries key.now ++ number ∷ []) records.old.entries
+        records.new.entries) }
     ensures err { OnErr result (SameNumbers records.old.entries records.new.entries) }
 {
     match records.get_mut(key.place()) {
@@ -55,7 +59,8 @@ pub(crate) fn note(
 pub(crate) fn settle(records: &mut BTreeMap<Place, Record>, key: &Key, item: Option<Item>)
     requires noted { IsSome (record_at records.old.entries key.now) }
     ensures items { HasItem key.now item records.old.entries records.new.entries }
-    ensures numbers { HasNumbers key.now (drop 1 (key_numbers records.old.entries key.now)) records.old.entries records.new.entries }
+    ensures numbers { HasNumbers key.now (drop 1 (key_numbers records.old.entries key.now)) records.old.entries
+        records.new.entries }
 {
     let Some(record) = records.get_mut(key.place()) else {
         return;

@@ -5,7 +5,8 @@ ghost use Rattle.std.specs.Option.{option_copied};
 ghost use Rattle.std.specs.Iterator.Runs.{YieldsRefsInOrder};
 ghost use Rattle.std.specs.VecDeque.Iter.{deque_iter_rest, deque_iter_steps};
 ghost use Rattle.versions.specs.declared.stores.StoreFault.TheVariants.{Memory};
-ghost use Rattle.versions.specs.Stores.{IsStore, opening_store, last_number, value_at, IsClean, entries_after, items_put, pushed, acked_to, dropped_to};
+ghost use Rattle.versions.specs.Stores.{IsStore, opening_store, last_number, value_at, IsClean, entries_after};
+ghost use Rattle.versions.specs.Stores.{items_put, pushed, acked_to, dropped_to};
 
 use crate::changes::{note, settle_first};
 use crate::items::items_of;
@@ -21,7 +22,8 @@ use std::marker::Model;
 use table::{Item, Key, Place};
 use thiserror::Error;
 
-// The room that the entries keep where none is left: enough for a chain under load, without a block of memory each time.
+// The room that the entries keep where none is left: enough for a chain under load, without a block of memory each
+// time.
 const KEPT: usize = 1_024;
 
 /// Why a store refuses an entry.
@@ -40,8 +42,8 @@ impl From<AllocError> for StoreFault {
     }
 }
 
-/// The items at a number, the floor, and the entries of the log above it. An item stands once: in the base, or in its entry.
-/// Contracts see the base, the floor, the entries above it and the acknowledged number (`StoreState`).
+/// The items at a number, the floor, and the entries of the log above it. An item stands once: in the base, or in its
+/// entry. Contracts see the base, the floor, the entries above it and the acknowledged number (`StoreState`).
 #[derive(Drop)]
 pub struct Store {
     alloc: Global,
@@ -65,7 +67,12 @@ impl Model for Store {
 
     ghost use Rattle.versions.specs.Records.{base_of, IsHeld};
 
-    ghost view = { λ s. record { base = base_of s.records.entries; floor = s.floor; rest = s.entries.items; acked = s.acked } };
+    ghost view = { λ s. record {
+      base = base_of s.records.entries;
+      floor = s.floor;
+      rest = s.entries.items;
+      acked = s.acked;
+    } };
 
     ghost invariant = { λ s. IsHeld s.records.entries s.clears s.entries.items s.floor s.acked s.last };
 }
@@ -135,10 +142,11 @@ impl Store {
         self.acked = n;
     }
 
-    /// Raises the floor to `n`: the items of the entries up to it move to the base. No item is copied, and no memory taken.
-    /// Time is logarithmic in the number of keys for each entry. A clear among them takes time linear in the number of keys
-    /// that have a record, whose items it takes away; but the last entry's takes constant time, and the items are freed by
-    /// and by, some at each later call. If no entry is left, the room that many of them took is given back.
+    /// Raises the floor to `n`: the items of the entries up to it move to the base. No item is copied, and no memory
+    /// taken. Time is logarithmic in the number of keys for each entry. A clear among them takes time linear in the
+    /// number of keys that have a record, whose items it takes away; but the last entry's takes constant time, and the
+    /// items are freed by and by, some at each later call. If no entry is left, the room that many of them took is
+    /// given back.
     pub fn drop_to(&mut self, n: u64)
         requires above { self.old.floor ≤ n }
         requires acked { n ≤ self.old.acked }
@@ -172,8 +180,9 @@ impl Store {
         )
     }
 
-    /// The version of a key at the number `n`: its item then, or none (CRAQ, "Chain Replication with Apportioned Queries").
-    /// Time is logarithmic in the number of keys and in the number of versions of the key and of clears above the floor.
+    /// The version of a key at the number `n`: its item then, or none (CRAQ, "Chain Replication with Apportioned
+    /// Queries"). Time is logarithmic in the number of keys and in the number of versions of the key and of clears
+    /// above the floor.
     pub fn at(&self, key: &Key, n: u64) -> Option<&Item>
         requires above { self.now.floor ≤ n }
         requires known { n ≤ last_number self.now }
@@ -202,8 +211,8 @@ impl Store {
         self.entries.range(first..)
     }
 
-    /// The items of the base with their keys: put one after another, they make it. They share their data and their keys' bytes.
-    /// Time is linear in the number of keys.
+    /// The items of the base with their keys: put one after another, they make it. They share their data and their
+    /// keys' bytes. Time is linear in the number of keys.
     pub fn base(&self) -> Result<Vec<(Key, Item)>, AllocError>
         ensures { IfOk result (λ found. items_put map.empty found.items ≡ self.now.base) }
     {
@@ -218,9 +227,9 @@ impl Store {
         self.clean_version(key).is_some()
     }
 
-    /// The newest version of a clean key: its item, or none. `None` exactly where an entry above the acknowledged number puts,
-    /// drops or clears the key (CRAQ, "Chain Replication with Apportioned Queries").
-    /// One search: time is logarithmic in the number of keys.
+    /// The newest version of a clean key: its item, or none. `None` exactly where an entry above the acknowledged
+    /// number puts, drops or clears the key (CRAQ, "Chain Replication with Apportioned Queries"). One search: time is
+    /// logarithmic in the number of keys.
     pub fn clean_version(&self, key: &Key) -> Option<Option<&Item>>
         ensures clean { IsSome result ↔ IsClean self.now key.now }
         ensures newest { IfSome result (λ item. option_copied item ≡ value_at self.now key.now (last_number self.now)) }

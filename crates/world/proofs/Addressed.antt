@@ -41,13 +41,22 @@ pub record IsAimed (v : View) (i j n : ℕ) (body : Body) : Type 0 where
   pub entry : HasEntry body
 
 -- an entry of a log is one
-pub entry_in : (before : ℕ) (es : List LogEntry) (k : ℕ) (e : LogEntry) → IsLog before es → slice_get es k ≡ Some e → IsEntry e
+pub entry_in : (before : ℕ) (es : List LogEntry) (k : ℕ) (e : LogEntry)
+    → IsLog before es
+    → slice_get es k ≡ Some e
+    → IsEntry e
 entry_in before [] k e h g = absurd cc
 entry_in before (d ∷ es) zero e h g = subst (λ x. IsEntry x) (same_Some d e g) h.0
 entry_in before (d ∷ es) (suc k) e h g = entry_in (before + 1) es k e h.2 g
 
 -- what may be sent goes where its view says
-aimed : (t : Traced) (i j : ℕ) (cause : Cause) (body : Body) (s : ServerState) → s.id ≡ i → s.count ≡ count t → has s.view i ≡ false → IsSound s → IsKnown t i cause → MaySend cause s j body
+aimed : (t : Traced) (i j : ℕ) (cause : Cause) (body : Body) (s : ServerState)
+    → s.id ≡ i
+    → s.count ≡ count t
+    → has s.view i ≡ false
+    → IsSound s
+    → IsKnown t i cause
+    → MaySend cause s j body
     → IsAimed s.view i j (count t) body
 aimed t i j cause (Op id call) s is n own sound known (head, other, update, fit, port, here) =
     let h = head_of_is s j head in
@@ -95,13 +104,22 @@ aimed t i j cause (Answer ask m) s is n own sound known (tail, last, out, peer, 
     let h = at_tail s tail in
     let from : IsKnown t i (Some (From j peer)) = rw came at known in
     let goes : Goes j i peer.view (count t) (Query ask key) = rw asked at (from.0.goes) in
-    record { to = out; goes = (goes.0, λ x a l. h.between x (omega (arith, is)) (omega (arith, n))); fit = tt; entry = tt }
+    record {
+      to = out;
+      goes = (goes.0, λ x a l. h.between x (omega (arith, is)) (omega (arith, n)));
+      fit = tt;
+      entry = tt;
+    }
 
 -- what a server sends is addressed
-pub addressed_sent : (t : Traced) (i j : ℕ) (cause : Cause) (body : Body) → Framed t → CanDo t i cause (Send j body) → IsAddressed t i j (record { view = (server t.world i).view; body = body })
+pub addressed_sent : (t : Traced) (i j : ℕ) (cause : Cause) (body : Body)
+    → Framed t
+    → CanDo t i cause (Send j body)
+    → IsAddressed t i j (record { view = (server t.world i).view; body = body })
 addressed_sent t i j cause body f g =
     let low = (living_parts t.world i g.lives).0 in
-    let a = aimed t i j cause body (server t.world i) (f.id i low) (f.chain i low) (f.own i low) g.sound g.known g.guard.0 in
+    let a = aimed t i j cause body (server t.world i) (f.id i low) (f.chain i low) (f.own i low) g.sound g.known
+    g.guard.0 in
     record {
       sender = low;
       receiver = omega (arith, g.guard.1, f.chain i low);

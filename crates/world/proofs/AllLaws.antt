@@ -11,10 +11,21 @@ use Rattle.world.proofs.LoggedEvents.{logged_outset}
 use Rattle.world.proofs.CallsMoved.{calling_moved, read_moved, calling_outset, read_outset}
 
 pub laws : Laws
-laws = record { fits = next_fits; step = step_done; grows = grows_moved; logged = logged_moved; calling = calling_moved; read = read_moved }
+laws = record {
+  fits = next_fits;
+  step = step_done;
+  grows = grows_moved;
+  logged = logged_moved;
+  calling = calling_moved;
+  read = read_moved;
+}
 
 pub first_laws : FirstLaws
-first_laws = record { logged = λ n homes few. logged_outset n homes; calling = λ n homes few. calling_outset n homes; read = λ n homes few. read_outset n homes }
+first_laws = record {
+  logged = λ n homes few. logged_outset n homes;
+  calling = λ n homes few. calling_outset n homes;
+  read = λ n homes few. read_outset n homes;
+}
 
 -- the moments of a schedule
 pub all_moments : (n : ℕ) (homes : List ℕ) (events : List Event) → n ≤ 16 → Moments (outset n homes) events

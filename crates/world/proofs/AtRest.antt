@@ -1,5 +1,7 @@
--- Where nothing is on its way to living servers and each knows who failed, all have the same log, and have acknowledged all of it.
-use Rattle.std.proofs.Common.{◌≡◌, ◌==◌, ◌||◌, Bool, not, ℕ, zero, suc, ◌+◌, ◌<◌, ◌≤◌, true, false, List, [], ◌∷◌, length, Option, Some, None, refl, sym, ap, ◌∙◌, arith, inl, inr}
+-- Where nothing is on its way to living servers and each knows who failed, all have the same log, and have acknowledged
+-- all of it.
+use Rattle.std.proofs.Common.{◌≡◌, ◌==◌, ◌||◌, Bool, not, ℕ, zero, suc, ◌+◌, ◌<◌, ◌≤◌, true, false, List, [], ◌∷◌}
+use Rattle.std.proofs.Common.{length, Option, Some, None, refl, sym, ap, ◌∙◌, arith, inl, inr}
 use Rattle.std.specs.Prelude.{slice_get}
 use Rattle.std.proofs.lemmas.Bool.{and_parts, cases_eq, eqb-true}
 use Rattle.std.proofs.lemmas.Option.{none-some}
@@ -13,7 +15,8 @@ use Rattle.world.specs.Worlds.{World, server, link, lives}
 use Rattle.world.proofs.Traces.{Traced, log, count}
 use Rattle.world.proofs.Layers.{Lawful}
 use Rattle.world.proofs.Beginnings.{begins-whole}
-use Rattle.world.proofs.IdLaws.{IsPrevious, following_is, no_following, previous_from, is_itself, living_parts, living_from}
+use Rattle.world.proofs.IdLaws.{IsPrevious, following_is, no_following, previous_from, is_itself, living_parts}
+use Rattle.world.proofs.IdLaws.{living_from}
 use Rattle.world.proofs.Streaming.{numbers, IsRun, IsTold, Streaming}
 use Rattle.world.proofs.StreamSteps.{last_is, next_in}
 
@@ -36,18 +39,23 @@ not_living : (b c : Bool) → b ≡ true → (not b || c) ≡ true → c ≡ tru
 not_living true c e h = h
 not_living false c e h = absurd cc
 
-quiet_parts : (w : World) (j : ℕ) → is_server_quiet w j ≡ true → (all_below (length w.servers) (λ i. is_empty (link w i j)) ≡ true) × (((server w j).view == w.failed) ≡ true)
-quiet_parts w j h = and_parts (all_below (length w.servers) (λ i. is_empty (link w i j))) ((server w j).view == w.failed) h
+quiet_parts : (w : World) (j : ℕ)
+    → is_server_quiet w j ≡ true
+    → (all_below (length w.servers) (λ i. is_empty (link w i j)) ≡ true) × (((server w j).view == w.failed) ≡ true)
+quiet_parts w j h =
+    and_parts (all_below (length w.servers) (λ i. is_empty (link w i j))) ((server w j).view == w.failed) h
 
 quiet_server : (w : World) → is_quiet w ≡ true → (j : ℕ) → lives w j ≡ true → is_server_quiet w j ≡ true
 quiet_server w h j a =
     let all = (and_parts (all_below (length w.servers) (λ k. not (lives w k) || is_server_quiet w k)) _ h).0 in
-    not_living (lives w j) (is_server_quiet w j) a (below_all (length w.servers) (λ k. not (lives w k) || is_server_quiet w k) all j (living_parts w j a).0)
+    not_living (lives w j) (is_server_quiet w j) a
+    (below_all (length w.servers) (λ k. not (lives w k) || is_server_quiet w k) all j (living_parts w j a).0)
 
 -- so it is in a quiet world
 pub at_rest : (w : World) → is_quiet w ≡ true → IsAtRest w
 at_rest w h = record {
-  links = λ i j l a. none_there (link w i j) (below_all (length w.servers) (λ k. is_empty (link w k j)) (quiet_parts w j (quiet_server w h j a)).0 i l);
+  links = λ i j l a. none_there (link w i j)
+      (below_all (length w.servers) (λ k. is_empty (link w k j)) (quiet_parts w j (quiet_server w h j a)).0 i l);
   views = λ j a. eqb-true _ _ (quiet_parts w j (quiet_server w h j a)).1;
 }
 
@@ -64,22 +72,39 @@ not_more : (w : World) (x y : ℕ) → link w y x ≡ [] → IsTold w x y → (s
 not_more w x y e (inl h) = h
 not_more w x y e (inr g) = absurd (none-some g.0 (let k : slice_get [] g.2.0 ≡ Some g.0 = rw e at g.2.1 in k))
 
-module _ (t : Traced) (h : Lawful t) (s : Streaming t.world) (rest : IsAtRest t.world) (settled : (i : ℕ) → lives t.world i ≡ true → IsSettled (server t.world i)) where
+module _ (t : Traced) (h : Lawful t) (s : Streaming t.world) (rest : IsAtRest t.world)
+    (settled : (i : ℕ) → lives t.world i ≡ true → IsSettled (server t.world i)) where
   -- a neighbour of a level server is level
-  level_before : (i j : ℕ) → lives t.world i ≡ true → lives t.world j ≡ true → successor (server t.world i).view (count t) i ≡ Some j → IsLevel t j → IsLevel t i
+  level_before : (i j : ℕ)
+      → lives t.world i ≡ true
+      → lives t.world j ≡ true
+      → successor (server t.world i).view (count t) i ≡ Some j
+      → IsLevel t j
+      → IsLevel t i
   level_before i j a b n level =
       let here = living_parts t.world i a in
       let there = living_parts t.world j b in
       let f = following_is (server t.world i).view (count t) i j n in
       let unaware : has (server t.world j).view i ≡ false = ap (λ v. has v i) (rest.views j b) ∙ here.1 in
       let views : (server t.world j).view ≡ (server t.world i).view = rest.views j b ∙ sym (rest.views i a) in
-      let stream = s.forwards i j (record { here = here.0; inside = there.0; next = next_in t h.framed i here.0 ∙ n; unaware = unaware; alive = there.1 }) in
+      let stream = s.forwards i j
+      (record {
+        here = here.0;
+        inside = there.0;
+        next = next_in t h.framed i here.0 ∙ n;
+        unaware = unaware;
+        alive = there.1;
+      }) in
       let whole = none_left _ _ (link t.world i j) (rest.links i j here.0 b) stream.run in
       let same : log t j ≡ log t i = begins-whole (log t j) (log t i) (h.logged.begins i j f.above there.0 unaware)
       (omega (arith, stream.reached, whole, last_is t h.logged i here.0, last_is t h.logged j there.0)) in
-      let before : previous (server t.world j) ≡ Some i = ap (λ x. predecessor (server t.world j).view x) (h.framed.id j there.0)
-      ∙ previous_from (server t.world j).view j i (record { below = f.above; out = unaware; between = λ x p q. ap (λ v. has v x) views ∙ f.between x p q }) in
-      let told = not_more t.world i j (rest.links j i there.0 a) (s.acks i j (record { here = here.0; inside = there.0; previous = before; unaware = f.out; alive = here.1 })) in
+      let before : previous (server t.world j) ≡ Some i =
+      ap (λ x. predecessor (server t.world j).view x) (h.framed.id j there.0)
+      ∙ previous_from (server t.world j).view j i
+      (record { below = f.above; out = unaware; between = λ x p q. ap (λ v. has v x) views ∙ f.between x p q }) in
+      let told = not_more t.world i j (rest.links j i there.0 a)
+      (s.acks i j (record
+      { here = here.0; inside = there.0; previous = before; unaware = f.out; alive = here.1 })) in
       record {
         log = sym same ∙ level.log;
         acked = omega (arith, told, h.logged.acks i j f.above there.0 f.out, level.acked);
@@ -89,16 +114,26 @@ module _ (t : Traced) (h : Lawful t) (s : Streaming t.world) (rest : IsAtRest t.
   level_last i a n =
       let here = living_parts t.world i a in
       let view = rest.views i a in
-      let last : IsPrevious (server t.world i).view (count t) i = record { below = here.0; out = ap (λ v. has v i) view ∙ here.1; between = no_following (server t.world i).view (count t) i n } in
+      let last : IsPrevious (server t.world i).view (count t) i =
+      record {
+        below = here.0;
+        out = ap (λ v. has v i) view ∙ here.1;
+        between = no_following (server t.world i).view (count t) i n;
+      } in
       let found = previous_from (server t.world i).view (count t) i last in
       let committed : t.committed ≡ log t i = h.logged.last i (ap (λ v. predecessor v (count t)) (sym view) ∙ found) in
-      let is_last : is_tail (server t.world i) ≡ true = rw (h.framed.chain i here.0, h.framed.id i here.0) (is_itself (tail (server t.world i).view (count t)) i found) in
+      let is_last : is_tail (server t.world i) ≡ true =
+      rw (h.framed.chain i here.0, h.framed.id i here.0)
+      (is_itself (tail (server t.world i).view (count t)) i found) in
       record {
         log = sym committed;
         acked = (settled i a is_last).0 ∙ last_is t h.logged i here.0 ∙ ap (λ es. length es) (sym committed);
       }
 
-  level_found : (many i : ℕ) (o : Option ℕ) → count t ≤ i + suc many → lives t.world i ≡ true → successor (server t.world i).view (count t) i ≡ o
+  level_found : (many i : ℕ) (o : Option ℕ)
+      → count t ≤ i + suc many
+      → lives t.world i ≡ true
+      → successor (server t.world i).view (count t) i ≡ o
       → ((j : ℕ) → lives t.world j ≡ true → i < j → IsLevel t j) → IsLevel t i
   level_found many i None l a n f = level_last i a n
   level_found many i (Some j) l a n f =
@@ -108,7 +143,8 @@ module _ (t : Traced) (h : Lawful t) (s : Streaming t.world) (rest : IsAtRest t.
 
   level_from : (many i : ℕ) → count t ≤ i + many → lives t.world i ≡ true → IsLevel t i
   level_from zero i l a = absurd (omega (arith, l, (living_parts t.world i a).0))
-  level_from (suc many) i l a = level_found many i (successor (server t.world i).view (count t) i) l a refl (λ j b above. level_from many j (omega (arith, l, above)) b)
+  level_from (suc many) i l a = level_found many i (successor (server t.world i).view (count t) i) l a refl
+      (λ j b above. level_from many j (omega (arith, l, above)) b)
 
   pub all_level : (i : ℕ) → lives t.world i ≡ true → IsLevel t i
   all_level i a = level_from (count t) i (omega arith) a

@@ -1,5 +1,6 @@
 -- Beginnings of lists: what a list that begins another tells of both.
-use Rattle.std.proofs.Common.{◌≡◌, ℕ, zero, suc, ◌+◌, ◌≤◌, List, [], ◌∷◌, ◌++◌, length, take, drop, Some, refl, arith, inl, inr, zero-add}
+use Rattle.std.proofs.Common.{◌≡◌, ℕ, zero, suc, ◌+◌, ◌≤◌, List, [], ◌∷◌, ◌++◌, length, take, drop, Some, refl, arith}
+use Rattle.std.proofs.Common.{inl, inr, zero-add}
 use Rattle.std.specs.Prelude.{slice_get}
 use Rattle.std.proofs.lemmas.Option.{same_Some, none-some as none_some}
 use Rattle.node.proofs.Lists.{Begins, pushed_cases}
@@ -15,7 +16,10 @@ pub begins_nil : {X : Type 0} (xs : List X) → Begins [] xs
 begins_nil xs k x h = absurd (none_some x h)
 
 -- a list with one more begins what has that one at its place
-pub begins-push : {X : Type 0} (xs ys : List X) (y : X) → Begins xs ys → slice_get ys (length xs) ≡ Some y → Begins (xs ++ y ∷ []) ys
+pub begins-push : {X : Type 0} (xs ys : List X) (y : X)
+    → Begins xs ys
+    → slice_get ys (length xs) ≡ Some y
+    → Begins (xs ++ y ∷ []) ys
 begins-push xs ys y b h k x e = elim (pushed_cases xs y k x e) [ inl old ↦ b k x old | inr new ↦ rw (new.0, new.1) h ]
 
 pub begins-length : {X : Type 0} (xs ys : List X) → Begins xs ys → length xs ≤ length ys

@@ -5,7 +5,8 @@ use Rattle.world.proofs.Traces.{Traced, done}
 use Rattle.world.proofs.Layers.{Calling}
 use Rattle.world.proofs.StepInputs.{IsStep}
 use Rattle.world.proofs.CallsDone.{pending_done, asking_done}
-use Rattle.world.proofs.ConnectionsDone.{issued_begun, issued_once, next_done, alone_done, handed_done, waiting_done, asks_done}
+use Rattle.world.proofs.ConnectionsDone.{issued_begun, issued_once, next_done, alone_done, handed_done, waiting_done}
+use Rattle.world.proofs.ConnectionsDone.{asks_done}
 use Rattle.world.proofs.LegalLogs.{ids_done, seen_done, decided_done}
 
 pub calling_done : (t : Traced) (i : ℕ) (cause : Cause) (a : Action) → IsStep t i cause a → Calling (done t i a)

@@ -1,5 +1,6 @@
 -- Each move keeps what is known of calls and of answered reads, and a chain at its outset has it.
-use Rattle.std.proofs.Common.{◌≡◌, ℕ, ◌<◌, Bool, true, false, cond, List, [], ◌∷◌, Some, None, refl, inl, inr, ap, sym, ◌∙◌, subst}
+use Rattle.std.proofs.Common.{◌≡◌, ℕ, ◌<◌, Bool, true, false, cond, List, [], ◌∷◌, Some, None, refl, inl, inr, ap, sym}
+use Rattle.std.proofs.Common.{◌∙◌, subst}
 use Rattle.std.specs.Prelude.{slice_get}
 use Rattle.std.proofs.lemmas.Option.{same_Some}
 use Rattle.table.specs.declared.operations.Reply.{Reply}
@@ -15,10 +16,15 @@ use Rattle.node.specs.Actions.{Action, Cause}
 use Rattle.world.proofs.Traces.{Traced, count, reconnected, unlinked, failing, outset}
 use Rattle.world.proofs.Layers.{Later, Framed, Lawful, Logged, Calling, Read}
 use Rattle.world.proofs.WorldLaws.{Changes}
-use Rattle.world.proofs.ChangeLaws.{server_reconnected, link_reconnected, log_reconnected, issued_reconnected, reads_reconnected, connection_reconnected, connection_unchanged, server_unlinked, link_unlinked, log_unlinked, issued_unlinked, reads_unlinked, connections_unlinked, server_failing, link_failing, log_failing, issued_failing, reads_failing, connections_failing}
+use Rattle.world.proofs.ChangeLaws.{server_reconnected, link_reconnected, log_reconnected, issued_reconnected}
+use Rattle.world.proofs.ChangeLaws.{reads_reconnected, connection_reconnected, connection_unchanged, server_unlinked}
+use Rattle.world.proofs.ChangeLaws.{link_unlinked, log_unlinked, issued_unlinked, reads_unlinked, connections_unlinked}
+use Rattle.world.proofs.ChangeLaws.{server_failing, link_failing, log_failing, issued_failing, reads_failing}
+use Rattle.world.proofs.ChangeLaws.{connections_failing}
 use Rattle.world.proofs.Moves.{Move, Does, Comes, Starts, Works, Hands, Takes, Fails, moved, IsMove, CanDo, CanWork}
 use Rattle.world.proofs.LaterMoves.{reply_stands}
-use Rattle.world.proofs.Outsets.{count_outset, server_outset, log_outset, issued_outset, link_outset, all_alike, fresh_at, nothing_in}
+use Rattle.world.proofs.Outsets.{count_outset, server_outset, log_outset, issued_outset, link_outset, all_alike}
+use Rattle.world.proofs.Outsets.{fresh_at, nothing_in}
 use Rattle.world.proofs.EntryCounts.{entries-none}
 use Rattle.world.proofs.StepInputs.{IsStep}
 use Rattle.world.proofs.CallingDone.{calling_done}
@@ -30,8 +36,10 @@ use Rattle.world.proofs.PassiveMoves as progress
 
 progress_by : (given : Given) (k : Connection) → k.stage ≡ Idle → Progress k (begun_by given k)
 progress_by (None, left) k idle = progress.Stays (record { home = refl; calls = refl; replies = refl; stage = refl })
-progress_by (Some (Faulty fault), left) k idle = progress.Stays (record { home = refl; calls = refl; replies = refl; stage = refl })
-progress_by (Some (Calls call form), left) k idle = progress.Starts (record { call = call; home = refl; calls = refl; replies = refl; before = idle; stage = refl })
+progress_by (Some (Faulty fault), left) k idle =
+    progress.Stays (record { home = refl; calls = refl; replies = refl; stage = refl })
+progress_by (Some (Calls call form), left) k idle =
+    progress.Starts (record { call = call; home = refl; calls = refl; replies = refl; before = idle; stage = refl })
 
 progress_begun : (stage : Stage) (k : Connection) → k.stage ≡ stage → Progress k (begun stage k)
 progress_begun Idle k e = progress_by (past_faults k.session) k e
@@ -43,7 +51,8 @@ progress_handed : (stage : Stage) (k : Connection) → k.stage ≡ stage → Pro
 progress_handed Idle k e = stays_self k
 progress_handed Begun k e = stays_self k
 progress_handed Asked k e = stays_self k
-progress_handed (Replied reply) k e = progress.Hands (record { reply = reply; home = refl; calls = refl; replies = refl; before = e; stage = refl })
+progress_handed (Replied reply) k e =
+    progress.Hands (record { reply = reply; home = refl; calls = refl; replies = refl; before = e; stage = refl })
 
 progress_came : (bytes : List ℕ) (k : Connection) → Progress k (came bytes k)
 progress_came bytes k = progress.Stays (record { home = refl; calls = refl; replies = refl; stage = refl })
@@ -56,16 +65,24 @@ progress_if true k l c = c
 progress_if false k l c = stays_self k
 
 -- where its home lives
-at_home : (w : World) (change : Connection → Connection) (k : Connection) → Progress k (change k) → Progress k (where_home_lives w change k)
+at_home : (w : World) (change : Connection → Connection) (k : Connection)
+    → Progress k (change k)
+    → Progress k (where_home_lives w change k)
 at_home w change k c = progress_if (lives w k.home) k (change k) c
 
 -- ---- moves that aren't a server's action
 
-progress_after : (c : ℕ) (change : Connection → Connection) (d : ℕ) (k l : Connection) → (d ≡ c → Progress k (change k)) → Changes c change d k l → Progress k l
+progress_after : (c : ℕ) (change : Connection → Connection) (d : ℕ) (k l : Connection)
+    → (d ≡ c → Progress k (change k))
+    → Changes c change d k l
+    → Progress k l
 progress_after c change d k l f (inl h) = rw h.1 (f h.0)
 progress_after c change d k l f (inr h) = rw h.1 (stays_self k)
 
-passive_reconnected : (t : Traced) (c : ℕ) (change : Connection → Connection) → Later t (reconnected t c change) → ((k : Connection) → slice_get t.world.connections c ≡ Some k → Progress k (change k)) → IsPassive t (reconnected t c change)
+passive_reconnected : (t : Traced) (c : ℕ) (change : Connection → Connection)
+    → Later t (reconnected t c change)
+    → ((k : Connection) → slice_get t.world.connections c ≡ Some k → Progress k (change k))
+    → IsPassive t (reconnected t c change)
 passive_reconnected t c change l f = record {
   later = l;
   server = λ k. server_reconnected t c change k;
@@ -73,11 +90,21 @@ passive_reconnected t c change l f = record {
   issued = λ k. issued_reconnected t c change k;
   reads = reads_reconnected t c change;
   link = λ x y m h. rw (link_reconnected t c change x y) at h;
-  after = λ d k h. (let g = connection_reconnected t c change d k h in (g.0, g.1, progress_after c change d k g.0 (λ same. f k (rw same at h)) g.2));
-  before = λ d k h. (let g = connection_unchanged t c change d k h in (g.0, g.1, progress_after c change d g.0 k (λ same. f g.0 (subst (λ x. slice_get t.world.connections x ≡ Some g.0) same g.1)) g.2));
+  after = λ d k h. (let g = connection_reconnected t c change d k h in
+      (g.0, g.1, progress_after c change d k g.0 (λ same. f k (rw same at h)) g.2));
+  before = λ d k h.
+      (let g = connection_unchanged t c change d k h in (
+        g.0,
+        g.1,
+        progress_after c change d g.0 k
+            (λ same. f g.0 (subst (λ x. slice_get t.world.connections x ≡ Some g.0) same g.1)) g.2,
+      ));
 }
 
-passive_unlinked : (t : Traced) (i j : ℕ) (m : Peer) (ms : List Peer) → Later t (unlinked t i j ms) → link t.world i j ≡ m ∷ ms → IsPassive t (unlinked t i j ms)
+passive_unlinked : (t : Traced) (i j : ℕ) (m : Peer) (ms : List Peer)
+    → Later t (unlinked t i j ms)
+    → link t.world i j ≡ m ∷ ms
+    → IsPassive t (unlinked t i j ms)
 passive_unlinked t i j m ms l e =
     let same = connections_unlinked t i j ms in
     record {
@@ -105,28 +132,67 @@ passive_failing t i l =
       before = λ c k h. (k, rw same at h, stays_self k);
     }
 
-works_begun : (t : Traced) (c : ℕ) (g : CanWork t c) (k : Connection) → slice_get t.world.connections c ≡ Some k → Progress k (asked k)
-works_begun t c g k h = let same : k ≡ g.connection = same_Some k g.connection (sym h ∙ g.here) in progress_asked k (ap (λ (x : Connection). x.stage) same ∙ g.stage)
+works_begun : (t : Traced) (c : ℕ) (g : CanWork t c) (k : Connection)
+    → slice_get t.world.connections c ≡ Some k
+    → Progress k (asked k)
+works_begun t c g k h = let same : k ≡ g.connection = same_Some k g.connection (sym h ∙ g.here) in progress_asked k
+    (ap (λ (x : Connection). x.stage) same ∙ g.stage)
 
-pub step_of_move : (t : Traced) (i : ℕ) (cause : Cause) (a : Action) → CanDo t i cause a → Lawful t → Later t (moved t (Does i cause a)) → IsStep t i cause a
-step_of_move t i cause a g l later = record { lives = g.lives; lawful = l; known = g.known; sound = g.sound; guard = g.guard; later = later }
+pub step_of_move : (t : Traced) (i : ℕ) (cause : Cause) (a : Action)
+    → CanDo t i cause a
+    → Lawful t
+    → Later t (moved t (Does i cause a))
+    → IsStep t i cause a
+step_of_move t i cause a g l later =
+    record { lives = g.lives; lawful = l; known = g.known; sound = g.sound; guard = g.guard; later = later }
 
-pub calling_moved : (t : Traced) (m : Move) → IsMove t m → Lawful t → Later t (moved t m) → Framed (moved t m) → Logged (moved t m) → Calling (moved t m)
+pub calling_moved : (t : Traced) (m : Move)
+    → IsMove t m
+    → Lawful t
+    → Later t (moved t m)
+    → Framed (moved t m)
+    → Logged (moved t m)
+    → Calling (moved t m)
 calling_moved t (Does i cause a) g l later framed logged = calling_done t i cause a (step_of_move t i cause a g l later)
-calling_moved t (Comes c bytes) g l later framed logged = calling_passive t _ (passive_reconnected t c _ later (λ k h. at_home t.world (came bytes) k (progress_came bytes k))) l
-calling_moved t (Starts c) g l later framed logged = calling_passive t _ (passive_reconnected t c _ later (λ k h. at_home t.world (λ k. begun k.stage k) k (progress_begun k.stage k refl))) l
-calling_moved t (Works c) g l later framed logged = calling_passive t _ (passive_reconnected t c asked later (works_begun t c g)) l
-calling_moved t (Hands c) g l later framed logged = calling_passive t _ (passive_reconnected t c _ later (λ k h. at_home t.world (λ k. handed k.stage k) k (progress_handed k.stage k refl))) l
-calling_moved t (Takes i j ms) g l later framed logged = calling_passive t _ (passive_unlinked t i j g.message ms later g.here) l
+calling_moved t (Comes c bytes) g l later framed logged =
+    calling_passive t _
+    (passive_reconnected t c _ later (λ k h. at_home t.world (came bytes) k (progress_came bytes k))) l
+calling_moved t (Starts c) g l later framed logged =
+    calling_passive t _
+    (passive_reconnected t c _ later
+    (λ k h. at_home t.world (λ k. begun k.stage k) k (progress_begun k.stage k refl))) l
+calling_moved t (Works c) g l later framed logged =
+    calling_passive t _ (passive_reconnected t c asked later (works_begun t c g)) l
+calling_moved t (Hands c) g l later framed logged =
+    calling_passive t _
+    (passive_reconnected t c _ later
+    (λ k h. at_home t.world (λ k. handed k.stage k) k (progress_handed k.stage k refl))) l
+calling_moved t (Takes i j ms) g l later framed logged =
+    calling_passive t _ (passive_unlinked t i j g.message ms later g.here) l
 calling_moved t (Fails i) g l later framed logged = calling_passive t _ (passive_failing t i later) l
 
-pub read_moved : (t : Traced) (m : Move) → IsMove t m → Lawful t → Later t (moved t m) → Framed (moved t m) → Logged (moved t m) → Calling (moved t m) → Read (moved t m)
-read_moved t (Does i cause a) g l later framed logged calling = read_done t i cause a (step_of_move t i cause a g l later)
-read_moved t (Comes c bytes) g l later framed logged calling = read_passive t _ (passive_reconnected t c _ later (λ k h. at_home t.world (came bytes) k (progress_came bytes k))) l
-read_moved t (Starts c) g l later framed logged calling = read_passive t _ (passive_reconnected t c _ later (λ k h. at_home t.world (λ k. begun k.stage k) k (progress_begun k.stage k refl))) l
-read_moved t (Works c) g l later framed logged calling = read_passive t _ (passive_reconnected t c asked later (works_begun t c g)) l
-read_moved t (Hands c) g l later framed logged calling = read_passive t _ (passive_reconnected t c _ later (λ k h. at_home t.world (λ k. handed k.stage k) k (progress_handed k.stage k refl))) l
-read_moved t (Takes i j ms) g l later framed logged calling = read_passive t _ (passive_unlinked t i j g.message ms later g.here) l
+pub read_moved : (t : Traced) (m : Move)
+    → IsMove t m
+    → Lawful t
+    → Later t (moved t m)
+    → Framed (moved t m)
+    → Logged (moved t m)
+    → Calling (moved t m)
+    → Read (moved t m)
+read_moved t (Does i cause a) g l later framed logged calling =
+    read_done t i cause a (step_of_move t i cause a g l later)
+read_moved t (Comes c bytes) g l later framed logged calling =
+    read_passive t _ (passive_reconnected t c _ later (λ k h. at_home t.world (came bytes) k (progress_came bytes k))) l
+read_moved t (Starts c) g l later framed logged calling =
+    read_passive t _ (passive_reconnected t c _ later
+    (λ k h. at_home t.world (λ k. begun k.stage k) k (progress_begun k.stage k refl))) l
+read_moved t (Works c) g l later framed logged calling =
+    read_passive t _ (passive_reconnected t c asked later (works_begun t c g)) l
+read_moved t (Hands c) g l later framed logged calling =
+    read_passive t _ (passive_reconnected t c _ later
+    (λ k h. at_home t.world (λ k. handed k.stage k) k (progress_handed k.stage k refl))) l
+read_moved t (Takes i j ms) g l later framed logged calling =
+    read_passive t _ (passive_unlinked t i j g.message ms later g.here) l
 read_moved t (Fails i) g l later framed logged calling = read_passive t _ (passive_failing t i later) l
 
 -- ---- at the outset
@@ -134,13 +200,18 @@ read_moved t (Fails i) g l later framed logged calling = read_passive t _ (passi
 none_there : {X : Type 0} (k : ℕ) (x : X) → slice_get [] k ≡ Some x → ⊥
 none_there k x h = absurd cc
 
-never_waits : (n : ℕ) (homes : List ℕ) (c : ℕ) (k : Connection) (reply : Reply) → slice_get (outset n homes).world.connections c ≡ Some k → k.stage ≡ Replied reply → ⊥
+never_waits : (n : ℕ) (homes : List ℕ) (c : ℕ) (k : Connection) (reply : Reply)
+    → slice_get (outset n homes).world.connections c ≡ Some k
+    → k.stage ≡ Replied reply
+    → ⊥
 never_waits n homes c k reply h waits =
     let f = fresh_at homes c k h in
     let never : Idle ≡ Replied reply = sym (ap (λ (k : Connection). k.stage) f.2) ∙ waits in
     absurd cc
 
-never_replied : (n : ℕ) (homes : List ℕ) (x : CallId) (reply : Reply) → reply_to (outset n homes).world x ≡ Some reply → ⊥
+never_replied : (n : ℕ) (homes : List ℕ) (x : CallId) (reply : Reply)
+    → reply_to (outset n homes).world x ≡ Some reply
+    → ⊥
 never_replied n homes x reply h =
     let k = reply_stands (outset n homes).world x reply h in
     let f = fresh_at homes x.connection k.0 k.1 in
@@ -166,4 +237,5 @@ calling_outset n homes =
     }
 
 pub read_outset : (n : ℕ) (homes : List ℕ) → Read (outset n homes)
-read_outset n homes = record { reads = λ k r h. absurd (none_there k r h); once = λ j k r q h f e. absurd (none_there j r h) }
+read_outset n homes =
+    record { reads = λ k r h. absurd (none_there k r h); once = λ j k r q h f e. absurd (none_there j r h) }

@@ -38,13 +38,19 @@ pub record HasRoom (s : ServerState) : Type 0 where
 abbrev pub IsTakenIn : ℕ → Bool → Outcome → Type 0
 IsTakenIn c shows o = IsOpenAt o.state c ⊎ AnswersPort c shows o.outputs
 
-taken_update : (s : ServerState) (port : ℕ) (made : Call) → IsLawful s → IsCall made → is_update made.op ≡ true → HasRoom s → IsTakenIn port false (update s port made)
+taken_update : (s : ServerState) (port : ℕ) (made : Call)
+    → IsLawful s
+    → IsCall made
+    → is_update made.op ≡ true
+    → HasRoom s
+    → IsTakenIn port false (update s port made)
 taken_update s port made h fit is room =
     let u : OpenUpdate = record { id = s.next_id; port = port; call = made } in
     let sound = (good-entered s port made fit is (record { sound = h.sound; settled = h.settled })).sound in
     let kept = open_done None (entered s port made) _
     (rule_called None (entered s port made) (record (nothing_due s) { unsent = u ∷ [] }) s.next_id port made sound
-    (clear_entered s (nothing_due s) port made (u ∷ []) (clear_paid s (nothing_due s) (paid_nothing s h.settled))) fit is (entered_in s port made) refl).done in
+    (clear_entered s (nothing_due s) port made (u ∷ []) (clear_paid s (nothing_due s) (paid_nothing s h.settled))) fit
+    is (entered_in s port made) refl).done in
     let may : is_room_for_update s ≡ true = and_from _ _ (lt-ltb _ _ room.id) (or_right _ _ (lt-ltb _ _ room.number)) in
     rw (updated s port made may) (elim (kept.updates u (entered_in s port made)) [
       | inl waits ↦ inl (inl (u, waits, refl))
@@ -53,14 +59,23 @@ taken_update s port made h fit is room =
 
 taken_dirty : (s : ServerState) (port : ℕ) (key : List ℕ) → HasRoom s → IsTakenIn port true (dirty_read s port key)
 unfolding dirty_read
-taken_dirty s port key room = rw (lt-ltb _ _ room.ask) (inl (inr (record { ask = s.next_ask; port = port; key = key; mark = s.store.acked }, asked_in s port key, refl)))
+taken_dirty s port key room =
+    rw (lt-ltb _ _ room.ask)
+    (inl (inr (
+      record { ask = s.next_ask; port = port; key = key; mark = s.store.acked },
+      asked_in s port key,
+      refl,
+    )))
 
 -- who reads, reads one key
 no_flush : (target : Target) (op : Op) → Suits target op → is_update op ≡ false → target ≡ All → ⊥
 no_flush target Read suits is e = let s : false ≡ true = rw e at suits in cc
 no_flush target op suits is e = absurd cc
 
-taken_read : (s : ServerState) (port : ℕ) (target : Target) → (target ≡ All → ⊥) → HasRoom s → IsTakenIn port true (read_of s port target)
+taken_read : (s : ServerState) (port : ℕ) (target : Target)
+    → (target ≡ All → ⊥)
+    → HasRoom s
+    → IsTakenIn port true (read_of s port target)
 taken_read s port All other room = absurd (other refl)
 taken_read s port (One key) other room = cond_both (is_clean s.store key) _ _ (λ (o : Outcome). IsTakenIn port true o)
     (λ t. inr (Value (value_at s.store key (last_number s.store)), (0, refl), refl))
@@ -71,11 +86,17 @@ unfolding trimmed
 trimmed_open s c h = h
 
 -- so it is behind the step
-pub call_opened : (s : ServerState) (port : ℕ) (made : Call) → IsLawful s → IsCall made → HasRoom s → IsTakenIn port (not (is_update made.op)) (step s (Called port made))
+pub call_opened : (s : ServerState) (port : ℕ) (made : Call)
+    → IsLawful s
+    → IsCall made
+    → HasRoom s
+    → IsTakenIn port (not (is_update made.op)) (step s (Called port made))
 call_opened s port made h fit room =
-    elim (cond_both (is_update made.op) (update s port made) (read_of s port made.target) (λ (o : Outcome). IsTakenIn port (not (is_update made.op)) o)
+    elim (cond_both (is_update made.op) (update s port made) (read_of s port made.target)
+    (λ (o : Outcome). IsTakenIn port (not (is_update made.op)) o)
     (λ t. subst (λ b. IsTakenIn port (not b) (update s port made)) (sym t) (taken_update s port made h fit t room))
-    (λ f. subst (λ b. IsTakenIn port (not b) (read_of s port made.target)) (sym f) (taken_read s port made.target (no_flush made.target made.op fit.1 f) room))) [
+    (λ f. subst (λ b. IsTakenIn port (not b) (read_of s port made.target)) (sym f)
+    (taken_read s port made.target (no_flush made.target made.op fit.1 f) room))) [
       | inl waits ↦ inl (trimmed_open _ port waits)
       | inr x ↦ inr x
     ]

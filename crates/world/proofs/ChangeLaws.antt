@@ -11,48 +11,59 @@ use Rattle.world.proofs.Traces.{Traced, log, issued_by, count, last_living, reco
 
 -- ---- a connection changes
 
-pub count_reconnected : (t : Traced) (c : ℕ) (change : Connection → Connection) → count (reconnected t c change) ≡ count t
+pub count_reconnected : (t : Traced) (c : ℕ) (change : Connection → Connection)
+    → count (reconnected t c change) ≡ count t
 unfolding reconnected with_connection
 count_reconnected t c change = refl
 
-pub failed_reconnected : (t : Traced) (c : ℕ) (change : Connection → Connection) → (reconnected t c change).world.failed ≡ t.world.failed
+pub failed_reconnected : (t : Traced) (c : ℕ) (change : Connection → Connection)
+    → (reconnected t c change).world.failed ≡ t.world.failed
 unfolding reconnected with_connection
 failed_reconnected t c change = refl
 
-pub lives_reconnected : (t : Traced) (c : ℕ) (change : Connection → Connection) (k : ℕ) → lives (reconnected t c change).world k ≡ lives t.world k
+pub lives_reconnected : (t : Traced) (c : ℕ) (change : Connection → Connection) (k : ℕ)
+    → lives (reconnected t c change).world k ≡ lives t.world k
 unfolding reconnected with_connection
 lives_reconnected t c change k = refl
 
-pub server_reconnected : (t : Traced) (c : ℕ) (change : Connection → Connection) (k : ℕ) → server (reconnected t c change).world k ≡ server t.world k
+pub server_reconnected : (t : Traced) (c : ℕ) (change : Connection → Connection) (k : ℕ)
+    → server (reconnected t c change).world k ≡ server t.world k
 unfolding reconnected with_connection server
 server_reconnected t c change k = refl
 
-pub link_reconnected : (t : Traced) (c : ℕ) (change : Connection → Connection) (x y : ℕ) → link (reconnected t c change).world x y ≡ link t.world x y
+pub link_reconnected : (t : Traced) (c : ℕ) (change : Connection → Connection) (x y : ℕ)
+    → link (reconnected t c change).world x y ≡ link t.world x y
 unfolding reconnected with_connection link
 link_reconnected t c change x y = refl
 
-pub log_reconnected : (t : Traced) (c : ℕ) (change : Connection → Connection) (k : ℕ) → log (reconnected t c change) k ≡ log t k
+pub log_reconnected : (t : Traced) (c : ℕ) (change : Connection → Connection) (k : ℕ)
+    → log (reconnected t c change) k ≡ log t k
 unfolding reconnected with_connection log
 log_reconnected t c change k = refl
 
-pub issued_reconnected : (t : Traced) (c : ℕ) (change : Connection → Connection) (k : ℕ) → issued_by (reconnected t c change) k ≡ issued_by t k
+pub issued_reconnected : (t : Traced) (c : ℕ) (change : Connection → Connection) (k : ℕ)
+    → issued_by (reconnected t c change) k ≡ issued_by t k
 unfolding reconnected with_connection issued_by
 issued_reconnected t c change k = refl
 
-pub reads_reconnected : (t : Traced) (c : ℕ) (change : Connection → Connection) → (reconnected t c change).reads ≡ t.reads
+pub reads_reconnected : (t : Traced) (c : ℕ) (change : Connection → Connection)
+    → (reconnected t c change).reads ≡ t.reads
 unfolding reconnected with_connection
 reads_reconnected t c change = refl
 
-pub committed_reconnected : (t : Traced) (c : ℕ) (change : Connection → Connection) → (reconnected t c change).committed ≡ t.committed
+pub committed_reconnected : (t : Traced) (c : ℕ) (change : Connection → Connection)
+    → (reconnected t c change).committed ≡ t.committed
 unfolding reconnected with_connection
 committed_reconnected t c change = refl
 
-pub connection_reconnected : (t : Traced) (c : ℕ) (change : Connection → Connection) (d : ℕ) (k : Connection) → slice_get t.world.connections d ≡ Some k
+pub connection_reconnected : (t : Traced) (c : ℕ) (change : Connection → Connection) (d : ℕ) (k : Connection)
+    → slice_get t.world.connections d ≡ Some k
     → (k' : Connection) × (slice_get (reconnected t c change).world.connections d ≡ Some k') × Changes c change d k k'
 unfolding reconnected with_connection
 connection_reconnected t c change d k h = changed_one t.world.connections c change d k h
 
-pub connection_unchanged : (t : Traced) (c : ℕ) (change : Connection → Connection) (d : ℕ) (k' : Connection) → slice_get (reconnected t c change).world.connections d ≡ Some k'
+pub connection_unchanged : (t : Traced) (c : ℕ) (change : Connection → Connection) (d : ℕ) (k' : Connection)
+    → slice_get (reconnected t c change).world.connections d ≡ Some k'
     → (k : Connection) × (slice_get t.world.connections d ≡ Some k) × Changes c change d k k'
 unfolding reconnected with_connection
 connection_unchanged t c change d k' h = unchanged_one t.world.connections c change d k' h
@@ -67,15 +78,21 @@ pub failed_unlinked : (t : Traced) (i j : ℕ) (ms : List Peer) → (unlinked t 
 unfolding unlinked with_link
 failed_unlinked t i j ms = refl
 
-pub lives_unlinked : (t : Traced) (i j : ℕ) (ms : List Peer) (k : ℕ) → lives (unlinked t i j ms).world k ≡ lives t.world k
+pub lives_unlinked : (t : Traced) (i j : ℕ) (ms : List Peer) (k : ℕ)
+    → lives (unlinked t i j ms).world k ≡ lives t.world k
 unfolding unlinked with_link
 lives_unlinked t i j ms k = refl
 
-pub server_unlinked : (t : Traced) (i j : ℕ) (ms : List Peer) (k : ℕ) → server (unlinked t i j ms).world k ≡ server t.world k
+pub server_unlinked : (t : Traced) (i j : ℕ) (ms : List Peer) (k : ℕ)
+    → server (unlinked t i j ms).world k ≡ server t.world k
 unfolding unlinked with_link server
 server_unlinked t i j ms k = refl
 
-pub link_unlinked : (t : Traced) (i j : ℕ) (m : Peer) (ms : List Peer) → link t.world i j ≡ m ∷ ms → (x y : ℕ) (n : Peer) → In n (link (unlinked t i j ms).world x y) → In n (link t.world x y)
+pub link_unlinked : (t : Traced) (i j : ℕ) (m : Peer) (ms : List Peer)
+    → link t.world i j ≡ m ∷ ms
+    → (x y : ℕ) (n : Peer)
+    → In n (link (unlinked t i j ms).world x y)
+    → In n (link t.world x y)
 unfolding unlinked
 link_unlinked t i j m ms e x y n h =
     elim (link_cases t.world i j x y ms) [
@@ -99,7 +116,8 @@ pub committed_unlinked : (t : Traced) (i j : ℕ) (ms : List Peer) → (unlinked
 unfolding unlinked with_link
 committed_unlinked t i j ms = refl
 
-pub connections_unlinked : (t : Traced) (i j : ℕ) (ms : List Peer) → (unlinked t i j ms).world.connections ≡ t.world.connections
+pub connections_unlinked : (t : Traced) (i j : ℕ) (ms : List Peer)
+    → (unlinked t i j ms).world.connections ≡ t.world.connections
 unfolding unlinked with_link
 connections_unlinked t i j ms = refl
 
@@ -137,10 +155,14 @@ pub connections_failing : (t : Traced) (i : ℕ) → (failing t i).world.connect
 unfolding failing
 connections_failing t i = refl
 
-pub committed_failing : (t : Traced) (i k : ℕ) → last_living (failing t i).world ≡ Some k → (failing t i).committed ≡ log t k
+pub committed_failing : (t : Traced) (i k : ℕ)
+    → last_living (failing t i).world ≡ Some k
+    → (failing t i).committed ≡ log t k
 unfolding failing log
 committed_failing t i k h = rw h refl
 
-pub committed_left : (t : Traced) (i : ℕ) → last_living (failing t i).world ≡ None → (failing t i).committed ≡ t.committed
+pub committed_left : (t : Traced) (i : ℕ)
+    → last_living (failing t i).world ≡ None
+    → (failing t i).committed ≡ t.committed
 unfolding failing
 committed_left t i h = rw h refl

@@ -29,7 +29,9 @@ entries-own es e =
     entries-joined e.origin es (e ∷ []) ∙ ap (λ n. entries_of e.origin es + n) (entries-one e.origin e ∙ rw same refl)
 
 -- none more of another
-pub entries-other : (o : ℕ) (es : List LogEntry) (e : LogEntry) → e.origin ≢ o → entries_of o (es ++ e ∷ []) ≡ entries_of o es
+pub entries-other : (o : ℕ) (es : List LogEntry) (e : LogEntry)
+    → e.origin ≢ o
+    → entries_of o (es ++ e ∷ []) ≡ entries_of o es
 entries-other o es e other =
     let apart : (e.origin == o) ≡ false = grind (arith, nat_tests) in
     let none : entries_of o (e ∷ []) ≡ 0 = entries-one o e ∙ rw apart refl in

@@ -1,5 +1,6 @@
 -- A server of the chain lives exactly where no event has failed it.
-use Rattle.std.proofs.Common.{◌≡◌, ℕ, Bool, true, false, not, ◌&&◌, ◌||◌, List, [], ◌∷◌, length, Option, Some, None, refl, ap, ◌∙◌, arith, inl, inr, length-set, eq-eqb}
+use Rattle.std.proofs.Common.{◌≡◌, ℕ, Bool, true, false, not, ◌&&◌, ◌||◌, List, [], ◌∷◌, length, Option, Some, None}
+use Rattle.std.proofs.Common.{refl, ap, ◌∙◌, arith, inl, inr, length-set, eq-eqb}
 use Rattle.std.specs.Prelude.{slice_get, nat_lt, ◌==◌}
 use Rattle.std.proofs.lemmas.Bool.{cond_both, cases_eq}
 use Rattle.std.proofs.lemmas.Bool.Decides.{nat_tests}
@@ -13,7 +14,8 @@ use Rattle.node.specs.Steps.{step}
 use Rattle.world.specs.declared.events.Event.{Event}
 use Rattle.world.specs.declared.events.Event.TheVariants.{Piece, Begin, Work, Deliver, Fail, Tell, Hand}
 use Rattle.world.specs.Connections.{Connection, asked, to_work}
-use Rattle.world.specs.Worlds.{World, server, link, with_server, with_link, with_connection, lives, has_failed, takes, sent_in, worked, delivered, happens, run_from, run_of, opening_world}
+use Rattle.world.specs.Worlds.{World, server, link, with_server, with_link, with_connection, lives, has_failed, takes}
+use Rattle.world.specs.Worlds.{sent_in, worked, delivered, happens, run_from, run_of, opening_world}
 use Rattle.world.specs.Failures.{is_failure, is_failed_by}
 use Rattle.world.proofs.WorldLaws.{servers-put_all, failed-put_all}
 use Rattle.world.proofs.IdLaws.{has-union, has-single_other, nowhere}
@@ -31,7 +33,8 @@ unfolding with_server
 alike_takes w i input =
     let outcome = step (server w i) input in
     let u = with_server w i outcome.state in
-    alike w (takes w i input) (ap (λ ss. length ss) (servers-put_all u i outcome.outputs) ∙ length-set w.servers i outcome.state)
+    alike w (takes w i input)
+    (ap (λ ss. length ss) (servers-put_all u i outcome.outputs) ∙ length-set w.servers i outcome.state)
     (failed-put_all u i outcome.outputs)
 
 alike_sent_in : (w : World) (c home : ℕ) (o : Option Call) → Alike w (sent_in w c home o)
@@ -54,7 +57,8 @@ alike_delivered w a b (m ∷ ms) i =
 
 alike_told : (w : World) (a b : ℕ) → Alike w (happens w (Tell a b))
 alike_told w a b i =
-    cond_both (lives w a && has_failed w b) (takes w a (Gone b)) w (λ v. lives v i ≡ lives w i) (λ t. alike_takes w a (Gone b) i) (λ t. refl)
+    cond_both (lives w a && has_failed w b) (takes w a (Gone b)) w (λ v. lives v i ≡ lives w i)
+    (λ t. alike_takes w a (Gone b) i) (λ t. refl)
 
 and_true : (b : Bool) → b ≡ (b && not false)
 and_true true = refl
@@ -65,13 +69,16 @@ unfolding has single
 names_itself j = rw (bit_at-pow_same j) refl
 
 -- a failure
-failing : (w : World) (j i : ℕ) → lives (record w { failed = union w.failed (single j) }) i ≡ (lives w i && not (i == j))
+failing : (w : World) (j i : ℕ)
+    → lives (record w { failed = union w.failed (single j) }) i ≡ (lives w i && not (i == j))
 failing w j i =
     elim (cases_eq i j) [
-      | inl same ↦ rw (has-union w.failed (single j) i, same, names_itself j, eq-eqb j j refl) (none_left (nat_lt j (length w.servers)) (has w.failed j))
+      | inl same ↦ rw (has-union w.failed (single j) i, same, names_itself j, eq-eqb j j refl)
+          (none_left (nat_lt j (length w.servers)) (has w.failed j))
       | inr other ↦
           let apart : (i == j) ≡ false = grind (arith, nat_tests) in
-          rw (has-union w.failed (single j) i, has-single_other j i other, apart) (same_left (nat_lt i (length w.servers)) (has w.failed i))
+          rw (has-union w.failed (single j) i, has-single_other j i other, apart)
+          (same_left (nat_lt i (length w.servers)) (has w.failed i))
     ]
   where
     none_left : (a b : Bool) → (a && not (b || true)) ≡ ((a && not b) && not true)
@@ -98,7 +105,8 @@ lives_after w (Begin c) i = and_true (lives w i)
 lives_after w (Work c) i = alike_worked w c (slice_get w.connections c) i ∙ and_true (lives w i)
 lives_after w (Deliver a b) i = alike_delivered w a b (link w a b) i ∙ and_true (lives w i)
 lives_after w (Fail j) i =
-    cond_both (lives w j) (record w { failed = union w.failed (single j) }) w (λ v. lives v i ≡ (lives w i && not (i == j)))
+    cond_both (lives w j) (record w { failed = union w.failed (single j) }) w
+    (λ v. lives v i ≡ (lives w i && not (i == j)))
     (λ t. failing w j i) (λ dead. failed_before w j i dead)
 lives_after w (Tell a b) i = alike_told w a b i ∙ and_true (lives w i)
 lives_after w (Hand c) i = and_true (lives w i)

@@ -1,5 +1,6 @@
 -- A call that a session hands out fits, and suits its target.
-use Rattle.std.proofs.Common.{◌≡◌, ℕ, ◌+◌, ◌-◌, ◌≤◌, Bool, true, false, List, [], ◌∷◌, length, take, drop, Option, Some, None, refl, arith}
+use Rattle.std.proofs.Common.{◌≡◌, ℕ, ◌+◌, ◌-◌, ◌≤◌, Bool, true, false, List, [], ◌∷◌, length, take, drop, Option, Some}
+use Rattle.std.proofs.Common.{None, refl, arith}
 use Rattle.std.specs.Prelude.{nat_lt, nat_le, ◌==◌, ◌&&◌, slice_index}
 use Rattle.std.specs.List.{slice_range}
 use Rattle.std.specs.Str.{bytes_eq}
@@ -12,7 +13,8 @@ use Rattle.table.specs.declared.operations.Call.{Call}
 use Rattle.table.specs.declared.operations.Op.TheVariants as ops
 use Rattle.proto.specs.Words.{cr, crlf, line_limit, first_lf, fields_of}
 use Rattle.proto.specs.Keys.{key_of}
-use Rattle.proto.specs.Requests.{word_of, silence_of, storage_line, counter_line, fate_of, block_of, asked_of, or_misfit, by_word, by_fields, by_line, by_end, asked_at}
+use Rattle.proto.specs.Requests.{word_of, silence_of, storage_line, counter_line, fate_of, block_of, asked_of}
+use Rattle.proto.specs.Requests.{or_misfit, by_word, by_fields, by_line, by_end, asked_at}
 use Rattle.proto.specs.Verbs.{op_of}
 use Rattle.proto.specs.Fronts.{finished, completed, by_asked, front, refused_at, found_of, found_at}
 use Rattle.proto.specs.declared.requests.Fault.TheVariants.{Command}
@@ -65,12 +67,14 @@ fate_safe key line =
     cond_both (nat_lt limit line.size) _ _ (λ fate. IsSafeFate fate line.size) (λ t. tt) (λ f.
     cond_both line.expires _ _ (λ fate. IsSafeFate fate line.size) (λ t. tt) (λ g. ltb-false limit line.size f))
 
-store_safe : (o : Option StorageLine) (k : Option (List ℕ)) → IfSafe (option_map Behind (option_and_then (λ line. option_and_then (λ key. Some (block_of key line)) k) o))
+store_safe : (o : Option StorageLine) (k : Option (List ℕ))
+    → IfSafe (option_map Behind (option_and_then (λ line. option_and_then (λ key. Some (block_of key line)) k) o))
 store_safe None k = tt
 store_safe (Some line) None = tt
 store_safe (Some line) (Some key) = fate_safe key line
 
-get_safe : (unique : Bool) (o : Option (List (List ℕ))) → IfSafe (option_map Whole (option_map (λ keys. Get keys unique) o))
+get_safe : (unique : Bool) (o : Option (List (List ℕ)))
+    → IfSafe (option_map Whole (option_map (λ keys. Get keys unique) o))
 get_safe unique None = tt
 get_safe unique (Some keys) = tt
 
@@ -78,15 +82,18 @@ flush_safe : (o : Option Bool) → IfSafe (option_map Whole (option_map Flush o)
 flush_safe None = tt
 flush_safe (Some silent) = tt
 
-incr_safe : (o : Option CounterLine) → IfSafe (option_map (λ line. Whole (Arith line.key (ops.Incr line.amount) line.silent)) o)
+incr_safe : (o : Option CounterLine)
+    → IfSafe (option_map (λ line. Whole (Arith line.key (ops.Incr line.amount) line.silent)) o)
 incr_safe None = tt
 incr_safe (Some line) = (tt, refl)
 
-decr_safe : (o : Option CounterLine) → IfSafe (option_map (λ line. Whole (Arith line.key (ops.Decr line.amount) line.silent)) o)
+decr_safe : (o : Option CounterLine)
+    → IfSafe (option_map (λ line. Whole (Arith line.key (ops.Decr line.amount) line.silent)) o)
 decr_safe None = tt
 decr_safe (Some line) = (tt, refl)
 
-delete_safe : (o : Option Bool) (k : Option (List ℕ)) → IfSafe (option_map Whole (option_and_then (λ silent. option_and_then (λ key. Some (Delete key silent)) k) o))
+delete_safe : (o : Option Bool) (k : Option (List ℕ))
+    → IfSafe (option_map Whole (option_and_then (λ silent. option_and_then (λ key. Some (Delete key silent)) k) o))
 delete_safe None k = tt
 delete_safe (Some silent) None = tt
 delete_safe (Some silent) (Some key) = tt
@@ -119,7 +126,8 @@ fields_safe (field ∷ fields) = word_safe (word_of field) fields
 line_safe : (line : List ℕ) → IsSafe (by_line line)
 line_safe line =
     let fields = fields_of (take (length line - 1) line) in
-    cond_both (nat_le 1 (length line) && slice_index line (length line - 1) == cr) (by_fields fields) (Whole (Bad Command)) (λ asked. IsSafe asked) (λ t. fields_safe fields) (λ f. tt)
+    cond_both (nat_le 1 (length line) && slice_index line (length line - 1) == cr) (by_fields fields)
+    (Whole (Bad Command)) (λ asked. IsSafe asked) (λ t. fields_safe fields) (λ f. tt)
 
 abbrev pub IsSafeLine : Option (Asked × ℕ) → Type 0
 IsSafeLine None = Unit {0}
@@ -131,7 +139,9 @@ end_safe most bytes (Some i) = line_safe (take i bytes)
 
 -- ---- what stands at the front
 
-op_fits : (verb : Verb) (block : List ℕ) → length block ≤ limit → Fits (op_of verb block) × (is_flush (op_of verb block) ≡ false)
+op_fits : (verb : Verb) (block : List ℕ)
+    → length block ≤ limit
+    → Fits (op_of verb block) × (is_flush (op_of verb block) ≡ false)
 op_fits (verbs.Set flags) block h = (h, refl)
 op_fits (verbs.Add flags) block h = (h, refl)
 op_fits (verbs.Replace flags) block h = (h, refl)
@@ -139,9 +149,14 @@ op_fits verbs.Append block h = (h, refl)
 op_fits verbs.Prepend block h = (h, refl)
 op_fits (verbs.Cas flags unique) block h = (h, refl)
 
-finished_safe : (fate : Fate) (size : ℕ) (block ends : List ℕ) → IsSafeFate fate size → length block ≤ size → IsSafeRequest (finished fate block ends)
+finished_safe : (fate : Fate) (size : ℕ) (block ends : List ℕ)
+    → IsSafeFate fate size
+    → length block ≤ size
+    → IsSafeRequest (finished fate block ends)
 finished_safe (Refuse fault) size block ends h l = tt
-finished_safe (Put key verb silent) size block ends h l = cond_both (bytes_eq ends crlf) _ _ (λ request. IsSafeRequest request) (λ t. op_fits verb block (omega arith)) (λ f. tt)
+finished_safe (Put key verb silent) size block ends h l =
+    cond_both (bytes_eq ends crlf) _ _ (λ request. IsSafeRequest request)
+    (λ t. op_fits verb block (omega arith)) (λ f. tt)
 
 abbrev pub IsSafeFront : Option (Request × ℕ) → Type 0
 IsSafeFront None = Unit {0}
@@ -199,7 +214,8 @@ found_fits (Refused passing) h s = tt
 found_fits Nothing h s = tt
 
 passing_fits : (passing : Option Passing) (h : Held) → HasCall (by_passing passing h)
-passing_fits None h = found_fits (found_at h.unread) h (found_safe (front h.unread) (refused_at h.unread) (front_safe h.unread))
+passing_fits None h =
+    found_fits (found_at h.unread) h (found_safe (front h.unread) (refused_at h.unread) (front_safe h.unread))
 passing_fits (Some p) h = cond_both (p.left == 0) _ _ (λ given. HasCall given) (λ t. tt) (λ f. tt)
 
 later_fits : (keys : List (List ℕ)) (h : Held) → HasCall (by_later keys h)

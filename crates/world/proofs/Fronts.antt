@@ -13,7 +13,11 @@ found_below (x ∷ xs) zero h = (x, refl)
 found_below (x ∷ xs) (suc k) h = found_below xs k (omega arith)
 
 -- what stands in the longer list below the end of the shorter stands there too
-pub begins_back : {X : Type 0} (xs ys : List X) (k : ℕ) (y : X) → Begins xs ys → slice_get ys k ≡ Some y → k < length xs → slice_get xs k ≡ Some y
+pub begins_back : {X : Type 0} (xs ys : List X) (k : ℕ) (y : X)
+    → Begins xs ys
+    → slice_get ys k ≡ Some y
+    → k < length xs
+    → slice_get xs k ≡ Some y
 begins_back xs ys k y b h l =
     let f = found_below xs k l in
     let e : y ≡ f.0 = same_Some y f.0 (sym h ∙ b k f.0 f.1) in

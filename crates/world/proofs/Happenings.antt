@@ -1,5 +1,6 @@
 -- Each event is made of moves: behind it stands a traced world whose world is the event's.
-use Rattle.std.proofs.Common.{◌≡◌, ◌≢◌, ℕ, ◌<◌, true, List, [], ◌∷◌, length, Option, Some, None, refl, inl, inr, sym, ap, ◌∙◌, subst}
+use Rattle.std.proofs.Common.{◌≡◌, ◌≢◌, ℕ, ◌<◌, true, List, [], ◌∷◌, length, Option, Some, None, refl, inl, inr, sym}
+use Rattle.std.proofs.Common.{ap, ◌∙◌, subst}
 use Rattle.std.specs.Prelude.{slice_get, nat_lt, ◌&&◌}
 use Rattle.std.proofs.lemmas.Bool.{and_parts, cases_eq, cond_both, ltb-true}
 use Rattle.std.proofs.lemmas.List.{length-set}
@@ -17,7 +18,8 @@ use Rattle.world.specs.declared.events.Event.TheVariants.{Piece, Begin, Work, De
 use Rattle.world.specs.declared.connections.Stage.{Stage}
 use Rattle.world.specs.declared.connections.Stage.TheVariants.{Idle, Begun, Asked, Replied}
 use Rattle.world.specs.Connections.{Connection, open_call, to_work, asked}
-use Rattle.world.specs.Worlds.{World, server, link, lives, has_failed, with_server, with_link, with_connection, acted, takes, sent_in, worked, delivered, happens}
+use Rattle.world.specs.Worlds.{World, server, link, lives, has_failed, with_server, with_link, with_connection, acted}
+use Rattle.world.specs.Worlds.{takes, sent_in, worked, delivered, happens}
 use Rattle.world.proofs.Traces.{Traced, all_done, reconnected, unlinked, failing}
 use Rattle.world.proofs.Layers.{Lawful, IsKnown}
 use Rattle.world.proofs.IdLaws.{living_parts}
@@ -25,7 +27,8 @@ use Rattle.world.proofs.WorldLaws.{server_same, server_apart, servers-put_all, s
 use Rattle.world.proofs.ChangeLaws.{lives_reconnected, lives_unlinked}
 use Rattle.world.proofs.WholeSteps.{world_of_all}
 use Rattle.world.proofs.KnownInputs.{known_taken, known_called}
-use Rattle.world.proofs.Moves.{Move, Comes, Starts, Works, Hands, Takes, Fails, moved, CanWork, CanTake, IsMove, Memory, IsOf, Recalls}
+use Rattle.world.proofs.Moves.{Move, Comes, Starts, Works, Hands, Takes, Fails, moved, CanWork, CanTake, IsMove, Memory}
+use Rattle.world.proofs.Moves.{IsOf, Recalls}
 use Rattle.world.proofs.Goings.{Laws, GoesOn, Goes, stays, later_by, lawful_by, goes_first, goes_all}
 
 -- each server is lawful, as it is between steps
@@ -54,16 +57,24 @@ server-acted : (w : World) (i : ℕ) (a : Outcome) → i < length w.servers → 
 server-acted w i a l = server-put_all (with_server w i a.state) i a.outputs i ∙ server_same w i a.state l
 
 server-acted_other : (w : World) (i k : ℕ) (a : Outcome) → k ≢ i → server (acted w i a) k ≡ server w k
-server-acted_other w i k a other = server-put_all (with_server w i a.state) i a.outputs k ∙ server_apart w i k a.state other
+server-acted_other w i k a other =
+    server-put_all (with_server w i a.state) i a.outputs k ∙ server_apart w i k a.state other
 
 count-acted : (w : World) (i : ℕ) (a : Outcome) → length (acted w i a).servers ≡ length w.servers
 unfolding with_server
-count-acted w i a = ap (λ (ss : List ServerState). length ss) (servers-put_all (with_server w i a.state) i a.outputs) ∙ length-set w.servers i a.state
+count-acted w i a = ap (λ (ss : List ServerState). length ss) (servers-put_all (with_server w i a.state) i a.outputs)
+    ∙ length-set w.servers i a.state
 
-all_taken : (w : World) (i : ℕ) (input : Input) → i < length w.servers → IsInput input × HoldsEntry input → AllLawful w → length (takes w i input).servers ≡ length w.servers → AllLawful (takes w i input)
+all_taken : (w : World) (i : ℕ) (input : Input)
+    → i < length w.servers
+    → IsInput input × HoldsEntry input
+    → AllLawful w
+    → length (takes w i input).servers ≡ length w.servers
+    → AllLawful (takes w i input)
 all_taken w i input l fit all same k low =
     elim (cases_eq k i) [
-      | inl is ↦ rw (is, server-acted w i (step (server w i) input) l) (lawful-step (server w i) input fit.0 fit.1 (all i l))
+      | inl is ↦ rw (is, server-acted w i (step (server w i) input) l)
+          (lawful-step (server w i) input fit.0 fit.1 (all i l))
       | inr other ↦ rw (server-acted_other w i k (step (server w i) input) other) (all k (rw same at low))
     ]
 
@@ -74,7 +85,13 @@ record Took (t : Traced) (i : ℕ) (input : Input) : Type 0 where
   world : after.world ≡ takes t.world i input
   all : AllLawful (takes t.world i input)
 
-took : Laws → (t : Traced) (i : ℕ) (input : Input) → Lawful t → AllLawful t.world → lives t.world i ≡ true → IsKnown t i (Some input) → Took t i input
+took : Laws
+    → (t : Traced) (i : ℕ) (input : Input)
+    → Lawful t
+    → AllLawful t.world
+    → lives t.world i ≡ true
+    → IsKnown t i (Some input)
+    → Took t i input
 took laws t i input l all living known =
     let low = (living_parts t.world i living).0 in
     let fit = fits_known t i input known in
@@ -89,7 +106,9 @@ took laws t i input l all living known =
 
 -- ---- connections
 
-all_reconnected : (t : Traced) (c : ℕ) (change : Connection → Connection) → AllLawful t.world → AllLawful (reconnected t c change).world
+all_reconnected : (t : Traced) (c : ℕ) (change : Connection → Connection)
+    → AllLawful t.world
+    → AllLawful (reconnected t c change).world
 unfolding reconnected with_connection server
 all_reconnected t c change all = all
 
@@ -101,28 +120,62 @@ all_failing : (t : Traced) (i : ℕ) → AllLawful t.world → AllLawful (failin
 unfolding failing server
 all_failing t i all = all
 
-changes : Laws → (t : Traced) (m : Move) → IsMove t m → ((before : Memory) → Recalls before m) → Lawful t → AllLawful (moved t m).world → Reaches t (moved t m).world
-changes laws t m g r l all = record { after = moved t m; goes = λ before. goes_first laws before t m g (r before) l (moved t m) (stays (moved t m) (lawful_by laws t m g l) _); world = refl; all = all }
+changes : Laws
+    → (t : Traced) (m : Move)
+    → IsMove t m
+    → ((before : Memory) → Recalls before m)
+    → Lawful t
+    → AllLawful (moved t m).world
+    → Reaches t (moved t m).world
+changes laws t m g r l all =
+    record {
+      after = moved t m;
+      goes = λ before. goes_first laws before t m g (r before) l (moved t m)
+          (stays (moved t m) (lawful_by laws t m g l) _);
+      world = refl;
+      all = all;
+    }
 
-world_reconnected : (t : Traced) (c : ℕ) (change : Connection → Connection) → (reconnected t c change).world ≡ with_connection t.world c change
+world_reconnected : (t : Traced) (c : ℕ) (change : Connection → Connection)
+    → (reconnected t c change).world ≡ with_connection t.world c change
 unfolding reconnected
 world_reconnected t c change = refl
 
-works : Laws → (t : Traced) (c : ℕ) (k : Connection) → Lawful t → AllLawful t.world → slice_get t.world.connections c ≡ Some k → lives t.world k.home ≡ true
-    → (stage : Stage) (o : Option Call) → k.stage ≡ stage → open_call k ≡ o → Reaches t (sent_in t.world c k.home (to_work stage k))
+works : Laws
+    → (t : Traced) (c : ℕ) (k : Connection)
+    → Lawful t
+    → AllLawful t.world
+    → slice_get t.world.connections c ≡ Some k
+    → lives t.world k.home ≡ true
+    → (stage : Stage) (o : Option Call)
+    → k.stage ≡ stage
+    → open_call k ≡ o
+    → Reaches t (sent_in t.world c k.home (to_work stage k))
 works laws t c k l all here living Idle o s e = reached t l all
 works laws t c k l all here living Begun None s e = rw e (reached t l all)
 works laws t c k l all here living Begun (Some call) s e =
     let g : CanWork t c = record { connection = k; call = call; here = here; lives = living; stage = s; called = e } in
     let u = reconnected t c asked in
-    let r = took laws u k.home (Called c call) (lawful_by laws t (Works c) g l) (all_reconnected t c asked all) (lives_reconnected t c asked k.home ∙ living) (known_called t c g l) in
+    let r = took laws u k.home (Called c call) (lawful_by laws t (Works c) g l) (all_reconnected t c asked all)
+    (lives_reconnected t c asked k.home ∙ living) (known_called t c g l) in
     let whole : Reaches t (takes u.world k.home (Called c call)) =
-    record { after = r.after; goes = λ before. goes_first laws before t (Works c) g tt l r.after (r.goes before tt); world = r.world; all = r.all } in
+    record {
+      after = r.after;
+      goes = λ before. goes_first laws before t (Works c) g tt l r.after (r.goes before tt);
+      world = r.world;
+      all = r.all;
+    } in
     rw e (subst (λ w. Reaches t (takes w k.home (Called c call))) (world_reconnected t c asked) whole)
 works laws t c k l all here living Asked o s e = reached t l all
 works laws t c k l all here living (Replied reply) o s e = reached t l all
 
-worked_at : Laws → (t : Traced) (c : ℕ) → Lawful t → AllLawful t.world → (o : Option Connection) → slice_get t.world.connections c ≡ o → Reaches t (worked t.world c o)
+worked_at : Laws
+    → (t : Traced) (c : ℕ)
+    → Lawful t
+    → AllLawful t.world
+    → (o : Option Connection)
+    → slice_get t.world.connections c ≡ o
+    → Reaches t (worked t.world c o)
 worked_at laws t c l all None e = reached t l all
 worked_at laws t c l all (Some k) e =
     cond_both (lives t.world k.home) (sent_in t.world c k.home (to_work k.stage k)) t.world (λ w. Reaches t w)
@@ -135,7 +188,13 @@ world_unlinked : (t : Traced) (i j : ℕ) (ms : List Peer) → (unlinked t i j m
 unfolding unlinked
 world_unlinked t i j ms = refl
 
-delivers : Laws → (t : Traced) (i j : ℕ) → Lawful t → AllLawful t.world → (ms : List Peer) → link t.world i j ≡ ms → Reaches t (delivered t.world i j ms)
+delivers : Laws
+    → (t : Traced) (i j : ℕ)
+    → Lawful t
+    → AllLawful t.world
+    → (ms : List Peer)
+    → link t.world i j ≡ ms
+    → Reaches t (delivered t.world i j ms)
 delivers laws t i j l all [] e = reached t l all
 delivers laws t i j l all (m ∷ ms) e =
     cond_both (lives t.world j) (takes (with_link t.world i j ms) j (From i m)) t.world (λ w. Reaches t w)
@@ -143,9 +202,16 @@ delivers laws t i j l all (m ∷ ms) e =
     let g : CanTake t i j ms = record { message = m; here = e; lives = living } in
     let later = later_by laws t (Takes i j ms) g l in
     let u = unlinked t i j ms in
-    let r = took laws u j (From i m) (lawful_by laws t (Takes i j ms) g l) (all_unlinked t i j ms all) (lives_unlinked t i j ms j ∙ living) (known_taken t i j ms g l later) in
+    let r = took laws u j (From i m) (lawful_by laws t (Takes i j ms) g l) (all_unlinked t i j ms all)
+    (lives_unlinked t i j ms j ∙ living) (known_taken t i j ms g l later) in
     let whole : Reaches t (takes u.world j (From i m)) =
-    record { after = r.after; goes = λ before. goes_first laws before t (Takes i j ms) g tt l r.after (r.goes (Some (record { from = i; to = j; message = m })) refl); world = r.world; all = r.all } in
+    record {
+      after = r.after;
+      goes = λ before. goes_first laws before t (Takes i j ms) g tt l r.after
+          (r.goes (Some (record { from = i; to = j; message = m })) refl);
+      world = r.world;
+      all = r.all;
+    } in
     subst (λ w. Reaches t (takes w j (From i m))) (world_unlinked t i j ms) whole)
     (λ failed. reached t l all)
 
@@ -156,7 +222,8 @@ world_failing t i = refl
 fails : Laws → (t : Traced) (i : ℕ) → Lawful t → AllLawful t.world → Reaches t (happens t.world (Fail i))
 fails laws t i l all =
     cond_both (lives t.world i) (record t.world { failed = union t.world.failed (single i) }) t.world (λ w. Reaches t w)
-    (λ living. subst (λ w. Reaches t w) (world_failing t i) (changes laws t (Fails i) living (λ before. tt) l (all_failing t i all)))
+    (λ living. subst (λ w. Reaches t w) (world_failing t i)
+    (changes laws t (Fails i) living (λ before. tt) l (all_failing t i all)))
     (λ failed. reached t l all)
 
 tells : Laws → (t : Traced) (i j : ℕ) → Lawful t → AllLawful t.world → Reaches t (happens t.world (Tell i j))
@@ -172,10 +239,16 @@ tells laws t i j l all =
 -- ---- all events
 
 pub happened : Laws → (t : Traced) (e : Event) → Lawful t → AllLawful t.world → Reaches t (happens t.world e)
-happened laws t (Piece c bytes) l all = subst (λ w. Reaches t w) (world_reconnected t c _) (changes laws t (Comes c bytes) tt (λ before. tt) l (all_reconnected t c _ all))
-happened laws t (Begin c) l all = subst (λ w. Reaches t w) (world_reconnected t c _) (changes laws t (Starts c) tt (λ before. tt) l (all_reconnected t c _ all))
+happened laws t (Piece c bytes) l all =
+    subst (λ w. Reaches t w) (world_reconnected t c _)
+    (changes laws t (Comes c bytes) tt (λ before. tt) l (all_reconnected t c _ all))
+happened laws t (Begin c) l all =
+    subst (λ w. Reaches t w) (world_reconnected t c _)
+    (changes laws t (Starts c) tt (λ before. tt) l (all_reconnected t c _ all))
 happened laws t (Work c) l all = worked_at laws t c l all (slice_get t.world.connections c) refl
 happened laws t (Deliver i j) l all = delivers laws t i j l all (link t.world i j) refl
 happened laws t (Fail i) l all = fails laws t i l all
 happened laws t (Tell i j) l all = tells laws t i j l all
-happened laws t (Hand c) l all = subst (λ w. Reaches t w) (world_reconnected t c _) (changes laws t (Hands c) tt (λ before. tt) l (all_reconnected t c _ all))
+happened laws t (Hand c) l all =
+    subst (λ w. Reaches t w) (world_reconnected t c _)
+    (changes laws t (Hands c) tt (λ before. tt) l (all_reconnected t c _ all))

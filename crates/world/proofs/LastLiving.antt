@@ -22,7 +22,10 @@ pub alive : (w : World) (i : ℕ) → lives w i ≡ true → IsAlive w i
 alive w i h = let p = living_parts w i h in record { within = p.0; out = p.1 }
 
 -- a living server above which all have failed is the greatest
-pub last_found : (w : World) (i : ℕ) → IsAlive w i → ((x : ℕ) → i < x → x < length w.servers → has w.failed x ≡ true) → last_living w ≡ Some i
+pub last_found : (w : World) (i : ℕ)
+    → IsAlive w i
+    → ((x : ℕ) → i < x → x < length w.servers → has w.failed x ≡ true)
+    → last_living w ≡ Some i
 last_found w i a f = previous_from w.failed (length w.servers) i (record { below = a.within; out = a.out; between = f })
 
 -- each living server's log has the committed entries
@@ -36,12 +39,18 @@ living_begins u f begins last i h =
     let low = before_last u.world i k h last_one.1 in
     let lt = (alive u.world k (last_lives u.world k last_one.1)).within in
     begins_as u.committed (log u k) (log u i) (log u i) (last k last_one.1) (elim (cases_eq i k) [
-      | inl same ↦ begins_as (log u k) (log u k) (log u k) (log u i) refl (begins_same (log u k)) (ap (λ x. log u x) same)
-      | inr other ↦ begins i k (omega arith) lt (false_from_ne_true _ (λ g. both_ways _ (alive u.world i h).out (f.known k i lt g)))
+      | inl same ↦ begins_as (log u k) (log u k) (log u k) (log u i) refl (begins_same (log u k))
+          (ap (λ x. log u x) same)
+      | inr other ↦ begins i k (omega arith) lt
+          (false_from_ne_true _ (λ g. both_ways _ (alive u.world i h).out (f.known k i lt g)))
     ]) refl
 
 -- the committed entries grow by an action of a living server
-pub grows_done : (t : Traced) (i : ℕ) (a : Action) → Framed t → Logged t → lives t.world i ≡ true → Begins t.committed (done t i a).committed
+pub grows_done : (t : Traced) (i : ℕ) (a : Action)
+    → Framed t
+    → Logged t
+    → lives t.world i ≡ true
+    → Begins t.committed (done t i a).committed
 grows_done t i a f l h =
     let last_one = has_last t.world i h in
     let k = last_one.0 in
@@ -52,11 +61,16 @@ grows_done t i a f l h =
 pub lived : (t : Traced) (i k : ℕ) → lives (failing t i).world k ≡ true → lives t.world k ≡ true
 lived t i k h =
     let a = alive (failing t i).world k h in
-    living_from t.world k (rw (← count_failing t i) a.within) (or_parts _ _ (rw (failed_failing t i, has-union) at a.out)).0
+    living_from t.world k (rw (← count_failing t i) a.within)
+    (or_parts _ _ (rw (failed_failing t i, has-union) at a.out)).0
 
-failing_by : (t : Traced) (i : ℕ) (o : Option ℕ) → last_living (failing t i).world ≡ o → Logged t → Begins t.committed (failing t i).committed
+failing_by : (t : Traced) (i : ℕ) (o : Option ℕ)
+    → last_living (failing t i).world ≡ o
+    → Logged t
+    → Begins t.committed (failing t i).committed
 failing_by t i None e l = rw (committed_left t i e) (begins_same t.committed)
-failing_by t i (Some k) e l = rw (committed_failing t i k e) (l.living k (lived t i k (last_lives (failing t i).world k e)))
+failing_by t i (Some k) e l =
+    rw (committed_failing t i k e) (l.living k (lived t i k (last_lives (failing t i).world k e)))
 
 -- and by a failure: the next living server's log has them
 pub grows_failing : (t : Traced) (i : ℕ) → Logged t → Begins t.committed (failing t i).committed

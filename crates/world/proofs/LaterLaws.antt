@@ -7,7 +7,9 @@ use Rattle.node.proofs.Lists.{Begins, get_front}
 use Rattle.node.specs.Actions.{Action, Cause, Guard}
 use Rattle.world.proofs.Traces.{Traced, log, issued_by, count, done}
 use Rattle.world.proofs.Layers.{Later, Framed}
-use Rattle.world.proofs.TraceLaws.{new_entries, new_issued, new_reads, count_done, failed_done, server_done, server_other, log_other, log_done, issued_other, issued_done, reads_done, begun_done, replied_done}
+use Rattle.world.proofs.TraceLaws.{new_entries, new_issued, new_reads, count_done, failed_done, server_done}
+use Rattle.world.proofs.TraceLaws.{server_other, log_other, log_done, issued_other, issued_done, reads_done, begun_done}
+use Rattle.world.proofs.TraceLaws.{replied_done}
 
 pub later_same : (t : Traced) → Later t t
 later_same t = record {
@@ -43,7 +45,11 @@ later_on t u v a b = record {
 
 -- ---- a server's action
 
-pub grown_done : (t : Traced) (i : ℕ) (cause : Cause) (a : Action) → i < count t → Guard cause (server t.world i) a → (k : ℕ) → Grown (server t.world k) (server (done t i a).world k)
+pub grown_done : (t : Traced) (i : ℕ) (cause : Cause) (a : Action)
+    → i < count t
+    → Guard cause (server t.world i) a
+    → (k : ℕ)
+    → Grown (server t.world k) (server (done t i a).world k)
 grown_done t i cause a l g k =
     elim (cases_eq k i) [
       | inl same ↦ rw (same, server_done t i a l) (grown_act cause (server t.world i) a g)
@@ -57,14 +63,22 @@ logs_done t i a l k =
       | inr other ↦ rw (log_other t i a k other) (λ n x h. h)
     ]
 
-pub issued_grow : (t : Traced) (i : ℕ) (a : Action) → i < length t.issued → (k : ℕ) → Begins (issued_by t k) (issued_by (done t i a) k)
+pub issued_grow : (t : Traced) (i : ℕ) (a : Action)
+    → i < length t.issued
+    → (k : ℕ)
+    → Begins (issued_by t k) (issued_by (done t i a) k)
 issued_grow t i a l k =
     elim (cases_eq k i) [
       | inl same ↦ rw (same, issued_done t i a l) (λ n x h. get_front (issued_by t i) (new_issued t a) n x h)
       | inr other ↦ rw (issued_other t i a k other) (λ n x h. h)
     ]
 
-pub later_done : (t : Traced) (i : ℕ) (cause : Cause) (a : Action) → Framed t → i < count t → Guard cause (server t.world i) a → Begins t.committed (done t i a).committed → Later t (done t i a)
+pub later_done : (t : Traced) (i : ℕ) (cause : Cause) (a : Action)
+    → Framed t
+    → i < count t
+    → Guard cause (server t.world i) a
+    → Begins t.committed (done t i a).committed
+    → Later t (done t i a)
 later_done t i cause a f l g c =
     let grown = grown_done t i cause a l g in
     record {

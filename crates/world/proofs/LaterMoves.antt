@@ -25,16 +25,28 @@ use Rattle.world.proofs.ChangeLaws.{connection_reconnected}
 
 -- ---- calls and replies by their names
 
-pub call_stands : (w : World) (x : CallId) (call : Call) → begun_call w x ≡ Some call → (k : Connection) × (slice_get w.connections x.connection ≡ Some k) × (slice_get k.calls x.place ≡ Some call)
-call_stands w x call h = option_and_then_some (λ (k : Connection). slice_get k.calls x.place) (slice_get w.connections x.connection) call h (λ k e g. (k, e, g))
+pub call_stands : (w : World) (x : CallId) (call : Call)
+    → begun_call w x ≡ Some call
+    → (k : Connection) × (slice_get w.connections x.connection ≡ Some k) × (slice_get k.calls x.place ≡ Some call)
+call_stands w x call h = option_and_then_some (λ (k : Connection). slice_get k.calls x.place)
+    (slice_get w.connections x.connection) call h (λ k e g. (k, e, g))
 
-pub call_found : (w : World) (x : CallId) (k : Connection) (call : Call) → slice_get w.connections x.connection ≡ Some k → slice_get k.calls x.place ≡ Some call → begun_call w x ≡ Some call
+pub call_found : (w : World) (x : CallId) (k : Connection) (call : Call)
+    → slice_get w.connections x.connection ≡ Some k
+    → slice_get k.calls x.place ≡ Some call
+    → begun_call w x ≡ Some call
 call_found w x k call e h = rw e h
 
-pub reply_stands : (w : World) (x : CallId) (reply : Reply) → reply_to w x ≡ Some reply → (k : Connection) × (slice_get w.connections x.connection ≡ Some k) × (slice_get k.replies x.place ≡ Some reply)
-reply_stands w x reply h = option_and_then_some (λ (k : Connection). slice_get k.replies x.place) (slice_get w.connections x.connection) reply h (λ k e g. (k, e, g))
+pub reply_stands : (w : World) (x : CallId) (reply : Reply)
+    → reply_to w x ≡ Some reply
+    → (k : Connection) × (slice_get w.connections x.connection ≡ Some k) × (slice_get k.replies x.place ≡ Some reply)
+reply_stands w x reply h = option_and_then_some (λ (k : Connection). slice_get k.replies x.place)
+    (slice_get w.connections x.connection) reply h (λ k e g. (k, e, g))
 
-pub reply_found : (w : World) (x : CallId) (k : Connection) (reply : Reply) → slice_get w.connections x.connection ≡ Some k → slice_get k.replies x.place ≡ Some reply → reply_to w x ≡ Some reply
+pub reply_found : (w : World) (x : CallId) (k : Connection) (reply : Reply)
+    → slice_get w.connections x.connection ≡ Some k
+    → slice_get k.replies x.place ≡ Some reply
+    → reply_to w x ≡ Some reply
 reply_found w x k reply e h = rw e h
 
 -- ---- a connection's changes
@@ -54,7 +66,8 @@ kept_came bytes k = record { home = refl; calls = λ n x h. h; replies = λ n x 
 pub kept_by : (given : Given) (k : Connection) → Kept k (begun_by given k)
 kept_by (None, left) k = record { home = refl; calls = λ n x h. h; replies = λ n x h. h }
 kept_by (Some (Faulty fault), left) k = record { home = refl; calls = λ n x h. h; replies = λ n x h. h }
-kept_by (Some (Calls call form), left) k = record { home = refl; calls = λ n x h. get_front k.calls (call ∷ []) n x h; replies = λ n x h. h }
+kept_by (Some (Calls call form), left) k =
+    record { home = refl; calls = λ n x h. get_front k.calls (call ∷ []) n x h; replies = λ n x h. h }
 
 pub kept_begun : (stage : Stage) (k : Connection) → Kept k (begun stage k)
 kept_begun Idle k = kept_by (past_faults k.session) k
@@ -69,16 +82,26 @@ pub kept_handed : (stage : Stage) (k : Connection) → Kept k (handed stage k)
 kept_handed Idle k = kept_same k
 kept_handed Begun k = kept_same k
 kept_handed Asked k = kept_same k
-kept_handed (Replied reply) k = record { home = refl; calls = λ n x h. h; replies = λ n x h. get_front k.replies (reply ∷ []) n x h }
+kept_handed (Replied reply) k =
+    record { home = refl; calls = λ n x h. h; replies = λ n x h. get_front k.replies (reply ∷ []) n x h }
 
-pub kept_where_home_lives : (w : World) (change : Connection → Connection) → ((k : Connection) → Kept k (change k)) → (k : Connection) → Kept k (where_home_lives w change k)
-kept_where_home_lives w change f k = cond_both (lives w k.home) (change k) k (λ l. Kept k l) (λ t. f k) (λ t. kept_same k)
+pub kept_where_home_lives : (w : World) (change : Connection → Connection)
+    → ((k : Connection) → Kept k (change k))
+    → (k : Connection)
+    → Kept k (where_home_lives w change k)
+kept_where_home_lives w change f k =
+    cond_both (lives w k.home) (change k) k (λ l. Kept k l) (λ t. f k) (λ t. kept_same k)
 
-kept_changed : (c : ℕ) (change : Connection → Connection) (d : ℕ) (k l : Connection) → ((k : Connection) → Kept k (change k)) → Changes c change d k l → Kept k l
+kept_changed : (c : ℕ) (change : Connection → Connection) (d : ℕ) (k l : Connection)
+    → ((k : Connection) → Kept k (change k))
+    → Changes c change d k l
+    → Kept k l
 kept_changed c change d k l f (inl h) = rw h.1 (f k)
 kept_changed c change d k l f (inr h) = rw h.1 (kept_same k)
 
-pub later_reconnected : (t : Traced) (c : ℕ) (change : Connection → Connection) → ((k : Connection) → Kept k (change k)) → Later t (reconnected t c change)
+pub later_reconnected : (t : Traced) (c : ℕ) (change : Connection → Connection)
+    → ((k : Connection) → Kept k (change k))
+    → Later t (reconnected t c change)
 unfolding reconnected with_connection server log issued_by
 later_reconnected t c change f =
     let same = later_same t in
@@ -95,10 +118,12 @@ later_reconnected t c change f =
       reads = λ k x h. h;
       calls = λ x call h. (let at = call_stands t.world x call h in
           let new = connection_reconnected t c change x.connection at.0 at.1 in
-          call_found (reconnected t c change).world x new.0 call new.1 ((kept_changed c change x.connection at.0 new.0 f new.2).calls x.place call at.2));
+          call_found (reconnected t c change).world x new.0 call new.1
+          ((kept_changed c change x.connection at.0 new.0 f new.2).calls x.place call at.2));
       replies = λ x reply h. (let at = reply_stands t.world x reply h in
           let new = connection_reconnected t c change x.connection at.0 at.1 in
-          reply_found (reconnected t c change).world x new.0 reply new.1 ((kept_changed c change x.connection at.0 new.0 f new.2).replies x.place reply at.2));
+          reply_found (reconnected t c change).world x new.0 reply new.1
+          ((kept_changed c change x.connection at.0 new.0 f new.2).replies x.place reply at.2));
     }
 
 -- ---- links and failures
@@ -143,11 +168,18 @@ later_failing t i c =
 
 -- ---- all moves
 
-pub later_moved : (t : Traced) (m : Move) → IsMove t m → Framed t → Begins t.committed (moved t m).committed → Later t (moved t m)
+pub later_moved : (t : Traced) (m : Move)
+    → IsMove t m
+    → Framed t
+    → Begins t.committed (moved t m).committed
+    → Later t (moved t m)
 later_moved t (Does i cause a) g f c = later_done t i cause a f (living_parts t.world i g.lives).0 g.guard c
-later_moved t (Comes c bytes) g f b = later_reconnected t c _ (kept_where_home_lives t.world (came bytes) (kept_came bytes))
-later_moved t (Starts c) g f b = later_reconnected t c _ (kept_where_home_lives t.world (λ k. begun k.stage k) (λ k. kept_begun k.stage k))
+later_moved t (Comes c bytes) g f b =
+    later_reconnected t c _ (kept_where_home_lives t.world (came bytes) (kept_came bytes))
+later_moved t (Starts c) g f b =
+    later_reconnected t c _ (kept_where_home_lives t.world (λ k. begun k.stage k) (λ k. kept_begun k.stage k))
 later_moved t (Works c) g f b = later_reconnected t c asked kept_asked
-later_moved t (Hands c) g f b = later_reconnected t c _ (kept_where_home_lives t.world (λ k. handed k.stage k) (λ k. kept_handed k.stage k))
+later_moved t (Hands c) g f b =
+    later_reconnected t c _ (kept_where_home_lives t.world (λ k. handed k.stage k) (λ k. kept_handed k.stage k))
 later_moved t (Takes i j ms) g f c = later_unlinked t i j ms
 later_moved t (Fails i) g f c = later_failing t i c

@@ -1,5 +1,6 @@
 -- What every traced world of a run keeps, in layers: addresses, logs, calls and answered reads; and what only grows.
-use Rattle.std.proofs.Common.{◌≡◌, ◌≢◌, ℕ, suc, ◌+◌, ◌-◌, ◌<◌, ◌≤◌, true, false, List, [], ◌∷◌, length, take, drop, Some, None, ◌⊎◌}
+use Rattle.std.proofs.Common.{◌≡◌, ◌≢◌, ℕ, suc, ◌+◌, ◌-◌, ◌<◌, ◌≤◌, true, false, List, [], ◌∷◌, length, take, drop}
+use Rattle.std.proofs.Common.{Some, None, ◌⊎◌}
 use Rattle.std.specs.Prelude.{slice_get, IsSome, if◌then◌else◌, ◌==◌}
 use Rattle.table.specs.Operations.{is_update}
 use Rattle.table.specs.Decisions.{decision}
@@ -75,7 +76,10 @@ pub record Framed (t : Traced) : Type 0 where
   pub own : (i : ℕ) → i < count t → has (server t.world i).view i ≡ false
   pub known : (i k : ℕ) → i < count t → has (server t.world i).view k ≡ true → has t.world.failed k ≡ true
   pub sound : (i j : ℕ) (m : Peer) → In m (link t.world i j) → IsAddressed t i j m
-  pub calls : (c p : ℕ) (k : Connection) (call : Call) → slice_get t.world.connections c ≡ Some k → slice_get k.calls p ≡ Some call → IsCall call
+  pub calls : (c p : ℕ) (k : Connection) (call : Call)
+      → slice_get t.world.connections c ≡ Some k
+      → slice_get k.calls p ≡ Some call
+      → IsCall call
 
 -- ---- logs and acknowledged numbers
 
@@ -92,16 +96,22 @@ pub record Holds (es : List LogEntry) (s : StoreState) : Type 0 where
 abbrev pub Carries : Traced → ℕ → View → Body → Type 0
 Carries t i v (Op id call) = Unit {0}
 Carries t i v (Forward e) =
-    (1 ≤ e.number) × (slice_get (log t i) (e.number - 1) ≡ Some e) × ((k : ℕ) → k < i → has v k ≡ false → slice_get (log t k) (e.number - 1) ≡ Some e)
+    (1 ≤ e.number) × (slice_get (log t i) (e.number - 1) ≡ Some e)
+    × ((k : ℕ) → k < i → has v k ≡ false → slice_get (log t k) (e.number - 1) ≡ Some e)
 Carries t i v (Ack n) =
-    (n ≤ (server t.world i).store.acked) × ((k : ℕ) → i < k → k < count t → has v k ≡ false → n ≤ (server t.world k).store.acked)
+    (n ≤ (server t.world i).store.acked)
+    × ((k : ℕ) → i < k → k < count t → has v k ≡ false → n ≤ (server t.world k).store.acked)
 Carries t i v (Query ask key) = Unit {0}
 Carries t i v (Answer ask n) = n ≤ length t.committed
 
 pub record Logged (t : Traced) : Type 0 where
   pub holds : (i : ℕ) → i < count t → Holds (log t i) (server t.world i).store
   pub begins : (i j : ℕ) → i < j → j < count t → has (server t.world j).view i ≡ false → Begins (log t j) (log t i)
-  pub acks : (i j : ℕ) → i < j → j < count t → has (server t.world i).view j ≡ false → (server t.world i).store.acked ≤ (server t.world j).store.acked
+  pub acks : (i j : ℕ)
+      → i < j
+      → j < count t
+      → has (server t.world i).view j ≡ false
+      → (server t.world i).store.acked ≤ (server t.world j).store.acked
   pub last : (i : ℕ) → last_living t.world ≡ Some i → t.committed ≡ log t i
   pub source : (t.committed ≡ []) ⊎ ((i : ℕ) × (i < count t) × (t.committed ≡ log t i))
   pub within : (i : ℕ) → i < count t → (server t.world i).store.acked ≤ length t.committed
@@ -133,7 +143,8 @@ pub record IsDecided (t : Traced) (es : List LogEntry) (k : ℕ) (e : LogEntry) 
   pub call : Call
   pub issued : IsIssued t e.origin e.id call
   pub target : e.target ≡ call.target
-  pub decided : decision (item_of (items_after opening_table.items (take k es)) e.target) call.op (k + 1) ≡ (e.reply, e.change)
+  pub decided : decision (item_of (items_after opening_table.items (take k es)) e.target) call.op (k + 1)
+      ≡ (e.reply, e.change)
 
 -- the connection c is at server i, and this call of it is with its server
 pub record IsWith (t : Traced) (i c : ℕ) (call : Call) : Type 0 where
@@ -161,11 +172,17 @@ pub record Calling (t : Traced) : Type 0 where
   pub begun : (o k : ℕ) (x : CallId) → slice_get (issued_by t o) k ≡ Some x
       → (call : Call) × (c : Connection) × (begun_call t.world x ≡ Some call) × (is_update call.op ≡ true)
       × (slice_get t.world.connections x.connection ≡ Some c) × (c.home ≡ o)
-      × ((x.place < length c.replies) ⊎ ((x.place ≡ length c.replies) × ((c.stage ≡ Asked) ⊎ ((reply : Reply) × (c.stage ≡ Replied reply)))))
+      × ((x.place < length c.replies)
+      ⊎ ((x.place ≡ length c.replies) × ((c.stage ≡ Asked) ⊎ ((reply : Reply) × (c.stage ≡ Replied reply)))))
   pub next_id : (o : ℕ) → o < count t → (server t.world o).next_id ≡ length (issued_by t o) + 1
-  pub once : (o p k l : ℕ) (x : CallId) → slice_get (issued_by t o) k ≡ Some x → slice_get (issued_by t p) l ≡ Some x → (o ≡ p) × (k ≡ l)
+  pub once : (o p k l : ℕ) (x : CallId)
+      → slice_get (issued_by t o) k ≡ Some x
+      → slice_get (issued_by t p) l ≡ Some x
+      → (o ≡ p) × (k ≡ l)
   -- in each log the ids of an origin are 1, 2, 3 and so on, and their count is what was seen
-  pub ids : (i k : ℕ) (e : LogEntry) → slice_get (log t i) k ≡ Some e → e.id ≡ entries_of e.origin (take k (log t i)) + 1
+  pub ids : (i k : ℕ) (e : LogEntry)
+      → slice_get (log t i) k ≡ Some e
+      → e.id ≡ entries_of e.origin (take k (log t i)) + 1
   pub seen : (i o : ℕ) → i < count t → o < 16 → seen_of (server t.world i) o ≡ entries_of o (log t i)
   pub decided : (i k : ℕ) (e : LogEntry) → slice_get (log t i) k ≡ Some e → IsDecided t (log t i) k e
   -- the open updates and reads of a server are open calls of connections at it
@@ -173,10 +190,17 @@ pub record Calling (t : Traced) : Type 0 where
       → (1 ≤ u.id) × (slice_get (issued_by t i) (u.id - 1) ≡ Some (open_id t.world u.port)) × IsWith t i u.port u.call
   pub asks : (i : ℕ) (r : OpenRead) → i < count t → In r (server t.world i).asks
       → (call : Call) × IsWith t i r.port call × (call.target ≡ One r.key) × (is_update call.op ≡ false)
-  pub alone : (i : ℕ) (r q : OpenRead) → i < count t → In r (server t.world i).asks → In q (server t.world i).asks → r.port ≡ q.port → r ≡ q
+  pub alone : (i : ℕ) (r q : OpenRead)
+      → i < count t
+      → In r (server t.world i).asks
+      → In q (server t.world i).asks
+      → r.port ≡ q.port
+      → r ≡ q
   -- replies, handed and waiting, are those of committed entries and of answered reads
   pub handed : (x : CallId) (reply : Reply) → reply_to t.world x ≡ Some reply → IsAnswer t x reply
-  pub waiting : (c : ℕ) (k : Connection) (reply : Reply) → slice_get t.world.connections c ≡ Some k → k.stage ≡ Replied reply
+  pub waiting : (c : ℕ) (k : Connection) (reply : Reply)
+      → slice_get t.world.connections c ≡ Some k
+      → k.stage ≡ Replied reply
       → IsAnswer t (record { connection = c; place = length k.replies }) reply
   pub issues : (i j : ℕ) (m : Peer) → In m (link t.world i j) → Asks t i m.body
 
@@ -192,19 +216,28 @@ pub record IsRead (t : Traced) (r : AnsweredRead) : Type 0 where
   pub item : r.item ≡ item_at (items_after opening_table.items (take r.number t.committed)) r.key
   -- its call isn't with its server any more
   pub here : slice_get t.world.connections r.id.connection ≡ Some connection
-  pub over : (r.id.place < length connection.replies) ⊎ ((r.id.place ≡ length connection.replies) × (reply : Reply) × (connection.stage ≡ Replied reply))
+  pub over : (r.id.place < length connection.replies)
+      ⊎ ((r.id.place ≡ length connection.replies) × (reply : Reply) × (connection.stage ≡ Replied reply))
 
 pub record Read (t : Traced) : Type 0 where
   pub reads : (k : ℕ) (r : AnsweredRead) → slice_get t.reads k ≡ Some r → IsRead t r
-  pub once : (j k : ℕ) (r q : AnsweredRead) → slice_get t.reads j ≡ Some r → slice_get t.reads k ≡ Some q → r.id ≡ q.id → j ≡ k
+  pub once : (j k : ℕ) (r q : AnsweredRead)
+      → slice_get t.reads j ≡ Some r
+      → slice_get t.reads k ≡ Some q
+      → r.id ≡ q.id
+      → j ≡ k
 
 -- ---- what came after a moment
 
 -- u, a later moment than t: a committed entry of a call that wasn't begun at t stands behind those committed at t,
 -- and a read that wasn't begun at t has no lower number
 pub record Newer (t u : Traced) : Type 0 where
-  pub entries : (k : ℕ) (e : LogEntry) → slice_get u.committed k ≡ Some e → ((x : CallId) × IsNamed t e x) ⊎ (length t.committed ≤ k)
-  pub answers : (k : ℕ) (r : AnsweredRead) → slice_get u.reads k ≡ Some r → IsSome (begun_call t.world r.id) ⊎ (length t.committed ≤ r.number)
+  pub entries : (k : ℕ) (e : LogEntry)
+      → slice_get u.committed k ≡ Some e
+      → ((x : CallId) × IsNamed t e x) ⊎ (length t.committed ≤ k)
+  pub answers : (k : ℕ) (r : AnsweredRead)
+      → slice_get u.reads k ≡ Some r
+      → IsSome (begun_call t.world r.id) ⊎ (length t.committed ≤ r.number)
 
 -- ---- all together, and what is known of an input
 
@@ -219,7 +252,8 @@ abbrev pub IsKnown : Traced → ℕ → Cause → Type 0
 IsKnown t i None = Unit {0}
 IsKnown t i (Some (Called port call)) =
     IsCall call × IsWith t i port call
-    × ((u : OpenUpdate) → In u (server t.world i).pend → u.port ≢ port) × ((r : OpenRead) → In r (server t.world i).asks → r.port ≢ port)
+    × ((u : OpenUpdate) → In u (server t.world i).pend → u.port ≢ port)
+    × ((r : OpenRead) → In r (server t.world i).asks → r.port ≢ port)
     × ((o k : ℕ) (x : CallId) → slice_get (issued_by t o) k ≡ Some x → x ≢ open_id t.world port)
     × ((k : ℕ) (r : AnsweredRead) → slice_get t.reads k ≡ Some r → r.id ≢ open_id t.world port)
 IsKnown t i (Some (From j m)) = IsAddressed t j i m × Carries t j m.view m.body × Asks t j m.body

@@ -1,4 +1,5 @@
--- The list of updates and reads is legal, where each update is decided at its number, and each read answered at its own.
+-- The list of updates and reads is legal, where each update is decided at its number, and each read answered at its
+-- own.
 use Rattle.std.proofs.Common.{◌≡◌, ℕ, suc, ◌+◌, List, [], ◌∷◌, ◌++◌, map, Some, refl, sym, ap, arith, subst, append-nil}
 use Rattle.std.specs.Prelude.{slice_get, ◌==◌}
 use Rattle.std.proofs.lemmas.Bool.{cond_both, eqb-true}
@@ -26,20 +27,26 @@ module _ (name : LogEntry → CallId) (asked : CallId → Call) (table : ℕ →
   abbrev pub Shows : AnsweredRead → Type 0
   Shows r = apply (table r.number) (asked r.id).target (asked r.id).op ≡ (Value r.item, table r.number)
 
-  legal_reads : (n q : ℕ) (rs : List AnsweredRead) (rest : List Placed) → ((j : ℕ) (r : AnsweredRead) → slice_get rs j ≡ Some r → Shows r)
+  legal_reads : (n q : ℕ) (rs : List AnsweredRead) (rest : List Placed)
+      → ((j : ℕ) (r : AnsweredRead) → slice_get rs j ≡ Some r → Shows r)
       → IsLegalFrom (table n) (said rest) → IsLegalFrom (table n) (said (reads_at name asked n q rs ++ rest))
   unfolding reads_at
   legal_reads n q [] rest f l = l
   legal_reads n q (r ∷ rs) rest f l =
       let later = legal_reads n (suc q) rs rest (λ j x h. f (suc j) x h) l in
-      cond_both (r.number == n) (of_read name asked q r ∷ reads_at name asked n (suc q) rs) (reads_at name asked n (suc q) rs) (λ ps. IsLegalFrom (table n) (said (ps ++ rest)))
+      cond_both (r.number == n) (of_read name asked q r ∷ reads_at name asked n (suc q) rs)
+      (reads_at name asked n (suc q) rs) (λ ps. IsLegalFrom (table n) (said (ps ++ rest)))
       (λ t.
-      let here : apply (table n) (asked r.id).target (asked r.id).op ≡ (Value r.item, table n) = subst (λ m. apply (table m) (asked r.id).target (asked r.id).op ≡ (Value r.item, table m)) (eqb-true _ _ t) (f 0 r refl) in
+      let here : apply (table n) (asked r.id).target (asked r.id).op ≡ (Value r.item, table n) =
+      subst (λ m. apply (table m) (asked r.id).target (asked r.id).op ≡ (Value r.item, table m)) (eqb-true _ _ t)
+      (f 0 r refl) in
       (sym (ap (λ (p : Reply × PlainTable). p.0) here), rw (ap (λ (p : Reply × PlainTable). p.1) here) later))
       (λ t. later)
 
-  pub legal : (rs : List AnsweredRead) (n : ℕ) (es : List LogEntry) → ((j : ℕ) (r : AnsweredRead) → slice_get rs j ≡ Some r → Shows r)
-      → ((k : ℕ) (e : LogEntry) → slice_get es k ≡ Some e → Makes (n + k) e) → IsLegalFrom (table n) (said (placed name asked rs n es))
+  pub legal : (rs : List AnsweredRead) (n : ℕ) (es : List LogEntry)
+      → ((j : ℕ) (r : AnsweredRead) → slice_get rs j ≡ Some r → Shows r)
+      → ((k : ℕ) (e : LogEntry) → slice_get es k ≡ Some e → Makes (n + k) e)
+      → IsLegalFrom (table n) (said (placed name asked rs n es))
   unfolding placed
   legal rs n [] f g = whole (reads_at name asked n 0 rs) refl
     where
@@ -48,6 +55,7 @@ module _ (name : LogEntry → CallId) (asked : CallId → Call) (table : ℕ →
   legal rs n (e ∷ es) f g =
       let at_n : n + 0 ≡ n = omega arith in
       let here : Makes n e = rw at_n at (g 0 e refl) in
-      let behind = legal rs (suc n) es f (λ k x h. (let m : n + suc k ≡ suc n + k = omega arith in rw m at (g (suc k) x h))) in
+      let behind =
+      legal rs (suc n) es f (λ k x h. (let m : n + suc k ≡ suc n + k = omega arith in rw m at (g (suc k) x h))) in
       legal_reads n 0 rs (of_update name asked n e ∷ placed name asked rs (suc n) es) f
       (sym (ap (λ (p : Reply × PlainTable). p.0) here), rw (ap (λ (p : Reply × PlainTable). p.1) here) behind)

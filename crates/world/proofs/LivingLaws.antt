@@ -1,6 +1,7 @@
 -- What of a world counts decides what each event does to it, as far as that counts, what it shows, and which server
 -- steps.
-use Rattle.std.proofs.Common.{◌≡◌, ℕ, zero, suc, Bool, true, false, not, ◌&&◌, ◌||◌, cond, List, [], ◌∷◌, ◌++◌, length, map, set, get_or, Option, None, Some, refl, sym, ap, ◌∙◌, inl, inr}
+use Rattle.std.proofs.Common.{◌≡◌, ℕ, zero, suc, Bool, true, false, not, ◌&&◌, ◌||◌, cond, List, [], ◌∷◌, ◌++◌, length}
+use Rattle.std.proofs.Common.{map, set, get_or, Option, None, Some, refl, sym, ap, ◌∙◌, inl, inr}
 use Rattle.std.specs.Prelude.{slice_get, nat_lt, ◌==◌}
 use Rattle.std.specs.List.{list_all}
 use Rattle.std.proofs.lemmas.Bool.{cases_Bool, and_parts}
@@ -18,7 +19,8 @@ use Rattle.world.specs.declared.events.Event.{Event}
 use Rattle.world.specs.declared.events.Event.TheVariants.{Piece, Begin, Work, Deliver, Fail, Tell, Hand}
 use Rattle.world.specs.Connections.{Connection, came, begun, handed, asked, replied, to_work}
 use Rattle.world.specs.Links.{messages_between, with_messages, is_empty}
-use Rattle.world.specs.Worlds.{World, nobody, server, link, with_server, with_link, with_connection, lives, has_failed, put, put_all, acted, takes, where_home_lives, sent_in, worked, delivered, happens}
+use Rattle.world.specs.Worlds.{World, nobody, server, link, with_server, with_link, with_connection, lives, has_failed}
+use Rattle.world.specs.Worlds.{put, put_all, acted, takes, where_home_lives, sent_in, worked, delivered, happens}
 use Rattle.world.specs.Quiet.{all_below, is_server_quiet, is_quiet, waits}
 use Rattle.world.specs.Transcripts.{connection_shown, transcript_of, TranscriptShown}
 use Rattle.world.specs.Refusals.{takes_call, works_at, steps_at}

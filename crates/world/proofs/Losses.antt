@@ -1,5 +1,6 @@
 -- A step that is refused: the server is lost, which is its failure, as far as that counts.
-use Rattle.std.proofs.Common.{◌≡◌, ℕ, Bool, true, false, not, ◌&&◌, ◌||◌, cond, List, [], ◌∷◌, drop, length, set, get_or, Option, None, Some, refl, sym, ap, subst, ◌∙◌}
+use Rattle.std.proofs.Common.{◌≡◌, ℕ, Bool, true, false, not, ◌&&◌, ◌||◌, cond, List, [], ◌∷◌, drop, length, set}
+use Rattle.std.proofs.Common.{get_or, Option, None, Some, refl, sym, ap, subst, ◌∙◌}
 use Rattle.std.specs.Prelude.{slice_get, slice_set, slice_index_or}
 use Rattle.std.proofs.lemmas.Option.{same_Some}
 use Rattle.table.specs.declared.operations.Call.{Call}
@@ -12,7 +13,8 @@ use Rattle.node.specs.Steps.{step}
 use Rattle.world.specs.declared.events.Event.TheVariants.{Work, Deliver, Fail, Tell}
 use Rattle.world.specs.Connections.{Connection, to_work, asked}
 use Rattle.world.specs.Links.{messages_between, with_messages, is_empty}
-use Rattle.world.specs.Worlds.{World, nobody, server, link, with_server, lives, home_lives, has_failed, happens, takes, put_all, sent_in, worked}
+use Rattle.world.specs.Worlds.{World, nobody, server, link, with_server, lives, home_lives, has_failed, happens, takes}
+use Rattle.world.specs.Worlds.{put_all, sent_in, worked}
 use Rattle.world.specs.Refusals.{takes_call, works_at, steps_at}
 use Rattle.world.specs.LivingParts.{Takes, Comes, blanked, lost, living_part}
 use Rattle.node.proofs.ViewLaws.{has-union, has-single_itself}

@@ -1,5 +1,6 @@
 -- A schedule's moments: behind its first k events stands a traced world, and each comes by moves of those before it.
-use Rattle.std.proofs.Common.{◌≡◌, ℕ, zero, suc, ◌<◌, ◌≤◌, List, [], ◌∷◌, ◌++◌, take, Some, None, refl, arith, sym, ap, ◌∙◌, subst}
+use Rattle.std.proofs.Common.{◌≡◌, ℕ, zero, suc, ◌<◌, ◌≤◌, List, [], ◌∷◌, ◌++◌, take, Some, None, refl, arith, sym, ap}
+use Rattle.std.proofs.Common.{◌∙◌, subst}
 use Rattle.std.specs.Prelude.{slice_get}
 use Rattle.std.proofs.lemmas.Option.{same_Some}
 use Rattle.world.specs.declared.events.Event.{Event}
@@ -24,26 +25,47 @@ abbrev first_then : Traced → (ℕ → Traced) → ℕ → Traced
 first_then t at zero = t
 first_then t at (suc k) = at k
 
-world_then : (t : Traced) (e : Event) (es : List Event) (r : Reaches t (happens t.world e)) (m : Moments r.after es) (k : ℕ) → (first_then t m.at k).world ≡ run_from t.world (take k (e ∷ es))
+world_then : (t : Traced) (e : Event) (es : List Event) (r : Reaches t (happens t.world e))
+    (m : Moments r.after es) (k : ℕ)
+    → (first_then t m.at k).world ≡ run_from t.world (take k (e ∷ es))
 world_then t e es r m zero = refl
 world_then t e es r m (suc k) = m.world k ∙ ap (λ w. run_from w (take k es)) r.world
 
-lawful_then : (t : Traced) (e : Event) (es : List Event) (r : Reaches t (happens t.world e)) (m : Moments r.after es) → Lawful t → (k : ℕ) → Lawful (first_then t m.at k)
+lawful_then : (t : Traced) (e : Event) (es : List Event) (r : Reaches t (happens t.world e)) (m : Moments r.after es)
+    → Lawful t
+    → (k : ℕ)
+    → Lawful (first_then t m.at k)
 lawful_then t e es r m l zero = l
 lawful_then t e es r m l (suc k) = m.lawful k
 
-all_then : (t : Traced) (e : Event) (es : List Event) (r : Reaches t (happens t.world e)) (m : Moments r.after es) → AllLawful t.world → (k : ℕ) → AllLawful (first_then t m.at k).world
+all_then : (t : Traced) (e : Event) (es : List Event) (r : Reaches t (happens t.world e)) (m : Moments r.after es)
+    → AllLawful t.world
+    → (k : ℕ)
+    → AllLawful (first_then t m.at k).world
 all_then t e es r m all zero = all
 all_then t e es r m all (suc k) = m.all k
 
-goes_on : (t : Traced) (e : Event) (es : List Event) (r : Reaches t (happens t.world e)) (m : Moments r.after es) → Lawful t → (j k : ℕ) → j ≤ k → Goes (first_then t m.at j) (first_then t m.at k)
+goes_on : (t : Traced) (e : Event) (es : List Event) (r : Reaches t (happens t.world e)) (m : Moments r.after es)
+    → Lawful t
+    → (j k : ℕ)
+    → j ≤ k
+    → Goes (first_then t m.at j) (first_then t m.at k)
 goes_on t e es r m l zero zero h = stays t l
-goes_on t e es r m l zero (suc k) h = goes_both t r.after (m.at k) r.goes (subst (λ u. Goes u (m.at k)) m.start (m.goes 0 k (omega arith)))
+goes_on t e es r m l zero (suc k) h =
+    goes_both t r.after (m.at k) r.goes (subst (λ u. Goes u (m.at k)) m.start (m.goes 0 k (omega arith)))
 goes_on t e es r m l (suc j) zero h = absurd (omega (arith, h))
 goes_on t e es r m l (suc j) (suc k) h = m.goes j k (omega (arith, h))
 
 pub moments : Laws → (events : List Event) (t : Traced) → Lawful t → AllLawful t.world → Moments t events
-moments laws [] t l all = record { at = λ k. t; start = refl; world = λ k. (nothing_left k); lawful = λ k. l; all = λ k. all; goes = λ j k h. stays t l }
+moments laws [] t l all =
+    record {
+      at = λ k. t;
+      start = refl;
+      world = λ k. (nothing_left k);
+      lawful = λ k. l;
+      all = λ k. all;
+      goes = λ j k h. stays t l;
+    }
   where
     nothing_left : (k : ℕ) → t.world ≡ run_from t.world (take k [])
     nothing_left zero = refl
@@ -51,7 +73,14 @@ moments laws [] t l all = record { at = λ k. t; start = refl; world = λ k. (no
 moments laws (e ∷ es) t l all =
     let r = happened laws t e l all in
     let m = moments laws es r.after (r.goes None).lawful (subst AllLawful (sym r.world) r.all) in
-    record { at = first_then t m.at; start = refl; world = world_then t e es r m; lawful = lawful_then t e es r m l; all = all_then t e es r m all; goes = goes_on t e es r m l }
+    record {
+      at = first_then t m.at;
+      start = refl;
+      world = world_then t e es r m;
+      lawful = lawful_then t e es r m l;
+      all = all_then t e es r m all;
+      goes = goes_on t e es r m l;
+    }
 
 -- ---- from moment to moment
 
@@ -73,8 +102,19 @@ pub record FirstLaws : Type 0 where
   pub read : (n : ℕ) (homes : List ℕ) → n ≤ 16 → Read (outset n homes)
 
 pub lawful_first : FirstLaws → (n : ℕ) (homes : List ℕ) → n ≤ 16 → Lawful (outset n homes)
-lawful_first first n homes few = record { framed = framed_outset n homes few; logged = first.logged n homes few; calling = first.calling n homes few; read = first.read n homes few }
+lawful_first first n homes few =
+    record {
+      framed = framed_outset n homes few;
+      logged = first.logged n homes few;
+      calling = first.calling n homes few;
+      read = first.read n homes few;
+    }
 
-pub moments_of : Laws → FirstLaws → (n : ℕ) (homes : List ℕ) (events : List Event) → n ≤ 16 → Moments (outset n homes) events
+pub moments_of : Laws
+    → FirstLaws
+    → (n : ℕ) (homes : List ℕ) (events : List Event)
+    → n ≤ 16
+    → Moments (outset n homes) events
 moments_of laws first n homes events few =
-    moments laws events (outset n homes) (lawful_first first n homes few) (λ i l. lawful_outset n homes few i (subst (λ c. i < c) (count_outset n homes) l))
+    moments laws events (outset n homes) (lawful_first first n homes few)
+    (λ i l. lawful_outset n homes few i (subst (λ c. i < c) (count_outset n homes) l))

@@ -132,7 +132,9 @@ unfolding all_moved
 moved-append t [] ns = refl
 moved-append t (m ∷ ms) ns = moved-append (moved t m) ms ns
 
-pub are-append : (before : Memory) (t : Traced) (ms ns : List Move) (are : AreMoves before t ms) → AreMoves (recalled_last before t ms are) (all_moved t ms) ns → AreMoves before t (ms ++ ns)
+pub are-append : (before : Memory) (t : Traced) (ms ns : List Move) (are : AreMoves before t ms)
+    → AreMoves (recalled_last before t ms are) (all_moved t ms) ns
+    → AreMoves before t (ms ++ ns)
 unfolding all_moved
 are-append before t [] ns are h = h
 are-append before t (m ∷ ms) ns are h = (are.0, are.1, are-append (recalled t m are.0 before) (moved t m) ms ns are.2 h)

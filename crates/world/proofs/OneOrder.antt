@@ -19,7 +19,8 @@ since_outset : (n : ℕ) (homes : List ℕ) → Since (outset n homes) (outset n
 since_outset n homes = record {
   entries = λ i k e l h. absurd (nothing_in e (k, rw (log_outset n homes i) at h));
   answers = λ k r h. absurd cc;
-  asks = λ i r l h. absurd (nothing_in r (h.0, rw (server_outset n homes i (subst (λ c. i < c) (count_outset n homes) l)) at h.1));
+  asks = λ i r l h. absurd
+      (nothing_in r (h.0, rw (server_outset n homes i (subst (λ c. i < c) (count_outset n homes) l)) at h.1));
   says = λ i j m h. absurd (nothing_in m (rw (link_outset n homes i j) at h));
 }
 
@@ -52,14 +53,22 @@ module _ (n : ℕ) (homes : List ℕ) (events : List Event) (few : n ≤ 16) whe
         same = all.world k;
         lawful = all.lawful k;
         later = (goes None).later;
-        newer = newer (all.at k) last (all.lawful (length events)) (since_on laws (all.at k) (all.at k) last goes (all.lawful k) (later_same (all.at k)) (since_there k));
+        newer = newer (all.at k) last (all.lawful (length events))
+            (since_on laws (all.at k) (all.at k) last goes (all.lawful k) (later_same (all.at k)) (since_there k));
       }
 
   moment : (k : ℕ) → Moment n homes events last k
   moment k = elim (cases_lt k (length events)) [
     | inl within ↦ moment_within k (omega (arith, within))
     | inr past ↦ (let m = moment_within (length events) (omega arith) in
-        record { past = m.past; same = m.same ∙ run_all (length events) (omega arith) ∙ sym (run_all k (omega (arith, past))); lawful = m.lawful; later = m.later; newer = m.newer })
+        record {
+          past = m.past;
+          same = m.same ∙ run_all (length events) (omega arith)
+              ∙ sym (run_all k (omega (arith, past)));
+          lawful = m.lawful;
+          later = m.later;
+          newer = m.newer;
+        })
   ]
 
   -- the order of the last world is a linearization of the schedule

@@ -1,7 +1,11 @@
--- What a step makes of the own updates, one case an action: they stay numbered in order, what is new goes to the head, and who is the head has
+-- What a step makes of the own updates, one case an action: they stay numbered in order, what is new goes to the head,
+-- and who is the head has
 -- taken them all, as long as numbers are left.
-use Rattle.std.proofs.Common.{◌≡◌, ◌≢◌, ℕ, zero, suc, ◌+◌, ◌<◌, ◌≤◌, ◌==◌, nat_lt, not, ◌||◌, max, Bool, true, false, cond, List, [], ◌∷◌, ◌++◌, length, slice_index_or, Option, Some, None, refl, arith, ◌⊎◌, inl, inr, ap, sym, subst, ◌∙◌, append_assoc}
-use Rattle.std.proofs.lemmas.Bool.{cond_both, cases_eq, cases_lt, cases_Bool, both_ways, and_parts, eq-eqb, ne_eqb, ltb-true, false_from_ne_true}
+use Rattle.std.proofs.Common.{◌≡◌, ◌≢◌, ℕ, zero, suc, ◌+◌, ◌<◌, ◌≤◌, ◌==◌, nat_lt, not, ◌||◌, max, Bool, true, false}
+use Rattle.std.proofs.Common.{cond, List, [], ◌∷◌, ◌++◌, length, slice_index_or, Option, Some, None, refl, arith, ◌⊎◌}
+use Rattle.std.proofs.Common.{inl, inr, ap, sym, subst, ◌∙◌, append_assoc}
+use Rattle.std.proofs.lemmas.Bool.{cond_both, cases_eq, cases_lt, cases_Bool, both_ways, and_parts, eq-eqb, ne_eqb}
+use Rattle.std.proofs.lemmas.Bool.{ltb-true, false_from_ne_true}
 use Rattle.std.proofs.lemmas.Option.{same_Some}
 use Rattle.table.specs.declared.operations.Call.{Call}
 use Rattle.table.specs.declared.operations.Reply.{Reply}
@@ -21,13 +25,16 @@ use Rattle.node.specs.Reading.{asked}
 use Rattle.node.specs.Joining.{widened}
 use Rattle.node.specs.Steps.{trimmed, step}
 use Rattle.node.specs.Lawful.{IsInput, HoldsEntry, AreUpdates, IsSound, IsLawful}
-use Rattle.node.specs.Actions.{Action, Widen, Append, Reach, Settle, Send, Finish, Trim, Enter, Ask, Show, act, does, Cause, left, IsMade, IsPassed, MaySend, Guard, AreGuarded, Due, IsDone, IsPaid, IsTurn, IsTurnOf, due, due_after, AreInTurn, due_in_the_end, nothing_due, due_to_new, but_first}
+use Rattle.node.specs.Actions.{Action, Widen, Append, Reach, Settle, Send, Finish, Trim, Enter, Ask, Show, act, does}
+use Rattle.node.specs.Actions.{Cause, left, IsMade, IsPassed, MaySend, Guard, AreGuarded, Due, IsDone, IsPaid, IsTurn}
+use Rattle.node.specs.Actions.{IsTurnOf, due, due_after, AreInTurn, due_in_the_end, nothing_due, due_to_new, but_first}
 use Rattle.node.proofs.Lists.{In}
 use Rattle.node.proofs.Neighbours.{is_itself, at_head, head_from, head_of_is, that_is}
 use Rattle.node.proofs.SoundLaws.{updates_bound}
 use Rattle.node.proofs.SoundActions.{Grown, grown_same, grown_then, grown_act, sound_act, seat_act}
 use Rattle.node.proofs.DoneActions.{came_left, grown_does}
-use Rattle.node.proofs.DoneRules.{last_appended, seen_same, seen_other, seen_grows, may_take, taken_from, not_first, nothing_in}
+use Rattle.node.proofs.DoneRules.{last_appended, seen_same, seen_other, seen_grows, may_take, taken_from, not_first}
+use Rattle.node.proofs.DoneRules.{nothing_in}
 use Rattle.node.proofs.DoneSteps.{last_trimmed, step_whole}
 use Rattle.node.proofs.RuleLaws.{same_is}
 use Rattle.world.proofs.Streaming.{IsRun, sent_to}
@@ -44,12 +51,16 @@ abbrev Along : (Due → ServerState → Type 0) → Due → ServerState → List
 Along P d s [] = P d s
 Along P d s (a ∷ later) = P d s × Along P (due d s a) (act s a).state later
 
-along_end : (P : Due → ServerState → Type 0) (actions : List Action) (d : Due) (s : ServerState) → Along P d s actions → P (due_in_the_end d s actions) (does s actions).state
+along_end : (P : Due → ServerState → Type 0) (actions : List Action) (d : Due) (s : ServerState)
+    → Along P d s actions
+    → P (due_in_the_end d s actions) (does s actions).state
 unfolding does
 along_end P [] d s h = h
 along_end P (a ∷ later) d s h = along_end P later (due d s a) (act s a).state h.1
 
-along_now : (P : Due → ServerState → Type 0) (actions : List Action) (d : Due) (s : ServerState) → Along P d s actions → P d s
+along_now : (P : Due → ServerState → Type 0) (actions : List Action) (d : Due) (s : ServerState)
+    → Along P d s actions
+    → P d s
 along_now P [] d s h = h
 along_now P (a ∷ later) d s h = h.0
 
@@ -68,10 +79,14 @@ act_seen s (Enter port call) o h low = omega arith
 act_seen s (Ask port key) o h low = omega arith
 act_seen s (Show port key) o h low = omega arith
 
-does_seen : (actions : List Action) (c : Cause) (s : ServerState) (o : ℕ) → AreGuarded c s actions → o < 16 → seen_of s o ≤ seen_of (does s actions).state o
+does_seen : (actions : List Action) (c : Cause) (s : ServerState) (o : ℕ)
+    → AreGuarded c s actions
+    → o < 16
+    → seen_of s o ≤ seen_of (does s actions).state o
 unfolding does
 does_seen [] c s o g low = omega arith
-does_seen (a ∷ later) c s o g low = omega (arith, act_seen s a o g.0 low, does_seen later (left c) (act s a).state o g.2 low)
+does_seen (a ∷ later) c s o g low =
+    omega (arith, act_seen s a o g.0 low, does_seen later (left c) (act s a).state o g.2 low)
 
 -- ---- an entry that comes is the next one
 
@@ -99,7 +114,8 @@ abbrev Fresh : Cause → ServerState → ServerState → Type 0
 Fresh c s u =
     (is_head u ≡ true)
     ⊎ IsSame s u
-    ⊎ ((i : ℕ) × (m : Peer) × (e : LogEntry) × (c ≡ Some (From i m)) × (m.body ≡ Forward e) × (e.number ≤ last_number u.store))
+    ⊎ ((i : ℕ) × (m : Peer) × (e : LogEntry) × (c ≡ Some (From i m)) × (m.body ≡ Forward e)
+    × (e.number ≤ last_number u.store))
 
 head_stays : (u t : ServerState) → Grown u t → IsSound t → is_head u ≡ true → is_head t ≡ true
 head_stays u t g h first =
@@ -136,12 +152,28 @@ same_act u (Show port key) h = inr (record { last = refl; seen = refl })
 abbrev IsOf : Cause → Input → Type 0
 IsOf c input = (x : Input) → c ≡ Some x → Some input ≡ Some x
 
-passed_of : (c : Cause) (input : Input) (u : ServerState) (e : LogEntry) → IsOf c input → IsPassed c u e → IsPassed (Some input) u e
-passed_of c input u e f p = record { from = p.from; message = p.message; came = f _ p.came; body = p.body; joined = p.joined; previous = p.previous; next = p.next }
+passed_of : (c : Cause) (input : Input) (u : ServerState) (e : LogEntry)
+    → IsOf c input
+    → IsPassed c u e
+    → IsPassed (Some input) u e
+passed_of c input u e f p =
+    record {
+      from = p.from;
+      message = p.message;
+      came = f _ p.came;
+      body = p.body;
+      joined = p.joined;
+      previous = p.previous;
+      next = p.next;
+    }
 
-fresh_appended : (c : Cause) (input : Input) (s u : ServerState) (e : LogEntry) → IsOf c input → IsMade c u e ⊎ IsPassed c u e → Fresh (Some input) s (appended u e)
+fresh_appended : (c : Cause) (input : Input) (s u : ServerState) (e : LogEntry)
+    → IsOf c input
+    → IsMade c u e ⊎ IsPassed c u e
+    → Fresh (Some input) s (appended u e)
 fresh_appended c input s u e f (inl m) = inl (head_appended u e ∙ m.head)
-fresh_appended c input s u e f (inr p) = inr (inr (p.from, p.message, e, f _ p.came, p.body, omega (arith, p.next, last_appended u e)))
+fresh_appended c input s u e f (inr p) =
+    inr (inr (p.from, p.message, e, f _ p.came, p.body, omega (arith, p.next, last_appended u e)))
 
 act_appended : (u : ServerState) (e : LogEntry) → (act u (Append e)).state ≡ appended u e
 unfolding act
@@ -155,16 +187,21 @@ fresh_act : (c : Cause) (input : Input) (s u : ServerState) (a : Action)
     → Fresh (Some input) s u
     → Fresh (Some input) s (act u a).state
 fresh_act c input s u a f h k g (inl first) = inl (head_stays u (act u a).state (grown_act c u a g) k first)
-fresh_act c input s u a f h k g (inr (inr x)) = inr (inr (x.0, x.1, x.2, x.3, x.4, omega (arith, x.5, act_last c u a h)))
+fresh_act c input s u a f h k g (inr (inr x)) =
+    inr (inr (x.0, x.1, x.2, x.3, x.4, omega (arith, x.5, act_last c u a h)))
 fresh_act c input s u a f h k g (inr (inl same)) = elim (same_act u a h) [
   | inr more ↦ inr (inl (record { last = more.last ∙ same.last; seen = more.seen ∙ same.seen }))
   | inl new ↦ subst (λ x. Guard c u x → Fresh (Some input) s (act u x).state) (sym new.1)
       (λ g. subst (λ t. Fresh (Some input) s t) (sym (act_appended u new.0)) (fresh_appended c input s u new.0 f g.1)) g
 ]
 
-update_below : (above : ℕ) (us : List OpenUpdate) (next_id : ℕ) (u : OpenUpdate) → AreUpdates above us next_id → In u us → u.id < next_id
+update_below : (above : ℕ) (us : List OpenUpdate) (next_id : ℕ) (u : OpenUpdate)
+    → AreUpdates above us next_id
+    → In u us
+    → u.id < next_id
 update_below above [] next_id u h i = absurd (nothing_in u i)
-update_below above (v ∷ us) next_id u h (zero, e) = let same : v ≡ u = same_Some v u e in rw (← same) (updates_bound v.id us next_id h.3)
+update_below above (v ∷ us) next_id u h (zero, e) =
+    let same : v ≡ u = same_Some v u e in rw (← same) (updates_bound v.id us next_id h.3)
 update_below above (v ∷ us) next_id u h (suc k, e) = update_below v.id us next_id u h.3 (k, e)
 
 -- an entry that is appended is the next own one, if it is an own one
@@ -174,11 +211,19 @@ made_next c u e h m own =
     let from : e.origin ≡ m.origin = ap (λ (x : LogEntry). x.origin) m.made in
     let named : e.id ≡ m.id = ap (λ (x : LogEntry). x.id) m.made in
     elim m.wanted [
-      | inl mine ↦ (named ∙ may.next ∙ ap (λ o. seen_of u o + 1) mine.0, omega (arith, named, update_below 0 u.pend u.next_id _ h.updates mine.2))
+      | inl mine ↦ (
+        named ∙ may.next ∙ ap (λ o. seen_of u o + 1) mine.0,
+        omega (arith, named, update_below 0 u.pend u.next_id _ h.updates mine.2),
+      )
       | inr other ↦ absurd (other.4 (sym from ∙ own))
     ]
 
-passed_next : (input : Input) (s u : ServerState) (e : LogEntry) → IsExpected s input → Grown s u → Fresh (Some input) s u → IsPassed (Some input) u e → IsNextOwn u e
+passed_next : (input : Input) (s u : ServerState) (e : LogEntry)
+    → IsExpected s input
+    → Grown s u
+    → Fresh (Some input) s u
+    → IsPassed (Some input) u e
+    → IsNextOwn u e
 passed_next input s u e expected g (inl first) p = absurd (not_first u p.from p.previous first)
 passed_next input s u e expected g (inr (inl same)) p =
     let is : input ≡ From p.from p.message = same_Some input _ p.came in
@@ -186,7 +231,8 @@ passed_next input s u e expected g (inr (inl same)) p =
 passed_next input s u e expected g (inr (inr x)) p =
     let one : From x.0 x.1 ≡ From p.from p.message = same_Some _ _ (sym x.3 ∙ p.came) in
     let message : x.1 ≡ p.message = cc in
-    let entry : x.2 ≡ e = (let b : Forward x.2 ≡ Forward e = sym x.4 ∙ ap (λ (m : Peer). m.body) message ∙ p.body in cc) in
+    let entry : x.2 ≡ e =
+    (let b : Forward x.2 ≡ Forward e = sym x.4 ∙ ap (λ (m : Peer). m.body) message ∙ p.body in cc) in
     absurd (omega (arith, x.5, p.next, ap (λ (y : LogEntry). y.number) entry))
 
 -- ---- own ids
@@ -211,7 +257,11 @@ own_along (a ∷ later) c input s u d f expected grown fresh g t own =
     )
   where
     next_own : (e : LogEntry) → Guard c u (Append e) → IsNextOwn u e
-    next_own e x = elim x.1 [ inl m ↦ made_next c u e g.0 m | inr p ↦ passed_next input s u e expected grown fresh (passed_of c input u e f p) ]
+    next_own e x = elim x.1 [
+      | inl m ↦ made_next c u e g.0 m
+      | inr p ↦ passed_next input s u e expected grown fresh
+          (passed_of c input u e f p)
+    ]
 
 -- ---- what goes to the head
 
@@ -220,7 +270,8 @@ ops_to y os = op_ids (sent_to y os)
 
 pub op_ids-append : (ms ns : List Peer) → op_ids (ms ++ ns) ≡ op_ids ms ++ op_ids ns
 op_ids-append [] ns = refl
-op_ids-append (m ∷ ms) ns = ap (λ ks. op_id m.body ++ ks) (op_ids-append ms ns) ∙ sym (append_assoc (op_id m.body) (op_ids ms) (op_ids ns))
+op_ids-append (m ∷ ms) ns =
+    ap (λ ks. op_id m.body ++ ks) (op_ids-append ms ns) ∙ sym (append_assoc (op_id m.body) (op_ids ms) (op_ids ns))
 
 ops_to-append : (y : ℕ) (os ps : List Output) → ops_to y (os ++ ps) ≡ ops_to y os ++ ops_to y ps
 ops_to-append y os ps = ap (λ ms. op_ids ms) (sent_to-append y os ps) ∙ op_ids-append (sent_to y os) (sent_to y ps)
@@ -238,7 +289,8 @@ reply_none y reply None = refl
 reply_none y reply (Some u) = refl
 
 closed_none : (y id : ℕ) (pend : List OpenUpdate) (e : LogEntry) → ops_to y (reply_to id pend e) ≡ []
-closed_none y id pend e = cond_both (e.origin == id) _ _ (λ (os : List Output). ops_to y os ≡ []) (λ t. reply_none y e.reply (open_update pend e.id)) (λ f. refl)
+closed_none y id pend e = cond_both (e.origin == id) _ _ (λ (os : List Output). ops_to y os ≡ [])
+    (λ t. reply_none y e.reply (open_update pend e.id)) (λ f. refl)
 
 -- these ids went out, and those that are due follow them
 record IsSent (m : ℕ) (sent : List ℕ) (us : List OpenUpdate) (next_id : ℕ) : Type 0 where
@@ -248,12 +300,26 @@ record IsSent (m : ℕ) (sent : List ℕ) (us : List OpenUpdate) (next_id : ℕ)
   out : IsRun m middle sent
   due : IsRun middle last (ids us)
 
-sent_more : (m : ℕ) (xs ys : List ℕ) (us vs : List OpenUpdate) (n k : ℕ) (h : IsSent m xs us n) → IsSent h.middle ys vs k → IsSent m (xs ++ ys) vs k
-sent_more m xs ys us vs n k h g = record { middle = g.middle; last = g.last; issued = g.issued; out = run-append xs ys m h.middle g.middle h.out g.out; due = g.due }
+sent_more : (m : ℕ) (xs ys : List ℕ) (us vs : List OpenUpdate) (n k : ℕ) (h : IsSent m xs us n)
+    → IsSent h.middle ys vs k
+    → IsSent m (xs ++ ys) vs k
+sent_more m xs ys us vs n k h g =
+    record {
+      middle = g.middle;
+      last = g.last;
+      issued = g.issued;
+      out = run-append xs ys m h.middle g.middle h.out g.out;
+      due = g.due;
+    }
 
 -- nothing goes out, and the same is due
-sent_still : (m last : ℕ) (os : List ℕ) (us : List OpenUpdate) (n : ℕ) → os ≡ [] → n ≡ last + 1 → IsRun m last (ids us) → IsSent m os us n
-sent_still m last os us n none issued run = record { middle = m; last = last; issued = issued; out = rw none refl; due = run }
+sent_still : (m last : ℕ) (os : List ℕ) (us : List OpenUpdate) (n : ℕ)
+    → os ≡ []
+    → n ≡ last + 1
+    → IsRun m last (ids us)
+    → IsSent m os us n
+sent_still m last os us n none issued run =
+    record { middle = m; last = last; issued = issued; out = rw none refl; due = run }
 
 sent_op : (c : Cause) (d : Due) (s : ServerState) (j : ℕ) (body : Body) (h m last : ℕ)
     → MaySend c s j body
@@ -266,11 +332,22 @@ sent_op c d s j (Op id call) h m last g t to issued run =
     let there : j ≡ h = same_Some j h (sym g.0 ∙ to) in
     let first : IsRun m last (id ∷ ids t.1) = subst (λ us. IsRun m last (ids us)) t.2 run in
     let out : ops_to h (message_to s (Some j) (Op id call)) ≡ id ∷ [] = rw (eq-eqb j h there) refl in
-    record { middle = m + 1; last = last; issued = issued; out = rw out (first.0, refl); due = subst (λ us. IsRun (m + 1) last (ids us)) (sym (ap (λ (us : List OpenUpdate). but_first us) t.2)) first.1 }
-sent_op c d s j (Forward e) h m last g t to issued run = sent_still m last _ d.unsent s.next_id (no_op s h j (Forward e) refl) issued run
-sent_op c d s j (Ack n) h m last g t to issued run = sent_still m last _ d.unsent s.next_id (no_op s h j (Ack n) refl) issued run
-sent_op c d s j (Query ask key) h m last g t to issued run = sent_still m last _ d.unsent s.next_id (no_op s h j (Query ask key) refl) issued run
-sent_op c d s j (Answer ask n) h m last g t to issued run = sent_still m last _ d.unsent s.next_id (no_op s h j (Answer ask n) refl) issued run
+    record {
+      middle = m + 1;
+      last = last;
+      issued = issued;
+      out = rw out (first.0, refl);
+      due = subst (λ us. IsRun (m + 1) last (ids us))
+          (sym (ap (λ (us : List OpenUpdate). but_first us) t.2)) first.1;
+    }
+sent_op c d s j (Forward e) h m last g t to issued run =
+    sent_still m last _ d.unsent s.next_id (no_op s h j (Forward e) refl) issued run
+sent_op c d s j (Ack n) h m last g t to issued run =
+    sent_still m last _ d.unsent s.next_id (no_op s h j (Ack n) refl) issued run
+sent_op c d s j (Query ask key) h m last g t to issued run =
+    sent_still m last _ d.unsent s.next_id (no_op s h j (Query ask key) refl) issued run
+sent_op c d s j (Answer ask n) h m last g t to issued run =
+    sent_still m last _ d.unsent s.next_id (no_op s h j (Answer ask n) refl) issued run
 
 widened_op : (d : Due) (s : ServerState) (v : View) (h m last : ℕ)
     → d ≡ nothing_due s
@@ -281,8 +358,10 @@ widened_op : (d : Due) (s : ServerState) (v : View) (h m last : ℕ)
     → IsSent m [] (due_to_new s (widened s v)).unsent (widened s v).next_id
 unfolding widened
 widened_op d s v h m last t was is issued run =
-    let none : (due_to_new s (widened s v)).unsent ≡ [] = rw (same_self (head_of s) (head_of (widened s v)) h was is) refl in
-    sent_still m last [] _ s.next_id refl issued (subst (λ us. IsRun m last (ids us)) (sym none) (subst (λ (x : Due). IsRun m last (ids x.unsent)) t run))
+    let none : (due_to_new s (widened s v)).unsent ≡ [] =
+    rw (same_self (head_of s) (head_of (widened s v)) h was is) refl in
+    sent_still m last [] _ s.next_id refl issued
+    (subst (λ us. IsRun m last (ids us)) (sym none) (subst (λ (x : Due). IsRun m last (ids x.unsent)) t run))
 
 act_op : (c : Cause) (d : Due) (s : ServerState) (a : Action) (h m last : ℕ)
     → Guard c s a
@@ -296,7 +375,8 @@ unfolding act appended entered asked trimmed
 act_op c d s (Widen v) h m last g t was is issued run = widened_op d s v h m last t was is issued run
 act_op c d s (Append e) h m last g t was is issued run = sent_still m last [] d.unsent s.next_id refl issued run
 act_op c d s (Reach n) h m last g t was is issued run = sent_still m last [] d.unsent s.next_id refl issued run
-act_op c d s (Settle e) h m last g t was is issued run = sent_still m last _ d.unsent s.next_id (closed_none h s.id s.pend e) issued run
+act_op c d s (Settle e) h m last g t was is issued run =
+    sent_still m last _ d.unsent s.next_id (closed_none h s.id s.pend e) issued run
 act_op c d s (Send j body) h m last g t was is issued run = sent_op c d s j body h m last g.0 t was issued run
 act_op c d s (Finish r n) h m last g t was is issued run = sent_still m last [] d.unsent s.next_id refl issued run
 act_op c d s Trim h m last g t was is issued run = sent_still m last [] d.unsent s.next_id refl issued run
@@ -305,13 +385,19 @@ act_op c d s (Enter port call) h m last g t was is issued run = record {
   last = last + 1;
   issued = omega (arith, issued);
   out = refl;
-  due = rw (ids-append d.unsent (record { id = s.next_id; port = port; call = call } ∷ [])) (run-append (ids d.unsent) (s.next_id ∷ []) m last (last + 1) run (issued, refl));
+  due = rw (ids-append d.unsent (record { id = s.next_id; port = port; call = call } ∷ []))
+      (run-append (ids d.unsent) (s.next_id ∷ []) m last (last + 1) run (issued, refl));
 }
 act_op c d s (Ask port key) h m last g t was is issued run = sent_still m last [] d.unsent s.next_id refl issued run
 act_op c d s (Show port key) h m last g t was is issued run = sent_still m last [] d.unsent s.next_id refl issued run
 
 -- a server that is the head's at first and at last is so in between
-head_between : (s u t : ServerState) (h : ℕ) → Grown s u → Grown u t → head_of s ≡ Some h → head_of t ≡ Some h → head_of u ≡ Some h
+head_between : (s u t : ServerState) (h : ℕ)
+    → Grown s u
+    → Grown u t
+    → head_of s ≡ Some h
+    → head_of t ≡ Some h
+    → head_of u ≡ Some h
 head_between s u t h g k was is =
     let first = head_of_is s h was in
     let last = head_of_is t h is in
@@ -339,14 +425,20 @@ does_op (a ∷ later) c d s h m last g t was is issued run =
     (sent_more m (ops_to h (act s a).outputs) (ops_to h (does u later).outputs) (due d s a).unsent _ u.next_id _ one
     (does_op later (left c) (due d s a) u h one.middle one.last g.2 t.1 mid is one.issued one.due))
 
-sent_no_op : (c : Cause) (s : ServerState) (j : ℕ) (body : Body) (h : ℕ) → MaySend c s j body → (head_of s ≡ Some h → ⊥) → ops_to h (message_to s (Some j) body) ≡ []
+sent_no_op : (c : Cause) (s : ServerState) (j : ℕ) (body : Body) (h : ℕ)
+    → MaySend c s j body
+    → (head_of s ≡ Some h → ⊥)
+    → ops_to h (message_to s (Some j) body) ≡ []
 sent_no_op c s j (Op id call) h g other = rw (ne_eqb j h (λ same. other (g.0 ∙ ap Some same))) refl
 sent_no_op c s j (Forward e) h g other = no_op s h j (Forward e) refl
 sent_no_op c s j (Ack n) h g other = no_op s h j (Ack n) refl
 sent_no_op c s j (Query ask key) h g other = no_op s h j (Query ask key) refl
 sent_no_op c s j (Answer ask n) h g other = no_op s h j (Answer ask n) refl
 
-act_no_op : (c : Cause) (s : ServerState) (a : Action) (h : ℕ) → Guard c s a → (head_of s ≡ Some h → ⊥) → ops_to h (act s a).outputs ≡ []
+act_no_op : (c : Cause) (s : ServerState) (a : Action) (h : ℕ)
+    → Guard c s a
+    → (head_of s ≡ Some h → ⊥)
+    → ops_to h (act s a).outputs ≡ []
 unfolding act
 act_no_op c s (Widen v) h g other = refl
 act_no_op c s (Append e) h g other = refl
@@ -360,11 +452,18 @@ act_no_op c s (Ask port key) h g other = refl
 act_no_op c s (Show port key) h g other = refl
 
 -- a new head is due all own updates that wait
-new_widened : (s : ServerState) (v : View) (h : ℕ) → (head_of s ≡ Some h → ⊥) → head_of (widened s v) ≡ Some h → (due_to_new s (widened s v)).unsent ≡ (widened s v).pend
+new_widened : (s : ServerState) (v : View) (h : ℕ)
+    → (head_of s ≡ Some h → ⊥)
+    → head_of (widened s v) ≡ Some h
+    → (due_to_new s (widened s v)).unsent ≡ (widened s v).pend
 unfolding widened
-new_widened s v h other is = cond_both (is_same (head_of s) (head_of (widened s v))) [] s.pend (λ (us : List OpenUpdate). us ≡ s.pend) (λ t. absurd (other (same_is _ _ t ∙ is))) (λ f. refl)
+new_widened s v h other is = cond_both (is_same (head_of s) (head_of (widened s v))) [] s.pend
+    (λ (us : List OpenUpdate). us ≡ s.pend) (λ t. absurd (other (same_is _ _ t ∙ is))) (λ f. refl)
 
-act_new_head : (d : Due) (s : ServerState) (a : Action) (h : ℕ) → (head_of s ≡ Some h → ⊥) → head_of (act s a).state ≡ Some h → (due d s a).unsent ≡ (act s a).state.pend
+act_new_head : (d : Due) (s : ServerState) (a : Action) (h : ℕ)
+    → (head_of s ≡ Some h → ⊥)
+    → head_of (act s a).state ≡ Some h
+    → (due d s a).unsent ≡ (act s a).state.pend
 unfolding act appended entered asked trimmed
 act_new_head d s (Widen v) h other is = new_widened s v h other is
 act_new_head d s (Append e) h other is = absurd (other is)
@@ -399,9 +498,11 @@ does_new_op (a ∷ later) c d s h g t own other is =
             omega (arith, run_up _ mine.answered _ mine.taken, seen, ap (λ o. seen_of (does u later).state o) grown.id),
             rw (ops_to-append h (act s a).outputs (does u later).outputs, none)
                 (does_op later (left c) (due d s a) u h mine.answered mine.last g.2 t.1 now is mine.issued
-                (subst (λ us. IsRun mine.answered mine.last (ids us)) (sym (act_new_head d s a h other now)) mine.waiting)),
+                (subst (λ us. IsRun mine.answered mine.last (ids us)) (sym (act_new_head d s a h other now))
+                mine.waiting)),
           ))
-      | inr still ↦ (let r = does_new_op later (left c) (due d s a) u h g.2 t.1 own.1 still is in (r.0, r.1, rw (ops_to-append h (act s a).outputs (does u later).outputs, none) r.2))
+      | inr still ↦ (let r = does_new_op later (left c) (due d s a) u h g.2 t.1 own.1 still is in
+          (r.0, r.1, rw (ops_to-append h (act s a).outputs (does u later).outputs, none) r.2))
     ]
 
 -- ---- the head
@@ -432,7 +533,11 @@ left_uncalled (Some (From i m)) port made e = cc
 left_uncalled (Some (Gone j)) port made e = cc
 
 -- an id of the run is that of an update
-run_has : (us : List OpenUpdate) (from last k : ℕ) → IsRun from last (ids us) → from ≤ k → k < last → (u : OpenUpdate) × In u us × (u.id ≡ k + 1)
+run_has : (us : List OpenUpdate) (from last k : ℕ)
+    → IsRun from last (ids us)
+    → from ≤ k
+    → k < last
+    → (u : OpenUpdate) × In u us × (u.id ≡ k + 1)
 run_has [] from last k run low high = absurd (omega (arith, run, low, high))
 run_has (u ∷ us) from last k run low high = elim (cases_lt from k) [
   | inl less ↦ (let r = run_has us (from + 1) last k run.1 (omega (arith, less)) high in (r.0, (suc r.1.0, r.1.1), r.2))
@@ -440,7 +545,11 @@ run_has (u ∷ us) from last k run low high = elim (cases_lt from k) [
 ]
 
 -- who can't take any that is due has seen all
-completes : (s : ServerState) (d : Due) → OwnDue s d → Leads s d → ((u : OpenUpdate) → In u d.unsent → is_taken s s.id u.id ≡ false) → s.next_id ≡ seen_of s s.id + 1
+completes : (s : ServerState) (d : Due)
+    → OwnDue s d
+    → Leads s d
+    → ((u : OpenUpdate) → In u d.unsent → is_taken s s.id u.id ≡ false)
+    → s.next_id ≡ seen_of s s.id + 1
 completes s d own l untaken = elim l.room [
   | inr all ↦ all
   | inl room ↦ elim (cases_lt (seen_of s s.id) l.last) [
@@ -461,7 +570,12 @@ record IsAlike (s t : ServerState) : Type 0 where
 alike_self : (s : ServerState) → IsAlike s s
 alike_self s = record { id = refl; head = refl; next_id = refl; seen = refl; last = refl }
 
-led_alike : (c : Cause) (s t : ServerState) (d e : Due) → IsAlike s t → e.since ≡ d.since → e.unsent ≡ d.unsent → IsLed c s d → IsLed (left c) t e
+led_alike : (c : Cause) (s t : ServerState) (d e : Due)
+    → IsAlike s t
+    → e.since ≡ d.since
+    → e.unsent ≡ d.unsent
+    → IsLed c s d
+    → IsLed (left c) t e
 led_alike c s t d e a since unsent h = record {
   since = subst (λ x. HasRoom x) (sym since) h.since;
   leads = λ f. (let l = h.leads (sym a.head ∙ f) in
@@ -471,21 +585,30 @@ led_alike c s t d e a since unsent h = record {
         low = omega (arith, l.low, a.seen);
         issued = a.next_id ∙ l.issued;
         run = subst (λ us. IsRun l.from l.last (ids us)) (sym unsent) l.run;
-        room = elim l.room [ inl r ↦ inl (omega (arith, r, a.next_id, a.seen, a.last)) | inr r ↦ inr (omega (arith, r, a.next_id, a.seen)) ];
+        room = elim l.room [
+          | inl r ↦ inl (omega (arith, r, a.next_id, a.seen, a.last))
+          | inr r ↦ inr
+              (omega (arith, r, a.next_id, a.seen))
+        ];
       });
   called = λ f port made x. absurd (left_uncalled c port made x);
 }
 
 alike_widened : (s : ServerState) (v : View) → head_of s ≡ head_of (widened s v) → IsAlike s (widened s v)
 unfolding widened
-alike_widened s v same = record { id = refl; head = ap (λ o. is_that o s.id) (sym same); next_id = refl; seen = refl; last = refl }
+alike_widened s v same =
+    record { id = refl; head = ap (λ o. is_that o s.id) (sym same); next_id = refl; seen = refl; last = refl }
 
 room_widened : (s : ServerState) (v : View) → HasRoom s → HasRoom (widened s v)
 unfolding widened
 room_widened s v h = h
 
 -- a new head has numbers for all its own updates
-leads_new : (s : ServerState) (v : View) (us : List OpenUpdate) → us ≡ s.pend → OwnDue s (nothing_due s) → HasRoom s → Leads (widened s v) (record (due_to_new s (widened s v)) { unsent = us })
+leads_new : (s : ServerState) (v : View) (us : List OpenUpdate)
+    → us ≡ s.pend
+    → OwnDue s (nothing_due s)
+    → HasRoom s
+    → Leads (widened s v) (record (due_to_new s (widened s v)) { unsent = us })
 unfolding widened
 leads_new s v us is own room = record {
   from = own.answered;
@@ -496,14 +619,20 @@ leads_new s v us is own room = record {
   room = inl room;
 }
 
-led_widened : (c : Cause) (d : Due) (s : ServerState) (v : View) → d ≡ nothing_due s → OwnDue s d → IsLed c s d → IsLed (left c) (widened s v) (due_to_new s (widened s v))
+led_widened : (c : Cause) (d : Due) (s : ServerState) (v : View)
+    → d ≡ nothing_due s
+    → OwnDue s d
+    → IsLed c s d
+    → IsLed (left c) (widened s v) (due_to_new s (widened s v))
 led_widened c d s v t own h =
     let since : d.since ≡ s = ap (λ (x : Due). x.since) t in
     elim (cases_Bool (is_same (head_of s) (head_of (widened s v)))) [
-      | inl same ↦ led_alike c s (widened s v) d (due_to_new s (widened s v)) (alike_widened s v (same_is _ _ same)) (sym since) (rw same (sym (ap (λ (x : Due). x.unsent) t))) h
+      | inl same ↦ led_alike c s (widened s v) d (due_to_new s (widened s v)) (alike_widened s v (same_is _ _ same))
+          (sym since) (rw same (sym (ap (λ (x : Due). x.unsent) t))) h
       | inr other ↦ record {
         since = subst (λ x. HasRoom x) since h.since;
-        leads = λ f. leads_new s v (due_to_new s (widened s v)).unsent (rw other refl) (subst (λ (x : Due). OwnDue s x) t own) (subst (λ x. HasRoom x) since h.since);
+        leads = λ f. leads_new s v (due_to_new s (widened s v)).unsent (rw other refl)
+            (subst (λ (x : Due). OwnDue s x) t own) (subst (λ x. HasRoom x) since h.since);
         called = λ f port made x. absurd (left_uncalled c port made x);
       }
     ]
@@ -512,7 +641,13 @@ appended_parts : (s : ServerState) (e : LogEntry) → ((appended s e).id ≡ s.i
 unfolding appended
 appended_parts s e = (refl, refl)
 
-led_appended : (c : Cause) (d : Due) (s : ServerState) (e : LogEntry) → IsSound s → Guard c s (Append e) → IsTurn d s (Append e) → OwnDue s d → IsLed c s d → IsLed (left c) (appended s e) d
+led_appended : (c : Cause) (d : Due) (s : ServerState) (e : LogEntry)
+    → IsSound s
+    → Guard c s (Append e)
+    → IsTurn d s (Append e)
+    → OwnDue s d
+    → IsLed c s d
+    → IsLed (left c) (appended s e) d
 led_appended c d s e h g t own l = record {
   since = l.since;
   leads = λ f. leads_appended (sym (head_appended s e) ∙ f);
@@ -529,19 +664,26 @@ led_appended c d s e h g t own l = record {
     own_entry k mine m =
         let next = made_next c s e h m mine in
         let seen : seen_of (appended s e) (appended s e).id ≡ seen_of s s.id + 1 =
-        ap (λ o. seen_of (appended s e) o) (parts.0 ∙ sym mine) ∙ seen_same s e (subst (λ o. o < length s.seen) (sym mine) low) ∙ ap (λ o. max (seen_of s o) e.id) mine ∙ omega (arith, next.0) in
+        ap (λ o. seen_of (appended s e) o) (parts.0 ∙ sym mine)
+        ∙ seen_same s e (subst (λ o. o < length s.seen) (sym mine) low) ∙ ap (λ o. max (seen_of s o) e.id) mine
+        ∙ omega (arith, next.0) in
         record {
           from = k.from;
           last = k.last;
           low = omega (arith, k.low, seen);
           issued = parts.1 ∙ k.issued;
           run = k.run;
-          room = elim k.room [ inl r ↦ inl (omega (arith, r, seen, parts.1, last_appended s e)) | inr r ↦ absurd (omega (arith, r, next.0, next.1)) ];
+          room = elim k.room [
+            | inl r ↦ inl (omega (arith, r, seen, parts.1, last_appended s e))
+            | inr r ↦ absurd
+                (omega (arith, r, next.0, next.1))
+          ];
         }
 
     other_entry : Leads s d → e.origin ≢ s.id → Leads (appended s e) d
     other_entry k other =
-        let seen : seen_of (appended s e) (appended s e).id ≡ seen_of s s.id = ap (λ o. seen_of (appended s e) o) parts.0 ∙ seen_other s e s.id (λ is. other (sym is)) in
+        let seen : seen_of (appended s e) (appended s e).id ≡ seen_of s s.id =
+        ap (λ o. seen_of (appended s e) o) parts.0 ∙ seen_other s e s.id (λ is. other (sym is)) in
         let all = completes s d own k (t other) in
         record {
           from = k.from;
@@ -555,7 +697,8 @@ led_appended c d s e h g t own l = record {
     leads_appended : is_head s ≡ true → Leads (appended s e) d
     leads_appended f = elim g.1 [
       | inr p ↦ absurd (not_first s p.from p.previous f)
-      | inl m ↦ elim (cases_eq e.origin s.id) [ inl mine ↦ own_entry (l.leads f) mine m | inr other ↦ other_entry (l.leads f) other ]
+      | inl m ↦ elim (cases_eq e.origin s.id)
+          [ inl mine ↦ own_entry (l.leads f) mine m | inr other ↦ other_entry (l.leads f) other ]
     ]
 
 alike_trimmed : (s : ServerState) → IsSound s → IsAlike s (trimmed s)
@@ -565,7 +708,8 @@ alike_trimmed s h = record { id = refl; head = refl; next_id = refl; seen = refl
 led_entered : (c : Cause) (d : Due) (s : ServerState) (port : ℕ) (call : Call)
     → Guard c s (Enter port call)
     → IsLed c s d
-    → IsLed (left c) (entered s port call) (record d { unsent = d.unsent ++ record { id = s.next_id; port = port; call = call } ∷ [] })
+    → IsLed (left c) (entered s port call)
+    (record d { unsent = d.unsent ++ record { id = s.next_id; port = port; call = call } ∷ [] })
 unfolding entered
 led_entered c d s port call g l = record {
   since = l.since;
@@ -578,13 +722,17 @@ led_entered c d s port call g l = record {
         last = k.last + 1;
         low = k.low;
         issued = omega (arith, k.issued);
-        run = rw (ids-append d.unsent (record { id = s.next_id; port = port; call = call } ∷ [])) (run-append (ids d.unsent) (s.next_id ∷ []) k.from k.last (k.last + 1) k.run (k.issued, refl));
+        run = rw (ids-append d.unsent (record { id = s.next_id; port = port; call = call } ∷ []))
+            (run-append (ids d.unsent) (s.next_id ∷ []) k.from k.last (k.last + 1) k.run (k.issued, refl));
         room = inl (omega (arith, all, ltb-true _ _ room));
       });
   called = λ f port made x. absurd (left_uncalled c port made x);
 }
 
-led_sent : (c : Cause) (d : Due) (s : ServerState) (j : ℕ) (body : Body) → MaySend c s j body → IsLed c s d → IsLed (left c) s (due_after body d)
+led_sent : (c : Cause) (d : Due) (s : ServerState) (j : ℕ) (body : Body)
+    → MaySend c s j body
+    → IsLed c s d
+    → IsLed (left c) s (due_after body d)
 led_sent c d s j (Op id call) g l = record {
   since = l.since;
   leads = λ f. absurd (g.1 (same_Some j s.id (sym g.0 ∙ that_is _ s.id f)));
@@ -595,17 +743,27 @@ led_sent c d s j (Ack n) g l = led_alike c s s d _ (alike_self s) refl refl l
 led_sent c d s j (Query ask key) g l = led_alike c s s d _ (alike_self s) refl refl l
 led_sent c d s j (Answer ask n) g l = led_alike c s s d _ (alike_self s) refl refl l
 
-led_act : (c : Cause) (d : Due) (s : ServerState) (a : Action) → IsSound s → Guard c s a → IsTurn d s a → OwnDue s d → IsLed c s d → IsLed (left c) (act s a).state (due d s a)
+led_act : (c : Cause) (d : Due) (s : ServerState) (a : Action)
+    → IsSound s
+    → Guard c s a
+    → IsTurn d s a
+    → OwnDue s d
+    → IsLed c s d
+    → IsLed (left c) (act s a).state (due d s a)
 unfolding act asked
 led_act c d s (Widen v) h g t own l = led_widened c d s v t own l
 led_act c d s (Append e) h g t own l = led_appended c d s e h g t own l
-led_act c d s (Reach n) h g t own l = led_alike c s _ d _ (record { id = refl; head = refl; next_id = refl; seen = refl; last = refl }) refl refl l
-led_act c d s (Settle e) h g t own l = led_alike c s _ d _ (record { id = refl; head = refl; next_id = refl; seen = refl; last = refl }) refl refl l
+led_act c d s (Reach n) h g t own l =
+    led_alike c s _ d _ (record { id = refl; head = refl; next_id = refl; seen = refl; last = refl }) refl refl l
+led_act c d s (Settle e) h g t own l =
+    led_alike c s _ d _ (record { id = refl; head = refl; next_id = refl; seen = refl; last = refl }) refl refl l
 led_act c d s (Send j body) h g t own l = led_sent c d s j body g.0 l
-led_act c d s (Finish r n) h g t own l = led_alike c s _ d _ (record { id = refl; head = refl; next_id = refl; seen = refl; last = refl }) refl refl l
+led_act c d s (Finish r n) h g t own l =
+    led_alike c s _ d _ (record { id = refl; head = refl; next_id = refl; seen = refl; last = refl }) refl refl l
 led_act c d s Trim h g t own l = led_alike c s (trimmed s) d d (alike_trimmed s h) refl refl l
 led_act c d s (Enter port call) h g t own l = led_entered c d s port call g l
-led_act c d s (Ask port key) h g t own l = led_alike c s _ d _ (record { id = refl; head = refl; next_id = refl; seen = refl; last = refl }) refl refl l
+led_act c d s (Ask port key) h g t own l =
+    led_alike c s _ d _ (record { id = refl; head = refl; next_id = refl; seen = refl; last = refl }) refl refl l
 led_act c d s (Show port key) h g t own l = led_alike c s s d d (alike_self s) refl refl l
 
 -- a head has seen all its own ids at the end
@@ -618,7 +776,8 @@ does_led : (actions : List Action) (c : Cause) (d : Due) (s : ServerState)
     → HasSeen (does s actions).state
 unfolding does
 does_led [] c d s g t own l p = λ f. completes s d own (l.leads f) (p.taken f)
-does_led (a ∷ later) c d s g t own l p = does_led later (left c) (due d s a) (act s a).state g.2 t.1 own.1 (led_act c d s a g.0 g.1 t.0 own.0 l) p
+does_led (a ∷ later) c d s g t own l p =
+    does_led later (left c) (due d s a) (act s a).state g.2 t.1 own.1 (led_act c d s a g.0 g.1 t.0 own.0 l) p
 
 -- ---- how long the log gets
 
@@ -626,7 +785,8 @@ does_led (a ∷ later) c d s g t own l p = does_led later (left c) (due d s a) (
 abbrev pub Lengthens : Cause → ServerState → ServerState → Type 0
 Lengthens c s u =
     (last_number u.store + seen_of s s.id ≤ last_number s.store + seen_of u s.id)
-    ⊎ ((i : ℕ) × (m : Peer) × (id : ℕ) × (call : Call) × (c ≡ Some (From i m)) × (m.body ≡ Op id call) × (i < 16) × (id ≤ seen_of u i))
+    ⊎ ((i : ℕ) × (m : Peer) × (id : ℕ) × (call : Call) × (c ≡ Some (From i m)) × (m.body ≡ Op id call) × (i < 16)
+    × (id ≤ seen_of u i))
     ⊎ ((i : ℕ) × (m : Peer) × (e : LogEntry) × (c ≡ Some (From i m)) × (m.body ≡ Forward e))
 
 long_appended : (c : Cause) (input : Input) (s u : ServerState) (e : LogEntry)
@@ -646,8 +806,28 @@ long_appended c input s u e f h id g low = elim g.1 [
       elim m.wanted [
         | inl mine ↦ (let own : e.origin ≡ s.id = from ∙ mine.0 ∙ id in
             let may = may_take u m.origin m.id m.taken in
-            inl (omega (arith, low, last_appended u e, new, named, may.next, ap (λ o. seen_of (appended u e) o) own, ap (λ o. seen_of u o) own, ap (λ o. seen_of u o) from)))
-        | inr other ↦ inr (inl (m.origin, other.0, m.id, m.call, f _ other.1, other.2, omega (arith, g.0.served, from), omega (arith, new, named, ap (λ o. seen_of (appended u e) o) from)))
+            inl (omega (
+              arith,
+              low,
+              last_appended u e,
+              new,
+              named,
+              may.next,
+              ap (λ o. seen_of (appended u e) o) own,
+              ap (λ o. seen_of u o) own,
+              ap (λ o. seen_of u o) from,
+            )))
+        | inr other ↦ inr
+            (inl (
+              m.origin,
+              other.0,
+              m.id,
+              m.call,
+              f _ other.1,
+              other.2,
+              omega (arith, g.0.served, from),
+              omega (arith, new, named, ap (λ o. seen_of (appended u e) o) from),
+            ))
       ]
 ]
 
@@ -660,11 +840,13 @@ long_act : (c : Cause) (input : Input) (s u : ServerState) (a : Action)
     → Lengthens (Some input) s u
     → Lengthens (Some input) s (act u a).state
 long_act c input s u a f h id low g (inr (inr x)) = inr (inr x)
-long_act c input s u a f h id low g (inr (inl x)) = inr (inl (x.0, x.1, x.2, x.3, x.4, x.5, x.6, omega (arith, x.7, act_seen u a x.0 h x.6)))
+long_act c input s u a f h id low g (inr (inl x)) =
+    inr (inl (x.0, x.1, x.2, x.3, x.4, x.5, x.6, omega (arith, x.7, act_seen u a x.0 h x.6)))
 long_act c input s u a f h id low g (inl x) = elim (same_act u a h) [
   | inr same ↦ inl (omega (arith, x, same.last, ap (λ (xs : List ℕ). slice_index_or xs s.id 0) same.seen))
   | inl new ↦ subst (λ b. Guard c u b → Lengthens (Some input) s (act u b).state) (sym new.1)
-      (λ k. subst (λ t. Lengthens (Some input) s t) (sym (act_appended u new.0)) (long_appended c input s u new.0 f h id k x)) g
+      (λ k. subst (λ t. Lengthens (Some input) s t) (sym (act_appended u new.0))
+      (long_appended c input s u new.0 f h id k x)) g
 ]
 
 does_long : (actions : List Action) (c : Cause) (input : Input) (s u : ServerState)
@@ -677,7 +859,8 @@ does_long : (actions : List Action) (c : Cause) (input : Input) (s u : ServerSta
 unfolding does
 does_long [] c input s u f id low g x = x
 does_long (a ∷ later) c input s u f id low g x =
-    does_long later (left c) input s (act u a).state (λ y e. f y (came_left c y e)) ((seat_act u a).id ∙ id) low g.2 (long_act c input s u a f g.0 id low g.1 x)
+    does_long later (left c) input s (act u a).state (λ y e. f y (came_left c y e)) ((seat_act u a).id ∙ id) low g.2
+    (long_act c input s u a f g.0 id low g.1 x)
 
 -- ---- steps
 
@@ -688,16 +871,26 @@ pub record Serves (s : ServerState) (input : Input) (a : Outcome) : Type 0 where
   pub own : Own a.state
   pub first : HasSeen a.state
   -- a head that stays gets the ids that are new, and a new one all that wait
-  pub same : (h : ℕ) → head_of s ≡ Some h → head_of a.state ≡ Some h → is_head a.state ≡ false → (m : ℕ) → s.next_id ≡ m + 1 → (n : ℕ) × (a.state.next_id ≡ n + 1) × IsRun m n (ops_to h a.outputs)
+  pub same : (h : ℕ)
+      → head_of s ≡ Some h
+      → head_of a.state ≡ Some h
+      → is_head a.state ≡ false
+      → (m : ℕ)
+      → s.next_id ≡ m + 1
+      → (n : ℕ) × (a.state.next_id ≡ n + 1) × IsRun m n (ops_to h a.outputs)
   pub new : (h : ℕ)
       → (head_of s ≡ Some h → ⊥)
       → head_of a.state ≡ Some h
       → is_head a.state ≡ false
-      → (m : ℕ) × (n : ℕ) × (m ≤ seen_of a.state a.state.id) × (a.state.next_id ≡ n + 1) × IsRun m n (ops_to h a.outputs)
+      → (m : ℕ) × (n : ℕ) × (m ≤ seen_of a.state a.state.id) × (a.state.next_id ≡ n + 1)
+      × IsRun m n (ops_to h a.outputs)
   pub longer : Lengthens (Some input) s a.state
 
 -- all that was due went out
-all_sent : (m next_id : ℕ) (sent : List ℕ) (us : List OpenUpdate) → us ≡ [] → IsSent m sent us next_id → (n : ℕ) × (next_id ≡ n + 1) × IsRun m n sent
+all_sent : (m next_id : ℕ) (sent : List ℕ) (us : List OpenUpdate)
+    → us ≡ []
+    → IsSent m sent us next_id
+    → (n : ℕ) × (next_id ≡ n + 1) × IsRun m n sent
 all_sent m next_id sent us none h =
     let same : h.middle ≡ h.last = subst (λ xs. IsRun h.middle h.last (ids xs)) none h.due in
     (h.last, h.issued, subst (λ k. IsRun m k sent) same h.out)
@@ -720,11 +913,19 @@ serves_does actions input s h d g t p own first room expected =
     let low : s.id < 16 = omega (arith, h.placed, h.counted) in
     let f : IsOf c input = λ x e. e in
     let grown = grown_does actions c s g in
-    let along = own_along actions c input s s n f expected (grown_same s) (inr (inl (record { last = refl; seen = refl }))) g t own in
+    let along = own_along actions c input s s n f expected (grown_same s)
+    (inr (inl (record { last = refl; seen = refl }))) g t own in
     let last = along_end (λ e x. OwnDue x e) actions n s along in
     let led : IsLed c s n = record {
       since = room;
-      leads = λ x. record { from = own.last; last = own.last; low = omega (arith, first x, own.issued); issued = own.issued; run = refl; room = inl room };
+      leads = λ x. record {
+        from = own.last;
+        last = own.last;
+        low = omega (arith, first x, own.issued);
+        issued = own.issued;
+        run = refl;
+        room = inl room;
+      };
       called = λ x port made e. first x;
     } in
     let paces = pace c s o d in
@@ -732,9 +933,11 @@ serves_does actions input s h d g t p own first room expected =
       id = grown.id;
       few = paces.0;
       seen = λ q l. does_seen actions c s q g l;
-      own = subst (λ us. AreOwn o.state.next_id (seen_of o.state o.state.id) (ids o.state.pend) (ids_of o.state.id (us ++ unacked o.state.store))) p.settled last;
+      own = subst (λ us. AreOwn o.state.next_id (seen_of o.state o.state.id) (ids o.state.pend)
+          (ids_of o.state.id (us ++ unacked o.state.store))) p.settled last;
       first = does_led actions c n s g t along led p;
-      same = λ x was is other m e. all_sent m o.state.next_id (ops_to x o.outputs) _ (p.sent other) (does_op actions c n s x m m g t was is e refl);
+      same = λ x was is other m e. all_sent m o.state.next_id (ops_to x o.outputs) _ (p.sent other)
+          (does_op actions c n s x m m g t was is e refl);
       new = λ x was is other. (let r = does_new_op actions c n s x g t along was is in
           let q = all_sent r.0 o.state.next_id (ops_to x o.outputs) _ (p.sent other) r.2 in
           (r.0, q.0, r.1, q.1, q.2));
@@ -755,5 +958,7 @@ serves_step s input h fit valid own first room expected =
     let w = step_whole s input h fit valid in
     let xs = w.done.actions in
     subst (λ o. Serves s input o) (sym w.done.same)
-    (serves_does xs input s h.sound (record { actions = xs; guarded = w.done.guarded; same = refl }) w.done.guarded w.turns
-    (subst (λ (o : Outcome). IsPaid o.state (due_in_the_end (nothing_due s) s xs)) w.done.same w.paid) own first room expected)
+    (serves_does xs input s h.sound (record { actions = xs; guarded = w.done.guarded; same = refl })
+    w.done.guarded w.turns
+    (subst (λ (o : Outcome). IsPaid o.state (due_in_the_end (nothing_due s) s xs)) w.done.same w.paid) own first
+    room expected)

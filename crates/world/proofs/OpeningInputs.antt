@@ -1,5 +1,7 @@
--- What is known of the message that a server takes: an own entry that comes is its next one, and an update that comes is seen.
-use Rattle.std.proofs.Common.{◌≡◌, ◌≢◌, ℕ, ◌+◌, ◌-◌, ◌<◌, ◌≤◌, true, false, List, length, take, sym, ap, subst, ◌∙◌, arith, inl, inr}
+-- What is known of the message that a server takes: an own entry that comes is its next one, and an update that comes
+-- is seen.
+use Rattle.std.proofs.Common.{◌≡◌, ◌≢◌, ℕ, ◌+◌, ◌-◌, ◌<◌, ◌≤◌, true, false, List, length, take, sym, ap, subst, ◌∙◌}
+use Rattle.std.proofs.Common.{arith, inl, inr}
 use Rattle.std.specs.Prelude.{slice_index_or}
 use Rattle.std.proofs.lemmas.Bool.{both_ways, cases_lt, false_from_ne_true}
 use Rattle.std.proofs.lemmas.List.{take_all}
@@ -30,7 +32,11 @@ use Rattle.world.proofs.OpenSteps.{IsExpected, HasRoom, Serves}
 -- numbers are left for all updates that are issued and not yet seen
 pub record HasRooms (w : World) : Type 0 where
   pub own : (i : ℕ) → i < length w.servers → HasRoom (server w i)
-  pub more : (i j : ℕ) → i < length w.servers → j < length w.servers → i ≢ j → seen_of (server w i) j + 1 < (server w j).next_id
+  pub more : (i j : ℕ)
+      → i < length w.servers
+      → j < length w.servers
+      → i ≢ j
+      → seen_of (server w i) j + 1 < (server w j).next_id
       → last_number (server w i).store + (server w i).next_id ≤ most + seen_of (server w i) (server w i).id
 
 module _ (t : Traced) (l : Lawful t) (i a : ℕ) (m : Peer) (there : In m (link t.world i a)) where
@@ -50,15 +56,21 @@ module _ (t : Traced) (l : Lawful t) (i a : ℕ) (m : Peer) (there : In m (link 
       let c : Carries t i m.view (Forward e) = subst (λ b. Carries t i m.view b) is (l.logged.carries i a m there) in
       let begins = l.logged.begins i a (omega (arith, p.below, id)) here out in
       let place : e.number ≡ length (log t a) + 1 = omega (arith, number, same.last, last_is t l.logged a here) in
-      let front : take (e.number - 1) (log t i) ≡ log t a = begins-take (e.number - 1) (log t a) (log t i) begins (omega (arith, place)) ∙ take_all (e.number - 1) (log t a) (omega (arith, place)) in
+      let front : take (e.number - 1) (log t i) ≡ log t a =
+      begins-take (e.number - 1) (log t a) (log t i) begins (omega (arith, place))
+      ∙ take_all (e.number - 1) (log t a) (omega (arith, place)) in
       let origin : e.origin ≡ a = own ∙ id in
       let next = l.calling.ids i (e.number - 1) e c.1 in
-      let counted : entries_of e.origin (take (e.number - 1) (log t i)) ≡ entries_of a (log t a) = ap (λ o. entries_of o (take (e.number - 1) (log t i))) origin ∙ ap (λ es. entries_of a es) front in
-      let seen : seen_of u u.id ≡ seen_of s a = ap (λ o. seen_of u o) id ∙ ap (λ (ns : List ℕ). slice_index_or ns a 0) same.seen in
+      let counted : entries_of e.origin (take (e.number - 1) (log t i)) ≡ entries_of a (log t a) =
+      ap (λ o. entries_of o (take (e.number - 1) (log t i))) origin ∙ ap (λ es. entries_of a es) front in
+      let seen : seen_of u u.id ≡ seen_of s a =
+      ap (λ o. seen_of u o) id ∙ ap (λ (ns : List ℕ). slice_index_or ns a 0) same.seen in
       let issued = (l.calling.decided i (e.number - 1) e c.1).issued in
       let within = slice_get_within (issued_by t e.origin) (e.id - 1) issued.name issued.issued in
-      let all = ap (λ o. length (issued_by t o)) origin in
-      (omega (arith, next, counted, seen, l.calling.seen a a here low), omega (arith, issued.low, within, all, grown.next_id, l.calling.next_id a here))
+      let all = ap (λ o. length (issued_by t o)) origin in (
+        omega (arith, next, counted, seen, l.calling.seen a a here low),
+        omega (arith, issued.low, within, all, grown.next_id, l.calling.next_id a here),
+      )
 
   -- ---- an update
 
@@ -78,7 +90,8 @@ module _ (t : Traced) (l : Lawful t) (i a : ℕ) (m : Peer) (there : In m (link 
       let o = step s (From i m) in
       let u = o.state in
       let here = addressed.receiver in
-      let known = (step_whole s (From i m) lawful addressed.fit addressed.entry).heeded (is_heard_there t i a m l.framed addressed from) in
+      let known = (step_whole s (From i m) lawful addressed.fit addressed.entry).heeded
+      (is_heard_there t i a m l.framed addressed from) in
       let after = lawful-step s (From i m) addressed.fit addressed.entry lawful in
       let low : i < 16 = omega (arith, addressed.sender, l.framed.most) in
       let sid = l.framed.id a here in
@@ -94,9 +107,11 @@ module _ (t : Traced) (l : Lawful t) (i a : ℕ) (m : Peer) (there : In m (link 
       let seen = serves.seen i low in
       elim (cases_lt (seen_of u i) id) [
         | inr held ↦ held
-        | inl new ↦ (let more = rooms.more a i here addressed.sender (λ e. sender_apart t i a m addressed (sym e)) (omega (arith, new, seen, issued)) in
+        | inl new ↦ (let more = rooms.more a i here addressed.sender (λ e. sender_apart t i a m addressed (sym e))
+            (omega (arith, new, seen, issued)) in
             let room : last_number u.store < most = elim serves.longer [
-              | inl few ↦ omega (arith, few, more, serves.few, serves.own.issued, serves.own.high, ap (λ k. seen_of u k) serves.id)
+              | inl few ↦ omega
+                  (arith, few, more, serves.few, serves.own.issued, serves.own.high, ap (λ k. seen_of u k) serves.id)
               | inr (inl x) ↦ (let one : From i m ≡ From x.0 x.1 = same_Some _ _ x.4 in
                   let who : i ≡ x.0 = cc in
                   let message : m ≡ x.1 = cc in

@@ -1,5 +1,6 @@
 -- A chain at its outset.
-use Rattle.std.proofs.Common.{◌≡◌, ℕ, zero, suc, ◌<◌, ◌≤◌, List, [], ◌∷◌, ◌++◌, length, map, replicate, get_or, Some, refl, arith, ◌⊎◌, inl, inr, ap, sym, ◌∙◌, subst}
+use Rattle.std.proofs.Common.{◌≡◌, ℕ, zero, suc, ◌<◌, ◌≤◌, List, [], ◌∷◌, ◌++◌, length, map, replicate, get_or, Some}
+use Rattle.std.proofs.Common.{refl, arith, ◌⊎◌, inl, inr, ap, sym, ◌∙◌, subst}
 use Rattle.std.specs.Prelude.{slice_get}
 use Rattle.std.proofs.lemmas.Bool.{both_ways, cases_eq}
 use Rattle.std.proofs.lemmas.List.{length-append, length-replicate}
@@ -17,13 +18,16 @@ use Rattle.world.proofs.IdLaws.{nowhere}
 
 pub length-opening_servers : (n k : ℕ) → length (opening_servers n k) ≡ k
 length-opening_servers n zero = refl
-length-opening_servers n (suc k) = length-append (opening_servers n k) (opening k n ∷ []) ∙ omega (arith, length-opening_servers n k)
+length-opening_servers n (suc k) =
+    length-append (opening_servers n k) (opening k n ∷ []) ∙ omega (arith, length-opening_servers n k)
 
 opening_at : (n k i : ℕ) → i < k → slice_get (opening_servers n k) i ≡ Some (opening i n)
 opening_at n zero i l = absurd (omega arith)
 opening_at n (suc k) i l =
     elim (cases_eq i k) [
-      | inl same ↦ rw same (subst (λ x. slice_get (opening_servers n k ++ opening k n ∷ []) x ≡ Some (opening k n)) (length-opening_servers n k) (get_last (opening_servers n k) (opening k n)))
+      | inl same ↦ rw same
+          (subst (λ x. slice_get (opening_servers n k ++ opening k n ∷ []) x ≡ Some (opening k n))
+          (length-opening_servers n k) (get_last (opening_servers n k) (opening k n)))
       | inr other ↦ get_front (opening_servers n k) (opening k n ∷ []) i (opening i n) (opening_at n k i (omega arith))
     ]
 
@@ -47,7 +51,8 @@ pub issued_outset : (n : ℕ) (homes : List ℕ) (i : ℕ) → issued_by (outset
 unfolding issued_by
 issued_outset n homes i = all_alike n i []
 
-row_cases : (n i : ℕ) (row : List (List Peer)) → (get_or (replicate n row) i [] ≡ row) ⊎ (get_or (replicate n row) i [] ≡ [])
+row_cases : (n i : ℕ) (row : List (List Peer))
+    → (get_or (replicate n row) i [] ≡ row) ⊎ (get_or (replicate n row) i [] ≡ [])
 row_cases zero i row = inr refl
 row_cases (suc n) zero row = inl refl
 row_cases (suc n) (suc i) row = row_cases n i row
@@ -66,7 +71,9 @@ row_at (suc n) zero x y h = sym (same_Some x y h)
 row_at (suc n) (suc i) x y h = row_at n i x y h
 
 -- each connection is a fresh one
-pub fresh_at : (homes : List ℕ) (c : ℕ) (k : Connection) → slice_get (map fresh homes) c ≡ Some k → (home : ℕ) × (slice_get homes c ≡ Some home) × (k ≡ fresh home)
+pub fresh_at : (homes : List ℕ) (c : ℕ) (k : Connection)
+    → slice_get (map fresh homes) c ≡ Some k
+    → (home : ℕ) × (slice_get homes c ≡ Some home) × (k ≡ fresh home)
 fresh_at [] c k h = absurd cc
 fresh_at (x ∷ homes) zero k h = (x, refl, sym (same_Some (fresh x) k h))
 fresh_at (x ∷ homes) (suc c) k h = fresh_at homes c k h

@@ -1,4 +1,5 @@
--- Updates and reads in one list: each update at its number, and behind it the reads of that number in the order of their answers.
+-- Updates and reads in one list: each update at its number, and behind it the reads of that number in the order of
+-- their answers.
 use Rattle.std.proofs.Common.{◌≡◌, ℕ, zero, suc, ◌<◌, List, [], ◌∷◌, ◌++◌, Some, refl, sym, ◌∙◌, arith, ◌⊎◌, inl, inr}
 use Rattle.std.specs.Prelude.{slice_get, ◌==◌, if◌then◌else◌}
 use Rattle.std.proofs.lemmas.Bool.{cases_order}
@@ -32,10 +33,12 @@ Sorted (p ∷ ps) = IsBelow p ps × Sorted ps
 -- the name of an update, and the call of a name
 module _ (name : LogEntry → CallId) (asked : CallId → Call) where
   abbrev pub of_update : ℕ → LogEntry → Placed
-  of_update k e = record { number = suc k; turn = 0; entry = record { id = name e; call = asked (name e); reply = e.reply } }
+  of_update k e =
+      record { number = suc k; turn = 0; entry = record { id = name e; call = asked (name e); reply = e.reply } }
 
   abbrev pub of_read : ℕ → AnsweredRead → Placed
-  of_read q r = record { number = r.number; turn = suc q; entry = record { id = r.id; call = asked r.id; reply = Value r.item } }
+  of_read q r =
+      record { number = r.number; turn = suc q; entry = record { id = r.id; call = asked r.id; reply = Value r.item } }
 
   -- the reads of a number, the first of these having the place q
   unfoldable pub reads_at : ℕ → ℕ → List AnsweredRead → List Placed
@@ -58,15 +61,25 @@ each_below p [] x b h = absurd cc
 each_below p (q ∷ ps) x b (zero, h) = rw (same_Some q x h) at b.0
 each_below p (q ∷ ps) x b (suc k, h) = each_below p ps x b.1 (k, h)
 
-pub sorted_joined : (ps qs : List Placed) → Sorted ps → Sorted qs → ((p q : Placed) → In p ps → In q qs → IsBefore p q) → Sorted (ps ++ qs)
+pub sorted_joined : (ps qs : List Placed)
+    → Sorted ps
+    → Sorted qs
+    → ((p q : Placed) → In p ps → In q qs → IsBefore p q)
+    → Sorted (ps ++ qs)
 sorted_joined [] qs s t f = t
 sorted_joined (p ∷ ps) qs s t f = (
-  below_each p (ps ++ qs) (λ x h. elim (in_joined ps qs x h) [ inl g ↦ each_below p ps x s.0 g | inr g ↦ f p x (0, refl) g ]),
+  below_each p (ps ++ qs)
+      (λ x h. elim (in_joined ps qs x h) [ inl g ↦ each_below p ps x s.0 g | inr g ↦ f p x (0, refl) g ]),
   sorted_joined ps qs s.1 t (λ x y h g. f x y (suc h.0, h.1) g),
 )
 
 -- what stands earlier comes before
-pub sorted_places : (ps : List Placed) (i j : ℕ) (p q : Placed) → Sorted ps → i < j → slice_get ps i ≡ Some p → slice_get ps j ≡ Some q → IsBefore p q
+pub sorted_places : (ps : List Placed) (i j : ℕ) (p q : Placed)
+    → Sorted ps
+    → i < j
+    → slice_get ps i ≡ Some p
+    → slice_get ps j ≡ Some q
+    → IsBefore p q
 sorted_places [] i j p q s l h g = absurd cc
 sorted_places (x ∷ ps) zero zero p q s l h g = absurd (omega arith)
 sorted_places (x ∷ ps) zero (suc j) p q s l h g = rw (same_Some x p h) at (each_below x ps q s.0 (j, g))
@@ -83,7 +96,12 @@ never_both p q h g = elim h [
 ]
 
 -- what comes before stands earlier
-pub before_places : (ps : List Placed) (i j : ℕ) (p q : Placed) → Sorted ps → IsBefore p q → slice_get ps i ≡ Some p → slice_get ps j ≡ Some q → i < j
+pub before_places : (ps : List Placed) (i j : ℕ) (p q : Placed)
+    → Sorted ps
+    → IsBefore p q
+    → slice_get ps i ≡ Some p
+    → slice_get ps j ≡ Some q
+    → i < j
 before_places ps i j p q s b h g = elim (cases_order i j) [
   | inl same ↦ absurd (never_before_itself q (rw (same_Some p q (sym h ∙ rw (← same) at g)) at b))
   | inr other ↦ elim other [

@@ -1,6 +1,7 @@
 -- A connection along its course has passed, has open and has still to give the turns of its stream; and a `begin` after
 -- which no call is open leaves none of them.
-use Rattle.std.proofs.Common.{◌≡◌, ℕ, zero, suc, ◌<◌, Bool, cond, true, false, List, [], ◌∷◌, ◌++◌, length, None, Some, refl, sym, ap, subst, ◌∙◌, arith, append-nil, length-append, inl, inr}
+use Rattle.std.proofs.Common.{◌≡◌, ℕ, zero, suc, ◌<◌, Bool, cond, true, false, List, [], ◌∷◌, ◌++◌, length, None, Some}
+use Rattle.std.proofs.Common.{refl, sym, ap, subst, ◌∙◌, arith, append-nil, length-append, inl, inr}
 use Rattle.std.specs.Prelude.{slice_get}
 use Rattle.table.specs.declared.operations.Call.{Call}
 use Rattle.proto.specs.declared.requests.Fault.{Fault}

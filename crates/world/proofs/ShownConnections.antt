@@ -1,6 +1,7 @@
 -- What a transcript shows of each connection: its calls and their replies, the bytes that it was sent, and that no
 -- call is forgotten.
-use Rattle.std.proofs.Common.{◌≡◌, ℕ, zero, suc, ◌+◌, ◌<◌, ◌≤◌, Bool, true, false, List, [], ◌∷◌, length, take, drop, map, Some, None, refl, sym, ap, subst, ◌∙◌, arith}
+use Rattle.std.proofs.Common.{◌≡◌, ℕ, zero, suc, ◌+◌, ◌<◌, ◌≤◌, Bool, true, false, List, [], ◌∷◌, length, take, drop}
+use Rattle.std.proofs.Common.{map, Some, None, refl, sym, ap, subst, ◌∙◌, arith}
 use Rattle.std.specs.Prelude.{slice_get, IsSome, ◌↔◌, nat_le}
 use Rattle.std.proofs.lemmas.Bool.{and_parts}
 use Rattle.std.proofs.lemmas.Bool.Decides.{nat_tests}
@@ -79,7 +80,8 @@ is_shown (k ∷ ks) (suc c) shown here =
 
 -- it holds of each connection of a run, and of each that a transcript shows
 abbrev Each : ℕ → List ℕ → List Event → (ℕ → Connection → Type 0) → Type 0
-Each count homes events P = (c : ℕ) (k : Connection) → slice_get (run_of count homes events).connections c ≡ Some k → P c k
+Each count homes events P =
+    (c : ℕ) (k : Connection) → slice_get (run_of count homes events).connections c ≡ Some k → P c k
 
 abbrev EachShown : TranscriptShown → (ℕ → ConnectionShown → Type 0) → Type 0
 EachShown t P = (c : ℕ) (k : ConnectionShown) → slice_get t.connections c ≡ Some k → P c k
@@ -119,7 +121,8 @@ module _ (count : ℕ) (homes : List ℕ) (events : List Event) (t : TranscriptS
       has_reply s.connection.calls s.connection.replies p call shown
 
   -- it has been sent the texts of the turns up to its place
-  pub sent_shown : Each count homes events (λ c k. k.session.out ≡ sent_bytes (course_of count homes events c) k.replies)
+  pub sent_shown : Each count homes events
+      (λ c k. k.session.out ≡ sent_bytes (course_of count homes events c) k.replies)
       → EachShown t (λ c k. k.sent ≡ sent_bytes (course_of count homes events c) (replies_in k.calls))
   sent_shown law c k here =
       let s = of c k here in
@@ -151,7 +154,8 @@ module _ (count : ℕ) (homes : List ℕ) (events : List Event) (t : TranscriptS
       → IsSome call.reply ↔ p < length (replies_in k.calls))
   in_turn_shown c k here p call there =
       let s = of c k here in
-      subst (λ n. IsSome call.reply ↔ p < n) (ap length (sym (replies_of_shown c k s))) (has_reply_there c p k call there s)
+      subst (λ n. IsSome call.reply ↔ p < n) (ap length (sym (replies_of_shown c k s)))
+      (has_reply_there c p k call there s)
 
   pub one_open_shown : Each count homes events (λ c k. length k.calls ≤ length k.replies + 1)
       → EachShown t (λ c k. length k.calls ≤ length (replies_in k.calls) + 1)

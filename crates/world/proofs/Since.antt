@@ -1,4 +1,5 @@
--- What holds of a world with regard to an earlier moment: entries and answers of calls that came later have numbers above it.
+-- What holds of a world with regard to an earlier moment: entries and answers of calls that came later have numbers
+-- above it.
 use Rattle.std.proofs.Common.{◌≡◌, ℕ, ◌<◌, ◌≤◌, length, Option, Some, None, refl, arith, ◌⊎◌, inl, inr}
 use Rattle.std.specs.Prelude.{slice_get, IsSome}
 use Rattle.versions.specs.Entries.{LogEntry}
@@ -15,13 +16,15 @@ use Rattle.world.proofs.Traces.{Traced, AnsweredRead, log, count, open_id}
 use Rattle.world.proofs.Layers.{IsNamed, Newer, Lawful}
 use Rattle.world.proofs.Linear.{nothing_there}
 
--- what a message on the link from i to j says of reads: its ask is one that was made, and an answer to a later read has no lower number
+-- what a message on the link from i to j says of reads: its ask is one that was made, and an answer to a later read has
+-- no lower number
 abbrev pub SaysSince : Traced → Traced → ℕ → ℕ → Body → Type 0
 SaysSince t u i j (Op id call) = Unit {0}
 SaysSince t u i j (Forward e) = Unit {0}
 SaysSince t u i j (Ack n) = Unit {0}
 SaysSince t u i j (Query ask key) = ask < (server u.world i).next_ask
-SaysSince t u i j (Answer ask n) = (ask < (server u.world j).next_ask) × ((ask < (server t.world j).next_ask) ⊎ (length t.committed ≤ n))
+SaysSince t u i j (Answer ask n) =
+    (ask < (server u.world j).next_ask) × ((ask < (server t.world j).next_ask) ⊎ (length t.committed ≤ n))
 
 -- the read was begun at t, or asks under a number that wasn't given then
 abbrev pub IsOldOrLater : Traced → Traced → ℕ → OpenRead → Type 0
@@ -29,8 +32,13 @@ IsOldOrLater t u i r = IsSome (begun_call t.world (open_id u.world r.port)) ⊎ 
 
 -- u is later than t: the entries of calls that weren't begun at t stand behind those committed at t, and so with reads
 pub record Since (t u : Traced) : Type 0 where
-  pub entries : (i k : ℕ) (e : LogEntry) → i < count u → slice_get (log u i) k ≡ Some e → ((x : CallId) × IsNamed t e x) ⊎ (length t.committed ≤ k)
-  pub answers : (k : ℕ) (r : AnsweredRead) → slice_get u.reads k ≡ Some r → IsSome (begun_call t.world r.id) ⊎ (length t.committed ≤ r.number)
+  pub entries : (i k : ℕ) (e : LogEntry)
+      → i < count u
+      → slice_get (log u i) k ≡ Some e
+      → ((x : CallId) × IsNamed t e x) ⊎ (length t.committed ≤ k)
+  pub answers : (k : ℕ) (r : AnsweredRead)
+      → slice_get u.reads k ≡ Some r
+      → IsSome (begun_call t.world r.id) ⊎ (length t.committed ≤ r.number)
   pub asks : (i : ℕ) (r : OpenRead) → i < count u → In r (server u.world i).asks → IsOldOrLater t u i r
   pub says : (i j : ℕ) (m : Peer) → In m (link u.world i j) → SaysSince t u i j m.body
 
@@ -50,7 +58,10 @@ newer t u l s = record {
   answers = s.answers;
 }
 
-pub says_later : (t u v : Traced) (i j : ℕ) (b : Body) → ((k : ℕ) → (server u.world k).next_ask ≤ (server v.world k).next_ask) → SaysSince t u i j b → SaysSince t v i j b
+pub says_later : (t u v : Traced) (i j : ℕ) (b : Body)
+    → ((k : ℕ) → (server u.world k).next_ask ≤ (server v.world k).next_ask)
+    → SaysSince t u i j b
+    → SaysSince t v i j b
 says_later t u v i j (Op id call) f h = tt
 says_later t u v i j (Forward e) f h = tt
 says_later t u v i j (Ack n) f h = tt
@@ -62,7 +73,12 @@ is_some None x e = absurd cc
 is_some (Some y) x e = refl
 
 -- a moment is later than itself
-pub since_itself : (z t : Traced) → Lawful t → Since z t → ((i : ℕ) (r : OpenRead) → i < count t → In r (server t.world i).asks → IsSome (begun_call t.world (open_id t.world r.port))) → Since t t
+pub since_itself : (z t : Traced)
+    → Lawful t
+    → Since z t
+    → ((i : ℕ) (r : OpenRead) → i < count t → In r (server t.world i).asks
+    → IsSome (begun_call t.world (open_id t.world r.port)))
+    → Since t t
 since_itself z t l s open_begun = record {
   entries = λ i k e lt h. (let d = l.calling.decided i k e h in inl (d.issued.name, (d.issued.low, d.issued.issued)));
   answers = λ k r h. (let f = l.read.reads k r h in inl (is_some _ f.call f.begun));

@@ -1,5 +1,6 @@
 -- Each event keeps that the calls that are with servers wait there, while numbers are left.
-use Rattle.std.proofs.Common.{◌≡◌, ◌≢◌, ℕ, ◌<◌, true, false, not, List, length, None, Some, refl, sym, ap, subst, ◌∙◌, inl, inr, ◌⊎◌}
+use Rattle.std.proofs.Common.{◌≡◌, ◌≢◌, ℕ, ◌<◌, true, false, not, List, length, None, Some, refl, sym, ap, subst, ◌∙◌}
+use Rattle.std.proofs.Common.{inl, inr, ◌⊎◌}
 use Rattle.std.specs.Prelude.{slice_get}
 use Rattle.std.proofs.lemmas.Bool.{cond_both, cases_eq, cases_Bool}
 use Rattle.std.proofs.lemmas.Option.{same_Some}
@@ -32,15 +33,22 @@ use Rattle.node.proofs.DoneSteps.{step_done}
 use Rattle.world.proofs.Outsets.{fresh_at}
 use Rattle.world.proofs.KeptOpen.{AnswersPort, KeepsOpen, open_done}
 use Rattle.world.proofs.CallsOpened.{IsOpenAt, HasRoom, call_opened}
-use Rattle.world.proofs.Ways.{servers_connected, servers_linked, connections_linked, Way, Stays, Comes, Starts, Hands, Fails, Works, Delivers, Tells, Working}
+use Rattle.world.proofs.Ways.{servers_connected, servers_linked, connections_linked, Way, Stays, Comes, Starts, Hands}
+use Rattle.world.proofs.Ways.{Fails, Works, Delivers, Tells, Working}
 use Rattle.world.proofs.Stages.{AllOpen, Fits, IsKept, acted_open}
 
 -- ---- replies that fit
 
-fits_update : (call : Call) (reply : Reply) → is_update call.op ≡ true → is_value reply ≡ false → may_have (Some call) reply ≡ true
+fits_update : (call : Call) (reply : Reply)
+    → is_update call.op ≡ true
+    → is_value reply ≡ false
+    → may_have (Some call) reply ≡ true
 fits_update call reply is plain = rw (is, plain) refl
 
-fits_read : (call : Call) (reply : Reply) → is_update call.op ≡ false → is_value reply ≡ true → may_have (Some call) reply ≡ true
+fits_read : (call : Call) (reply : Reply)
+    → is_update call.op ≡ false
+    → is_value reply ≡ true
+    → may_have (Some call) reply ≡ true
 fits_read call reply is shows = rw (is, shows) refl
 
 fits_both : (call : Call) (reply : Reply) → is_value reply ≡ not (is_update call.op) → may_have (Some call) reply ≡ true
@@ -72,28 +80,41 @@ same_handed (Replied reply) k e a = absurd (let g : Idle ≡ Asked = a in cc)
 abbrev IsMild : (Connection → Connection) → Type 0
 IsMild change = (k : Connection) → (change k).stage ≡ Asked → ((change k).home ≡ k.home) × (k.stage ≡ Asked)
 
-open_changed : (w : World) (c : ℕ) (change : Connection → Connection) → IsMild change → AllOpen w → AllOpen (with_connection w c (where_home_lives w change))
+open_changed : (w : World) (c : ℕ) (change : Connection → Connection)
+    → IsMild change
+    → AllOpen w
+    → AllOpen (with_connection w c (where_home_lives w change))
 unfolding with_connection server
 open_changed w c change mild all d k' here a =
     let before = unchanged_one w.connections c (where_home_lives w change) d k' here in
     let old = before.0 in
     elim before.2 [
-      | inl it ↦ (let m = cond_both (lives w old.home) (change old) old (λ (x : Connection). x.stage ≡ Asked → (x.home ≡ old.home) × (old.stage ≡ Asked)) (λ t b. mild old b) (λ f b. (refl, b)) (ap (λ (x : Connection). x.stage) (sym it.1) ∙ a) in
-          subst (λ h. IsOpenAt (server w h) d) (sym m.0 ∙ ap (λ (x : Connection). x.home) (sym it.1)) (all d old before.1 m.1))
-      | inr other ↦ subst (λ (x : Connection). IsOpenAt (server w x.home) d) (sym other.1) (all d old before.1 (ap (λ (x : Connection). x.stage) (sym other.1) ∙ a))
+      | inl it ↦ (let m = cond_both (lives w old.home) (change old) old
+          (λ (x : Connection). x.stage ≡ Asked → (x.home ≡ old.home) × (old.stage ≡ Asked)) (λ t b. mild old b)
+          (λ f b. (refl, b)) (ap (λ (x : Connection). x.stage) (sym it.1) ∙ a) in
+          subst (λ h. IsOpenAt (server w h) d) (sym m.0 ∙ ap (λ (x : Connection). x.home) (sym it.1))
+          (all d old before.1 m.1))
+      | inr other ↦ subst (λ (x : Connection). IsOpenAt (server w x.home) d) (sym other.1)
+          (all d old before.1 (ap (λ (x : Connection). x.stage) (sym other.1) ∙ a))
     ]
 
 came_mild : (bytes : List ℕ) → IsMild (came bytes)
 came_mild bytes k a = (refl, a)
 
 begun_mild : IsMild (λ k. begun k.stage k)
-begun_mild k a = let same = same_begun k.stage k refl a in (ap (λ (x : Connection). x.home) same, ap (λ (x : Connection). x.stage) (sym same) ∙ a)
+begun_mild k a = let same =
+    same_begun k.stage k refl a in
+    (ap (λ (x : Connection). x.home) same, ap (λ (x : Connection). x.stage) (sym same) ∙ a)
 
 handed_mild : IsMild (λ k. handed k.stage k)
-handed_mild k a = let same = same_handed k.stage k refl a in (ap (λ (x : Connection). x.home) same, ap (λ (x : Connection). x.stage) (sym same) ∙ a)
+handed_mild k a = let same =
+    same_handed k.stage k refl a in
+    (ap (λ (x : Connection). x.home) same, ap (λ (x : Connection). x.stage) (sym same) ∙ a)
 
-connections_asked : (w : World) (c d : ℕ) (k' : Connection) → slice_get (with_connection w c asked).connections d ≡ Some k'
-    → ((k : Connection) × (slice_get w.connections c ≡ Some k) × (d ≡ c) × (k' ≡ asked k)) ⊎ (slice_get w.connections d ≡ Some k')
+connections_asked : (w : World) (c d : ℕ) (k' : Connection)
+    → slice_get (with_connection w c asked).connections d ≡ Some k'
+    → ((k : Connection) × (slice_get w.connections c ≡ Some k) × (d ≡ c) × (k' ≡ asked k))
+    ⊎ (slice_get w.connections d ≡ Some k')
 unfolding with_connection
 connections_asked w c d k' here =
     let before = unchanged_one w.connections c asked d k' here in
@@ -108,31 +129,74 @@ open_failing w i all = all
 
 -- ---- steps
 
-module _ (t : Traced) (h : Lawful t) (servers : (i : ℕ) → i < count t → IsLawful (server t.world i)) (all : AllOpen t.world) where
-  kept_open : (a : ℕ) (input : Input) → a < count t → IsInput input → HoldsEntry input → KeepsOpen (server t.world a) (step (server t.world a) input)
-  kept_open a input l fit valid = open_done (Some input) (server t.world a) _ (step_done (server t.world a) input (servers a l) fit valid)
+module _ (t : Traced) (h : Lawful t) (servers : (i : ℕ) → i < count t → IsLawful (server t.world i))
+    (all : AllOpen t.world) where
+  kept_open : (a : ℕ) (input : Input)
+      → a < count t
+      → IsInput input
+      → HoldsEntry input
+      → KeepsOpen (server t.world a) (step (server t.world a) input)
+  kept_open a input l fit valid =
+      open_done (Some input) (server t.world a) _ (step_done (server t.world a) input (servers a l) fit valid)
 
-  update_answered : (a c : ℕ) (k : Connection) (u : OpenUpdate) (os : List Output) → a < count t → slice_get t.world.connections c ≡ Some k → In u (server t.world a).pend → u.port ≡ c → AnswersPort u.port false os → Fits c k os
+  update_answered : (a c : ℕ) (k : Connection) (u : OpenUpdate) (os : List Output)
+      → a < count t
+      → slice_get t.world.connections c ≡ Some k
+      → In u (server t.world a).pend
+      → u.port ≡ c
+      → AnswersPort u.port false os
+      → Fits c k os
   update_answered a c k u os l here i port x =
       let w = (h.calling.pend a u l i).2 in
-      let same : w.connection ≡ k = same_Some w.connection k (sym w.here ∙ ap (λ p. slice_get t.world.connections p) port ∙ here) in
-      let is = (update_in (server t.world a).pend (server t.world a).next_id u (servers a l).sound.updates i).1 in
-      (x.0, (x.1.0, x.1.1 ∙ ap (λ p. Some (Answered p x.0)) port), ap (λ o. may_have o x.0) (ap (λ y. open_call y) (sym same) ∙ w.asked) ∙ fits_update u.call x.0 is x.2)
+      let same : w.connection ≡ k =
+      same_Some w.connection k (sym w.here ∙ ap (λ p. slice_get t.world.connections p) port ∙ here) in
+      let is = (update_in (server t.world a).pend (server t.world a).next_id u (servers a l).sound.updates i).1 in (
+        x.0,
+        (x.1.0, x.1.1 ∙ ap (λ p. Some (Answered p x.0)) port),
+        ap (λ o. may_have o x.0) (ap (λ y. open_call y) (sym same) ∙ w.asked) ∙ fits_update u.call x.0 is x.2,
+      )
 
-  read_answered : (a c : ℕ) (k : Connection) (r : OpenRead) (os : List Output) → a < count t → slice_get t.world.connections c ≡ Some k → In r (server t.world a).asks → r.port ≡ c → AnswersPort r.port true os → Fits c k os
+  read_answered : (a c : ℕ) (k : Connection) (r : OpenRead) (os : List Output)
+      → a < count t
+      → slice_get t.world.connections c ≡ Some k
+      → In r (server t.world a).asks
+      → r.port ≡ c
+      → AnswersPort r.port true os
+      → Fits c k os
   read_answered a c k r os l here i port x =
       let g = h.calling.asks a r l i in
       let w = g.1 in
-      let same : w.connection ≡ k = same_Some w.connection k (sym w.here ∙ ap (λ p. slice_get t.world.connections p) port ∙ here) in
-      (x.0, (x.1.0, x.1.1 ∙ ap (λ p. Some (Answered p x.0)) port), ap (λ o. may_have o x.0) (ap (λ y. open_call y) (sym same) ∙ w.asked) ∙ fits_read g.0 x.0 g.3 x.2)
+      let same : w.connection ≡ k =
+      same_Some w.connection k (sym w.here ∙ ap (λ p. slice_get t.world.connections p) port ∙ here) in (
+        x.0,
+        (x.1.0, x.1.1 ∙ ap (λ p. Some (Answered p x.0)) port),
+        ap (λ o. may_have o x.0) (ap (λ y. open_call y) (sym same) ∙ w.asked) ∙ fits_read g.0 x.0 g.3 x.2,
+      )
 
-  still_open : (a c : ℕ) (k : Connection) (o : Outcome) → a < count t → KeepsOpen (server t.world a) o → slice_get t.world.connections c ≡ Some k → IsOpenAt (server t.world a) c → IsOpenAt o.state c ⊎ Fits c k o.outputs
-  still_open a c k o l kept here (inl (u, i, port)) = elim (kept.updates u i) [ inl w ↦ inl (inl (u, w, port)) | inr x ↦ inr (update_answered a c k u o.outputs l here i port x) ]
-  still_open a c k o l kept here (inr (r, i, port)) = elim (kept.reads r i) [ inl w ↦ inl (inr (r, w, port)) | inr x ↦ inr (read_answered a c k r o.outputs l here i port x) ]
+  still_open : (a c : ℕ) (k : Connection) (o : Outcome)
+      → a < count t
+      → KeepsOpen (server t.world a) o
+      → slice_get t.world.connections c ≡ Some k
+      → IsOpenAt (server t.world a) c
+      → IsOpenAt o.state c ⊎ Fits c k o.outputs
+  still_open a c k o l kept here (inl (u, i, port)) =
+      elim (kept.updates u i)
+      [ inl w ↦ inl (inl (u, w, port)) | inr x ↦ inr (update_answered a c k u o.outputs l here i port x) ]
+  still_open a c k o l kept here (inr (r, i, port)) =
+      elim (kept.reads r i)
+      [ inl w ↦ inl (inr (r, w, port)) | inr x ↦ inr (read_answered a c k r o.outputs l here i port x) ]
 
   -- a connection that was Asked before
-  kept_one : (v : World) (a : ℕ) (input : Input) → a < count t → IsInput input → HoldsEntry input → ((x : ℕ) → server v x ≡ server t.world x) → (c : ℕ) (k : Connection) → slice_get t.world.connections c ≡ Some k → k.stage ≡ Asked
-      → ((k.home ≢ a) × IsOpenAt (server v k.home) c) ⊎ ((k.home ≡ a) × (IsOpenAt (step (server v a) input).state c ⊎ Fits c k (step (server v a) input).outputs))
+  kept_one : (v : World) (a : ℕ) (input : Input)
+      → a < count t
+      → IsInput input
+      → HoldsEntry input
+      → ((x : ℕ) → server v x ≡ server t.world x)
+      → (c : ℕ) (k : Connection)
+      → slice_get t.world.connections c ≡ Some k
+      → k.stage ≡ Asked
+      → ((k.home ≢ a) × IsOpenAt (server v k.home) c)
+      ⊎ ((k.home ≡ a) × (IsOpenAt (step (server v a) input).state c ⊎ Fits c k (step (server v a) input).outputs))
   kept_one v a input l fit valid same c k here stage =
       let waits = all c k here stage in
       elim (cases_eq k.home a) [
@@ -140,14 +204,24 @@ module _ (t : Traced) (h : Lawful t) (servers : (i : ℕ) → i < count t → Is
         | inl own ↦ inr (
           own,
           subst (λ s. IsOpenAt (step s input).state c ⊎ Fits c k (step s input).outputs) (sym (same a))
-              (still_open a c k _ l (kept_open a input l fit valid) here (subst (λ x. IsOpenAt (server t.world x) c) own waits)),
+              (still_open a c k _ l (kept_open a input l fit valid) here
+              (subst (λ x. IsOpenAt (server t.world x) c) own waits)),
         )
       ]
 
-  kept_all : (v : World) (a : ℕ) (input : Input) → a < count t → IsInput input → HoldsEntry input → ((x : ℕ) → server v x ≡ server t.world x) → v.connections ≡ t.world.connections → IsKept v a (step (server v a) input)
-  kept_all v a input l fit valid same conns c k here stage = kept_one v a input l fit valid same c k (ap (λ ks. slice_get ks c) (sym conns) ∙ here) stage
+  kept_all : (v : World) (a : ℕ) (input : Input)
+      → a < count t
+      → IsInput input
+      → HoldsEntry input
+      → ((x : ℕ) → server v x ≡ server t.world x)
+      → v.connections ≡ t.world.connections
+      → IsKept v a (step (server v a) input)
+  kept_all v a input l fit valid same conns c k here stage =
+      kept_one v a input l fit valid same c k (ap (λ ks. slice_get ks c) (sym conns) ∙ here) stage
 
-  open_working : (u : World) (r : Working t.world u) → HasRoom (server t.world r.connection.home) → AllOpen (takes (with_connection t.world r.c asked) r.connection.home (Called r.c r.call))
+  open_working : (u : World) (r : Working t.world u)
+      → HasRoom (server t.world r.connection.home)
+      → AllOpen (takes (with_connection t.world r.c asked) r.connection.home (Called r.c r.call))
   open_working u r room =
       let a = r.connection.home in
       let v = with_connection t.world r.c asked in
@@ -163,10 +237,16 @@ module _ (t : Traced) (h : Lawful t) (servers : (i : ℕ) → i < count t → Is
             let called : open_call k' ≡ Some r.call = ap (λ x. open_call x) is ∙ r.called in
             inr (
               ap (λ (x : Connection). x.home) is,
-              subst (λ s. IsOpenAt (step s (Called r.c r.call)).state d ⊎ Fits d k' (step s (Called r.c r.call)).outputs) (sym (same a))
+              subst (λ s. IsOpenAt (step s (Called r.c r.call)).state d
+                  ⊎ Fits d k' (step s (Called r.c r.call)).outputs) (sym (same a))
                   (elim taken [
-                    | inl w ↦ inl (subst (λ x. IsOpenAt (step (server t.world a) (Called r.c r.call)).state x) (sym new.2) w)
-                    | inr x ↦ inr (x.0, (x.1.0, x.1.1 ∙ ap (λ p. Some (Answered p x.0)) (sym new.2)), ap (λ o. may_have o x.0) called ∙ fits_both r.call x.0 x.2)
+                    | inl w ↦ inl (subst (λ x. IsOpenAt (step (server t.world a) (Called r.c r.call)).state x)
+                        (sym new.2) w)
+                    | inr x ↦ inr (
+                      x.0,
+                      (x.1.0, x.1.1 ∙ ap (λ p. Some (Answered p x.0)) (sym new.2)),
+                      ap (λ o. may_have o x.0) called ∙ fits_both r.call x.0 x.2,
+                    )
                   ]),
             ))
       ])
@@ -178,15 +258,19 @@ module _ (t : Traced) (h : Lawful t) (servers : (i : ℕ) → i < count t → Is
   open_way u (Starts c e) room = rw e (open_changed t.world c (λ k. begun k.stage k) begun_mild all)
   open_way u (Hands c e) room = rw e (open_changed t.world c (λ k. handed k.stage k) handed_mild all)
   open_way u (Fails i e) room = rw e (open_failing t.world i all)
-  open_way u (Works r) room = rw r.world (open_working u r (room r.connection.home (living_parts t.world r.connection.home r.lives).0))
+  open_way u (Works r) room =
+      rw r.world (open_working u r (room r.connection.home (living_parts t.world r.connection.home r.lives).0))
   open_way u (Delivers r) room =
       let m = h.framed.sound r.i r.j r.message (rw r.first (0, refl)) in
       let l = (living_parts t.world r.j r.lives).0 in
       let same = servers_linked t.world r.i r.j r.later in
-      rw r.world (acted_open (with_link t.world r.i r.j r.later) r.j (From r.i r.message) (rw same.0 l) (kept_all _ r.j (From r.i r.message) l m.fit m.entry same.1 (connections_linked t.world r.i r.j r.later)))
+      rw r.world (acted_open (with_link t.world r.i r.j r.later) r.j (From r.i r.message) (rw same.0 l)
+      (kept_all _ r.j (From r.i r.message) l m.fit m.entry same.1 (connections_linked t.world r.i r.j r.later)))
   open_way u (Tells r) room =
       let l = (living_parts t.world r.i r.lives).0 in
       rw r.world (acted_open t.world r.i (Gone r.j) l (kept_all t.world r.i (Gone r.j) l tt tt (λ x. refl) refl))
 
 pub open_outset : (n : ℕ) (homes : List ℕ) → AllOpen (opening_world n homes)
-open_outset n homes c k here stage = absurd (let f = fresh_at homes c k here in let e : Idle ≡ Asked = ap (λ (x : Connection). x.stage) (sym f.2) ∙ stage in cc)
+open_outset n homes c k here stage =
+    absurd (let f = fresh_at homes c k here in let e : Idle ≡ Asked = ap (λ (x : Connection). x.stage) (sym f.2)
+    ∙ stage in cc)

@@ -1,5 +1,6 @@
 -- What stands at a place of a list: of one that grows at its end, and of connections one of which changes.
-use Rattle.std.proofs.Common.{◌≡◌, ◌≢◌, ◌⊎◌, ℕ, zero, suc, ◌<◌, List, [], ◌∷◌, length, Option, None, Some, refl, ap, inl, inr, arith}
+use Rattle.std.proofs.Common.{◌≡◌, ◌≢◌, ◌⊎◌, ℕ, zero, suc, ◌<◌, List, [], ◌∷◌, length, Option, None, Some, refl, ap}
+use Rattle.std.proofs.Common.{inl, inr, arith}
 use Rattle.std.specs.Prelude.{slice_get, IsSome}
 use Rattle.world.specs.Connections.{Connection, changed_at}
 
@@ -13,8 +14,10 @@ some_of None h = cc
 some_of (Some x) h = (x, refl)
 
 -- what stands at a place after a change stood there before, or is what the change made
-pub changed_cases : (ks : List Connection) (c d : ℕ) (change : Connection → Connection) (new : Connection) → slice_get (changed_at ks c change) d ≡ Some new
-    → ((d ≢ c) × (slice_get ks d ≡ Some new)) ⊎ ((old : Connection) × (d ≡ c) × (slice_get ks c ≡ Some old) × (change old ≡ new))
+pub changed_cases : (ks : List Connection) (c d : ℕ) (change : Connection → Connection) (new : Connection)
+    → slice_get (changed_at ks c change) d ≡ Some new
+    → ((d ≢ c) × (slice_get ks d ≡ Some new))
+    ⊎ ((old : Connection) × (d ≡ c) × (slice_get ks c ≡ Some old) × (change old ≡ new))
 changed_cases [] c d change new h = cc
 changed_cases (k ∷ ks) zero zero change new h = inr (k, refl, refl, cc)
 changed_cases (k ∷ ks) zero (suc d) change new h = inl ((λ e. absurd (omega arith)), h)
@@ -25,7 +28,9 @@ changed_cases (k ∷ ks) (suc c) (suc d) change new h =
       | inr same ↦ inr (same.0, ap suc same.1, same.2, same.3)
     ]
 
-pub stood_before : (ks : List Connection) (c d : ℕ) (change : Connection → Connection) (new : Connection) → slice_get (changed_at ks c change) d ≡ Some new → (old : Connection) × (slice_get ks d ≡ Some old)
+pub stood_before : (ks : List Connection) (c d : ℕ) (change : Connection → Connection) (new : Connection)
+    → slice_get (changed_at ks c change) d ≡ Some new
+    → (old : Connection) × (slice_get ks d ≡ Some old)
 stood_before ks c d change new is =
     elim (changed_cases ks c d change new is) [
       | inl other ↦ (new, other.1)

@@ -4,7 +4,10 @@ use Rattle.std.specs.Prelude.{find}
 use Rattle.node.specs.Servers.{without_first}
 use Rattle.node.proofs.Lists.{In, in_more}
 
-out_step : {X : Type 0} (b : Bool) (y x : X) (ys rest : List X) (f : Option X) → In x (y ∷ ys) → (In x ys → In x rest ⊎ (f ≡ Some x)) → In x (cond b ys (y ∷ rest)) ⊎ (cond b (Some y) f ≡ Some x)
+out_step : {X : Type 0} (b : Bool) (y x : X) (ys rest : List X) (f : Option X)
+    → In x (y ∷ ys)
+    → (In x ys → In x rest ⊎ (f ≡ Some x))
+    → In x (cond b ys (y ∷ rest)) ⊎ (cond b (Some y) f ≡ Some x)
 out_step true y x ys rest f h g = elim (in_more y ys x h) [ inl same ↦ inr (ap Some (sym same)) | inr more ↦ inl more ]
 out_step false y x ys rest f h g = elim (in_more y ys x h) [
   | inl same ↦ inl (0, ap Some (sym same))
@@ -12,6 +15,8 @@ out_step false y x ys rest f h g = elim (in_more y ys x h) [
 ]
 
 -- what isn't left is the first that passes
-pub out_or_in : {X : Type 0} (test : X → Bool) (xs : List X) (x : X) → In x xs → In x (without_first test xs) ⊎ (find test xs ≡ Some x)
+pub out_or_in : {X : Type 0} (test : X → Bool) (xs : List X) (x : X)
+    → In x xs
+    → In x (without_first test xs) ⊎ (find test xs ≡ Some x)
 out_or_in test [] x h = inl h
 out_or_in test (y ∷ ys) x h = out_step (test y) y x ys _ _ h (out_or_in test ys x)

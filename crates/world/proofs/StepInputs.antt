@@ -29,9 +29,16 @@ pub known_of : (t : Traced) (i : ℕ) (cause input : Cause) → cause ≡ input 
 known_of t i cause input e h = subst (λ c. IsKnown t i c) e h
 
 -- an acknowledged entry of a living server is a committed one
-pub acked_committed : (t : Traced) (i : ℕ) (e : LogEntry) → Lawful t → lives t.world i ≡ true → In e (server t.world i).store.rest → e.number ≤ (server t.world i).store.acked
+pub acked_committed : (t : Traced) (i : ℕ) (e : LogEntry)
+    → Lawful t
+    → lives t.world i ≡ true
+    → In e (server t.world i).store.rest
+    → e.number ≤ (server t.world i).store.acked
     → (slice_get t.committed (e.number - 1) ≡ Some e) × IsEntry e
 acked_committed t i e l lives h acked =
     let lt = (alive t.world i lives).within in
-    let r = held_entry (log t i) (server t.world i).store e (l.logged.holds i lt) h in
-    (begins_back t.committed (log t i) (e.number - 1) e (l.logged.living i lives) r.place (omega (arith, r.low, acked, l.logged.within i lt)), r.valid)
+    let r = held_entry (log t i) (server t.world i).store e (l.logged.holds i lt) h in (
+      begins_back t.committed (log t i) (e.number - 1) e (l.logged.living i lives) r.place
+          (omega (arith, r.low, acked, l.logged.within i lt)),
+      r.valid,
+    )

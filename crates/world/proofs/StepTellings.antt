@@ -1,7 +1,10 @@
--- What a step tells a server's neighbours, and what it asks of the tail, one case an action: the successor gets the new entries, or if it is
--- a new one all entries that weren't acknowledged; the predecessor the acknowledged number, if that or itself is new; and each read that
+-- What a step tells a server's neighbours, and what it asks of the tail, one case an action: the successor gets the new
+-- entries, or if it is
+-- a new one all entries that weren't acknowledged; the predecessor the acknowledged number, if that or itself is new;
+-- and each read that
 -- is open after it was open under the same tail, or a query for it is put out.
-use Rattle.std.proofs.Common.{◌≡◌, ℕ, ◌≤◌, Bool, true, false, cond, not, List, [], ◌∷◌, ◌++◌, Option, Some, None, refl, sym, ap, subst, ◌∙◌, arith, inl, inr, ◌⊎◌}
+use Rattle.std.proofs.Common.{◌≡◌, ℕ, ◌≤◌, Bool, true, false, cond, not, List, [], ◌∷◌, ◌++◌, Option, Some, None, refl}
+use Rattle.std.proofs.Common.{sym, ap, subst, ◌∙◌, arith, inl, inr, ◌⊎◌}
 use Rattle.std.proofs.lemmas.Bool.{cond_both, cases_eq, cases_Bool, both_ways, eq-eqb, ne_eqb, false_from_ne_true}
 use Rattle.std.proofs.lemmas.Option.{same_Some}
 use Rattle.std.specs.Prelude.{◌==◌}
@@ -23,7 +26,9 @@ use Rattle.node.specs.Reading.{asked}
 use Rattle.node.specs.Joining.{widened}
 use Rattle.node.specs.Steps.{trimmed, step}
 use Rattle.node.specs.Lawful.{IsInput, HoldsEntry, IsSound, IsLawful}
-use Rattle.node.specs.Actions.{Action, Widen, Append, Reach, Settle, Send, Finish, Trim, Enter, Ask, Show, act, does, Cause, left, MaySend, Guard, AreGuarded, Due, IsPaid, IsTurn, IsTurnOf, due, due_after, AreInTurn, due_in_the_end, nothing_due, but_first}
+use Rattle.node.specs.Actions.{Action, Widen, Append, Reach, Settle, Send, Finish, Trim, Enter, Ask, Show, act, does}
+use Rattle.node.specs.Actions.{Cause, left, MaySend, Guard, AreGuarded, Due, IsPaid, IsTurn, IsTurnOf, due, due_after}
+use Rattle.node.specs.Actions.{AreInTurn, due_in_the_end, nothing_due, but_first}
 use Rattle.node.proofs.Lists.{In, in_front, in_behind, in_more, in_pushed}
 use Rattle.node.proofs.Neighbours.{next_of, following_from}
 use Rattle.node.proofs.OpenLists.{in_without}
@@ -37,7 +42,8 @@ use Rattle.world.proofs.ForwardRuns.{run-append, numbers_to, numbers_to-append, 
 
 pub some_or_not : (found : Option ℕ) (y : ℕ) → (found ≡ Some y) ⊎ (found ≡ Some y → ⊥)
 some_or_not None y = inr (λ e. absurd cc)
-some_or_not (Some x) y = elim (cases_eq x y) [ inl same ↦ inl (ap Some same) | inr other ↦ inr (λ e. other (same_Some x y e)) ]
+some_or_not (Some x) y =
+    elim (cases_eq x y) [ inl same ↦ inl (ap Some same) | inr other ↦ inr (λ e. other (same_Some x y e)) ]
 
 pub same_self : (a b : Option ℕ) (k : ℕ) → a ≡ Some k → b ≡ Some k → is_same a b ≡ true
 same_self a b k e g = rw (e, g) (eq-eqb k k refl)
@@ -49,7 +55,8 @@ reply_none y reply None = refl
 reply_none y reply (Some u) = refl
 
 closed_none : (y id : ℕ) (pend : List OpenUpdate) (e : LogEntry) → numbers_to y (reply_to id pend e) ≡ []
-closed_none y id pend e = cond_both (e.origin == id) _ _ (λ (os : List Output). numbers_to y os ≡ []) (λ t. reply_none y e.reply (open_update pend e.id)) (λ f. refl)
+closed_none y id pend e = cond_both (e.origin == id) _ _ (λ (os : List Output). numbers_to y os ≡ [])
+    (λ t. reply_none y e.reply (open_update pend e.id)) (λ f. refl)
 
 sent_run : (c : Cause) (d : Due) (s : ServerState) (j : ℕ) (body : Body) (y : ℕ)
     → MaySend c s j body
@@ -81,7 +88,10 @@ act_run c d s (Enter port call) y g t n m = refl
 act_run c d s (Ask port key) y g t n m = refl
 act_run c d s (Show port key) y g t n m = refl
 
-sent_none : (c : Cause) (s : ServerState) (j : ℕ) (body : Body) (y : ℕ) → MaySend c s j body → (next s ≡ Some y → ⊥) → numbers_to y (message_to s (Some j) body) ≡ []
+sent_none : (c : Cause) (s : ServerState) (j : ℕ) (body : Body) (y : ℕ)
+    → MaySend c s j body
+    → (next s ≡ Some y → ⊥)
+    → numbers_to y (message_to s (Some j) body) ≡ []
 sent_none c s j (Op id call) y g other = no_number s y (Some j) (Op id call) refl
 sent_none c s j (Forward e) y g other = rw (ne_eqb j y (λ same. other (g.0 ∙ ap Some same))) refl
 sent_none c s j (Ack k) y g other = no_number s y (Some j) (Ack k) refl
@@ -89,7 +99,10 @@ sent_none c s j (Query ask key) y g other = no_number s y (Some j) (Query ask ke
 sent_none c s j (Answer ask k) y g other = no_number s y (Some j) (Answer ask k) refl
 
 -- and to no other
-act_none : (c : Cause) (s : ServerState) (a : Action) (y : ℕ) → Guard c s a → (next s ≡ Some y → ⊥) → numbers_to y (act s a).outputs ≡ []
+act_none : (c : Cause) (s : ServerState) (a : Action) (y : ℕ)
+    → Guard c s a
+    → (next s ≡ Some y → ⊥)
+    → numbers_to y (act s a).outputs ≡ []
 unfolding act
 act_none c s (Widen v) y g other = refl
 act_none c s (Append e) y g other = refl
@@ -103,9 +116,13 @@ act_none c s (Ask port key) y g other = refl
 act_none c s (Show port key) y g other = refl
 
 -- a new successor is due the entries that aren't acknowledged
-act_new : (d : Due) (s : ServerState) (a : Action) (y : ℕ) → (next s ≡ Some y → ⊥) → next (act s a).state ≡ Some y → (due d s a).forwarded ≡ s.store.acked
+act_new : (d : Due) (s : ServerState) (a : Action) (y : ℕ)
+    → (next s ≡ Some y → ⊥)
+    → next (act s a).state ≡ Some y
+    → (due d s a).forwarded ≡ s.store.acked
 unfolding act appended entered asked trimmed
-act_new d s (Widen v) y other m = cond_both (is_same (next s) (next (widened s v))) _ _ (λ (k : ℕ). k ≡ s.store.acked) (λ t. absurd (other (same_is _ _ t ∙ m))) (λ f. refl)
+act_new d s (Widen v) y other m = cond_both (is_same (next s) (next (widened s v))) _ _ (λ (k : ℕ). k ≡ s.store.acked)
+    (λ t. absurd (other (same_is _ _ t ∙ m))) (λ f. refl)
 act_new d s (Append e) y other m = absurd (other m)
 act_new d s (Reach k) y other m = absurd (other m)
 act_new d s (Settle e) y other m = absurd (other m)
@@ -117,7 +134,12 @@ act_new d s (Ask port key) y other m = absurd (other m)
 act_new d s (Show port key) y other m = absurd (other m)
 
 -- a server that is the next at first and at last is so in between
-next_between : (s u t : ServerState) (y : ℕ) → Grown s u → Grown u t → next s ≡ Some y → next t ≡ Some y → next u ≡ Some y
+next_between : (s u t : ServerState) (y : ℕ)
+    → Grown s u
+    → Grown u t
+    → next s ≡ Some y
+    → next t ≡ Some y
+    → next u ≡ Some y
 next_between s u t y g h n m =
     let first = next_of s y n in
     let last = next_of t y m in
@@ -140,14 +162,16 @@ same_run (a ∷ later) c d s y g t n m =
     let u = (act s a).state in
     let mid = next_between s u (does u later).state y (grown_act c s a g.1) (grown_does later (left c) u g.2) n m in
     rw (numbers_to-append y (act s a).outputs (does u later).outputs)
-    (run-append _ _ _ (due d s a).forwarded _ (act_run c d s a y g.1 t.0 n mid) (same_run later (left c) (due d s a) u y g.2 t.1 mid m))
+    (run-append _ _ _ (due d s a).forwarded _ (act_run c d s a y g.1 t.0 n mid)
+    (same_run later (left c) (due d s a) u y g.2 t.1 mid m))
 
 new_run : (actions : List Action) (c : Cause) (d : Due) (s : ServerState) (y : ℕ)
     → AreGuarded c s actions
     → AreInTurn d s actions
     → (next s ≡ Some y → ⊥)
     → next (does s actions).state ≡ Some y
-    → (f : ℕ) × (f ≤ (does s actions).state.store.acked) × IsRun f (due_in_the_end d s actions).forwarded (numbers_to y (does s actions).outputs)
+    → (f : ℕ) × (f ≤ (does s actions).state.store.acked) × IsRun f (due_in_the_end d s actions).forwarded
+    (numbers_to y (does s actions).outputs)
 unfolding does
 new_run [] c d s y g t other m = absurd (other m)
 new_run (a ∷ later) c d s y g t other m =
@@ -158,10 +182,12 @@ new_run (a ∷ later) c d s y g t other m =
         s.store.acked,
         omega (arith, (grown_act c s a g.1).acked, (grown_does later (left c) u g.2).acked),
         rw (numbers_to-append y (act s a).outputs (does u later).outputs, none)
-            (subst (λ f. IsRun f (due_in_the_end (due d s a) u later).forwarded (numbers_to y (does u later).outputs)) (act_new d s a y other now)
+            (subst (λ f. IsRun f (due_in_the_end (due d s a) u later).forwarded (numbers_to y (does u later).outputs))
+            (act_new d s a y other now)
             (same_run later (left c) (due d s a) u y g.2 t.1 now m)),
       )
-      | inr still ↦ (let r = new_run later (left c) (due d s a) u y g.2 t.1 still m in (r.0, r.1, rw (numbers_to-append y (act s a).outputs (does u later).outputs, none) r.2))
+      | inr still ↦ (let r = new_run later (left c) (due d s a) u y g.2 t.1 still m in
+          (r.0, r.1, rw (numbers_to-append y (act s a).outputs (does u later).outputs, none) r.2))
     ]
 
 -- ---- the predecessor
@@ -184,7 +210,13 @@ sent_ack c d s j (Op id call) x n g h p low = inl (h, p, low)
 sent_ack c d s j (Forward e) x n g h p low = inl (h, p, low)
 sent_ack c d s j (Ack k) x n g h p low =
     let to : j ≡ x = same_Some j x (sym g.0 ∙ p) in
-    inr (record { view = s.view; body = Ack k }, k, (0, ap (λ n. Some (To n (record { view = s.view; body = Ack k }))) to), refl, omega (arith, low, g.1))
+    inr (
+      record { view = s.view; body = Ack k },
+      k,
+      (0, ap (λ n. Some (To n (record { view = s.view; body = Ack k }))) to),
+      refl,
+      omega (arith, low, g.1),
+    )
 sent_ack c d s j (Query ask key) x n g h p low = inl (h, p, low)
 sent_ack c d s j (Answer ask k) x n g h p low = inl (h, p, low)
 
@@ -204,7 +236,8 @@ act_ack : (c : Cause) (d : Due) (s : ServerState) (a : Action) (x n : ℕ)
     → n ≤ (act s a).state.store.acked
     → Acknowledges x n d s (act s a).outputs
 unfolding act appended entered asked trimmed
-act_ack c d s (Widen v) x n g t h p low = inl (ap (λ (x : Due). x.untold) t, same_is _ _ (not_false _ h) ∙ p, low_widened s v n low)
+act_ack c d s (Widen v) x n g t h p low =
+    inl (ap (λ (x : Due). x.untold) t, same_is _ _ (not_false _ h) ∙ p, low_widened s v n low)
 act_ack c d s (Append e) x n g t h p low = inl (h, p, low)
 act_ack c d s (Reach k) x n g t h p low = absurd cc
 act_ack c d s (Settle e) x n g t h p low = inl (h, p, low)
@@ -237,7 +270,9 @@ does_ack (a ∷ later) c d s x n g t h p low =
 -- ---- both
 
 -- the last number doesn't fall
-pub act_last : (c : Cause) (s : ServerState) (a : Action) → IsSound s → last_number s.store ≤ last_number (act s a).state.store
+pub act_last : (c : Cause) (s : ServerState) (a : Action)
+    → IsSound s
+    → last_number s.store ≤ last_number (act s a).state.store
 unfolding act widened entered asked
 act_last c s (Widen v) h = omega arith
 act_last c s (Append e) h = omega (arith, last_appended s e)
@@ -250,7 +285,9 @@ act_last c s (Enter port call) h = omega arith
 act_last c s (Ask port key) h = omega arith
 act_last c s (Show port key) h = omega arith
 
-does_last : (actions : List Action) (c : Cause) (s : ServerState) → AreGuarded c s actions → last_number s.store ≤ last_number (does s actions).state.store
+does_last : (actions : List Action) (c : Cause) (s : ServerState)
+    → AreGuarded c s actions
+    → last_number s.store ≤ last_number (does s actions).state.store
 unfolding does
 does_last [] c s g = omega arith
 does_last (a ∷ later) c s g = omega (arith, act_last c s a g.0, does_last later (left c) (act s a).state g.2)
@@ -261,12 +298,17 @@ Acks x a = (m : Peer) × (n : ℕ) × In (To x m) a.outputs × (m.body ≡ Ack n
 
 pub record Informs (s : ServerState) (a : Outcome) : Type 0 where
   pub last : last_number s.store ≤ last_number a.state.store
-  pub same : (y : ℕ) → next s ≡ Some y → next a.state ≡ Some y → IsRun (last_number s.store) (last_number a.state.store) (numbers_to y a.outputs)
+  pub same : (y : ℕ)
+      → next s ≡ Some y
+      → next a.state ≡ Some y
+      → IsRun (last_number s.store) (last_number a.state.store) (numbers_to y a.outputs)
   pub new : (y : ℕ)
       → (next s ≡ Some y → ⊥)
       → next a.state ≡ Some y
       → (f : ℕ) × (f ≤ a.state.store.acked) × IsRun f (last_number a.state.store) (numbers_to y a.outputs)
-  pub acks : (x : ℕ) → previous a.state ≡ Some x → ((previous s ≡ Some x) × (a.state.store.acked ≤ s.store.acked)) ⊎ Acks x a
+  pub acks : (x : ℕ)
+      → previous a.state ≡ Some x
+      → ((previous s ≡ Some x) × (a.state.store.acked ≤ s.store.acked)) ⊎ Acks x a
 
 informs_does : (actions : List Action) (c : Cause) (s : ServerState)
     → AreGuarded c s actions
@@ -277,20 +319,27 @@ informs_does actions c s g t p =
     let d = nothing_due s in
     record {
       last = does_last actions c s g;
-      same = λ y n m. subst (λ k. IsRun (last_number s.store) k (numbers_to y (does s actions).outputs)) (p.forwarded y m) (same_run actions c d s y g t n m);
+      same = λ y n m. subst (λ k. IsRun (last_number s.store) k (numbers_to y (does s actions).outputs))
+          (p.forwarded y m) (same_run actions c d s y g t n m);
       new = λ y other m.
           let r = new_run actions c d s y g t other m in
           (r.0, r.1, subst (λ k. IsRun r.0 k (numbers_to y (does s actions).outputs)) (p.forwarded y m) r.2);
-      acks = λ x q. elim (does_ack actions c d s x (does s actions).state.store.acked g t (p.told x q) q (omega arith)) [ inl r ↦ inl (r.1, r.2) | inr r ↦ inr r ];
+      acks = λ x q. elim (does_ack actions c d s x (does s actions).state.store.acked g t (p.told x q) q (omega arith))
+          [ inl r ↦ inl (r.1, r.2) | inr r ↦ inr r ];
     }
 
 -- what a step tells the neighbours
-pub informs_step : (s : ServerState) (input : Input) → IsLawful s → IsInput input → HoldsEntry input → Informs s (step s input)
+pub informs_step : (s : ServerState) (input : Input)
+    → IsLawful s
+    → IsInput input
+    → HoldsEntry input
+    → Informs s (step s input)
 informs_step s input h fit valid =
     let w = step_whole s input h fit valid in
     let xs = w.done.actions in
     subst (λ o. Informs s o) (sym w.done.same)
-    (informs_does xs (Some input) s w.done.guarded w.turns (subst (λ (o : Outcome). IsPaid o.state (due_in_the_end (nothing_due s) s xs)) w.done.same w.paid))
+    (informs_does xs (Some input) s w.done.guarded w.turns
+    (subst (λ (o : Outcome). IsPaid o.state (due_in_the_end (nothing_due s) s xs)) w.done.same w.paid))
 
 -- ---- the tail
 
@@ -316,7 +365,12 @@ sent_query c d s to (Answer ask k) r j g t i e never = inl (i, e, never)
 sent_query c d s to (Query ask key) r j g t i e never =
     let there : to ≡ j = same_Some to j (sym g.0 ∙ e) in
     elim (cases_eq ask r.ask) [
-      | inl same ↦ inr (record { view = s.view; body = Query ask key }, key, (0, ap (λ n. Some (To n (record { view = s.view; body = Query ask key }))) there), ap (λ k. Query k key) same)
+      | inl same ↦ inr (
+        record { view = s.view; body = Query ask key },
+        key,
+        (0, ap (λ n. Some (To n (record { view = s.view; body = Query ask key }))) there),
+        ap (λ k. Query k key) same,
+      )
       | inr other ↦ inl (
         i,
         e,
@@ -385,7 +439,8 @@ does_query (a ∷ later) c d s r j g t i e never =
 
 -- the read was open under this tail, or the tail is asked
 abbrev pub Inquires : ServerState → Outcome → Type 0
-Inquires s o = (r : OpenRead) (j : ℕ) → In r o.state.asks → tail_of o.state ≡ Some j → (In r s.asks × (tail_of s ≡ Some j)) ⊎ Asks r j o.outputs
+Inquires s o = (r : OpenRead) (j : ℕ) → In r o.state.asks → tail_of o.state ≡ Some j
+    → (In r s.asks × (tail_of s ≡ Some j)) ⊎ Asks r j o.outputs
 
 inquires_does : (actions : List Action) (c : Cause) (s : ServerState)
     → AreGuarded c s actions
@@ -394,13 +449,21 @@ inquires_does : (actions : List Action) (c : Cause) (s : ServerState)
     → Inquires s (does s actions)
 inquires_does actions c s g t p r j i e =
     let u = (does s actions).state in
-    let other : is_tail u ≡ false = false_from_ne_true _ (λ l. (let none = (subst (λ rs. In r rs) (p.last l).1 i).1 in cc)) in
-    elim (does_query actions c (nothing_due s) s r j g t i e (λ k. (let none = (subst (λ rs. In r rs) (p.asked other) k).1 in cc))) [ inl x ↦ inl (x.0, x.1) | inr x ↦ inr x ]
+    let other : is_tail u ≡ false =
+    false_from_ne_true _ (λ l. (let none = (subst (λ rs. In r rs) (p.last l).1 i).1 in cc)) in
+    elim (does_query actions c (nothing_due s) s r j g t i e
+    (λ k. (let none = (subst (λ rs. In r rs) (p.asked other) k).1 in cc)))
+    [ inl x ↦ inl (x.0, x.1) | inr x ↦ inr x ]
 
 -- what a step asks of the tail
-pub inquires_step : (s : ServerState) (input : Input) → IsLawful s → IsInput input → HoldsEntry input → Inquires s (step s input)
+pub inquires_step : (s : ServerState) (input : Input)
+    → IsLawful s
+    → IsInput input
+    → HoldsEntry input
+    → Inquires s (step s input)
 inquires_step s input h fit valid =
     let w = step_whole s input h fit valid in
     let xs = w.done.actions in
     subst (λ o. Inquires s o) (sym w.done.same)
-    (inquires_does xs (Some input) s w.done.guarded w.turns (subst (λ (o : Outcome). IsPaid o.state (due_in_the_end (nothing_due s) s xs)) w.done.same w.paid))
+    (inquires_does xs (Some input) s w.done.guarded w.turns
+    (subst (λ (o : Outcome). IsPaid o.state (due_in_the_end (nothing_due s) s xs)) w.done.same w.paid))

@@ -24,7 +24,9 @@ pub record Stepped (w u : World) (a : ℕ) (input : Input) : Type 0 where
   pub sent : (y : ℕ) → y < length w.servers → link u a y ≡ link w a y ++ sent_to y (step (server w a) input).outputs
   pub apart : (x y : ℕ) → x ≢ a → y ≢ a → link u x y ≡ link w x y
   -- where it was a message, that is taken off its link
-  pub into : (x : ℕ) → x ≢ a → (link u x a ≡ link w x a) ⊎ ((m : Peer) × (link w x a ≡ m ∷ link u x a) × (input ≡ From x m))
+  pub into : (x : ℕ)
+      → x ≢ a
+      → (link u x a ≡ link w x a) ⊎ ((m : Peer) × (link w x a ≡ m ∷ link u x a) × (input ≡ From x m))
 
 -- the world just before the step
 record IsReady (w v : World) (a : ℕ) (input : Input) : Type 0 where
@@ -41,7 +43,8 @@ stepped w v a input r =
     record {
       own = p.own ∙ ap (λ s. (step s input).state) same;
       others = λ x other. p.others x other ∙ r.servers x;
-      sent = λ y l. (let k = r.own y l in p.sent y k.0 ∙ ap (λ ms. ms ++ sent_to y (step (server v a) input).outputs) k.1 ∙ ap (λ s. link w a y ++ sent_to y (step s input).outputs) same);
+      sent = λ y l. (let k = r.own y l in p.sent y k.0 ∙ ap (λ ms. ms ++ sent_to y (step (server v a) input).outputs)
+          k.1 ∙ ap (λ s. link w a y ++ sent_to y (step s input).outputs) same);
       apart = λ x y other there. p.links x y other ∙ r.apart x y other there;
       into = λ x other. (let e = p.links x a other in elim (r.into x other) [
         | inl still ↦ inl (e ∙ still)
@@ -68,7 +71,8 @@ module _ (t : Traced) (h : Lawful t) where
       let v = with_connection t.world r.c asked in
       let same = servers_connected t.world r.c asked in
       let links = link-with_connection t.world r.c asked in
-      subst (λ w. Stepped t.world w a (Called r.c r.call)) (sym r.world) (stepped t.world v a (Called r.c r.call) (record {
+      subst (λ w. Stepped t.world w a (Called r.c r.call)) (sym r.world)
+      (stepped t.world v a (Called r.c r.call) (record {
         here = rw same.0 l;
         servers = same.1;
         own = λ y m. (has_link-with_connection t.world r.c asked a y (has_link t h.framed a y l m), links a y);
@@ -84,15 +88,22 @@ module _ (t : Traced) (h : Lawful t) where
       let apart = sender_apart t r.i a r.message addressed in
       let same = servers_linked t.world r.i a r.later in
       let l = addressed.receiver in
-      subst (λ w. Stepped t.world w a (From r.i r.message)) (sym r.world) (stepped t.world v a (From r.i r.message) (record {
+      subst (λ w. Stepped t.world w a (From r.i r.message)) (sym r.world)
+      (stepped t.world v a (From r.i r.message) (record {
         here = rw same.0 l;
         servers = same.1;
-        own = λ y m. (has_link-with_link t.world r.i a a y r.later (has_link t h.framed a y l m), elim (link_cases t.world r.i a a y r.later) [ inl c ↦ absurd (apart (sym c.0)) | inr e ↦ e ]);
+        own = λ y m. (
+          has_link-with_link t.world r.i a a y r.later (has_link t h.framed a y l m),
+          elim (link_cases t.world r.i a a y r.later) [ inl c ↦ absurd (apart (sym c.0)) | inr e ↦ e ],
+        );
         apart = λ x y p q. elim (link_cases t.world r.i a x y r.later) [ inl c ↦ absurd (q c.1) | inr e ↦ e ];
         into = λ x p. elim (cases_eq x r.i) [
           | inl is ↦ inr (
             r.message,
-            ap (λ k. link t.world k a) is ∙ r.first ∙ ap (λ ms. r.message ∷ ms) (sym (ap (λ k. link v k a) is ∙ same_link t.world r.i a r.later (has_link t h.framed r.i a addressed.sender l))),
+            ap (λ k. link t.world k a) is ∙ r.first
+                ∙ ap (λ ms. r.message ∷ ms)
+                (sym (ap (λ k. link v k a) is
+                ∙ same_link t.world r.i a r.later (has_link t h.framed r.i a addressed.sender l))),
             ap (λ k. From k r.message) (sym is),
           )
           | inr other ↦ elim (link_cases t.world r.i a x a r.later) [ inl c ↦ absurd (other c.0) | inr e ↦ inl e ]

@@ -1,5 +1,6 @@
 -- A step keeps the streams between servers: those of others stay, and the server's own go on.
-use Rattle.std.proofs.Common.{◌≡◌, ◌≢◌, ℕ, suc, ◌<◌, ◌≤◌, false, List, [], ◌∷◌, ◌++◌, length, get_or, Some, refl, sym, ap, subst, ◌∙◌, arith, inl, inr}
+use Rattle.std.proofs.Common.{◌≡◌, ◌≢◌, ℕ, suc, ◌<◌, ◌≤◌, false, List, [], ◌∷◌, ◌++◌, length, get_or, Some, refl, sym}
+use Rattle.std.proofs.Common.{ap, subst, ◌∙◌, arith, inl, inr}
 use Rattle.std.proofs.lemmas.List.{length-set}
 use Rattle.std.proofs.lemmas.Option.{slice_get-get_or}
 use Rattle.versions.specs.Entries.{LogEntry}
@@ -18,7 +19,8 @@ use Rattle.world.proofs.Beginnings.{begins-length}
 use Rattle.world.proofs.HeldLogs.{held_last}
 use Rattle.world.proofs.IdLaws.{next_of, following_from, previous_of}
 use Rattle.world.proofs.Streaming.{forwarded_number, numbers, sent_to, Linked, Stream, LinkedBack, IsTold}
-use Rattle.world.proofs.ForwardRuns.{run-append, run_as, numbers-append, in_sent, HasLink, link-put_all_to, link-put_all_from}
+use Rattle.world.proofs.ForwardRuns.{run-append, run_as, numbers-append, in_sent, HasLink, link-put_all_to}
+use Rattle.world.proofs.ForwardRuns.{link-put_all_from}
 pub use Rattle.world.proofs.StepTellings.{some_or_not}
 use Rattle.world.proofs.StepTellings.{Informs}
 use Rattle.world.proofs.LoggedLaws.{still_out}
@@ -56,9 +58,11 @@ step_acted w a o l =
     record {
       own = server-put_all w1 a o.outputs a ∙ server_same w a o.state l;
       others = λ x other. server-put_all w1 a o.outputs x ∙ server_apart w a x o.state other;
-      count = ap (λ (ss : List ServerState). length ss) (servers-put_all w1 a o.outputs) ∙ count-with_server w a o.state;
+      count =
+          ap (λ (ss : List ServerState). length ss) (servers-put_all w1 a o.outputs) ∙ count-with_server w a o.state;
       failed = failed-put_all w1 a o.outputs ∙ failed-with_server w a o.state;
-      sent = λ y h. link-put_all_to w1 a o.outputs y (has_link-with_server w a o.state a y h) ∙ ap (λ ms. ms ++ sent_to y o.outputs) (link-with_server w a o.state a y);
+      sent = λ y h. link-put_all_to w1 a o.outputs y (has_link-with_server w a o.state a y h)
+          ∙ ap (λ ms. ms ++ sent_to y o.outputs) (link-with_server w a o.state a y);
       links = λ x y other. link-put_all_from w1 a o.outputs x y other ∙ link-with_server w a o.state x y;
     }
 
@@ -67,15 +71,28 @@ step_acted w a o l =
 pub has_link : (t : Traced) → Framed t → (i j : ℕ) → i < count t → j < count t → HasLink t.world i j
 has_link t f i j a b =
     let within : i < length t.world.links = omega (arith, f.rows, a) in
-    record { row = within; place = omega (arith, f.row i (get_or t.world.links i []) (slice_get-get_or t.world.links i [] within), b) }
+    record {
+      row = within;
+      place = omega (arith, f.row i (get_or t.world.links i []) (slice_get-get_or t.world.links i [] within), b);
+    }
 
 pub last_is : (t : Traced) → Logged t → (i : ℕ) → i < count t → last_number (server t.world i).store ≡ length (log t i)
 last_is t h i l = held_last (log t i) (server t.world i).store (h.holds i l)
 
-pub last_later : (t u : Traced) → Logged t → Logged u → Later t u → (i : ℕ) → i < count t → last_number (server t.world i).store ≤ last_number (server u.world i).store
+pub last_later : (t u : Traced)
+    → Logged t
+    → Logged u
+    → Later t u
+    → (i : ℕ)
+    → i < count t
+    → last_number (server t.world i).store ≤ last_number (server u.world i).store
 last_later t u h g l i a = omega (arith, last_is t h i a, last_is u g i (rw l.count a), begins-length _ _ (l.logs i))
 
-pub next_in : (t : Traced) → Framed t → (i : ℕ) → i < count t → next (server t.world i) ≡ successor (server t.world i).view (count t) i
+pub next_in : (t : Traced)
+    → Framed t
+    → (i : ℕ)
+    → i < count t
+    → next (server t.world i) ≡ successor (server t.world i).view (count t) i
 next_in t f i l = rw (f.id i l, f.chain i l) refl
 
 number_step : (b : Body) (ks : List ℕ) → ((e : LogEntry) → b ≡ Forward e → ⊥) → ks ≡ [] → forwarded_number b ++ ks ≡ []
@@ -87,15 +104,24 @@ number_step (Answer ask n) ks f h = h
 
 no_forwards : (ms : List Peer) → ((m : Peer) → In m ms → (e : LogEntry) → m.body ≡ Forward e → ⊥) → numbers ms ≡ []
 no_forwards [] f = refl
-no_forwards (m ∷ ms) f = number_step m.body (numbers ms) (λ e h. f m (0, refl) e h) (no_forwards ms (λ x g e h. f x (suc g.0, g.1) e h))
+no_forwards (m ∷ ms) f =
+    number_step m.body (numbers ms) (λ e h. f m (0, refl) e h) (no_forwards ms (λ x g e h. f x (suc g.0, g.1) e h))
 
 -- no forward is on its way to a server that isn't next
-nothing_sent : (t : Traced) → Framed t → (a y : ℕ) → a < count t → y < count t → has (server t.world a).view y ≡ false → (next (server t.world a) ≡ Some y → ⊥) → numbers (link t.world a y) ≡ []
+nothing_sent : (t : Traced)
+    → Framed t
+    → (a y : ℕ)
+    → a < count t
+    → y < count t
+    → has (server t.world a).view y ≡ false
+    → (next (server t.world a) ≡ Some y → ⊥)
+    → numbers (link t.world a y) ≡ []
 nothing_sent t f a y here inside out other =
     no_forwards (link t.world a y) (λ m i e is.
     let s = f.sound a y m i in
     let g : Goes a y m.view (count t) (Forward e) = subst (λ b. Goes a y m.view (count t) b) is s.goes in
-    other (next_in t f a here ∙ following_from (server t.world a).view (count t) a y (record { above = g.0; within = inside; out = out; between = λ x p q. s.part x (g.1 x p q) })))
+    other (next_in t f a here ∙ following_from (server t.world a).view (count t) a y
+    (record { above = g.0; within = inside; out = out; between = λ x p q. s.part x (g.1 x p q) })))
 
 -- ---- forwards
 
@@ -121,7 +147,12 @@ module _ (t u : Traced) (a : ℕ) (o : Outcome) (h : Between t u a o) where
     alive = ap (λ v. has v y) (sym h.failed) ∙ l.alive;
   }
 
-  pub forwards_other : (x y : ℕ) → x ≢ a → link u.world x y ≡ link t.world x y → (Linked t.world x y → Stream t.world x y) → Linked u.world x y → Stream u.world x y
+  pub forwards_other : (x y : ℕ)
+      → x ≢ a
+      → link u.world x y ≡ link t.world x y
+      → (Linked t.world x y → Stream t.world x y)
+      → Linked u.world x y
+      → Stream u.world x y
   forwards_other x y other same f l =
       let old = linked_other x y other l in
       let s = f old in
@@ -138,22 +169,42 @@ module _ (t u : Traced) (a : ℕ) (o : Outcome) (h : Between t u a o) where
       let above : a < y = omega (arith, follows.above, h.after.framed.id a l.here) in
       let apart : y ≢ a = λ e. omega (arith, e, above) in
       let to : next o.state ≡ Some y = ap (λ s. next s) (sym h.own) ∙ l.next in
-      let now : numbers (link u.world a y) ≡ numbers (link t.world a y) ++ numbers (sent_to y o.outputs) = ap (λ ms. numbers ms) (h.sent y inside) ∙ numbers-append (link t.world a y) (sent_to y o.outputs) in
-      let last : last_number (server u.world a).store ≡ last_number o.state.store = ap (λ s. last_number s.store) h.own in
+      let now : numbers (link u.world a y) ≡ numbers (link t.world a y) ++ numbers (sent_to y o.outputs) =
+      ap (λ ms. numbers ms) (h.sent y inside) ∙ numbers-append (link t.world a y) (sent_to y o.outputs) in
+      let last : last_number (server u.world a).store ≡ last_number o.state.store =
+      ap (λ s. last_number s.store) h.own in
       elim (some_or_not (next (server t.world a)) y) [
-        | inl was ↦ (let s = f (record { here = h.here; inside = inside; next = was; unaware = ap (λ s. has s.view a) (sym (h.others y apart)) ∙ l.unaware; alive = ap (λ v. has v y) (sym h.failed) ∙ l.alive }) in
+        | inl was ↦ (let s = f
+            (record {
+              here = h.here;
+              inside = inside;
+              next = was;
+              unaware = ap (λ s. has s.view a) (sym (h.others y apart)) ∙ l.unaware;
+              alive =
+                  ap (λ v. has v y) (sym h.failed) ∙ l.alive;
+            }) in
             record {
               from = s.from;
               reached = omega (arith, s.reached, last_later t u h.before.logged h.after.logged h.later y inside);
-              run = run_as s.from s.from _ _ _ _ refl last now (run-append _ _ s.from (last_number (server t.world a).store) (last_number o.state.store) s.run (h.informs.same y was to));
+              run = run_as s.from s.from _ _ _ _ refl last now
+                  (run-append _ _ s.from (last_number (server t.world a).store) (last_number o.state.store) s.run
+                  (h.informs.same y was to));
             })
-        | inr new ↦ (let none = nothing_sent t h.before.framed a y h.here inside (still_out t u h.later a y follows.out) new in
+        | inr new ↦ (let none = nothing_sent t h.before.framed a y h.here inside
+            (still_out t u h.later a y follows.out) new in
             let told = h.after.logged.acks a y above l.inside follows.out in
             let r = h.informs.new y new to in
             let acked : (server u.world a).store.acked ≡ o.state.store.acked = ap (λ s. s.store.acked) h.own in
             record {
               from = r.0;
-              reached = omega (arith, r.1, acked, told, (h.after.logged.holds y l.inside).acked, last_is u h.after.logged y l.inside);
+              reached = omega (
+                arith,
+                r.1,
+                acked,
+                told,
+                (h.after.logged.holds y l.inside).acked,
+                last_is u h.after.logged y l.inside,
+              );
               run = run_as _ _ _ _ _ _ refl last (now ∙ ap (λ ks. ks ++ numbers (sent_to y o.outputs)) none) r.2;
             })
       ]
@@ -169,7 +220,12 @@ module _ (t u : Traced) (a : ℕ) (o : Outcome) (h : Between t u a o) where
     alive = ap (λ v. has v x) (sym h.failed) ∙ l.alive;
   }
 
-  pub acks_other : (x y : ℕ) → y ≢ a → link u.world y x ≡ link t.world y x → (LinkedBack t.world x y → IsTold t.world x y) → LinkedBack u.world x y → IsTold u.world x y
+  pub acks_other : (x y : ℕ)
+      → y ≢ a
+      → link u.world y x ≡ link t.world y x
+      → (LinkedBack t.world x y → IsTold t.world x y)
+      → LinkedBack u.world x y
+      → IsTold u.world x y
   acks_other x y other same f l =
       elim (f (linked_back_other x y other l)) [
         | inl low ↦ inl (omega (arith, ap (λ s. s.store.acked) (h.others y other), low, h.later.acks x))
@@ -193,7 +249,20 @@ module _ (t u : Traced) (a : ℕ) (o : Outcome) (h : Between t u a o) where
           alive = ap (λ v. has v x) (sym h.failed) ∙ l.alive;
         })) [
           | inl low ↦ inl (omega (arith, acked, old.1, low, h.later.acks x))
-          | inr g ↦ inr (g.0, g.1, rw (h.sent x inside) (in_front (link t.world a x) (sent_to x o.outputs) g.0 g.2), g.3, omega (arith, acked, old.1, g.4))
+          | inr g ↦ inr (
+            g.0,
+            g.1,
+            rw (h.sent x inside) (in_front (link t.world a x) (sent_to x o.outputs) g.0 g.2),
+            g.3,
+            omega (arith, acked, old.1, g.4),
+          )
         ]
-        | inr new ↦ inr (new.0, new.1, rw (h.sent x inside) (in_behind (link t.world a x) (sent_to x o.outputs) new.0 (in_sent x new.0 o.outputs new.2.0 new.2.1)), new.3, omega (arith, acked, new.4))
+        | inr new ↦ inr (
+          new.0,
+          new.1,
+          rw (h.sent x inside)
+              (in_behind (link t.world a x) (sent_to x o.outputs) new.0 (in_sent x new.0 o.outputs new.2.0 new.2.1)),
+          new.3,
+          omega (arith, acked, new.4),
+        )
       ]

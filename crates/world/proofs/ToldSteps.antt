@@ -13,12 +13,16 @@ use Rattle.world.specs.ServerSteps.{step_shown}
 use Rattle.world.specs.Worlds.{nobody}
 
 -- a server that was written back is the one that is read
-pub stepped_at : (ss : List ServerState) (i : ℕ) (s : ServerState) → i < length ss → slice_index_or (slice_set ss i s) i nobody ≡ s
+pub stepped_at : (ss : List ServerState) (i : ℕ) (s : ServerState)
+    → i < length ss
+    → slice_index_or (slice_set ss i s) i nobody ≡ s
 stepped_at ss i s within = get_or-set_same ss i s nobody within
 
 -- what is told of a step, part by part
-pub told_is : (s : ServerState) (input kept : Input) (before : Standing) (entries : List LogEntry) (outputs : List Output)
-    (after : Standing) → kept ≡ input → before ≡ standing s → entries ≡ entries_by s input → outputs ≡ (step s input).outputs
+pub told_is : (s : ServerState) (input kept : Input) (before : Standing) (entries : List LogEntry)
+    (outputs : List Output)
+    (after : Standing) → kept ≡ input → before ≡ standing s → entries ≡ entries_by s input → outputs
+    ≡ (step s input).outputs
     → after ≡ standing (step s input).state
     → record { input = kept; before = before; entries = entries; outputs = outputs; after = after } ≡ step_shown s input
 told_is s input kept before entries outputs after k b e o a = rw (k, b, e, o, a) refl

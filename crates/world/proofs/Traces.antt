@@ -1,4 +1,5 @@
--- What a world forgets, in a record beside it: whole logs, which calls updates are, the committed entries, and the reads that were answered.
+-- What a world forgets, in a record beside it: whole logs, which calls updates are, the committed entries, and the
+-- reads that were answered.
 use Rattle.std.proofs.Common.{ℕ, List, [], ◌∷◌, ◌++◌, length, replicate, Option, Some, None}
 use Rattle.std.specs.Prelude.{slice_get, slice_index_or, slice_set}
 use Rattle.table.specs.declared.items.Item.{Item}
@@ -11,14 +12,16 @@ use Rattle.world.specs.Worlds.{World, server, with_link, with_connection, openin
 use Rattle.world.specs.Calls.{CallId}
 use Rattle.node.specs.Actions.{Action, Append, Finish, Enter, Show, act}
 
--- A read that a server answered: which call, its key, the number of the entries behind which it stands, and the item or none.
+-- A read that a server answered: which call, its key, the number of the entries behind which it stands, and the item or
+-- none.
 pub record AnsweredRead : Type 0 where
   pub id : CallId
   pub key : List ℕ
   pub number : ℕ
   pub item : Option Item
 
--- A world with its past: each server's log from its first entry on; each server's own updates, the k-th being that of id k + 1;
+-- A world with its past: each server's log from its first entry on; each server's own updates, the k-th being that of
+-- id k + 1;
 -- the committed entries; and the reads that were answered, in the order of their answers.
 pub record Traced : Type 0 where
   pub world : World
@@ -66,9 +69,15 @@ issued_after t i a = t.issued
 
 abbrev pub reads_after : Traced → ℕ → Action → List AnsweredRead
 reads_after t i (Finish r n) =
-    t.reads ++ record { id = open_id t.world r.port; key = r.key; number = n; item = value_at (server t.world i).store r.key n } ∷ []
+    t.reads ++ record
+    { id = open_id t.world r.port; key = r.key; number = n; item = value_at (server t.world i).store r.key n } ∷ []
 reads_after t i (Show port key) =
-    t.reads ++ record { id = open_id t.world port; key = key; number = length t.committed; item = value_at (server t.world i).store key (last_number (server t.world i).store) } ∷ []
+    t.reads ++ record {
+      id = open_id t.world port;
+      key = key;
+      number = length t.committed;
+      item = value_at (server t.world i).store key (last_number (server t.world i).store);
+    } ∷ []
 reads_after t i a = t.reads
 
 -- server i does this
@@ -102,4 +111,5 @@ failing t i =
 
 -- a chain before any event
 abbrev pub outset : ℕ → List ℕ → Traced
-outset n homes = record { world = opening_world n homes; logs = replicate n []; issued = replicate n []; committed = []; reads = [] }
+outset n homes =
+    record { world = opening_world n homes; logs = replicate n []; issued = replicate n []; committed = []; reads = [] }

@@ -1,5 +1,6 @@
 -- Turns in lists that grow at their end, and what a session's step does to its output.
-use Rattle.std.proofs.Common.{◌≡◌, ℕ, ◌==◌, Bool, true, false, cond, List, [], ◌∷◌, ◌++◌, length, Option, None, Some, refl, sym, ap, arith, append_assoc, append-nil}
+use Rattle.std.proofs.Common.{◌≡◌, ℕ, ◌==◌, Bool, true, false, cond, List, [], ◌∷◌, ◌++◌, length, Option, None, Some}
+use Rattle.std.proofs.Common.{refl, sym, ap, arith, append_assoc, append-nil}
 use Rattle.table.specs.declared.operations.Call.{Call}
 use Rattle.table.specs.declared.operations.Reply.{Reply}
 use Rattle.proto.specs.declared.requests.Fault.{Fault}
@@ -11,7 +12,8 @@ use Rattle.proto.specs.declared.front.Found.TheVariants.{Request as Requested, R
 use Rattle.proto.specs.declared.texts.Form.{Form}
 use Rattle.proto.specs.Fronts.{found_at}
 use Rattle.proto.specs.Turns.{Turn, Faulty, Calls, fault_text, text}
-use Rattle.proto.specs.Sessions.{Held, Given, kept, passed, fed, by_keys, by_request, by_found, by_passing, by_later, next_of, answered_by}
+use Rattle.proto.specs.Sessions.{Held, Given, kept, passed, fed, by_keys, by_request, by_found, by_passing, by_later}
+use Rattle.proto.specs.Sessions.{next_of, answered_by}
 use Rattle.proto.specs.Streams.{texts, to_come}
 use Rattle.world.specs.Sent.{calls_of}
 
@@ -22,20 +24,28 @@ calls_of_more (Faulty fault ∷ xs) ys = calls_of_more xs ys
 calls_of_more (Calls call form ∷ xs) ys = ap (λ calls. call ∷ calls) (calls_of_more xs ys)
 
 -- a fault behind turns whose calls are answered
-pub texts_fault : (fault : Fault) (ts : List Turn) (rs : List Reply) → length rs ≡ length (calls_of ts) → texts (ts ++ Faulty fault ∷ []) rs ≡ texts ts rs ++ fault_text fault
+pub texts_fault : (fault : Fault) (ts : List Turn) (rs : List Reply)
+    → length rs ≡ length (calls_of ts)
+    → texts (ts ++ Faulty fault ∷ []) rs ≡ texts ts rs ++ fault_text fault
 texts_fault fault [] rs h = append-nil (fault_text fault)
-texts_fault fault (Faulty g ∷ ts) rs h = rw (texts_fault fault ts rs h) (sym (append_assoc (fault_text g) (texts ts rs) (fault_text fault)))
+texts_fault fault (Faulty g ∷ ts) rs h =
+    rw (texts_fault fault ts rs h) (sym (append_assoc (fault_text g) (texts ts rs) (fault_text fault)))
 texts_fault fault (Calls call form ∷ ts) [] h = absurd (omega (arith, h))
-texts_fault fault (Calls call form ∷ ts) (r ∷ rs) h = rw (texts_fault fault ts rs (omega (arith, h))) (sym (append_assoc (text form r) (texts ts rs) (fault_text fault)))
+texts_fault fault (Calls call form ∷ ts) (r ∷ rs) h =
+    rw (texts_fault fault ts rs (omega (arith, h))) (sym (append_assoc (text form r) (texts ts rs) (fault_text fault)))
 
 -- an answered call behind them
-pub texts_call : (call : Call) (form : Form) (reply : Reply) (ts : List Turn) (rs : List Reply) → length rs ≡ length (calls_of ts)
+pub texts_call : (call : Call) (form : Form) (reply : Reply) (ts : List Turn) (rs : List Reply)
+    → length rs ≡ length (calls_of ts)
     → texts (ts ++ Calls call form ∷ []) (rs ++ reply ∷ []) ≡ texts ts rs ++ text form reply
 texts_call call form reply [] [] h = append-nil (text form reply)
 texts_call call form reply [] (r ∷ rs) h = absurd (omega (arith, h))
-texts_call call form reply (Faulty g ∷ ts) rs h = rw (texts_call call form reply ts rs h) (sym (append_assoc (fault_text g) (texts ts rs) (text form reply)))
+texts_call call form reply (Faulty g ∷ ts) rs h =
+    rw (texts_call call form reply ts rs h) (sym (append_assoc (fault_text g) (texts ts rs) (text form reply)))
 texts_call call form reply (Calls other shape ∷ ts) [] h = absurd (omega (arith, h))
-texts_call call form reply (Calls other shape ∷ ts) (r ∷ rs) h = rw (texts_call call form reply ts rs (omega (arith, h))) (sym (append_assoc (text shape r) (texts ts rs) (text form reply)))
+texts_call call form reply (Calls other shape ∷ ts) (r ∷ rs) h =
+    rw (texts_call call form reply ts rs (omega (arith, h)))
+    (sym (append_assoc (text shape r) (texts ts rs) (text form reply)))
 
 -- what a step writes behind this output, and which call it opens
 abbrev pub Writes : List ℕ → Given → Type 0
@@ -86,26 +96,41 @@ fed_closed h xs closed = rw closed refl
 pub fed_out : (h : Held) (xs : List ℕ) → (fed h xs).out ≡ h.out
 fed_out h xs = by_closed h.closed
   where
-    by_closed : (b : Bool) → (cond b h (record h { unread = h.unread ++ kept h.passing xs; passing = passed h.passing xs })).out ≡ h.out
+    by_closed : (b : Bool)
+        → (cond b h (record h { unread = h.unread ++ kept h.passing xs; passing = passed h.passing xs })).out ≡ h.out
     by_closed true = refl
     by_closed false = refl
 
 pub fed_asked : (h : Held) (xs : List ℕ) → (fed h xs).asked ≡ h.asked
 fed_asked h xs = by_closed h.closed
   where
-    by_closed : (b : Bool) → (cond b h (record h { unread = h.unread ++ kept h.passing xs; passing = passed h.passing xs })).asked ≡ h.asked
+    by_closed : (b : Bool)
+        → (cond b h (record h
+        { unread = h.unread ++ kept h.passing xs; passing = passed h.passing xs })).asked ≡ h.asked
     by_closed true = refl
     by_closed false = refl
 
-pub answered_out : (asked : Option Form) (form : Form) (h : Held) (reply : Reply) → asked ≡ Some form → (answered_by asked h reply).out ≡ h.out ++ text form reply
+pub answered_out : (asked : Option Form) (form : Form) (h : Held) (reply : Reply)
+    → asked ≡ Some form
+    → (answered_by asked h reply).out ≡ h.out ++ text form reply
 answered_out asked form h reply e = rw e refl
 
 -- an answer changes nothing of the turns to come
-pub answered_to_come : (asked : Option Form) (h : Held) (reply : Reply) (more : List ℕ) → to_come (fed (answered_by asked h reply) more) ≡ to_come (fed h more)
+pub answered_to_come : (asked : Option Form) (h : Held) (reply : Reply) (more : List ℕ)
+    → to_come (fed (answered_by asked h reply) more) ≡ to_come (fed h more)
 answered_to_come None h reply more = refl
 answered_to_come (Some form) h reply more = by_fields h.unread h.passing h.later h.unique h.asked h.out h.closed
   where
-    by_fields : (unread : List ℕ) (passing : Option Passing) (later : List (List ℕ)) (unique : Bool) (asked : Option Form) (out : List ℕ) (closed : Bool)
-        → let h : Held = record { unread = unread; passing = passing; later = later; unique = unique; asked = asked; out = out; closed = closed } in to_come (fed (answered_by (Some form) h reply) more) ≡ to_come (fed h more)
+    by_fields : (unread : List ℕ) (passing : Option Passing) (later : List (List ℕ)) (unique : Bool)
+        (asked : Option Form) (out : List ℕ) (closed : Bool)
+        → let h : Held = record {
+          unread = unread;
+          passing = passing;
+          later = later;
+          unique = unique;
+          asked = asked;
+          out = out;
+          closed = closed;
+        } in to_come (fed (answered_by (Some form) h reply) more) ≡ to_come (fed h more)
     by_fields unread passing later unique asked out true = refl
     by_fields unread passing later unique asked out false = refl

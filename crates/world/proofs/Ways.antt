@@ -11,7 +11,8 @@ use Rattle.world.specs.declared.events.Event.TheVariants.{Piece, Begin, Work, De
 use Rattle.world.specs.declared.connections.Stage.{Stage}
 use Rattle.world.specs.declared.connections.Stage.TheVariants.{Idle, Begun, Asked, Replied}
 use Rattle.world.specs.Connections.{Connection, came, begun, handed, open_call, to_work, asked}
-use Rattle.world.specs.Worlds.{World, server, link, lives, has_failed, takes, with_link, with_connection, where_home_lives, sent_in, worked, delivered, happens}
+use Rattle.world.specs.Worlds.{World, server, link, lives, has_failed, takes, with_link, with_connection}
+use Rattle.world.specs.Worlds.{where_home_lives, sent_in, worked, delivered, happens}
 
 -- a begun call goes to its server
 pub record Working (w u : World) : Type 0 where
@@ -51,10 +52,26 @@ pub data Way (w u : World) : Type 0 where
   Delivers : Delivering w u → Way w u
   Tells : Telling w u → Way w u
 
-sent_way : (w : World) (c : ℕ) (k : Connection) (stage : Stage) → k.stage ≡ stage → slice_get w.connections c ≡ Some k → lives w k.home ≡ true → (o : Option Call) → to_work stage k ≡ o → Way w (sent_in w c k.home o)
+sent_way : (w : World) (c : ℕ) (k : Connection) (stage : Stage)
+    → k.stage ≡ stage
+    → slice_get w.connections c ≡ Some k
+    → lives w k.home ≡ true
+    → (o : Option Call)
+    → to_work stage k ≡ o
+    → Way w (sent_in w c k.home o)
 sent_way w c k stage e here alive None is = Stays refl
 sent_way w c k Idle e here alive (Some call) is = absurd cc
-sent_way w c k Begun e here alive (Some call) is = Works (record { c = c; connection = k; call = call; here = here; lives = alive; stage = e; called = is; world = refl })
+sent_way w c k Begun e here alive (Some call) is =
+    Works (record {
+      c = c;
+      connection = k;
+      call = call;
+      here = here;
+      lives = alive;
+      stage = e;
+      called = is;
+      world = refl;
+    })
 sent_way w c k Asked e here alive (Some call) is = absurd cc
 sent_way w c k (Replied reply) e here alive (Some call) is = absurd cc
 
@@ -84,11 +101,14 @@ way w (Hand c) = Hands c refl
 
 -- ---- what a change of a connection or of a link leaves of servers
 
-pub servers_connected : (w : World) (c : ℕ) (change : Connection → Connection) → (length (with_connection w c change).servers ≡ length w.servers) × ((x : ℕ) → server (with_connection w c change) x ≡ server w x)
+pub servers_connected : (w : World) (c : ℕ) (change : Connection → Connection)
+    → (length (with_connection w c change).servers ≡ length w.servers)
+    × ((x : ℕ) → server (with_connection w c change) x ≡ server w x)
 unfolding with_connection server
 servers_connected w c change = (refl, λ x. refl)
 
-pub servers_linked : (w : World) (i j : ℕ) (ms : List Peer) → (length (with_link w i j ms).servers ≡ length w.servers) × ((x : ℕ) → server (with_link w i j ms) x ≡ server w x)
+pub servers_linked : (w : World) (i j : ℕ) (ms : List Peer)
+    → (length (with_link w i j ms).servers ≡ length w.servers) × ((x : ℕ) → server (with_link w i j ms) x ≡ server w x)
 unfolding with_link server
 servers_linked w i j ms = (refl, λ x. refl)
 

@@ -25,14 +25,23 @@ use Rattle.world.proofs.WorkedOrders.{calls_in, replies_in}
 abbrev shown_with : Option Item → TranscriptShown
 shown_with found = record {
   connections =
-      record { home = 0; calls = record { target = One (codes "a"); op = Set 0 (codes "p"); reply = None } ∷ []; sent = [] }
-      ∷ record { home = 0; calls = record { target = One (codes "a"); op = Read; reply = Some (Value found) } ∷ []; sent = item_text (codes "a") false found ++ codes "END\r\n" }
+      record {
+        home = 0;
+        calls = record { target = One (codes "a"); op = Set 0 (codes "p"); reply = None } ∷ [];
+        sent = [];
+      }
+      ∷ record {
+        home = 0;
+        calls = record { target = One (codes "a"); op = Read; reply = Some (Value found) } ∷ [];
+        sent = item_text (codes "a") false found ++ codes "END\r\n";
+      }
       ∷ [];
   quiet = false;
 }
 
 shown_computed : transcript_of (run_of 3 dirty_homes dirty_events) ≡ shown_with (item_at empty (codes "a"))
-unfolding dirty_events line_limit has union single is_below adds next_from predecessor most appended entered asked trimmed passed_on take_update dirty_read answered server link with_server with_link with_connection put_all
+unfolding dirty_events line_limit has union single is_below adds next_from predecessor most appended entered asked
+    trimmed passed_on take_update dirty_read answered server link with_server with_link with_connection put_all
 shown_computed = refl
 
 pub dirty_read_before_commit : transcript_of (run_of 3 dirty_homes dirty_events) ≡ dirty_transcript
@@ -48,11 +57,13 @@ abbrev pub get : Call
 get = get_of key
 
 pub called : calls_in (run_of 3 dirty_homes dirty_events) ≡ (set ∷ []) ∷ (get ∷ []) ∷ []
-unfolding dirty_events line_limit has union single is_below adds next_from predecessor most appended entered asked trimmed passed_on take_update dirty_read answered server link with_server with_link with_connection put_all
+unfolding dirty_events line_limit has union single is_below adds next_from predecessor most appended entered asked
+    trimmed passed_on take_update dirty_read answered server link with_server with_link with_connection put_all
 called = refl
 
 replies_computed : replies_in (run_of 3 dirty_homes dirty_events) ≡ [] ∷ (Value (item_at empty key) ∷ []) ∷ []
-unfolding dirty_events line_limit has union single is_below adds next_from predecessor most appended entered asked trimmed passed_on take_update dirty_read answered server link with_server with_link with_connection put_all
+unfolding dirty_events line_limit has union single is_below adds next_from predecessor most appended entered asked
+    trimmed passed_on take_update dirty_read answered server link with_server with_link with_connection put_all
 replies_computed = refl
 
 pub replied : replies_in (run_of 3 dirty_homes dirty_events) ≡ [] ∷ (Value None ∷ []) ∷ []

@@ -15,7 +15,8 @@ use Rattle.world.specs.WorkedSchedules.{name, set_of, sets_homes, sets_events, s
 use Rattle.world.proofs.WorkedOrders.{calls_in, replies_in}
 
 pub sets_are_shown : transcript_of (run_of 2 sets_homes sets_events) ≡ sets_transcript
-unfolding sets_events line_limit has union single is_below adds next_from predecessor most appended entered trimmed left_open replies risen passed_on take_update server link with_server with_link with_connection put_all
+unfolding sets_events line_limit has union single is_below adds next_from predecessor most appended entered trimmed
+    left_open replies risen passed_on take_update server link with_server with_link with_connection put_all
 sets_are_shown = refl
 
 abbrev pub first : Call
@@ -25,14 +26,17 @@ abbrev pub second : Call
 second = set_of (codes "b") (codes "q")
 
 pub called : calls_in (run_of 2 sets_homes sets_events) ≡ (first ∷ []) ∷ (second ∷ []) ∷ []
-unfolding sets_events line_limit has union single is_below adds next_from predecessor most appended entered trimmed left_open replies risen passed_on take_update server link with_server with_link with_connection put_all
+unfolding sets_events line_limit has union single is_below adds next_from predecessor most appended entered trimmed
+    left_open replies risen passed_on take_update server link with_server with_link with_connection put_all
 called = refl
 
 pub replied : replies_in (run_of 2 sets_homes sets_events) ≡ (Stored ∷ []) ∷ (Stored ∷ []) ∷ []
-unfolding sets_events line_limit has union single is_below adds next_from predecessor most appended entered trimmed left_open replies risen passed_on take_update server link with_server with_link with_connection put_all
+unfolding sets_events line_limit has union single is_below adds next_from predecessor most appended entered trimmed
+    left_open replies risen passed_on take_update server link with_server with_link with_connection put_all
 replied = refl
 
 -- the first is answered before the second begins
 pub first_before_second : Precedes 2 sets_homes sets_events (name 0 0) (name 1 0)
-unfolding sets_events line_limit has union single is_below adds next_from predecessor most appended entered trimmed left_open replies risen passed_on take_update server link with_server with_link with_connection put_all
+unfolding sets_events line_limit has union single is_below adds next_from predecessor most appended entered trimmed
+    left_open replies risen passed_on take_update server link with_server with_link with_connection put_all
 first_before_second = record { k = 6; answered = refl; not_begun = refl }

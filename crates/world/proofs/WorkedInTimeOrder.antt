@@ -23,12 +23,16 @@ abbrev back : Entry
 back = entry (name 0 0) first Stored
 
 -- each entry is a begun call
-pub exchanged_begun : (i : ℕ) (e : Entry) → slice_get sets_exchanged i ≡ Some e → begun_call (run_of 2 sets_homes sets_events) e.id ≡ Some e.call
+pub exchanged_begun : (i : ℕ) (e : Entry)
+    → slice_get sets_exchanged i ≡ Some e
+    → begun_call (run_of 2 sets_homes sets_events) e.id ≡ Some e.call
 exchanged_begun i e here = calls_under 2 sets_homes sets_events _ called e.id ∙ at i here
   where
     at : (i : ℕ) → slice_get sets_exchanged i ≡ Some e → under ((first ∷ []) ∷ (second ∷ []) ∷ []) e.id ≡ Some e.call
-    at zero h = subst (λ (f : Entry). under ((first ∷ []) ∷ (second ∷ []) ∷ []) f.id ≡ Some f.call) (same_Some front e h) refl
-    at (suc zero) h = subst (λ (f : Entry). under ((first ∷ []) ∷ (second ∷ []) ∷ []) f.id ≡ Some f.call) (same_Some back e h) refl
+    at zero h =
+        subst (λ (f : Entry). under ((first ∷ []) ∷ (second ∷ []) ∷ []) f.id ≡ Some f.call) (same_Some front e h) refl
+    at (suc zero) h =
+        subst (λ (f : Entry). under ((first ∷ []) ∷ (second ∷ []) ∷ []) f.id ≡ Some f.call) (same_Some back e h) refl
     at (suc (suc i)) h = absurd cc
 
 connection_of : (i : ℕ) (e : Entry) → slice_get sets_exchanged i ≡ Some e → i + e.id.connection ≡ 1
@@ -43,14 +47,20 @@ connection_of (suc (suc i)) e h = absurd cc
 -- none stands in it twice
 pub exchanged_once : (i j : ℕ) (x : CallId) → StandsAt sets_exchanged i x → StandsAt sets_exchanged j x → i ≡ j
 exchanged_once i j x one two =
-    let same : one.entry.id.connection ≡ two.entry.id.connection = ap (λ (y : CallId). y.connection) (one.same ∙ sym two.same) in
+    let same : one.entry.id.connection ≡ two.entry.id.connection =
+    ap (λ (y : CallId). y.connection) (one.same ∙ sym two.same) in
     omega (arith, connection_of i one.entry one.here, connection_of j two.entry two.here, same)
 
 -- each answered call stands in it, with its reply
-pub exchanged_answered : (x : CallId) (reply : Reply) → reply_to (run_of 2 sets_homes sets_events) x ≡ Some reply → (i : ℕ) × (at : StandsAt sets_exchanged i x) × (at.entry.reply ≡ reply)
-exchanged_answered x reply got = there x.connection x.place (sym (replies_under 2 sets_homes sets_events _ replied x) ∙ got)
+pub exchanged_answered : (x : CallId) (reply : Reply)
+    → reply_to (run_of 2 sets_homes sets_events) x ≡ Some reply
+    → (i : ℕ) × (at : StandsAt sets_exchanged i x) × (at.entry.reply ≡ reply)
+exchanged_answered x reply got =
+    there x.connection x.place (sym (replies_under 2 sets_homes sets_events _ replied x) ∙ got)
   where
-    there : (c p : ℕ) → under ((Stored ∷ []) ∷ (Stored ∷ []) ∷ []) (name c p) ≡ Some reply → (i : ℕ) × (at : StandsAt sets_exchanged i (name c p)) × (at.entry.reply ≡ reply)
+    there : (c p : ℕ)
+        → under ((Stored ∷ []) ∷ (Stored ∷ []) ∷ []) (name c p) ≡ Some reply
+        → (i : ℕ) × (at : StandsAt sets_exchanged i (name c p)) × (at.entry.reply ≡ reply)
     there zero zero h = (1, record { entry = back; here = refl; same = refl }, same_Some Stored reply h)
     there zero (suc p) h = absurd cc
     there (suc zero) zero h = (0, record { entry = front; here = refl; same = refl }, same_Some Stored reply h)
@@ -60,5 +70,6 @@ exchanged_answered x reply got = there x.connection x.place (sym (replies_under 
 -- but the first set was answered before the second began
 pub exchanged_is_no_order : IsLinearization 2 sets_homes sets_events sets_exchanged → ⊥
 exchanged_is_no_order order =
-    let before = order.in_time (name 0 0) (name 1 0) 0 first_before_second (record { entry = front; here = refl; same = refl }) in
+    let before = order.in_time (name 0 0) (name 1 0) 0 first_before_second
+    (record { entry = front; here = refl; same = refl }) in
     omega (arith, before.1)

@@ -26,42 +26,66 @@ under rows x = option_and_then (λ row. slice_get row x.place) (slice_get rows x
 abbrev pub said : Entry → Call × Reply
 said e = (e.call, e.reply)
 
-by_rows : {X : Type 0} (f : Connection → List X) (ks : List Connection) (c p : ℕ) → option_and_then (λ k. slice_get (f k) p) (slice_get ks c) ≡ option_and_then (λ row. slice_get row p) (slice_get (map f ks) c)
+by_rows : {X : Type 0} (f : Connection → List X) (ks : List Connection) (c p : ℕ)
+    → option_and_then (λ k. slice_get (f k) p) (slice_get ks c) ≡ option_and_then (λ row. slice_get row p)
+    (slice_get (map f ks) c)
 by_rows f [] c p = refl
 by_rows f (k ∷ ks) zero p = refl
 by_rows f (k ∷ ks) (suc c) p = by_rows f ks c p
 
 -- a call that is begun, and a reply that was given, by these rows
-pub calls_under : (count : ℕ) (homes : List ℕ) (events : List Event) (calls : List (List Call)) → calls_in (run_of count homes events) ≡ calls
+pub calls_under : (count : ℕ) (homes : List ℕ) (events : List Event) (calls : List (List Call))
+    → calls_in (run_of count homes events) ≡ calls
     → (x : CallId) → begun_call (run_of count homes events) x ≡ under calls x
-calls_under count homes events calls same x = by_rows (λ k. k.calls) (run_of count homes events).connections x.connection x.place ∙ ap (λ rows. under rows x) same
+calls_under count homes events calls same x =
+    by_rows (λ k. k.calls) (run_of count homes events).connections x.connection x.place ∙ ap (λ rows. under rows x) same
 
-pub replies_under : (count : ℕ) (homes : List ℕ) (events : List Event) (replies : List (List Reply)) → replies_in (run_of count homes events) ≡ replies
+pub replies_under : (count : ℕ) (homes : List ℕ) (events : List Event) (replies : List (List Reply))
+    → replies_in (run_of count homes events) ≡ replies
     → (x : CallId) → reply_to (run_of count homes events) x ≡ under replies x
-replies_under count homes events replies same x = by_rows (λ k. k.replies) (run_of count homes events).connections x.connection x.place ∙ ap (λ rows. under rows x) same
+replies_under count homes events replies same x = by_rows (λ k. k.replies) (run_of count homes events).connections
+    x.connection x.place ∙ ap (λ rows. under rows x) same
 
-module _ (count : ℕ) (homes : List ℕ) (events : List Event) (h : List Entry) (order : IsLinearization count homes events h) where
+module _ (count : ℕ) (homes : List ℕ) (events : List Event) (h : List Entry)
+    (order : IsLinearization count homes events h) where
   -- an entry's call is the one that was begun under its name
-  pub call_there : (calls : List (List Call)) → calls_in (run_of count homes events) ≡ calls → (i : ℕ) (e : Entry) → slice_get h i ≡ Some e → under calls e.id ≡ Some e.call
+  pub call_there : (calls : List (List Call))
+      → calls_in (run_of count homes events) ≡ calls
+      → (i : ℕ) (e : Entry)
+      → slice_get h i ≡ Some e
+      → under calls e.id ≡ Some e.call
   call_there calls same i e here =
       ap (λ rows. under rows e.id) (sym same)
-      ∙ sym (by_rows (λ k. k.calls) (run_of count homes events).connections e.id.connection e.id.place) ∙ order.begun i e here
+      ∙ sym (by_rows (λ k. k.calls) (run_of count homes events).connections e.id.connection e.id.place)
+      ∙ order.begun i e here
 
   -- an entry of an answered call has the reply that it got
-  pub reply_there : (replies : List (List Reply)) → replies_in (run_of count homes events) ≡ replies → (i : ℕ) (e : Entry) → slice_get h i ≡ Some e
+  pub reply_there : (replies : List (List Reply))
+      → replies_in (run_of count homes events) ≡ replies
+      → (i : ℕ) (e : Entry)
+      → slice_get h i ≡ Some e
       → (reply : Reply) → under replies e.id ≡ Some reply → e.reply ≡ reply
   reply_there replies same i e here reply got =
-      let found = order.answered e.id reply (by_rows (λ k. k.replies) (run_of count homes events).connections e.id.connection e.id.place ∙ ap (λ rows. under rows e.id) same ∙ got) in
+      let found = order.answered e.id reply
+      (by_rows (λ k. k.replies) (run_of count homes events).connections e.id.connection e.id.place
+      ∙ ap (λ rows. under rows e.id) same ∙ got) in
       let place : found.0 ≡ i = order.once found.0 i e.id found.1 (record { entry = e; here = here; same = refl }) in
       let one : e ≡ found.1.entry = same_Some _ _ (sym here ∙ ap (slice_get h) (sym place) ∙ found.1.here) in
       ap (λ (x : Entry). x.reply) one ∙ found.2
 
   -- an answered call stands somewhere
-  pub stands : (replies : List (List Reply)) → replies_in (run_of count homes events) ≡ replies → (x : CallId) (reply : Reply) → under replies x ≡ Some reply → (i : ℕ) × StandsAt h i x
+  pub stands : (replies : List (List Reply))
+      → replies_in (run_of count homes events) ≡ replies
+      → (x : CallId) (reply : Reply)
+      → under replies x ≡ Some reply
+      → (i : ℕ) × StandsAt h i x
   stands replies same x reply got =
-      let found = order.answered x reply (by_rows (λ k. k.replies) (run_of count homes events).connections x.connection x.place ∙ ap (λ rows. under rows x) same ∙ got) in
+      let found = order.answered x reply
+      (by_rows (λ k. k.replies) (run_of count homes events).connections x.connection x.place
+      ∙ ap (λ rows. under rows x) same ∙ got) in
       (found.0, found.1)
 
   -- two entries of one name are one entry
   pub one_place : (i j : ℕ) (e f : Entry) → slice_get h i ≡ Some e → slice_get h j ≡ Some f → e.id ≡ f.id → i ≡ j
-  one_place i j e f here there same = order.once i j f.id (record { entry = e; here = here; same = same }) (record { entry = f; here = there; same = refl })
+  one_place i j e f here there same = order.once i j f.id (record { entry = e; here = here; same = same })
+      (record { entry = f; here = there; same = refl })

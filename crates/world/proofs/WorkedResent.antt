@@ -1,4 +1,5 @@
--- A worked schedule: the head fails before anyone has its entry of an incr. The incr is sent again to the next head, and acts there.
+-- A worked schedule: the head fails before anyone has its entry of an incr. The incr is sent again to the next head,
+-- and acts there.
 use Rattle.std.proofs.Common.{◌≡◌, refl, ℕ, false, List, [], ◌∷◌, ◌++◌, Option, Some, None, ap, ◌∙◌, arith}
 use Rattle.std.specs.Prelude.{codes, decimal, replicate}
 use Rattle.std.proofs.lemmas.Fmt.{decimal_digit}
@@ -22,14 +23,17 @@ use Rattle.proto.specs.Words.{line_limit}
 use Rattle.node.specs.Views.{has, union, single, is_below, adds, next_from, predecessor}
 use Rattle.node.specs.Servers.{most}
 use Rattle.node.specs.Numbering.{left_open, replies, risen, appended, passed_on, take_update, entered}
-use Rattle.node.specs.Joining.{widened, taken_all, sent_again, forwarded, promoted_to_head, promoted_to_tail, caught_up, acked_to_predecessor, asks_renewed}
+use Rattle.node.specs.Joining.{widened, taken_all, sent_again, forwarded, promoted_to_head, promoted_to_tail, caught_up}
+use Rattle.node.specs.Joining.{acked_to_predecessor, asks_renewed}
 use Rattle.node.specs.Steps.{trimmed}
 use Rattle.world.specs.declared.events.Event.{Event}
 use Rattle.world.specs.declared.events.Event.TheVariants.{Deliver}
 use Rattle.world.specs.declared.connections.Stage.TheVariants.{Asked}
-use Rattle.world.specs.Worlds.{World, server, link, with_server, with_link, with_connection, put_all, opening_world, happens, run_from, run_of}
+use Rattle.world.specs.Worlds.{World, server, link, with_server, with_link, with_connection, put_all, opening_world}
+use Rattle.world.specs.Worlds.{happens, run_from, run_of}
 use Rattle.world.specs.Transcripts.{TranscriptShown, transcript_of}
-use Rattle.world.specs.WorkedSchedules.{set_of, incr_of, get_of, resent_homes, resent_before, resent_behind, resent_events, resent_transcript}
+use Rattle.world.specs.WorkedSchedules.{set_of, incr_of, get_of, resent_homes, resent_before, resent_behind}
+use Rattle.world.specs.WorkedSchedules.{resent_events, resent_transcript}
 use Rattle.world.proofs.WorkedOrders.{calls_in, replies_in}
 
 abbrev pub key : List ℕ
@@ -59,7 +63,14 @@ one_put = insert empty key seven
 
 -- a head's entry of the incr, where it finds this
 abbrev pub entry_on : Option Item → LogEntry
-entry_on found = record { number = 2; origin = 2; id = 2; target = One key; reply = (decision found (Incr 1) 2).0; change = (decision found (Incr 1) 2).1 }
+entry_on found = record {
+  number = 2;
+  origin = 2;
+  id = 2;
+  target = One key;
+  reply = (decision found (Incr 1) 2).0;
+  change = (decision found (Incr 1) 2).1;
+}
 
 abbrev pub acting : ℕ → ℕ → List LogEntry → ℕ → List OpenUpdate → ℕ → ServerState
 acting id view rest seen pend next_id = record {
@@ -74,10 +85,12 @@ acting id view rest seen pend next_id = record {
   next_ask = 1;
 }
 
--- the world behind the head's entry: what server 1 holds, and the links from it and from server 2 to it, are still to be said
+-- the world behind the head's entry: what server 1 holds, and the links from it and from server 2 to it, are still to
+-- be said
 abbrev pub middle : LogEntry → List LogEntry → ℕ → List Peer → List Peer → World
 middle first rest seen down up = record {
-  servers = acting 0 0 (first ∷ []) 2 [] 1 ∷ acting 1 1 rest seen [] 1 ∷ acting 2 1 [] 1 (record { id = 2; port = 0; call = incr } ∷ []) 3 ∷ [];
+  servers = acting 0 0 (first ∷ []) 2 [] 1 ∷ acting 1 1 rest seen [] 1 ∷ acting 2 1 [] 1
+      (record { id = 2; port = 0; call = incr } ∷ []) 3 ∷ [];
   failed = 1;
   links =
       ([] ∷ (record { view = 0; body = Forward first } ∷ []) ∷ [] ∷ [])
@@ -87,7 +100,15 @@ middle first rest seen down up = record {
   connections =
       record {
         home = 2;
-        session = record { unread = codes "get n\r\n"; passing = None; later = []; unique = false; asked = Some Status; out = codes "STORED\r\n"; closed = false };
+        session = record {
+          unread = codes "get n\r\n";
+          passing = None;
+          later = [];
+          unique = false;
+          asked = Some Status;
+          out = codes "STORED\r\n";
+          closed = false;
+        };
         calls = set ∷ incr ∷ [];
         replies = Stored ∷ [];
         stage = Asked;
@@ -104,11 +125,16 @@ abbrev pub taken_twice : LogEntry → World
 taken_twice e = middle first (e ∷ []) 2 (record { view = 1; body = Forward e } ∷ []) []
 
 sent : run_of 3 resent_homes resent_before ≡ asked_twice
-unfolding resent_before line_limit has union single is_below adds next_from predecessor most appended entered widened taken_all sent_again forwarded trimmed left_open replies risen passed_on take_update promoted_to_head promoted_to_tail caught_up acked_to_predecessor asks_renewed server link with_server with_link with_connection put_all
+unfolding resent_before line_limit has union single is_below adds next_from predecessor most appended entered widened
+    taken_all sent_again forwarded trimmed left_open replies risen passed_on take_update promoted_to_head
+    promoted_to_tail caught_up acked_to_predecessor asks_renewed server link with_server with_link
+    with_connection put_all
 sent = refl
 
 acts : happens asked_twice (Deliver 2 1) ≡ taken_twice (entry_on (item_at one_put key))
-unfolding line_limit has union single is_below adds next_from predecessor most appended entered widened taken_all sent_again forwarded trimmed left_open replies risen passed_on take_update promoted_to_head promoted_to_tail caught_up acked_to_predecessor asks_renewed server link with_server with_link with_connection put_all
+unfolding line_limit has union single is_below adds next_from predecessor most appended entered widened taken_all
+    sent_again forwarded trimmed left_open replies risen passed_on take_update promoted_to_head promoted_to_tail
+    caught_up acked_to_predecessor asks_renewed server link with_server with_link with_connection put_all
 acts = refl
 
 run_on : (w : World) (es fs : List Event) → run_from w (es ++ fs) ≡ run_from (run_from w es) fs
@@ -125,9 +151,11 @@ abbrev last : World
 last = run_from (taken_twice (entry_on (Some seven))) resent_behind
 
 -- where the next head takes it, and these events follow
-pub ends_with : (es : List Event) → run_of 3 resent_homes (resent_before ++ Deliver 2 1 ∷ es) ≡ run_from (taken_twice (entry_on (Some seven))) es
+pub ends_with : (es : List Event)
+    → run_of 3 resent_homes (resent_before ++ Deliver 2 1 ∷ es) ≡ run_from (taken_twice (entry_on (Some seven))) es
 ends_with es =
-    run_on (opening_world 3 resent_homes) resent_before (Deliver 2 1 ∷ es) ∙ ap (λ w. run_from (happens w (Deliver 2 1)) es) sent
+    run_on (opening_world 3 resent_homes) resent_before (Deliver 2 1 ∷ es)
+    ∙ ap (λ w. run_from (happens w (Deliver 2 1)) es) sent
     ∙ ap (λ w. run_from w es) (acts ∙ ap (λ found. taken_twice (entry_on found)) found_seven)
 
 ends : run_of 3 resent_homes resent_events ≡ last
@@ -149,8 +177,12 @@ shown_with digits found text = record {
   quiet = false;
 }
 
-shown_last : transcript_of last ≡ shown_with (decimal 8) (item_at (insert one_put key eight) key) (item_text key false (item_at (insert one_put key eight) key))
-unfolding resent_behind line_limit has union single is_below adds next_from predecessor most appended entered widened taken_all sent_again forwarded trimmed left_open replies risen passed_on take_update promoted_to_head promoted_to_tail caught_up acked_to_predecessor asks_renewed server link with_server with_link with_connection put_all
+shown_last : transcript_of last ≡ shown_with (decimal 8) (item_at (insert one_put key eight) key)
+    (item_text key false (item_at (insert one_put key eight) key))
+unfolding resent_behind line_limit has union single is_below adds next_from predecessor most appended entered widened
+    taken_all sent_again forwarded trimmed left_open replies risen passed_on take_update promoted_to_head
+    promoted_to_tail caught_up acked_to_predecessor asks_renewed server link with_server with_link
+    with_connection put_all
 shown_last = refl
 
 text_eight : item_text key false (Some eight) ≡ codes "VALUE n 0 1\r\n8\r\n"
@@ -161,17 +193,24 @@ resent_call_acts =
     ap transcript_of ends ∙ shown_last
     ∙ ap (λ found. shown_with (decimal 8) found (item_text key false found)) found_eight
     ∙ ap (shown_with (decimal 8) (Some eight)) text_eight
-    ∙ ap (λ digits. shown_with digits (Some (eight_with digits)) (codes "VALUE n 0 1\r\n8\r\n")) (decimal_digit 8 (omega arith))
+    ∙ ap (λ digits. shown_with digits (Some (eight_with digits)) (codes "VALUE n 0 1\r\n8\r\n"))
+    (decimal_digit 8 (omega arith))
 
 called_last : calls_in last ≡ (set ∷ incr ∷ get ∷ []) ∷ []
-unfolding resent_behind line_limit has union single is_below adds next_from predecessor most appended entered widened taken_all sent_again forwarded trimmed left_open replies risen passed_on take_update promoted_to_head promoted_to_tail caught_up acked_to_predecessor asks_renewed server link with_server with_link with_connection put_all
+unfolding resent_behind line_limit has union single is_below adds next_from predecessor most appended entered widened
+    taken_all sent_again forwarded trimmed left_open replies risen passed_on take_update promoted_to_head
+    promoted_to_tail caught_up acked_to_predecessor asks_renewed server link with_server with_link
+    with_connection put_all
 called_last = refl
 
 pub called : calls_in (run_of 3 resent_homes resent_events) ≡ (set ∷ incr ∷ get ∷ []) ∷ []
 called = ap calls_in ends ∙ called_last
 
 replied_last : replies_in last ≡ (Stored ∷ Number 8 ∷ Value (item_at (insert one_put key eight) key) ∷ []) ∷ []
-unfolding resent_behind line_limit has union single is_below adds next_from predecessor most appended entered widened taken_all sent_again forwarded trimmed left_open replies risen passed_on take_update promoted_to_head promoted_to_tail caught_up acked_to_predecessor asks_renewed server link with_server with_link with_connection put_all
+unfolding resent_behind line_limit has union single is_below adds next_from predecessor most appended entered widened
+    taken_all sent_again forwarded trimmed left_open replies risen passed_on take_update promoted_to_head
+    promoted_to_tail caught_up acked_to_predecessor asks_renewed server link with_server with_link
+    with_connection put_all
 replied_last = refl
 
 pub replied : replies_in (run_of 3 resent_homes resent_events) ≡ (Stored ∷ Number 8 ∷ Value (Some eight) ∷ []) ∷ []

@@ -1,5 +1,6 @@
 -- A call that was sent again: its schedule's calls stand in one order only.
-use Rattle.std.proofs.Common.{◌≡◌, ℕ, zero, suc, ◌<◌, List, [], ◌∷◌, ◌++◌, length, take, map, Some, None, refl, sym, ap, ◌∙◌, arith, subst, ◌⊎◌, inl, inr}
+use Rattle.std.proofs.Common.{◌≡◌, ℕ, zero, suc, ◌<◌, List, [], ◌∷◌, ◌++◌, length, take, map, Some, None, refl, sym, ap}
+use Rattle.std.proofs.Common.{◌∙◌, arith, subst, ◌⊎◌, inl, inr}
 use Rattle.std.specs.Prelude.{slice_get}
 use Rattle.std.proofs.lemmas.Option.{same_Some, slice_get_within}
 use Rattle.table.specs.declared.operations.Call.{Call}
@@ -9,7 +10,8 @@ use Rattle.proto.specs.Words.{line_limit}
 use Rattle.node.specs.Views.{has, union, single, is_below, adds, next_from, predecessor}
 use Rattle.node.specs.Servers.{most}
 use Rattle.node.specs.Numbering.{left_open, replies, risen, appended, passed_on, take_update, entered}
-use Rattle.node.specs.Joining.{widened, taken_all, sent_again, forwarded, promoted_to_head, promoted_to_tail, caught_up, acked_to_predecessor, asks_renewed}
+use Rattle.node.specs.Joining.{widened, taken_all, sent_again, forwarded, promoted_to_head, promoted_to_tail, caught_up}
+use Rattle.node.specs.Joining.{acked_to_predecessor, asks_renewed}
 use Rattle.node.specs.Steps.{trimmed}
 use Rattle.world.specs.declared.events.Event.TheVariants.{Deliver, Hand}
 use Rattle.world.specs.Worlds.{World, server, link, with_server, with_link, with_connection, put_all, run_from, run_of}
@@ -20,14 +22,18 @@ use Rattle.world.specs.WorkedSchedules as worked
 use Rattle.world.specs.WorkedSchedules.{resent_homes, resent_before, resent_behind, resent_events, resent_order}
 use Rattle.world.proofs.WorkedOrders.{under, said, call_there, reply_there, stands}
 use Rattle.world.proofs.OneOrder.{one_order}
-use Rattle.world.proofs.WorkedResent.{set, incr, get, eight, eight_with, seven, entry_on, taken_twice, ends_with, called, replied}
+use Rattle.world.proofs.WorkedResent.{set, incr, get, eight, eight_with, seven, entry_on, taken_twice, ends_with}
+use Rattle.world.proofs.WorkedResent.{called, replied}
 
 abbrev pub the : ℕ → CallId
 the place = record { connection = 0; place = place }
 
 -- the set is answered before the incr begins
 pub set_before_incr : Precedes 3 resent_homes resent_events (the 0) (the 1)
-unfolding resent_before resent_behind line_limit has union single is_below adds next_from predecessor most appended entered widened taken_all sent_again forwarded trimmed left_open replies risen passed_on take_update promoted_to_head promoted_to_tail caught_up acked_to_predecessor asks_renewed server link with_server with_link with_connection put_all
+unfolding resent_before resent_behind line_limit has union single is_below adds next_from predecessor most appended
+    entered widened taken_all sent_again forwarded trimmed left_open replies risen passed_on take_update
+    promoted_to_head promoted_to_tail caught_up acked_to_predecessor asks_renewed server link with_server with_link
+    with_connection put_all
 set_before_incr = record { k = 9; answered = refl; not_begun = refl }
 
 -- the events up to the incr's answer
@@ -42,11 +48,15 @@ until : run_of 3 resent_homes (take 18 resent_events) ≡ incr_done
 until = ap (run_of 3 resent_homes) first_events ∙ ends_with (Deliver 1 2 ∷ Hand 0 ∷ [])
 
 incr_answered : IsAnswered incr_done (the 1)
-unfolding line_limit has union single is_below adds next_from predecessor most appended entered widened taken_all sent_again forwarded trimmed left_open replies risen passed_on take_update promoted_to_head promoted_to_tail caught_up acked_to_predecessor asks_renewed server link with_server with_link with_connection put_all
+unfolding line_limit has union single is_below adds next_from predecessor most appended entered widened taken_all
+    sent_again forwarded trimmed left_open replies risen passed_on take_update promoted_to_head promoted_to_tail
+    caught_up acked_to_predecessor asks_renewed server link with_server with_link with_connection put_all
 incr_answered = refl
 
 get_not_begun : begun_call incr_done (the 2) ≡ None
-unfolding line_limit has union single is_below adds next_from predecessor most appended entered widened taken_all sent_again forwarded trimmed left_open replies risen passed_on take_update promoted_to_head promoted_to_tail caught_up acked_to_predecessor asks_renewed server link with_server with_link with_connection put_all
+unfolding line_limit has union single is_below adds next_from predecessor most appended entered widened taken_all
+    sent_again forwarded trimmed left_open replies risen passed_on take_update promoted_to_head promoted_to_tail
+    caught_up acked_to_predecessor asks_renewed server link with_server with_link with_connection put_all
 get_not_begun = refl
 
 -- the incr is answered before the get begins
@@ -66,7 +76,9 @@ got_replies = (Stored ∷ Number 8 ∷ Value (Some eight) ∷ []) ∷ []
 abbrev Named : ℕ → Call → Type 0
 Named p call = ((p ≡ 0) × (call ≡ set)) ⊎ (((p ≡ 1) × (call ≡ incr)) ⊎ ((p ≡ 2) × (call ≡ get)))
 
-named : (c p : ℕ) (call : Call) → under begun_calls (record { connection = c; place = p }) ≡ Some call → (c ≡ 0) × Named p call
+named : (c p : ℕ) (call : Call)
+    → under begun_calls (record { connection = c; place = p }) ≡ Some call
+    → (c ≡ 0) × Named p call
 named zero zero call h = (refl, inl (refl, sym (same_Some set call h)))
 named zero (suc zero) call h = (refl, inr (inl (refl, sym (same_Some incr call h))))
 named zero (suc (suc zero)) call h = (refl, inr (inr (refl, sym (same_Some get call h))))
@@ -93,12 +105,21 @@ module _ (h : List Entry) (order : IsLinearization 3 resent_homes resent_events 
       ⊎ (((k ≡ incr_at.0) × (said e ≡ (incr, Number 8))) ⊎ ((k ≡ get_at.0) × (said e ≡ (get, Value (Some eight)))))
 
   kind : (k : ℕ) (e : Entry) → slice_get h k ≡ Some e → Kind k e
-  kind k e here = let is = named e.id.connection e.id.place e.call (call_there 3 resent_homes resent_events h order begun_calls called k e here) in by_name is.0 is.1
+  kind k e here = let is =
+      named e.id.connection e.id.place e.call
+      (call_there 3 resent_homes resent_events h order begun_calls called k e here) in by_name is.0 is.1
     where
-      one : (p i : ℕ) (call : Call) (reply : Reply) → e.id.connection ≡ 0 → e.id.place ≡ p → e.call ≡ call → StandsAt h i (the p) → under got_replies (the p) ≡ Some reply → (k ≡ i) × (said e ≡ (call, reply))
+      one : (p i : ℕ) (call : Call) (reply : Reply)
+          → e.id.connection ≡ 0
+          → e.id.place ≡ p
+          → e.call ≡ call
+          → StandsAt h i (the p)
+          → under got_replies (the p) ≡ Some reply
+          → (k ≡ i) × (said e ≡ (call, reply))
       one p i call reply c same asks at got =
           let id : e.id ≡ the p = λ j. record { connection = c j; place = same j } in
-          let answer : e.reply ≡ reply = reply_there 3 resent_homes resent_events h order got_replies replied k e here reply (ap (under got_replies) id ∙ got) in
+          let answer : e.reply ≡ reply = reply_there 3 resent_homes resent_events h order got_replies replied k e here
+          reply (ap (under got_replies) id ∙ got) in
           (order.once k i (the p) (record { entry = e; here = here; same = id }) at, λ j. (asks j, answer j))
 
       by_name : e.id.connection ≡ 0 → Named e.id.place e.call → Kind k e
@@ -130,7 +151,9 @@ module _ (h : List Entry) (order : IsLinearization 3 resent_homes resent_events 
   enough = omega (arith, within, incr_at.1, set_at.1)
 
 -- the set, the incr, the get: no other order is one
-pub only_order : (h : List Entry) → IsLinearization 3 resent_homes resent_events h → map said h ≡ (set, Stored) ∷ (incr, Number 8) ∷ (get, Value (Some eight)) ∷ []
+pub only_order : (h : List Entry)
+    → IsLinearization 3 resent_homes resent_events h
+    → map said h ≡ (set, Stored) ∷ (incr, Number 8) ∷ (get, Value (Some eight)) ∷ []
 only_order [] order = absurd (omega (arith, enough [] order))
 only_order (e ∷ []) order = absurd (omega (arith, enough (e ∷ []) order))
 only_order (e ∷ f ∷ []) order = absurd (omega (arith, enough (e ∷ f ∷ []) order))
@@ -149,7 +172,9 @@ only_order (e ∷ f ∷ g ∷ d ∷ t) order =
 
 -- the number in digits
 pub the_order : (h : List Entry) → IsLinearization 3 resent_homes resent_events h → worked.said h ≡ resent_order
-the_order h order = only_order h order ∙ ap (λ digits. (set, Stored) ∷ (incr, Number 8) ∷ (get, Value (Some (eight_with digits))) ∷ []) (decimal_digit 8 (omega arith))
+the_order h order =
+    only_order h order ∙ ap (λ digits. (set, Stored) ∷ (incr, Number 8) ∷ (get, Value (Some (eight_with digits))) ∷ [])
+    (decimal_digit 8 (omega arith))
 
 -- and so it is the order that there is
 pub its_order : worked.said (one_order 3 resent_homes resent_events (omega arith)).0 ≡ resent_order

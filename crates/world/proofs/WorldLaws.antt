@@ -1,5 +1,6 @@
 -- What a change of one server, one link or one connection leaves, and what outputs leave.
-use Rattle.std.proofs.Common.{◌≡◌, ◌≢◌, ℕ, zero, suc, ◌<◌, true, List, [], ◌∷◌, ◌++◌, length, set, get_or, Some, refl, arith, ◌⊎◌, inl, inr, ap, sym, ◌∙◌}
+use Rattle.std.proofs.Common.{◌≡◌, ◌≢◌, ℕ, zero, suc, ◌<◌, true, List, [], ◌∷◌, ◌++◌, length, set, get_or, Some, refl}
+use Rattle.std.proofs.Common.{arith, ◌⊎◌, inl, inr, ap, sym, ◌∙◌}
 use Rattle.std.specs.Prelude.{slice_get}
 use Rattle.std.proofs.lemmas.Bool.{cases_Bool}
 use Rattle.std.proofs.lemmas.List.{get_or-set_same, get_or-set_other}
@@ -17,7 +18,8 @@ use Rattle.node.proofs.Lists.{In, in_pushed}
 
 -- ---- one server, one link
 
-pub set_cases : {X : Type 0} (xs : List X) (i k : ℕ) (x d : X) → ((k ≡ i) × (get_or (set xs i x) k d ≡ x)) ⊎ (get_or (set xs i x) k d ≡ get_or xs k d)
+pub set_cases : {X : Type 0} (xs : List X) (i k : ℕ) (x d : X)
+    → ((k ≡ i) × (get_or (set xs i x) k d ≡ x)) ⊎ (get_or (set xs i x) k d ≡ get_or xs k d)
 set_cases [] i k x d = inr refl
 set_cases (y ∷ xs) zero zero x d = inl (refl, refl)
 set_cases (y ∷ xs) zero (suc k) x d = inr refl
@@ -32,7 +34,8 @@ pub server_apart : (w : World) (i k : ℕ) (s : ServerState) → k ≢ i → ser
 unfolding server with_server
 server_apart w i k s other = get_or-set_other w.servers i k s nobody other
 
-pub link_cases : (w : World) (i j a b : ℕ) (ms : List Peer) → ((a ≡ i) × (b ≡ j) × (link (with_link w i j ms) a b ≡ ms)) ⊎ (link (with_link w i j ms) a b ≡ link w a b)
+pub link_cases : (w : World) (i j a b : ℕ) (ms : List Peer)
+    → ((a ≡ i) × (b ≡ j) × (link (with_link w i j ms) a b ≡ ms)) ⊎ (link (with_link w i j ms) a b ≡ link w a b)
 unfolding link with_link
 link_cases w i j a b ms =
     elim (set_cases w.links i a (set (get_or w.links i []) j ms) []) [
@@ -49,7 +52,8 @@ link_cases w i j a b ms =
 abbrev pub Changes : ℕ → (Connection → Connection) → ℕ → Connection → Connection → Type 0
 Changes c change d k k' = ((d ≡ c) × (k' ≡ change k)) ⊎ ((d ≢ c) × (k' ≡ k))
 
-pub changed_one : (ks : List Connection) (c : ℕ) (change : Connection → Connection) (d : ℕ) (k : Connection) → slice_get ks d ≡ Some k
+pub changed_one : (ks : List Connection) (c : ℕ) (change : Connection → Connection) (d : ℕ) (k : Connection)
+    → slice_get ks d ≡ Some k
     → (k' : Connection) × (slice_get (changed_at ks c change) d ≡ Some k') × Changes c change d k k'
 changed_one [] c change d k h = absurd cc
 changed_one (x ∷ ks) zero change zero k h = (change x, refl, inl (refl, ap change (same_Some x k h)))
@@ -59,7 +63,8 @@ changed_one (x ∷ ks) (suc c) change (suc d) k h =
     let r = changed_one ks c change d k h in
     (r.0, r.1, elim r.2 [ inl g ↦ inl (ap suc g.0, g.1) | inr g ↦ inr (λ e. g.0 (omega arith), g.1) ])
 
-pub unchanged_one : (ks : List Connection) (c : ℕ) (change : Connection → Connection) (d : ℕ) (k' : Connection) → slice_get (changed_at ks c change) d ≡ Some k'
+pub unchanged_one : (ks : List Connection) (c : ℕ) (change : Connection → Connection) (d : ℕ) (k' : Connection)
+    → slice_get (changed_at ks c change) d ≡ Some k'
     → (k : Connection) × (slice_get ks d ≡ Some k) × Changes c change d k k'
 unchanged_one [] c change d k' h = absurd cc
 unchanged_one (x ∷ ks) zero change zero k' h = (x, refl, inl (refl, sym (same_Some (change x) k' h)))
@@ -88,18 +93,24 @@ unfolding server
 server-put_all w i os k = ap (λ ss. get_or ss k nobody) (servers-put_all w i os)
 
 -- a message goes onto a link
-put_to : (w : World) (i j x y : ℕ) (peer m : Peer) → In m (link (with_link w i j (link w i j ++ peer ∷ [])) x y) → In m (link w x y) ⊎ ((x ≡ i) × (y ≡ j) × (m ≡ peer))
+put_to : (w : World) (i j x y : ℕ) (peer m : Peer)
+    → In m (link (with_link w i j (link w i j ++ peer ∷ [])) x y)
+    → In m (link w x y) ⊎ ((x ≡ i) × (y ≡ j) × (m ≡ peer))
 put_to w i j x y peer m h =
     elim (link_cases w i j x y (link w i j ++ peer ∷ [])) [
-      | inl c ↦ elim (in_pushed (link w i j) peer m (rw c.2 at h)) [ inl old ↦ inl (rw (c.0, c.1) old) | inr new ↦ inr (c.0, c.1, new) ]
+      | inl c ↦ elim (in_pushed (link w i j) peer m (rw c.2 at h))
+          [ inl old ↦ inl (rw (c.0, c.1) old) | inr new ↦ inr (c.0, c.1, new) ]
       | inr e ↦ inl (rw e at h)
     ]
 
-pub link-with_connection : (w : World) (c : ℕ) (change : Connection → Connection) (x y : ℕ) → link (with_connection w c change) x y ≡ link w x y
+pub link-with_connection : (w : World) (c : ℕ) (change : Connection → Connection) (x y : ℕ)
+    → link (with_connection w c change) x y ≡ link w x y
 unfolding link with_connection
 link-with_connection w c change x y = refl
 
-pub link-put_all : (w : World) (i : ℕ) (os : List Output) (x y : ℕ) (m : Peer) → In m (link (put_all w i os) x y) → In m (link w x y) ⊎ ((x ≡ i) × In (To y m) os)
+pub link-put_all : (w : World) (i : ℕ) (os : List Output) (x y : ℕ) (m : Peer)
+    → In m (link (put_all w i os) x y)
+    → In m (link w x y) ⊎ ((x ≡ i) × In (To y m) os)
 unfolding put_all
 link-put_all w i [] x y m h = inl h
 link-put_all w i (To j peer ∷ os) x y m h =
@@ -117,10 +128,13 @@ link-put_all w i (Answered c reply ∷ os) x y m h =
 abbrev pub Answers : List Output → ℕ → Connection → Connection → Type 0
 Answers os c k k' =
     (k' ≡ k)
-    ⊎ ((reply : Reply) × In (Answered c reply) os × (k.stage ≡ Asked) × (may_have (open_call k) reply ≡ true) × (k' ≡ record k { stage = Replied reply }))
+    ⊎ ((reply : Reply) × In (Answered c reply) os × (k.stage ≡ Asked) × (may_have (open_call k) reply ≡ true)
+    × (k' ≡ record k { stage = Replied reply }))
 
 replied_cases : (stage : Stage) (reply : Reply) (k : Connection) → k.stage ≡ stage
-    → (replied stage reply k ≡ k) ⊎ ((k.stage ≡ Asked) × (may_have (open_call k) reply ≡ true) × (replied stage reply k ≡ record k { stage = Replied reply }))
+    → (replied stage reply k ≡ k)
+    ⊎ ((k.stage ≡ Asked) × (may_have (open_call k) reply ≡ true)
+    × (replied stage reply k ≡ record k { stage = Replied reply }))
 replied_cases Idle reply k e = inl refl
 replied_cases Begun reply k e = inl refl
 replied_cases Asked reply k e =
@@ -131,7 +145,9 @@ replied_cases Asked reply k e =
 replied_cases (Replied first) reply k e = inl refl
 
 -- one output, and those behind it
-pub answers_one : (c d : ℕ) (reply : Reply) (k k' : Connection) → Changes d (λ x. replied x.stage reply x) c k k' → Answers (Answered d reply ∷ []) c k k'
+pub answers_one : (c d : ℕ) (reply : Reply) (k k' : Connection)
+    → Changes d (λ x. replied x.stage reply x) c k k'
+    → Answers (Answered d reply ∷ []) c k k'
 answers_one c d reply k k' (inr h) = inl h.1
 answers_one c d reply k k' (inl h) =
     elim (replied_cases k.stage reply k refl) [
@@ -143,7 +159,10 @@ in_first : (o p : Output) (os : List Output) → In p (o ∷ []) → In p (o ∷
 in_first o p os (zero, h) = (0, h)
 in_first o p os (suc n, h) = absurd cc
 
-answers_then : (o : Output) (os : List Output) (c : ℕ) (k x y : Connection) → Answers (o ∷ []) c k x → Answers os c x y → Answers (o ∷ os) c k y
+answers_then : (o : Output) (os : List Output) (c : ℕ) (k x y : Connection)
+    → Answers (o ∷ []) c k x
+    → Answers os c x y
+    → Answers (o ∷ os) c k y
 answers_then o os c k x y (inl e) (inl f) = inl (f ∙ e)
 answers_then o os c k x y (inl e) (inr g) = inr (g.0, (suc g.1.0, g.1.1), rw e at g.2, rw e at g.3, rw e at g.4)
 answers_then o os c k x y (inr g) (inl f) = inr (g.0, in_first o (Answered c g.0) os g.1, g.2, g.3, f ∙ g.4)
@@ -153,7 +172,8 @@ behind_first : (o : Output) (os : List Output) (c : ℕ) (k k' : Connection) →
 behind_first o os c k k' (inl e) = inl e
 behind_first o os c k k' (inr g) = inr (g.0, (suc g.1.0, g.1.1), g.2, g.3, g.4)
 
-pub connection-put_all : (w : World) (i : ℕ) (os : List Output) (c : ℕ) (k : Connection) → slice_get w.connections c ≡ Some k
+pub connection-put_all : (w : World) (i : ℕ) (os : List Output) (c : ℕ) (k : Connection)
+    → slice_get w.connections c ≡ Some k
     → (k' : Connection) × (slice_get (put_all w i os).connections c ≡ Some k') × Answers os c k k'
 unfolding put_all with_link with_connection
 connection-put_all w i [] c k h = (k, h, inl refl)
@@ -165,7 +185,8 @@ connection-put_all w i (Answered d reply ∷ os) c k h =
     let r = connection-put_all (put w i (Answered d reply)) i os c one.0 one.1 in
     (r.0, r.1, answers_then (Answered d reply) os c k one.0 r.0 (answers_one c d reply k one.0 one.2) r.2)
 
-pub connection-before_all : (w : World) (i : ℕ) (os : List Output) (c : ℕ) (k' : Connection) → slice_get (put_all w i os).connections c ≡ Some k'
+pub connection-before_all : (w : World) (i : ℕ) (os : List Output) (c : ℕ) (k' : Connection)
+    → slice_get (put_all w i os).connections c ≡ Some k'
     → (k : Connection) × (slice_get w.connections c ≡ Some k) × Answers os c k k'
 unfolding put_all with_link with_connection
 connection-before_all w i [] c k' h = (k', h, inl refl)

@@ -56,7 +56,8 @@ impl Scene {
         ensures opening { IfOk result (λ scene. scene ≡ going (opening_world count homes.now)) }
         ensures bad_count { IsErrOf result SceneFault.BadCount ↔ (is_count count ≡ false) }
         // At most 64 homes, each the number of a server.
-        ensures bad_homes { IsErrOf result SceneFault.BadHomes ↔ ((is_count count ≡ true) × (are_homes count homes.now ≡ false)) }
+        ensures bad_homes { IsErrOf result SceneFault.BadHomes
+            ↔ ((is_count count ≡ true) × (are_homes count homes.now ≡ false)) }
         ensures not_spoiled { IsErrOf result SceneFault.Spoiled → ⊥ }
     {
         if !is_count(count) {
@@ -139,7 +140,8 @@ pub fn run(
     // schedule, also where this run is refused.
     ensures order { count ≤ 16 → (h : List Entry) × IsLinearization count homes.now events.now h }
     // Each begun call is shown under its name.
-    ensures shown_calls { IfOk result (λ t. (x : CallId) → call_shown t x ≡ begun_call (run_of count homes.now events.now) x) }
+    ensures shown_calls { IfOk result
+        (λ t. (x : CallId) → call_shown t x ≡ begun_call (run_of count homes.now events.now) x) }
     // What is shown of a call is the reply that it got in the order above.
     ensures shown { IfOk result (λ t. (x : CallId) → reply_shown t x ≡ reply_to (run_of count homes.now events.now) x) }
     // A connection's stream is what came to it while it was open and its server lived; its place, how many turns of
@@ -167,7 +169,8 @@ pub fn run(
         → (p : ℕ) (call : CallTranscript) → slice_get k.calls p ≡ Some call → IsSome call.reply) }
     ensures bad_count { IsErrOf result SceneFault.BadCount ↔ (is_count count ≡ false) }
     // At most 64 homes, each the number of a server.
-    ensures bad_homes { IsErrOf result SceneFault.BadHomes ↔ ((is_count count ≡ true) × (are_homes count homes.now ≡ false)) }
+    ensures bad_homes { IsErrOf result SceneFault.BadHomes
+        ↔ ((is_count count ≡ true) × (are_homes count homes.now ≡ false)) }
     ensures not_spoiled { IsErrOf result SceneFault.Spoiled → ⊥ }
 {
     one_order();

@@ -94,7 +94,8 @@ pub fn traced_run(
     ensures world { IfOk result (λ t. t.world ≡ run_of count homes.now events.now) }
     ensures bad_count { IsErrOf result SceneFault.BadCount ↔ (is_count count ≡ false) }
     // At most 64 homes, each the number of a server.
-    ensures bad_homes { IsErrOf result SceneFault.BadHomes ↔ ((is_count count ≡ true) × (are_homes count homes.now ≡ false)) }
+    ensures bad_homes { IsErrOf result SceneFault.BadHomes
+        ↔ ((is_count count ≡ true) × (are_homes count homes.now ≡ false)) }
     ensures not_spoiled { IsErrOf result SceneFault.Spoiled → ⊥ }
 {
     if !is_count(count) {

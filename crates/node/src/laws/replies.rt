@@ -6,12 +6,14 @@ ghost use Rattle.node.specs.Steps.{step};
 ghost use Rattle.node.specs.Lawful.{IsInput, HoldsEntry, IsLawful};
 ghost use Rattle.node.specs.Nodes.{NodeState, is_idle};
 ghost use Rattle.node.specs.Runs.{after, put_out, AreInputs};
-ghost use Rattle.node.specs.Replies.{calls_at, replies_at, open_at, opened_at, AreCallsBelow, AreRepliesBelow, AreOpenBelow};
+ghost use Rattle.node.specs.Replies.{calls_at, replies_at, open_at, opened_at, AreCallsBelow, AreRepliesBelow};
+ghost use Rattle.node.specs.Replies.{AreOpenBelow};
 
-/// Each reply closes one call, of its port and of its kind: the input's own, or one that was open and is open no longer. It shows an
-/// item or none exactly if that call is a read. So no call is replied to twice.
+/// Each reply closes one call, of its port and of its kind: the input's own, or one that was open and is open no
+/// longer. It shows an item or none exactly if that call is a read. So no call is replied to twice.
 pub fn replies_close_calls()
-    // with the calls that are open after a step, its replies are the calls that were open before it and the one that it opened
+    // with the calls that are open after a step, its replies are the calls that were open before it and the one that it
+    // opened
     ensures step { (s : ServerState) (input : Input) (port : ℕ) (reads : Bool)
         → IsLawful s
         → IsInput input

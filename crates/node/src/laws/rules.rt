@@ -14,7 +14,8 @@ ghost use Rattle.node.specs.Numbering.{appended, entered, entry_of, is_taken, ri
 ghost use Rattle.node.specs.Reading.{asked};
 ghost use Rattle.node.specs.Joining.{join, widened};
 ghost use Rattle.node.specs.Steps.{least_open, received, taken_in, trimmed};
-ghost use Rattle.node.specs.Lawful.{AreReads, AreUpdates, HasEntry, HoldsEntry, IsBody, IsCall, IsInput, IsSettled, IsSound};
+ghost use Rattle.node.specs.Lawful.{AreReads, AreUpdates, HasEntry, HoldsEntry, IsBody, IsCall, IsInput, IsSettled};
+ghost use Rattle.node.specs.Lawful.{IsSound};
 
 /// What the head makes of an update is an entry, and each change of a server keeps it sound.
 pub fn rules_keep_servers_sound()
@@ -90,8 +91,8 @@ pub fn joins_keep_servers_sound()
         → (j < s.count) × (j ≢ s.id) }
 {}
 
-/// Open updates have ids below the next id; open reads have asks below the next ask, and marks up to the acknowledged number, the
-/// least of which is between the floor and that number.
+/// Open updates have ids below the next id; open reads have asks below the next ask, and marks up to the acknowledged
+/// number, the least of which is between the floor and that number.
 pub fn open_calls_are_ordered()
     ensures updates { (above : ℕ) (us : List OpenUpdate) (next_id : ℕ)
         → AreUpdates above us next_id

@@ -5,8 +5,8 @@ ghost use Rattle.node.specs.Servers.{ServerState};
 ghost use Rattle.node.specs.Lawful.{IsLawful, AreToOthers, AreFit};
 ghost use Rattle.node.specs.Runs.{after, put_out, AreInputs};
 
-/// After any inputs that may be given a server is lawful, and the same server of the same chain. Each message on the way goes to
-/// another server of the chain, and may be sent, and handed in there.
+/// After any inputs that may be given a server is lawful, and the same server of the same chain. Each message on the
+/// way goes to another server of the chain, and may be sent, and handed in there.
 pub fn runs_are_lawful()
     ensures lawful { (s : ServerState) (inputs : List Input)
         → IsLawful s

@@ -6,8 +6,8 @@ ghost use Rattle.node.specs.Steps.{step};
 ghost use Rattle.node.specs.Faces.{face_changed, face_of, steps_by, acked_by};
 ghost use Rattle.node.specs.Lawful.{IsInput, HoldsEntry, IsLawful, AreToOthers, AreFit};
 
-/// A server is lawful from the first on, and each step keeps it so. Its messages go to other servers of the chain, and each may
-/// be sent, and handed in there.
+/// A server is lawful from the first on, and each step keeps it so. Its messages go to other servers of the chain, and
+/// each may be sent, and handed in there.
 pub fn steps_are_lawful()
     ensures opening { (id : ℕ) (count : ℕ) → id < count → count ≤ 16 → IsLawful (opening id count) }
     ensures lawful { (s : ServerState) (input : Input)

@@ -3,8 +3,8 @@ ghost use Rattle.std.specs.Prelude.{◌≡◌, ℕ, ◌+◌, ◌<◌, ◌≤◌,
 ghost use Rattle.node.specs.Views.{View, has, is_below, next_from, predecessor, single, union};
 ghost use Rattle.node.specs.Chains.{IsNext, IsPrevious};
 
-/// A view is a set of servers: the empty one names nobody, a single one its server alone, and a union those that one of the two
-/// names.
+/// A view is a set of servers: the empty one names nobody, a single one its server alone, and a union those that one of
+/// the two names.
 pub fn views_are_sets()
     ensures empty { (i : ℕ) → has 0 i ≡ false }
     ensures single { (j : ℕ) → has (single j) j ≡ true }
@@ -12,8 +12,8 @@ pub fn views_are_sets()
     ensures union { (u : View) (v : View) (i : ℕ) → has (union u v) i ≡ (has u i || has v i) }
 {}
 
-/// A view below a count names no server at the count or above it. The empty one is, and so is one of a server below the count,
-/// and the union of two that are.
+/// A view below a count names no server at the count or above it. The empty one is, and so is one of a server below the
+/// count, and the union of two that are.
 pub fn views_stay_below()
     ensures named { (v : View) (count : ℕ) (i : ℕ) → is_below v count ≡ true → count ≤ i → has v i ≡ false }
     ensures empty { (count : ℕ) → is_below 0 count ≡ true }
@@ -24,8 +24,8 @@ pub fn views_stay_below()
         → is_below (union u v) count ≡ true }
 {}
 
-/// A neighbor is the nearest server outside the view, and there is none exactly if the view names all on that side. The head, the
-/// successor and the tail are such neighbors.
+/// A neighbor is the nearest server outside the view, and there is none exactly if the view names all on that side. The
+/// head, the successor and the tail are such neighbors.
 pub fn neighbors_are_nearest()
     ensures next { (v : View) (k : ℕ) (many : ℕ) (j : ℕ) → next_from v k many ≡ Some j → IsNext v k j }
     ensures next_within { (v : View) (k : ℕ) (many : ℕ) (j : ℕ) → next_from v k many ≡ Some j → j < k + many }

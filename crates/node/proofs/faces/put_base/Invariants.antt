@@ -4,4 +4,5 @@ use Rattle.node.specs.Faces.{base_step}
 use Rattle.node.proofs.faces.put_base.Given as goal
 
 abbrev pub invariant-loop-key : goal.invariant-loop-key
-invariant-loop-key l = l.steps.items ++ map base_step (into_iter_items l.key-iterator) ≡ l.initial.steps.items ++ map base_step l.fn.items.items
+invariant-loop-key l = l.steps.items ++ map base_step (into_iter_items l.key-iterator) ≡ l.initial.steps.items
+    ++ map base_step l.fn.items.items

@@ -5,10 +5,13 @@ use Rattle.node.proofs.Orders.{rising-left_open_by}
 use Rattle.node.proofs.forwarding.settle_first.Goals as goal
 
 pub returns-in_default-clause-left : goal.returns-in_default-clause-left
-returns-in_default-clause-left c = left_end c.args.id c.args.count c.loop-settled._settled c.loop-settled.pend.items (deque_iter_rest c.loop-settled.entries) _ (c.in_default.ensures.steps.0) c.loop-settled.invariant.left
+returns-in_default-clause-left c = left_end c.args.id c.args.count c.loop-settled._settled c.loop-settled.pend.items
+    (deque_iter_rest c.loop-settled.entries) _ (c.in_default.ensures.steps.0) c.loop-settled.invariant.left
 
 pub returns-in_default-clause-replies : goal.returns-in_default-clause-replies
-returns-in_default-clause-replies c = replies_end c.args.id c.args.count c.loop-settled._settled c.loop-settled.pend.items (deque_iter_rest c.loop-settled.entries) _ _ (c.in_default.ensures.steps.0) c.loop-settled.invariant.replies
+returns-in_default-clause-replies c =
+    replies_end c.args.id c.args.count c.loop-settled._settled c.loop-settled.pend.items
+    (deque_iter_rest c.loop-settled.entries) _ _ (c.in_default.ensures.steps.0) c.loop-settled.invariant.replies
 
 pub loop-settled-preserved : goal.loop-settled-preserved
 loop-settled-preserved c =
@@ -16,12 +19,19 @@ loop-settled-preserved c =
     let made = c.in_ok-settle.ensures in
     record {
       order = rising-left_open_by c.args.id c.loop-settled.pend.items _ c.in-Some.entry.now made.left before.order;
-      left = left_step c.args.id c.args.count c.loop-settled._settled c.loop-settled.pend.items (deque_iter_rest c.loop-settled.entries) _ _ c.in-Some.entry.now (deque_iter_rest c.next.new.self) c.loop-settled-test.true c.in-Some.ensures.steps made.left before.left;
-      replies = replies_step c.args.id c.args.count c.loop-settled._settled c.loop-settled.pend.items (deque_iter_rest c.loop-settled.entries) _ _ _ _ c.in-Some.entry.now (deque_iter_rest c.next.new.self) c.loop-settled-test.true c.in-Some.ensures.steps made.left made.replies before.replies;
+      left = left_step c.args.id c.args.count c.loop-settled._settled c.loop-settled.pend.items
+          (deque_iter_rest c.loop-settled.entries) _ _ c.in-Some.entry.now (deque_iter_rest c.next.new.self)
+          c.loop-settled-test.true c.in-Some.ensures.steps made.left before.left;
+      replies = replies_step c.args.id c.args.count c.loop-settled._settled c.loop-settled.pend.items
+          (deque_iter_rest c.loop-settled.entries) _ _ _ _ c.in-Some.entry.now (deque_iter_rest c.next.new.self)
+          c.loop-settled-test.true c.in-Some.ensures.steps made.left made.replies before.replies;
     }
 
 pub returns-clause-left : goal.returns-clause-left
-returns-clause-left c = left_done c.args.id c.args.count c.loop-settled._settled c.loop-settled.pend.items (deque_iter_rest c.loop-settled.entries) _ (omega (arith, c.loop-settled-test.false)) c.loop-settled.invariant.left
+returns-clause-left c = left_done c.args.id c.args.count c.loop-settled._settled c.loop-settled.pend.items
+    (deque_iter_rest c.loop-settled.entries) _ (omega (arith, c.loop-settled-test.false)) c.loop-settled.invariant.left
 
 pub returns-clause-replies : goal.returns-clause-replies
-returns-clause-replies c = replies_done c.args.id c.args.count c.loop-settled._settled c.loop-settled.pend.items (deque_iter_rest c.loop-settled.entries) _ _ (omega (arith, c.loop-settled-test.false)) c.loop-settled.invariant.replies
+returns-clause-replies c = replies_done c.args.id c.args.count c.loop-settled._settled c.loop-settled.pend.items
+    (deque_iter_rest c.loop-settled.entries) _ _ (omega (arith, c.loop-settled-test.false))
+    c.loop-settled.invariant.replies

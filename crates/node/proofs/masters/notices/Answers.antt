@@ -5,8 +5,10 @@ use Rattle.node.proofs.masters.notices.Goals.{then-not-has+in_ok-push, else-not-
 
 pub loop-i-preserved : goal.loop-i-preserved
 loop-i-preserved c = elim c.if-not-has.branch [
-  | then-not-has+in_ok-push w ↦ rw (w.given-is, w.in_ok-push.ensures.items) (past_living _ _ c.loop-i.i _ _ _ c.loop-i-test.true (sym c.has.ensures ∙ w.if-not-has.true) c.loop-i.invariant)
-  | else-not-has w ↦ rw (w.given-is) (past_failed _ _ c.loop-i.i _ _ _ c.loop-i-test.true (sym c.has.ensures ∙ w.if-not-has.false) c.loop-i.invariant)
+  | then-not-has+in_ok-push w ↦ rw (w.given-is, w.in_ok-push.ensures.items)
+      (past_living _ _ c.loop-i.i _ _ _ c.loop-i-test.true (sym c.has.ensures ∙ w.if-not-has.true) c.loop-i.invariant)
+  | else-not-has w ↦ rw (w.given-is)
+      (past_failed _ _ c.loop-i.i _ _ _ c.loop-i-test.true (sym c.has.ensures ∙ w.if-not-has.false) c.loop-i.invariant)
 ]
 
 pub returns : goal.returns

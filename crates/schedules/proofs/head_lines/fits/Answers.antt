@@ -10,6 +10,8 @@ pub returns : goal.returns
 returns c =
     let text = c.args.text.now in
     let spaces : c.count.result ≡ count_by (λ b. nat_eq b 32) text =
-    count_from_yields_List c.filter.result c.count.result c.count.ensures.ran (YieldsList-from_filter _ (λ b. nat_eq b 32) (YieldsList-from_slice text cc) c.filter.ensures.closure (λ x b q h. search (rules, tests)))
+    count_from_yields_List c.filter.result c.count.result c.count.ensures.ran
+    (YieldsList-from_filter _ (λ b. nat_eq b 32) (YieldsList-from_slice text cc) c.filter.ensures.closure
+    (λ x b q h. search (rules, tests)))
     ∙ length-filter (λ b. nat_eq b 32) text in
     grind (arith, nat_tests, spaces, length-slice_split (λ b. nat_eq b 32) text)

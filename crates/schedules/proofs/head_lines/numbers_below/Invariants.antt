@@ -4,5 +4,6 @@ use Rattle.schedules.proofs.head_lines.numbers_below.Given as goal
 
 abbrev pub invariant-loop-field : goal.invariant-loop-field
 invariant-loop-field l =
-    option_map (λ more. l.numbers.items ++ more) (numbers_below l.high (map (λ field. field.now) (drop l.field-index l.fields)))
+    option_map (λ more. l.numbers.items ++ more)
+    (numbers_below l.high (map (λ field. field.now) (drop l.field-index l.fields)))
     ≡ numbers_below l.high (map (λ field. field.now) l.fields)

@@ -7,5 +7,7 @@ use Rattle.schedules.proofs.printing.answered.Goals as goal
 
 pub returns : goal.returns
 returns c =
-    count_from_yields_List c.filter.result c.count.result c.count.ensures.ran (YieldsList-from_filter _ (λ (call : CallTranscript). is_some call.reply) (YieldsList-from_slice c.args.calls.now (cc)) c.filter.ensures.closure (λ x b q h. search (rules, tests)))
+    count_from_yields_List c.filter.result c.count.result c.count.ensures.ran
+    (YieldsList-from_filter _ (λ (call : CallTranscript). is_some call.reply)
+    (YieldsList-from_slice c.args.calls.now (cc)) c.filter.ensures.closure (λ x b q h. search (rules, tests)))
     ∙ length-filter (λ (call : CallTranscript). is_some call.reply) c.args.calls.now

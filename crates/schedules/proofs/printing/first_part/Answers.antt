@@ -7,7 +7,9 @@ pub returns-in-Some-clause-parts : goal.returns-in-Some-clause-parts
 returns-in-Some-clause-parts c =
     let found = c.in-Some.ensures in
     rw (c.split_at.ensures.front, c.split_at.ensures.back, add-one)
-    (parts_at c.args.sent.now c.in-Some.at found.0.high (λ j below. false_from_ne_true _ (found.0.before j (omega arith) below)) found.1)
+    (parts_at c.args.sent.now c.in-Some.at found.0.high
+    (λ j below. false_from_ne_true _ (found.0.before j (omega arith) below)) found.1)
 
 pub returns-in-None-clause-parts : goal.returns-in-None-clause-parts
-returns-in-None-clause-parts c = parts_whole c.args.sent.now c.requires (λ j below. false_from_ne_true _ (c.in-None.ensures j (omega arith) below))
+returns-in-None-clause-parts c =
+    parts_whole c.args.sent.now c.requires (λ j below. false_from_ne_true _ (c.in-None.ensures j (omega arith) below))

@@ -3,4 +3,5 @@ use Rattle.schedules.specs.Printing.{connections_text}
 use Rattle.schedules.proofs.printing.print_transcript.Given as goal
 
 abbrev pub invariant-loop-number : goal.invariant-loop-number
-invariant-loop-number l = l.text.items ++ connections_text l.number (drop l.number l.transcript.connections) ≡ connections_text 0 l.transcript.connections
+invariant-loop-number l = l.text.items ++ connections_text l.number (drop l.number l.transcript.connections)
+    ≡ connections_text 0 l.transcript.connections

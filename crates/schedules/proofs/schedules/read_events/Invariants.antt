@@ -4,7 +4,8 @@ use Rattle.schedules.proofs.Readings.{with_earlier}
 use Rattle.schedules.proofs.schedules.read_events.Given as goal
 
 abbrev pub invariant-loop-line : goal.invariant-loop-line
-invariant-loop-line l = with_earlier l.events.items (events_of l.count l.connections l.lines.counted) ≡ events_of l.count l.connections l.initial.lines.counted
+invariant-loop-line l = with_earlier l.events.items (events_of l.count l.connections l.lines.counted)
+    ≡ events_of l.count l.connections l.initial.lines.counted
 
 abbrev pub decreases-loop-line : goal.decreases-loop-line
 decreases-loop-line l = length l.lines.counted

@@ -8,4 +8,6 @@ use Rattle.schedules.proofs.settling.push_deliveries.Goals as goal
 pub returns : goal.returns
 returns c =
     on_ok_weaker c.extend.result (λ h. h.0)
-    (items_from_extend c.extend.result c.extend.ensures.ran (YieldsList-from_map _ (λ p. Deliver p.0 p.1) (YieldsList-from_slice c.args.pairs.now cc) c.map.ensures.closure (λ x r q k. search rules)))
+    (items_from_extend c.extend.result c.extend.ensures.ran
+    (YieldsList-from_map _ (λ p. Deliver p.0 p.1) (YieldsList-from_slice c.args.pairs.now cc)
+    c.map.ensures.closure (λ x r q k. search rules)))

@@ -9,7 +9,8 @@ loop-j-preserved c =
     elim c.if-i-j.branch [
       | then-i-j+in_ok-push w ↦
           let other : nat_eq c.args.i c.loop-j.j ≡ false = search (rules, tests) in
-          rw (w.pairs-is, w.in_ok-push.ensures.items, c.loop-j.invariant) (sym (other_more front c.args.i c.loop-j.j other))
+          rw (w.pairs-is, w.in_ok-push.ensures.items, c.loop-j.invariant)
+          (sym (other_more front c.args.i c.loop-j.j other))
       | else-i-j w ↦
           let same : nat_eq c.args.i c.loop-j.j ≡ true = search (rules, tests) in
           rw (w.pairs-is, c.loop-j.invariant) (sym (same_more front c.args.i c.loop-j.j same))

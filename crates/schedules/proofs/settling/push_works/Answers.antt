@@ -8,4 +8,7 @@ use Rattle.schedules.proofs.settling.push_works.Goals as goal
 pub returns : goal.returns
 returns c =
     on_ok_weaker c.extend.result (λ h. h.0)
-    (items_from_extend c.extend.result c.extend.ensures.ran (YieldsList-from_map _ Work (YieldsList-from_range 0 _ c.args.connections c.map.ensures.source (omega arith)) c.map.ensures.closure (λ x r q k. search rules)))
+    (items_from_extend c.extend.result c.extend.ensures.ran
+    (YieldsList-from_map _ Work
+    (YieldsList-from_range 0 _ c.args.connections c.map.ensures.source (omega arith)) c.map.ensures.closure
+    (λ x r q k. search rules)))

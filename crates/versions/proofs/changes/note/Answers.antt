@@ -7,4 +7,7 @@ use Rattle.versions.proofs.changes.note.Goals as goal
 pub returns-in-Some-clause-numbers : goal.returns-in-Some-clause-numbers
 returns-in-Some-clause-numbers c =
     let entry = c.args.entry.now in
-    on_ok_weaker c.note.result (λ h q. rw (← c.number.ensures.number) (h q ∙ noted_key (λ x. numbers_in (record_at c.args.records.now.entries x)) c.number.result c.in-Some.key.now q entry.target entry.change c.in-Some.ensures)) c.note.ensures.numbers
+    on_ok_weaker c.note.result
+    (λ h q. rw (← c.number.ensures.number)
+    (h q ∙ noted_key (λ x. numbers_in (record_at c.args.records.now.entries x)) c.number.result
+    c.in-Some.key.now q entry.target entry.change c.in-Some.ensures)) c.note.ensures.numbers

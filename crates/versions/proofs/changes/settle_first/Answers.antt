@@ -9,5 +9,6 @@ loop-moved-preserved c =
     record {
       left = more_dropped c.loop-moved._moved c.args.entries.now.items _ _ before.left step.entries;
       indexed = step.index;
-      settled = more_settled (base_of c.args.records.now.entries) c.loop-moved._moved c.args.entries.now.items _ _ _ before.left before.settled step.base;
+      settled = more_settled (base_of c.args.records.now.entries) c.loop-moved._moved c.args.entries.now.items _ _ _
+          before.left before.settled step.base;
     }

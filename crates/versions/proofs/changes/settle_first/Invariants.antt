@@ -7,5 +7,6 @@ abbrev pub invariant-loop-moved : goal.invariant-loop-moved
 invariant-loop-moved l = record {
   left : l.entries.items ≡ drop l._moved l.initial.entries.items;
   indexed : IsIndex l.records.entries l.clears l.entries.items;
-  settled : base_of l.records.entries ≡ items_after (base_of l.initial.records.entries) (take l._moved l.initial.entries.items);
+  settled : base_of l.records.entries ≡ items_after (base_of l.initial.records.entries)
+      (take l._moved l.initial.entries.items);
 }

@@ -5,4 +5,5 @@ use Rattle.versions.proofs.changes.settle_next.Goals as goal
 pub returns-clause-base : goal.returns-clause-base
 returns-clause-base c =
     next_base _ _ _ _ c.in-Some.entry c.in-Some.ensures.items
-    (rw (← c.into_change-target.ensures.target, ← c.into_change-target.ensures.change) (base-changed _ _ _ _ c.settle.ensures.items))
+    (rw (← c.into_change-target.ensures.target, ← c.into_change-target.ensures.change)
+    (base-changed _ _ _ _ c.settle.ensures.items))

@@ -11,5 +11,6 @@ pub returns : goal.returns
 returns c =
     let es = c.args.records.now.entries in
     let none : c.loop-place.place-iterator ≡ [] = c.in-None.ensures.steps.0 in
-    let all : c.loop-place.found.items ≡ puts_of es = sym (append-nil c.loop-place.found.items) ∙ ap (λ rest. c.loop-place.found.items ++ puts_of rest) (sym none) ∙ c.loop-place.invariant in
+    let all : c.loop-place.found.items ≡ puts_of es = sym (append-nil c.loop-place.found.items)
+    ∙ ap (λ rest. c.loop-place.found.items ++ puts_of rest) (sym none) ∙ c.loop-place.invariant in
     ap (items_put empty) all ∙ base-puts es (IsDistinct-from_sorted place_cmp _ c.iter-place-items.ensures.ordered)

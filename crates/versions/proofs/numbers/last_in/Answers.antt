@@ -5,4 +5,5 @@ use Rattle.versions.proofs.numbers.last_in.Goals as goal
 pub returns : goal.returns
 returns c =
     let queue = c.args.queue.now in
-    c.copied.ensures ∙ last_of-back queue.items queue.len c.back.result queue.ok.0 c.back.ensures.variant c.back.ensures.lookup
+    c.copied.ensures ∙ last_of-back queue.items queue.len c.back.result queue.ok.0 c.back.ensures.variant
+    c.back.ensures.lookup

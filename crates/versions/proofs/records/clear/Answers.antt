@@ -6,5 +6,6 @@ use Rattle.versions.proofs.records.clear.Goals as goal
 
 pub returns : goal.returns
 returns c =
-    let left = cleared _ (λ f k v b w g t. search rules) c.args.records.now.entries _ _ c.retain.ensures.filtered (IsDistinct-from_sorted place_cmp _ c.retain.ensures.was_ordered) in
+    let left = cleared _ (λ f k v b w g t. search rules) c.args.records.now.entries _ _ c.retain.ensures.filtered
+    (IsDistinct-from_sorted place_cmp _ c.retain.ensures.was_ordered) in
     record { items = λ q. (left q).0; numbers = λ q. (left q).1 }

@@ -13,9 +13,13 @@ returns-in-Some-clause-items c =
 pub returns-in-Some-clause-err : goal.returns-in-Some-clause-err
 returns-in-Some-clause-err c =
     let value = c.in-Some.ensures.value in
-    on_err_weaker c.push.result (λ e. numbers_stay _ _ _ _ (e ∙ ap numbers_in value) ((c.get_mut.follows.holds _).3 (sym (ap is_some value))).0) c.push.ensures.err
+    on_err_weaker c.push.result
+    (λ e. numbers_stay _ _ _ _ (e ∙ ap numbers_in value) ((c.get_mut.follows.holds _).3 (sym (ap is_some value))).0)
+    c.push.ensures.err
 
 pub returns-in_ok-insert-in-None-clause-items : goal.returns-in_ok-insert-in-None-clause-items
 returns-in_ok-insert-in-None-clause-items c =
-    items_stay c.args.records.now.entries _ c.args.key.now (record { item = None; numbers = c.push-in-None.new.self }) (ap item_in (c.in-None.ensures.value ∙ ap (record_at c.args.records.now.entries) c.place.ensures))
-    (λ q. rw (← c.in_ok-to_place-in-None.ensures, ← c.get_mut.follows.holds-at-none) (c.in_ok-insert-in-None.ensures.updates.0 q))
+    items_stay c.args.records.now.entries _ c.args.key.now (record { item = None; numbers = c.push-in-None.new.self })
+    (ap item_in (c.in-None.ensures.value ∙ ap (record_at c.args.records.now.entries) c.place.ensures))
+    (λ q. rw (← c.in_ok-to_place-in-None.ensures, ← c.get_mut.follows.holds-at-none)
+    (c.in_ok-insert-in-None.ensures.updates.0 q))

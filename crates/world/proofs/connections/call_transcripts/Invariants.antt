@@ -4,7 +4,8 @@ use Rattle.world.specs.Transcripts.{calls_shown}
 use Rattle.world.proofs.connections.call_transcripts.Given as goal
 
 abbrev pub invariant-loop-call : goal.invariant-loop-call
-invariant-loop-call l = l.shown.items ++ calls_shown (into_iter_items l.calls) (into_iter_items l.replies) ≡ calls_shown l.fn.calls.items l.fn.replies.items
+invariant-loop-call l = l.shown.items ++ calls_shown (into_iter_items l.calls) (into_iter_items l.replies)
+    ≡ calls_shown l.fn.calls.items l.fn.replies.items
 
 abbrev pub decreases-loop-call : goal.decreases-loop-call
 decreases-loop-call l = length (into_iter_items l.calls)

@@ -13,6 +13,7 @@ pub passing-preserved : goal.passing-preserved
 passing-preserved c =
     let fault : Emit ≡ step_of (next_of c.passing.session) = sym c.in-Emit.is ∙ c.in_ok-target.ensures.step in
     record {
-      same = passed_step c.faults_take_bytes.ensures c.passing.session c.next.new.self fault c.in_ok-target.ensures.left ∙ c.passing.invariant.same;
+      same = passed_step c.faults_take_bytes.ensures c.passing.session c.next.new.self fault c.in_ok-target.ensures.left
+          ∙ c.passing.invariant.same;
       idle = rw c.in-Emit.is at c.in_ok-target.ensures.opens;
     }

@@ -2,4 +2,5 @@ use Rattle.world.proofs.NoneForgotten.{none_forgotten}
 use Rattle.world.proofs.laws.none_forgotten.Goals as goal
 
 pub returns : goal.returns
-returns c count homes events few short quiet x begun lives = none_forgotten count homes events few short quiet x begun lives
+returns c count homes events few short quiet x begun lives =
+    none_forgotten count homes events few short quiet x begun lives

@@ -4,7 +4,10 @@ use Rattle.world.proofs.ConnectionLists.{set_changed, past_changed}
 use Rattle.world.proofs.steps.reply_at.Goals as goal
 
 pub returns-then-c-len-clause-waits : goal.returns-then-c-len-clause-waits
-returns-then-c-len-clause-waits c = set_changed c.args.connections.now.items c.args.c (λ k. replied k.stage c.args.reply k) _ _ (omega arith) c.index_mut.ensures.value c.replied.ensures
+returns-then-c-len-clause-waits c =
+    set_changed c.args.connections.now.items c.args.c (λ k. replied k.stage c.args.reply k) _ _ (omega arith)
+    c.index_mut.ensures.value c.replied.ensures
 
 pub returns-else-c-len-clause-waits : goal.returns-else-c-len-clause-waits
-returns-else-c-len-clause-waits c = sym (past_changed c.args.connections.now.items c.args.c (λ k. replied k.stage c.args.reply k) (omega arith))
+returns-else-c-len-clause-waits c =
+    sym (past_changed c.args.connections.now.items c.args.c (λ k. replied k.stage c.args.reply k) (omega arith))

@@ -4,7 +4,8 @@ use Rattle.world.specs.Transcripts.{connection_shown}
 use Rattle.world.proofs.transcripts.connection_transcripts.Given as goal
 
 abbrev pub invariant-loop-connection : goal.invariant-loop-connection
-invariant-loop-connection l = l.shown.items ++ map connection_shown (into_iter_items l.connections) ≡ map connection_shown l.fn.connections.items
+invariant-loop-connection l =
+    l.shown.items ++ map connection_shown (into_iter_items l.connections) ≡ map connection_shown l.fn.connections.items
 
 abbrev pub decreases-loop-connection : goal.decreases-loop-connection
 decreases-loop-connection l = length (into_iter_items l.connections)

@@ -3,13 +3,16 @@ use Rattle.node.proofs.Addresses.{to_head, to_tail}
 use Rattle.node.proofs.laws.rules.joins_keep_servers_sound.Goals as goal
 
 pub returns-clause-join : goal.returns-clause-join
-returns-clause-join c s v below out h settled = let g = good-join s v below out (record { sound = h; settled = settled }) in (g.sound, g.settled)
+returns-clause-join c s v below out h settled =
+    let g = good-join s v below out (record { sound = h; settled = settled }) in (g.sound, g.settled)
 
 pub returns-clause-received : goal.returns-clause-received
-returns-clause-received c s i body low fit valid h settled = let g = good-received s i body low fit valid (record { sound = h; settled = settled }) in (g.sound, g.settled)
+returns-clause-received c s i body low fit valid h settled =
+    let g = good-received s i body low fit valid (record { sound = h; settled = settled }) in (g.sound, g.settled)
 
 pub returns-clause-taken_in : goal.returns-clause-taken_in
-returns-clause-taken_in c s input fit valid h settled = let g = good-taken_in s input fit valid (record { sound = h; settled = settled }) in (g.sound, g.settled)
+returns-clause-taken_in c s input fit valid h settled =
+    let g = good-taken_in s input fit valid (record { sound = h; settled = settled }) in (g.sound, g.settled)
 
 pub returns-clause-clean : goal.returns-clause-clean
 returns-clause-clean c = clean_at_last

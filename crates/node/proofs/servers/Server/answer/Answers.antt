@@ -10,16 +10,24 @@ use Rattle.node.proofs.servers.Server.answer.Goals as goal
 pub at-requires-clause-above : goal.at-requires-clause-above
 at-requires-clause-above c =
     let inside = c.self.inside in
-    let reads = subst (λ (s : ServerState). AreReads 0 s.store.floor s.asks s.next_ask s.store.acked) (sym c.self.view_is) c.requires.chain.reads in
-    let within = read-found 0 inside.store.floor inside.asks.items inside.next_ask inside.store.acked c.args.ask c.in-Some.read.now reads (sym c.in-Some.ensures) in
+    let reads = subst (λ (s : ServerState). AreReads 0 s.store.floor s.asks s.next_ask s.store.acked)
+    (sym c.self.view_is) c.requires.chain.reads in
+    let within = read-found 0 inside.store.floor inside.asks.items inside.next_ask inside.store.acked c.args.ask
+    c.in-Some.read.now reads (sym c.in-Some.ensures) in
     omega (arith, within.0, c.if-n-read.false)
 
 pub open_read-requires : goal.open_read-requires
 open_read-requires c =
     let s = c.args.self.now in
-    record { order = subst (λ (t : ServerState). IsRising 0 (map (λ (r : OpenRead). r.ask) t.asks)) (sym c.self.view_is) (rising-reads 0 s.store.floor s.next_ask s.store.acked s.asks c.requires.chain.reads) }
+    record {
+      order = subst (λ (t : ServerState). IsRising 0 (map (λ (r : OpenRead). r.ask) t.asks)) (sym c.self.view_is)
+          (rising-reads 0 s.store.floor s.next_ask s.store.acked s.asks c.requires.chain.reads);
+    }
 
 pub take_out-requires : goal.take_out-requires
 take_out-requires c =
     let s = c.args.self.now in
-    record { order = subst (λ (t : ServerState). IsRising 0 (map (λ (r : OpenRead). r.ask) t.asks)) (sym c.self.view_is) (rising-reads 0 s.store.floor s.next_ask s.store.acked s.asks c.requires.chain.reads) }
+    record {
+      order = subst (λ (t : ServerState). IsRising 0 (map (λ (r : OpenRead). r.ask) t.asks)) (sym c.self.view_is)
+          (rising-reads 0 s.store.floor s.next_ask s.store.acked s.asks c.requires.chain.reads);
+    }

@@ -4,4 +4,5 @@ use Rattle.node.specs.Joining.{asked_again}
 use Rattle.node.proofs.servers.Server.ask_again.Given as goal
 
 abbrev pub invariant-loop-read : goal.invariant-loop-read
-invariant-loop-read l = l.initial.outputs.items ++ asked_again l.self (deque_iter_rest l.initial.read-iterator) ≡ l.outputs.items ++ asked_again l.self (deque_iter_rest l.read-iterator)
+invariant-loop-read l = l.initial.outputs.items ++ asked_again l.self (deque_iter_rest l.initial.read-iterator)
+    ≡ l.outputs.items ++ asked_again l.self (deque_iter_rest l.read-iterator)

@@ -3,4 +3,5 @@ use Rattle.std.specs.VecDeque.Iter.{deque_iter_rest}
 use Rattle.node.proofs.servers.Server.entries_above.Given as goal
 
 abbrev pub invariant-loop-entry : goal.invariant-loop-entry
-invariant-loop-entry l = l.initial.entries.items ++ deque_iter_rest l.initial.entry-iterator ≡ l.entries.items ++ deque_iter_rest l.entry-iterator
+invariant-loop-entry l = l.initial.entries.items ++ deque_iter_rest l.initial.entry-iterator
+    ≡ l.entries.items ++ deque_iter_rest l.entry-iterator

@@ -3,4 +3,6 @@ use Rattle.node.proofs.DecisionLaws.{entry_parts}
 use Rattle.node.proofs.servers.Server.entry_of.Goals as goal
 
 pub new-requires-clause-put : goal.new-requires-clause-put
-new-requires-clause-put c = (entry_parts _ c.args.call.now (c.last-number.result + 1) _ _ c.in_ok-reply.ensures.decided c.requires.call c.requires.update).put
+new-requires-clause-put c =
+    (entry_parts _ c.args.call.now (c.last-number.result + 1) _ _ c.in_ok-reply.ensures.decided c.requires.call
+    c.requires.update).put

@@ -9,11 +9,18 @@ use Rattle.node.proofs.servers.Server.forward_after.Goals as goal
 
 pub loop-entry-preserved : goal.loop-entry-preserved
 loop-entry-preserved c =
-    let put : c.send.new.outputs.items ≡ c.loop-entry.outputs.items ++ message_to c.args.self.now (next c.args.self.now) (Forward c.in-Some.entry.now) = search rules in
-    forwarded_step c.args.self.now (deque_iter_rest c.loop-entry.entry-iterator) (deque_iter_rest c.next.new.self) c.in-Some.entry.now _ _ _ c.in-Some.ensures.steps c.loop-entry.invariant put
+    let put : c.send.new.outputs.items ≡ c.loop-entry.outputs.items ++ message_to c.args.self.now (next c.args.self.now)
+    (Forward c.in-Some.entry.now) =
+    search rules in
+    forwarded_step c.args.self.now (deque_iter_rest c.loop-entry.entry-iterator) (deque_iter_rest c.next.new.self)
+    c.in-Some.entry.now _ _ _ c.in-Some.ensures.steps c.loop-entry.invariant put
 
 pub returns : goal.returns
 returns c =
-    forwarded_end c.args.self.now (deque_iter_rest c.loop-entry.entry-iterator) _ _ c.in-None.ensures.steps.0 c.loop-entry.invariant
-    ∙ ap (λ it. c.args.outputs.now.items ++ forwarded c.args.self.now (deque_iter_rest it)) c.into_iter-entry-iterator.ensures.into_iter_gives
-    ∙ ap (λ es. c.args.outputs.now.items ++ forwarded c.args.self.now es) (c.entries_after-entry-items.ensures.rest ∙ ap (λ (s : ServerState). entries_after s.store c.args.above) c.self.view_is)
+    forwarded_end c.args.self.now (deque_iter_rest c.loop-entry.entry-iterator) _ _ c.in-None.ensures.steps.0
+    c.loop-entry.invariant
+    ∙ ap (λ it. c.args.outputs.now.items ++ forwarded c.args.self.now (deque_iter_rest it))
+    c.into_iter-entry-iterator.ensures.into_iter_gives
+    ∙ ap (λ es. c.args.outputs.now.items ++ forwarded c.args.self.now es)
+    (c.entries_after-entry-items.ensures.rest ∙ ap (λ (s : ServerState). entries_after s.store c.args.above)
+    c.self.view_is)

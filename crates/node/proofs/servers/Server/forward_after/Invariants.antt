@@ -4,4 +4,5 @@ use Rattle.node.specs.Joining.{forwarded}
 use Rattle.node.proofs.servers.Server.forward_after.Given as goal
 
 abbrev pub invariant-loop-entry : goal.invariant-loop-entry
-invariant-loop-entry l = l.initial.outputs.items ++ forwarded l.self (deque_iter_rest l.initial.entry-iterator) ≡ l.outputs.items ++ forwarded l.self (deque_iter_rest l.entry-iterator)
+invariant-loop-entry l = l.initial.outputs.items ++ forwarded l.self (deque_iter_rest l.initial.entry-iterator)
+    ≡ l.outputs.items ++ forwarded l.self (deque_iter_rest l.entry-iterator)

@@ -7,4 +7,6 @@ pub receive-requires-clause-chain : goal.receive-requires-clause-chain
 receive-requires-clause-chain c =
     let is : is_heard c.args.self.now c.args.i c.args.peer.view ≡ true = search rules in
     let h = heard c.args.self.now c.args.i c.args.peer.view is in
-    rw c.in_ok-join.ensures.state (good-join c.args.self.now c.args.peer.view h.below h.outside (record { sound = c.requires.lawful.sound; settled = c.requires.lawful.settled })).sound
+    rw c.in_ok-join.ensures.state
+    (good-join c.args.self.now c.args.peer.view h.below h.outside
+    (record { sound = c.requires.lawful.sound; settled = c.requires.lawful.settled })).sound

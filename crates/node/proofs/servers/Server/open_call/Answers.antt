@@ -7,10 +7,13 @@ use Rattle.node.proofs.servers.Server.open_call.Goals as goal
 pub returns-in_ok-clone-in-Some : goal.returns-in_ok-clone-in-Some
 returns-in_ok-clone-in-Some c =
     let pend = c.self.inside.pend in
-    let at = slice_get_read pend.items pend.len c.args.i c.in-Some.update.now pend.ok.0 (c.in-Some.ensures.variant.0 search rules) c.in-Some.ensures.lookup in
-    ap (λ x. Some (c.in-Some.update.now.id, x)) (search rules) ∙ ap (option_map (λ (u : OpenUpdate). (u.id, u.call))) (sym at) ∙ search rules
+    let at = slice_get_read pend.items pend.len c.args.i c.in-Some.update.now pend.ok.0
+    (c.in-Some.ensures.variant.0 search rules) c.in-Some.ensures.lookup in
+    ap (λ x. Some (c.in-Some.update.now.id, x)) (search rules) ∙ ap (option_map (λ (u : OpenUpdate). (u.id, u.call)))
+    (sym at) ∙ search rules
 
 pub returns-in-None : goal.returns-in-None
 returns-in-None c =
     let pend = c.self.inside.pend in
-    ap (option_map (λ (u : OpenUpdate). (u.id, u.call))) (sym (slice_get_past pend.items c.args.i c.in-None.ensures.item.3)) ∙ search rules
+    ap (option_map (λ (u : OpenUpdate). (u.id, u.call)))
+    (sym (slice_get_past pend.items c.args.i c.in-None.ensures.item.3)) ∙ search rules

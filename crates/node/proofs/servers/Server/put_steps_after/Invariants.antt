@@ -4,4 +4,5 @@ use Rattle.node.specs.Faces.{face_steps}
 use Rattle.node.proofs.servers.Server.put_steps_after.Given as goal
 
 abbrev pub invariant-loop-entry : goal.invariant-loop-entry
-invariant-loop-entry l = l.initial.steps.items ++ face_steps (deque_iter_rest l.initial.entry-iterator) ≡ l.steps.items ++ face_steps (deque_iter_rest l.entry-iterator)
+invariant-loop-entry l = l.initial.steps.items ++ face_steps (deque_iter_rest l.initial.entry-iterator)
+    ≡ l.steps.items ++ face_steps (deque_iter_rest l.entry-iterator)

@@ -7,42 +7,57 @@ use Rattle.node.proofs.servers.Server.rejoin.Goals as goal
 
 pub promote_to_tail-requires : goal.promote_to_tail-requires
 promote_to_tail-requires c =
-    let r = ready c.args.old c.args.last_before c.args.self.now c.requires.chain c.requires.last_before.0 c.requires.last_before.1 in
+    let r = ready c.args.old c.args.last_before c.args.self.now c.requires.chain c.requires.last_before.0
+    c.requires.last_before.1 in
     record { chain = rw c.in_ok-promote_to_head.ensures.state r.second }
 
 pub catch_up-requires-clause-chain : goal.catch_up-requires-clause-chain
 catch_up-requires-clause-chain c =
-    let r = ready c.args.old c.args.last_before c.args.self.now c.requires.chain c.requires.last_before.0 c.requires.last_before.1 in
-    let made = c.in_ok-promote_to_tail.ensures.state ∙ ap (λ (t : ServerState). (promoted_to_tail t).state) c.in_ok-promote_to_head.ensures.state in
+    let r = ready c.args.old c.args.last_before c.args.self.now c.requires.chain c.requires.last_before.0
+    c.requires.last_before.1 in
+    let made = c.in_ok-promote_to_tail.ensures.state ∙ ap (λ (t : ServerState). (promoted_to_tail t).state)
+    c.in_ok-promote_to_head.ensures.state in
     rw made r.third
 
 pub catch_up-requires-clause-last_before : goal.catch_up-requires-clause-last_before
 catch_up-requires-clause-last_before c =
-    let r = ready c.args.old c.args.last_before c.args.self.now c.requires.chain c.requires.last_before.0 c.requires.last_before.1 in
-    let made = c.in_ok-promote_to_tail.ensures.state ∙ ap (λ (t : ServerState). (promoted_to_tail t).state) c.in_ok-promote_to_head.ensures.state in
+    let r = ready c.args.old c.args.last_before c.args.self.now c.requires.chain c.requires.last_before.0
+    c.requires.last_before.1 in
+    let made = c.in_ok-promote_to_tail.ensures.state ∙ ap (λ (t : ServerState). (promoted_to_tail t).state)
+    c.in_ok-promote_to_head.ensures.state in
     rw made (r.low, r.high)
 
 pub ack_to_predecessor-requires : goal.ack_to_predecessor-requires
 ack_to_predecessor-requires c =
-    let r = ready c.args.old c.args.last_before c.args.self.now c.requires.chain c.requires.last_before.0 c.requires.last_before.1 in
-    let made = c.in_ok-promote_to_tail.ensures.state ∙ ap (λ (t : ServerState). (promoted_to_tail t).state) c.in_ok-promote_to_head.ensures.state in
+    let r = ready c.args.old c.args.last_before c.args.self.now c.requires.chain c.requires.last_before.0
+    c.requires.last_before.1 in
+    let made = c.in_ok-promote_to_tail.ensures.state ∙ ap (λ (t : ServerState). (promoted_to_tail t).state)
+    c.in_ok-promote_to_head.ensures.state in
     record { chain = rw made r.third }
 
 pub renew_asks-requires : goal.renew_asks-requires
 renew_asks-requires c =
-    let r = ready c.args.old c.args.last_before c.args.self.now c.requires.chain c.requires.last_before.0 c.requires.last_before.1 in
-    let made = c.in_ok-promote_to_tail.ensures.state ∙ ap (λ (t : ServerState). (promoted_to_tail t).state) c.in_ok-promote_to_head.ensures.state in
+    let r = ready c.args.old c.args.last_before c.args.self.now c.requires.chain c.requires.last_before.0
+    c.requires.last_before.1 in
+    let made = c.in_ok-promote_to_tail.ensures.state ∙ ap (λ (t : ServerState). (promoted_to_tail t).state)
+    c.in_ok-promote_to_head.ensures.state in
     record { chain = rw made r.third }
 
 pub returns-clause-state : goal.returns-clause-state
 returns-clause-state c =
-    let made = c.in_ok-promote_to_tail.ensures.state ∙ ap (λ (t : ServerState). (promoted_to_tail t).state) c.in_ok-promote_to_head.ensures.state in
-    on_ok c.renew_asks.result _ _ (λ e. e ∙ rejoined_state c.args.old c.args.last_before c.args.acked_before c.args.self.now _ made) c.renew_asks.ensures.state
+    let made = c.in_ok-promote_to_tail.ensures.state ∙ ap (λ (t : ServerState). (promoted_to_tail t).state)
+    c.in_ok-promote_to_head.ensures.state in
+    on_ok c.renew_asks.result _ _
+    (λ e. e ∙ rejoined_state c.args.old c.args.last_before c.args.acked_before c.args.self.now _ made)
+    c.renew_asks.ensures.state
 
 pub returns-clause-outputs : goal.returns-clause-outputs
 returns-clause-outputs c =
-    let made = c.in_ok-promote_to_tail.ensures.state ∙ ap (λ (t : ServerState). (promoted_to_tail t).state) c.in_ok-promote_to_head.ensures.state in
+    let made = c.in_ok-promote_to_tail.ensures.state ∙ ap (λ (t : ServerState). (promoted_to_tail t).state)
+    c.in_ok-promote_to_head.ensures.state in
     on_ok c.renew_asks.result _ _
-    (λ e. rejoined_outputs c.args.old c.args.last_before c.args.acked_before c.args.self.now _ _ _ _ _ _ _ _ c.in_ok-promote_to_head.ensures.state made
-    c.in_ok-promote_to_head.ensures.outputs c.in_ok-promote_to_tail.ensures.outputs c.in_ok-catch_up.ensures c.in_ok-ack_to_predecessor.ensures e)
+    (λ e. rejoined_outputs c.args.old c.args.last_before c.args.acked_before c.args.self.now _ _ _ _ _ _ _ _
+    c.in_ok-promote_to_head.ensures.state made
+    c.in_ok-promote_to_head.ensures.outputs c.in_ok-promote_to_tail.ensures.outputs c.in_ok-catch_up.ensures
+    c.in_ok-ack_to_predecessor.ensures e)
     c.renew_asks.ensures.outputs

@@ -9,10 +9,15 @@ use Rattle.node.proofs.servers.Server.reply_to_all.Goals as goal
 
 pub loop-read-preserved : goal.loop-read-preserved
 loop-read-preserved c =
-    let put : c.push.new.self.items ≡ c.loop-read.outputs.items ++ reply_at c.in-Some.read.now.port (Value (value_at c.args.self.now.store c.in-Some.read.now.key (last_number c.args.self.now.store))) = search rules in
-    replied_step c.args.self.now (deque_iter_rest c.loop-read.read-iterator) (deque_iter_rest c.next.new.self) c.in-Some.read.now _ _ _ c.in-Some.ensures.steps c.loop-read.invariant put
+    let put : c.push.new.self.items ≡ c.loop-read.outputs.items ++ reply_at c.in-Some.read.now.port
+    (Value (value_at c.args.self.now.store c.in-Some.read.now.key (last_number c.args.self.now.store))) =
+    search rules in
+    replied_step c.args.self.now (deque_iter_rest c.loop-read.read-iterator) (deque_iter_rest c.next.new.self)
+    c.in-Some.read.now _ _ _ c.in-Some.ensures.steps c.loop-read.invariant put
 
 pub returns : goal.returns
 returns c =
-    replied_end c.args.self.now (deque_iter_rest c.loop-read.read-iterator) _ _ c.in-None.ensures.steps.0 c.loop-read.invariant
-    ∙ ap (λ rs. c.args.outputs.now.items ++ replies_to c.args.self.now rs) (c.into_iter-read-iterator.ensures.into_iter_gives.0 ∙ ap (λ (s : ServerState). s.asks) c.self.view_is)
+    replied_end c.args.self.now (deque_iter_rest c.loop-read.read-iterator) _ _ c.in-None.ensures.steps.0
+    c.loop-read.invariant
+    ∙ ap (λ rs. c.args.outputs.now.items ++ replies_to c.args.self.now rs)
+    (c.into_iter-read-iterator.ensures.into_iter_gives.0 ∙ ap (λ (s : ServerState). s.asks) c.self.view_is)

@@ -4,4 +4,5 @@ use Rattle.node.specs.Joining.{replies_to}
 use Rattle.node.proofs.servers.Server.reply_to_all.Given as goal
 
 abbrev pub invariant-loop-read : goal.invariant-loop-read
-invariant-loop-read l = l.initial.outputs.items ++ replies_to l.self (deque_iter_rest l.initial.read-iterator) ≡ l.outputs.items ++ replies_to l.self (deque_iter_rest l.read-iterator)
+invariant-loop-read l = l.initial.outputs.items ++ replies_to l.self (deque_iter_rest l.initial.read-iterator)
+    ≡ l.outputs.items ++ replies_to l.self (deque_iter_rest l.read-iterator)

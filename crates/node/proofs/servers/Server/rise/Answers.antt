@@ -8,4 +8,7 @@ use Rattle.node.proofs.servers.Server.rise.Goals as goal
 pub settle_first-requires : goal.settle_first-requires
 settle_first-requires c =
     let s = c.args.self.now in
-    record { order = subst (λ (t : ServerState). IsRising 0 (map (λ (u : OpenUpdate). u.id) t.pend)) (sym c.self.view_is) (rising-updates 0 s.next_id s.pend c.requires.chain.updates) }
+    record {
+      order = subst (λ (t : ServerState). IsRising 0 (map (λ (u : OpenUpdate). u.id) t.pend))
+          (sym c.self.view_is) (rising-updates 0 s.next_id s.pend c.requires.chain.updates);
+    }

@@ -4,4 +4,5 @@ use Rattle.node.specs.Joining.{sent_again}
 use Rattle.node.proofs.servers.Server.send_again.Given as goal
 
 abbrev pub invariant-loop-update : goal.invariant-loop-update
-invariant-loop-update l = l.initial.outputs.items ++ sent_again l.self (deque_iter_rest l.initial.update-iterator) ≡ l.outputs.items ++ sent_again l.self (deque_iter_rest l.update-iterator)
+invariant-loop-update l = l.initial.outputs.items ++ sent_again l.self (deque_iter_rest l.initial.update-iterator)
+    ≡ l.outputs.items ++ sent_again l.self (deque_iter_rest l.update-iterator)

@@ -8,20 +8,24 @@ use Rattle.node.proofs.servers.Server.step_logged.Goals as goal
 
 pub trim-requires : goal.trim-requires
 trim-requires c =
-    let good = good-taken_in c.args.self.now c.args.input c.requires.input c.hold_entry.ensures (record { sound = c.requires.lawful.sound; settled = c.requires.lawful.settled }) in
+    let good = good-taken_in c.args.self.now c.args.input c.requires.input c.hold_entry.ensures
+    (record { sound = c.requires.lawful.sound; settled = c.requires.lawful.settled }) in
     record { chain = rw c.in_ok-take_in.ensures.state good.sound }
 
 pub returns-clause-lawful : goal.returns-clause-lawful
 returns-clause-lawful c =
-    let good = good-taken_in c.args.self.now c.args.input c.requires.input c.hold_entry.ensures (record { sound = c.requires.lawful.sound; settled = c.requires.lawful.settled }) in
+    let good = good-taken_in c.args.self.now c.args.input c.requires.input c.hold_entry.ensures
+    (record { sound = c.requires.lawful.sound; settled = c.requires.lawful.settled }) in
     rw (c.trim.ensures, c.in_ok-take_in.ensures.state) (lawful-trimmed _ good)
 
 pub entries_above-requires : goal.entries_above-requires
 entries_above-requires c =
     let before : c.last-before.result ≡ last_number c.args.self.now.store = search rules in
-    let between = last-grown c.args.self.now (taken_in c.args.self.now c.args.input).state (grows-taken_in c.args.self.now c.args.input) in
+    let between = last-grown c.args.self.now (taken_in c.args.self.now c.args.input).state
+    (grows-taken_in c.args.self.now c.args.input) in
     record { above = rw (before, c.in_ok-take_in.ensures.state) between }
 
 pub returns-clause-fit : goal.returns-clause-fit
 returns-clause-fit c =
-    rw (c.in_ok-take_in.ensures.outputs, c.new-outputs.ensures.items) (fit_taken_in c.args.self.now c.args.input c.requires.input c.hold_entry.ensures c.requires.lawful)
+    rw (c.in_ok-take_in.ensures.outputs, c.new-outputs.ensures.items)
+    (fit_taken_in c.args.self.now c.args.input c.requires.input c.hold_entry.ensures c.requires.lawful)

@@ -8,18 +8,29 @@ use Rattle.node.proofs.servers.Server.update.Goals as goal
 pub submit-requires-clause-chain : goal.submit-requires-clause-chain
 submit-requires-clause-chain c =
     let same : c.in_ok-clone.field-0 ≡ c.args.call.now = search rules in
-    rw (c.in_ok-enter.ensures, same) (sound-entered c.args.self.now c.args.port c.args.call.now c.requires.call c.requires.update c.requires.chain)
+    rw (c.in_ok-enter.ensures, same)
+    (sound-entered c.args.self.now c.args.port c.args.call.now c.requires.call c.requires.update c.requires.chain)
 
 pub returns-clause-state : goal.returns-clause-state
 returns-clause-state c =
     let same : c.in_ok-clone.field-0 ≡ c.args.call.now = search rules in
     let room : is_room_for_update c.args.self.now ≡ true = search rules in
-    let made : c.enter.new.self ≡ entered c.args.self.now c.args.port c.args.call.now = rw (← same) c.in_ok-enter.ensures in
-    rw (updated c.args.self.now c.args.port c.args.call.now room, ← made, ← ap (λ (s : ServerState). s.next_id) c.self.view_is) c.submit.ensures.state
+    let made : c.enter.new.self ≡ entered c.args.self.now c.args.port c.args.call.now =
+    rw (← same) c.in_ok-enter.ensures in
+    rw (
+      updated c.args.self.now c.args.port c.args.call.now room,
+      ← made,
+      ← ap (λ (s : ServerState). s.next_id) c.self.view_is,
+    ) c.submit.ensures.state
 
 pub returns-clause-outputs : goal.returns-clause-outputs
 returns-clause-outputs c =
     let same : c.in_ok-clone.field-0 ≡ c.args.call.now = search rules in
     let room : is_room_for_update c.args.self.now ≡ true = search rules in
-    let made : c.enter.new.self ≡ entered c.args.self.now c.args.port c.args.call.now = rw (← same) c.in_ok-enter.ensures in
-    rw (updated c.args.self.now c.args.port c.args.call.now room, ← made, ← ap (λ (s : ServerState). s.next_id) c.self.view_is) c.submit.ensures.outputs
+    let made : c.enter.new.self ≡ entered c.args.self.now c.args.port c.args.call.now =
+    rw (← same) c.in_ok-enter.ensures in
+    rw (
+      updated c.args.self.now c.args.port c.args.call.now room,
+      ← made,
+      ← ap (λ (s : ServerState). s.next_id) c.self.view_is,
+    ) c.submit.ensures.outputs

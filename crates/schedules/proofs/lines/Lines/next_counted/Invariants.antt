@@ -4,8 +4,10 @@ use Rattle.schedules.proofs.lines.Lines.next_counted.Given as goal
 
 abbrev pub invariant-loop-self : goal.invariant-loop-self
 invariant-loop-self l = record {
-  counted : counted_from (l.self-inside.taken + 1) (lines l.self-inside.rest.now) ≡ counted_from (l.initial.self-inside.taken + 1) (lines l.initial.self-inside.rest.now);
-  all : l.self-inside.taken + length (lines l.self-inside.rest.now) ≡ l.initial.self-inside.taken + length (lines l.initial.self-inside.rest.now);
+  counted : counted_from (l.self-inside.taken + 1) (lines l.self-inside.rest.now)
+      ≡ counted_from (l.initial.self-inside.taken + 1) (lines l.initial.self-inside.rest.now);
+  all : l.self-inside.taken + length (lines l.self-inside.rest.now)
+      ≡ l.initial.self-inside.taken + length (lines l.initial.self-inside.rest.now);
   room : l.self-inside.taken + length l.self-inside.rest.now < 2 ^ 64;
 }
 

@@ -3,7 +3,11 @@ use Rattle.versions.proofs.Holding.{at-held, at-absent, at-within, numbers_held-
 use Rattle.versions.proofs.stores.Store.at.Goals as goal
 
 pub last_up_to-set-requires : goal.last_up_to-set-requires
-last_up_to-set-requires c = record { rising = rw (← c.in_ok-record.ensures.value) at (numbers_held-rise _ _ _ _ _ _ c.self.invariant c.args.key.now) }
+last_up_to-set-requires c =
+    record {
+      rising = rw (← c.in_ok-record.ensures.value)
+          at (numbers_held-rise _ _ _ _ _ _ c.self.invariant c.args.key.now);
+    }
 
 pub last_up_to-requires : goal.last_up_to-requires
 last_up_to-requires c = record { rising = clears_held-rise _ _ _ _ _ _ c.self.invariant }
@@ -11,17 +15,25 @@ last_up_to-requires c = record { rising = clears_held-rise _ _ _ _ _ _ c.self.in
 pub item_from-requires : goal.item_from-requires
 item_from-requires c =
     let above : c.self.inside.floor ≤ c.args.n = rw (← c.self.view_is) at c.requires.above in
-    let known : c.args.n ≤ c.self.inside.floor + length c.self.inside.entries.items = rw (← c.self.view_is) at c.requires.known in
-    rw c.last_up_to-set.ensures (at-within _ _ _ _ _ _ _ c.self.invariant above known c.args.key.now c.in_ok-record.record.now c.in_ok-record.ensures.value)
+    let known : c.args.n ≤ c.self.inside.floor + length c.self.inside.entries.items =
+    rw (← c.self.view_is) at c.requires.known in
+    rw c.last_up_to-set.ensures
+    (at-within _ _ _ _ _ _ _ c.self.invariant above known c.args.key.now c.in_ok-record.record.now
+    c.in_ok-record.ensures.value)
 
 pub returns : goal.returns
 returns c =
     let above : c.self.inside.floor ≤ c.args.n = rw (← c.self.view_is) at c.requires.above in
-    let known : c.args.n ≤ c.self.inside.floor + length c.self.inside.entries.items = rw (← c.self.view_is) at c.requires.known in
-    rw (c.item_from.ensures, c.as_ref.ensures.value, c.last_up_to-set.ensures, c.last_up_to.ensures, ← c.self.view_is) (at-held _ _ _ _ _ _ _ c.self.invariant above known c.args.key.now c.in_ok-record.record.now c.in_ok-record.ensures.value)
+    let known : c.args.n ≤ c.self.inside.floor + length c.self.inside.entries.items =
+    rw (← c.self.view_is) at c.requires.known in
+    rw (c.item_from.ensures, c.as_ref.ensures.value, c.last_up_to-set.ensures, c.last_up_to.ensures, ← c.self.view_is)
+    (at-held _ _ _ _ _ _ _ c.self.invariant above known c.args.key.now c.in_ok-record.record.now
+    c.in_ok-record.ensures.value)
 
 pub returns-in_err-record : goal.returns-in_err-record
 returns-in_err-record c =
     let above : c.self.inside.floor ≤ c.args.n = rw (← c.self.view_is) at c.requires.above in
-    let known : c.args.n ≤ c.self.inside.floor + length c.self.inside.entries.items = rw (← c.self.view_is) at c.requires.known in
-    rw (c.from_residual.ensures, ← c.self.view_is) (sym (at-absent _ _ _ _ _ _ _ c.self.invariant above known c.args.key.now (sym c.in_err-record.ensures.value)))
+    let known : c.args.n ≤ c.self.inside.floor + length c.self.inside.entries.items =
+    rw (← c.self.view_is) at c.requires.known in
+    rw (c.from_residual.ensures, ← c.self.view_is)
+    (sym (at-absent _ _ _ _ _ _ _ c.self.invariant above known c.args.key.now (sym c.in_err-record.ensures.value)))

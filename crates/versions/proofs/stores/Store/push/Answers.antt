@@ -5,7 +5,8 @@ use Rattle.versions.proofs.Holding.{held-same, held-push}
 use Rattle.versions.proofs.stores.Store.push.Goals as goal
 
 pub invariant_of-self-in_err-note : goal.invariant_of-self-in_err-note
-invariant_of-self-in_err-note c = held-same _ _ _ _ _ _ _ _ _ c.self.invariant c.in_err-note.ensures.numbers_stay c.in_err-note.ensures.clears_stay c.reserve.ensures.items
+invariant_of-self-in_err-note c = held-same _ _ _ _ _ _ _ _ _ c.self.invariant c.in_err-note.ensures.numbers_stay
+    c.in_err-note.ensures.clears_stay c.reserve.ensures.items
 
 pub returns-in_err-note-clause-err : goal.returns-in_err-note-clause-err
 returns-in_err-note-clause-err c =
@@ -14,9 +15,17 @@ returns-in_err-note-clause-err c =
 
 pub invariant_of-self-2 : goal.invariant_of-self-2
 invariant_of-self-2 c =
-    let next : c.args.entry.number ≡ c.self.inside.floor + length c.self.inside.entries.items + 1 = rw (← c.self.view_is) at c.requires.next in
-    held-push _ _ _ _ _ _ _ _ _ _ c.args.entry c.self.invariant c.number-number.ensures.entry next c.number-number.ensures.number c.in_ok-note.ensures.numbers c.in_ok-note.ensures.clears
+    let next : c.args.entry.number ≡ c.self.inside.floor + length c.self.inside.entries.items + 1 =
+    rw (← c.self.view_is) at c.requires.next in
+    held-push _ _ _ _ _ _ _ _ _ _ c.args.entry c.self.invariant c.number-number.ensures.entry next
+    c.number-number.ensures.number c.in_ok-note.ensures.numbers c.in_ok-note.ensures.clears
     (rw (c.push_back_reserved.ensures.items, c.reserve.ensures.items) refl)
 
 pub returns-clause-ok : goal.returns-clause-ok
-returns-clause-ok c = rw (same_base _ _ c.note.ensures.items, c.push_back_reserved.ensures.items, c.reserve.ensures.items, ← c.self.view_is) refl
+returns-clause-ok c =
+    rw (
+      same_base _ _ c.note.ensures.items,
+      c.push_back_reserved.ensures.items,
+      c.reserve.ensures.items,
+      ← c.self.view_is,
+    ) refl

@@ -4,4 +4,6 @@ use Rattle.world.proofs.servers.Servers.step_logged.Goals as goal
 
 pub returns-in-Ok-clause-state : goal.returns-in-Ok-clause-state
 returns-in-Ok-clause-state c =
-    server_stepped (λ s. (step s c.args.input).state) c.self.inside.nodes.items c.args.self.now c.args.i c.index_mut.result.now c.step_logged.new.self c.requires.server c.self.view_is c.index_mut.ensures.value c.in-Ok.ensures.state
+    server_stepped (λ s. (step s c.args.input).state) c.self.inside.nodes.items c.args.self.now c.args.i
+    c.index_mut.result.now c.step_logged.new.self c.requires.server c.self.view_is c.index_mut.ensures.value
+    c.in-Ok.ensures.state

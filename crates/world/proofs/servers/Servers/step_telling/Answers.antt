@@ -13,4 +13,5 @@ returns-clause-told c =
     c.standing-after.ensures
     ∙ ap (λ ss. standing (slice_index_or ss c.args.i nobody)) c.in_ok-outputs.ensures.state
     ∙ ap standing (stepped_at c.args.self.now c.args.i (step s c.args.input).state c.requires.server) in
-    told_is s c.args.input _ _ _ _ _ c.in_ok-kept.ensures c.standing-before.ensures c.in_ok-outputs.ensures.entries outputs after
+    told_is s c.args.input _ _ _ _ _ c.in_ok-kept.ensures c.standing-before.ensures c.in_ok-outputs.ensures.entries
+    outputs after

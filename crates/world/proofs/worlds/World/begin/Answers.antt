@@ -4,7 +4,9 @@ use Rattle.world.proofs.ConnectionLists.{served_changed, unserved_kept}
 use Rattle.world.proofs.worlds.World.begin.Goals as goal
 
 pub returns-in_ok-begin-clause-ok : goal.returns-in_ok-begin-clause-ok
-returns-in_ok-begin-clause-ok c = served_changed _ _ c.self.view_is c.args.c (λ k. begun k.stage k) _ _ (sym c.home_lives.ensures ∙ c.if-home_lives.true) c.index_mut.ensures.value c.in_ok-begin.ensures.ok
+returns-in_ok-begin-clause-ok c = served_changed _ _ c.self.view_is c.args.c (λ k. begun k.stage k) _ _
+    (sym c.home_lives.ensures ∙ c.if-home_lives.true) c.index_mut.ensures.value c.in_ok-begin.ensures.ok
 
 pub returns-else-home_lives-clause-ok : goal.returns-else-home_lives-clause-ok
-returns-else-home_lives-clause-ok c = unserved_kept c.args.self.now c.args.c (λ k. begun k.stage k) (sym c.home_lives.ensures ∙ c.if-home_lives.false)
+returns-else-home_lives-clause-ok c =
+    unserved_kept c.args.self.now c.args.c (λ k. begun k.stage k) (sym c.home_lives.ensures ∙ c.if-home_lives.false)

@@ -9,16 +9,19 @@ pub returns-in-Some-clause-ok : goal.returns-in-Some-clause-ok
 returns-in-Some-clause-ok c =
     let alive : lives c.args.self.now c.args.j ≡ true = sym c.lives.ensures.lives ∙ c.if-not-lives.false in
     subst (λ (x : World). OnOk c.take_telling.result (c.take_telling.new.self ≡ x))
-    (message_delivered _ _ c.self.view_is c.args.i c.args.j c.in-Some.message c.pop.new.self alive c.in-Some.ensures.first c.in-Some.ensures.rest) c.take_telling.ensures.ok
+    (message_delivered _ _ c.self.view_is c.args.i c.args.j c.in-Some.message c.pop.new.self alive
+    c.in-Some.ensures.first c.in-Some.ensures.rest) c.take_telling.ensures.ok
 
 pub returns-in-Some-clause-deed : goal.returns-in-Some-clause-deed
 returns-in-Some-clause-deed c =
     let alive : lives c.args.self.now c.args.j ≡ true = sym c.lives.ensures.lives ∙ c.if-not-lives.false in
     subst (λ (x : Deed). IfOk c.take_telling.result (λ deed. deed ≡ x))
-    (message_deed _ _ c.self.view_is c.args.i c.args.j c.in-Some.message _ alive c.in-Some.ensures.first) c.take_telling.ensures.deed
+    (message_deed _ _ c.self.view_is c.args.i c.args.j c.in-Some.message _ alive c.in-Some.ensures.first)
+    c.take_telling.ensures.deed
 
 pub returns-in-None-clause-ok : goal.returns-in-None-clause-ok
-returns-in-None-clause-ok c = none_delivered _ _ c.self.view_is c.args.i c.args.j c.pop.new.self c.in-None.ensures.first c.in-None.ensures.rest
+returns-in-None-clause-ok c =
+    none_delivered _ _ c.self.view_is c.args.i c.args.j c.pop.new.self c.in-None.ensures.first c.in-None.ensures.rest
 
 pub returns-in-None-clause-deed : goal.returns-in-None-clause-deed
 returns-in-None-clause-deed c = no_message_deed _ _ c.self.view_is c.args.i c.args.j c.in-None.ensures.first

@@ -9,4 +9,5 @@ unfolding link
 returns-then-not-is_empty c =
     let within : c.loop-i.i < length c.args.self.now.servers = search rules in
     let broken : is_empty (link c.args.self.now c.loop-i.i c.args.j) ≡ false = search rules in
-    sym (all_broken (length c.args.self.now.servers) c.loop-i.i (λ i. is_empty (link c.args.self.now i c.args.j)) within broken)
+    sym (all_broken (length c.args.self.now.servers) c.loop-i.i (λ i. is_empty (link c.args.self.now i c.args.j))
+    within broken)

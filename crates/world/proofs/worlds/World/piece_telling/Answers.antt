@@ -6,10 +6,13 @@ use Rattle.world.proofs.DeedLaws.{served_deed}
 use Rattle.world.proofs.worlds.World.piece_telling.Goals as goal
 
 pub returns-then-home_lives-clause-ok : goal.returns-then-home_lives-clause-ok
-returns-then-home_lives-clause-ok c = served_changed _ _ c.self.view_is c.args.c (came c.args.bytes.now) _ _ (sym c.home_lives.ensures ∙ c.if-home_lives.true) c.index_mut.ensures.value c.in_ok-deed.ensures.ok
+returns-then-home_lives-clause-ok c = served_changed _ _ c.self.view_is c.args.c (came c.args.bytes.now) _ _
+    (sym c.home_lives.ensures ∙ c.if-home_lives.true) c.index_mut.ensures.value c.in_ok-deed.ensures.ok
 
 pub returns-then-home_lives-clause-deed : goal.returns-then-home_lives-clause-deed
-returns-then-home_lives-clause-deed c = c.in_ok-deed.ensures.deed ∙ served_deed _ _ c.self.view_is c.args.c piece_deed _ (sym c.home_lives.ensures ∙ c.if-home_lives.true) c.index_mut.ensures.value
+returns-then-home_lives-clause-deed c = c.in_ok-deed.ensures.deed ∙ served_deed _ _ c.self.view_is c.args.c piece_deed _
+    (sym c.home_lives.ensures ∙ c.if-home_lives.true) c.index_mut.ensures.value
 
 pub returns-clause-ok : goal.returns-clause-ok
-returns-clause-ok c = unserved_kept c.args.self.now c.args.c (came c.args.bytes.now) (sym c.home_lives.ensures ∙ c.if-home_lives.false)
+returns-clause-ok c =
+    unserved_kept c.args.self.now c.args.c (came c.args.bytes.now) (sym c.home_lives.ensures ∙ c.if-home_lives.false)

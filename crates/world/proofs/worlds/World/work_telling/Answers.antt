@@ -10,32 +10,40 @@ use Rattle.world.proofs.worlds.World.work_telling.Goals as goal
 
 pub returns-in-Some-clause-ok : goal.returns-in-Some-clause-ok
 returns-in-Some-clause-ok c =
-    let served : home_lives c.args.self.now (slice_get c.args.self.now.connections c.args.c) ≡ true = sym c.home_lives.ensures ∙ c.if-not-home_lives.false in
+    let served : home_lives c.args.self.now (slice_get c.args.self.now.connections c.args.c) ≡ true =
+    sym c.home_lives.ensures ∙ c.if-not-home_lives.false in
     let old = c.index_mut-connection.result.now in
     let call_is : Some c.in-Some.call ≡ to_work old.stage old = sym c.in-Some.is ∙ c.in_ok-call.ensures.call in
     let asked_is : c.ask_telling.new.self ≡ asked old = rw c.in-Some.is at c.in_ok-call.ensures.stage in
     subst (λ (x : World). OnOk c.take_telling.result (c.take_telling.new.self ≡ x))
-    (call_worked _ _ c.self.view_is c.args.c c.home-home.result old c.ask_telling.new.self c.in-Some.call served c.index_mut-connection.ensures.value c.home-home.ensures call_is asked_is) c.take_telling.ensures.ok
+    (call_worked _ _ c.self.view_is c.args.c c.home-home.result old c.ask_telling.new.self c.in-Some.call served
+    c.index_mut-connection.ensures.value c.home-home.ensures call_is asked_is) c.take_telling.ensures.ok
 
 pub returns-in-Some-clause-deed : goal.returns-in-Some-clause-deed
 returns-in-Some-clause-deed c =
-    let served : home_lives c.args.self.now (slice_get c.args.self.now.connections c.args.c) ≡ true = sym c.home_lives.ensures ∙ c.if-not-home_lives.false in
+    let served : home_lives c.args.self.now (slice_get c.args.self.now.connections c.args.c) ≡ true =
+    sym c.home_lives.ensures ∙ c.if-not-home_lives.false in
     let old = c.index_mut-connection.result.now in
     let call_is : Some c.in-Some.call ≡ to_work old.stage old = sym c.in-Some.is ∙ c.in_ok-call.ensures.call in
     subst (λ (x : Deed). IfOk c.take_telling.result (λ deed. deed ≡ x))
-    (called_deed _ _ c.self.view_is c.args.c c.home-home.result old c.in-Some.call _ served c.index_mut-connection.ensures.value c.home-home.ensures call_is) c.take_telling.ensures.deed
+    (called_deed _ _ c.self.view_is c.args.c c.home-home.result old c.in-Some.call _ served
+    c.index_mut-connection.ensures.value c.home-home.ensures call_is) c.take_telling.ensures.deed
 
 pub returns-in-None-clause-ok : goal.returns-in-None-clause-ok
 returns-in-None-clause-ok c =
-    let served : home_lives c.args.self.now (slice_get c.args.self.now.connections c.args.c) ≡ true = sym c.home_lives.ensures ∙ c.if-not-home_lives.false in
+    let served : home_lives c.args.self.now (slice_get c.args.self.now.connections c.args.c) ≡ true =
+    sym c.home_lives.ensures ∙ c.if-not-home_lives.false in
     let old = c.index_mut-connection.result.now in
     let none : None ≡ to_work old.stage old = sym c.in-None.is ∙ c.in_ok-call.ensures.call in
     let kept : c.ask_telling.new.self ≡ old = rw c.in-None.is at c.in_ok-call.ensures.stage in
-    none_worked _ _ c.self.view_is c.args.c old c.ask_telling.new.self served c.index_mut-connection.ensures.value none kept
+    none_worked _ _ c.self.view_is c.args.c old c.ask_telling.new.self served
+    c.index_mut-connection.ensures.value none kept
 
 pub returns-in-None-clause-deed : goal.returns-in-None-clause-deed
 returns-in-None-clause-deed c =
-    let served : home_lives c.args.self.now (slice_get c.args.self.now.connections c.args.c) ≡ true = sym c.home_lives.ensures ∙ c.if-not-home_lives.false in
+    let served : home_lives c.args.self.now (slice_get c.args.self.now.connections c.args.c) ≡ true =
+    sym c.home_lives.ensures ∙ c.if-not-home_lives.false in
     let old = c.index_mut-connection.result.now in
     let none : None ≡ to_work old.stage old = sym c.in-None.is ∙ c.in_ok-call.ensures.call in
-    ap (call_deed c.args.self.now c.args.c old.home) none ∙ sym (served_work _ _ c.self.view_is c.args.c old served c.index_mut-connection.ensures.value)
+    ap (call_deed c.args.self.now c.args.c old.home) none
+    ∙ sym (served_work _ _ c.self.view_is c.args.c old served c.index_mut-connection.ensures.value)
