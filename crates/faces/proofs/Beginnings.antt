@@ -1,5 +1,6 @@
 -- Beginnings of one list, and of one log.
-use Rattle.std.proofs.Common.{◌≡◌, ℕ, ◌+◌, ◌≤◌, nat_le, Bool, true, false, List, [], ◌∷◌, ◌++◌, length, drop, MatchBool, refl, ap, sym, ◌∙◌, arith, append_assoc, append-nil, subst}
+use Rattle.std.proofs.Common.{◌≡◌, ℕ, ◌+◌, ◌≤◌, nat_le, Bool, true, false, List, [], ◌∷◌, ◌++◌, length, drop, MatchBool}
+use Rattle.std.proofs.Common.{refl, ap, sym, ◌∙◌, arith, append_assoc, append-nil, subst}
 use mathlib.Core.List.{IsPrefix}
 use Rattle.std.proofs.lemmas.Bool.{leb-true, leb-false}
 use Rattle.logbook.specs.Pages.{Book}
@@ -17,7 +18,11 @@ pub prefix_trans : {A : Type 0} (xs ys zs : List A) → IsPrefix xs ys → IsPre
 prefix_trans xs ys zs p q = (p.0 ++ q.0, sym (append_assoc xs p.0 q.0) ∙ (ap (λ w. w ++ q.0) p.1 ∙ q.1))
 
 -- of two beginnings of one list the shorter begins the longer
-pub prefix_shorter : {A : Type 0} (xs ys zs : List A) → IsPrefix xs zs → IsPrefix ys zs → length xs ≤ length ys → IsPrefix xs ys
+pub prefix_shorter : {A : Type 0} (xs ys zs : List A)
+    → IsPrefix xs zs
+    → IsPrefix ys zs
+    → length xs ≤ length ys
+    → IsPrefix xs ys
 prefix_shorter [] ys zs p q le = (ys, refl)
 prefix_shorter (x ∷ xs) [] zs p q le = absurd (omega arith)
 prefix_shorter (x ∷ xs) (y ∷ ys) [] p q le = absurd (cc (p.1))
@@ -57,20 +62,32 @@ still_begun (Began node ∷ es) ys b = tt
 still_begun (Took input ∷ es) ys b = absurd b
 
 -- the courses of a log and of its beginning
-pub later_by : (book : Book) (xs ys : List Entry) → IsBegun xs → IsPrefix xs ys → IsLater (course_of book xs) (course_of book ys)
+pub later_by : (book : Book) (xs ys : List Entry)
+    → IsBegun xs
+    → IsPrefix xs ys
+    → IsLater (course_of book xs) (course_of book ys)
 later_by book xs ys b p = record {
   origin = ap (λ s. record { book = book; start = s }) (ap start_of (sym p.1) ∙ same_start xs p.0 b);
   inputs = (inputs_of p.0, sym (inputs_of-append xs p.0) ∙ ap inputs_of p.1);
 }
 
 -- an input more of the log is one more of the course
-pub with_entry : (book : Book) (xs : List Entry) (input : Input) → IsBegun xs → course_of book (xs ++ Took input ∷ []) ≡ with_next (course_of book xs) input
+pub with_entry : (book : Book) (xs : List Entry) (input : Input)
+    → IsBegun xs
+    → course_of book (xs ++ Took input ∷ []) ≡ with_next (course_of book xs) input
 with_entry book xs input b = λ i. record {
   origin = record { book = book; start = same_start xs (Took input ∷ []) b i };
   inputs = inputs_of-append xs (Took input ∷ []) i;
 }
 
-ordered_by : (book : Book) (xs ys zs : List Entry) (n m : ℕ) (t : Bool) → nat_le m n ≡ t → IsBegun xs → IsBegun ys → length (drop 1 xs) ≡ n → length (drop 1 ys) ≡ m → IsPrefix xs zs → IsPrefix ys zs
+ordered_by : (book : Book) (xs ys zs : List Entry) (n m : ℕ) (t : Bool)
+    → nat_le m n ≡ t
+    → IsBegun xs
+    → IsBegun ys
+    → length (drop 1 xs) ≡ n
+    → length (drop 1 ys) ≡ m
+    → IsPrefix xs zs
+    → IsPrefix ys zs
     → MatchBool t (IsLater (course_of book ys) (course_of book xs)) (IsLater (course_of book xs) (course_of book ys))
 ordered_by book xs ys zs n m true is bx by nx my p q =
     let le : length ys ≤ length xs = omega (arith, leb-true m n is, begun_length xs bx, begun_length ys by, nx, my) in
@@ -80,11 +97,23 @@ ordered_by book xs ys zs n m false is bx by nx my p q =
     later_by book xs ys bx (prefix_shorter xs ys zs p q le)
 
 -- of two courses that were seen of one log, the shorter begins the longer
-pub ordered : (a b : Book) (xs ys zs : List Entry) (n m : ℕ) → b ≡ a → IsBegun xs → IsBegun ys → length (drop 1 xs) ≡ n → length (drop 1 ys) ≡ m → IsPrefix xs zs → IsPrefix ys zs
+pub ordered : (a b : Book) (xs ys zs : List Entry) (n m : ℕ)
+    → b ≡ a
+    → IsBegun xs
+    → IsBegun ys
+    → length (drop 1 xs) ≡ n
+    → length (drop 1 ys) ≡ m
+    → IsPrefix xs zs
+    → IsPrefix ys zs
     → MatchBool (nat_le m n) (IsLater (course_of b ys) (course_of a xs)) (IsLater (course_of a xs) (course_of b ys))
 ordered a b xs ys zs n m same bx by nx my p q =
-    subst (λ (c : Book). MatchBool (nat_le m n) (IsLater (course_of c ys) (course_of a xs)) (IsLater (course_of a xs) (course_of c ys))) (sym same)
+    subst (λ (c : Book). MatchBool (nat_le m n) (IsLater (course_of c ys) (course_of a xs))
+    (IsLater (course_of a xs) (course_of c ys))) (sym same)
     (ordered_by a xs ys zs n m (nat_le m n) refl bx by nx my p q)
 
-pub longer_by : (a b : Book) (xs ys : List Entry) (input : Input) → IsBegun xs → b ≡ a → ys ≡ xs ++ Took input ∷ [] → course_of b ys ≡ with_next (course_of a xs) input
+pub longer_by : (a b : Book) (xs ys : List Entry) (input : Input)
+    → IsBegun xs
+    → b ≡ a
+    → ys ≡ xs ++ Took input ∷ []
+    → course_of b ys ≡ with_next (course_of a xs) input
 longer_by a b xs ys input begun same is = (λ i. course_of (same i) (is i)) ∙ with_entry a xs input begun

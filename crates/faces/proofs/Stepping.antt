@@ -14,7 +14,8 @@ pub after_next : (s : ServerState) (is : List Input) (i : Input) → after s (is
 after_next s [] i = refl
 after_next s (j ∷ js) i = after_next (step s j).state js i
 
-pub outputs_next : (s : ServerState) (is : List Input) (i : Input) → last_outputs s (is ++ i ∷ []) ≡ (step (after s is) i).outputs
+pub outputs_next : (s : ServerState) (is : List Input) (i : Input)
+    → last_outputs s (is ++ i ∷ []) ≡ (step (after s is) i).outputs
 outputs_next s [] i = refl
 outputs_next s (j ∷ []) i = refl
 outputs_next s (j ∷ (k ∷ ks)) i = outputs_next (step s j).state (k ∷ ks) i
@@ -22,17 +23,33 @@ outputs_next s (j ∷ (k ∷ ks)) i = outputs_next (step s j).state (k ∷ ks) i
 pub server_next : (c : Course) (i : Input) → server_after (with_next c i) ≡ (step (server_after c) i).state
 server_next c i = after_next c.origin.start c.inputs i
 
-pub face_next : (c f : Course) (n : NodeState) (i : Input) (shown : FaceState) (steps : List FaceStep) (acked : ℕ) → n ≡ running (server_after c) → shown ≡ shown_after c → f ≡ with_next c i
-    → face_changed (face_of n.server) steps acked ≡ face_of (step n.server i).state → face_changed shown steps acked ≡ shown_after f
+pub face_next : (c f : Course) (n : NodeState) (i : Input) (shown : FaceState) (steps : List FaceStep) (acked : ℕ)
+    → n ≡ running (server_after c)
+    → shown ≡ shown_after c
+    → f ≡ with_next c i
+    → face_changed (face_of n.server) steps acked ≡ face_of (step n.server i).state
+    → face_changed shown steps acked ≡ shown_after f
 face_next c f n i shown steps acked node stands front changed =
     let server : n.server ≡ server_after c = ap (λ (m : NodeState). m.server) node in
     ap (λ x. face_changed x steps acked) (stands ∙ sym (ap face_of server))
-    ∙ (changed ∙ (ap (λ s. face_of (step s i).state) server ∙ (sym (ap face_of (server_next c i)) ∙ sym (ap shown_after front))))
+    ∙ (changed ∙ (ap (λ s. face_of (step s i).state) server
+    ∙ (sym (ap face_of (server_next c i)) ∙ sym (ap shown_after front))))
 
-pub node_next : (c p : Course) (n n' : NodeState) (i : Input) → n ≡ running (server_after c) → p ≡ with_next c i → n' ≡ running (step n.server i).state → n' ≡ running (server_after p)
+pub node_next : (c p : Course) (n n' : NodeState) (i : Input)
+    → n ≡ running (server_after c)
+    → p ≡ with_next c i
+    → n' ≡ running (step n.server i).state
+    → n' ≡ running (server_after p)
 node_next c p n n' i node next state =
-    state ∙ (ap (λ (m : NodeState). running (step m.server i).state) node ∙ (sym (ap running (server_next c i)) ∙ sym (ap (λ (x : Course). running (server_after x)) next)))
+    state ∙ (ap (λ (m : NodeState). running (step m.server i).state) node
+    ∙ (sym (ap running (server_next c i)) ∙ sym (ap (λ (x : Course). running (server_after x)) next)))
 
-pub outputs_of : (c p : Course) (n : NodeState) (i : Input) (outputs : List Output) → n ≡ running (server_after c) → p ≡ with_next c i → outputs ≡ (step n.server i).outputs → outputs ≡ last_outputs p.origin.start p.inputs
+pub outputs_of : (c p : Course) (n : NodeState) (i : Input) (outputs : List Output)
+    → n ≡ running (server_after c)
+    → p ≡ with_next c i
+    → outputs ≡ (step n.server i).outputs
+    → outputs ≡ last_outputs p.origin.start p.inputs
 outputs_of c p n i outputs node next out =
-    out ∙ (ap (λ (m : NodeState). (step m.server i).outputs) node ∙ (sym (outputs_next c.origin.start c.inputs i) ∙ sym (ap (λ (x : Course). last_outputs x.origin.start x.inputs) next)))
+    out ∙ (ap (λ (m : NodeState). (step m.server i).outputs) node
+    ∙ (sym (outputs_next c.origin.start c.inputs i)
+    ∙ sym (ap (λ (x : Course). last_outputs x.origin.start x.inputs) next)))

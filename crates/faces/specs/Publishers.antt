@@ -15,7 +15,8 @@ abbrev pub IsCurrent : NodeState → Log → Course → Type 0
 IsCurrent node log published = (node ≡ running (server_after published)) × (published.origin.book ≡ log.head.book)
 
 module _ {P A S : Type 0} {g : Ghosts Face Act S} where
-  -- while there is a writer: the node is the server after what was published, and the writer shows the face of that server
+  -- while there is a writer: the node is the server after what was published, and the writer shows the face of that
+  -- server
   abbrev pub IsShowing : Option (Writer Face Act Knowledge P A S g) → NodeState → Log → Course → Type 0
   IsShowing None node log published = Unit {0}
   IsShowing (Some writer) node log published = IsCurrent node log published × Shows writer published

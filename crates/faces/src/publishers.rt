@@ -16,9 +16,9 @@ use std::alloc::Global;
 use std::marker::Model;
 use std::sync::Wait;
 
-/// A server that shows its face, until an input is refused. Contracts see what it has published: the inputs that it took
-/// (`Course`). Its node is the server after them, and what is shown is the face of that server.
-/// It isn't `Drop`: end it by `end`.
+/// A server that shows its face, until an input is refused. Contracts see what it has published: the inputs that it
+/// took (`Course`). Its node is the server after them, and what is shown is the face of that server. It isn't `Drop`:
+/// end it by `end`.
 pub struct Publisher {
     node: Node,
     log: Log,
@@ -97,8 +97,8 @@ impl Publisher {
 
     /// Takes an input: the node makes its step, and the face after it is published. It gives all that the step put out.
     /// It waits for the readers that still look at the face before the last one. Refused with Closed if the log is
-    /// full: then the input wasn't taken; and with Memory. Either way nothing was published, the face is taken away, and
-    /// each later input is refused with Closed.
+    /// full: then the input wasn't taken; and with Memory. Either way nothing was published, the face is taken away,
+    /// and each later input is refused with Closed.
     pub fn take<R: Wait>(&mut self, rt: &R, input: Input) -> Result<Vec<Output>, FaceFault>
         requires { IsInput input }
         ensures published { OnOk result (self.new ≡ with_next self.old input) }

@@ -23,10 +23,10 @@ pub enum Speaker {
 }
 
 impl Speaker {
-    /// Does what a frame asks for, if the frame keeps the rules: the first is a Hello with an id that still has a place,
-    /// and no other is a Hello; a server sends messages, the master sends notices of failures, and each is brought to
-    /// the server as it is. Any other frame is refused, and so is one that can't be brought; then nothing was brought.
-    /// Before a notice is brought, the connection to the server that has failed is ended. It may wait.
+    /// Does what a frame asks for, if the frame keeps the rules: the first is a Hello with an id that still has a
+    /// place, and no other is a Hello; a server sends messages, the master sends notices of failures, and each is
+    /// brought to the server as it is. Any other frame is refused, and so is one that can't be brought; then nothing
+    /// was brought. Before a notice is brought, the connection to the server that has failed is ended. It may wait.
     pub fn hear<R: Wait, C: Cuts>(
         &mut self,
         rt: &R,

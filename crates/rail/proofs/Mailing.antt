@@ -1,5 +1,6 @@
 -- Each move keeps the rule of a seat's replies.
-use Rattle.std.proofs.Common.{◌≡◌, ◌≢◌, ℕ, zero, suc, true, false, true≢false, List, [], ◌∷◌, ◌++◌, set, sym, refl, ap, ◌∙◌, ◌⊎◌, inl, inr, subst, ⊎_elim, append_assoc, append-nil}
+use Rattle.std.proofs.Common.{◌≡◌, ◌≢◌, ℕ, zero, suc, true, false, true≢false, List, [], ◌∷◌, ◌++◌, set, sym, refl, ap}
+use Rattle.std.proofs.Common.{◌∙◌, ◌⊎◌, inl, inr, subst, ⊎_elim, append_assoc, append-nil}
 use mathlib.Core.Option.{some, some-injective, some-ne-none}
 use lib.ListN.{get_elem?}
 use Rattle.atomic_table.proofs.Lists.{at_set}
@@ -11,11 +12,16 @@ use Rattle.rail.specs.Mails.{address_of, unstamped, poster, taker, AllAt, Posts,
 
 -- what each pass knows
 abbrev pub Fits : Address → List Letter → List Letter → ℕ → ℕ → ℕ → Stamp → Type 0
-Fits a put taken sender receiver pass v = ((v ≡ poster a put) × (pass ≡ sender)) ⊎ ((v ≡ taker a taken) × (pass ≡ receiver))
+Fits a put taken sender receiver pass v =
+    ((v ≡ poster a put) × (pass ≡ sender)) ⊎ ((v ≡ taker a taken) × (pass ≡ receiver))
 
-fits_set : (F G : ℕ → Stamp → Type 0) (views : List Stamp) (pass : ℕ) (w : Stamp) → G pass w → ((j : ℕ) (u : Stamp) → j ≢ pass → F j u → G j u) → ((j : ℕ) (u : Stamp) → get_elem? views j ≡ some u → F j u)
+fits_set : (F G : ℕ → Stamp → Type 0) (views : List Stamp) (pass : ℕ) (w : Stamp)
+    → G pass w
+    → ((j : ℕ) (u : Stamp) → j ≢ pass → F j u → G j u)
+    → ((j : ℕ) (u : Stamp) → get_elem? views j ≡ some u → F j u)
     → (j : ℕ) (u : Stamp) → get_elem? (set views pass w) j ≡ some u → G j u
-fits_set F G views pass w mine others old j u e = ⊎_elim (λ (x : (j ≡ pass) × (w ≡ u)). subst (λ (y : ℕ × Stamp). G y.0 y.1) (λ i. (sym x.0 i, x.1 i)) mine)
+fits_set F G views pass w mine others old j u e =
+    ⊎_elim (λ (x : (j ≡ pass) × (w ≡ u)). subst (λ (y : ℕ × Stamp). G y.0 y.1) (λ i. (sym x.0 i, x.1 i)) mine)
     (λ (x : (j ≢ pass) × (get_elem? views j ≡ some u)). others j u x.0 (old j u x.1)) (at_set views pass j w u e)
 
 first : (pass : ℕ) (v : Stamp) → get_elem? (unstamped ∷ []) pass ≡ some v → unstamped ≡ v
@@ -23,8 +29,13 @@ first zero v e = some-injective unstamped v e
 first (suc p) v e = absurd (some-ne-none v (sym e))
 
 -- a pass of a new queue is its only one
-not_new : (items : List Letter) (views : List Stamp) (pass : ℕ) (v : Stamp) → v.whole ≡ false → get_elem? views pass ≡ some v → views ≡ unstamped ∷ [] → ⊥
-not_new items views pass v part at new = true≢false (ap (λ (y : Stamp). y.whole) (first pass v (sym (ap (λ l. get_elem? l pass) new) ∙ at)) ∙ part)
+not_new : (items : List Letter) (views : List Stamp) (pass : ℕ) (v : Stamp)
+    → v.whole ≡ false
+    → get_elem? views pass ≡ some v
+    → views ≡ unstamped ∷ []
+    → ⊥
+not_new items views pass v part at new =
+    true≢false (ap (λ (y : Stamp). y.whole) (first pass v (sym (ap (λ l. get_elem? l pass) new) ∙ at)) ∙ part)
 
 all_snoc : (a : Address) (xs : List Letter) (x : Letter) → AllAt a xs → address_of x ≡ a → AllAt a (xs ++ x ∷ [])
 all_snoc a [] x h e = (e, tt)
@@ -39,7 +50,11 @@ address_out a b put put' e = λ i. record { origin = (e i).origin; port = (e i).
 pub begins : Mails [] (unstamped ∷ [])
 begins = inl (refl, refl)
 
-put_on : (pass : ℕ) (a : Address) (put : List Letter) (x : Letter) (items : List Letter) (views : List Stamp) → address_of x ≡ a → (p : Posts items views) → poster a put ≡ poster p.address p.put → pass ≡ p.sender
+put_on : (pass : ℕ) (a : Address) (put : List Letter) (x : Letter) (items : List Letter) (views : List Stamp)
+    → address_of x ≡ a
+    → (p : Posts items views)
+    → poster a put ≡ poster p.address p.put
+    → pass ≡ p.sender
     → Posts (items ++ x ∷ []) (set views pass (poster a (put ++ x ∷ [])))
 put_on pass a put x items views is p mine here =
     let same : a ≡ p.address = address_in a p.address put p.put mine in
@@ -51,25 +66,36 @@ put_on pass a put x items views is p mine here =
       receiver = p.receiver;
       order = sym (append_assoc p.taken items (x ∷ [])) ∙ ap (λ l. l ++ x ∷ []) p.order;
       all = all_snoc p.address items x p.all (is ∙ same);
-      each = fits_set (Fits p.address p.put p.taken p.sender p.receiver) (Fits p.address (p.put ++ x ∷ []) p.taken p.sender p.receiver) views pass w
+      each = fits_set (Fits p.address p.put p.taken p.sender p.receiver)
+          (Fits p.address (p.put ++ x ∷ []) p.taken p.sender p.receiver) views pass w
           (inl ((λ i. poster (same i) ((mine i).list ++ x ∷ [])), here))
-          (λ j u apart f. ⊎_elim (λ (y : (u ≡ poster p.address p.put) × (j ≡ p.sender)). absurd (apart (y.1 ∙ sym here))) (λ (y : (u ≡ taker p.address p.taken) × (j ≡ p.receiver)). inr y) f)
+          (λ j u apart f. ⊎_elim
+          (λ (y : (u ≡ poster p.address p.put) × (j ≡ p.sender)). absurd (apart (y.1 ∙ sym here)))
+          (λ (y : (u ≡ taker p.address p.taken) × (j ≡ p.receiver)). inr y) f)
           p.each;
     }
 
-pub puts : (n pass : ℕ) (a : Address) (put : List Letter) (x : Letter) → address_of x ≡ a → Pushes Mails n pass (poster a put) x (λ w. w ≡ poster a (put ++ x ∷ []))
+pub puts : (n pass : ℕ) (a : Address) (put : List Letter) (x : Letter)
+    → address_of x ≡ a
+    → Pushes Mails n pass (poster a put) x (λ w. w ≡ poster a (put ++ x ∷ []))
 puts n pass a put x is items views _ h at = (
   poster a (put ++ x ∷ []),
-  ⊎_elim (λ (new : (items ≡ []) × (views ≡ unstamped ∷ [])). absurd (not_new items views pass (poster a put) refl at new.1))
+  ⊎_elim (λ (new : (items ≡ []) × (views ≡ unstamped ∷ [])). absurd
+      (not_new items views pass (poster a put) refl at new.1))
       (λ (p : Posts items views).
-      inr (⊎_elim (λ (mine : (poster a put ≡ poster p.address p.put) × (pass ≡ p.sender)). put_on pass a put x items views is p mine.0 mine.1)
-      (λ (other : (poster a put ≡ taker p.address p.taken) × (pass ≡ p.receiver)). absurd (true≢false (ap (λ (y : Stamp). y.puts) other.0)))
+      inr (⊎_elim (λ (mine : (poster a put ≡ poster p.address p.put) × (pass ≡ p.sender)). put_on pass a put x items
+      views is p mine.0 mine.1)
+      (λ (other : (poster a put ≡ taker p.address p.taken) × (pass ≡ p.receiver)). absurd
+      (true≢false (ap (λ (y : Stamp). y.puts) other.0)))
       (p.each pass (poster a put) at)))
       h,
   refl,
 )
 
-get_on : (pass : ℕ) (a : Address) (got : List Letter) (x : Letter) (items : List Letter) (views : List Stamp) → (p : Posts (x ∷ items) views) → taker a got ≡ taker p.address p.taken → pass ≡ p.receiver
+get_on : (pass : ℕ) (a : Address) (got : List Letter) (x : Letter) (items : List Letter) (views : List Stamp)
+    → (p : Posts (x ∷ items) views)
+    → taker a got ≡ taker p.address p.taken
+    → pass ≡ p.receiver
     → Posts items (set views pass (taker a (got ++ x ∷ [])))
 get_on pass a got x items views p mine here =
     let same : a ≡ p.address = address_out a p.address got p.taken mine in
@@ -81,23 +107,36 @@ get_on pass a got x items views p mine here =
       receiver = p.receiver;
       order = append_assoc p.taken (x ∷ []) items ∙ p.order;
       all = p.all.1;
-      each = fits_set (Fits p.address p.put p.taken p.sender p.receiver) (Fits p.address p.put (p.taken ++ x ∷ []) p.sender p.receiver) views pass w
+      each = fits_set (Fits p.address p.put p.taken p.sender p.receiver)
+          (Fits p.address p.put (p.taken ++ x ∷ []) p.sender p.receiver) views pass w
           (inr ((λ i. taker (same i) ((mine i).list ++ x ∷ [])), here))
-          (λ j u apart f. ⊎_elim (λ (y : (u ≡ poster p.address p.put) × (j ≡ p.sender)). inl y) (λ (y : (u ≡ taker p.address p.taken) × (j ≡ p.receiver)). absurd (apart (y.1 ∙ sym here))) f)
+          (λ j u apart f. ⊎_elim (λ (y : (u ≡ poster p.address p.put) × (j ≡ p.sender)). inl y)
+          (λ (y : (u ≡ taker p.address p.taken) × (j ≡ p.receiver)). absurd (apart (y.1 ∙ sym here))) f)
           p.each;
     }
 
-got_at : (pass : ℕ) (a : Address) (got : List Letter) (x : Letter) (items : List Letter) (views : List Stamp) → get_elem? views pass ≡ some (taker a got) → (p : Posts (x ∷ items) views)
+got_at : (pass : ℕ) (a : Address) (got : List Letter) (x : Letter) (items : List Letter) (views : List Stamp)
+    → get_elem? views pass ≡ some (taker a got)
+    → (p : Posts (x ∷ items) views)
     → (taker a got ≡ taker p.address p.taken) × (pass ≡ p.receiver)
 got_at pass a got x items views at p =
-    ⊎_elim (λ (other : (taker a got ≡ poster p.address p.put) × (pass ≡ p.sender)). absurd (true≢false (sym (ap (λ (y : Stamp). y.puts) other.0))))
+    ⊎_elim (λ (other : (taker a got ≡ poster p.address p.put) × (pass ≡ p.sender)). absurd
+    (true≢false (sym (ap (λ (y : Stamp). y.puts) other.0))))
     (λ (mine : (taker a got ≡ taker p.address p.taken) × (pass ≡ p.receiver)). mine)
     (p.each pass (taker a got) at)
 
-in_use : (x : Letter) (items : List Letter) (views : List Stamp) (pass : ℕ) (v : Stamp) → v.whole ≡ false → get_elem? views pass ≡ some v → Mails (x ∷ items) views → Posts (x ∷ items) views
-in_use x items views pass v part at h = ⊎_elim (λ (new : (x ∷ items ≡ []) × (views ≡ unstamped ∷ [])). absurd (not_new (x ∷ items) views pass v part at new.1)) (λ (p : Posts (x ∷ items) views). p) h
+in_use : (x : Letter) (items : List Letter) (views : List Stamp) (pass : ℕ) (v : Stamp)
+    → v.whole ≡ false
+    → get_elem? views pass ≡ some v
+    → Mails (x ∷ items) views
+    → Posts (x ∷ items) views
+in_use x items views pass v part at h =
+    ⊎_elim (λ (new : (x ∷ items ≡ []) × (views ≡ unstamped ∷ [])). absurd
+    (not_new (x ∷ items) views pass v part at new.1)) (λ (p : Posts (x ∷ items) views). p) h
 
-pub gets : (pass : ℕ) (a : Address) (got : List Letter) → Pops Mails pass (taker a got) (λ x w. (w ≡ taker a (got ++ x ∷ [])) × (x.told.origin ≡ a.origin) × (x.port ≡ a.port))
+pub gets : (pass : ℕ) (a : Address) (got : List Letter)
+    → Pops Mails pass (taker a got)
+    (λ x w. (w ≡ taker a (got ++ x ∷ [])) × (x.told.origin ≡ a.origin) × (x.port ≡ a.port))
 gets pass a got x items views h at =
     let p = in_use x items views pass (taker a got) refl at h in
     let mine = got_at pass a got x items views at p in
@@ -107,12 +146,16 @@ gets pass a got x items views h at =
       (refl, ap (λ (b : Address). b.origin) (p.all.0 ∙ sym same), ap (λ (b : Address). b.port) (p.all.0 ∙ sym same)),
     )
 
-both : (a : Address) (pass : ℕ) (v : Stamp) → get_elem? (poster a [] ∷ (taker a [] ∷ [])) pass ≡ some v → Fits a [] [] 0 1 pass v
+both : (a : Address) (pass : ℕ) (v : Stamp)
+    → get_elem? (poster a [] ∷ (taker a [] ∷ [])) pass ≡ some v
+    → Fits a [] [] 0 1 pass v
 both a zero v e = inl (sym (some-injective (poster a []) v e), refl)
 both a (suc zero) v e = inr (sym (some-injective (taker a []) v e), refl)
 both a (suc (suc pass)) v e = absurd (some-ne-none v (sym e))
 
-opened : (a : Address) (pass : ℕ) → get_elem? (unstamped ∷ []) pass ≡ some unstamped → Posts [] (set (unstamped ∷ []) pass (poster a []) ++ taker a [] ∷ [])
+opened : (a : Address) (pass : ℕ)
+    → get_elem? (unstamped ∷ []) pass ≡ some unstamped
+    → Posts [] (set (unstamped ∷ []) pass (poster a []) ++ taker a [] ∷ [])
 opened a zero at = record {
   address = a;
   put = [];
@@ -128,17 +171,35 @@ opened a (suc pass) at = absurd (some-ne-none unstamped (sym at))
 pub opens : (pass : ℕ) (a : Address) → Forks Mails pass unstamped (poster a []) (taker a [])
 opens pass a items views h at =
     ⊎_elim (λ (new : (items ≡ []) × (views ≡ unstamped ∷ [])).
-    inr (subst (λ (y : List Letter × List Stamp). Posts y.0 (set y.1 pass (poster a []) ++ taker a [] ∷ [])) (λ i. (sym new.0 i, sym new.1 i)) (opened a pass (sym (ap (λ l. get_elem? l pass) new.1) ∙ at))))
+    inr (subst (λ (y : List Letter × List Stamp). Posts y.0 (set y.1 pass (poster a []) ++ taker a [] ∷ []))
+    (λ i. (sym new.0 i, sym new.1 i)) (opened a pass (sym (ap (λ l. get_elem? l pass) new.1) ∙ at))))
     (λ (p : Posts items views).
-    absurd (⊎_elim (λ (y : (unstamped ≡ poster p.address p.put) × (pass ≡ p.sender)). true≢false (ap (λ (s : Stamp). s.whole) y.0))
+    absurd (⊎_elim (λ (y : (unstamped ≡ poster p.address p.put) × (pass ≡ p.sender)). true≢false
+    (ap (λ (s : Stamp). s.whole) y.0))
     (λ (y : (unstamped ≡ taker p.address p.taken) × (pass ≡ p.receiver)). true≢false (ap (λ (s : Stamp). s.whole) y.0))
     (p.each pass unstamped at)))
     h
 
 -- a reply was put
-pub posted : (before after : PostState) (letter : Letter) → after.address ≡ before.address → after.put ≡ before.put ++ letter ∷ [] → after.gone ≡ before.gone → HasPosted before after (letter ∷ [])
-posted before after letter same put gone = record { address = same; more = letter ∷ []; put = put; left = inr ([], refl, refl); gone = λ g. gone ∙ g }
+pub posted : (before after : PostState) (letter : Letter)
+    → after.address ≡ before.address
+    → after.put ≡ before.put ++ letter ∷ []
+    → after.gone ≡ before.gone
+    → HasPosted before after (letter ∷ [])
+posted before after letter same put gone =
+    record { address = same; more = letter ∷ []; put = put; left = inr ([], refl, refl); gone = λ g. gone ∙ g }
 
 -- or it was handed back
-pub handed_back : (before after : PostState) (letter : Letter) → after.address ≡ before.address → after.put ≡ before.put → after.gone ≡ true → HasPosted before after (letter ∷ [])
-handed_back before after letter same put gone = record { address = same; more = []; put = put ∙ sym (append-nil before.put); left = inl (gone, refl); gone = λ g. gone }
+pub handed_back : (before after : PostState) (letter : Letter)
+    → after.address ≡ before.address
+    → after.put ≡ before.put
+    → after.gone ≡ true
+    → HasPosted before after (letter ∷ [])
+handed_back before after letter same put gone =
+    record {
+      address = same;
+      more = [];
+      put = put ∙ sym (append-nil before.put);
+      left = inl (gone, refl);
+      gone = λ g. gone;
+    }

@@ -13,9 +13,12 @@ pub posts_more : (o : Origin) (k n m : ℕ) → m ≡ k + n → posts_from o k (
 posts_more o k zero m is = ap (λ (j : ℕ). post_at o j ∷ []) (let e : k ≡ m = omega (arith, is) in e)
 posts_more o k (suc n) m is =
     let e : suc n + 1 ≡ suc (n + 1) = omega arith in
-    ap (posts_from o k) e ∙ ap (λ (ps : List PostState). post_at o k ∷ ps) (posts_more o (k + 1) n m (omega (arith, is)))
+    ap (posts_from o k) e ∙ ap (λ (ps : List PostState). post_at o k ∷ ps)
+    (posts_more o (k + 1) n m (omega (arith, is)))
 
-pub stands_more : (o : Origin) (k n m : ℕ) → m ≡ k + n → stands_from o k (n + 1) ≡ stands_from o k n ++ stand_at o m ∷ []
+pub stands_more : (o : Origin) (k n m : ℕ)
+    → m ≡ k + n
+    → stands_from o k (n + 1) ≡ stands_from o k n ++ stand_at o m ∷ []
 stands_more o k zero m is = ap (λ (j : ℕ). stand_at o j ∷ []) (let e : k ≡ m = omega (arith, is) in e)
 stands_more o k (suc n) m is =
     let e : suc n + 1 ≡ suc (n + 1) = omega arith in

@@ -1,5 +1,6 @@
 -- What a turn leaves of a worker.
-use Rattle.std.proofs.Common.{◌≡◌, ◌∙◌, ⊎_elim, ap, sym, subst, ℕ, true, false, length, [], ◌∷◌, ◌++◌, List, Option, None, Some, Ok, Err, OnOk, OnErr, is_err, true≢false}
+use Rattle.std.proofs.Common.{◌≡◌, ◌∙◌, ⊎_elim, ap, sym, subst, ℕ, true, false, length, [], ◌∷◌, ◌++◌, List, Option}
+use Rattle.std.proofs.Common.{None, Some, Ok, Err, OnOk, OnErr, is_err, true≢false}
 use Rattle.std.specs.declared.result.Result.{Result}
 use Rattle.node.specs.declared.messages.Input.{Input}
 use Rattle.node.specs.declared.messages.Output.{Output}
@@ -23,7 +24,12 @@ err_by (Err e) P is p = p
 
 -- a worker whose server is stopped
 pub stopped_worker : (now : Option Course) (told' : Course) (posts posts' : List PostState) (ports : ℕ) (o : Origin)
-    → now ≡ None → told'.origin ≡ o → HasReplied told' 0 posts posts' [] → ArePosts o 0 posts → length posts ≡ ports → AreClosed posts'
+    → now ≡ None
+    → told'.origin ≡ o
+    → HasReplied told' 0 posts posts' []
+    → ArePosts o 0 posts
+    → length posts ≡ ports
+    → AreClosed posts'
     → IsWorker now told' posts' ports
 stopped_worker now told' posts posts' ports o none same closed placed as_many shut = record {
   placed = subst (λ (p : Origin). ArePosts p 0 posts') (sym same) (are_replied o told' 0 posts posts' [] closed placed);
@@ -33,33 +39,54 @@ stopped_worker now told' posts posts' ports o none same closed placed as_many sh
 }
 
 -- a worker whose server goes on after an input
-pub going_worker : (now : Option Course) (c p told told' : Course) (i : Input) (posts posts' : List PostState) (ports : ℕ) (outputs : List Output)
-    → now ≡ Some p → IsGoing (Some c) told ports → p ≡ with_next c i → told' ≡ p → HasReplied p 0 posts posts' outputs → ArePosts told.origin 0 posts → length posts ≡ ports
+pub going_worker : (now : Option Course) (c p told told' : Course) (i : Input) (posts posts' : List PostState)
+    (ports : ℕ) (outputs : List Output)
+    → now ≡ Some p
+    → IsGoing (Some c) told ports
+    → p ≡ with_next c i
+    → told' ≡ p
+    → HasReplied p 0 posts posts' outputs
+    → ArePosts told.origin 0 posts
+    → length posts ≡ ports
     → IsInput i → HoldsEntry i → AreCallsBelow (length posts) (i ∷ []) → IsWorker now told' posts' ports
 going_worker now c p told told' i posts posts' ports outputs is going next at replied placed as_many fit valid calls =
-    let same : told'.origin ≡ told.origin = ap (λ (x : Course). x.origin) (at ∙ next) ∙ ap (λ (x : Course). x.origin) going.0 in
+    let same : told'.origin ≡ told.origin =
+    ap (λ (x : Course). x.origin) (at ∙ next) ∙ ap (λ (x : Course). x.origin) going.0 in
     let below : AreCallsBelow ports (i ∷ []) = subst (λ (n : ℕ). AreCallsBelow n (i ∷ [])) as_many calls in
-    let lawful : IsLawful (server_after p) = subst (λ (x : Course). IsLawful (server_after x)) (sym next) (lawful_next c i fit valid going.1) in
-    let waits : AreOpenBelow ports (server_after p) = subst (λ (x : Course). AreOpenBelow ports (server_after x)) (sym next) (open_next c i ports fit valid going.1 going.2 below) in
+    let lawful : IsLawful (server_after p) =
+    subst (λ (x : Course). IsLawful (server_after x)) (sym next) (lawful_next c i fit valid going.1) in
+    let waits : AreOpenBelow ports (server_after p) =
+    subst (λ (x : Course). AreOpenBelow ports (server_after x)) (sym next)
+    (open_next c i ports fit valid going.1 going.2 below) in
     record {
-      placed = subst (λ (q : Origin). ArePosts q 0 posts') (sym same) (are_replied told.origin p 0 posts posts' outputs replied placed);
+      placed = subst (λ (q : Origin). ArePosts q 0 posts') (sym same)
+          (are_replied told.origin p 0 posts posts' outputs replied placed);
       as_many = length_replied p 0 posts posts' outputs replied ∙ as_many;
       closed = λ none. absurd (cc (is, none));
       going = subst (λ (n : Option Course). IsGoing n told' ports) (sym is) (sym at, lawful, waits);
     }
 
 -- a refused input leaves the server's name
-pub cut_origin : (before after : List (ℕ × Peer)) (failures : ℕ → ℕ) (c c' : Course) (i : Input) → IsCut before after failures c c' i → c'.origin ≡ c.origin
+pub cut_origin : (before after : List (ℕ × Peer)) (failures : ℕ → ℕ) (c c' : Course) (i : Input)
+    → IsCut before after failures c c' i
+    → c'.origin ≡ c.origin
 cut_origin before after failures c c' i cut =
     ⊎_elim (λ (same : (c' ≡ c) × (after ≡ before)). ap (λ (x : Course). x.origin) same.0)
-    (λ (grown : (c' ≡ with_next c i) × ((done : List Output) × (rest : List Output) × (outputs_after (with_next c i) ≡ done ++ rest) × HasPut before after failures (messages_of done))). ap (λ (x : Course). x.origin) grown.0)
+    (λ (grown : (c' ≡ with_next c i)
+    × ((done : List Output) × (rest : List Output) × (outputs_after (with_next c i) ≡ done ++ rest)
+    × HasPut before after failures (messages_of done))). ap (λ (x : Course). x.origin) grown.0)
     cut
 
 -- an input was given to a server that goes on
-pub gone : (w w' : WorkerState) (before after : List (ℕ × Peer)) (failures : ℕ → ℕ) (c p : Course) (i : Input) (ports : ℕ)
+pub gone : (w w' : WorkerState) (before after : List (ℕ × Peer)) (failures : ℕ → ℕ) (c p : Course) (i : Input)
+    (ports : ℕ)
     → w.goes ≡ true → w'.goes ≡ true → IsGoing (Some c) w.published ports → w'.published ≡ p → p ≡ with_next c i
     → HasPut before after failures (messages_of (outputs_after p)) → HasReplied p 0 w.posts w'.posts (outputs_after p)
-    → IsInput i → HoldsEntry i → AreCallsBelow (length w.posts) (i ∷ []) → length w.posts ≡ ports → HasGone w w' before after failures i
+    → IsInput i
+    → HoldsEntry i
+    → AreCallsBelow (length w.posts) (i ∷ [])
+    → length w.posts ≡ ports
+    → HasGone w w' before after failures i
 gone w w' before after failures c p i ports goes still going at next messages replies fit valid calls as_many =
     let n : p ≡ with_next w.published i = next ∙ ap (λ (x : Course). with_next x i) going.0 in
     let below : AreCallsBelow ports (i ∷ []) = subst (λ (n : ℕ). AreCallsBelow n (i ∷ [])) as_many calls in
@@ -70,5 +97,6 @@ gone w w' before after failures c p i ports goes still going at next messages re
       messages = subst (λ (x : Course). HasPut before after failures (messages_of (outputs_after x))) n messages;
       replies = subst (λ (x : Course). HasReplied x 0 w.posts w'.posts (outputs_after x)) n replies;
       seated = subst (λ (m : ℕ). AreRepliesBelow m (outputs_after (with_next w.published i))) (sym as_many)
-          (subst (λ (x : Course). AreRepliesBelow ports (outputs_after (with_next x i))) going.0 (replies_next c i ports fit valid going.1 going.2 below));
+          (subst (λ (x : Course). AreRepliesBelow ports (outputs_after (with_next x i))) going.0
+          (replies_next c i ports fit valid going.1 going.2 below));
     }

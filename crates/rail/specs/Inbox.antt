@@ -31,17 +31,20 @@ of p (m ∷ ms) = if p == m.from then m.event ∷ of p ms else of p ms
 
 -- each sender has one pass, which knows what it sent
 abbrev pub FitsSender : (ℕ → Option ℕ) → (ℕ → List Event) → ℕ → ℕ → Ticket → Type 0
-FitsSender seat sent ports pass v = v.sends ≡ true → (seat v.from ≡ some pass) × (v.put ≡ sent v.from) × (v.ports ≤ ports)
+FitsSender seat sent ports pass v =
+    v.sends ≡ true → (seat v.from ≡ some pass) × (v.put ≡ sent v.from) × (v.ports ≤ ports)
 
 -- the one receiver knows what it took, and that later senders have sent nothing
 abbrev pub FitsTaker : ℕ → (ℕ → Option ℕ) → (ℕ → List Event) → List Message → ℕ → ℕ → Ticket → Type 0
 FitsTaker reader seat sent got ports pass v =
-    v.gets ≡ true → (pass ≡ reader) × (v.got ≡ got) × (v.ports ≡ ports) × ((p : ℕ) → v.made ≤ p → (seat p ≡ none) × (sent p ≡ []))
+    v.gets ≡ true → (pass ≡ reader) × (v.got ≡ got) × (v.ports ≡ ports)
+    × ((p : ℕ) → v.made ≤ p → (seat p ≡ none) × (sent p ≡ []))
 
 abbrev pub Fits : ℕ → (ℕ → Option ℕ) → (ℕ → List Event) → List Message → ℕ → ℕ → Ticket → Type 0
 Fits reader seat sent got ports pass v = FitsSender seat sent ports pass v × FitsTaker reader seat sent got ports pass v
 
--- For each sender, what was taken of it and then what stands of it in the queue is what it sent. The ports of the calls that
+-- For each sender, what was taken of it and then what stands of it in the queue is what it sent. The ports of the calls
+-- that
 -- stand there are below the receiver's number.
 pub record Delivers (items : List Message) (views : List Ticket) : Type 0 where
   pub reader : ℕ

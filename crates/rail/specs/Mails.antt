@@ -54,7 +54,9 @@ pub record Posts (items : List Letter) (views : List Stamp) : Type 0 where
   pub receiver : ℕ
   pub order : taken ++ items ≡ put
   pub all : AllAt address items
-  pub each : (pass : ℕ) (v : Stamp) → get_elem? views pass ≡ some v → ((v ≡ poster address put) × (pass ≡ sender)) ⊎ ((v ≡ taker address taken) × (pass ≡ receiver))
+  pub each : (pass : ℕ) (v : Stamp)
+      → get_elem? views pass ≡ some v
+      → ((v ≡ poster address put) × (pass ≡ sender)) ⊎ ((v ≡ taker address taken) × (pass ≡ receiver))
 
 -- the queue is new, or in use
 abbrev pub Mails : List Letter → List Stamp → Type 0

@@ -18,7 +18,8 @@ posts_from o k (suc n) = post_at o k ∷ posts_from o (k + 1) n
 
 -- a reader that has seen no input, and the seat of port k before any call
 abbrev pub stand_at : Origin → ℕ → Stand
-stand_at o k = record { reader = course_at o; seat = record { origin = o; port = k; sent = []; got = [] }; together = refl }
+stand_at o k =
+    record { reader = course_at o; seat = record { origin = o; port = k; sent = []; got = [] }; together = refl }
 
 -- the stands of n ports, from port k on
 abbrev pub stands_from : Origin → ℕ → ℕ → List Stand
@@ -26,7 +27,8 @@ stands_from o k zero = []
 stands_from o k (suc n) = stand_at o k ∷ stands_from o (k + 1) n
 
 -- A worker, stands and inlets of one running server, which begins as this node, before any input.
-pub record IsOpened (node : NodeState) (readers inlets : ℕ) (w : WorkerState) (beside : List Stand) (brought : List (List Event)) : Type 0 where
+pub record IsOpened (node : NodeState) (readers inlets : ℕ) (w : WorkerState) (beside : List Stand)
+    (brought : List (List Event)) : Type 0 where
   pub origin : Origin
   pub start : origin.start ≡ node.server
   pub worker : w ≡ record { taken = []; published = course_at origin; goes = true; posts = posts_from origin 0 readers }

@@ -18,7 +18,8 @@ messages_of (Replied port reply ∷ os) = messages_of os
 abbrev pub letters_to : Course → ℕ → List Output → List Letter
 letters_to c p [] = []
 letters_to c p (To to peer ∷ os) = letters_to c p os
-letters_to c p (Replied port reply ∷ os) = if port == p then (record { port = port; reply = reply; told = c }) ∷ letters_to c p os else letters_to c p os
+letters_to c p (Replied port reply ∷ os) =
+    if port == p then (record { port = port; reply = reply; told = c }) ∷ letters_to c p os else letters_to c p os
 
 -- the second list is the first, in order, without some of which this holds
 abbrev pub IsLeft : {X : Type 0} → (X → Type 0) → List X → List X → Type 0
@@ -27,18 +28,21 @@ IsLeft {X} may (x ∷ xs) ys = (may x × IsLeft may xs ys) ⊎ ((rest : List X) 
 
 -- after this list was put, it goes on with these messages, save those on links that have failed
 abbrev pub HasPut : List (ℕ × Peer) → List (ℕ × Peer) → (ℕ → ℕ) → List (ℕ × Peer) → Type 0
-HasPut before after failures messages = (put : List (ℕ × Peer)) × (after ≡ before ++ put) × IsLeft (λ m. 0 < failures m.0) messages put
+HasPut before after failures messages =
+    (put : List (ℕ × Peer)) × (after ≡ before ++ put) × IsLeft (λ m. 0 < failures m.0) messages put
 
 -- some of the first messages of these outputs were put
 abbrev pub HasPutFirst : List (ℕ × Peer) → List (ℕ × Peer) → (ℕ → ℕ) → List Output → Type 0
 HasPutFirst before after failures outputs =
-    (done : List Output) × (rest : List Output) × (outputs ≡ done ++ rest) × HasPut before after failures (messages_of done)
+    (done : List Output) × (rest : List Output) × (outputs ≡ done ++ rest)
+    × HasPut before after failures (messages_of done)
 
 -- what the last step of a course put out
 abbrev pub outputs_after : Course → List Output
 outputs_after c = last_outputs c.origin.start c.inputs
 
--- An input was refused: nothing was published or put; or the published list grew by it, and then some of the first messages of
+-- An input was refused: nothing was published or put; or the published list grew by it, and then some of the first
+-- messages of
 -- its step were put.
 abbrev pub IsCut : List (ℕ × Peer) → List (ℕ × Peer) → (ℕ → ℕ) → Course → Course → Input → Type 0
 IsCut before after failures c c' input =

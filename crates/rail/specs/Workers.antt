@@ -26,9 +26,11 @@ pub record WorkerState : Type 0 where
 -- a server that goes on has published just this, it is lawful, and its open calls have ports below this number
 abbrev pub IsGoing : Option Course → Course → ℕ → Type 0
 IsGoing None published ports = Unit {0}
-IsGoing (Some course) published ports = (course ≡ published) × IsLawful (server_after course) × AreOpenBelow ports (server_after course)
+IsGoing (Some course) published ports =
+    (course ≡ published) × IsLawful (server_after course) × AreOpenBelow ports (server_after course)
 
--- what a worker keeps: there is a post for each seat, no end of theirs is held once the server has stopped, and what a server that
+-- what a worker keeps: there is a post for each seat, no end of theirs is held once the server has stopped, and what a
+-- server that
 -- goes on does
 pub record IsWorker (course : Option Course) (published : Course) (posts : List PostState) (ports : ℕ) : Type 0 where
   pub placed : ArePosts published.origin 0 posts
@@ -44,14 +46,17 @@ pub record IsStopped (w w' : WorkerState) : Type 0 where
   pub closed : AreClosed w'.posts
 
 module _ (w w' : WorkerState) (before after : List (ℕ × Peer)) (failures : ℕ → ℕ) where
-  -- An input was given to a server that goes on: the published list grew by it, and then what its step put out was put: its
-  -- messages save those on links that have failed, and its replies, each of which has a seat, save those that are handed back.
+  -- An input was given to a server that goes on: the published list grew by it, and then what its step put out was put:
+  -- its
+  -- messages save those on links that have failed, and its replies, each of which has a seat, save those that are
+  -- handed back.
   pub record HasGone (input : Input) : Type 0 where
     pub going : w.goes ≡ true
     pub still : w'.goes ≡ true
     pub published : w'.published ≡ with_next w.published input
     pub messages : HasPut before after failures (messages_of (outputs_after (with_next w.published input)))
-    pub replies : HasReplied (with_next w.published input) 0 w.posts w'.posts (outputs_after (with_next w.published input))
+    pub replies : HasReplied (with_next w.published input) 0 w.posts w'.posts
+        (outputs_after (with_next w.published input))
     pub seated : AreRepliesBelow (length w.posts) (outputs_after (with_next w.published input))
 
   -- The server is stopped from now on, and nothing was put out.
@@ -59,8 +64,10 @@ module _ (w w' : WorkerState) (before after : List (ℕ × Peer)) (failures : �
     pub stopped : IsStopped w w'
     pub messages : after ≡ before
 
-  -- An input was refused for want of memory, and the server is stopped from now on. Nothing was published or put; or the
-  -- published list grew by the input, and then some of the first messages of its step were put. Nothing was replied, and no seat's
+  -- An input was refused for want of memory, and the server is stopped from now on. Nothing was published or put; or
+  -- the
+  -- published list grew by the input, and then some of the first messages of its step were put. Nothing was replied,
+  -- and no seat's
   -- end is held.
   pub record WasCut (input : Input) : Type 0 where
     pub going : w.goes ≡ true

@@ -1,5 +1,5 @@
-//! The inbox of a worker: several senders, one receiver. What was taken of a sender, and then what stands of it in the queue,
-//! is what it sent.
+//! The inbox of a worker: several senders, one receiver. What was taken of a sender, and then what stands of it in the
+//! queue, is what it sent.
 ghost use Rattle.std.specs.Prelude.{◌≡◌, [], ◌∷◌, ◌++◌, IfOk, ◌+◌, ◌<◌, ◌^◌};
 ghost use Rattle.crossbeam_channel.specs.Claims.{view, IsSeatAt};
 ghost use Rattle.crossbeam_channel.specs.Ends.{sends_on, receives_on};
@@ -18,8 +18,8 @@ use std::collections::LinkedList;
 use std::sync::Wait;
 use std::thread;
 
-/// What a pass knows. No value of it is made. A sender has a number, a bound of its calls' ports and what it sent; the receiver
-/// the number of senders, a bound of all calls' ports and what it took.
+/// What a pass knows. No value of it is made. A sender has a number, a bound of its calls' ports and what it sent; the
+/// receiver the number of senders, a bound of all calls' ports and what it took.
 pub struct Ticket {
     pub sends: bool,
     pub from: u64,
@@ -132,8 +132,10 @@ impl Gate {
     /// One more sender of calls, whose ports are one more.
     pub fn seat(&mut self) -> Result<Slot, AllocError>
         requires { (view self.old.pass).made < 2 ^ 63 }
-        ensures slot { IfOk result (λ s. view s.pass ≡ sender (view self.old.pass).made ((view self.old.pass).ports + 1) []) }
-        ensures made { IfOk result (λ _. view self.new.pass ≡ taker ((view self.old.pass).made + 1) ((view self.old.pass).ports + 1) []) }
+        ensures slot { IfOk result
+            (λ s. view s.pass ≡ sender (view self.old.pass).made ((view self.old.pass).ports + 1) []) }
+        ensures made { IfOk result
+            (λ _. view self.new.pass ≡ taker ((view self.old.pass).made + 1) ((view self.old.pass).ports + 1) []) }
     {
         let to = self.to.try_clone()?;
         let from = self.made;
@@ -146,7 +148,8 @@ impl Gate {
     pub fn inlet(&mut self) -> Result<Slot, AllocError>
         requires { (view self.old.pass).made < 2 ^ 63 }
         ensures slot { IfOk result (λ s. view s.pass ≡ sender (view self.old.pass).made 0 []) }
-        ensures made { IfOk result (λ _. view self.new.pass ≡ taker ((view self.old.pass).made + 1) (view self.old.pass).ports []) }
+        ensures made { IfOk result
+            (λ _. view self.new.pass ≡ taker ((view self.old.pass).made + 1) (view self.old.pass).ports []) }
     {
         let to = self.to.try_clone()?;
         let from = self.made;
@@ -195,8 +198,8 @@ impl Inbox {
         }
     }
 
-    /// The next message, which is added to what was taken. It tries a few times, and then sleeps until one comes. Refused
-    /// with Closed where every sender is gone.
+    /// The next message, which is added to what was taken. It tries a few times, and then sleeps until one comes.
+    /// Refused with Closed where every sender is gone.
     pub fn take<R: Wait>(&mut self, rt: &R) -> Result<Message, RailFault>
         ensures { IsTake HasGot (view self.old.pass) (view self.new.pass) result }
     {

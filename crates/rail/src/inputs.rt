@@ -13,8 +13,8 @@ use node::Input;
 use std::alloc::AllocError;
 use std::sync::Wait;
 
-/// The node makes its step, the face after it is published, and only then its messages are put, and its replies. Refused for want
-/// of memory; the publisher is to be ended then.
+/// The node makes its step, the face after it is published, and only then its messages are put, and its replies.
+/// Refused for want of memory; the publisher is to be ended then.
 pub fn advance<R: Wait, L: Links>(
     rt: &R,
     publisher: &mut Publisher,
@@ -30,9 +30,13 @@ pub fn advance<R: Wait, L: Links>(
     requires lawful { IsLawful (server_after publisher.old) }
     requires open { AreOpenBelow (length posts.old.items) (server_after publisher.old) }
     ensures next { OnOk result ((publisher.new ≡ with_next publisher.old input) × (told.new ≡ publisher.new)) }
-    ensures messages { OnOk result (HasPut (L.list links.old) (L.list links.new) (L.failures links.new) (messages_of (outputs_after publisher.new))) }
-    ensures replies { OnOk result (HasReplied publisher.new 0 posts.old.items posts.new.items (outputs_after publisher.new)) }
-    ensures cut { OnErr result (IsCut (L.list links.old) (L.list links.new) (L.failures links.new) publisher.old told.new input) }
+    ensures messages { OnOk result
+        (HasPut (L.list links.old) (L.list links.new) (L.failures links.new)
+        (messages_of (outputs_after publisher.new))) }
+    ensures replies { OnOk result
+        (HasReplied publisher.new 0 posts.old.items posts.new.items (outputs_after publisher.new)) }
+    ensures cut { OnErr result
+        (IsCut (L.list links.old) (L.list links.new) (L.failures links.new) publisher.old told.new input) }
     ensures unreplied { OnErr result (posts.new.items ≡ posts.old.items) }
 {
     let Ok(outputs) = publisher.take(rt, input) else {

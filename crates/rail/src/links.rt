@@ -23,8 +23,8 @@ pub trait Links {
     fn failed(&self, to: u8) -> bool
         ensures { result ≡ nat_lt 0 (failures self.now to) };
 
-    /// Puts a message, after the input that made it was published. It may wait. Refused for want of memory, or because the link
-    /// fails, which then has failed from now on.
+    /// Puts a message, after the input that made it was published. It may wait. Refused for want of memory, or because
+    /// the link fails, which then has failed from now on.
     fn put(&mut self, published: &Published, to: u8, peer: &Peer) -> Result<(), RailFault>
         // The step of the last input that was published put it out.
         requires published { PutsOut published.now (To to peer.now) }

@@ -7,8 +7,8 @@ use faces::Told;
 use std::marker::Model;
 use table::Reply;
 
-/// A reply on its way to its seat, with a note of what the server had published by then. The step of the last input of these
-/// put it out, for this port. Contracts see all three (`Letter`).
+/// A reply on its way to its seat, with a note of what the server had published by then. The step of the last input of
+/// these put it out, for this port. Contracts see all three (`Letter`).
 #[derive(Drop)]
 pub struct Mail {
     port: usize,

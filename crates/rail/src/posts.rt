@@ -77,7 +77,8 @@ impl Lesson<Mail, Stamp> for Puts {
 pub struct Gets;
 
 impl Outcome<Mail, Stamp> for Gets {
-    ghost then = { λ v x w. (w ≡ record v { list = v.list ++ x ∷ [] }) × (x.told.origin ≡ v.origin) × (x.port ≡ v.port) };
+    ghost then = { λ v x w. (w ≡ record v { list = v.list ++ x ∷ [] }) × (x.told.origin ≡ v.origin)
+        × (x.port ≡ v.port) };
 }
 
 impl Lesson<Mail, Stamp> for Gets {
@@ -88,8 +89,8 @@ pub type MailSender = RuledSender<Mail, Stamp, InTurn>;
 
 pub type MailReceiver = RuledReceiver<Mail, Stamp, InTurn>;
 
-/// The worker's end of a seat's replies. Contracts see whose they are, what was put, whether one may have been handed back, and
-/// whether the end is held (`PostState`).
+/// The worker's end of a seat's replies. Contracts see whose they are, what was put, whether one may have been handed
+/// back, and whether the end is held (`PostState`).
 #[derive(Drop)]
 pub struct Post {
     // None once the worker has stopped.
@@ -155,7 +156,8 @@ pub fn open(
 ) -> Result<(Post, Letters), AllocError>
     requires { 0 < room }
     ensures post { IfOk result (λ r. r.0 ≡ post_at published.now.origin port) }
-    ensures letters { IfOk result (λ r. view r.1.pass ≡ taker (record { origin = published.now.origin; port = port }) []) }
+    ensures letters { IfOk result
+        (λ r. view r.1.pass ≡ taker (record { origin = published.now.origin; port = port }) []) }
 {
     let (to, from, mut putting) = bounded_with::<Mail, Stamp, InTurn, Global>(alloc, room)?;
     let getting = address::<Brand>(&to, &mut putting, published, port);
@@ -178,7 +180,8 @@ fn put_at<R: Wait>(to: &MailSender, pass: &mut Pass<Mail, Stamp>, rt: &R, mail: 
     requires seat { IsSeatAt (sends_on to.now) pass.old }
     requires address { view pass.old ≡ poster (address_of mail) (view pass.old).list }
     ensures seat { IsSeatAt (sends_on to.now) pass.new }
-    ensures put { MatchBool result (view pass.new ≡ poster (address_of mail) ((view pass.old).list ++ mail ∷ [])) (view pass.new ≡ view pass.old) }
+    ensures put { MatchBool result (view pass.new ≡ poster (address_of mail) ((view pass.old).list ++ mail ∷ []))
+        (view pass.new ≡ view pass.old) }
 {
     to.send_as::<Puts, R>(rt, pass, mail).is_ok()
 }
@@ -220,8 +223,8 @@ impl Letters {
         }
     }
 
-    /// The next reply, which is added to what was taken. It tries a few times, and then sleeps until one comes. Refused with
-    /// Closed where the worker has gone or stopped.
+    /// The next reply, which is added to what was taken. It tries a few times, and then sleeps until one comes. Refused
+    /// with Closed where the worker has gone or stopped.
     pub fn take<R: Wait>(&mut self, rt: &R) -> Result<Mail, RailFault>
         ensures { IsTake HasGot (view self.old.pass) (view self.new.pass) result }
     {

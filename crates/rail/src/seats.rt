@@ -16,8 +16,8 @@ use std::marker::Model;
 use std::sync::Wait;
 use table::{Call, Reply};
 
-/// A seat at a server: it submits calls, and takes their replies. Contracts see whose seat it is, what it sent, and the replies
-/// that it took (`SeatState`).
+/// A seat at a server: it submits calls, and takes their replies. Contracts see whose seat it is, what it sent, and the
+/// replies that it took (`SeatState`).
 #[derive(Drop)]
 pub struct Seat {
     port: usize,
@@ -39,7 +39,8 @@ impl Model for Seat {
 
     ghost view = { λ s. seat_of (claims.view s.letters.pass) (claims.view s.slot.pass) };
 
-    ghost invariant = { λ s. (s.port ≡ (claims.view s.letters.pass).port) × (s.port < (claims.view s.slot.pass).ports) };
+    ghost invariant = { λ s. (s.port ≡ (claims.view s.letters.pass).port)
+        × (s.port < (claims.view s.slot.pass).ports) };
 }
 
 impl Seat {
@@ -58,7 +59,8 @@ impl Seat {
     /// Sends a call to the server. The call is handed back if the worker is gone. May wait.
     pub fn submit<R: Wait>(&mut self, rt: &R, call: Call) -> Result<(), Call>
         requires { IsCall call }
-        ensures { MatchResult result (λ _. self.new ≡ with_call self.old call) (λ back. (back ≡ call) × (self.new ≡ self.old)) }
+        ensures { MatchResult result (λ _. self.new ≡ with_call self.old call)
+            (λ back. (back ≡ call) × (self.new ≡ self.old)) }
     {
         let event = Event::Took(FitInput::new(Input::Call(self.port, call)));
         match self.slot.send(rt, event) {
@@ -71,8 +73,8 @@ impl Seat {
         }
     }
 
-    /// The next reply, with a note of what the server had published by then. Refused with Closed where the worker has gone or
-    /// stopped. It may wait.
+    /// The next reply, with a note of what the server had published by then. Refused with Closed where the worker has
+    /// gone or stopped. It may wait.
     pub fn reply<R: Wait>(&mut self, rt: &R) -> Result<(Reply, Told), RailFault>
         ensures got { MatchResult result (λ r. self.new ≡ with_reply self.old r.0 r.1) (λ _. self.new ≡ self.old) }
         ensures server { IfOk result (λ r. r.1.origin ≡ self.old.origin) }

@@ -28,8 +28,9 @@ pub struct Server<R: Wait + Drop> {
     pub inlets: Vec<Inlet>,
 }
 
-/// Opens a server that begins as this node: a worker, a reader and a seat for each of so many threads, at ports 0, 1 and so on,
-/// and so many inlets. Its node may hold items already. Refused for want of memory, or where no reader could be made.
+/// Opens a server that begins as this node: a worker, a reader and a seat for each of so many threads, at ports 0, 1
+/// and so on, and so many inlets. Its node may hold items already. Refused for want of memory, or where no reader could
+/// be made.
 pub fn open<R: Wait + Drop>(
     rt: R,
     alloc: Global,
@@ -145,7 +146,8 @@ fn one_stand(
 fn all_inlets(alloc: Global, gate: &mut Gate, count: usize) -> Result<Vec<Inlet>, RailFault>
     requires few { ((view gate.old.pass).made ≤ 16) × (count ≤ 16) }
     requires gate { view gate.old.pass ≡ taker (view gate.old.pass).made (view gate.old.pass).ports [] }
-    ensures gate { IfOk result (λ _. ((view gate.new.pass).ports ≡ (view gate.old.pass).ports) × ((view gate.new.pass).got ≡ [])) }
+    ensures gate { IfOk result
+        (λ _. ((view gate.new.pass).ports ≡ (view gate.old.pass).ports) × ((view gate.new.pass).got ≡ [])) }
     ensures inlets { IfOk result (λ inlets. inlets.items ≡ replicate count []) }
 {
     let mut inlets = Vec::new(alloc);

@@ -145,7 +145,8 @@ impl<'a, R: Clock> Links for Held<'a, R> {
     }
 }
 
-// Waits until the worker is in the midst of a turn, and looks at a key that has no item. Refused if the worker got no thread.
+// Waits until the worker is in the midst of a turn, and looks at a key that has no item. Refused if the worker got no
+// thread.
 fn looks_beside<R: Clock>(
     clock: &R,
     stand: &mut Stand,

@@ -25,7 +25,8 @@ pub fn put_messages<L: Links>(
 ) -> Result<(), RailFault>
     requires step { outputs.now ≡ last_outputs published.now.origin.start published.now.inputs }
     requires fit { AreFit outputs.now }
-    ensures ok { OnOk result (HasPut (L.list links.old) (L.list links.new) (L.failures links.new) (messages_of outputs.now)) }
+    ensures ok { OnOk result
+        (HasPut (L.list links.old) (L.list links.new) (L.failures links.new) (messages_of outputs.now)) }
     // Some of the first ones were put.
     ensures err { OnErr result (HasPutFirst (L.list links.old) (L.list links.new) (L.failures links.new) outputs.now) }
 {
@@ -46,7 +47,8 @@ fn put_message<L: Links>(
 ) -> Result<(), RailFault>
     requires step { PutsOut published.now (To to peer.now) }
     requires fit { IsFit (To to peer.now) }
-    ensures ok { OnOk result (HasPut (L.list links.old) (L.list links.new) (L.failures links.new) ((to, peer.now) ∷ [])) }
+    ensures ok { OnOk result
+        (HasPut (L.list links.old) (L.list links.new) (L.failures links.new) ((to, peer.now) ∷ [])) }
     ensures err { OnErr result (L.list links.new ≡ L.list links.old) }
     ensures failures { (j : ℕ) → L.failures links.old j ≤ L.failures links.new j }
 {

@@ -30,8 +30,8 @@ pub enum Turn {
     End,
 }
 
-/// The one that owns a server's node. Contracts see what it took, what it has published, whether it goes on, and what it put for
-/// each seat (`WorkerState`).
+/// The one that owns a server's node. Contracts see what it took, what it has published, whether it goes on, and what
+/// it put for each seat (`WorkerState`).
 pub struct Worker<R: Wait + Drop> {
     rt: R,
     inbox: Inbox,
@@ -55,7 +55,12 @@ impl<R: Wait + Drop> Model for Worker<R> {
 
     ghost coded = { Prim.hlevel (codes, coded_item, coded_items, book_coded) };
 
-    ghost view = { λ w. record { taken = (claims.view w.inbox.pass).got; published = w.told; goes = is_some w.publisher; posts = w.posts.items } };
+    ghost view = { λ w. record {
+      taken = (claims.view w.inbox.pass).got;
+      published = w.told;
+      goes = is_some w.publisher;
+      posts = w.posts.items;
+    } };
 
     ghost invariant = { λ w. IsWorker w.publisher w.told w.posts.items (claims.view w.inbox.pass).ports };
 }
@@ -95,9 +100,9 @@ impl<R: Wait + Drop> Worker<R> {
         }
     }
 
-    /// Takes the first message of the inbox that wasn't taken, and waits until there is one. An input is given to the node, the
-    /// face after it is published, and only then its messages are put, and its replies. Refused with Closed where every sender is
-    /// gone, and with Memory; both stop the server.
+    /// Takes the first message of the inbox that wasn't taken, and waits until there is one. An input is given to the
+    /// node, the face after it is published, and only then its messages are put, and its replies. Refused with Closed
+    /// where every sender is gone, and with Memory; both stop the server.
     pub fn turn<L: Links>(&mut self, links: &mut L) -> Result<Turn, RailFault>
         ensures { IsTurn self.old self.new (L.list links.old) (L.list links.new) (L.failures links.new) result }
     {
@@ -110,8 +115,8 @@ impl<R: Wait + Drop> Worker<R> {
         }
     }
 
-    /// The same, if a message stands there; none otherwise. It doesn't wait for a message. It may answer none although one stands
-    /// there, while another thread is sending.
+    /// The same, if a message stands there; none otherwise. It doesn't wait for a message. It may answer none although
+    /// one stands there, while another thread is sending.
     pub fn turn_if_any<L: Links>(&mut self, links: &mut L) -> Result<Option<Turn>, RailFault>
         ensures { MayBeTurn self.old self.new (L.list links.old) (L.list links.new) (L.failures links.new) result }
     {
@@ -132,7 +137,8 @@ impl<R: Wait + Drop> Worker<R> {
     fn act<L: Links>(&mut self, message: Message, links: &mut L) -> Result<Turn, RailFault>
         requires port { IsBelow (length self.old.posts) message.event }
         ensures taken { self.new.taken ≡ self.old.taken }
-        ensures did { Did self.old self.new (L.list links.old) (L.list links.new) (L.failures links.new) message result }
+        ensures did { Did self.old self.new (L.list links.old) (L.list links.new) (L.failures links.new)
+            message result }
     {
         match message.event {
             Event::End => Ok(Turn::End),
@@ -148,7 +154,8 @@ impl<R: Wait + Drop> Worker<R> {
     fn advance<L: Links>(&mut self, input: FitInput, links: &mut L) -> Result<Turn, RailFault>
         requires port { AreCallsBelow (length self.old.posts) (input ∷ []) }
         ensures taken { self.new.taken ≡ self.old.taken }
-        ensures did { Advanced self.old self.new (L.list links.old) (L.list links.new) (L.failures links.new) input result }
+        ensures did { Advanced self.old self.new (L.list links.old) (L.list links.new) (L.failures links.new)
+            input result }
     {
         let Some(publisher) = &mut self.publisher else {
             drop(input);

@@ -1,5 +1,6 @@
 -- What is put on the links between the servers of one process.
-use Rattle.std.proofs.Common.{◌≡◌, ℕ, zero, suc, ◌+◌, ◌<◌, ◌≤◌, Bool, true, false, if◌then◌else◌, List, [], ◌∷◌, ◌++◌, length, slice_index_or, slice_set, nat_lt, refl, ap, sym, arith}
+use Rattle.std.proofs.Common.{◌≡◌, ℕ, zero, suc, ◌+◌, ◌<◌, ◌≤◌, Bool, true, false, if◌then◌else◌, List, [], ◌∷◌, ◌++◌}
+use Rattle.std.proofs.Common.{length, slice_index_or, slice_set, nat_lt, refl, ap, sym, arith}
 use Rattle.node.specs.declared.messages.Peer.{Peer}
 use Rattle.node.specs.declared.messages.Input.TheVariants.{From}
 use Rattle.rail.specs.declared.events.Event.{Event}
@@ -8,7 +9,8 @@ use Rattle.seats.specs.declared.in_process_links.Link.{Link}
 use Rattle.seats.specs.InProcessLinks.{before_last, failures_at, last_brought, last_put, sent_by, sent_on, without_last}
 
 -- after one event more the last one is that
-last_of : (to : ℕ) (i : ℕ) (peer : Peer) (es : List Event) → last_brought to (es ++ Took (From i peer) ∷ []) ≡ (to, peer) ∷ []
+last_of : (to : ℕ) (i : ℕ) (peer : Peer) (es : List Event)
+    → last_brought to (es ++ Took (From i peer) ∷ []) ≡ (to, peer) ∷ []
 last_of to i peer [] = refl
 last_of to i peer (e ∷ []) = refl
 last_of to i peer (e ∷ (f ∷ es)) = last_of to i peer (f ∷ es)
@@ -32,7 +34,8 @@ pub before_at : (i place : ℕ) (peer : Peer) (ls : List Link) (d x : Link) → 
     → before_last place (sent_on (slice_set ls place x)) ≡ sent_on ls
 before_at i place peer [] d x within more = absurd (omega (arith, within))
 before_at i zero peer (l ∷ ls) d x within more =
-    let last : without_last (sent_by x.inlet) ≡ sent_by l.inlet = rw more (without (Took (From i peer)) (sent_by l.inlet)) in
+    let last : without_last (sent_by x.inlet) ≡ sent_by l.inlet =
+    rw more (without (Took (From i peer)) (sent_by l.inlet)) in
     ap (λ es. es ∷ sent_on ls) last
 before_at i (suc place) peer (l ∷ ls) d x within more =
     ap (λ rest. sent_by l.inlet ∷ rest) (before_at i place peer ls d x (omega (arith, within)) more)
@@ -43,10 +46,14 @@ pub unsent_at : (place : ℕ) (ls : List Link) (d x : Link) → place < length l
     → sent_on (slice_set ls place x) ≡ sent_on ls
 unsent_at place [] d x within same = absurd (omega (arith, within))
 unsent_at zero (l ∷ ls) d x within same = ap (λ es. es ∷ sent_on ls) same
-unsent_at (suc place) (l ∷ ls) d x within same = ap (λ rest. sent_by l.inlet ∷ rest) (unsent_at place ls d x (omega (arith, within)) same)
+unsent_at (suc place) (l ∷ ls) d x within same =
+    ap (λ rest. sent_by l.inlet ∷ rest) (unsent_at place ls d x (omega (arith, within)) same)
 
 -- a link that has failed has failures
-pub failed_at : (place : ℕ) (ls : List Link) (x : Link) → place < length ls → x.has_failed ≡ true → 0 < failures_at (slice_set ls place x) place
+pub failed_at : (place : ℕ) (ls : List Link) (x : Link)
+    → place < length ls
+    → x.has_failed ≡ true
+    → 0 < failures_at (slice_set ls place x) place
 failed_at place [] x within bad = absurd (omega (arith, within))
 failed_at zero (l ∷ ls) x within bad = rw bad omega arith
 failed_at (suc place) (l ∷ ls) x within bad = failed_at place ls x (omega (arith, within)) bad
@@ -85,7 +92,9 @@ counts true = refl
 counts false = refl
 
 -- a link has failures exactly if it has failed
-pub tells_failed : (place : ℕ) (ls : List Link) (d : Link) → place < length ls → (slice_index_or ls place d).has_failed ≡ nat_lt 0 (failures_at ls place)
+pub tells_failed : (place : ℕ) (ls : List Link) (d : Link)
+    → place < length ls
+    → (slice_index_or ls place d).has_failed ≡ nat_lt 0 (failures_at ls place)
 tells_failed place [] d within = absurd (omega (arith, within))
 tells_failed zero (l ∷ ls) d within = sym (counts l.has_failed)
 tells_failed (suc place) (l ∷ ls) d within = tells_failed place ls d (omega (arith, within))

@@ -59,7 +59,8 @@ before_last place [] = []
 before_last zero (es ∷ rest) = without_last es ∷ rest
 before_last (suc place) (es ∷ rest) = es ∷ before_last place rest
 
--- all messages in the order in which they were put, by their receivers, the last one first, and by what each link's inlet sent
+-- all messages in the order in which they were put, by their receivers, the last one first, and by what each link's
+-- inlet sent
 abbrev pub all_put : List ℕ → List (List Event) → List (ℕ × Peer)
 all_put [] sent = []
 all_put (to ∷ earlier) sent = all_put earlier (before_last to sent) ++ last_put to to sent

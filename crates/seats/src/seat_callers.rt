@@ -76,8 +76,8 @@ impl Caller for SeatCaller {
     }
 }
 
-/// Answers a call by a clean look, or by the server. It fails if the server is marked, also after a clean look; if a call that was
-/// sent, before or now, gets no reply; or if memory is out. It may wait.
+/// Answers a call by a clean look, or by the server. It fails if the server is marked, also after a clean look; if a
+/// call that was sent, before or now, gets no reply; or if memory is out. It may wait.
 pub fn answer<R: Wait>(
     rt: &R,
     reader: &mut Reader,
@@ -89,7 +89,9 @@ pub fn answer<R: Wait>(
     requires call { IsCall call }
     requires together { seat.old.origin ≡ reader.old.origin }
     ensures together { seat.new.origin ≡ reader.new.origin }
-    ensures answered { IfOk result (λ reply. IsSeen reader.old reader.new seat.old seat.new call reply ⊎ IsSubmitted reader.old reader.new seat.old seat.new call reply) }
+    ensures answered { IfOk result
+        (λ reply. IsSeen reader.old reader.new seat.old seat.new call reply ⊎ IsSubmitted reader.old reader.new seat.old
+        seat.new call reply) }
     ensures kind { IfOk result (λ reply. is_value reply ≡ not (is_update call.op)) }
     // Nothing was sent, or nothing is sent from now on.
     ensures failed { OnErr result ((seat.new ≡ seat.old) ⊎ (lost.new ≡ true)) }

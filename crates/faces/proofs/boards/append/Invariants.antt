@@ -6,5 +6,6 @@ use Rattle.faces.proofs.boards.append.Given as goal
 abbrev pub invariant-loop-step : goal.invariant-loop-step
 invariant-loop-step l = record {
   desk : l.writer.desk ≡ l.fn.writer.desk;
-  acts : drop l.writer.behind l.writer.log.items ++ map Step (into_iter_items l.step-iterator) ≡ map Step l.fn.change.steps.items;
+  acts : drop l.writer.behind l.writer.log.items ++ map Step (into_iter_items l.step-iterator)
+      ≡ map Step l.fn.change.steps.items;
 }

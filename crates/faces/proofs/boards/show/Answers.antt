@@ -3,4 +3,5 @@ use Rattle.faces.proofs.Posting.{shows}
 use Rattle.faces.proofs.boards.show.Goals as goal
 
 pub publish_as-writer-requires : goal.publish_as-writer-requires
-publish_as-writer-requires g c next is = shows _ _ c.args.writer.desk.shown.value next (pending c.args.writer) c.requires.server c.requires.face is
+publish_as-writer-requires g c next is =
+    shows _ _ c.args.writer.desk.shown.value next (pending c.args.writer) c.requires.server c.requires.face is

@@ -14,7 +14,10 @@ returns-clause-queued c =
     elim c.if-is_none.branch [
       | then-is_none+in_ok-note w ↦
           let rising = subst (IsRising 0) w.in_ok-note.ensures.ok w.in_ok-note.ensures.rising in
-          rw (w.tombstones-is, w.in_ok-note.ensures.ok) (queued_after c.put.result m _ k v _ c.put.ensures.ok c.put.ensures.err (queued_note m _ k v c.requires.queued rising) (queued_more m _ _ c.requires.queued rising))
+          rw (w.tombstones-is, w.in_ok-note.ensures.ok)
+          (queued_after c.put.result m _ k v _ c.put.ensures.ok c.put.ensures.err
+          (queued_note m _ k v c.requires.queued rising) (queued_more m _ _ c.requires.queued rising))
       | else-is_none w ↦ rw w.tombstones-is (queued_after c.put.result m _ k v _ c.put.ensures.ok c.put.ensures.err
-          (queued_set m _ k v c.requires.queued (λ none. absurd (true≢false (sym w.if-is_none.ensures ∙ ap is_some none)))) c.requires.queued)
+          (queued_set m _ k v c.requires.queued
+          (λ none. absurd (true≢false (sym w.if-is_none.ensures ∙ ap is_some none)))) c.requires.queued)
     ]

@@ -8,4 +8,8 @@ use Rattle.rail.proofs.posts.put_at.Goals as goal
 pub send_as-requires-clause-rule : goal.send_as-requires-clause-rule
 send_as-requires-clause-rule g c =
     let pass = c.args.pass.now in
-    rw (c.requires.address) (puts (ruled_capacity (sends_on c.args.to.now)) pass.id (address_of c.args.mail) (view pass).list c.args.mail refl, λ items views h at. tt)
+    rw (c.requires.address) (
+      puts (ruled_capacity (sends_on c.args.to.now)) pass.id (address_of c.args.mail) (view pass).list c.args.mail
+          refl,
+      λ items views h at. tt,
+    )

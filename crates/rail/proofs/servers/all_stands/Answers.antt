@@ -12,10 +12,12 @@ loop-port-preserved c =
     let o = c.args.publisher.now.origin in
     let stand = c.in_ok-stand.ensures.stand ∙ ap (λ (p : Course). stand_at p.origin k) at.publisher in
     let post = c.in_ok-stand.ensures.post ∙ ap (λ (p : Course). post_at p.origin k) at.publisher in
-    let pushed : c.push-in-loop-port.new.self.items ≡ c.loop-port.posts.items ++ c.in_ok-stand.post ∷ [] = search rules in
+    let pushed : c.push-in-loop-port.new.self.items ≡ c.loop-port.posts.items ++ c.in_ok-stand.post ∷ [] =
+    search rules in
     record {
       publisher = c.one_stand.ensures.publisher ∙ at.publisher;
       gate = c.in_ok-stand.ensures.gate;
-      stands = c.in_ok-push.ensures.items ∙ ((λ i. at.stands i ++ stand i ∷ []) ∙ sym (stands_more o 0 k k (omega arith)));
+      stands =
+          c.in_ok-push.ensures.items ∙ ((λ i. at.stands i ++ stand i ∷ []) ∙ sym (stands_more o 0 k k (omega arith)));
       posts = pushed ∙ ((λ i. at.posts i ++ post i ∷ []) ∙ sym (posts_more o 0 k k (omega arith)));
     }

@@ -14,15 +14,19 @@ pub loop-k-preserved : goal.loop-k-preserved
 loop-k-preserved c =
     let posts = c.loop-k.posts.items in
     let within : c.loop-k.k < length posts = search rules in
-    let closed = subst (λ (p : PostState). HasPosted p c.close.new.self []) c.index_mut.ensures.value c.close.ensures.posted in
+    let closed =
+    subst (λ (p : PostState). HasPosted p c.close.new.self []) c.index_mut.ensures.value c.close.ensures.posted in
     record {
-      replies = λ k. replied_on k 0 c.args.posts.now.items posts _ [] [] (c.loop-k.invariant.replies k) (closed_at k 0 c.loop-k.k posts c.index_mut.result.now c.close.new.self within closed);
+      replies = λ k. replied_on k 0 c.args.posts.now.items posts _ [] [] (c.loop-k.invariant.replies k)
+          (closed_at k 0 c.loop-k.k posts c.index_mut.result.now c.close.new.self within closed);
       closed = closed_next c.loop-k.k posts c.close.new.self within c.close.ensures.closed c.loop-k.invariant.closed;
     }
 
 pub returns-clause-closed : goal.returns-clause-closed
 returns-clause-closed c =
     let posts = c.args.posts.now.items in
-    let same = length_replied (course_at nowhere) 0 posts c.loop-k.posts.items [] (c.loop-k.invariant.replies (course_at nowhere)) in
+    let same = length_replied (course_at nowhere) 0 posts c.loop-k.posts.items []
+    (c.loop-k.invariant.replies (course_at nowhere)) in
     let len : c.len-k-end.result ≡ length posts = search rules in
-    subst AreClosed (take_all c.loop-k.k c.loop-k.posts.items (subst (λ (n : ℕ). n ≤ c.loop-k.k) (len ∙ sym same) c.loop-k-test.false)) c.loop-k.invariant.closed
+    subst AreClosed (take_all c.loop-k.k c.loop-k.posts.items
+    (subst (λ (n : ℕ). n ≤ c.loop-k.k) (len ∙ sym same) c.loop-k-test.false)) c.loop-k.invariant.closed

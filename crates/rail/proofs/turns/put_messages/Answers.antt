@@ -28,14 +28,23 @@ loop-output-preserved g c =
     let outputs = c.args.outputs.now in
     let k = c.loop-output.output-index in
     elim c.match-output.branch [
-      | in-To+in_ok-put_message w ↦ rw w.links-is (put_next outputs k _ w.in-To.to w.in-To.peer (list c.args.links.now) (list c.loop-output.links) (list w.put_message.new.links) (failures c.loop-output.links) (failures w.put_message.new.links) c.loop-output-test.true
-          (sym c.output-item.is ∙ w.in-To.is) w.put_message.ensures.failures c.loop-output.invariant w.in_ok-put_message.ensures.ok)
-      | in_default w ↦ rw w.links-is (put_same outputs k _ (list c.args.links.now) (list c.loop-output.links) (failures c.loop-output.links) c.loop-output-test.true (λ to peer is. w.in_default.not-To to peer (c.output-item.is ∙ is)) c.loop-output.invariant)
+      | in-To+in_ok-put_message w ↦ rw w.links-is
+          (put_next outputs k _ w.in-To.to w.in-To.peer (list c.args.links.now) (list c.loop-output.links)
+          (list w.put_message.new.links) (failures c.loop-output.links) (failures w.put_message.new.links)
+          c.loop-output-test.true
+          (sym c.output-item.is ∙ w.in-To.is) w.put_message.ensures.failures c.loop-output.invariant
+          w.in_ok-put_message.ensures.ok)
+      | in_default w ↦ rw w.links-is
+          (put_same outputs k _ (list c.args.links.now) (list c.loop-output.links) (failures c.loop-output.links)
+          c.loop-output-test.true (λ to peer is. w.in_default.not-To to peer (c.output-item.is ∙ is))
+          c.loop-output.invariant)
     ]
 
 pub returns-clause-ok : goal.returns-clause-ok
 returns-clause-ok g c =
-    subst (λ (os : List Output). HasPut (g.L.Links.list c.args.links.now) (g.L.Links.list c.loop-output.links) (g.L.Links.failures c.loop-output.links) (messages_of os)) (take_all c.loop-output.output-index c.args.outputs.now c.loop-output-test.false) c.loop-output.invariant
+    subst (λ (os : List Output). HasPut (g.L.Links.list c.args.links.now) (g.L.Links.list c.loop-output.links)
+    (g.L.Links.failures c.loop-output.links) (messages_of os))
+    (take_all c.loop-output.output-index c.args.outputs.now c.loop-output-test.false) c.loop-output.invariant
 
 pub returns-in_err-put_message-clause-err : goal.returns-in_err-put_message-clause-err
 returns-in_err-put_message-clause-err g c =
@@ -44,6 +53,8 @@ returns-in_err-put_message-clause-err g c =
       take k c.args.outputs.now,
       drop k c.args.outputs.now,
       sym (take-append-drop k c.args.outputs.now),
-      put_failing (g.L.Links.list c.args.links.now) (g.L.Links.list c.loop-output.links) (g.L.Links.list c.put_message.new.links) (g.L.Links.failures c.loop-output.links) (g.L.Links.failures c.put_message.new.links) (messages_of (take k c.args.outputs.now))
+      put_failing (g.L.Links.list c.args.links.now) (g.L.Links.list c.loop-output.links)
+          (g.L.Links.list c.put_message.new.links) (g.L.Links.failures c.loop-output.links)
+          (g.L.Links.failures c.put_message.new.links) (messages_of (take k c.args.outputs.now))
           c.put_message.ensures.failures c.in_err-put_message.ensures.err c.loop-output.invariant,
     )

@@ -6,17 +6,22 @@ use Rattle.rail.proofs.turns.put_replies.Goals as goal
 
 pub loop-output-init : goal.loop-output-init
 loop-output-init g c =
-    let same : into_iter_items c.into_iter-output-iterator.result ≡ c.args.outputs.items = c.into_iter-output-iterator.ensures.into_iter_gives.0 in
+    let same : into_iter_items c.into_iter-output-iterator.result ≡ c.args.outputs.items =
+    c.into_iter-output-iterator.ensures.into_iter_gives.0 in
     ([], sym same, c.requires.posts, replied_none c.args.published.now 0 c.args.posts.now.items)
 
 pub put_if_reply-requires-clause-step : goal.put_if_reply-requires-clause-step
-put_if_reply-requires-clause-step g c = let all = c.loop-output.invariant in rw (← c.requires.step) (among_rest c.in-Some.output c.args.outputs.items all.0 _ _ all.1 c.in-Some.ensures.steps.0)
+put_if_reply-requires-clause-step g c = let all =
+    c.loop-output.invariant in rw (← c.requires.step)
+    (among_rest c.in-Some.output c.args.outputs.items all.0 _ _ all.1 c.in-Some.ensures.steps.0)
 
 pub put_if_reply-requires-clause-port : goal.put_if_reply-requires-clause-port
 put_if_reply-requires-clause-port g c =
     let all = c.loop-output.invariant in
-    let same : length c.loop-output.posts.items ≡ length c.args.posts.now.items = length_replied c.args.published.now 0 c.args.posts.now.items c.loop-output.posts.items all.0 all.3 in
-    subst (λ (n : ℕ). AreRepliesBelow n (c.in-Some.output ∷ [])) (sym same) (below_rest _ c.in-Some.output c.args.outputs.items all.0 _ _ all.1 c.in-Some.ensures.steps.0 c.requires.ports)
+    let same : length c.loop-output.posts.items ≡ length c.args.posts.now.items =
+    length_replied c.args.published.now 0 c.args.posts.now.items c.loop-output.posts.items all.0 all.3 in
+    subst (λ (n : ℕ). AreRepliesBelow n (c.in-Some.output ∷ [])) (sym same)
+    (below_rest _ c.in-Some.output c.args.outputs.items all.0 _ _ all.1 c.in-Some.ensures.steps.0 c.requires.ports)
 
 pub put_if_reply-requires-clause-posts : goal.put_if_reply-requires-clause-posts
 put_if_reply-requires-clause-posts g c = c.loop-output.invariant.2
@@ -27,5 +32,6 @@ loop-output-preserved g c =
       all.0 ++ c.in-Some.output ∷ [],
       one_on c.in-Some.output c.args.outputs.items all.0 _ _ all.1 c.in-Some.ensures.steps.0,
       c.put_if_reply.ensures.posts,
-      replied_on c.args.published.now 0 c.args.posts.now.items c.loop-output.posts.items c.put_if_reply.new.posts.items all.0 (c.in-Some.output ∷ []) all.3 c.put_if_reply.ensures.put,
+      replied_on c.args.published.now 0 c.args.posts.now.items c.loop-output.posts.items c.put_if_reply.new.posts.items
+          all.0 (c.in-Some.output ∷ []) all.3 c.put_if_reply.ensures.put,
     )

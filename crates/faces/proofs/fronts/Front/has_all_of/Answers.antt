@@ -10,6 +10,10 @@ returns c =
     let mine = c.self.inside.seen in
     let theirs = c.other.inside.seen in
     let both = c.learn.new.self.log in
-    let this : IsPrefix mine.log both = subst (λ (l : List Entry). IsPrefix l both) (ap (λ s. s.log) c.again-both.ensures) c.learn.ensures.2 in
-    let same = ap (λ (k : Course). k.origin.book) c.other.view_is ∙ (c.requires.server ∙ sym (ap (λ (k : Course). k.origin.book) c.self.view_is)) in
-    rw (← c.self.view_is, ← c.other.view_is) (ordered mine.book theirs.book mine.log theirs.log both c.self.inside.count c.other.inside.count same c.self.invariant.1 c.other.invariant.1 c.self.invariant.0 c.other.invariant.0 this c.learn.ensures.3)
+    let this : IsPrefix mine.log both =
+    subst (λ (l : List Entry). IsPrefix l both) (ap (λ s. s.log) c.again-both.ensures) c.learn.ensures.2 in
+    let same = ap (λ (k : Course). k.origin.book) c.other.view_is
+    ∙ (c.requires.server ∙ sym (ap (λ (k : Course). k.origin.book) c.self.view_is)) in
+    rw (← c.self.view_is, ← c.other.view_is)
+    (ordered mine.book theirs.book mine.log theirs.log both c.self.inside.count c.other.inside.count same
+    c.self.invariant.1 c.other.invariant.1 c.self.invariant.0 c.other.invariant.0 this c.learn.ensures.3)

@@ -10,5 +10,8 @@ returns c =
     let s = c.again-seen.ensures in
     let log = c.add.new.seen.log in
     let was : c.again-seen.result.log ≡ mine.log = ap (λ x. x.log) s in
-    let is : log ≡ mine.log ++ Took c.args.input.now ∷ [] = c.if-not-add.ensures.added ∙ ap (λ (l : List Entry). l ++ Took c.args.input.now ∷ []) was in
-    rw (← c.self.view_is) (longer_by mine.book c.add.new.seen.book mine.log log c.args.input.now c.self.invariant.1 (c.add.ensures.book ∙ ap (λ x. x.book) s) is)
+    let is : log ≡ mine.log ++ Took c.args.input.now ∷ [] =
+    c.if-not-add.ensures.added ∙ ap (λ (l : List Entry). l ++ Took c.args.input.now ∷ []) was in
+    rw (← c.self.view_is)
+    (longer_by mine.book c.add.new.seen.book mine.log log c.args.input.now c.self.invariant.1
+    (c.add.ensures.book ∙ ap (λ x. x.book) s) is)

@@ -11,5 +11,6 @@ compare_exchange-requires c =
       c.requires.book,
       pen.0 ∙ c.requires.book,
       offer.0,
-      rw (ap (λ w. w.key) h, pen.1, offer.1, offer.3) (adds_moves c.args.seen.now.log _ c.args.count c.requires.whole.0 c.requires.whole.1),
+      rw (ap (λ w. w.key) h, pen.1, offer.1, offer.3)
+          (adds_moves c.args.seen.now.log _ c.args.count c.requires.whole.0 c.requires.whole.1),
     )

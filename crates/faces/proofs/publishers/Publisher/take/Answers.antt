@@ -9,21 +9,32 @@ pub publish-writer-requires-clause-face : goal.publish-writer-requires-clause-fa
 publish-writer-requires-clause-face g c =
     let me = c.self.inside in
     let kept = subst (λ o. IsShowing o me.node me.log me.published) (sym c.in-Some.ensures.value) c.self.invariant in
-    face_next me.published c.in-Some-next.front me.node c.args.input c.in-Some.writer.desk.shown.value.face c.in-Ok.change.steps.items c.in-Ok.change.acked kept.0.0 kept.1.face (c.in-Some-next.ensures ∙ ap (λ (x : Course). with_next x c.args.input) c.front.ensures) c.in-Ok.ensures.face
+    face_next me.published c.in-Some-next.front me.node c.args.input c.in-Some.writer.desk.shown.value.face
+    c.in-Ok.change.steps.items c.in-Ok.change.acked kept.0.0 kept.1.face
+    (c.in-Some-next.ensures ∙ ap (λ (x : Course). with_next x c.args.input) c.front.ensures) c.in-Ok.ensures.face
 
 pub invariant_of-self-2 : goal.invariant_of-self-2
 invariant_of-self-2 g c =
     let me = c.self.inside in
     let kept = subst (λ o. IsShowing o me.node me.log me.published) (sym c.in-Some.ensures.value) c.self.invariant in
     let shown = when_ok c.publish-writer.result.1 _ _ _ c.in-Ok-shown.is c.publish-writer.ensures in
-    let next : c.in-Ok-shown.published ≡ with_next me.published c.args.input = shown.1 ∙ (c.in-Some-next.ensures ∙ ap (λ (x : Course). with_next x c.args.input) c.front.ensures) in
-    subst (λ o. IsShowing o c.step_face.new.self me.log c.in-Ok-shown.published) (sym c.replace.ensures.after)
-    ((node_next me.published c.in-Ok-shown.published me.node c.step_face.new.self c.args.input kept.0.0 next c.in-Ok.ensures.state, ap (λ (x : Course). x.origin.book) next ∙ kept.0.1), shown.0)
+    let next : c.in-Ok-shown.published ≡ with_next me.published c.args.input =
+    shown.1 ∙ (c.in-Some-next.ensures ∙ ap (λ (x : Course). with_next x c.args.input) c.front.ensures) in
+    subst (λ o. IsShowing o c.step_face.new.self me.log c.in-Ok-shown.published) (sym c.replace.ensures.after) (
+      (
+        node_next me.published c.in-Ok-shown.published me.node c.step_face.new.self c.args.input kept.0.0 next
+            c.in-Ok.ensures.state,
+        ap (λ (x : Course). x.origin.book) next ∙ kept.0.1,
+      ),
+      shown.0,
+    )
 
 pub returns-clause-outputs : goal.returns-clause-outputs
 returns-clause-outputs g c =
     let me = c.self.inside in
     let kept = subst (λ o. IsShowing o me.node me.log me.published) (sym c.in-Some.ensures.value) c.self.invariant in
     let shown = when_ok c.publish-writer.result.1 _ _ _ c.in-Ok-shown.is c.publish-writer.ensures in
-    let next : c.in-Ok-shown.published ≡ with_next me.published c.args.input = shown.1 ∙ (c.in-Some-next.ensures ∙ ap (λ (x : Course). with_next x c.args.input) c.front.ensures) in
-    outputs_of me.published c.in-Ok-shown.published me.node c.args.input c.in-Ok.outputs.items kept.0.0 next c.in-Ok.ensures.outputs
+    let next : c.in-Ok-shown.published ≡ with_next me.published c.args.input =
+    shown.1 ∙ (c.in-Some-next.ensures ∙ ap (λ (x : Course). with_next x c.args.input) c.front.ensures) in
+    outputs_of me.published c.in-Ok-shown.published me.node c.args.input c.in-Ok.outputs.items kept.0.0 next
+    c.in-Ok.ensures.outputs

@@ -7,4 +7,8 @@ use Rattle.rail.proofs.inbox.Slot.send.Goals as goal
 pub send_as-requires-clause-rule : goal.send_as-requires-clause-rule
 send_as-requires-clause-rule g c =
     let me = c.args.self.now in
-    rw (me.sends) (sends (ruled_capacity (sends_on me.to)) me.pass.id me.from (view me.pass).ports (view me.pass).put _ refl c.requires, λ items views h at. tt)
+    rw (me.sends) (
+      sends (ruled_capacity (sends_on me.to)) me.pass.id me.from (view me.pass).ports (view me.pass).put _
+          refl c.requires,
+      λ items views h at. tt,
+    )

@@ -11,5 +11,10 @@ invariant_of-result g c =
       placed = subst (λ (x : Course). ArePosts x.origin 0 c.args.posts.items) (sym told) c.requires.posts;
       as_many = sym c.requires.ports;
       closed = λ none. absurd (cc (none));
-      going = (sym told, c.requires.lawful, subst (λ (n : ℕ). AreOpenBelow n (server_after c.args.publisher)) (sym c.requires.ports) c.requires.«open»);
+      going = (
+        sym told,
+        c.requires.lawful,
+        subst (λ (n : ℕ). AreOpenBelow n (server_after c.args.publisher))
+            (sym c.requires.ports) c.requires.«open»,
+      );
     }
