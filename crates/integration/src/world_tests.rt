@@ -3,4 +3,4 @@
 mod printing;
 mod refusals;
 mod scenes;
-mod schedules;
+mod schedule_texts;
