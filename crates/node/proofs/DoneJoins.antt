@@ -39,8 +39,8 @@ use Rattle.node.proofs.RuleLaws.{same_is, sound-taken, IsPlacedAs, made-promoted
 -- ---- what is due on the way
 
 -- What holds between the steps of a join, where the successor is to be sent the entries above `from`, and `owed` says
--- what is known of
--- the predecessor; who is the tail has acknowledged the `whole` log. `old` is the view before the join.
+-- what is known of the predecessor; who is the tail has acknowledged the `whole` log. `old` is the view before the
+-- join.
 pub record IsUnderway (old : View) (from : ℕ) (owed whole : Type 0) (s : ServerState) (d : Due) : Type 0 where
   pub forwarded : (j : ℕ) → next s ≡ Some j → d.forwarded ≡ from
   pub told : (j : ℕ) → previous s ≡ Some j → owed

@@ -1,6 +1,5 @@
 -- One server's step is a list of actions, each done by a sound server that knows what the action needs, and in its
--- turn; nothing is left to
--- do after it, and what its input says is taken in.
+-- turn; nothing is left to do after it, and what its input says is taken in.
 use Rattle.std.proofs.Common.{◌≡◌, ◌≢◌, ℕ, zero, suc, ◌+◌, ◌<◌, ◌≤◌, nat_lt, nat_le, ◌==◌, ◌&&◌, Bool, true, false}
 use Rattle.std.proofs.Common.{cond, not, List, [], ◌∷◌, ◌++◌, length, Option, Some, None, inl, inr, refl, sym, ap}
 use Rattle.std.proofs.Common.{subst, ◌∙◌, arith, append-nil}

@@ -1,9 +1,7 @@
 -- A server's step as a list of single guarded actions, as a TLA+ specification has them (docs/CHAIN.md has the rules in
--- words; CRAQ,
--- "Chain Replication with Apportioned Queries" and "Failure Recovery in CRAQ"). `meaning` says of each action what is
--- known when it is
--- done, and what it makes of the server. The law `steps_are_actions` says that each step of a lawful server is such a
--- list.
+-- words; CRAQ, "Chain Replication with Apportioned Queries" and "Failure Recovery in CRAQ"). `meaning` says of each
+-- action what is known when it is done, and what it makes of the server. The law `steps_are_actions` says that each
+-- step of a lawful server is such a list.
 use Rattle.std.specs.Prelude.{◌≡◌, ◌≢◌, ℕ, ◌+◌, ◌<◌, ◌≤◌, nat_lt, Bool, true, false, not, List, [], ◌∷◌, ◌++◌}
 use Rattle.std.specs.Prelude.{slice_get, Option, Some, None, ◌⊎◌, if◌then◌else◌}
 use Rattle.table.specs.Operations.{is_update}
@@ -134,8 +132,8 @@ nothing_due s =
     record { since = s; forwarded = last_number s.store; untold = false; unsettled = []; unsent = []; unasked = [] }
 
 -- What a join makes due, from the server before it to the one whose view was widened: a new successor needs the entries
--- that aren't
--- acknowledged, a new predecessor the acknowledged number, a new head the own updates, and a new tail the own reads.
+-- that aren't acknowledged, a new predecessor the acknowledged number, a new head the own updates, and a new tail the
+-- own reads.
 abbrev pub due_to_new : ServerState → ServerState → Due
 due_to_new s t =
     record {
@@ -351,10 +349,8 @@ due_in_the_end d s (a ∷ later) = due_in_the_end (due d s a) (act s a).state la
 -- ---- steps
 
 -- what a message from server i says is taken in, by a server that doesn't know i to have failed: a head has taken an
--- update if it could,
--- an entry of the predecessor isn't the next one any more, a number of the successor is acknowledged, a query is
--- answered by the tail,
--- and an answer of the tail that is in range leaves its read closed
+-- update if it could, an entry of the predecessor isn't the next one any more, a number of the successor is
+-- acknowledged, a query is answered by the tail, and an answer of the tail that is in range leaves its read closed
 abbrev pub IsTakenIn : ℕ → Body → Outcome → Type 0
 IsTakenIn i (Op id call) a = is_head a.state ≡ true → is_update call.op ≡ true → is_taken a.state i id ≡ false
 IsTakenIn i (Forward e) a = previous a.state ≡ Some i → e.number ≢ last_number a.state.store + 1

@@ -1,6 +1,5 @@
 -- The order of the chain in a view, said by what lies between (CRAQ, "Chain Replication"; that a chain is ordered by
--- ids is this
--- project's rule).
+-- ids is this project's rule).
 use Rattle.std.specs.Prelude.{◌≡◌, ℕ, ◌<◌, ◌≤◌, true, false}
 use Rattle.node.specs.Views.{View, has}
 

@@ -55,9 +55,8 @@ abbrev pub newly_acked : ServerState → ℕ → List LogEntry
 newly_acked s n = take (n - s.store.acked) (entries_after s.store s.store.acked)
 
 -- Rise to n, a number above the acknowledged one: it becomes the acknowledged number, the own calls among the entries
--- newly passed
--- are answered in order, and then the predecessor is told (CRAQ, "Chain Replication with Apportioned Queries":
--- acknowledgements go back up the chain)
+-- newly passed are answered in order, and then the predecessor is told (CRAQ, "Chain Replication with Apportioned
+-- Queries": acknowledgements go back up the chain)
 unfoldable pub risen : ServerState → ℕ → ServerState
 risen s n = record s { store = acked_to s.store n; pend = left_open s.id s.pend (newly_acked s n) }
 
@@ -85,8 +84,7 @@ newest store (One key) = value_at store key (last_number store)
 newest store All = None
 
 -- the entry that the head makes of an update: decided with the next number (that a refused update takes a number and
--- travels
--- as an entry, and that a conditional one is decided on the newest version, are this project's rules)
+-- travels as an entry, and that a conditional one is decided on the newest version, are this project's rules)
 abbrev pub entry_of : ServerState → ℕ → ℕ → Call → LogEntry
 entry_of s origin id call =
     let decided = decision (newest s.store call.target) call.op (last_number s.store + 1) in

@@ -1,6 +1,5 @@
 -- Calls and replies at a port, the reads apart from the updates: how many calls came, how many are open, and how many
--- were
--- answered (this project's rule).
+-- were answered (this project's rule).
 use Rattle.std.specs.Prelude.{◌≡◌, ℕ, ◌<◌, ◌≤◌, Bool, false, not, ◌&&◌, ◌||◌, ◌==◌, nat_lt, List, [], ◌∷◌, count_by}
 use Rattle.std.specs.Prelude.{if◌then◌else◌}
 use Rattle.std.specs.Bool.{beq}

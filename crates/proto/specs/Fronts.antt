@@ -119,8 +119,7 @@ IsFront (Refused passing) bytes = Unit {0}
 IsFront Nothing bytes = Unit {0}
 
 -- (This serves a hidden field of the code; no public contract needs it.) What was found out about the front is so: the
--- line announces
--- a block that is to be put.
+-- line announces a block that is to be put.
 abbrev pub IsKnown : Option Pending → List ℕ → Type 0
 IsKnown None bytes = Unit {0}
 IsKnown (Some p) bytes =

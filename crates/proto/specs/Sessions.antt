@@ -21,10 +21,8 @@ use Rattle.proto.specs.Fronts.{found_at, is_last}
 use Rattle.proto.specs.Turns.{Turn, Faulty, Calls, look, none_left, form_of, fault_text, text}
 
 -- What a session holds: the bytes that no request has taken yet, the refused block that it passes over, the keys that
--- the get
--- at hand has still to read and whether it shows uniques, the form of the open call's answer, the output that was not
--- yet taken,
--- and whether it is closed.
+-- the get at hand has still to read and whether it shows uniques, the form of the open call's answer, the output that
+-- was not yet taken, and whether it is closed.
 pub record Held : Type 0 where
   pub unread : List ℕ
   pub passing : Option Passing

@@ -44,8 +44,7 @@ abbrev pub Fits : ℕ → (ℕ → Option ℕ) → (ℕ → List Event) → List
 Fits reader seat sent got ports pass v = FitsSender seat sent ports pass v × FitsTaker reader seat sent got ports pass v
 
 -- For each sender, what was taken of it and then what stands of it in the queue is what it sent. The ports of the calls
--- that
--- stand there are below the receiver's number.
+-- that stand there are below the receiver's number.
 pub record Delivers (items : List Message) (views : List Ticket) : Type 0 where
   pub reader : ℕ
   pub seat : ℕ → Option ℕ

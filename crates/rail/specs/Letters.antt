@@ -15,8 +15,7 @@ pub record Address : Type 0 where
   pub port : ℕ
 
 -- the worker's end of a seat's replies: whose they are, what was put, whether one was handed back, and whether the
--- worker holds
--- an end of their queue, without which the seat waits no longer
+-- worker holds an end of their queue, without which the seat waits no longer
 pub record PostState : Type 0 where
   pub address : Address
   pub put : List Letter

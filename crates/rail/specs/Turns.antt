@@ -42,8 +42,7 @@ abbrev pub outputs_after : Course → List Output
 outputs_after c = last_outputs c.origin.start c.inputs
 
 -- An input was refused: nothing was published or put; or the published list grew by it, and then some of the first
--- messages of
--- its step were put.
+-- messages of its step were put.
 abbrev pub IsCut : List (ℕ × Peer) → List (ℕ × Peer) → (ℕ → ℕ) → Course → Course → Input → Type 0
 IsCut before after failures c c' input =
     ((c' ≡ c) × (after ≡ before))

@@ -30,8 +30,7 @@ IsGoing (Some course) published ports =
     (course ≡ published) × IsLawful (server_after course) × AreOpenBelow ports (server_after course)
 
 -- what a worker keeps: there is a post for each seat, no end of theirs is held once the server has stopped, and what a
--- server that
--- goes on does
+-- server that goes on does
 pub record IsWorker (course : Option Course) (published : Course) (posts : List PostState) (ports : ℕ) : Type 0 where
   pub placed : ArePosts published.origin 0 posts
   pub as_many : length posts ≡ ports
@@ -47,8 +46,7 @@ pub record IsStopped (w w' : WorkerState) : Type 0 where
 
 module _ (w w' : WorkerState) (before after : List (ℕ × Peer)) (failures : ℕ → ℕ) where
   -- An input was given to a server that goes on: the published list grew by it, and then what its step put out was put:
-  -- its
-  -- messages save those on links that have failed, and its replies, each of which has a seat, save those that are
+  -- its messages save those on links that have failed, and its replies, each of which has a seat, save those that are
   -- handed back.
   pub record HasGone (input : Input) : Type 0 where
     pub going : w.goes ≡ true
@@ -65,10 +63,8 @@ module _ (w w' : WorkerState) (before after : List (ℕ × Peer)) (failures : �
     pub messages : after ≡ before
 
   -- An input was refused for want of memory, and the server is stopped from now on. Nothing was published or put; or
-  -- the
-  -- published list grew by the input, and then some of the first messages of its step were put. Nothing was replied,
-  -- and no seat's
-  -- end is held.
+  -- the published list grew by the input, and then some of the first messages of its step were put. Nothing was
+  -- replied, and no seat's end is held.
   pub record WasCut (input : Input) : Type 0 where
     pub going : w.goes ≡ true
     pub stopped : w'.goes ≡ false

@@ -90,8 +90,7 @@ AreEventLines (said ∷ more) (line ∷ later) = IsEventLine said line × AreEve
 AreEventLines said others = ⊥
 
 -- A text spells a schedule. Of its lines that count the first is `servers N`, the second is `homes H ..`, and each
--- further
--- one is of events: those of one line follow those of the line before it.
+-- further one is of events: those of one line follow those of the line before it.
 pub record SpellsSchedule (text : List ℕ) (schedule : ScheduleShown) : Type 0 where
   pub all : List (List ℕ)
   pub first : List ℕ

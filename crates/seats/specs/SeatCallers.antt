@@ -39,8 +39,7 @@ exchanged seat call reply told =
     }
 
 -- The server is the one who replied: the call was sent, once, and one reply was taken, which the server had put out for
--- this
--- seat; the reader has seen all that the server had published by then.
+-- this seat; the reader has seen all that the server had published by then.
 pub record IsSubmitted (before after : Course) (seat then : SeatState) (call : Call) (reply : Reply) : Type 0 where
   pub told : Course
   pub later : IsLater before after

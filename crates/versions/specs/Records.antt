@@ -1,6 +1,5 @@
 -- Serves the fields of the code; no public contract needs it. How they stand for what a store holds: a record for each
--- key,
--- and the numbers of the clears.
+-- key, and the numbers of the clears.
 use Rattle.std.specs.Prelude.{◌≡◌, ℕ, ◌+◌, ◌-◌, length, Bool, cond, nat_lt, List, [], ◌∷◌, ◌++◌, Option, None, Some}
 use Rattle.std.specs.Prelude.{if◌then◌else◌}
 use Rattle.std.specs.FinMap as map

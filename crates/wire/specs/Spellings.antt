@@ -105,8 +105,7 @@ spelling (Peer peer) = 2 ∷ kind_of peer.body ∷ (to_be_bytes w16 peer.view ++
 spelling (Gone id) = 2 ∷ 6 ∷ id ∷ []
 
 -- A frame whose fields are in the ranges that no type keeps: a server has an id below 16, and 16 is the master, who may
--- greet
--- and is never gone; a message is one that may be sent.
+-- greet and is never gone; a message is one that may be sent.
 abbrev pub IsInRange : Frame → Type 0
 IsInRange (Hello id) = id ≤ 16
 IsInRange (Peer peer) = IsSendable peer.body

@@ -1,6 +1,5 @@
 -- What a step makes of the own updates, one case an action: they stay numbered in order, what is new goes to the head,
--- and who is the head has
--- taken them all, as long as numbers are left.
+-- and who is the head has taken them all, as long as numbers are left.
 use Rattle.std.proofs.Common.{◌≡◌, ◌≢◌, ℕ, zero, suc, ◌+◌, ◌<◌, ◌≤◌, ◌==◌, nat_lt, not, ◌||◌, max, Bool, true, false}
 use Rattle.std.proofs.Common.{cond, List, [], ◌∷◌, ◌++◌, length, slice_index_or, Option, Some, None, refl, arith, ◌⊎◌}
 use Rattle.std.proofs.Common.{inl, inr, ap, sym, subst, ◌∙◌, append_assoc}

@@ -48,8 +48,7 @@ abbrev pub unacked : StoreState → List LogEntry
 unacked s = entries_after s s.acked
 
 -- ids up to some number are answered; those behind it up to the last one that was issued wait; and the entries that
--- wait
--- for their acknowledgement have ids behind it too, up to the greatest seen
+-- wait for their acknowledgement have ids behind it too, up to the greatest seen
 pub record AreOwn (next_id seen : ℕ) (waits takes : List ℕ) : Type 0 where
   pub answered : ℕ
   pub last : ℕ

@@ -1,8 +1,7 @@
 -- What a step tells a server's neighbours, and what it asks of the tail, one case an action: the successor gets the new
--- entries, or if it is
--- a new one all entries that weren't acknowledged; the predecessor the acknowledged number, if that or itself is new;
--- and each read that
--- is open after it was open under the same tail, or a query for it is put out.
+-- entries, or if it is a new one all entries that weren't acknowledged; the predecessor the acknowledged number, if
+-- that or itself is new; and each read that is open after it was open under the same tail, or a query for it is put
+-- out.
 use Rattle.std.proofs.Common.{◌≡◌, ℕ, ◌≤◌, Bool, true, false, cond, not, List, [], ◌∷◌, ◌++◌, Option, Some, None, refl}
 use Rattle.std.proofs.Common.{sym, ap, subst, ◌∙◌, arith, inl, inr, ◌⊎◌}
 use Rattle.std.proofs.lemmas.Bool.{cond_both, cases_eq, cases_Bool, both_ways, eq-eqb, ne_eqb, false_from_ne_true}

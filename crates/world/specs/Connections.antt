@@ -49,9 +49,9 @@ begun_by (None, left) k = record k { session = left }
 begun_by (Some (Faulty fault), left) k = record k { session = left }
 begun_by (Some (Calls call form), left) k = record k { session = left; calls = k.calls ++ call ∷ []; stage = Begun }
 
--- if no call is open, faults are passed and their texts written until a call stands in turn, which begins,
--- or the session closes, or no whole request is left
--- (here and below, the first argument is the stage at which the connection k stands)
+-- if no call is open, faults are passed and their texts written until a call stands in turn, which begins, or the
+-- session closes, or no whole request is left (here and below, the first argument is the stage at which the connection
+-- k stands)
 abbrev pub begun : Stage → Connection → Connection
 begun Idle k = begun_by (past_faults k.session) k
 begun Begun k = k

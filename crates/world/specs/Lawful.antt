@@ -1,6 +1,5 @@
 -- Serves the fields of the code; no public contract needs it. What holds of a connection's fields at every moment: its
--- open call
--- is its session's.
+-- open call is its session's.
 use Rattle.std.specs.Prelude.{◌≡◌, ◌+◌, List, length, Option, None, Some, slice_get}
 use Rattle.table.specs.declared.operations.Call.{Call}
 use Rattle.table.specs.declared.operations.Reply.{Reply}
