@@ -10,15 +10,14 @@ use Rattle.table.specs.declared.operations.Reply.{Reply}
 use Rattle.table.specs.declared.operations.Reply.TheVariants.{Value}
 use Rattle.table.specs.declared.items.Item.{Item}
 use Rattle.versions.specs.Entries.{LogEntry}
-use Rattle.versions.specs.Stores.{IsLog}
 use Rattle.node.specs.declared.servers.OpenUpdate.{OpenUpdate}
 use Rattle.node.specs.declared.servers.OpenRead.{OpenRead}
 use Rattle.node.specs.declared.messages.Body.{Body}
 use Rattle.node.specs.declared.messages.Output.{Output}
 use Rattle.node.specs.Servers.{ServerState, message_to, reply_at}
-use Rattle.node.specs.Numbering.{open_update, without_update, left_open_by, left_open, replied, reply_to, replies}
+use Rattle.node.specs.Numbering.{open_update, without_update, left_open_by, replied, reply_to, replies}
 use Rattle.node.specs.Reading.{open_read, without_read}
-use Rattle.node.specs.Replies.{replies_at, is_reply_at}
+use Rattle.node.specs.Replies.{replies_at}
 
 pub count-cons : {X : Type 0} (test : X → Bool) (x : X) (xs : List X)
     → count_by test (x ∷ xs) ≡ cond (test x) 1 0 + count_by test xs
@@ -88,7 +87,8 @@ module _ (port : ℕ) where
   closed (u ∷ us) id reply no_item = first_closed (u.id == id) u us (without_update us id) (open_update us id) reply
       no_item (closed us id reply no_item)
 
-  closed_by : (own : ℕ) (us : List OpenUpdate) (e : LogEntry)
+  -- an entry's reply closes what is open no longer
+  pub closed_by : (own : ℕ) (us : List OpenUpdate) (e : LogEntry)
       → is_value e.reply ≡ false
       → updates_of (left_open_by own us e) + replies_at port false (reply_to own us e) ≡ updates_of us
   closed_by own us e no_item = own_or_not (e.origin == own)
@@ -99,22 +99,7 @@ module _ (port : ℕ) where
       own_or_not true = closed us e.id e.reply no_item
       own_or_not false = omega arith
 
-  -- the replies to a log's entries close what is open no longer
-  pub updates_closed : (own : ℕ) (es : List LogEntry) (us : List OpenUpdate) (before : ℕ)
-      → IsLog before es
-      → updates_of (left_open own us es) + replies_at port false (replies own us es) ≡ updates_of us
-  unfolding left_open replies
-  updates_closed own [] us before log = omega arith
-  updates_closed own (e ∷ es) us before log =
-      let more = updates_closed own es (left_open_by own us e) (before + 1) log.2 in
-      omega (
-        arith,
-        more,
-        closed_by own us e log.0.answered,
-        count-append (is_reply_at port false) (reply_to own us e) (replies own (left_open_by own us e) es),
-      )
-
-  -- none of them answers a read
+  -- it answers no read
   no_item : (reply : Reply) (found : Option OpenUpdate)
       → is_value reply ≡ false
       → replies_at port true (replied reply found) ≡ 0
@@ -122,21 +107,11 @@ module _ (port : ℕ) where
   no_item reply (Some u) h =
       one-reply port true u.port reply ∙ ap (λ k. cond (beq true k) (cond (u.port == port) 1 0) 0) h
 
-  pub no_reads_closed : (own : ℕ) (es : List LogEntry) (us : List OpenUpdate) (before : ℕ)
-      → IsLog before es
-      → replies_at port true (replies own us es) ≡ 0
-  unfolding replies
-  no_reads_closed own [] us before log = refl
-  no_reads_closed own (e ∷ es) us before log =
-      let first : replies_at port true (reply_to own us e) ≡ 0 =
-      cond_both (e.origin == own) _ _ (λ (os : List Output). replies_at port true os ≡ 0)
-      (λ t. no_item e.reply (open_update us e.id) log.0.answered) (λ f. refl) in
-      omega (
-        arith,
-        first,
-        no_reads_closed own es (left_open_by own us e) (before + 1) log.2,
-        count-append (is_reply_at port true) (reply_to own us e) (replies own (left_open_by own us e) es),
-      )
+  pub no_read_closed : (own : ℕ) (us : List OpenUpdate) (e : LogEntry)
+      → is_value e.reply ≡ false
+      → replies_at port true (reply_to own us e) ≡ 0
+  no_read_closed own us e plain = cond_both (e.origin == own) _ _ (λ (os : List Output). replies_at port true os ≡ 0)
+      (λ t. no_item e.reply (open_update us e.id) plain) (λ f. refl)
 
   -- ---- reads
 

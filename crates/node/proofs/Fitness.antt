@@ -38,7 +38,7 @@ sendable_fits (Answer ask n) h = tt
 abbrev IsGiven : Cause → Type 0
 IsGiven c = (input : Input) → c ≡ Some input → IsInput input
 
-log_entry : (floor k : ℕ) (es : List LogEntry) (e : LogEntry) → IsLog floor es → slice_get es k ≡ Some e → IsEntry e
+pub log_entry : (floor k : ℕ) (es : List LogEntry) (e : LogEntry) → IsLog floor es → slice_get es k ≡ Some e → IsEntry e
 log_entry floor k [] e log h = absurd cc
 log_entry floor zero (x ∷ es) e log h = subst (λ y. IsEntry y) (same_Some x e h) log.0
 log_entry floor (suc k) (x ∷ es) e log h = log_entry (floor + 1) k es e log.2 h

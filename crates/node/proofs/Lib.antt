@@ -13,11 +13,6 @@ pub mod Retaking
 pub mod Rejoining
 pub mod Addresses
 pub mod StepAddresses
-pub mod Counts
-pub mod Closing
-pub mod StepCloses
-pub mod RunLaws
-pub mod PortLaws
 pub mod FaceLaws
 pub mod Growth
 pub mod FaceChanges
@@ -33,3 +28,8 @@ pub mod DoneRules
 pub mod DoneJoins
 pub mod DoneSteps
 pub mod Fitness
+pub mod Counts
+pub mod Closing
+pub mod StepCloses
+pub mod RunLaws
+pub mod PortLaws

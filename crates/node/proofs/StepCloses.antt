@@ -1,9 +1,8 @@
 -- Each reply of a step closes an open call of its port and kind, or answers the input's own call.
-use Rattle.std.proofs.Common.{◌≡◌, ℕ, ◌+◌, ◌<◌, nat_lt, nat_le, ◌==◌, ◌&&◌, Bool, true, false, cond, not, List, Option}
+use Rattle.std.proofs.Common.{◌≡◌, ℕ, ◌+◌, nat_lt, ◌==◌, Bool, true, false, cond, List, [], ◌∷◌}
 use Rattle.std.proofs.Common.{Some, None, refl, sym, ap, ◌∙◌, arith}
 use Rattle.std.specs.Bool.{beq}
-use Rattle.std.proofs.lemmas.Bool.{cond_both, and_parts, eqb-false, eqb-true, not-true, ltb-true}
-use Rattle.table.specs.declared.items.Item.{Item}
+use Rattle.std.proofs.lemmas.Bool.{cond_both}
 use Rattle.table.specs.declared.operations.Call.{Call}
 use Rattle.table.specs.declared.operations.Target.{Target}
 use Rattle.table.specs.declared.operations.Target.TheVariants.{One, All}
@@ -12,143 +11,22 @@ use Rattle.table.specs.Operations.{is_update}
 use Rattle.versions.specs.Stores.{last_number, value_at, is_clean}
 use Rattle.node.specs.declared.servers.OpenUpdate.{OpenUpdate}
 use Rattle.node.specs.declared.servers.OpenRead.{OpenRead}
-use Rattle.node.specs.declared.messages.Body.{Body}
-use Rattle.node.specs.declared.messages.Body.TheVariants.{Op, Forward, Ack, Query, Answer}
-use Rattle.node.specs.declared.messages.Peer.{Peer}
+use Rattle.node.specs.declared.messages.Body.TheVariants.{Query}
 use Rattle.node.specs.declared.messages.Input.{Input}
 use Rattle.node.specs.declared.messages.Input.TheVariants.{Call as Called, From, Gone}
-use Rattle.node.specs.Views.{View, has, single, adds, is_below, is_that}
-use Rattle.node.specs.Servers.{ServerState, Outcome, most, head_of, tail_of, is_head, is_tail, previous, next, silent}
-use Rattle.node.specs.Servers.{putting, and_then, message_to, reply_at}
+use Rattle.node.specs.Servers.{ServerState, Outcome, most, tail_of, silent}
+use Rattle.node.specs.Servers.{putting, message_to, reply_at}
 use Rattle.node.specs.Numbering.{entered, is_room_for_update, called, update}
-use Rattle.node.specs.Reading.{asked, dirty_read, read_of, open_read, without_read, answered}
-use Rattle.node.specs.Joining.{widened, promoted_to_head, promoted_to_tail, caught_up, acked_to_predecessor}
-use Rattle.node.specs.Joining.{asks_renewed, rejoined, join}
-use Rattle.node.specs.Steps.{call, gone, receive, received, is_heard, from_peer, taken_in, trimmed, step}
-use Rattle.node.specs.Lawful.{IsCall, IsBody, IsInput, HasEntry, HoldsEntry, IsSound, IsLawful}
+use Rattle.node.specs.Reading.{asked, dirty_read, read_of}
+use Rattle.node.specs.Steps.{call, taken_in, trimmed, step}
+use Rattle.node.specs.Lawful.{IsCall, IsInput, HoldsEntry, IsLawful}
 use Rattle.node.specs.Replies.{replies_at, open_at, opened_at, is_room_for_read}
-use Rattle.node.proofs.ViewLaws.{has-single_other, below-single}
-use Rattle.node.proofs.SoundLaws.{sound-widened, sound-entered}
-use Rattle.node.proofs.RuleLaws.{IsGood, made-promoted_to_head, heard, good-join}
-use Rattle.node.proofs.Counts.{count-push, counted, none_in-message, one-reply, no-update, one-read, read_closed}
-use Rattle.node.proofs.Closing.{Closes, IsStill, closes-silent, closes-to, closes-then, closes-from, closes-rise}
-use Rattle.node.proofs.Closing.{closes-append_passed, closes-take_update, closes-promoted_to_head}
-use Rattle.node.proofs.Closing.{closes-promoted_to_tail, closes-caught_up, closes-acked_to_predecessor}
-use Rattle.node.proofs.Closing.{closes-asks_renewed}
-
--- ---- joining
-
-closes-rejoined : (old : View) (n m : ℕ) (s : ServerState) → IsSound s → Closes s (rejoined old n m s)
-closes-rejoined old n m s h =
-    let t2 = (promoted_to_head old s).state in
-    let t3 = (promoted_to_tail t2).state in
-    let t4 = (caught_up old n t3).state in
-    let t5 = (acked_to_predecessor old m t4).state in
-    let second = closes-then s (promoted_to_head old s) promoted_to_tail (closes-promoted_to_head old s)
-    (closes-promoted_to_tail t2 (made-promoted_to_head old s h).sound) in
-    let third = closes-then s (and_then (promoted_to_head old s) promoted_to_tail) (caught_up old n) second
-    (closes-caught_up old n t3) in
-    let fourth = closes-then s (and_then (and_then (promoted_to_head old s) promoted_to_tail) (caught_up old n))
-    (acked_to_predecessor old m) third (closes-acked_to_predecessor old m t4) in
-    closes-then s (and_then (and_then (and_then (promoted_to_head old s) promoted_to_tail) (caught_up old n))
-    (acked_to_predecessor old m)) (asks_renewed old) fourth (closes-asks_renewed old t5)
-
-still-widened : (s : ServerState) (v : View) → IsStill s (widened s v)
-unfolding widened
-still-widened s v = record { id = refl; count = refl; calls = λ port reads. refl }
-
-closes-join : (s : ServerState) (v : View)
-    → is_below v s.count ≡ true
-    → has v s.id ≡ false
-    → IsSound s
-    → Closes s (join s v)
-closes-join s v below out h = cond_both (not (adds s.view v)) _ _ (λ (a : Outcome). Closes s a)
-    (λ t. closes-silent s)
-    (λ f. closes-from s (widened s v) _ (still-widened s v)
-    (closes-rejoined s.view (last_number s.store) s.store.acked (widened s v) (sound-widened s v below out h)))
-
--- ---- messages and notices
-
--- the read of an ask is answered
-closes-read : (s : ServerState) (ask n : ℕ) (r : OpenRead)
-    → open_read s.asks ask ≡ Some r
-    → Closes s (record {
-      state = record s { asks = without_read s.asks ask };
-      outputs = reply_at r.port (Value (value_at s.store r.key n));
-    })
-closes-read s ask n r is = record { id = refl; count = refl; calls = calls }
-  where
-    item : Option Item
-    item = value_at s.store r.key n
-
-    calls : (port : ℕ) (reads : Bool)
-        → open_at port reads (record s { asks = without_read s.asks ask }) + replies_at port reads
-        (reply_at r.port (Value item)) ≡ open_at port reads s
-    calls port true = omega (arith, read_closed port s.asks ask r is, one-read port r.port item)
-    calls port false = omega (arith, no-update port r.port item)
-
-closes-answered : (s : ServerState) (ask n : ℕ) (found : Option OpenRead)
-    → open_read s.asks ask ≡ found
-    → Closes s (answered s ask n found)
-unfolding answered
-closes-answered s ask n None is = closes-silent s
-closes-answered s ask n (Some r) is = cond_both (nat_le r.mark n && nat_le n (last_number s.store)) _ _
-    (λ (a : Outcome). Closes s a) (λ t. closes-read s ask n r is) (λ f. closes-silent s)
-
-closes-receive : (s : ServerState) (i : ℕ) (body : Body)
-    → i < 16
-    → IsBody body
-    → HasEntry body
-    → IsSound s
-    → Closes s (receive s i body)
-closes-receive s i (Op id made) low fit valid h =
-    cond_both (is_head s && is_update made.op) _ _ (λ (a : Outcome). Closes s a)
-    (λ t. closes-take_update s i id made low fit (and_parts (is_head s) (is_update made.op) t).1 h)
-    (λ f. closes-silent s)
-closes-receive s i (Forward e) low fit valid h =
-    cond_both (is_that (previous s) i && e.number == last_number s.store + 1) _ _ (λ (a : Outcome). Closes s a)
-    (λ t. closes-append_passed s e valid
-    (eqb-true _ _ (and_parts (is_that (previous s) i) (e.number == last_number s.store + 1) t).1) h)
-    (λ f. closes-silent s)
-closes-receive s i (Ack n) low fit valid h =
-    cond_both (is_that (next s) i && nat_lt s.store.acked n && nat_le n (last_number s.store)) _ _
-    (λ (a : Outcome). Closes s a) (λ t. closes-rise s n h) (λ f. closes-silent s)
-closes-receive s i (Query ask key) low fit valid h =
-    cond_both (is_tail s) _ _ (λ (a : Outcome). Closes s a)
-    (λ t. closes-to s (Some i) (Answer ask (last_number s.store))) (λ f. closes-silent s)
-closes-receive s i (Answer ask n) low fit valid h = cond_both (is_that (tail_of s) i) _ _ (λ (a : Outcome). Closes s a)
-    (λ t. closes-answered s ask n (open_read s.asks ask) refl) (λ f. closes-silent s)
-
-closes-received : (s : ServerState) (i : ℕ) (body : Body)
-    → i < 16
-    → IsBody body
-    → HasEntry body
-    → IsSound s
-    → Closes s (received s i body)
-closes-received s i body low fit valid h =
-    cond_both (has s.view i) _ _ (λ (a : Outcome). Closes s a) (λ t. closes-silent s)
-    (λ f. closes-receive s i body low fit valid h)
-
-closes-from_peer : (s : ServerState) (i : ℕ) (peer : Peer)
-    → IsBody peer.body
-    → HasEntry peer.body
-    → IsGood s
-    → Closes s (from_peer s i peer)
-closes-from_peer s i peer fit valid g = cond_both (is_heard s i peer.view) _ _ (λ (a : Outcome). Closes s a)
-    (λ t.
-    let from = heard s i peer.view t in
-    closes-then s (join s peer.view) (λ t. received t i peer.body)
-    (closes-join s peer.view from.below from.outside g.sound)
-    (closes-received (join s peer.view).state i peer.body (omega (arith, from.placed, g.sound.counted)) fit valid
-    (good-join s peer.view from.below from.outside g).sound))
-    (λ f. closes-silent s)
-
-closes-gone : (s : ServerState) (j : ℕ) → IsSound s → Closes s (gone s j)
-closes-gone s j h = cond_both (nat_lt j s.count && not (j == s.id)) _ _ (λ (a : Outcome). Closes s a)
-    (λ t. (let parts = and_parts (nat_lt j s.count) (not (j == s.id)) t in
-    closes-join s (single j) (below-single j s.count (ltb-true _ _ parts.0))
-    (has-single_other j s.id (λ same. eqb-false j s.id (not-true _ parts.1) (sym same))) h))
-    (λ f. closes-silent s)
+use Rattle.node.specs.Actions.{nothing_due}
+use Rattle.node.proofs.SoundLaws.{sound-entered}
+use Rattle.node.proofs.Counts.{count-push, counted, none_in-message, one-reply}
+use Rattle.node.proofs.DoneRules.{entered_in, clear_paid, clear_entered, rule_called}
+use Rattle.node.proofs.DoneSteps.{paid_nothing, rule_taken_in}
+use Rattle.node.proofs.Closing.{Closes, closes-done}
 
 -- ---- own calls
 
@@ -199,14 +77,18 @@ place-entered : (s : ServerState) (p : ℕ) (made : Call)
 unfolding entered
 place-entered s p made = (refl, refl)
 
-closes-called : (s : ServerState) (id : ℕ) (made : Call)
+closes-called : (s : ServerState) (port : ℕ) (made : Call)
     → IsCall made
     → is_update made.op ≡ true
-    → IsSound s
-    → Closes s (called s id made)
-closes-called s id made fit is h = cond_both (is_head s) _ _ (λ (a : Outcome). Closes s a)
-    (λ t. closes-take_update s s.id id made (omega (arith, h.placed, h.counted)) fit is h)
-    (λ f. closes-to s (head_of s) (Op id made))
+    → IsLawful s
+    → Closes (entered s port made) (called (entered s port made) s.next_id made)
+closes-called s port made fit is h =
+    let u : OpenUpdate = record { id = s.next_id; port = port; call = made } in
+    closes-done None (entered s port made) _ (λ p x e. let none = e in cc)
+    (rule_called None (entered s port made) (record (nothing_due s) { unsent = u ∷ [] }) s.next_id port made
+    (sound-entered s port made fit is h.sound)
+    (clear_entered s (nothing_due s) port made (u ∷ []) (clear_paid s (nothing_due s) (paid_nothing s h.settled))) fit
+    is (entered_in s port made) refl).done
 
 answers-entered : (s : ServerState) (p : ℕ) (made : Call) (a : Outcome)
     → is_update made.op ≡ true
@@ -230,11 +112,10 @@ answers-silent s input none =
 answers-update : (s : ServerState) (p : ℕ) (made : Call)
     → IsCall made
     → is_update made.op ≡ true
-    → IsSound s
+    → IsLawful s
     → Answers s (Called p made) (update s p made)
 answers-update s p made fit is h = cond_both (is_room_for_update s) _ _ (λ (a : Outcome). Answers s (Called p made) a)
-    (λ t. answers-entered s p made _ is t
-    (closes-called (entered s p made) s.next_id made fit is (sound-entered s p made fit is h)))
+    (λ t. answers-entered s p made _ is t (closes-called s p made fit is h))
     (λ f. answers-silent s (Called p made) (λ port reads. opened-no_update s p made port reads is f))
 
 -- ---- reads
@@ -308,7 +189,7 @@ answers-read_of s p made All on is =
 
 answers-call : (s : ServerState) (p : ℕ) (made : Call)
     → IsCall made
-    → IsSound s
+    → IsLawful s
     → Answers s (Called p made) (call s p made)
 answers-call s p made fit h = cond_both (is_update made.op) _ _ (λ (a : Outcome). Answers s (Called p made) a)
     (λ t. answers-update s p made fit t h)
@@ -325,12 +206,16 @@ answers-closed s input a none g =
 answers-taken_in : (s : ServerState) (input : Input)
     → IsInput input
     → HoldsEntry input
-    → IsGood s
+    → IsLawful s
     → Answers s input (taken_in s input)
-answers-taken_in s (Called p made) fit valid g = answers-call s p made fit g.sound
-answers-taken_in s (From i peer) fit valid g =
-    answers-closed s (From i peer) _ (λ port reads. refl) (closes-from_peer s i peer fit valid g)
-answers-taken_in s (Gone j) fit valid g = answers-closed s (Gone j) _ (λ port reads. refl) (closes-gone s j g.sound)
+answers-taken_in s (Called p made) fit valid h = answers-call s p made fit h
+answers-taken_in s (From i peer) fit valid h =
+    answers-closed s (From i peer) _ (λ port reads. refl)
+    (closes-done (Some (From i peer)) s _ (λ p made e. let no = e in cc)
+    (rule_taken_in s (From i peer) h fit valid).done)
+answers-taken_in s (Gone j) fit valid h =
+    answers-closed s (Gone j) _ (λ port reads. refl)
+    (closes-done (Some (Gone j)) s _ (λ p made e. let no = e in cc) (rule_taken_in s (Gone j) h fit valid).done)
 
 trimmed_answers : (s : ServerState) (input : Input) (a : Outcome)
     → Answers s input a
@@ -344,6 +229,4 @@ pub answers-step : (s : ServerState) (input : Input)
     → HoldsEntry input
     → IsLawful s
     → Answers s input (step s input)
-answers-step s input fit valid h =
-    trimmed_answers s input (taken_in s input)
-    (answers-taken_in s input fit valid (record { sound = h.sound; settled = h.settled }))
+answers-step s input fit valid h = trimmed_answers s input (taken_in s input) (answers-taken_in s input fit valid h)
