@@ -39,7 +39,7 @@ impl Link {
     }
 
     /// Puts a message at the end.
-    #[tactic(auto, using(crate::proofs::LinkLists::messages_more))]
+    #[tactic(auto, using(crate::proofs::bodies::LinkLists::messages_more))]
     pub fn push(&mut self, message: Peer) -> Result<(), AllocError>
         requires message { IsBody message.body }
         ensures ok { OnOk result (self.new ≡ self.old ++ message ∷ []) }

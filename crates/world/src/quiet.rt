@@ -17,7 +17,7 @@ impl World {
     }
 
     // Whether no message waits for a living server, and no failure that it doesn't know.
-    #[tactic(auto, using(crate::proofs::AllBelow::all_more, crate::proofs::AllBelow::all_broken))]
+    #[tactic(auto, using(crate::proofs::bodies::AllBelow::all_more, crate::proofs::bodies::AllBelow::all_broken))]
     fn are_servers_quiet(&self) -> bool
         ensures { result ≡ all_below (length self.now.servers)
             (λ j. not (lives self.now j) || is_server_quiet self.now j) }
@@ -39,7 +39,7 @@ impl World {
     }
 
     // Whether no link to server j holds a message.
-    #[tactic(auto, using(crate::proofs::AllBelow::all_more, crate::proofs::AllBelow::all_broken), unfolding(crate::specs::Worlds::link))]
+    #[tactic(auto, using(crate::proofs::bodies::AllBelow::all_more, crate::proofs::bodies::AllBelow::all_broken), unfolding(crate::specs::Worlds::link))]
     fn is_unreached(&self, j: usize) -> bool
         ensures { result ≡ all_below (length self.now.servers) (λ i. is_empty (link self.now i j)) }
     {

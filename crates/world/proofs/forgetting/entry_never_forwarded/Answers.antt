@@ -1,4 +1,4 @@
-use Rattle.world.proofs.WorkedForgetting.{unforwarded_shown, unforwarded_forgets, forwarded_waits}
+use Rattle.world.proofs.examples.WorkedForgetting.{unforwarded_shown, unforwarded_forgets, forwarded_waits}
 use Rattle.world.proofs.forgetting.entry_never_forwarded.Goals as goal
 
 pub returns-clause-transcript : goal.returns-clause-transcript

@@ -1,4 +1,4 @@
-use Rattle.world.proofs.WorkedForgetting.{missed_shown, missed_forgets, sent_waits}
+use Rattle.world.proofs.examples.WorkedForgetting.{missed_shown, missed_forgets, sent_waits}
 use Rattle.world.proofs.forgetting.new_successor_misses_backlog.Goals as goal
 
 pub returns-clause-transcript : goal.returns-clause-transcript

@@ -1,4 +1,4 @@
-use Rattle.world.proofs.WorkedForgetting.{silent_shown, silent_forgets, acknowledged_waits}
+use Rattle.world.proofs.examples.WorkedForgetting.{silent_shown, silent_forgets, acknowledged_waits}
 use Rattle.world.proofs.forgetting.new_tail_keeps_silent.Goals as goal
 
 pub returns-clause-transcript : goal.returns-clause-transcript

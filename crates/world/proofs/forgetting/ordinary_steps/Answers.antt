@@ -1,4 +1,4 @@
-use Rattle.world.proofs.OrdinarySteps.{steps_as_ever, run_as_ever}
+use Rattle.world.proofs.examples.OrdinarySteps.{steps_as_ever, run_as_ever}
 use Rattle.world.proofs.forgetting.ordinary_steps.Goals as goal
 
 pub returns-clause-step : goal.returns-clause-step

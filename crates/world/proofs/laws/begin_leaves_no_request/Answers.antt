@@ -1,4 +1,4 @@
-use Rattle.world.proofs.Progress.{begin_passes_all, begin_closes}
+use Rattle.world.proofs.courses.Progress.{begin_passes_all, begin_closes}
 use Rattle.world.proofs.laws.begin_leaves_no_request.Goals as goal
 
 pub returns-clause-passed : goal.returns-clause-passed

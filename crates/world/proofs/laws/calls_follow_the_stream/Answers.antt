@@ -1,4 +1,4 @@
-use Rattle.world.proofs.CoursesRun.{begun_is, answered_is}
+use Rattle.world.proofs.courses.CoursesRun.{begun_is, answered_is}
 use Rattle.world.proofs.laws.calls_follow_the_stream.Goals as goal
 
 pub returns-clause-begun : goal.returns-clause-begun

@@ -1,4 +1,4 @@
-use Rattle.world.proofs.FailedServers.{lives_where_not_failed}
+use Rattle.world.proofs.failures.FailedServers.{lives_where_not_failed}
 use Rattle.world.proofs.laws.failed_servers.Goals as goal
 
 pub returns : goal.returns

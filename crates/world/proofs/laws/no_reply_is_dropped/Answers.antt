@@ -1,4 +1,4 @@
-use Rattle.world.proofs.Awaiting.{works_awaited, delivers_awaited, tells_awaited}
+use Rattle.world.proofs.shown.Awaiting.{works_awaited, delivers_awaited, tells_awaited}
 use Rattle.world.proofs.laws.no_reply_is_dropped.Goals as goal
 
 pub returns-clause-work : goal.returns-clause-work

@@ -1,4 +1,4 @@
-use Rattle.world.proofs.Progress.{is_at}
+use Rattle.world.proofs.courses.Progress.{is_at}
 use Rattle.world.proofs.laws.no_turn_is_left_out.Goals as goal
 
 pub returns : goal.returns

@@ -1,4 +1,4 @@
-use Rattle.world.proofs.NoneForgotten.{none_forgotten}
+use Rattle.world.proofs.waiting.NoneForgotten.{none_forgotten}
 use Rattle.world.proofs.laws.none_forgotten.Goals as goal
 
 pub returns : goal.returns

@@ -1,4 +1,4 @@
-use Rattle.world.proofs.ShownCalls.{one_open}
+use Rattle.world.proofs.shown.ShownCalls.{one_open}
 use Rattle.world.proofs.laws.one_open.Goals as goal
 
 pub returns : goal.returns

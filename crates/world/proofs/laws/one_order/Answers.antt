@@ -1,4 +1,4 @@
-use Rattle.world.proofs.OneOrder.{one_order}
+use Rattle.world.proofs.order.OneOrder.{one_order}
 use Rattle.world.proofs.laws.one_order.Goals as goal
 
 pub returns : goal.returns

@@ -1,4 +1,4 @@
-use Rattle.world.proofs.CoursesRun.{sent_is}
+use Rattle.world.proofs.courses.CoursesRun.{sent_is}
 use Rattle.world.proofs.laws.sent_bytes_follow_the_stream.Goals as goal
 
 pub returns : goal.returns

@@ -1,4 +1,4 @@
-use Rattle.world.proofs.ShownCalls.{calls_are_shown, replies_are_shown}
+use Rattle.world.proofs.shown.ShownCalls.{calls_are_shown, replies_are_shown}
 use Rattle.world.proofs.laws.transcripts_show_the_calls.Goals as goal
 
 pub returns-clause-call : goal.returns-clause-call

@@ -2,9 +2,9 @@ use Rattle.std.proofs.Common.{◌≤◌, ◌<◌, ◌^◌, length, arith, rules,
 use Rattle.world.specs.Scenes.{SceneState}
 use Rattle.world.specs.Worlds.{World}
 use Rattle.world.specs.Refusals.{with_failures, WouldStep}
-use Rattle.world.proofs.ShownConnections.{sent_shown, begun_shown, answered_shown, in_turn_shown, one_open_shown}
-use Rattle.world.proofs.ShownConnections.{none_forgotten_shown, taken_count}
-use Rattle.world.proofs.FailingRuns.{failing_shown, length-failures}
+use Rattle.world.proofs.shown.ShownConnections.{sent_shown, begun_shown, answered_shown, in_turn_shown, one_open_shown}
+use Rattle.world.proofs.shown.ShownConnections.{none_forgotten_shown, taken_count}
+use Rattle.world.proofs.failures.FailingRuns.{failing_shown, length-failures}
 use Rattle.world.proofs.refusals.run_failing.Goals as goal
 
 pub returns-clause-transcript : goal.returns-clause-transcript

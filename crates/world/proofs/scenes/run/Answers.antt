@@ -1,7 +1,7 @@
 use Rattle.std.proofs.Common.{◌≤◌, ◌<◌, ◌^◌, length, arith, rules, ap, ◌∙◌}
 use Rattle.world.specs.Shown.{reply_shown}
-use Rattle.world.proofs.ShownConnections.{sent_shown, begun_shown, answered_shown, in_turn_shown, one_open_shown}
-use Rattle.world.proofs.ShownConnections.{none_forgotten_shown, run_shown, taken_count}
+use Rattle.world.proofs.shown.ShownConnections.{sent_shown, begun_shown, answered_shown, in_turn_shown, one_open_shown}
+use Rattle.world.proofs.shown.ShownConnections.{none_forgotten_shown, run_shown, taken_count}
 use Rattle.world.proofs.scenes.run.Goals as goal
 
 pub returns-clause-shown : goal.returns-clause-shown

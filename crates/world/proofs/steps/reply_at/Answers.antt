@@ -1,6 +1,6 @@
 use Rattle.std.proofs.Common.{sym, arith}
 use Rattle.world.specs.Connections.{replied}
-use Rattle.world.proofs.ConnectionLists.{set_changed, past_changed}
+use Rattle.world.proofs.bodies.ConnectionLists.{set_changed, past_changed}
 use Rattle.world.proofs.steps.reply_at.Goals as goal
 
 pub returns-then-c-len-clause-waits : goal.returns-then-c-len-clause-waits

@@ -1,5 +1,5 @@
-use Rattle.world.proofs.WorkedDirtyRead.{dirty_read_before_commit}
-use Rattle.world.proofs.WorkedDirtyOrder.{set_before_get}
+use Rattle.world.proofs.examples.WorkedDirtyRead.{dirty_read_before_commit}
+use Rattle.world.proofs.examples.WorkedDirtyOrder.{set_before_get}
 use Rattle.world.proofs.worked.dirty_read.Goals as goal
 
 pub returns-clause-transcript : goal.returns-clause-transcript

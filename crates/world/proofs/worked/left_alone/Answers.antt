@@ -1,5 +1,5 @@
-use Rattle.world.proofs.WorkedAlone.{middle_server_left_alone}
-use Rattle.world.proofs.WorkedAloneOrder.{without_the_set, only_the_set}
+use Rattle.world.proofs.examples.WorkedAlone.{middle_server_left_alone}
+use Rattle.world.proofs.examples.WorkedAloneOrder.{without_the_set, only_the_set}
 use Rattle.world.proofs.worked.left_alone.Goals as goal
 
 pub returns-clause-transcript : goal.returns-clause-transcript

@@ -1,6 +1,6 @@
-use Rattle.world.proofs.WorkedResent.{resent_call_acts}
-use Rattle.world.proofs.WorkedResentOrder.{twice_legal, twice_is_no_order}
-use Rattle.world.proofs.WorkedResentOnly.{the_order}
+use Rattle.world.proofs.examples.WorkedResent.{resent_call_acts}
+use Rattle.world.proofs.examples.WorkedResentOrder.{twice_legal, twice_is_no_order}
+use Rattle.world.proofs.examples.WorkedResentOnly.{the_order}
 use Rattle.world.proofs.worked.resent_call.Goals as goal
 
 pub returns-clause-transcript : goal.returns-clause-transcript

@@ -1,6 +1,6 @@
 use Rattle.std.proofs.Common.{length, ap, arith}
 use Rattle.std.proofs.lemmas.List.{length-append}
-use Rattle.world.proofs.ServerLists.{opened_more, running_more}
+use Rattle.world.proofs.bodies.ServerLists.{opened_more, running_more}
 use Rattle.world.proofs.servers.Servers.new.Goals as goal
 
 pub loop-id-preserved : goal.loop-id-preserved

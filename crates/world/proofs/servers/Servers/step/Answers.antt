@@ -1,7 +1,7 @@
 use Rattle.std.proofs.Common.{arith, ap, length}
 use Rattle.std.proofs.lemmas.List.{length-map}
 use Rattle.node.specs.Steps.{step}
-use Rattle.world.proofs.ServerLists.{server_stepped, server_lost}
+use Rattle.world.proofs.bodies.ServerLists.{server_stepped, server_lost}
 use Rattle.world.proofs.servers.Servers.step.Goals as goal
 
 pub returns-in-Ok-clause-state : goal.returns-in-Ok-clause-state

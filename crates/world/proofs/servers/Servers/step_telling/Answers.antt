@@ -2,7 +2,7 @@ use Rattle.std.proofs.Common.{rules, ◌≡◌, ◌∙◌, ap, slice_index_or}
 use Rattle.node.specs.Steps.{step}
 use Rattle.node.specs.Standings.{standing}
 use Rattle.world.specs.Worlds.{nobody}
-use Rattle.world.proofs.ToldSteps.{stepped_at, told_is}
+use Rattle.world.proofs.bodies.ToldSteps.{stepped_at, told_is}
 use Rattle.world.proofs.servers.Servers.step_telling.Goals as goal
 
 pub returns-clause-told : goal.returns-clause-told

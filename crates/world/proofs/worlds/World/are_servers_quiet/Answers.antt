@@ -1,7 +1,7 @@
 use Rattle.std.proofs.Common.{◌≡◌, ◌<◌, false, not, ◌||◌, length, sym, rules}
 use Rattle.world.specs.Worlds.{lives}
 use Rattle.world.specs.Quiet.{is_server_quiet}
-use Rattle.world.proofs.AllBelow.{all_broken}
+use Rattle.world.proofs.bodies.AllBelow.{all_broken}
 use Rattle.world.proofs.worlds.World.are_servers_quiet.Goals as goal
 
 pub returns-then-not-is_server_quiet : goal.returns-then-not-is_server_quiet

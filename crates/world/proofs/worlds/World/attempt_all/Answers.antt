@@ -1,5 +1,5 @@
 use Rattle.std.proofs.Common.{◌≡◌, ℕ, Vec, Global, sym, ap, ◌∙◌}
-use Rattle.world.proofs.FailingRuns.{noted, one_more}
+use Rattle.world.proofs.failures.FailingRuns.{noted, one_more}
 use Rattle.world.proofs.worlds.World.attempt_all.Goals as goal
 use Rattle.world.proofs.worlds.World.attempt_all.Goals.{in-Some+in_ok-push, in_default}
 

@@ -1,6 +1,6 @@
 use Rattle.std.proofs.Common.{sym, ◌∙◌}
 use Rattle.world.specs.Connections.{begun}
-use Rattle.world.proofs.ConnectionLists.{served_changed, unserved_kept}
+use Rattle.world.proofs.bodies.ConnectionLists.{served_changed, unserved_kept}
 use Rattle.world.proofs.worlds.World.begin.Goals as goal
 
 pub returns-in_ok-begin-clause-ok : goal.returns-in_ok-begin-clause-ok

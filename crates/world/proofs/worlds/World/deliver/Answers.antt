@@ -1,8 +1,8 @@
 use Rattle.std.proofs.Common.{◌≡◌, sym, ◌∙◌, true}
 use Rattle.std.proofs.lemmas.Result.{IfOk-weaker}
 use Rattle.world.specs.Worlds.{lives}
-use Rattle.world.proofs.LinkLists.{none_delivered}
-use Rattle.world.proofs.Losses.{delivered_comes}
+use Rattle.world.proofs.bodies.LinkLists.{none_delivered}
+use Rattle.world.proofs.failures.Losses.{delivered_comes}
 use Rattle.world.proofs.worlds.World.deliver.Goals as goal
 
 pub returns-in-Some-clause-ok : goal.returns-in-Some-clause-ok

@@ -1,8 +1,8 @@
 use Rattle.std.proofs.Common.{◌≡◌, sym, ◌∙◌, subst, true, OnOk, IfOk}
 use Rattle.world.specs.declared.deeds.Deed.{Deed}
 use Rattle.world.specs.Worlds.{World, lives}
-use Rattle.world.proofs.LinkLists.{message_delivered, none_delivered}
-use Rattle.world.proofs.DeedLaws.{message_deed, no_message_deed}
+use Rattle.world.proofs.bodies.LinkLists.{message_delivered, none_delivered}
+use Rattle.world.proofs.bodies.DeedLaws.{message_deed, no_message_deed}
 use Rattle.world.proofs.worlds.World.deliver_telling.Goals as goal
 
 pub returns-in-Some-clause-ok : goal.returns-in-Some-clause-ok

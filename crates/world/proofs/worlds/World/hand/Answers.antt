@@ -1,6 +1,6 @@
 use Rattle.std.proofs.Common.{sym, ◌∙◌}
 use Rattle.world.specs.Connections.{handed}
-use Rattle.world.proofs.ConnectionLists.{served_changed, unserved_kept}
+use Rattle.world.proofs.bodies.ConnectionLists.{served_changed, unserved_kept}
 use Rattle.world.proofs.worlds.World.hand.Goals as goal
 
 pub returns-in_ok-hand-clause-ok : goal.returns-in_ok-hand-clause-ok

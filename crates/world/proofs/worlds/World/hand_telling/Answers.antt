@@ -1,8 +1,8 @@
 use Rattle.std.proofs.Common.{sym, ◌∙◌}
 use Rattle.world.specs.Connections.{handed}
 use Rattle.world.specs.Deeds.{hand_deed}
-use Rattle.world.proofs.ConnectionLists.{served_changed, unserved_kept}
-use Rattle.world.proofs.DeedLaws.{served_deed}
+use Rattle.world.proofs.bodies.ConnectionLists.{served_changed, unserved_kept}
+use Rattle.world.proofs.bodies.DeedLaws.{served_deed}
 use Rattle.world.proofs.worlds.World.hand_telling.Goals as goal
 
 pub returns-then-home_lives-clause-ok : goal.returns-then-home_lives-clause-ok

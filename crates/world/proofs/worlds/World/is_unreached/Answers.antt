@@ -1,7 +1,7 @@
 use Rattle.std.proofs.Common.{◌≡◌, ◌<◌, false, length, sym, rules}
 use Rattle.world.specs.Worlds.{link}
 use Rattle.world.specs.Links.{is_empty}
-use Rattle.world.proofs.AllBelow.{all_broken}
+use Rattle.world.proofs.bodies.AllBelow.{all_broken}
 use Rattle.world.proofs.worlds.World.is_unreached.Goals as goal
 
 pub returns-then-not-is_empty : goal.returns-then-not-is_empty

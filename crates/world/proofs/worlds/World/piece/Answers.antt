@@ -1,6 +1,6 @@
 use Rattle.std.proofs.Common.{sym, ◌∙◌}
 use Rattle.world.specs.Connections.{came}
-use Rattle.world.proofs.ConnectionLists.{served_changed, unserved_kept}
+use Rattle.world.proofs.bodies.ConnectionLists.{served_changed, unserved_kept}
 use Rattle.world.proofs.worlds.World.piece.Goals as goal
 
 pub returns-in_ok-come-clause-ok : goal.returns-in_ok-come-clause-ok

@@ -1,7 +1,7 @@
 use Rattle.std.proofs.Common.{◌≡◌, sym, ◌∙◌, true}
 use Rattle.std.proofs.lemmas.Result.{IfOk-weaker}
 use Rattle.world.specs.Worlds.{lives, has_failed}
-use Rattle.world.proofs.Losses.{told_comes}
+use Rattle.world.proofs.failures.Losses.{told_comes}
 use Rattle.world.proofs.worlds.World.tell.Goals as goal
 
 pub returns-then-has_failed-clause-ok : goal.returns-then-has_failed-clause-ok

@@ -3,7 +3,7 @@ use Rattle.std.specs.Prelude.{slice_get}
 use Rattle.world.specs.Connections.{to_work, asked}
 use Rattle.world.specs.Worlds.{home_lives}
 use Rattle.world.specs.LivingParts.{living_part}
-use Rattle.world.proofs.Losses.{one_place, worked_comes, worked_lost, unworked}
+use Rattle.world.proofs.failures.Losses.{one_place, worked_comes, worked_lost, unworked}
 use Rattle.world.proofs.worlds.World.work.Goals as goal
 
 pub returns-in_ok-put_all-in-Ok-clause-ok : goal.returns-in_ok-put_all-in-Ok-clause-ok

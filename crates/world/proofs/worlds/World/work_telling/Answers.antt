@@ -4,8 +4,8 @@ use Rattle.world.specs.declared.deeds.Deed.{Deed}
 use Rattle.world.specs.Connections.{to_work, asked}
 use Rattle.world.specs.Worlds.{World, home_lives}
 use Rattle.world.specs.Deeds.{call_deed, work_deed}
-use Rattle.world.proofs.ConnectionLists.{call_worked, none_worked}
-use Rattle.world.proofs.DeedLaws.{served_work, called_deed}
+use Rattle.world.proofs.bodies.ConnectionLists.{call_worked, none_worked}
+use Rattle.world.proofs.bodies.DeedLaws.{served_work, called_deed}
 use Rattle.world.proofs.worlds.World.work_telling.Goals as goal
 
 pub returns-in-Some-clause-ok : goal.returns-in-Some-clause-ok
