@@ -1,27 +1,42 @@
--- No message is addressed to its own sender, nor to one that isn't of the chain.
-use Rattle.std.proofs.Common.{◌≡◌, ◌≢◌, ℕ, suc, ◌-◌, ◌<◌, nat_lt, ◌==◌, ◌&&◌, false, not, List, [], ◌∷◌, ◌++◌, Option}
-use Rattle.std.proofs.Common.{Some, None, refl, ◌∙◌, arith}
-use Rattle.std.proofs.lemmas.Bool.{cond_both, both_ways, eq-eqb}
-use Rattle.std.proofs.lemmas.Option.{same_Some}
+-- No message is addressed to its own sender, nor to one that isn't of the chain. A join is a list of actions, whose
+-- guards say to whom they send. For the other rules it is shown of inputs that may not be given, too.
+use Rattle.std.proofs.Common.{◌≡◌, ◌≢◌, ℕ, ◌+◌, ◌<◌, nat_lt, nat_le, ◌==◌, ◌&&◌, false, not, List, [], ◌∷◌, ◌++◌}
+use Rattle.std.proofs.Common.{Option, Some, None, inl, refl, sym, subst, ap, ◌∙◌, arith}
+use Rattle.std.proofs.lemmas.Bool.{cond_both, eqb-false}
+use Rattle.table.specs.Operations.{is_update}
 use Rattle.table.specs.declared.operations.Call.{Call}
-use Rattle.table.specs.declared.operations.Reply.{Reply}
+use Rattle.table.specs.declared.operations.Target.{Target}
+use Rattle.table.specs.declared.operations.Target.TheVariants.{One, All}
 use Rattle.versions.specs.Entries.{LogEntry}
-use Rattle.versions.specs.Stores.{last_number, entries_after}
+use Rattle.versions.specs.Stores.{last_number, is_clean}
 use Rattle.node.specs.declared.servers.OpenUpdate.{OpenUpdate}
 use Rattle.node.specs.declared.servers.OpenRead.{OpenRead}
 use Rattle.node.specs.declared.messages.Body.{Body}
-use Rattle.node.specs.declared.messages.Body.TheVariants.{Op, Forward, Ack, Query}
+use Rattle.node.specs.declared.messages.Body.TheVariants.{Op, Forward, Ack, Query, Answer}
+use Rattle.node.specs.declared.messages.Peer.{Peer}
+use Rattle.node.specs.declared.messages.Input.{Input}
+use Rattle.node.specs.declared.messages.Input.TheVariants.{Call as Called, From, Gone}
 use Rattle.node.specs.declared.messages.Output.{Output}
-use Rattle.node.specs.Views.{View, head, tail, predecessor, is_that, is_same}
-use Rattle.node.specs.Servers.{ServerState, Outcome, head_of, tail_of, is_head, is_tail, previous, next, message_to}
-use Rattle.node.specs.Numbering.{open_update, left_open_by, replied, reply_to, replies, newly_acked, rise, appended}
-use Rattle.node.specs.Numbering.{passed_on, is_taken, entry_of, take_update}
-use Rattle.node.specs.Joining.{sent_again, promoted_to_head, promoted_to_tail, forwarded, needed_above, caught_up}
-use Rattle.node.specs.Joining.{acked_to_predecessor, replies_to, asked_again, asks_renewed}
-use Rattle.node.specs.Lawful.{AreToOthers}
-use Rattle.node.proofs.ViewLaws.{next_is, next_within_many, previous_is}
+use Rattle.node.specs.Views.{has, is_that}
+use Rattle.node.specs.Servers.{ServerState, Outcome, most, head_of, tail_of, is_head, is_tail, previous, next}
+use Rattle.node.specs.Servers.{message_to}
+use Rattle.node.specs.Numbering.{left_open_by, reply_to, replies, newly_acked, rise, appended}
+use Rattle.node.specs.Numbering.{passed_on, is_taken, entry_of, take_update, entered, is_room_for_update, called, update}
+use Rattle.node.specs.Reading.{asked, dirty_read, read_of, open_read, answered}
+use Rattle.node.specs.Joining.{join}
+use Rattle.node.specs.Steps.{receive, is_heard, from_peer, taken_in}
+use Rattle.node.specs.Lawful.{IsSound, IsSettled, AreToOthers}
+use Rattle.node.specs.Actions.{Action, Widen, Append, Reach, Settle, Send, Finish, Trim, Enter, Ask, Show, act, does}
+use Rattle.node.specs.Actions.{Cause, left, MaySend, Guard, AreGuarded, IsDone}
+use Rattle.node.proofs.SoundActions.{IsSeatOf, seat_act}
+use Rattle.node.proofs.Neighbours.{to_previous, to_next, to_head, to_tail}
+use Rattle.node.proofs.Settling.{reply_all}
+use Rattle.node.proofs.DoneActions.{came_left, seat_after}
+use Rattle.node.proofs.DoneJoins.{rule_join}
+use Rattle.node.proofs.DoneSteps.{dirty_elsewhere, paid_nothing, heard, rule_taken_in}
 
 module _ (id count : ℕ) where
+  -- two lists of messages to others are one
   pub others_append : (xs ys : List Output)
       → AreToOthers id count xs
       → AreToOthers id count ys
@@ -29,145 +44,180 @@ module _ (id count : ℕ) where
   others_append [] ys h g = g
   others_append (x ∷ xs) ys h g = (h.0, others_append xs ys h.1 g)
 
-  pub others_to : (s : ServerState) (to : Option ℕ) (body : Body)
+  others_to : (s : ServerState) (to : Option ℕ) (body : Body)
       → ((j : ℕ) → to ≡ Some j → (j < count) × (j ≢ id))
       → AreToOthers id count (message_to s to body)
   others_to s None body h = tt
   others_to s (Some j) body h = (h j refl, tt)
 
--- whom the rules address
-to_previous : (s : ServerState) (j : ℕ) → s.id < s.count → previous s ≡ Some j → (j < s.count) × (j ≢ s.id)
-to_previous s j placed e =
-    let p = previous_is s.view s.id j e in (omega (arith, p.below), λ same. omega (arith, p.below, same))
-
-to_next : (s : ServerState) (j : ℕ) → s.id < s.count → next s ≡ Some j → (j < s.count) × (j ≢ s.id)
-to_next s j placed e =
-    let n = next_is s.view (suc s.id) (s.count - suc s.id) j e in
-    let w = next_within_many s.view (suc s.id) (s.count - suc s.id) j e in
-    (omega (arith, w), λ same. omega (arith, n.above, same))
-
-not_that : (found : Option ℕ) (i j : ℕ) → is_that found i ≡ false → found ≡ Some j → j ≢ i
-not_that None i j h e same = absurd cc
-not_that (Some k) i j h e same = let k_is : k ≡ j = same_Some k j e in both_ways _ h (eq-eqb k i (k_is ∙ same))
-
-pub to_head : (s : ServerState) (j : ℕ) → is_head s ≡ false → head_of s ≡ Some j → (j < s.count) × (j ≢ s.id)
-to_head s j h e = let w = next_within_many s.view 0 s.count j e in (omega (arith, w), not_that (head_of s) s.id j h e)
-
-pub to_tail : (s : ServerState) (j : ℕ) → is_tail s ≡ false → tail_of s ≡ Some j → (j < s.count) × (j ≢ s.id)
-to_tail s j h e = let p = previous_is s.view s.count j e in (p.below, not_that (tail_of s) s.id j h e)
-
--- ---- replies go to ports
-
-module _ (id count : ℕ) where
-  replied_others : (reply : Reply) (u : Option OpenUpdate) → AreToOthers id count (replied reply u)
-  replied_others reply None = tt
-  replied_others reply (Some u) = (tt, tt)
+  -- ---- replies go to ports
 
   reply_others : (own : ℕ) (pend : List OpenUpdate) (e : LogEntry) → AreToOthers id count (reply_to own pend e)
-  reply_others own pend e = cond_both (e.origin == own) _ _ (λ (os : List Output). AreToOthers id count os)
-      (λ t. replied_others e.reply (open_update pend e.id)) (λ f. tt)
+  reply_others own pend e = reply_all (λ os. AreToOthers id count os) own pend e tt (λ port. (tt, tt))
 
-  pub replies_others : (own : ℕ) (es : List LogEntry) (pend : List OpenUpdate)
-      → AreToOthers id count (replies own pend es)
+  replies_others : (own : ℕ) (es : List LogEntry) (pend : List OpenUpdate) → AreToOthers id count (replies own pend es)
   unfolding replies
   replies_others own [] pend = tt
-  replies_others own (e ∷ es) pend = others_append id count (reply_to own pend e) _ (reply_others own pend e)
+  replies_others own (e ∷ es) pend = others_append (reply_to own pend e) _ (reply_others own pend e)
       (replies_others own es (left_open_by own pend e))
 
--- ---- the rules
+-- what a rule makes of this server goes to others
+abbrev Others : ServerState → Outcome → Type 0
+Others s a = AreToOthers s.id s.count a.outputs
 
-pub others_rise : (s : ServerState) (n : ℕ) → s.id < s.count → AreToOthers s.id s.count (rise s n).outputs
+-- the same of a server in its place
+moved : (s t : ServerState) (os : List Output)
+    → IsSeatOf s t
+    → AreToOthers t.id t.count os
+    → AreToOthers s.id s.count os
+moved s t os seat h = rw (← seat.id, ← seat.count) h
+
+-- ---- by actions
+
+-- the message that is taken in, if it is one, comes from another server
+abbrev IsOther : Cause → ℕ → Type 0
+IsOther c id = (m : Peer) → c ≡ Some (From id m) → ⊥
+
+to_other : (c : Cause) (s : ServerState) (j : ℕ) (body : Body)
+    → IsSound s
+    → IsOther c s.id
+    → MaySend c s j body
+    → j ≢ s.id
+to_other c s j (Op id call) h other g = g.1
+to_other c s j (Forward e) h other g = (to_next s j h.placed g.0).1
+to_other c s j (Ack n) h other g = (to_previous s j h.placed g.0).1
+to_other c s j (Query ask key) h other g = (to_tail s j g.1 g.0).1
+to_other c s j (Answer ask n) h other g = λ same. other g.3 (g.5 ∙ ap (λ i. Some (From i g.3)) same)
+
+others_act : (c : Cause) (s : ServerState) (a : Action)
+    → IsSound s
+    → IsOther c s.id
+    → Guard c s a
+    → Others s (act s a)
+unfolding act
+others_act c s (Widen v) h other g = tt
+others_act c s (Append e) h other g = tt
+others_act c s (Reach n) h other g = tt
+others_act c s (Settle e) h other g = reply_others s.id s.count s.id s.pend e
+others_act c s (Send j body) h other g = ((g.1, to_other c s j body h other g.0), tt)
+others_act c s (Finish r n) h other g = (tt, tt)
+others_act c s Trim h other g = tt
+others_act c s (Enter port call) h other g = tt
+others_act c s (Ask port key) h other g = tt
+others_act c s (Show port key) h other g = (tt, tt)
+
+others_does : (actions : List Action) (c : Cause) (s : ServerState)
+    → IsOther c s.id
+    → AreGuarded c s actions
+    → Others s (does s actions)
+unfolding does
+others_does [] c s other g = tt
+others_does (a ∷ later) c s other g =
+    let t = (act s a).state in
+    let seat = seat_act s a in
+    others_append s.id s.count (act s a).outputs _ (others_act c s a g.0 other g.1)
+    (moved s t _ seat (others_does later (left c) t
+    (λ m e. other m (came_left c _ e ∙ ap (λ i. Some (From i m)) seat.id)) g.2))
+
+others_done : (c : Cause) (s : ServerState) (a : Outcome) → IsOther c s.id → IsDone c s a → Others s a
+others_done c s a other d = subst (λ (o : Outcome). Others s o) (sym d.same) (others_does d.actions c s other d.guarded)
+
+-- ---- by the rules, for any call and any message
+
+others_rise : (s : ServerState) (n : ℕ) → s.id < s.count → Others s (rise s n)
 others_rise s n placed = others_append s.id s.count (replies s.id s.pend (newly_acked s n)) _
     (replies_others s.id s.count s.id (newly_acked s n) s.pend)
     (others_to s.id s.count s (previous s) (Ack n) (λ j e. to_previous s j placed e))
 
-pub others_passed_on : (s : ServerState) (e : LogEntry)
-    → s.id < s.count
-    → AreToOthers s.id s.count (passed_on s e).outputs
+others_passed_on : (s : ServerState) (e : LogEntry) → s.id < s.count → Others s (passed_on s e)
 unfolding passed_on
-others_passed_on s e placed = cond_both (is_tail s) _ _ (λ (a : Outcome). AreToOthers s.id s.count a.outputs)
+others_passed_on s e placed = cond_both (is_tail s) _ _ (λ (a : Outcome). Others s a)
     (λ t. others_rise s (last_number s.store) placed)
     (λ f. others_to s.id s.count s (next s) (Forward e) (λ j f. to_next s j placed f))
 
-pub others_append_passed : (s : ServerState) (e : LogEntry)
-    → s.id < s.count
-    → AreToOthers s.id s.count (passed_on (appended s e) e).outputs
+others_passed : (s : ServerState) (e : LogEntry) → s.id < s.count → Others s (passed_on (appended s e) e)
 unfolding appended
-others_append_passed s e placed = others_passed_on (appended s e) e placed
+others_passed s e placed = others_passed_on (appended s e) e placed
 
-pub others_take_update : (s : ServerState) (origin id : ℕ) (made : Call)
+others_take_update : (s : ServerState) (origin id : ℕ) (made : Call)
     → s.id < s.count
-    → AreToOthers s.id s.count (take_update s origin id made).outputs
+    → Others s (take_update s origin id made)
 unfolding take_update
-others_take_update s origin id made placed =
-    cond_both (is_taken s origin id) _ _ (λ (a : Outcome). AreToOthers s.id s.count a.outputs)
-    (λ t. others_append_passed s (entry_of s origin id made) placed)
+others_take_update s origin id made placed = cond_both (is_taken s origin id) _ _ (λ (a : Outcome). Others s a)
+    (λ t. others_passed s (entry_of s origin id made) placed)
     (λ f. tt)
 
--- ---- joining
+others_called : (s : ServerState) (id : ℕ) (made : Call) → s.id < s.count → Others s (called s id made)
+others_called s id made placed = cond_both (is_head s) _ _ (λ (a : Outcome). Others s a)
+    (λ t. others_take_update s s.id id made placed)
+    (λ f. others_to s.id s.count s (head_of s) (Op id made) (λ j e. to_head s j f e))
 
-others_sent_again : (s : ServerState) (us : List OpenUpdate)
-    → is_head s ≡ false
-    → AreToOthers s.id s.count (sent_again s us)
-unfolding sent_again
-others_sent_again s [] h = tt
-others_sent_again s (u ∷ us) h =
-    others_append s.id s.count _ _ (others_to s.id s.count s (head_of s) (Op u.id u.call) (λ j e. to_head s j h e))
-    (others_sent_again s us h)
+others_update : (s : ServerState) (port : ℕ) (made : Call) → s.id < s.count → Others s (update s port made)
+unfolding entered
+others_update s port made placed = cond_both (is_room_for_update s) _ _ (λ (a : Outcome). Others s a)
+    (λ t. others_called (entered s port made) s.next_id made placed)
+    (λ f. tt)
 
-pub others_promoted_to_head : (old : View) (s : ServerState) → AreToOthers s.id s.count (promoted_to_head old s).outputs
-unfolding promoted_to_head
-others_promoted_to_head old s = cond_both (is_head s) _ _ (λ (a : Outcome). AreToOthers s.id s.count a.outputs)
-    (λ t. cond_both (is_that (head old s.count) s.id) _ _ (λ (a : Outcome). AreToOthers s.id s.count a.outputs)
-    (λ u. tt) (λ u. tt))
-    (λ f. cond_both (is_same (head old s.count) (head_of s)) _ _ (λ (a : Outcome). AreToOthers s.id s.count a.outputs)
-    (λ u. tt) (λ u. others_sent_again s s.pend f))
+others_dirty_read : (s : ServerState) (port : ℕ) (key : List ℕ) → is_tail s ≡ false → Others s (dirty_read s port key)
+unfolding dirty_read asked
+others_dirty_read s port key apart = cond_both (nat_lt s.next_ask most) _ _ (λ (a : Outcome). Others s a)
+    (λ t. others_to s.id s.count s (tail_of s) (Query s.next_ask key) (λ j e. to_tail s j apart e))
+    (λ f. tt)
 
-pub others_promoted_to_tail : (s : ServerState) → s.id < s.count → AreToOthers s.id s.count (promoted_to_tail s).outputs
-unfolding promoted_to_tail
-others_promoted_to_tail s placed = cond_both (is_tail s && nat_lt s.store.acked (last_number s.store)) _ _
-    (λ (a : Outcome). AreToOthers s.id s.count a.outputs) (λ t. others_rise s (last_number s.store) placed) (λ f. tt)
+others_read_of : (s : ServerState) (port : ℕ) (target : Target) → IsSettled s → Others s (read_of s port target)
+others_read_of s port (One key) settled = cond_both (is_clean s.store key) _ _ (λ (a : Outcome). Others s a)
+    (λ t. (tt, tt))
+    (λ f. others_dirty_read s port key (dirty_elsewhere s key settled f))
+others_read_of s port All settled = tt
 
-others_forwarded : (s : ServerState) (es : List LogEntry) → s.id < s.count → AreToOthers s.id s.count (forwarded s es)
-unfolding forwarded
-others_forwarded s [] placed = tt
-others_forwarded s (e ∷ es) placed =
-    others_append s.id s.count _ _ (others_to s.id s.count s (next s) (Forward e) (λ j f. to_next s j placed f))
-    (others_forwarded s es placed)
+others_answered : (s : ServerState) (ask n : ℕ) (r : Option OpenRead) → Others s (answered s ask n r)
+unfolding answered
+others_answered s ask n None = tt
+others_answered s ask n (Some r) =
+    cond_both (nat_le r.mark n && nat_le n (last_number s.store)) _ _ (λ (a : Outcome). Others s a)
+    (λ t. (tt, tt)) (λ f. tt)
 
-pub others_caught_up : (old : View) (n : ℕ) (s : ServerState)
+others_receive : (s : ServerState) (i : ℕ) (body : Body)
     → s.id < s.count
-    → AreToOthers s.id s.count (caught_up old n s).outputs
-unfolding caught_up
-others_caught_up old n s placed = others_forwarded s (entries_after s.store (needed_above old n s)) placed
+    → i < s.count
+    → i ≢ s.id
+    → Others s (receive s i body)
+others_receive s i (Op id made) placed low other =
+    cond_both (is_head s && is_update made.op) _ _ (λ (a : Outcome). Others s a)
+    (λ t. others_take_update s i id made placed) (λ f. tt)
+others_receive s i (Forward e) placed low other =
+    cond_both (is_that (previous s) i && e.number == last_number s.store + 1) _ _ (λ (a : Outcome). Others s a)
+    (λ t. others_passed s e placed) (λ f. tt)
+others_receive s i (Ack n) placed low other =
+    cond_both (is_that (next s) i && nat_lt s.store.acked n && nat_le n (last_number s.store)) _ _
+    (λ (a : Outcome). Others s a) (λ t. others_rise s n placed) (λ f. tt)
+others_receive s i (Query ask key) placed low other =
+    cond_both (is_tail s) _ _ (λ (a : Outcome). Others s a) (λ t. ((low, other), tt)) (λ f. tt)
+others_receive s i (Answer ask n) placed low other =
+    cond_both (is_that (tail_of s) i) _ _ (λ (a : Outcome). Others s a)
+    (λ t. others_answered s ask n (open_read s.asks ask)) (λ f. tt)
 
-pub others_acked_to_predecessor : (old : View) (m : ℕ) (s : ServerState)
-    → s.id < s.count
-    → AreToOthers s.id s.count (acked_to_predecessor old m s).outputs
-unfolding acked_to_predecessor
-others_acked_to_predecessor old m s placed =
-    cond_both (not (is_same (predecessor old s.id) (previous s)) && s.store.acked == m) _ _
-    (λ (a : Outcome). AreToOthers s.id s.count a.outputs)
-    (λ t. others_to s.id s.count s (previous s) (Ack s.store.acked) (λ j e. to_previous s j placed e)) (λ f. tt)
+others_from_peer : (s : ServerState) (i : ℕ) (m : Peer) → IsSound s → IsSettled s → Others s (from_peer s i m)
+others_from_peer s i m h settled = cond_both (is_heard s i m.view) _ _ (λ (a : Outcome). Others s a)
+    (λ t.
+    let from = heard s i m.view t in
+    let other = λ (e : i ≡ s.id). eqb-false i s.id from.other e in
+    let c : Cause = Some (From i m) in
+    let t = (join s m.view).state in
+    let first =
+    (rule_join c s m.view h (paid_nothing s settled) (inl (i, m, refl, refl)) from.outside from.below).done in
+    let seat = seat_after c s _ first in
+    others_append s.id s.count _ _
+    (others_done c s _ (λ n e. (let same : i ≡ s.id = cc in other same)) first)
+    (moved s t _ seat (cond_both (has t.view i) _ _ (λ (a : Outcome). Others t a) (λ _. tt)
+    (λ _. others_receive t i m.body (omega (arith, seat.id, seat.count, h.placed))
+    (omega (arith, seat.count, from.placed)) (λ e. other (e ∙ seat.id))))))
+    (λ f. tt)
 
-others_replies_to : (s : ServerState) (rs : List OpenRead) → AreToOthers s.id s.count (replies_to s rs)
-unfolding replies_to
-others_replies_to s [] = tt
-others_replies_to s (r ∷ rs) = (tt, others_replies_to s rs)
-
-others_asked_again : (s : ServerState) (rs : List OpenRead)
-    → is_tail s ≡ false
-    → AreToOthers s.id s.count (asked_again s rs)
-unfolding asked_again
-others_asked_again s [] h = tt
-others_asked_again s (r ∷ rs) h =
-    others_append s.id s.count _ _ (others_to s.id s.count s (tail_of s) (Query r.ask r.key) (λ j e. to_tail s j h e))
-    (others_asked_again s rs h)
-
-pub others_asks_renewed : (old : View) (s : ServerState) → AreToOthers s.id s.count (asks_renewed old s).outputs
-unfolding asks_renewed
-others_asks_renewed old s =
-    cond_both (is_same (tail old s.count) (tail_of s)) _ _ (λ (a : Outcome). AreToOthers s.id s.count a.outputs)
-    (λ t. tt)
-    (λ f. cond_both (is_tail s) _ _ (λ (a : Outcome). AreToOthers s.id s.count a.outputs)
-    (λ t. others_replies_to s s.asks) (λ u. others_asked_again s s.asks u))
+-- what a step of a lawful server puts out
+pub others_taken_in : (s : ServerState) (input : Input) → IsSound s → IsSettled s → Others s (taken_in s input)
+others_taken_in s (Called port made) h settled = cond_both (is_update made.op) _ _ (λ (a : Outcome). Others s a)
+    (λ t. others_update s port made h.placed) (λ f. others_read_of s port made.target settled)
+others_taken_in s (From i m) h settled = others_from_peer s i m h settled
+others_taken_in s (Gone j) h settled =
+    others_done (Some (Gone j)) s _ (λ m e. let no = e in cc) (rule_taken_in s (Gone j) h settled tt tt).done

@@ -22,7 +22,7 @@ use Rattle.node.specs.Actions.{Cause, left, Guard, AreGuarded, IsDone}
 use Rattle.node.proofs.Counts.{count-append, none_in-message, no-update, one-read, closed_by, no_read_closed}
 use Rattle.node.proofs.Counts.{read_closed}
 use Rattle.node.proofs.DoneActions.{came_left, seat_after}
-use Rattle.node.proofs.Fitness.{log_entry}
+use Rattle.node.proofs.StoreChanges.{log_entry}
 
 -- the same server of the same chain, and with the calls that are open then, the replies are those that were open
 pub record Closes (s : ServerState) (a : Outcome) : Type 0 where

@@ -1,6 +1,6 @@
 -- Lists of actions done one after another: what is known at their end, and how rules that are such lists follow each
 -- other.
-use Rattle.std.proofs.Common.{◌≡◌, ℕ, ◌<◌, true, List, [], ◌∷◌, ◌++◌, Option, Some, None, inl, inr, refl, sym, ap}
+use Rattle.std.proofs.Common.{◌≡◌, ℕ, ◌<◌, false, List, [], ◌∷◌, ◌++◌, Option, Some, None, inl, inr, refl, sym, ap}
 use Rattle.std.proofs.Common.{subst, ◌∙◌, append_assoc, append-nil}
 use Rattle.versions.specs.Entries.{LogEntry}
 use Rattle.node.specs.declared.messages.Body.{Body}
@@ -15,6 +15,7 @@ use Rattle.node.specs.Actions.{Action, Widen, Append, Reach, Settle, Send, Finis
 use Rattle.node.specs.Actions.{Cause, left, IsMade, IsPassed, MaySend, Guard, AreGuarded, IsDone, Due, IsTurn, IsTurnOf}
 use Rattle.node.specs.Actions.{due, due_after, AreInTurn, due_in_the_end}
 use Rattle.node.proofs.SoundActions.{sound_act, IsSeatOf, seat_act, Grown, grown_same, grown_then, grown_act}
+use Rattle.node.proofs.Growth.{is_trim, Grows, grows_self, grows_then, grows_act}
 
 -- ---- a list behind a list
 
@@ -129,18 +130,15 @@ grown_does (a ∷ later) c s g =
 
 -- ---- rules that are lists of actions
 
+-- what such a rule leaves is sound, in its place, and knows no less
 pub sound_after : (c : Cause) (s : ServerState) (a : Outcome) → IsDone c s a → IsSound a.state
 sound_after c s a h = subst (λ (r : Outcome). IsSound r.state) (sym h.same) (guarded_end h.actions c s h.guarded)
 
 pub seat_after : (c : Cause) (s : ServerState) (a : Outcome) → IsDone c s a → IsSeatOf s a.state
 seat_after c s a h = subst (λ (r : Outcome). IsSeatOf s r.state) (sym h.same) (seat_does h.actions s)
 
-pub view_after : (c : Cause) (s : ServerState) (a : Outcome) (k : ℕ)
-    → IsDone c s a
-    → has s.view k ≡ true
-    → has a.state.view k ≡ true
-view_after c s a k h g =
-    subst (λ (r : Outcome). has r.state.view k ≡ true) (sym h.same) ((grown_does h.actions c s h.guarded).view k g)
+pub grown_after : (c : Cause) (s : ServerState) (a : Outcome) → IsDone c s a → Grown s a.state
+grown_after c s a h = subst (λ (r : Outcome). Grown s r.state) (sym h.same) (grown_does h.actions c s h.guarded)
 
 -- ---- rules that are lists of actions in turn
 
@@ -158,11 +156,43 @@ unfolding does
 due_then [] ys d s = refl
 due_then (a ∷ xs) ys d s = due_then xs ys (due d s a) (act s a).state
 
--- a rule is a list of actions in turn, and P holds of what is due after them
+-- a list of actions in turn, and P holds of what is due after them
+pub record IsTurned (c : Cause) (s : ServerState) (d : Due) (a : Outcome) (P : Due → Type 0) : Type 0 where
+  pub done : IsDone c s a
+  pub turns : AreInTurn d s done.actions
+  pub after : P (due_in_the_end d s done.actions)
+
+-- one list in turn, and then another
+pub turned_then : (c : Cause) (s : ServerState) (d : Due) (a : Outcome) (rule : ServerState → Outcome) (Q : Due → Type 0)
+    (h : IsDone c s a)
+    → AreInTurn d s h.actions
+    → (g : IsDone (left c) a.state (rule a.state))
+    → AreInTurn (due_in_the_end d s h.actions) a.state g.actions
+    → Q (due_in_the_end (due_in_the_end d s h.actions) a.state g.actions)
+    → IsTurned c s d (and_then a rule) Q
+turned_then c s d a rule Q h first g second q =
+    let xs = h.actions in
+    let ys = g.actions in
+    let e = due_in_the_end d s xs in
+    record {
+      done = record {
+        actions = xs ++ ys;
+        guarded = guarded_then xs ys c s h.guarded
+            (subst (λ (r : Outcome). AreGuarded (left c) r.state ys) h.same g.guarded);
+        same = ap (λ (r : Outcome). and_then a (λ _. r)) g.same ∙ ap (λ (r : Outcome). and_then r (λ t. does t ys))
+            h.same ∙ sym (does-append s xs ys);
+      };
+      turns = turns_then xs ys d s first (subst (λ (r : Outcome). AreInTurn e r.state ys) h.same second);
+      after = subst Q (sym (due_then xs ys d s))
+          (subst (λ (r : Outcome). Q (due_in_the_end e r.state ys)) h.same q);
+    }
+
+-- A rule is a list of actions in turn, and P holds of what is due after them. None of them moves the floor.
 pub record IsRule (c : Cause) (s : ServerState) (d : Due) (a : Outcome) (P : Due → Type 0) : Type 0 where
   pub done : IsDone c s a
   pub turns : AreInTurn d s done.actions
   pub after : P (due_in_the_end d s done.actions)
+  pub grows : Grows s a.state
 
 pub rule_as : (c : Cause) (s : ServerState) (d : Due) (a b : Outcome) (P : Due → Type 0)
     → b ≡ a
@@ -172,29 +202,36 @@ rule_as c s d a b P e h = record {
   done = record { actions = h.done.actions; guarded = h.done.guarded; same = e ∙ h.done.same };
   turns = h.turns;
   after = h.after;
+  grows = subst (λ (r : Outcome). Grows s r.state) (sym e) h.grows;
 }
 
 pub rule_so : (c : Cause) (s : ServerState) (d : Due) (a : Outcome) (P Q : Due → Type 0)
     → ((e : Due) → P e → Q e)
     → IsRule c s d a P
     → IsRule c s d a Q
-rule_so c s d a P Q f h = record { done = h.done; turns = h.turns; after = f _ h.after }
+rule_so c s d a P Q f h = record { done = h.done; turns = h.turns; after = f _ h.after; grows = h.grows }
 
 pub rule_silent : (c : Cause) (s : ServerState) (d : Due) (P : Due → Type 0)
     → IsSound s
     → P d
     → IsRule c s d (silent s) P
 unfolding does
-rule_silent c s d P h p = record { done = record { actions = []; guarded = h; same = refl }; turns = tt; after = p }
+rule_silent c s d P h p = record {
+  done = record { actions = []; guarded = h; same = refl };
+  turns = tt;
+  after = p;
+  grows = grows_self s;
+}
 
 pub rule_one : (c : Cause) (s : ServerState) (d : Due) (a : Action) (P : Due → Type 0)
+    → is_trim a ≡ false
     → IsSound s
     → Guard c s a
     → IsTurn d s a
     → P (due d s a)
     → IsRule c s d (act s a) P
 unfolding does
-rule_one c s d a P h g turn p = record {
+rule_one c s d a P other h g turn p = record {
   done = record {
     actions = a ∷ [];
     guarded = (h, g, sound_act c s a h g);
@@ -203,6 +240,7 @@ rule_one c s d a P h g turn p = record {
   };
   turns = (turn, tt);
   after = p;
+  grows = grows_act s a other;
 }
 
 -- one rule, and then another
@@ -212,33 +250,26 @@ pub rule_then : (c : Cause) (s : ServerState) (d : Due) (a : Outcome) (rule : Se
     → ((e : Due) → P e → IsSound a.state → IsRule (left c) a.state e (rule a.state) Q)
     → IsRule c s d (and_then a rule) Q
 rule_then c s d a rule P Q h f =
-    let xs = h.done.actions in
-    let e = due_in_the_end d s xs in
-    let g = f e h.after (sound_after c s a h.done) in
-    let ys = g.done.actions in
+    let g = f _ h.after (sound_after c s a h.done) in
+    let both = turned_then c s d a rule Q h.done h.turns g.done g.turns g.after in
     record {
-      done = record {
-        actions = xs ++ ys;
-        guarded = guarded_then xs ys c s h.done.guarded
-            (subst (λ (r : Outcome). AreGuarded (left c) r.state ys) h.done.same g.done.guarded);
-        same = ap (λ (r : Outcome). and_then a (λ _. r)) g.done.same ∙ ap (λ (r : Outcome). and_then r (λ t. does t ys))
-            h.done.same ∙ sym (does-append s xs ys);
-      };
-      turns = turns_then xs ys d s h.turns (subst (λ (r : Outcome). AreInTurn e r.state ys) h.done.same g.turns);
-      after = subst Q (sym (due_then xs ys d s))
-          (subst (λ (r : Outcome). Q (due_in_the_end e r.state ys)) h.done.same g.after);
+      done = both.done;
+      turns = both.turns;
+      after = both.after;
+      grows = grows_then s a.state (rule a.state).state h.grows g.grows;
     }
 
 -- one action, and then a rule
 pub rule_first : (c : Cause) (s : ServerState) (d : Due) (a : Action) (rule : ServerState → Outcome) (Q : Due → Type 0)
+    → is_trim a ≡ false
     → IsSound s
     → Guard c s a
     → IsTurn d s a
     → (IsSound (act s a).state → IsRule (left c) (act s a).state (due d s a) (rule (act s a).state) Q)
     → IsRule c s d (and_then (act s a) rule) Q
-rule_first c s d a rule Q h g turn f =
+rule_first c s d a rule Q other h g turn f =
     rule_then c s d (act s a) rule (λ e. e ≡ due d s a) Q
-    (rule_one c s d a (λ e. e ≡ due d s a) h g turn refl)
+    (rule_one c s d a (λ e. e ≡ due d s a) other h g turn refl)
     (λ e is sound. subst (λ x. IsRule (left c) (act s a).state x (rule (act s a).state) Q) (sym is) (f sound))
 
 -- a message to this server, if it is one
@@ -249,4 +280,5 @@ pub rule_message : (c : Cause) (s : ServerState) (d : Due) (to : Option ℕ) (bo
     → IsRule c s d (putting s (message_to s to body)) P
 unfolding act
 rule_message c s d None body P h p f = rule_silent c s d P h (p refl)
-rule_message c s d (Some j) body P h p f = let g = f j refl in rule_one c s d (Send j body) P h (g.0, g.1) g.2 g.3
+rule_message c s d (Some j) body P h p f =
+    let g = f j refl in rule_one c s d (Send j body) P refl h (g.0, g.1) g.2 g.3

@@ -26,15 +26,15 @@ use Rattle.node.specs.Actions.{Widen, Append, Finish, act, Cause, left, IsBrough
 use Rattle.node.specs.Actions.{but_first}
 use Rattle.node.proofs.Lists.{In, in_more}
 use Rattle.node.proofs.ViewLaws.{has-union}
-use Rattle.node.proofs.Neighbours.{that_is, previous_below, next_within, head_within, head_other, tail_within, no_tail}
+use Rattle.node.proofs.Neighbours.{that_is, same_is, previous_below, next_within, head_within, head_other, tail_within, no_tail}
 use Rattle.node.proofs.OpenCalls.{update_in, asked_above}
 use Rattle.node.proofs.StoreChanges.{held_after}
 use Rattle.node.proofs.DoneActions.{IsRule, rule_as, rule_so, rule_silent, rule_then, rule_first, rule_message}
-use Rattle.node.proofs.DoneActions.{view_after}
+use Rattle.node.proofs.DoneActions.{sound_after, grown_after}
 use Rattle.node.proofs.DoneRules.{IsRisen, not_last, has_head, rule_rise, made_guard, not_taken, taken_once, seen_same}
 use Rattle.node.proofs.DoneRules.{nothing_in}
-use Rattle.node.proofs.SoundLaws.{reads_bound}
-use Rattle.node.proofs.RuleLaws.{same_is, sound-taken, IsPlacedAs, made-promoted_to_head, ready}
+use Rattle.node.proofs.SoundLaws.{reads_bound, sound-taken}
+use Rattle.node.proofs.Growth.{last-grown}
 
 -- ---- what is due on the way
 
@@ -79,35 +79,54 @@ rule_taken_all (u ∷ us) c s d h first f =
     let fit = update_in s.pend s.next_id u h.updates waits in
     let e = entry_of s s.id u.id u.call in
     cond_both (is_taken s s.id u.id) _ s (λ t. IsRule c s d (silent (taken_all t us)) (λ e. e ≡ d))
-    (λ t. rule_first c s d (Append e) (λ v. silent (taken_all v us)) _ h
+    (λ t. rule_first c s d (Append e) (λ v. silent (taken_all v us)) _ refl h
     (made_guard c s s.id u.id u.call (omega (arith, h.placed, h.counted)) (inl (refl, u.port, waits)) fit.0 fit.1 first
     t) (λ other. absurd (other refl))
     (λ k. rule_taken_all us (left c) (appended s e) d k (head_appended s e ∙ first)
     (λ v i. rw ((same_appended s e).0) (f v (suc i.0, i.1)))))
     (λ x. rule_taken_all us c s d h first (λ v i. f v (suc i.0, i.1)))
 
--- what taking own calls leaves
-record IsKept (s t : ServerState) : Type 0 where
+-- the same place in the same view, and the same reads and numbers: what taking own calls leaves
+record IsPlacedAs (s t : ServerState) : Type 0 where
   id : t.id ≡ s.id
-  head : is_head t ≡ is_head s
+  count : t.count ≡ s.count
+  view : t.view ≡ s.view
+  acked : t.store.acked ≡ s.store.acked
   next_id : t.next_id ≡ s.next_id
+  asks : t.asks ≡ s.asks
 
-kept_taken : (s : ServerState) (u : OpenUpdate) → IsKept s (taken s s.id u.id u.call)
+placed_self : (s : ServerState) → IsPlacedAs s s
+placed_self s = record { id = refl; count = refl; view = refl; acked = refl; next_id = refl; asks = refl }
+
+placed_then : (s t u : ServerState) → IsPlacedAs s t → IsPlacedAs t u → IsPlacedAs s u
+placed_then s t u h g = record {
+  id = g.id ∙ h.id;
+  count = g.count ∙ h.count;
+  view = g.view ∙ h.view;
+  acked = g.acked ∙ h.acked;
+  next_id = g.next_id ∙ h.next_id;
+  asks = g.asks ∙ h.asks;
+}
+
+placed_taken : (s : ServerState) (u : OpenUpdate) → IsPlacedAs s (taken s s.id u.id u.call)
 unfolding taken appended
-kept_taken s u = cond_both (is_taken s s.id u.id) _ _ (λ (t : ServerState). IsKept s t)
-    (λ t. record { id = refl; head = refl; next_id = refl }) (λ f. record { id = refl; head = refl; next_id = refl })
+placed_taken s u = cond_both (is_taken s s.id u.id) _ _ (λ (t : ServerState). IsPlacedAs s t)
+    (λ t. record { id = refl; count = refl; view = refl; acked = refl; next_id = refl; asks = refl })
+    (λ f. placed_self s)
 
-placed_taken : (s : ServerState) (u : OpenUpdate)
-    → ((taken s s.id u.id u.call).id ≡ s.id) × ((taken s s.id u.id u.call).next_id ≡ s.next_id)
-placed_taken s u = let k = kept_taken s u in (k.id, k.next_id)
-
-placed_taken_all : (us : List OpenUpdate) (s : ServerState) → IsKept s (taken_all s us)
+placed_taken_all : (us : List OpenUpdate) (s : ServerState) → IsPlacedAs s (taken_all s us)
 unfolding taken_all
-placed_taken_all [] s = record { id = refl; head = refl; next_id = refl }
+placed_taken_all [] s = placed_self s
 placed_taken_all (u ∷ us) s =
-    let one = kept_taken s u in
-    let all = placed_taken_all us (taken s s.id u.id u.call) in
-    record { id = all.id ∙ one.id; head = all.head ∙ one.head; next_id = all.next_id ∙ one.next_id }
+    placed_then s _ _ (placed_taken s u) (placed_taken_all us (taken s s.id u.id u.call))
+
+placed_second : (old : View) (s : ServerState) → IsPlacedAs s (promoted_to_head old s).state
+unfolding promoted_to_head
+placed_second old s = cond_both (is_head s) _ _ (λ (a : Outcome). IsPlacedAs s a.state)
+    (λ t. cond_both (is_that (head old s.count) s.id) _ _ (λ (a : Outcome). IsPlacedAs s a.state)
+    (λ u. placed_self s) (λ u. placed_taken_all s.pend s))
+    (λ f. cond_both (is_same (head old s.count) (head_of s)) _ _ (λ (a : Outcome). IsPlacedAs s a.state)
+    (λ u. placed_self s) (λ u. placed_self s))
 
 -- what couldn't be taken still can't, as calls with greater ids are
 untaken_then : (s : ServerState) (u : OpenUpdate) (id : ℕ)
@@ -146,9 +165,9 @@ untaken_all (u ∷ us) s above id calls h low never =
     let placed = placed_taken s u in
     let sound = sound-taken s s.id u.id u.call (omega (arith, h.placed, h.counted)) calls.1 calls.2 h in
     let here = untaken_then s u id (omega (arith, h.placed, h.counted, h.seen)) (omega (arith, low, calls.0)) never in
-    subst (λ o. is_taken (taken_all t us) o id ≡ false) placed.0
-    (untaken_all us t u.id id (subst (λ n. AreUpdates u.id us n) (sym placed.1) calls.3) sound
-    (omega (arith, low, calls.0)) (subst (λ o. is_taken t o id ≡ false) (sym placed.0) here))
+    subst (λ o. is_taken (taken_all t us) o id ≡ false) placed.id
+    (untaken_all us t u.id id (subst (λ n. AreUpdates u.id us n) (sym placed.next_id) calls.3) sound
+    (omega (arith, low, calls.0)) (subst (λ o. is_taken t o id ≡ false) (sym placed.id) here))
 
 all_untaken : (us : List OpenUpdate) (s : ServerState) (above : ℕ)
     → AreUpdates above us s.next_id
@@ -161,12 +180,12 @@ all_untaken [] s above calls h v i = absurd (let none = i.1 in cc)
 all_untaken (u ∷ us) s above calls h v i =
     let t = taken s s.id u.id u.call in
     let placed = placed_taken s u in
-    let calls2 : AreUpdates u.id us t.next_id = subst (λ n. AreUpdates u.id us n) (sym placed.1) calls.3 in
+    let calls2 : AreUpdates u.id us t.next_id = subst (λ n. AreUpdates u.id us n) (sym placed.next_id) calls.3 in
     let sound = sound-taken s s.id u.id u.call (omega (arith, h.placed, h.counted)) calls.1 calls.2 h in
-    subst (λ o. is_taken (taken_all t us) o v.id ≡ false) placed.0
+    subst (λ o. is_taken (taken_all t us) o v.id ≡ false) placed.id
     (elim (in_more u us v i) [
       | inl same ↦ untaken_all us t u.id v.id calls2 sound (omega (arith, ap (λ (x : OpenUpdate). x.id) same))
-          (subst (λ o. is_taken t o v.id ≡ false) (sym placed.0)
+          (subst (λ o. is_taken t o v.id ≡ false) (sym placed.id)
           (ap (λ (x : OpenUpdate). is_taken t s.id x.id) same
           ∙ untaken_now s u (omega (arith, h.placed, h.counted, h.seen))))
       | inr more ↦ all_untaken us t u.id calls2 sound v more
@@ -234,7 +253,7 @@ rule_promoted_to_head c old s d h due = cond_both (is_head s) _ _ (λ (a : Outco
     (λ u. (let kept = placed_taken_all s.pend s in
     rule_so c s d _ (λ e. e ≡ d) _
     (λ e is. headed (taken_all s s.pend) d e d.unsent is
-    (λ f. absurd (both_ways _ f (kept.head ∙ t)))
+    (λ f. absurd (both_ways _ f (rw (kept.view, kept.count, kept.id) t)))
     (λ _ v i. ap (λ o. is_taken (taken_all s s.pend) o v.id) kept.id
     ∙ all_untaken s.pend s 0 h.updates h v (within v (subst (λ us. In v us) due i))))
     (rule_taken_all s.pend c s d h t (λ v i. i)))))
@@ -250,21 +269,6 @@ rule_promoted_to_head c old s d h due = cond_both (is_head s) _ _ (λ (a : Outco
     within v = cond_both (is_same (head old s.count) (head_of s)) [] s.pend
         (λ (us : List OpenUpdate). In v us → In v s.pend) (λ _ i. absurd (nothing_in v i)) (λ _ i. i)
 
-acked_taken_all : (us : List OpenUpdate) (s : ServerState) → (taken_all s us).store.acked ≡ s.store.acked
-unfolding taken_all taken appended
-acked_taken_all [] s = refl
-acked_taken_all (u ∷ us) s =
-    acked_taken_all us (taken s s.id u.id u.call)
-    ∙ cond_both (is_taken s s.id u.id) _ _ (λ (t : ServerState). t.store.acked ≡ s.store.acked) (λ t. refl) (λ f. refl)
-
-acked_second : (old : View) (s : ServerState) → (promoted_to_head old s).state.store.acked ≡ s.store.acked
-unfolding promoted_to_head
-acked_second old s = cond_both (is_head s) _ _ (λ (a : Outcome). a.state.store.acked ≡ s.store.acked)
-    (λ t. cond_both (is_that (head old s.count) s.id) _ _ (λ (a : Outcome). a.state.store.acked ≡ s.store.acked)
-    (λ u. refl) (λ u. acked_taken_all s.pend s))
-    (λ f. cond_both (is_same (head old s.count) (head_of s)) _ _ (λ (a : Outcome). a.state.store.acked ≡ s.store.acked)
-    (λ u. refl) (λ u. refl))
-
 -- what is due as the second step begins
 record IsBegun (old : View) (n m : ℕ) (s : ServerState) (d : Due) : Type 0 where
   forwarded : d.forwarded ≡ needed_above old n s
@@ -275,19 +279,17 @@ record IsBegun (old : View) (n m : ℕ) (s : ServerState) (d : Due) : Type 0 whe
   acked : s.store.acked ≡ m
   none : is_that (tail old s.count) s.id ≡ true → s.asks ≡ []
 
--- what the places, the acknowledged number and the open reads leave
 underway_as : (old : View) (n m : ℕ) (s t : ServerState) (d e : Due)
     → IsPlacedAs s t
-    → t.store.acked ≡ s.store.acked
     → IsBegun old n m s d
     → IsHeaded t d e
     → IsUnderway old (needed_above old n t) (IsOwed old m t e.untold) (Unit {0}) t e
-underway_as old n m s t d e p acked b h =
+underway_as old n m s t d e p b h =
     let next_same : next t ≡ next s = rw (p.view, p.count, p.id) refl in
-    let needed : needed_above old n t ≡ needed_above old n s = rw (p.view, p.count, p.id, acked) refl in
+    let needed : needed_above old n t ≡ needed_above old n s = rw (p.view, p.count, p.id, p.acked) refl in
     record {
       forwarded = λ j _. h.forwarded ∙ b.forwarded ∙ sym needed;
-      told = λ j q. inl (h.untold ∙ b.untold ∙ rw (p.view, p.id) refl, acked ∙ b.acked);
+      told = λ j q. inl (h.untold ∙ b.untold ∙ rw (p.view, p.id) refl, p.acked ∙ b.acked);
       settled = h.unsettled ∙ b.settled;
       sent = h.sent;
       taken = h.taken;
@@ -304,8 +306,7 @@ rule_second : (c : Cause) (old : View) (n m : ℕ) (s : ServerState) (d : Due)
     (IsOwed old m (promoted_to_head old s).state e.untold) (Unit {0}) (promoted_to_head old s).state e)
 rule_second c old n m s d h b =
     rule_so c s d _ _ _
-    (λ e p. underway_as old n m s (promoted_to_head old s).state d e (made-promoted_to_head old s h).placed
-    (acked_second old s) b p)
+    (λ e p. underway_as old n m s (promoted_to_head old s).state d e (placed_second old s) b p)
     (rule_promoted_to_head c old s d h b.unsent)
 
 -- ---- third: the tail
@@ -535,7 +536,7 @@ rule_closing (r ∷ rs) c s d h all last =
     let low : r.mark ≤ s.store.acked = (reads_bound r.ask r.mark rs s.next_ask s.store.acked (rw all at h.reads).2).1 in
     let t = (act s (Finish r n)).state in
     let rest : t.asks ≡ rs = rw all (without_first_read r rs) in
-    let whole = rule_first c s d (Finish r n) (closing rs) (λ e. e ≡ d) h (
+    let whole = rule_first c s d (Finish r n) (closing rs) (λ e. e ≡ d) refl h (
       rw all (first_read r rs),
       rw all (0, refl),
       omega (arith, low, h.store.acked_held),
@@ -629,6 +630,46 @@ rule_asks_renewed c old s d h p =
 
 -- ---- all steps
 
+-- what the fourth step asks of the last number before the join
+pub record IsReady (old : View) (n : ℕ) (s : ServerState) : Type 0 where
+  pub second : IsSound (promoted_to_head old s).state
+  pub third : IsSound (promoted_to_tail (promoted_to_head old s).state).state
+  pub low : (promoted_to_tail (promoted_to_head old s).state).state.store.floor ≤ n
+  pub high : n ≤ last_number (promoted_to_tail (promoted_to_head old s).state).state.store
+
+-- the third step, whatever is due
+rule_third : (s : ServerState) → IsSound s → IsRule None s (nothing_due s) (promoted_to_tail s) (λ _. Unit {0})
+unfolding promoted_to_tail
+rule_third s h =
+    cond_both (is_tail s && nat_lt s.store.acked (last_number s.store)) _ _
+    (λ (a : Outcome). IsRule None s (nothing_due s) a (λ _. Unit {0}))
+    (λ t. (let parts = and_parts (is_tail s) (nat_lt s.store.acked (last_number s.store)) t in
+    rule_so None s (nothing_due s) _ _ _ (λ _ _. tt)
+    (rule_rise None s (nothing_due s) (last_number s.store) h (ltb-true _ _ parts.1) (omega arith) (inl (parts.0, refl))
+    refl)))
+    (λ f. rule_silent None s (nothing_due s) _ h tt)
+
+-- a sound server comes to the fourth step so
+pub ready : (old : View) (n : ℕ) (s : ServerState)
+    → IsSound s
+    → s.store.floor ≤ n
+    → n ≤ last_number s.store
+    → IsReady old n s
+ready old n s h low high =
+    let d : Due = record (nothing_due s) { unsent = cond (is_same (head old s.count) (head_of s)) [] s.pend } in
+    let t = (promoted_to_head old s).state in
+    let second = rule_promoted_to_head None old s d h refl in
+    let sound = sound_after None s _ second.done in
+    let third = rule_third t sound in
+    let long = last-grown s t second.grows in
+    let longer = last-grown t (promoted_to_tail t).state third.grows in
+    record {
+      second = sound;
+      third = sound_after None t _ third.done;
+      low = omega (arith, second.grows.floor, third.grows.floor, low);
+      high = omega (arith, long.1, longer.1, high);
+    }
+
 rule_rejoined : (c : Cause) (old : View) (n m : ℕ) (s : ServerState) (d : Due)
     → IsSound s
     → IsBegun old n m s d
@@ -638,7 +679,7 @@ rule_rejoined : (c : Cause) (old : View) (n m : ℕ) (s : ServerState) (d : Due)
 unfolding caught_up
 rule_rejoined c old n m s d h b low high =
     let r = ready old n s h low high in
-    let acked2 = acked_second old s ∙ b.acked in
+    let acked2 = (placed_second old s).acked ∙ b.acked in
     let second = rule_second c old n m s d h b in
     let third = rule_then c s d _ promoted_to_tail _ _ second
     (λ e p k. rule_promoted_to_tail (left c) old n m _ e k acked2 p) in
@@ -701,12 +742,12 @@ rule_join c s v h p brought out below =
     cond_both (not (adds s.view v)) _ _ (λ (a : Outcome). IsRule c s (nothing_due s) a (IsJoined a.state v))
     (λ t. rule_silent c s (nothing_due s) _ h (record { paid = p; knows = λ k. nothing_added s.view v k t }))
     (λ f. (let within = bounds_widened s v h in
-    rule_first c s (nothing_due s) (Widen v) (rejoined s.view (last_number s.store) s.store.acked) _ h
+    rule_first c s (nothing_due s) (Widen v) (rejoined s.view (last_number s.store) s.store.acked) _ refl h
     (brought, out, below) refl
     (λ k. (let rest = rule_rejoined (left c) s.view (last_number s.store) s.store.acked (widened s v)
     (due_to_new s (widened s v)) k (begun_widened s v p) within.0 within.1 in
     rule_so (left c) (widened s v) (due_to_new s (widened s v)) _ _ _
     (λ e paid. record {
       paid = paid;
-      knows = λ x g. view_after (left c) (widened s v) _ x rest.done (known_widened s v x g);
+      knows = λ x g. (grown_after (left c) (widened s v) _ rest.done).view x (known_widened s v x g);
     }) rest))))

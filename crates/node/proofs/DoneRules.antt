@@ -30,7 +30,7 @@ use Rattle.node.proofs.Neighbours.{next_within, head_within, head_other}
 use Rattle.node.proofs.StoreChanges.{held_between}
 use Rattle.node.proofs.SoundActions.{appended_next}
 use Rattle.node.proofs.DoneActions.{IsRule, rule_as, rule_so, rule_silent, rule_then, rule_first, rule_message}
-use Rattle.node.proofs.RuleLaws.{entry_of-valid}
+use Rattle.node.proofs.SoundLaws.{entry_of-valid}
 
 -- ---- places
 
@@ -68,7 +68,7 @@ rule_settling : (es : List LogEntry) (c : Cause) (t : ServerState) (d : Due)
 unfolding left_open replies act
 rule_settling [] c t d h f due = rule_silent c t d _ h (ap (λ (es : List LogEntry). record d { unsettled = es }) due)
 rule_settling (e ∷ es) c t d h f due =
-    rule_first c t d (Settle e) (settling es) _ h (f e (0, refl)) (es, due)
+    rule_first c t d (Settle e) (settling es) _ refl h (f e (0, refl)) (es, due)
     (λ k. rule_settling es (left c) (act t (Settle e)).state (record d { unsettled = but_first d.unsettled }) k
     (λ x i. f x (suc i.0, i.1)) (ap (λ (xs : List LogEntry). but_first xs) due))
 
@@ -92,7 +92,7 @@ rule_rise c s d n h low high reached due =
     let up = (act s (Reach n)).state in
     let d1 : Due = record d { untold = true; unsettled = es } in
     let d2 : Due = record d { untold = true; unsettled = [] } in
-    let all = rule_first c s d (Reach n) (settling es) (λ e. e ≡ d2) h (low, high, reached) due
+    let all = rule_first c s d (Reach n) (settling es) (λ e. e ≡ d2) refl h (low, high, reached) due
     (λ k. rule_settling es (left c) up d1 k (λ e i. held_between s.store n e h.store low i) refl) in
     let end = rule_then c s d _ told (λ e. e ≡ d2) (IsRisen s d) all
     (λ e is k. subst (λ x. IsRule (left c) (risen s n) x (told (risen s n)) (IsRisen s d)) (sym is)
@@ -264,7 +264,7 @@ paid_acked s d e n i to p r = record {
 }
 
 -- the entry that was just appended goes on to the successor, or is acknowledged by the tail
-rule_passed : (c : Cause) (s : ServerState) (d : Due) (e : LogEntry)
+pub rule_passed : (c : Cause) (s : ServerState) (d : Due) (e : LogEntry)
     → IsSound (appended s e)
     → IsClear s d
     → e.number ≡ last_number s.store + 1
@@ -320,7 +320,7 @@ pub rule_appended : (c : Cause) (s : ServerState) (d : Due) (e : LogEntry)
     → IsRule c s d (passed_on (appended s e) e) (IsPaid (passed_on (appended s e) e).state)
 unfolding act
 rule_appended c s d e h p g first sent taken =
-    rule_first c s d (Append e) (λ t. passed_on t e) _ h g first
+    rule_first c s d (Append e) (λ t. passed_on t e) _ refl h g first
     (λ k. rule_passed (left c) s d e k p (appended_next c s e g.1) sent taken)
 
 -- ---- taking
@@ -469,7 +469,7 @@ rule_update s d port call h p none fit is =
     let c = Some (Called port call) in
     let u : OpenUpdate = record { id = s.next_id; port = port; call = call } in
     cond_both (is_room_for_update s) _ _ (λ (a : Outcome). IsRule c s d a (IsPaid a.state))
-    (λ t. rule_first c s d (Enter port call) (λ v. called v s.next_id call) _ h (refl, fit, is, t) tt
+    (λ t. rule_first c s d (Enter port call) (λ v. called v s.next_id call) _ refl h (refl, fit, is, t) tt
     (λ k. rule_called None (entered s port call) (record d { unsent = d.unsent ++ u ∷ [] }) s.next_id port call k
     (clear_entered s d port call _ (clear_paid s d p)) fit is (entered_in s port call) (ap (λ us. us ++ u ∷ []) none)))
     (λ f. rule_silent c s d _ h p)

@@ -19,7 +19,7 @@ use Rattle.node.specs.declared.messages.Input.{Input}
 use Rattle.node.specs.declared.messages.Input.TheVariants.{Call as Called, From, Gone}
 use Rattle.node.specs.declared.messages.Output.{Output}
 use Rattle.node.specs.declared.messages.Output.TheVariants.{To}
-use Rattle.node.specs.Views.{has, single, is_that}
+use Rattle.node.specs.Views.{View, has, single, is_below, is_that}
 use Rattle.node.specs.Servers.{ServerState, Outcome, most, seen_of, tail_of, is_tail, silent, putting, message_to}
 use Rattle.node.specs.Numbering.{is_taken}
 use Rattle.node.specs.Reading.{asked, dirty_read, read_of, receive_query, open_read, without_read, answered}
@@ -28,21 +28,23 @@ use Rattle.node.specs.Joining.{join}
 use Rattle.node.specs.Steps.{call, gone, receive, received, is_heard, from_peer, taken_in, least_open, trimmed, step}
 use Rattle.node.specs.Lawful.{AreReads, IsCall, IsBody, IsInput, HasEntry, HoldsEntry, IsSound, IsSettled, IsLawful}
 use Rattle.node.proofs.Lists.{In, get_last, in_behind}
-use Rattle.node.specs.Actions.{Send, Finish, Trim, Ask, Show, act, Cause, left, IsDone, Due, IsPaid, IsTakenIn}
-use Rattle.node.specs.Actions.{IsHeeded, IsWhole, nothing_due, but_first}
+use Rattle.node.specs.Actions.{Send, Finish, Trim, Ask, Show, act, does, Cause, left, IsDone, Due, IsPaid, IsTakenIn}
+use Rattle.node.specs.Actions.{IsHeeded, IsWhole, nothing_due, but_first, due_in_the_end}
 use Rattle.node.proofs.ViewLaws.{has-single_other, has-single_itself, below-single}
 use Rattle.node.proofs.Neighbours.{that_is, is_itself, tail_within}
 use Rattle.node.proofs.DoneActions.{IsRule, rule_as, rule_so, rule_silent, rule_one, rule_then, rule_first}
-use Rattle.node.proofs.DoneActions.{rule_message, seat_after, view_after}
+use Rattle.node.proofs.DoneActions.{rule_message, sound_after, seat_after, grown_after, turned_then}
 use Rattle.node.proofs.OpenLists.{read_above, read_apart}
 use Rattle.node.proofs.DoneRules.{message_same, rule_update, rule_receive_op, rule_receive_forward, rule_receive_ack}
 use Rattle.node.proofs.DoneJoins.{rule_join, has_tail}
 use Rattle.node.proofs.SoundLaws.{reads_bound, least_within}
-use Rattle.node.proofs.RuleLaws.{clean_at_last, heard, last-dropped}
+use Rattle.node.proofs.StoreChanges.{clean_at_last}
+use Rattle.versions.proofs.StoreLaws.{last-dropped}
+use Rattle.node.proofs.SoundActions.{sound_act}
 
 -- ---- own reads
 
-dirty_elsewhere : (s : ServerState) (key : List ℕ) → IsSettled s → is_clean s.store key ≡ false → is_tail s ≡ false
+pub dirty_elsewhere : (s : ServerState) (key : List ℕ) → IsSettled s → is_clean s.store key ≡ false → is_tail s ≡ false
 dirty_elsewhere s key settled dirty =
     false_from_ne_true (is_tail s) (λ t. both_ways _ dirty (clean_at_last s key (settled t).0))
 
@@ -118,7 +120,7 @@ module _ (s : ServerState) (d : Due) (port : ℕ) (asked_call : Call) (h : IsSou
       (λ (a : Outcome). IsRule (Some (Called port asked_call)) s d a (IsPaid a.state))
       (λ t. (let low = (reads_bound 0 s.store.floor s.asks s.next_ask s.store.acked h.reads).0 in
       rule_first (Some (Called port asked_call)) s d (Ask port key)
-      (λ u. putting u (message_to s (tail_of s) (Query s.next_ask key))) _ h
+      (λ u. putting u (message_to s (tail_of s) (Query s.next_ask key))) _ refl h
       (asked_call, refl, is, one, dirty, t) tt
       (λ k. rule_query None s d port key low (dirty_elsewhere s key p.last dirty) p k)))
       (λ f. rule_silent (Some (Called port asked_call)) s d _ h p)
@@ -130,7 +132,7 @@ module _ (s : ServerState) (d : Due) (port : ℕ) (asked_call : Call) (h : IsSou
   rule_read_of (One key) one =
       cond_both (is_clean s.store key) _ _
       (λ (a : Outcome). IsRule (Some (Called port asked_call)) s d a (IsPaid a.state))
-      (λ t. rule_one (Some (Called port asked_call)) s d (Show port key) _ h (asked_call, refl, is, one, t) tt p)
+      (λ t. rule_one (Some (Called port asked_call)) s d (Show port key) _ refl h (asked_call, refl, is, one, t) tt p)
       (λ f. rule_dirty_read key one f)
   rule_read_of All one = rule_silent (Some (Called port asked_call)) s d _ h p
 
@@ -194,7 +196,7 @@ module _ (s : ServerState) (d : Due) (i : ℕ) (m : Peer) (h : IsSound s) (p : I
   rule_finished n r is from found waits = cond_both (nat_le r.mark n && nat_le n (last_number s.store)) _ _
       (λ (a : Outcome). IsRule (Some (From i m)) s d a (Answers r.ask n a))
       (λ t. (let parts = and_parts (nat_le r.mark n) (nat_le n (last_number s.store)) t in
-      rule_one (Some (From i m)) s d (Finish r n) _ h
+      rule_one (Some (From i m)) s d (Finish r n) _ refl h
       (found, waits, leb-true _ _ parts.0, leb-true _ _ parts.1, inr (i, m, refl, is, from)) tt (
         record {
           forwarded = p.forwarded;
@@ -236,7 +238,7 @@ module _ (s : ServerState) (d : Due) (i : ℕ) (m : Peer) (h : IsSound s) (p : I
       (rule_finished n r (subst (λ (x : ℕ). m.body ≡ Answer x n) (sym q.0) is) from
       (subst (λ (x : ℕ). open_read s.asks x ≡ Some r) (sym q.0) found) q.1)
 
-  rule_receive_answer : (ask n : ℕ)
+  pub rule_receive_answer : (ask n : ℕ)
       → m.body ≡ Answer ask n
       → IsRule (Some (From i m)) s d (receive_answer s i ask n)
       (λ e. IsPaid (receive_answer s i ask n).state e × IsTakenIn i (Answer ask n) (receive_answer s i ask n))
@@ -258,12 +260,31 @@ module _ (s : ServerState) (d : Due) (i : ℕ) (m : Peer) (h : IsSound s) (p : I
   rule_receive_query ask key is low lives =
       cond_both (is_tail s) _ _
       (λ (a : Outcome). IsRule (Some (From i m)) s d a (λ e. IsPaid a.state e × IsTakenIn i (Query ask key) a))
-      (λ t. rule_one (Some (From i m)) s d (Send i (Answer ask (last_number s.store))) _ h
+      (λ t. rule_one (Some (From i m)) s d (Send i (Answer ask (last_number s.store))) _ refl h
       ((t, refl, lives, m, key, refl, is), low) tt
       (p, λ _. (record { view = s.view; body = Answer ask (last_number s.store) }, (0, refl), refl)))
       (λ f. rule_silent (Some (From i m)) s d _ h (p, λ t. absurd (both_ways _ f t)))
 
 -- ---- inputs
+
+-- what a heard message keeps to
+pub record Hears (s : ServerState) (i : ℕ) (v : View) : Type 0 where
+  pub placed : i < s.count
+  pub other : (i == s.id) ≡ false
+  pub below : is_below v s.count ≡ true
+  pub outside : has v s.id ≡ false
+
+pub heard : (s : ServerState) (i : ℕ) (v : View) → is_heard s i v ≡ true → Hears s i v
+heard s i v h =
+    let last_part = and_parts (nat_lt i s.count && not (i == s.id) && is_below v s.count) (not (has v s.id)) h in
+    let third_part = and_parts (nat_lt i s.count && not (i == s.id)) (is_below v s.count) last_part.0 in
+    let first_part = and_parts (nat_lt i s.count) (not (i == s.id)) third_part.0 in
+    record {
+      placed = ltb-true _ _ first_part.0;
+      other = not-true _ first_part.1;
+      below = third_part.1;
+      outside = not-true _ last_part.1;
+    }
 
 rule_receive : (s : ServerState) (d : Due) (i : ℕ) (m : Peer) (body : Body)
     → m.body ≡ body
@@ -349,9 +370,9 @@ rule_from_peer s i m h settled fit valid =
     (λ g x. (
       x.0,
       λ _. (
-        λ n y. view_after c mid _ n rest.done (j.knows n y),
+        λ n y. (grown_after c mid _ rest.done).view n (j.knows n y),
         λ out. taken_behind i m.body (join s m.view) (received mid i m.body)
-            (x.1 (false_from_ne_true _ (λ y. both_ways _ out (view_after c mid _ i rest.done y)))),
+            (x.1 (false_from_ne_true _ (λ y. both_ways _ out ((grown_after c mid _ rest.done).view i y)))),
       ),
     )) rest))))
     (λ f. rule_silent c s d _ h (paid_nothing s settled, λ t. absurd (both_ways _ f t)))
@@ -376,16 +397,17 @@ rule_gone s j h settled =
     ))
 
 pub rule_taken_in : (s : ServerState) (input : Input)
-    → IsLawful s
+    → IsSound s
+    → IsSettled s
     → IsInput input
     → HoldsEntry input
     → IsRule (Some input) s (nothing_due s) (taken_in s input)
     (λ e. IsPaid (taken_in s input).state e × IsHeeded input s (taken_in s input))
-rule_taken_in s (Called port made) h fit valid =
+rule_taken_in s (Called port made) h settled fit valid =
     rule_so _ s _ _ _ _ (λ e x. (x, tt))
-    (rule_call s (nothing_due s) port made h.sound (paid_nothing s h.settled) refl fit)
-rule_taken_in s (From i m) h fit valid = rule_from_peer s i m h.sound h.settled fit valid
-rule_taken_in s (Gone j) h fit valid = rule_gone s j h.sound h.settled
+    (rule_call s (nothing_due s) port made h (paid_nothing s settled) refl fit)
+rule_taken_in s (From i m) h settled fit valid = rule_from_peer s i m h settled fit valid
+rule_taken_in s (Gone j) h settled fit valid = rule_gone s j h settled
 
 -- ---- the floor
 
@@ -442,18 +464,30 @@ pub step_whole : (s : ServerState) (input : Input)
     → IsInput input
     → HoldsEntry input
     → IsWhole input s (step s input)
-unfolding act
+unfolding act does
 step_whole s input h fit valid =
     let a = taken_in s input in
     let d = nothing_due s in
     let c : Cause = Some input in
-    let first = rule_taken_in s input h fit valid in
-    let whole = rule_as c s d _ (step s input) (λ e. IsPaid (trimmed a.state) e × IsHeeded input s (step s input))
-    (ap (λ (os : List Output). record { state = trimmed a.state; outputs = os }) (sym (append-nil a.outputs)))
-    (rule_then c s d a (λ t. silent (trimmed t)) _ _ first
-    (λ e x k. rule_one (left c) a.state e Trim _ k tt tt
-    (paid_trimmed a.state e k x.0, heeded_trimmed s input a k x.1))) in
-    record { done = whole.done; turns = whole.turns; paid = whole.after.0; heeded = whole.after.1 }
+    let first = rule_taken_in s input h.sound h.settled fit valid in
+    let k = sound_after c s a first.done in
+    let e = due_in_the_end d s first.done.actions in
+    let floor : IsDone (left c) a.state (silent (trimmed a.state)) =
+    record { actions = Trim ∷ []; guarded = (k, tt, sound_act (left c) a.state Trim k tt); same = refl } in
+    let whole = turned_then c s d a (λ t. silent (trimmed t))
+    (λ x. IsPaid (trimmed a.state) x × IsHeeded input s (step s input)) first.done first.turns floor (tt, tt)
+    (paid_trimmed a.state e k first.after.0, heeded_trimmed s input a k first.after.1) in
+    record {
+      done = record {
+        actions = whole.done.actions;
+        guarded = whole.done.guarded;
+        same = ap (λ (os : List Output). record { state = trimmed a.state; outputs = os }) (sym (append-nil a.outputs))
+            ∙ whole.done.same;
+      };
+      turns = whole.turns;
+      paid = whole.after.0;
+      heeded = whole.after.1;
+    }
 
 pub step_done : (s : ServerState) (input : Input)
     → IsLawful s

@@ -20,8 +20,9 @@ use Rattle.node.specs.Steps.{taken_in, least_open, trimmed, step}
 use Rattle.node.specs.Lawful.{IsSound, IsLawful, IsInput, HoldsEntry}
 use Rattle.node.specs.Faces.{FaceState, face_after_all, face_changed, face_steps, face_of, steps_by, acked_by}
 use Rattle.node.proofs.SoundLaws.{least_within}
-use Rattle.node.proofs.RuleLaws.{good-taken_in}
-use Rattle.node.proofs.Growth.{Grows, grows-taken_in}
+use Rattle.node.proofs.Growth.{Grows}
+use Rattle.node.proofs.DoneActions.{sound_after, grown_after}
+use Rattle.node.proofs.DoneSteps.{rule_taken_in}
 use Rattle.node.proofs.FaceLaws.{Slot, slot, number_in, item_in, slot_after, slot_by, slot_by_all, slot-all, item-all}
 use Rattle.node.proofs.FaceLaws.{slot-is, kept, kept_clear, slot_at, slot-face_at, based_version, face_based}
 use Rattle.node.proofs.FaceLaws.{item_based, slot_based, slot_of, slot-raw}
@@ -234,6 +235,5 @@ changed-trimmed s t g le h =
 pub face-changed : (s : ServerState) (input : Input) → IsInput input → HoldsEntry input → IsLawful s
     → face_changed (face_of s) (steps_by s input) (acked_by s input) ≡ face_of (step s input).state
 face-changed s input fit valid h =
-    let g = grows-taken_in s input in
-    changed-trimmed s (taken_in s input).state g (g.acked h.sound.store.acked_held).0
-    (good-taken_in s input fit valid (record { sound = h.sound; settled = h.settled })).sound
+    let r = rule_taken_in s input h.sound h.settled fit valid in
+    changed-trimmed s (taken_in s input).state r.grows (grown_after _ s _ r.done).acked (sound_after _ s _ r.done)

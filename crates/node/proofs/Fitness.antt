@@ -1,24 +1,19 @@
 -- What an action puts out may be sent, and handed in at another server; and so what a step does.
-use Rattle.std.proofs.Common.{◌≡◌, ℕ, zero, suc, ◌+◌, ◌==◌, List, [], ◌∷◌, ◌++◌, Option, Some, None, sym, subst, arith}
-use Rattle.std.specs.Prelude.{slice_get}
-use Rattle.std.proofs.lemmas.Bool.{cond_both}
+use Rattle.std.proofs.Common.{◌≡◌, ℕ, ◌+◌, List, [], ◌∷◌, ◌++◌, Some, sym, subst, arith}
 use Rattle.std.proofs.lemmas.Option.{same_Some}
-use Rattle.table.specs.declared.operations.Reply.{Reply}
-use Rattle.versions.specs.Entries.{LogEntry, IsEntry}
-use Rattle.versions.specs.Stores.{IsLog}
-use Rattle.node.specs.declared.servers.OpenUpdate.{OpenUpdate}
 use Rattle.node.specs.declared.messages.Body.{Body}
 use Rattle.node.specs.declared.messages.Body.TheVariants.{Op, Forward, Ack, Query, Answer}
 use Rattle.node.specs.declared.messages.Input.{Input}
 use Rattle.node.specs.declared.messages.Input.TheVariants.{From}
 use Rattle.node.specs.declared.messages.Output.{Output}
 use Rattle.node.specs.Servers.{ServerState, Outcome}
-use Rattle.node.specs.Numbering.{open_update, replied, reply_to}
 use Rattle.node.specs.Steps.{taken_in}
 use Rattle.node.specs.Lawful.{IsBody, IsInput, HoldsEntry, IsSendable, IsSound, IsLawful, AreFit}
 use Rattle.node.specs.Actions.{Action, Widen, Append, Reach, Settle, Send, Finish, Trim, Enter, Ask, Show, act, does}
 use Rattle.node.specs.Actions.{Cause, left, MaySend, Guard, AreGuarded}
 use Rattle.node.proofs.OpenLists.{update_above}
+use Rattle.node.proofs.StoreChanges.{log_entry}
+use Rattle.node.proofs.Settling.{reply_all}
 use Rattle.node.proofs.DoneActions.{came_left}
 use Rattle.node.proofs.DoneSteps.{rule_taken_in}
 
@@ -38,11 +33,6 @@ sendable_fits (Answer ask n) h = tt
 abbrev IsGiven : Cause → Type 0
 IsGiven c = (input : Input) → c ≡ Some input → IsInput input
 
-pub log_entry : (floor k : ℕ) (es : List LogEntry) (e : LogEntry) → IsLog floor es → slice_get es k ≡ Some e → IsEntry e
-log_entry floor k [] e log h = absurd cc
-log_entry floor zero (x ∷ es) e log h = subst (λ y. IsEntry y) (same_Some x e h) log.0
-log_entry floor (suc k) (x ∷ es) e log h = log_entry (floor + 1) k es e log.2 h
-
 sendable : (c : Cause) (s : ServerState) (j : ℕ) (body : Body)
     → IsSound s
     → IsGiven c
@@ -54,20 +44,12 @@ sendable c s j (Ack n) h given g = tt
 sendable c s j (Query ask key) h given g = g.2
 sendable c s j (Answer ask n) h given g = subst (λ b. IsBody b) g.6 (given (From j g.3) g.5)
 
-replied_fit : (reply : Reply) (u : Option OpenUpdate) → AreFit (replied reply u)
-replied_fit reply None = tt
-replied_fit reply (Some u) = (tt, tt)
-
-reply_fit : (own : ℕ) (pend : List OpenUpdate) (e : LogEntry) → AreFit (reply_to own pend e)
-reply_fit own pend e = cond_both (e.origin == own) _ _ (λ (os : List Output). AreFit os)
-    (λ t. replied_fit e.reply (open_update pend e.id)) (λ f. tt)
-
 fit_act : (c : Cause) (s : ServerState) (a : Action) → IsSound s → IsGiven c → Guard c s a → AreFit (act s a).outputs
 unfolding act
 fit_act c s (Widen v) h given g = tt
 fit_act c s (Append e) h given g = tt
 fit_act c s (Reach n) h given g = tt
-fit_act c s (Settle e) h given g = reply_fit s.id s.pend e
+fit_act c s (Settle e) h given g = reply_all (λ os. AreFit os) s.id s.pend e tt (λ port. (tt, tt))
 fit_act c s (Send j body) h given g = (let may = sendable c s j body h given g.0 in (may, sendable_fits body may), tt)
 fit_act c s (Finish r n) h given g = (tt, tt)
 fit_act c s Trim h given g = tt
@@ -92,6 +74,6 @@ pub fit_taken_in : (s : ServerState) (input : Input)
     → IsLawful s
     → AreFit (taken_in s input).outputs
 fit_taken_in s input fit valid h =
-    let d = (rule_taken_in s input h fit valid).done in
+    let d = (rule_taken_in s input h.sound h.settled fit valid).done in
     subst (λ (o : Outcome). AreFit o.outputs) (sym d.same)
     (fit_does d.actions (Some input) s (λ x e. subst (λ y. IsInput y) (same_Some input x e) fit) d.guarded)

@@ -1,15 +1,21 @@
 -- Heads, tails, successors and predecessors: what it means to be one, that there is only one, and whom a server takes
 -- for its own.
-use Rattle.std.proofs.Common.{◌≡◌, ◌≢◌, ℕ, suc, ◌-◌, ◌<◌, true, false, Option, Some, None, refl, arith, inl, inr, ap}
+use Rattle.std.proofs.Common.{◌≡◌, ◌≢◌, ℕ, suc, ◌-◌, ◌<◌, true, false, Option, Some, None, refl, ◌∙◌, arith, inl, inr, ap}
 use Rattle.std.proofs.lemmas.Bool.{both_ways, cases_order, eqb-true, eq-eqb}
-use Rattle.node.specs.Views.{View, has, predecessor, successor, head, tail, is_that}
+use Rattle.node.specs.Views.{View, has, predecessor, successor, head, tail, is_that, is_same}
 use Rattle.node.specs.Servers.{ServerState, head_of, tail_of, is_head, is_tail, previous, next}
 use Rattle.node.proofs.ViewLaws.{next_is, next_within_many, no_next, IsPrevious, previous_is, no_previous}
-use Rattle.node.proofs.Addresses.{to_head, to_tail}
 
 pub that_is : (o : Option ℕ) (i : ℕ) → is_that o i ≡ true → o ≡ Some i
 that_is None i h = absurd cc
 that_is (Some j) i h = ap (λ x. Some x) (eqb-true j i h)
+
+-- the test of being the same says so
+pub same_is : (a b : Option ℕ) → is_same a b ≡ true → a ≡ b
+same_is None None h = refl
+same_is None (Some j) h = absurd cc
+same_is (Some i) None h = absurd cc
+same_is (Some i) (Some j) h = ap Some (eqb-true i j h)
 
 pub is_itself : (o : Option ℕ) (i : ℕ) → o ≡ Some i → is_that o i ≡ true
 is_itself o i e = rw e (eq-eqb i i refl)
@@ -151,8 +157,24 @@ pub tail_within : (s : ServerState) (j : ℕ) → tail_of s ≡ Some j → j < s
 tail_within s j e = (previous_is s.view s.count j e).below
 
 -- who isn't the head takes another for it
+not_that : (o : Option ℕ) (i j : ℕ) → is_that o i ≡ false → o ≡ Some j → j ≢ i
+not_that o i j h e same = both_ways _ h (is_itself o i (e ∙ ap Some same))
+
 pub head_other : (s : ServerState) (j : ℕ) → is_head s ≡ false → head_of s ≡ Some j → j ≢ s.id
-head_other s j h e = (to_head s j h e).1
+head_other s j h e = not_that (head_of s) s.id j h e
 
 pub tail_other : (s : ServerState) (j : ℕ) → is_tail s ≡ false → tail_of s ≡ Some j → j ≢ s.id
-tail_other s j h e = (to_tail s j h e).1
+tail_other s j h e = not_that (tail_of s) s.id j h e
+
+-- each of them is another server of the chain
+pub to_previous : (s : ServerState) (j : ℕ) → s.id < s.count → previous s ≡ Some j → (j < s.count) × (j ≢ s.id)
+to_previous s j placed e = let low = previous_below s j e in (omega arith, λ same. omega (arith, same))
+
+pub to_next : (s : ServerState) (j : ℕ) → s.id < s.count → next s ≡ Some j → (j < s.count) × (j ≢ s.id)
+to_next s j placed e = let w = next_within s j placed e in (w.1, λ same. omega (arith, w.0, same))
+
+pub to_head : (s : ServerState) (j : ℕ) → is_head s ≡ false → head_of s ≡ Some j → (j < s.count) × (j ≢ s.id)
+to_head s j h e = (head_within s j e, head_other s j h e)
+
+pub to_tail : (s : ServerState) (j : ℕ) → is_tail s ≡ false → tail_of s ≡ Some j → (j < s.count) × (j ≢ s.id)
+to_tail s j h e = (tail_within s j e, tail_other s j h e)

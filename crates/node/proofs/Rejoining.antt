@@ -1,12 +1,12 @@
 -- The steps of joining, one after another: the server behind each, and all that they put out.
-use Rattle.std.proofs.Common.{◌≡◌, ℕ, List, ◌++◌, sym, ap, ◌∙◌, append_assoc}
+use Rattle.std.proofs.Common.{◌≡◌, ℕ, ◌==◌, ◌&&◌, not, List, ◌++◌, refl, sym, ap, ◌∙◌, append_assoc}
+use Rattle.std.proofs.lemmas.Bool.{cond_both}
 use Rattle.std.specs.Prelude.{Result, Ok, Err, OnOk}
 use Rattle.node.specs.declared.messages.Output.{Output}
-use Rattle.node.specs.Views.{View}
-use Rattle.node.specs.Servers.{ServerState}
+use Rattle.node.specs.Views.{View, predecessor, is_same}
+use Rattle.node.specs.Servers.{ServerState, Outcome, previous}
 use Rattle.node.specs.Joining.{promoted_to_head, promoted_to_tail, caught_up, acked_to_predecessor, asks_renewed}
 use Rattle.node.specs.Joining.{rejoined}
-use Rattle.node.proofs.RuleLaws.{silent-caught_up, silent-acked_to_predecessor}
 
 pub on_ok : {T E : Type 0} (r : Result T E) (P Q : Type 0) → (P → Q) → OnOk r P → OnOk r Q
 on_ok (Ok x) P Q f h = f h
@@ -18,6 +18,17 @@ pub one_part : (start sofar done part after : List Output)
     → after ≡ done ++ part
     → after ≡ start ++ (sofar ++ part)
 one_part start sofar done part after h put = put ∙ ap (λ d. d ++ part) h ∙ append_assoc start sofar part
+
+-- the fourth and the fifth step leave the server
+silent-caught_up : (old : View) (n : ℕ) (s : ServerState) → (caught_up old n s).state ≡ s
+unfolding caught_up
+silent-caught_up old n s = refl
+
+silent-acked_to_predecessor : (old : View) (n : ℕ) (s : ServerState) → (acked_to_predecessor old n s).state ≡ s
+unfolding acked_to_predecessor
+silent-acked_to_predecessor old n s =
+    cond_both (not (is_same (predecessor old s.id) (previous s)) && s.store.acked == n) _ _
+    (λ (a : Outcome). a.state ≡ s) (λ t. refl) (λ f. refl)
 
 module _ (old : View) (n m : ℕ) (s : ServerState) where
   third : ServerState

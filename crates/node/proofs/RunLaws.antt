@@ -9,8 +9,7 @@ use Rattle.node.specs.Lawful.{IsLawful, AreToOthers, AreFit}
 use Rattle.node.specs.Runs.{after, put_out, AreInputs}
 use Rattle.node.specs.Replies.{is_call_at, is_reply_at, calls_at, replies_at, open_at, opened_at, has_room}
 use Rattle.node.proofs.RuleLaws.{lawful-step}
-use Rattle.node.proofs.Addresses.{others_append}
-use Rattle.node.proofs.StepAddresses.{others_taken_in}
+use Rattle.node.proofs.Addresses.{others_append, others_taken_in}
 use Rattle.node.proofs.Fitness.{fit_append, fit_taken_in}
 use Rattle.node.proofs.Counts.{count-append}
 use Rattle.node.proofs.StepCloses.{answers-step}
@@ -48,7 +47,7 @@ others-after s (i ∷ is) valid h =
     let next = (step s i).state in
     let done = answers-step s i valid.0 valid.1 h in
     others_append s.id s.count (step s i).outputs (put_out next is)
-    (others_taken_in s i (record { sound = h.sound; settled = h.settled }))
+    (others_taken_in s i h.sound h.settled)
     (moved s.id s.count next (put_out next is) done.id done.count
     (others-after next is valid.2 (lawful-step s i valid.0 valid.1 h)))
 

@@ -1,10 +1,24 @@
 -- Own calls that are answered, an entry at a time.
 use Rattle.std.proofs.Common.{◌≡◌, ℕ, zero, suc, ◌+◌, ◌-◌, ◌<◌, ◌≤◌, List, [], ◌∷◌, ◌++◌, length, take, refl, sym, ap}
-use Rattle.std.proofs.Common.{◌∙◌, arith, append_assoc, append-nil}
+use Rattle.std.proofs.Common.{◌∙◌, arith, append_assoc, append-nil, ◌==◌, Option, Some, None}
+use Rattle.std.proofs.lemmas.Bool.{cond_both}
 use Rattle.versions.specs.Entries.{LogEntry}
 use Rattle.node.specs.declared.servers.OpenUpdate.{OpenUpdate}
 use Rattle.node.specs.declared.messages.Output.{Output}
-use Rattle.node.specs.Numbering.{left_open, left_open_by, replies, reply_to}
+use Rattle.node.specs.Servers.{reply_at}
+use Rattle.node.specs.Numbering.{open_update, left_open, left_open_by, replied, replies, reply_to}
+
+-- an entry puts out a reply, or nothing
+pub reply_all : (P : List Output → Type 0) (id : ℕ) (pend : List OpenUpdate) (e : LogEntry)
+    → P []
+    → ((port : ℕ) → P (reply_at port e.reply))
+    → P (reply_to id pend e)
+reply_all P id pend e none one =
+    cond_both (e.origin == id) _ _ (λ (os : List Output). P os) (λ t. replied_all (open_update pend e.id)) (λ f. none)
+  where
+    replied_all : (u : Option OpenUpdate) → P (replied e.reply u)
+    replied_all None = none
+    replied_all (Some u) = one u.port
 
 left_more : (id : ℕ) (pend : List OpenUpdate) (e : LogEntry) (es : List LogEntry)
     → left_open id pend (e ∷ es) ≡ left_open id (left_open_by id pend e) es

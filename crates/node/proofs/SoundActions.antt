@@ -80,6 +80,23 @@ grown_then s t u h g = record {
   next_ask = omega (arith, h.next_ask, g.next_ask);
 }
 
+-- what leaves the view and the acknowledged number takes nothing away
+grown_kept : (s t : ServerState)
+    → IsSeatOf s t
+    → t.view ≡ s.view
+    → t.store.acked ≡ s.store.acked
+    → s.next_id ≤ t.next_id
+    → s.next_ask ≤ t.next_ask
+    → Grown s t
+grown_kept s t seat view acked ids asks = record {
+  id = seat.id;
+  count = seat.count;
+  view = λ k h. ap (λ v. has v k) view ∙ h;
+  acked = omega (arith, acked);
+  next_id = ids;
+  next_ask = asks;
+}
+
 pub grown_act : (cause : Cause) (s : ServerState) (a : Action) → Guard cause s a → Grown s (act s a).state
 unfolding act widened appended entered asked trimmed
 grown_act cause s (Widen v) g =
@@ -91,15 +108,7 @@ grown_act cause s (Widen v) g =
       next_id = omega arith;
       next_ask = omega arith;
     }
-grown_act cause s (Append e) g =
-    record {
-      id = refl;
-      count = refl;
-      view = λ k h. h;
-      acked = omega arith;
-      next_id = omega arith;
-      next_ask = omega arith;
-    }
+grown_act cause s (Append e) g = grown_kept s _ (seat_act s (Append e)) refl refl (omega arith) (omega arith)
 grown_act cause s (Reach n) g =
     record {
       id = refl;
@@ -109,50 +118,12 @@ grown_act cause s (Reach n) g =
       next_id = omega arith;
       next_ask = omega arith;
     }
-grown_act cause s (Settle e) g =
-    record {
-      id = refl;
-      count = refl;
-      view = λ k h. h;
-      acked = omega arith;
-      next_id = omega arith;
-      next_ask = omega arith;
-    }
+grown_act cause s (Settle e) g = grown_kept s _ (seat_act s (Settle e)) refl refl (omega arith) (omega arith)
 grown_act cause s (Send j body) g = grown_same s
-grown_act cause s (Finish r n) g =
-    record {
-      id = refl;
-      count = refl;
-      view = λ k h. h;
-      acked = omega arith;
-      next_id = omega arith;
-      next_ask = omega arith;
-    }
-grown_act cause s Trim g =
-    record {
-      id = refl;
-      count = refl;
-      view = λ k h. h;
-      acked = omega arith;
-      next_id = omega arith;
-      next_ask = omega arith;
-    }
+grown_act cause s (Finish r n) g = grown_kept s _ (seat_act s (Finish r n)) refl refl (omega arith) (omega arith)
+grown_act cause s Trim g = grown_kept s _ (seat_act s Trim) refl refl (omega arith) (omega arith)
 grown_act cause s (Enter port call) g =
-    record {
-      id = refl;
-      count = refl;
-      view = λ k h. h;
-      acked = omega arith;
-      next_id = omega arith;
-      next_ask = omega arith;
-    }
+    grown_kept s _ (seat_act s (Enter port call)) refl refl (omega arith) (omega arith)
 grown_act cause s (Ask port key) g =
-    record {
-      id = refl;
-      count = refl;
-      view = λ k h. h;
-      acked = omega arith;
-      next_id = omega arith;
-      next_ask = omega arith;
-    }
+    grown_kept s _ (seat_act s (Ask port key)) refl refl (omega arith) (omega arith)
 grown_act cause s (Show port key) g = grown_same s

@@ -1,8 +1,9 @@
 -- What every server keeps within a step: each change of a server keeps it.
-use Rattle.std.proofs.Common.{◌≡◌, ℕ, ◌+◌, ◌-◌, ◌<◌, ◌≤◌, ◌==◌, Bool, true, false, cond, List, [], ◌∷◌, ◌++◌, length}
+use Rattle.std.proofs.Common.{◌≡◌, ℕ, ◌+◌, ◌-◌, ◌<◌, ◌≤◌, nat_lt, ◌==◌, Bool, true, false, cond, List, [], ◌∷◌, ◌++◌, length}
 use Rattle.std.proofs.Common.{take, get_or, Option, Some, None, refl, sym, ◌∙◌, arith, length-set, length-take-le}
 use Rattle.std.specs.List.{find}
 use Rattle.std.proofs.lemmas.Option.{same_Some}
+use Rattle.std.proofs.lemmas.Bool.{cond_both, and_parts, eqb-true}
 use Rattle.table.specs.Operations.{is_update}
 use Rattle.std.specs.FinMap.{get-insert, get-remove, get-empty}
 use Rattle.std.specs.Cmp.Lexicographic.{nat_list_cmp_total}
@@ -19,13 +20,15 @@ use Rattle.versions.specs.Stores.{StoreState, IsLog, IsStore, last_number, acked
 use Rattle.node.specs.declared.servers.OpenUpdate.{OpenUpdate}
 use Rattle.node.specs.declared.servers.OpenRead.{OpenRead}
 use Rattle.node.specs.Views.{View, has, is_below}
-use Rattle.node.specs.Servers.{ServerState}
-use Rattle.node.specs.Numbering.{left_open, left_open_by, without_update, newly_acked, risen, appended, entered}
+use Rattle.node.specs.Servers.{ServerState, most, seen_of}
+use Rattle.node.specs.Numbering.{left_open, left_open_by, without_update, newly_acked, risen, newest, appended, entry_of}
+use Rattle.node.specs.Numbering.{is_taken, taken, entered}
 use Rattle.node.specs.Reading.{asked, without_read}
 use Rattle.node.specs.Joining.{widened}
 use Rattle.node.specs.Steps.{least_open, trimmed}
 use Rattle.node.specs.Lawful.{IsCall, AreUpdates, AreReads, IsSound}
 use Rattle.node.proofs.ViewLaws.{has-union, below-union}
+use Rattle.node.proofs.DecisionLaws.{decided}
 use Rattle.versions.proofs.Logs.{log-take}
 use Rattle.versions.proofs.StoreLaws.{store-pushed, store-acked, store-dropped}
 
@@ -387,3 +390,35 @@ sound-trimmed s h =
       updates = h.updates;
       reads = reads-least 0 s.store.floor s.asks s.next_ask s.store.acked h.reads;
     }
+
+-- ---- taking
+
+pub entry_of-valid : (s : ServerState) (origin id : ℕ) (made : Call)
+    → origin < 16
+    → IsCall made
+    → is_update made.op ≡ true
+    → is_taken s origin id ≡ true
+    → IsEntry (entry_of s origin id made)
+entry_of-valid s origin id made low fit is may =
+    let d = decided (newest s.store made.target) made.op (last_number s.store + 1) fit.0 is in
+    let next = eqb-true _ _ (and_parts (id == seen_of s origin + 1) (nat_lt (last_number s.store) most) may).0 in
+    record {
+      numbered = omega arith;
+      served = low;
+      called = omega (arith, next);
+      answered = d.answered;
+      put = d.put;
+      cleared = d.cleared ∙ fit.1;
+      flushed = d.flushed ∙ fit.1;
+    }
+
+pub sound-taken : (s : ServerState) (origin id : ℕ) (made : Call)
+    → origin < 16
+    → IsCall made
+    → is_update made.op ≡ true
+    → IsSound s
+    → IsSound (taken s origin id made)
+unfolding taken
+sound-taken s origin id made low fit is h = cond_both (is_taken s origin id) _ _ (λ t. IsSound t)
+    (λ t. sound-appended s (entry_of s origin id made) (entry_of-valid s origin id made low fit is t) refl h)
+    (λ f. h)

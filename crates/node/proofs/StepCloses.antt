@@ -212,10 +212,10 @@ answers-taken_in s (Called p made) fit valid h = answers-call s p made fit h
 answers-taken_in s (From i peer) fit valid h =
     answers-closed s (From i peer) _ (λ port reads. refl)
     (closes-done (Some (From i peer)) s _ (λ p made e. let no = e in cc)
-    (rule_taken_in s (From i peer) h fit valid).done)
+    (rule_taken_in s (From i peer) h.sound h.settled fit valid).done)
 answers-taken_in s (Gone j) fit valid h =
     answers-closed s (Gone j) _ (λ port reads. refl)
-    (closes-done (Some (Gone j)) s _ (λ p made e. let no = e in cc) (rule_taken_in s (Gone j) h fit valid).done)
+    (closes-done (Some (Gone j)) s _ (λ p made e. let no = e in cc) (rule_taken_in s (Gone j) h.sound h.settled fit valid).done)
 
 trimmed_answers : (s : ServerState) (input : Input) (a : Outcome)
     → Answers s input a

@@ -1,9 +1,13 @@
--- What a store holds above a number.
-use Rattle.std.proofs.Common.{◌≡◌, ℕ, zero, suc, ◌+◌, ◌-◌, ◌<◌, ◌≤◌, List, [], ◌∷◌, take, drop, Some, refl, ap, arith}
+-- What a store holds: its entries, and those above a number.
+use Rattle.std.proofs.Common.{◌≡◌, ℕ, zero, suc, ◌+◌, ◌-◌, ◌<◌, ◌≤◌, true, not, List, [], ◌∷◌, take, drop, Some, refl}
+use Rattle.std.proofs.Common.{ap, subst, arith}
 use Rattle.std.specs.Prelude.{slice_get}
+use Rattle.std.specs.List.{list_any}
+use Rattle.std.proofs.lemmas.List.{drop_all}
 use Rattle.std.proofs.lemmas.Option.{same_Some}
-use Rattle.versions.specs.Entries.{LogEntry}
-use Rattle.versions.specs.Stores.{StoreState, IsLog, IsStore, entries_after}
+use Rattle.versions.specs.Entries.{LogEntry, IsEntry}
+use Rattle.versions.specs.Stores.{StoreState, IsLog, IsStore, last_number, entries_after, is_clean, touches}
+use Rattle.node.specs.Servers.{ServerState}
 use Rattle.node.proofs.Lists.{In}
 
 log_at : (floor k : ℕ) (es : List LogEntry) (e : LogEntry)
@@ -14,6 +18,12 @@ log_at floor k [] e log h = absurd cc
 log_at floor zero (f ∷ es) e log h =
     let same : f ≡ e = same_Some f e h in omega (arith, log.1, ap (λ (x : LogEntry). x.number) same)
 log_at floor (suc k) (f ∷ es) e log h = omega (arith, log_at (floor + 1) k es e log.2 h)
+
+-- what stands in a log is an entry
+pub log_entry : (floor k : ℕ) (es : List LogEntry) (e : LogEntry) → IsLog floor es → slice_get es k ≡ Some e → IsEntry e
+log_entry floor k [] e log h = absurd cc
+log_entry floor zero (x ∷ es) e log h = subst (λ y. IsEntry y) (same_Some x e h) log.0
+log_entry floor (suc k) (x ∷ es) e log h = log_entry (floor + 1) k es e log.2 h
 
 pub get_dropped : {X : Type 0} (m : ℕ) (xs : List X) (k n : ℕ) (x : X)
     → n ≡ m + k
@@ -47,3 +57,10 @@ held_between s n e h low i =
       (s.acked - s.floor + i.0, at),
       omega (arith, g.1, h.floor_acked, log_at s.floor (s.acked - s.floor + i.0) s.rest e h.log at),
     )
+
+-- who has acknowledged everything has only clean keys
+pub clean_at_last : (s : ServerState) (key : List ℕ) → s.store.acked ≡ last_number s.store → is_clean s.store key ≡ true
+clean_at_last s key all =
+    let none : entries_after s.store s.store.acked ≡ [] =
+    drop_all (s.store.acked - s.store.floor) s.store.rest (omega (arith, all)) in
+    ap (λ es. not (list_any (touches key) es)) none

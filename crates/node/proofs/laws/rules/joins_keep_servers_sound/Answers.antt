@@ -1,5 +1,6 @@
-use Rattle.node.proofs.RuleLaws.{good-join, good-received, good-taken_in, clean_at_last}
-use Rattle.node.proofs.Addresses.{to_head, to_tail}
+use Rattle.node.proofs.RuleLaws.{good-join, good-received, good-taken_in}
+use Rattle.node.proofs.StoreChanges.{clean_at_last}
+use Rattle.node.proofs.Neighbours.{to_head, to_tail}
 use Rattle.node.proofs.laws.rules.joins_keep_servers_sound.Goals as goal
 
 pub returns-clause-join : goal.returns-clause-join

@@ -1,5 +1,5 @@
 use Rattle.node.proofs.SoundLaws.{sound-appended, sound-risen, sound-entered, sound-asked, sound-widened, sound-trimmed}
-use Rattle.node.proofs.RuleLaws.{entry_of-valid, sound-taken}
+use Rattle.node.proofs.SoundLaws.{entry_of-valid, sound-taken}
 use Rattle.node.proofs.laws.rules.rules_keep_servers_sound.Goals as goal
 
 pub returns-clause-entry : goal.returns-clause-entry

@@ -1,5 +1,5 @@
 use Rattle.node.proofs.RuleLaws.{lawful-opening, lawful-step}
-use Rattle.node.proofs.StepAddresses.{others_taken_in}
+use Rattle.node.proofs.Addresses.{others_taken_in}
 use Rattle.node.proofs.Fitness.{fit_taken_in}
 use Rattle.node.proofs.FaceChanges.{face-changed}
 use Rattle.node.proofs.laws.steps.steps_are_lawful.Goals as goal
@@ -11,7 +11,7 @@ pub returns-clause-lawful : goal.returns-clause-lawful
 returns-clause-lawful c s input h fit valid = lawful-step s input fit valid h
 
 pub returns-clause-addressed : goal.returns-clause-addressed
-returns-clause-addressed c s input h = others_taken_in s input (record { sound = h.sound; settled = h.settled })
+returns-clause-addressed c s input h = others_taken_in s input h.sound h.settled
 
 pub returns-clause-fit : goal.returns-clause-fit
 returns-clause-fit c s input h fit valid = fit_taken_in s input fit valid h

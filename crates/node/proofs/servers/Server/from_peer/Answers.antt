@@ -1,6 +1,7 @@
 use Rattle.std.proofs.Common.{◌≡◌, rules, true}
 use Rattle.node.specs.Steps.{is_heard}
-use Rattle.node.proofs.RuleLaws.{good-join, heard}
+use Rattle.node.proofs.DoneSteps.{heard}
+use Rattle.node.proofs.RuleLaws.{good-join}
 use Rattle.node.proofs.servers.Server.from_peer.Goals as goal
 
 pub receive-requires-clause-chain : goal.receive-requires-clause-chain

@@ -1,7 +1,7 @@
 use Rattle.std.proofs.Common.{ap, ◌∙◌}
 use Rattle.node.specs.Servers.{ServerState}
 use Rattle.node.specs.Joining.{promoted_to_tail}
-use Rattle.node.proofs.RuleLaws.{ready}
+use Rattle.node.proofs.DoneJoins.{ready}
 use Rattle.node.proofs.Rejoining.{on_ok, rejoined_state, rejoined_outputs}
 use Rattle.node.proofs.servers.Server.rejoin.Goals as goal
 

@@ -1,5 +1,5 @@
-use Rattle.node.proofs.RuleLaws.{good-taken_in, lawful-trimmed}
-use Rattle.node.proofs.StepAddresses.{others_taken_in}
+use Rattle.node.proofs.RuleLaws.{good-taken_in, lawful-step}
+use Rattle.node.proofs.Addresses.{others_taken_in}
 use Rattle.node.proofs.Fitness.{fit_taken_in}
 use Rattle.node.proofs.servers.Server.step.Goals as goal
 
@@ -11,15 +11,13 @@ trim-requires c =
 
 pub returns-clause-lawful : goal.returns-clause-lawful
 returns-clause-lawful c =
-    let good = good-taken_in c.args.self.now c.args.input c.requires.input c.hold_entry.ensures
-    (record { sound = c.requires.lawful.sound; settled = c.requires.lawful.settled }) in
-    rw (c.trim.ensures, c.in_ok-take_in.ensures.state) (lawful-trimmed _ good)
+    rw (c.trim.ensures, c.in_ok-take_in.ensures.state)
+    (lawful-step c.args.self.now c.args.input c.requires.input c.hold_entry.ensures c.requires.lawful)
 
 pub returns-clause-addressed : goal.returns-clause-addressed
 returns-clause-addressed c =
     rw (c.in_ok-take_in.ensures.outputs, c.new-outputs.ensures.items)
-    (others_taken_in c.args.self.now c.args.input
-    (record { sound = c.requires.lawful.sound; settled = c.requires.lawful.settled }))
+    (others_taken_in c.args.self.now c.args.input c.requires.lawful.sound c.requires.lawful.settled)
 
 pub returns-clause-fit : goal.returns-clause-fit
 returns-clause-fit c =

@@ -2,10 +2,11 @@ use Rattle.std.proofs.Common.{rules, ◌≡◌, ◌∙◌, ap}
 use Rattle.versions.specs.Stores.{last_number}
 use Rattle.node.specs.Steps.{taken_in}
 use Rattle.node.specs.Faces.{face_changed, face_of, steps_by, acked_by}
-use Rattle.node.proofs.RuleLaws.{good-taken_in, lawful-trimmed}
-use Rattle.node.proofs.StepAddresses.{others_taken_in}
+use Rattle.node.proofs.RuleLaws.{good-taken_in, lawful-step}
+use Rattle.node.proofs.Addresses.{others_taken_in}
 use Rattle.node.proofs.Fitness.{fit_taken_in}
-use Rattle.node.proofs.Growth.{grows-taken_in, last-grown}
+use Rattle.node.proofs.Growth.{last-grown}
+use Rattle.node.proofs.DoneSteps.{rule_taken_in}
 use Rattle.node.proofs.FaceChanges.{face-changed}
 use Rattle.node.proofs.servers.Server.step_face.Goals as goal
 
@@ -17,21 +18,20 @@ trim-requires c =
 
 pub returns-clause-lawful : goal.returns-clause-lawful
 returns-clause-lawful c =
-    let good = good-taken_in c.args.self.now c.args.input c.requires.input c.hold_entry.ensures
-    (record { sound = c.requires.lawful.sound; settled = c.requires.lawful.settled }) in
-    rw (c.trim.ensures, c.in_ok-take_in.ensures.state) (lawful-trimmed _ good)
+    rw (c.trim.ensures, c.in_ok-take_in.ensures.state)
+    (lawful-step c.args.self.now c.args.input c.requires.input c.hold_entry.ensures c.requires.lawful)
 
 pub returns-clause-addressed : goal.returns-clause-addressed
 returns-clause-addressed c =
     rw (c.in_ok-take_in.ensures.outputs, c.new-outputs.ensures.items)
-    (others_taken_in c.args.self.now c.args.input
-    (record { sound = c.requires.lawful.sound; settled = c.requires.lawful.settled }))
+    (others_taken_in c.args.self.now c.args.input c.requires.lawful.sound c.requires.lawful.settled)
 
 pub change_after-requires : goal.change_after-requires
 change_after-requires c =
     let before : c.last-before.result ≡ last_number c.args.self.now.store = search rules in
     let between = last-grown c.args.self.now (taken_in c.args.self.now c.args.input).state
-    (grows-taken_in c.args.self.now c.args.input) in
+    (rule_taken_in c.args.self.now c.args.input c.requires.lawful.sound c.requires.lawful.settled c.requires.input
+    c.hold_entry.ensures).grows in
     record { above = rw (before, c.in_ok-take_in.ensures.state) between }
 
 pub returns-clause-face : goal.returns-clause-face

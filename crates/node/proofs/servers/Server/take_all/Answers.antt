@@ -3,7 +3,7 @@ use Rattle.std.proofs.lemmas.List.{drop_all}
 use Rattle.node.specs.Servers.{ServerState}
 use Rattle.node.specs.Numbering.{taken}
 use Rattle.node.proofs.Retaking.{call_at_is, no_call_at, waiting, pend-taken, taken_step, taken_end}
-use Rattle.node.proofs.RuleLaws.{sound-taken}
+use Rattle.node.proofs.SoundLaws.{sound-taken}
 use Rattle.node.proofs.servers.Server.take_all.Goals as goal
 
 pub returns-in_default : goal.returns-in_default
