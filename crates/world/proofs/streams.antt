@@ -2,9 +2,10 @@
 -- the same log. Begin with `Streaming`; `AtRest` is what it comes to.
 pub mod Streaming
 pub mod ForwardRuns
+pub mod Ways
+pub mod Stepped
 pub mod StepTellings
 pub mod StreamSteps
 pub mod StreamDeliveries
-pub mod Ways
 pub mod StreamEvents
 pub mod AtRest

@@ -3,14 +3,17 @@
 -- `StageEvents`). Begin with `Opening` and `Asking`; `NoneForgotten` is what it comes to.
 pub mod Opening
 pub mod OwnIds
-pub mod StaysOpen
+pub mod OwnEntries
+pub mod HeadOps
+pub mod HeadTakes
+pub mod Paces
 pub mod OpenSteps
 pub mod OpeningSteps
 pub mod OpeningInputs
 pub mod OpeningEvents
 pub mod Totals
 pub mod Rooms
-pub mod Paces
+pub mod StaysOpen
 pub mod KeptOpen
 pub mod CallsOpened
 pub mod InStep
@@ -18,7 +21,6 @@ pub mod Stages
 pub mod Bounds
 pub mod StageEvents
 pub mod Asking
-pub mod Stepped
 pub mod AskEvents
 pub mod RestingCalls
 pub mod NoneForgotten

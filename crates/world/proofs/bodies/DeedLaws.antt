@@ -1,6 +1,6 @@
 -- What events do, where they apply and where they don't.
-use Rattle.std.proofs.Common.{◌≡◌, ℕ, Bool, true, false, cond, List, [], ◌∷◌, get_or, Option, None, Some, refl, sym}
-use Rattle.std.proofs.Common.{◌∙◌, ap, subst}
+use Rattle.std.proofs.Common.{◌≡◌, ℕ, Bool, true, cond, List, [], ◌∷◌, get_or, Option, None, Some, refl, sym, ◌∙◌, ap}
+use Rattle.std.proofs.Common.{subst}
 use Rattle.std.specs.Prelude.{slice_get}
 use Rattle.table.specs.declared.operations.Call.{Call}
 use Rattle.node.specs.declared.messages.Peer.{Peer}

@@ -6,8 +6,7 @@ use Rattle.world.proofs.trace.Layers.{Calling}
 use Rattle.world.proofs.calls.StepInputs.{IsStep}
 use Rattle.world.proofs.calls.CallsDone.{pending_done, asking_done}
 use Rattle.world.proofs.calls.ConnectionsDone.{issued_begun, issued_once, next_done, alone_done, handed_done}
-use Rattle.world.proofs.calls.ConnectionsDone.{waiting_done}
-use Rattle.world.proofs.calls.ConnectionsDone.{asks_done}
+use Rattle.world.proofs.calls.ConnectionsDone.{waiting_done, asks_done}
 use Rattle.world.proofs.calls.LegalLogs.{ids_done, seen_done, decided_done}
 
 pub calling_done : (t : Traced) (i : ℕ) (cause : Cause) (a : Action) → IsStep t i cause a → Calling (done t i a)

@@ -21,8 +21,7 @@ use Rattle.node.specs.Actions.{Action, Widen, Append, Reach, Settle, Send, Finis
 use Rattle.world.proofs.trace.Traces.{Traced, issued_by, count, open_id, done}
 use Rattle.world.proofs.trace.Layers.{IsWith}
 use Rattle.world.proofs.trace.TraceLaws.{new_issued, server_done, server_other, issued_other, issued_done}
-use Rattle.world.proofs.trace.TraceLaws.{connection_done}
-use Rattle.world.proofs.trace.TraceLaws.{open_id_done}
+use Rattle.world.proofs.trace.TraceLaws.{connection_done, open_id_done}
 use Rattle.node.proofs.OpenLists.{updates_act, reads_act}
 use Rattle.world.proofs.calls.StepInputs.{IsStep, within, known_of}
 use Rattle.world.proofs.calls.Replying.{given}

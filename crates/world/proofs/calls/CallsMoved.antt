@@ -18,11 +18,9 @@ use Rattle.world.proofs.trace.Layers.{Later, Framed, Lawful, Logged, Calling, Re
 use Rattle.world.proofs.trace.WorldLaws.{Changes}
 use Rattle.world.proofs.trace.ChangeLaws.{server_reconnected, link_reconnected, log_reconnected, issued_reconnected}
 use Rattle.world.proofs.trace.ChangeLaws.{reads_reconnected, connection_reconnected, connection_unchanged}
-use Rattle.world.proofs.trace.ChangeLaws.{server_unlinked}
-use Rattle.world.proofs.trace.ChangeLaws.{link_unlinked, log_unlinked, issued_unlinked, reads_unlinked}
-use Rattle.world.proofs.trace.ChangeLaws.{connections_unlinked}
-use Rattle.world.proofs.trace.ChangeLaws.{server_failing, link_failing, log_failing, issued_failing, reads_failing}
-use Rattle.world.proofs.trace.ChangeLaws.{connections_failing}
+use Rattle.world.proofs.trace.ChangeLaws.{server_unlinked, link_unlinked, log_unlinked, issued_unlinked, reads_unlinked}
+use Rattle.world.proofs.trace.ChangeLaws.{connections_unlinked, server_failing, link_failing, log_failing}
+use Rattle.world.proofs.trace.ChangeLaws.{issued_failing, reads_failing, connections_failing}
 use Rattle.world.proofs.trace.Moves.{Move, Does, Comes, Starts, Works, Hands, Takes, Fails, moved, IsMove, CanDo}
 use Rattle.world.proofs.trace.Moves.{CanWork}
 use Rattle.world.proofs.trace.LaterMoves.{reply_stands}

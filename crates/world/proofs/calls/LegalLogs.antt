@@ -7,8 +7,7 @@ use Rattle.std.proofs.lemmas.Bool.{cases_eq, and_parts, eqb-true}
 use Rattle.std.proofs.lemmas.List.{take_all, get_or-set_same, get_or-set_other}
 use Rattle.table.specs.Operations.{is_update}
 use Rattle.table.specs.Decisions.{decision}
-use Rattle.table.specs.Plain.{item_at, item_of}
-use Rattle.table.specs.Plain.{opening as opening_table}
+use Rattle.table.specs.Plain.{item_at, item_of, opening as opening_table}
 use Rattle.table.specs.declared.operations.Call.{Call}
 use Rattle.table.specs.declared.operations.Target.{Target}
 use Rattle.table.specs.declared.operations.Target.TheVariants.{One, All}

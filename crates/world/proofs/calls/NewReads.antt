@@ -5,8 +5,7 @@ use Rattle.std.specs.List.{list_any}
 use Rattle.std.proofs.lemmas.Bool.{not-true}
 use Rattle.std.proofs.lemmas.List.{take_all, take-append-drop}
 use Rattle.table.specs.Operations.{is_update}
-use Rattle.table.specs.Plain.{item_at}
-use Rattle.table.specs.Plain.{opening as opening_table}
+use Rattle.table.specs.Plain.{item_at, opening as opening_table}
 use Rattle.table.specs.declared.operations.Call.{Call}
 use Rattle.table.specs.declared.operations.Reply.TheVariants.{Value}
 use Rattle.table.specs.declared.operations.Target.TheVariants.{One}

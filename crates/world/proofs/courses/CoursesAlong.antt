@@ -17,8 +17,7 @@ use Rattle.world.specs.Connections.{asked, replied, handed}
 use Rattle.world.specs.Sent.{Course, faults_next, on_piece, on_begin, on_hand, sent_bytes, calls_of}
 use Rattle.world.proofs.courses.FaultLaws.{FaultsTakeBytes}
 use Rattle.world.proofs.courses.TurnLists.{calls_of_more, texts_fault, texts_call, Writes, next_writes, fed_closed}
-use Rattle.world.proofs.courses.TurnLists.{fed_out}
-use Rattle.world.proofs.courses.TurnLists.{fed_asked, answered_out, answered_to_come}
+use Rattle.world.proofs.courses.TurnLists.{fed_out, fed_asked, answered_out, answered_to_come}
 use Rattle.proto.proofs.StreamLaws.{fed_none, fed_twice}
 
 -- what is known of sessions: each step gives the first of the turns that are to come, and leaves the end of the stream

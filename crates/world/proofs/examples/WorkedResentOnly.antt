@@ -23,8 +23,7 @@ use Rattle.world.specs.WorkedSchedules.{resent_homes, resent_before, resent_behi
 use Rattle.world.proofs.examples.WorkedOrders.{under, said, call_there, reply_there, stands}
 use Rattle.world.proofs.order.OneOrder.{one_order}
 use Rattle.world.proofs.examples.WorkedResent.{set, incr, get, eight, eight_with, seven, entry_on, taken_twice}
-use Rattle.world.proofs.examples.WorkedResent.{ends_with}
-use Rattle.world.proofs.examples.WorkedResent.{called, replied}
+use Rattle.world.proofs.examples.WorkedResent.{ends_with, called, replied}
 
 abbrev pub the : ℕ → CallId
 the place = record { connection = 0; place = place }

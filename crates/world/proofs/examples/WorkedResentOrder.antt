@@ -16,8 +16,7 @@ use Rattle.world.specs.Orders.{Entry, IsLinearization}
 use Rattle.world.specs.WorkedSchedules.{said, resent_homes, resent_events, resent_twice}
 use Rattle.world.proofs.examples.WorkedOrders.{under, call_there, one_place}
 use Rattle.world.proofs.examples.WorkedResent.{key, set, incr, get, eight, eight_with, one_put, seven, found_seven}
-use Rattle.world.proofs.examples.WorkedResent.{found_eight}
-use Rattle.world.proofs.examples.WorkedResent.{called}
+use Rattle.world.proofs.examples.WorkedResent.{found_eight, called}
 
 is_incr : (c p : ℕ)
     → under ((set ∷ incr ∷ get ∷ []) ∷ []) (record { connection = c; place = p }) ≡ Some incr

@@ -1,5 +1,5 @@
 -- Messages go where their own views say.
-use Rattle.std.proofs.Common.{◌≡◌, ℕ, zero, suc, ◌+◌, false, List, [], ◌∷◌, Some, arith, inl, inr, sym, ◌∙◌, subst}
+use Rattle.std.proofs.Common.{◌≡◌, ◌≢◌, ℕ, zero, suc, ◌+◌, false, List, [], ◌∷◌, Some, arith, inl, inr, sym, ◌∙◌, subst}
 use Rattle.std.specs.Prelude.{slice_get}
 use Rattle.std.proofs.lemmas.Bool.{both_ways, cases_order}
 use Rattle.std.proofs.lemmas.Option.{same_Some}
@@ -130,3 +130,16 @@ addressed_sent t i j cause body f g =
       fit = a.fit;
       entry = a.entry;
     }
+
+-- ---- who receives
+
+-- who sends isn't who receives
+goes_apart : (i j n : ℕ) (v : View) (b : Body) → Goes i j v n b → i ≢ j
+goes_apart i j n v (Op id call) g e = omega (arith, g.0, e)
+goes_apart i j n v (Forward x) g e = omega (arith, g.0, e)
+goes_apart i j n v (Ack m) g e = omega (arith, g.0, e)
+goes_apart i j n v (Query ask key) g e = omega (arith, g.0, e)
+goes_apart i j n v (Answer ask m) g e = omega (arith, g.0, e)
+
+pub sender_apart : (t : Traced) (i a : ℕ) (m : Peer) → IsAddressed t i a m → i ≢ a
+sender_apart t i a m h = goes_apart i a (count t) m.view m.body h.goes

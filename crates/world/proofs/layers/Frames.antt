@@ -31,8 +31,7 @@ use Rattle.world.proofs.trace.LaterLaws.{grown_done}
 use Rattle.world.proofs.layers.Addressed.{addressed_later, addressed_sent}
 use Rattle.world.proofs.trace.Moves.{CanDo}
 use Rattle.world.proofs.trace.TraceLaws.{appends, enters, same_calls, count_done, failed_done, server_done}
-use Rattle.world.proofs.trace.TraceLaws.{server_other}
-use Rattle.world.proofs.trace.TraceLaws.{link_done, connection_before}
+use Rattle.world.proofs.trace.TraceLaws.{server_other, link_done, connection_before}
 
 -- ---- the rows of links
 

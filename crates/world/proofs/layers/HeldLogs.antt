@@ -5,8 +5,7 @@ use Rattle.std.specs.Prelude.{slice_get}
 use Rattle.std.proofs.lemmas.List.{drop-drop, drop-append-le, take-append-le}
 use Rattle.std.proofs.lemmas.Option.{none-some as none_some, slice_get_within}
 use Rattle.std.proofs.Math.Seq.{take-add}
-use Rattle.table.specs.Plain.{item_at}
-use Rattle.table.specs.Plain.{opening as opening_table}
+use Rattle.table.specs.Plain.{item_at, opening as opening_table}
 use Rattle.versions.specs.Entries.{LogEntry, IsEntry}
 use Rattle.versions.specs.Stores.{StoreState, last_number, opening_store, items_after, items_at, value_at}
 use Rattle.versions.specs.Stores.{entries_after, pushed, acked_to, dropped_to}

@@ -13,8 +13,7 @@ use Rattle.world.proofs.trace.Traces.{Traced, log, count, last_living, reconnect
 use Rattle.world.proofs.trace.ChangeLaws.{count_reconnected, failed_reconnected, server_reconnected, link_reconnected}
 use Rattle.world.proofs.trace.ChangeLaws.{log_reconnected, committed_reconnected, count_unlinked, failed_unlinked}
 use Rattle.world.proofs.trace.ChangeLaws.{server_unlinked, link_unlinked, log_unlinked, committed_unlinked}
-use Rattle.world.proofs.trace.ChangeLaws.{server_failing}
-use Rattle.world.proofs.trace.ChangeLaws.{link_failing, log_failing, committed_failing, committed_left}
+use Rattle.world.proofs.trace.ChangeLaws.{server_failing, link_failing, log_failing, committed_failing, committed_left}
 use Rattle.world.proofs.trace.Outsets.{count_outset, server_outset, log_outset, link_outset, nothing_in}
 use Rattle.world.proofs.trace.Layers.{Later, Framed, Logged, Lawful}
 use Rattle.world.proofs.layers.LoggedLaws.{logged_from, kept_alike}

@@ -16,8 +16,7 @@ use Rattle.world.proofs.layers.FrameMoves.{NextFits, framed_moved}
 use Rattle.world.proofs.moments.KnownInputs.{known_on}
 use Rattle.world.proofs.trace.TraceLaws.{server_done, lives_done}
 use Rattle.world.proofs.trace.Moves.{Move, Does, moved, CanDo, IsMove, Memory, recalled, IsOf, of_left, Recalls}
-use Rattle.world.proofs.trace.Moves.{all_moved}
-use Rattle.world.proofs.trace.Moves.{AreMoves, recalled_last, moved-append, are-append}
+use Rattle.world.proofs.trace.Moves.{all_moved, AreMoves, recalled_last, moved-append, are-append}
 
 -- a step of a lawful server is a list of guarded actions
 abbrev pub StepDone : Type 0

@@ -28,8 +28,7 @@ use Rattle.world.proofs.trace.ChangeLaws.{lives_reconnected, lives_unlinked}
 use Rattle.world.proofs.moments.WholeSteps.{world_of_all}
 use Rattle.world.proofs.moments.KnownInputs.{known_taken, known_called}
 use Rattle.world.proofs.trace.Moves.{Move, Comes, Starts, Works, Hands, Takes, Fails, moved, CanWork, CanTake, IsMove}
-use Rattle.world.proofs.trace.Moves.{Memory}
-use Rattle.world.proofs.trace.Moves.{IsOf, Recalls}
+use Rattle.world.proofs.trace.Moves.{Memory, IsOf, Recalls}
 use Rattle.world.proofs.moments.Goings.{Laws, GoesOn, Goes, stays, later_by, lawful_by, goes_first, goes_all}
 
 -- each server is lawful, as it is between steps

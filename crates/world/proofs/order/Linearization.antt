@@ -18,10 +18,8 @@ use Rattle.world.proofs.order.Placing.{never_before_itself}
 use Rattle.world.proofs.order.Placings.{sorted, update_found, read_placed}
 use Rattle.world.proofs.order.LegalOrder.{legal}
 use Rattle.world.proofs.order.Linear.{get_mapped, mapped_get, front, nothing_there, more_of, name_of, asked_of}
-use Rattle.world.proofs.order.Linear.{named_is}
-use Rattle.world.proofs.order.Linear.{asked_is, ranked, order_of, decided_committed, all_make, all_show, Sources}
-use Rattle.world.proofs.order.Linear.{comes_from}
-use Rattle.world.proofs.order.Linear.{stands, table_of}
+use Rattle.world.proofs.order.Linear.{named_is, asked_is, ranked, order_of, decided_committed, all_make, all_show}
+use Rattle.world.proofs.order.Linear.{Sources, comes_from, stands, table_of}
 use Rattle.world.proofs.lists.Fronts.{found_below}
 use Rattle.world.proofs.order.Since.{is_some}
 

@@ -25,8 +25,7 @@ use Rattle.node.proofs.OpenLists.{reads_act}
 use Rattle.node.specs.Actions.{Action, Widen, Append, Reach, Settle, Send, Finish, Trim, Enter, Ask, Show, Cause}
 use Rattle.world.proofs.trace.Traces.{Traced, AnsweredRead, log, count, done}
 use Rattle.world.proofs.trace.TraceLaws.{new_entries, new_reads, count_done, server_done, server_other, link_done}
-use Rattle.world.proofs.trace.TraceLaws.{log_done}
-use Rattle.world.proofs.trace.TraceLaws.{log_other, reads_done, open_id_done}
+use Rattle.world.proofs.trace.TraceLaws.{log_done, log_other, reads_done, open_id_done}
 use Rattle.world.proofs.trace.Layers.{IsNamed, IsKnown, IsAddressed, Later, Lawful}
 use Rattle.world.proofs.calls.StepInputs.{IsStep, within, known_of}
 use Rattle.world.proofs.order.Since.{SaysSince, IsOldOrLater, Since, IsKnownSince, says_later}

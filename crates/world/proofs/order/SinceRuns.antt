@@ -11,8 +11,7 @@ use Rattle.world.proofs.trace.Traces.{Traced, count, open_id, unlinked}
 use Rattle.world.proofs.trace.Layers.{Later, Lawful}
 use Rattle.world.proofs.trace.LaterLaws.{later_same, later_on}
 use Rattle.world.proofs.trace.Moves.{Move, Does, Comes, Starts, Works, Hands, Takes, Fails, moved, IsMove, Memory}
-use Rattle.world.proofs.trace.Moves.{recalled}
-use Rattle.world.proofs.trace.Moves.{IsOf, Recalls}
+use Rattle.world.proofs.trace.Moves.{recalled, IsOf, Recalls}
 use Rattle.world.proofs.moments.Goings.{Laws, Goes, kept_on}
 use Rattle.world.proofs.calls.OpenIds.{with_begun}
 use Rattle.world.proofs.order.Since.{SaysSince, Since, IsKnownSince, says_later, since_itself}

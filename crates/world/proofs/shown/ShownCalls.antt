@@ -10,8 +10,7 @@ use Rattle.world.specs.declared.connections.Stage.TheVariants.{Idle, Begun, Aske
 use Rattle.world.specs.Connections.{Connection}
 use Rattle.world.specs.Worlds.{World, happens, run_from, run_of, opening_world}
 use Rattle.world.specs.Calls.{CallId, begun_call, reply_to}
-use Rattle.world.specs.Transcripts.{ConnectionShown}
-use Rattle.world.specs.Transcripts.{calls_shown, connection_shown, transcript_of}
+use Rattle.world.specs.Transcripts.{ConnectionShown, calls_shown, connection_shown, transcript_of}
 use Rattle.world.specs.Shown.{call_in, call_shown, reply_in, reply_shown}
 use Rattle.world.proofs.waiting.InStep.{open_calls, AllInStep, in_step_happens, in_step_outset}
 

@@ -1,5 +1,5 @@
 -- A delivery keeps the stream whose first message is delivered.
-use Rattle.std.proofs.Common.{◌≡◌, ◌≢◌, ℕ, ◌+◌, ◌<◌, ◌≤◌, true, false, List, ◌∷◌, ◌++◌, Some, refl, sym, ap, subst, ◌∙◌}
+use Rattle.std.proofs.Common.{◌≡◌, ◌≢◌, ℕ, ◌+◌, ◌<◌, ◌≤◌, true, false, ◌∷◌, ◌++◌, Some, refl, sym, ap, subst, ◌∙◌}
 use Rattle.std.proofs.Common.{arith, inl, inr}
 use Rattle.std.specs.Prelude.{max, bit_or}
 use Rattle.std.specs.Int.{bit_at}
@@ -16,17 +16,20 @@ use Rattle.node.specs.declared.messages.Input.TheVariants.{From}
 use Rattle.node.specs.Views.{View, has, is_below, predecessor}
 use Rattle.node.specs.Servers.{ServerState, previous, next}
 use Rattle.node.specs.Steps.{is_heard, step}
-use Rattle.node.specs.Lawful.{IsSound, IsLawful}
+use Rattle.node.specs.Lawful.{IsSound}
 use Rattle.world.specs.Worlds.{server, link}
 use Rattle.node.proofs.Lists.{in_more}
 use Rattle.world.proofs.trace.Traces.{Traced, count}
+use Rattle.world.proofs.layers.Addressed.{sender_apart}
 use Rattle.world.proofs.trace.Layers.{Goes, Carries, IsAddressed, Framed}
 use Rattle.world.proofs.lists.Beginnings.{begins-length}
 use Rattle.world.proofs.trace.IdLaws.{following_from, previous_from, previous_of}
 use Rattle.node.specs.Actions.{IsTakenIn}
 use Rattle.node.proofs.DoneSteps.{step_whole}
 use Rattle.world.proofs.streams.Streaming.{forwarded_number, numbers, IsRun, Linked, Stream, LinkedBack, IsTold}
-use Rattle.world.proofs.streams.StreamSteps.{Between, next_in, last_is, last_later, linked_other, linked_back_other}
+use Rattle.world.proofs.streams.StepTellings.{Informs, informs_step}
+use Rattle.world.proofs.streams.Stepped.{Stepped, Follows}
+use Rattle.world.proofs.streams.StreamSteps.{next_in, last_is, last_later, linked_other, linked_back_other}
 
 -- ---- a message that is heard
 
@@ -55,17 +58,6 @@ part-below u v n f h =
     (part_bits u v f k)) in
     lt-ltb _ _ (omega (arith, le_or_r u v, whole, ltb-true _ _ h))
 
--- who sends isn't who receives
-goes_apart : (i j n : ℕ) (v : View) (b : Body) → Goes i j v n b → i ≢ j
-goes_apart i j n v (Op id call) g e = omega (arith, g.0, e)
-goes_apart i j n v (Forward x) g e = omega (arith, g.0, e)
-goes_apart i j n v (Ack m) g e = omega (arith, g.0, e)
-goes_apart i j n v (Query ask key) g e = omega (arith, g.0, e)
-goes_apart i j n v (Answer ask m) g e = omega (arith, g.0, e)
-
-pub sender_apart : (t : Traced) (i a : ℕ) (m : Peer) → IsAddressed t i a m → i ≢ a
-sender_apart t i a m h = goes_apart i a (count t) m.view m.body h.goes
-
 pub is_heard_there : (t : Traced) (i a : ℕ) (m : Peer)
     → Framed t
     → IsAddressed t i a m
@@ -80,18 +72,20 @@ is_heard_there t i a m f h s =
     (and_from _ _ (lt-ltb _ _ h.sender) (not_from_false _ (ne_eqb i a (sender_apart t i a m h)))) below)
     (not_from_false _ h.to))
 
-module _ (t u : Traced) (i a : ℕ) (m : Peer) (ms : List Peer) (h : Between t u a (step (server t.world a) (From i m)))
-    (first : link t.world i a ≡ m ∷ ms)
-    (from : IsSound (server t.world i)) (lawful : IsLawful (server t.world a)) where
+module _ (t u : Traced) (h : Follows t u) (i a : ℕ) (m : Peer) (p : Stepped t.world u.world a (From i m))
+    (first : link t.world i a ≡ m ∷ link u.world i a) where
   addressed : IsAddressed t i a m
   addressed = h.before.framed.sound i a m (rw first (0, refl))
+
+  informs : Informs (server t.world a) (step (server t.world a) (From i m))
+  informs = informs_step (server t.world a) (From i m) (h.servers a p.here) p.fit p.valid
 
   -- what the message says is taken in
   heeded : ((k : ℕ) → has m.view k ≡ true → has (server u.world a).view k ≡ true)
       × (has (server u.world a).view i ≡ false → IsTakenIn i m.body (step (server t.world a) (From i m)))
-  heeded = rw h.own
-      ((step_whole (server t.world a) (From i m) lawful addressed.fit addressed.entry).heeded
-      (is_heard_there t i a m h.before.framed addressed from))
+  heeded = rw p.own
+      ((step_whole (server t.world a) (From i m) (h.servers a p.here) p.fit p.valid).heeded
+      (is_heard_there t i a m h.before.framed addressed (h.servers i addressed.sender).sound))
 
   -- ---- the stream of forwards
 
@@ -105,71 +99,54 @@ module _ (t u : Traced) (i a : ℕ) (m : Peer) (ms : List Peer) (h : Between t u
   reached_next e f is number low unaware =
       let s = server u.world a in
       let g : Goes i a m.view (count t) (Forward e) = subst (λ b. Goes i a m.view (count t) b) is addressed.goes in
-      let from : previous s ≡ Some i = ap (λ x. predecessor s.view x) (h.after.framed.id a (rw h.later.count h.here))
+      let from : previous s ≡ Some i = ap (λ x. predecessor s.view x) (h.after.framed.id a (rw h.later.count p.here))
       ∙ previous_from s.view a i
       (record { below = g.0; out = unaware; between = λ x p q. heeded.0 x (g.1 x p q) }) in
       let took : previous s ≡ Some i → e.number ≢ last_number s.store + 1 =
       subst (λ b. IsTakenIn i b (record { state = s; outputs = (step (server t.world a) (From i m)).outputs })) is
-      (rw h.own (heeded.1 unaware)) in
+      (rw p.own (heeded.1 unaware)) in
       elim (cases_lt (last_number s.store) (f + 1)) [
         | inr held ↦ held
         | inl less ↦ absurd
             (took from (omega
-            (arith, number, less, low, h.informs.last, ap (λ (x : ServerState). last_number x.store) h.own)))
+            (arith, number, less, low, informs.last, ap (λ (x : ServerState). last_number x.store) p.own)))
       ]
+
+  -- a message of another kind leaves it
+  same_stream : (s : Stream t.world i a)
+      → IsRun s.from (last_number (server t.world i).store) (numbers (link u.world i a))
+      → i ≢ a
+      → Stream u.world i a
+  same_stream s run apart = record {
+    from = s.from;
+    reached = omega (arith, s.reached, last_later t u h.before.logged h.after.logged h.later a p.here);
+    run = rw (p.others i apart) run;
+  }
 
   stream_step : (b : Body)
       → m.body ≡ b
       → (s : Stream t.world i a)
-      → IsRun s.from (last_number (server t.world i).store) (forwarded_number b ++ numbers ms)
-      → (same : server u.world i ≡ server t.world i)
+      → IsRun s.from (last_number (server t.world i).store) (forwarded_number b ++ numbers (link u.world i a))
+      → i ≢ a
       → has (server u.world a).view i ≡ false
-      → numbers (link u.world i a) ≡ numbers ms
       → Stream u.world i a
-  stream_step (Forward e) is s run same unaware rest = record {
+  stream_step (Forward e) is s run apart unaware = record {
     from = s.from + 1;
     reached = reached_next e s.from is run.0 s.reached unaware;
-    run = rw (same, rest) run.1;
+    run = rw (p.others i apart) run.1;
   }
-  stream_step (Op id call) is s run same unaware rest =
-      record {
-        from = s.from;
-        reached = omega (arith, s.reached, last_later t u h.before.logged h.after.logged h.later a h.here);
-        run =
-            rw (same, rest) run;
-      }
-  stream_step (Ack n) is s run same unaware rest =
-      record {
-        from = s.from;
-        reached = omega (arith, s.reached, last_later t u h.before.logged h.after.logged h.later a h.here);
-        run =
-            rw (same, rest) run;
-      }
-  stream_step (Query ask key) is s run same unaware rest =
-      record {
-        from = s.from;
-        reached = omega (arith, s.reached, last_later t u h.before.logged h.after.logged h.later a h.here);
-        run =
-            rw (same, rest) run;
-      }
-  stream_step (Answer ask n) is s run same unaware rest =
-      record {
-        from = s.from;
-        reached = omega (arith, s.reached, last_later t u h.before.logged h.after.logged h.later a h.here);
-        run =
-            rw (same, rest) run;
-      }
+  stream_step (Op id call) is s run apart unaware = same_stream s run apart
+  stream_step (Ack n) is s run apart unaware = same_stream s run apart
+  stream_step (Query ask key) is s run apart unaware = same_stream s run apart
+  stream_step (Answer ask n) is s run apart unaware = same_stream s run apart
 
-  pub forwards_delivered : link u.world i a ≡ ms
-      → (Linked t.world i a → Stream t.world i a)
-      → Linked u.world i a
-      → Stream u.world i a
-  forwards_delivered left f l =
+  pub forwards_delivered : (Linked t.world i a → Stream t.world i a) → Linked u.world i a → Stream u.world i a
+  forwards_delivered f l =
       let apart = sender_apart t i a m addressed in
-      let s = f (linked_other t u a _ h i a apart l) in
+      let s = f (linked_other t u h a (From i m) p i a apart l) in
       stream_step m.body refl s
-      (subst (λ xs. IsRun s.from (last_number (server t.world i).store) xs) (ap (λ xs. numbers xs) first) s.run)
-      (h.others i apart) l.unaware (ap (λ xs. numbers xs) left)
+      (subst (λ xs. IsRun s.from (last_number (server t.world i).store) xs) (ap (λ xs. numbers xs) first) s.run) apart
+      l.unaware
 
   -- ---- the acknowledged number
 
@@ -181,7 +158,7 @@ module _ (t u : Traced) (i a : ℕ) (m : Peer) (ms : List Peer) (h : Between t u
       → n ≤ (server u.world a).store.acked
   reached_ack n is before unaware =
       let s = server u.world a in
-      let here : a < count u = rw h.later.count h.here in
+      let here : a < count u = rw h.later.count p.here in
       let g : Goes i a m.view (count t) (Ack n) = subst (λ b. Goes i a m.view (count t) b) is addressed.goes in
       let c : Carries t i m.view (Ack n) =
       subst (λ b. Carries t i m.view b) is (h.before.logged.carries i a m (rw first (0, refl))) in
@@ -194,30 +171,27 @@ module _ (t u : Traced) (i a : ℕ) (m : Peer) (ms : List Peer) (h : Between t u
       (record { above = g.0; within = inside; out = unaware; between = λ x p q. heeded.0 x (g.1 x p q) }) in
       let took : next s ≡ Some i → n ≤ last_number s.store → n ≤ s.store.acked =
       subst (λ b. IsTakenIn i b (record { state = s; outputs = (step (server t.world a) (From i m)).outputs })) is
-      (rw h.own (heeded.1 unaware)) in
+      (rw p.own (heeded.1 unaware)) in
       took following (omega (
         arith,
         c.0,
         held,
         begins,
-        last_is t h.before.logged a h.here,
-        h.informs.last,
-        ap (λ (x : ServerState). last_number x.store) h.own,
+        last_is t h.before.logged a p.here,
+        informs.last,
+        ap (λ (x : ServerState). last_number x.store) p.own,
       ))
 
-  pub acks_delivered : link u.world i a ≡ ms
-      → (LinkedBack t.world a i → IsTold t.world a i)
-      → LinkedBack u.world a i
-      → IsTold u.world a i
-  acks_delivered left f l =
+  pub acks_delivered : (LinkedBack t.world a i → IsTold t.world a i) → LinkedBack u.world a i → IsTold u.world a i
+  acks_delivered f l =
       let apart = sender_apart t i a m addressed in
-      let old = linked_back_other t u a _ h a i apart l in
-      let same = ap (λ s. s.store.acked) (h.others i apart) in
+      let old = linked_back_other t u h a (From i m) p a i apart l in
+      let same = ap (λ s. s.store.acked) (p.others i apart) in
       elim (f old) [
         | inl low ↦ inl (omega (arith, same, low, h.later.acks a))
-        | inr g ↦ elim (in_more m ms g.0 (rw first at g.2)) [
+        | inr g ↦ elim (in_more m (link u.world i a) g.0 (rw first at g.2)) [
           | inl it ↦ inl (omega
               (arith, same, g.4, reached_ack g.1 (ap (λ x. x.body) (sym it) ∙ g.3) old.previous l.unaware))
-          | inr behind ↦ inr (g.0, g.1, rw left behind, g.3, omega (arith, same, g.4))
+          | inr behind ↦ inr (g.0, g.1, behind, g.3, omega (arith, same, g.4))
         ]
       ]

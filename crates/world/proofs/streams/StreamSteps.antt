@@ -1,80 +1,29 @@
 -- A step keeps the streams between servers: those of others stay, and the server's own go on.
-use Rattle.std.proofs.Common.{◌≡◌, ◌≢◌, ℕ, suc, ◌<◌, ◌≤◌, false, List, [], ◌∷◌, ◌++◌, length, get_or, Some, refl, sym}
-use Rattle.std.proofs.Common.{ap, subst, ◌∙◌, arith, inl, inr}
-use Rattle.std.proofs.lemmas.List.{length-set}
-use Rattle.std.proofs.lemmas.Option.{slice_get-get_or}
+use Rattle.std.proofs.Common.{◌≡◌, ◌≢◌, ℕ, suc, ◌<◌, ◌≤◌, false, List, [], ◌∷◌, ◌++◌, length, Some, refl, sym, ap}
+use Rattle.std.proofs.Common.{subst, ◌∙◌, arith, inl, inr}
 use Rattle.versions.specs.Entries.{LogEntry}
 use Rattle.versions.specs.Stores.{last_number}
 use Rattle.node.specs.declared.messages.Body.{Body}
 use Rattle.node.specs.declared.messages.Body.TheVariants.{Op, Forward, Ack, Query, Answer}
+use Rattle.node.specs.declared.messages.Input.{Input}
 use Rattle.node.specs.declared.messages.Peer.{Peer}
 use Rattle.node.specs.Views.{has, successor}
-use Rattle.node.specs.Servers.{ServerState, Outcome, previous, next}
-use Rattle.world.specs.Worlds.{World, server, link, acted, with_server}
+use Rattle.node.specs.Servers.{previous, next}
+use Rattle.node.specs.Steps.{step}
+use Rattle.world.specs.Worlds.{server, link}
 use Rattle.node.proofs.Lists.{In, in_front, in_behind}
 use Rattle.world.proofs.trace.Traces.{Traced, log, count}
-use Rattle.world.proofs.trace.Layers.{Later, Goes, Framed, Logged, Lawful}
-use Rattle.world.proofs.trace.WorldLaws.{server_same, server_apart, servers-put_all, server-put_all, failed-put_all}
+use Rattle.world.proofs.trace.Layers.{Later, Goes, Framed, Logged}
 use Rattle.world.proofs.lists.Beginnings.{begins-length}
 use Rattle.world.proofs.layers.HeldLogs.{held_last}
 use Rattle.world.proofs.trace.IdLaws.{next_of, following_from, previous_of}
 use Rattle.world.proofs.streams.Streaming.{forwarded_number, numbers, sent_to, Linked, Stream, LinkedBack, IsTold}
-use Rattle.world.proofs.streams.ForwardRuns.{run-append, run_as, numbers-append, in_sent, HasLink, link-put_all_to}
-use Rattle.world.proofs.streams.ForwardRuns.{link-put_all_from}
-pub use Rattle.world.proofs.streams.StepTellings.{some_or_not}
-use Rattle.world.proofs.streams.StepTellings.{Informs}
+use Rattle.world.proofs.streams.ForwardRuns.{run-append, run_as, numbers-append, in_sent}
+use Rattle.world.proofs.streams.StepTellings.{some_or_not, Informs, informs_step}
+use Rattle.world.proofs.streams.Stepped.{Stepped, Follows}
 use Rattle.world.proofs.layers.LoggedLaws.{still_out}
 
--- ---- what a step leaves
-
--- server a did this, and each other is as it was
-pub record IsStep (w w' : World) (a : ℕ) (o : Outcome) : Type 0 where
-  pub own : server w' a ≡ o.state
-  pub others : (x : ℕ) → x ≢ a → server w' x ≡ server w x
-  pub count : length w'.servers ≡ length w.servers
-  pub failed : w'.failed ≡ w.failed
-  pub sent : (y : ℕ) → HasLink w a y → link w' a y ≡ link w a y ++ sent_to y o.outputs
-  pub links : (x y : ℕ) → x ≢ a → link w' x y ≡ link w x y
-
-has_link-with_server : (w : World) (i : ℕ) (s : ServerState) (x y : ℕ) → HasLink w x y → HasLink (with_server w i s) x y
-unfolding with_server
-has_link-with_server w i s x y h = record { row = h.row; place = h.place }
-
-link-with_server : (w : World) (i : ℕ) (s : ServerState) (x y : ℕ) → link (with_server w i s) x y ≡ link w x y
-unfolding link with_server
-link-with_server w i s x y = refl
-
-count-with_server : (w : World) (i : ℕ) (s : ServerState) → length (with_server w i s).servers ≡ length w.servers
-unfolding with_server
-count-with_server w i s = length-set w.servers i s
-
-failed-with_server : (w : World) (i : ℕ) (s : ServerState) → (with_server w i s).failed ≡ w.failed
-unfolding with_server
-failed-with_server w i s = refl
-
-pub step_acted : (w : World) (a : ℕ) (o : Outcome) → a < length w.servers → IsStep w (acted w a o) a o
-step_acted w a o l =
-    let w1 = with_server w a o.state in
-    record {
-      own = server-put_all w1 a o.outputs a ∙ server_same w a o.state l;
-      others = λ x other. server-put_all w1 a o.outputs x ∙ server_apart w a x o.state other;
-      count =
-          ap (λ (ss : List ServerState). length ss) (servers-put_all w1 a o.outputs) ∙ count-with_server w a o.state;
-      failed = failed-put_all w1 a o.outputs ∙ failed-with_server w a o.state;
-      sent = λ y h. link-put_all_to w1 a o.outputs y (has_link-with_server w a o.state a y h)
-          ∙ ap (λ ms. ms ++ sent_to y o.outputs) (link-with_server w a o.state a y);
-      links = λ x y other. link-put_all_from w1 a o.outputs x y other ∙ link-with_server w a o.state x y;
-    }
-
 -- ---- what a lawful world tells
-
-pub has_link : (t : Traced) → Framed t → (i j : ℕ) → i < count t → j < count t → HasLink t.world i j
-has_link t f i j a b =
-    let within : i < length t.world.links = omega (arith, f.rows, a) in
-    record {
-      row = within;
-      place = omega (arith, f.row i (get_or t.world.links i []) (slice_get-get_or t.world.links i [] within), b);
-    }
 
 pub last_is : (t : Traced) → Logged t → (i : ℕ) → i < count t → last_number (server t.world i).store ≡ length (log t i)
 last_is t h i l = held_last (log t i) (server t.world i).store (h.holds i l)
@@ -125,26 +74,17 @@ nothing_sent t f a y here inside out other =
 
 -- ---- forwards
 
--- what is known before and after
-pub record Between (t u : Traced) (a : ℕ) (o : Outcome) : Type 0 where
-  pub before : Lawful t
-  pub after : Lawful u
-  pub later : Later t u
-  pub here : a < count t
-  pub own : server u.world a ≡ o.state
-  pub others : (x : ℕ) → x ≢ a → server u.world x ≡ server t.world x
-  pub failed : u.world.failed ≡ t.world.failed
-  pub sent : (y : ℕ) → y < count t → link u.world a y ≡ link t.world a y ++ sent_to y o.outputs
-  pub informs : Informs (server t.world a) o
+module _ (t u : Traced) (h : Follows t u) (a : ℕ) (input : Input) (p : Stepped t.world u.world a input) where
+  informs : Informs (server t.world a) (step (server t.world a) input)
+  informs = informs_step (server t.world a) input (h.servers a p.here) p.fit p.valid
 
-module _ (t u : Traced) (a : ℕ) (o : Outcome) (h : Between t u a o) where
   pub linked_other : (x y : ℕ) → x ≢ a → Linked u.world x y → Linked t.world x y
   linked_other x y other l = record {
     here = rw (← h.later.count) l.here;
     inside = rw (← h.later.count) l.inside;
-    next = ap (λ s. next s) (sym (h.others x other)) ∙ l.next;
+    next = ap (λ s. next s) (sym (p.others x other)) ∙ l.next;
     unaware = still_out t u h.later y x l.unaware;
-    alive = ap (λ v. has v y) (sym h.failed) ∙ l.alive;
+    alive = ap (λ v. has v y) (sym p.failed) ∙ l.alive;
   }
 
   pub forwards_other : (x y : ℕ)
@@ -159,42 +99,43 @@ module _ (t u : Traced) (a : ℕ) (o : Outcome) (h : Between t u a o) where
       record {
         from = s.from;
         reached = omega (arith, s.reached, last_later t u h.before.logged h.after.logged h.later y old.inside);
-        run = rw (h.others x other, same) s.run;
+        run = rw (p.others x other, same) s.run;
       }
 
   pub forwards_own : (y : ℕ) → (Linked t.world a y → Stream t.world a y) → Linked u.world a y → Stream u.world a y
   forwards_own y f l =
+      let o = step (server t.world a) input in
       let inside : y < count t = rw (← h.later.count) l.inside in
       let follows = next_of (server u.world a) y l.next in
       let above : a < y = omega (arith, follows.above, h.after.framed.id a l.here) in
       let apart : y ≢ a = λ e. omega (arith, e, above) in
-      let to : next o.state ≡ Some y = ap (λ s. next s) (sym h.own) ∙ l.next in
+      let to : next o.state ≡ Some y = ap (λ s. next s) (sym p.own) ∙ l.next in
       let now : numbers (link u.world a y) ≡ numbers (link t.world a y) ++ numbers (sent_to y o.outputs) =
-      ap (λ ms. numbers ms) (h.sent y inside) ∙ numbers-append (link t.world a y) (sent_to y o.outputs) in
+      ap (λ ms. numbers ms) (p.sent y inside) ∙ numbers-append (link t.world a y) (sent_to y o.outputs) in
       let last : last_number (server u.world a).store ≡ last_number o.state.store =
-      ap (λ s. last_number s.store) h.own in
+      ap (λ s. last_number s.store) p.own in
       elim (some_or_not (next (server t.world a)) y) [
         | inl was ↦ (let s = f
             (record {
-              here = h.here;
+              here = p.here;
               inside = inside;
               next = was;
-              unaware = ap (λ s. has s.view a) (sym (h.others y apart)) ∙ l.unaware;
+              unaware = ap (λ s. has s.view a) (sym (p.others y apart)) ∙ l.unaware;
               alive =
-                  ap (λ v. has v y) (sym h.failed) ∙ l.alive;
+                  ap (λ v. has v y) (sym p.failed) ∙ l.alive;
             }) in
             record {
               from = s.from;
               reached = omega (arith, s.reached, last_later t u h.before.logged h.after.logged h.later y inside);
               run = run_as s.from s.from _ _ _ _ refl last now
                   (run-append _ _ s.from (last_number (server t.world a).store) (last_number o.state.store) s.run
-                  (h.informs.same y was to));
+                  (informs.same y was to));
             })
-        | inr new ↦ (let none = nothing_sent t h.before.framed a y h.here inside
+        | inr new ↦ (let none = nothing_sent t h.before.framed a y p.here inside
             (still_out t u h.later a y follows.out) new in
             let told = h.after.logged.acks a y above l.inside follows.out in
-            let r = h.informs.new y new to in
-            let acked : (server u.world a).store.acked ≡ o.state.store.acked = ap (λ s. s.store.acked) h.own in
+            let r = informs.new y new to in
+            let acked : (server u.world a).store.acked ≡ o.state.store.acked = ap (λ s. s.store.acked) p.own in
             record {
               from = r.0;
               reached = omega (
@@ -215,9 +156,9 @@ module _ (t u : Traced) (a : ℕ) (o : Outcome) (h : Between t u a o) where
   linked_back_other x y other l = record {
     here = rw (← h.later.count) l.here;
     inside = rw (← h.later.count) l.inside;
-    previous = ap (λ s. previous s) (sym (h.others y other)) ∙ l.previous;
+    previous = ap (λ s. previous s) (sym (p.others y other)) ∙ l.previous;
     unaware = still_out t u h.later x y l.unaware;
-    alive = ap (λ v. has v x) (sym h.failed) ∙ l.alive;
+    alive = ap (λ v. has v x) (sym p.failed) ∙ l.alive;
   }
 
   pub acks_other : (x y : ℕ)
@@ -228,31 +169,32 @@ module _ (t u : Traced) (a : ℕ) (o : Outcome) (h : Between t u a o) where
       → IsTold u.world x y
   acks_other x y other same f l =
       elim (f (linked_back_other x y other l)) [
-        | inl low ↦ inl (omega (arith, ap (λ s. s.store.acked) (h.others y other), low, h.later.acks x))
-        | inr g ↦ inr (g.0, g.1, rw same g.2, g.3, omega (arith, ap (λ s. s.store.acked) (h.others y other), g.4))
+        | inl low ↦ inl (omega (arith, ap (λ s. s.store.acked) (p.others y other), low, h.later.acks x))
+        | inr g ↦ inr (g.0, g.1, rw same g.2, g.3, omega (arith, ap (λ s. s.store.acked) (p.others y other), g.4))
       ]
 
   pub acks_own : (x : ℕ) → (LinkedBack t.world x a → IsTold t.world x a) → LinkedBack u.world x a → IsTold u.world x a
   acks_own x f l =
-      let p = previous_of (server u.world a) x l.previous in
-      let below : x < a = omega (arith, p.below, h.after.framed.id a l.inside) in
+      let o = step (server t.world a) input in
+      let below : x < a =
+      omega (arith, (previous_of (server u.world a) x l.previous).below, h.after.framed.id a l.inside) in
       let apart : x ≢ a = λ e. omega (arith, e, below) in
       let inside : x < count t = rw (← h.later.count) l.here in
-      let from : previous o.state ≡ Some x = ap (λ s. previous s) (sym h.own) ∙ l.previous in
-      let acked : (server u.world a).store.acked ≡ o.state.store.acked = ap (λ s. s.store.acked) h.own in
-      elim (h.informs.acks x from) [
+      let from : previous o.state ≡ Some x = ap (λ s. previous s) (sym p.own) ∙ l.previous in
+      let acked : (server u.world a).store.acked ≡ o.state.store.acked = ap (λ s. s.store.acked) p.own in
+      elim (informs.acks x from) [
         | inl old ↦ elim (f (record {
           here = inside;
-          inside = h.here;
+          inside = p.here;
           previous = old.0;
-          unaware = ap (λ s. has s.view a) (sym (h.others x apart)) ∙ l.unaware;
-          alive = ap (λ v. has v x) (sym h.failed) ∙ l.alive;
+          unaware = ap (λ s. has s.view a) (sym (p.others x apart)) ∙ l.unaware;
+          alive = ap (λ v. has v x) (sym p.failed) ∙ l.alive;
         })) [
           | inl low ↦ inl (omega (arith, acked, old.1, low, h.later.acks x))
           | inr g ↦ inr (
             g.0,
             g.1,
-            rw (h.sent x inside) (in_front (link t.world a x) (sent_to x o.outputs) g.0 g.2),
+            rw (p.sent x inside) (in_front (link t.world a x) (sent_to x o.outputs) g.0 g.2),
             g.3,
             omega (arith, acked, old.1, g.4),
           )
@@ -260,7 +202,7 @@ module _ (t u : Traced) (a : ℕ) (o : Outcome) (h : Between t u a o) where
         | inr new ↦ inr (
           new.0,
           new.1,
-          rw (h.sent x inside)
+          rw (p.sent x inside)
               (in_behind (link t.world a x) (sent_to x o.outputs) new.0 (in_sent x new.0 o.outputs new.2.0 new.2.1)),
           new.3,
           omega (arith, acked, new.4),

@@ -9,8 +9,7 @@ use Rattle.world.proofs.trace.Traces.{Traced, log, issued_by, count, done}
 use Rattle.world.proofs.trace.Layers.{Later, Framed}
 use Rattle.world.proofs.trace.TraceLaws.{new_entries, new_issued, new_reads, count_done, failed_done, server_done}
 use Rattle.world.proofs.trace.TraceLaws.{server_other, log_other, log_done, issued_other, issued_done, reads_done}
-use Rattle.world.proofs.trace.TraceLaws.{begun_done}
-use Rattle.world.proofs.trace.TraceLaws.{replied_done}
+use Rattle.world.proofs.trace.TraceLaws.{begun_done, replied_done}
 
 pub later_same : (t : Traced) → Later t t
 later_same t = record {

@@ -8,8 +8,7 @@ use Rattle.table.specs.declared.operations.Call.{Call}
 use Rattle.table.specs.declared.operations.Reply.{Reply}
 use Rattle.table.specs.declared.operations.Reply.TheVariants.{Value}
 use Rattle.table.specs.declared.operations.Target.TheVariants.{One}
-use Rattle.table.specs.Plain.{item_at, item_of}
-use Rattle.table.specs.Plain.{opening as opening_table}
+use Rattle.table.specs.Plain.{item_at, item_of, opening as opening_table}
 use Rattle.versions.specs.Entries.{LogEntry, IsEntry}
 use Rattle.versions.specs.Stores.{StoreState, items_after}
 use Rattle.node.specs.declared.servers.OpenUpdate.{OpenUpdate}

@@ -17,8 +17,7 @@ use Rattle.node.specs.declared.messages.Peer.{Peer}
 use Rattle.node.specs.declared.messages.Output.{Output}
 use Rattle.node.specs.declared.messages.Output.TheVariants.{To}
 use Rattle.node.specs.Servers.{ServerState}
-use Rattle.node.specs.Numbering.{open_update}
-use Rattle.node.specs.Numbering.{replied as answered}
+use Rattle.node.specs.Numbering.{open_update, replied as answered}
 use Rattle.world.specs.declared.connections.Stage.{Stage}
 use Rattle.world.specs.declared.connections.Stage.TheVariants.{Replied}
 use Rattle.world.specs.Connections.{Connection}
@@ -26,8 +25,7 @@ use Rattle.world.specs.Worlds.{World, server, link, lives, with_server}
 use Rattle.world.specs.Calls.{CallId, begun_call, reply_to}
 use Rattle.node.proofs.Lists.{In}
 use Rattle.world.proofs.trace.WorldLaws.{server_same, server_apart, Answers, servers-put_all, failed-put_all}
-use Rattle.world.proofs.trace.WorldLaws.{server-put_all}
-use Rattle.world.proofs.trace.WorldLaws.{link-put_all, connection-put_all, connection-before_all}
+use Rattle.world.proofs.trace.WorldLaws.{server-put_all, link-put_all, connection-put_all, connection-before_all}
 use Rattle.node.specs.Actions.{Action, Widen, Append, Reach, Settle, Send, Finish, Trim, Enter, Ask, Show, act}
 use Rattle.world.proofs.trace.Traces.{AnsweredRead, Traced, log, issued_by, count, last_living, open_id, open_place}
 use Rattle.world.proofs.trace.Traces.{logs_after, issued_after, done}

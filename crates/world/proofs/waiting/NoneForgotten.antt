@@ -24,7 +24,8 @@ use Rattle.world.proofs.moments.Moments.{Moments, run-append, taken_more}
 use Rattle.world.proofs.moments.AllLaws.{all_moments}
 use Rattle.world.proofs.lists.Standing.{some_of, get_within}
 use Rattle.world.proofs.streams.Streaming.{Streaming}
-use Rattle.world.proofs.streams.StreamEvents.{Follows, streaming_happens, streaming_outset}
+use Rattle.world.proofs.streams.Stepped.{Effect, Follows, effect}
+use Rattle.world.proofs.streams.StreamEvents.{streaming_happens, streaming_outset}
 use Rattle.world.proofs.streams.AtRest.{IsAtRest, at_rest, all_level}
 use Rattle.world.proofs.waiting.Opening.{Opening}
 use Rattle.world.proofs.waiting.OpeningEvents.{opening_happens, opening_outset}
@@ -33,9 +34,9 @@ use Rattle.world.proofs.streams.Ways.{Way, way}
 use Rattle.world.proofs.waiting.InStep.{open_calls, InStep, AllInStep, in_step_happens, in_step_outset}
 use Rattle.world.proofs.waiting.Stages.{AllOpen}
 use Rattle.world.proofs.waiting.StageEvents.{open_way, open_outset}
-use Rattle.world.proofs.waiting.Bounds.{Bounded, room, bounded_way, bounded_first, bounded_outset}
+use Rattle.world.proofs.waiting.Bounds.{Bounded, room, bounded_next, bounded_first, bounded_outset}
 use Rattle.world.proofs.waiting.Asking.{Asking}
-use Rattle.world.proofs.waiting.AskEvents.{asking_way, asking_outset}
+use Rattle.world.proofs.waiting.AskEvents.{asking_happens, asking_outset}
 use Rattle.world.proofs.waiting.RestingCalls.{reads_closed, updates_closed}
 
 -- ---- what holds after k events
@@ -77,15 +78,16 @@ running_next : (k : ℕ) (t u : Traced) (e : Event)
     → Running (suc k) u
 running_next k t u e f next few bounded r =
     let goes : Way t.world u.world = subst (λ w. Way t.world w) (sym next) (way t.world e) in
+    let event = effect t f.before u.world goes in
     record {
       in_step = subst AllInStep (sym next) (in_step_happens t.world e r.in_step);
       bounded = bounded;
       waits = open_way t f.before f.servers r.waits u.world goes
           (room (less_one k) t f.before r.bounded (less_one_below k few));
-      asking = asking_way t u f.before f.later f.servers r.asking goes;
-      streaming = streaming_happens t u f r.streaming e next;
-      opening = opening_happens t u f r.streaming r.opening
-          (has_rooms t f.before (omega (arith, r.bounded.all, less_one_below k few))) e next;
+      asking = asking_happens t u f r.asking event;
+      streaming = streaming_happens t u f r.streaming event;
+      opening = opening_happens t u f r.opening
+          (has_rooms t f.before (omega (arith, r.bounded.all, less_one_below k few))) event;
     }
 
 running_first : (n : ℕ) (homes : List ℕ) → Running 0 (outset n homes)
@@ -113,11 +115,14 @@ module _ (n : ℕ) (homes : List ℕ) (few : n ≤ 16) (events : List Event) (m 
       m.world (suc k) ∙ ap (λ es. run_from (outset n homes).world es) (taken_more events k e at)
       ∙ run-append (take k events) (e ∷ []) (outset n homes).world ∙ ap (λ w. happens w e) (sym (m.world k))
 
-  bounded_at : (k : ℕ) → Way (m.at k).world (m.at (suc k)).world → Running k (m.at k) → Bounded k (m.at (suc k)).world
-  bounded_at zero goes r = bounded_first n homes few (subst (λ t. Lawful t) m.start (m.lawful 0)) (m.at 1).world
-      (subst (λ t. Way t.world (m.at 1).world) m.start goes)
-  bounded_at (suc k) goes r =
-      bounded_way k (m.at (suc k)) (m.lawful (suc k)) (m.all (suc k)) r.bounded (m.at (suc (suc k))).world goes
+  bounded_at : (k : ℕ)
+      → Effect (m.at k).world (m.at (suc k)).world
+      → Running k (m.at k)
+      → Bounded k (m.at (suc k)).world
+  bounded_at zero event r =
+      bounded_first n homes few (m.at 1).world (subst (λ t. Effect t.world (m.at 1).world) m.start event)
+  bounded_at (suc k) event r =
+      bounded_next k (m.at (suc k)) (m.all (suc k)) r.bounded (m.at (suc (suc k))).world event
 
   running : (k : ℕ) → k ≤ length events → Running k (m.at k)
   running zero l = subst (λ t. Running 0 t) (sym m.start) (running_first n homes)
@@ -126,7 +131,8 @@ module _ (n : ℕ) (homes : List ℕ) (few : n ≤ 16) (events : List Event) (m 
       let next = next_world k e.0 e.1 in
       let before = running k (omega (arith, l)) in
       running_next k (m.at k) (m.at (suc k)) e.0 (follows k) next (omega (arith, l, short))
-      (bounded_at k (subst (λ w. Way (m.at k).world w) (sym next) (way (m.at k).world e.0)) before) before
+      (bounded_at k (effect (m.at k) (m.lawful k) (m.at (suc k)).world
+      (subst (λ w. Way (m.at k).world w) (sym next) (way (m.at k).world e.0))) before) before
 
 -- ---- a quiet world
 

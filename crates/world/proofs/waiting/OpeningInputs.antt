@@ -26,8 +26,11 @@ use Rattle.node.proofs.RuleLaws.{lawful-step}
 use Rattle.node.proofs.DoneRules.{taken_from}
 use Rattle.node.proofs.DoneSteps.{step_whole}
 use Rattle.world.proofs.streams.StreamSteps.{last_is}
-use Rattle.world.proofs.streams.StreamDeliveries.{sender_apart, is_heard_there}
-use Rattle.world.proofs.waiting.OpenSteps.{IsExpected, HasRoom, Serves}
+use Rattle.world.proofs.layers.Addressed.{sender_apart}
+use Rattle.world.proofs.streams.StreamDeliveries.{is_heard_there}
+use Rattle.world.proofs.waiting.OwnEntries.{IsExpected}
+use Rattle.world.proofs.waiting.HeadTakes.{HasRoom}
+use Rattle.world.proofs.waiting.OpenSteps.{Serves}
 
 -- numbers are left for all updates that are issued and not yet seen
 pub record HasRooms (w : World) : Type 0 where

@@ -10,7 +10,8 @@ use Rattle.node.specs.declared.messages.Body.TheVariants.{Op, Forward, Ack, Quer
 use Rattle.node.specs.declared.messages.Peer.{Peer}
 use Rattle.node.specs.Views.{has, head}
 use Rattle.node.specs.declared.messages.Input.{Input}
-use Rattle.node.specs.Servers.{ServerState, Outcome, seen_of, head_of, is_head}
+use Rattle.node.specs.Servers.{ServerState, seen_of, head_of, is_head}
+use Rattle.node.specs.Steps.{step}
 use Rattle.table.specs.declared.operations.Call.{Call}
 use Rattle.world.specs.Worlds.{server, link}
 use Rattle.node.proofs.Lists.{In, Begins}
@@ -21,9 +22,11 @@ use Rattle.world.proofs.trace.IdLaws.{that_is, head_of_is, head_from}
 use Rattle.world.proofs.calls.EntryCounts.{entries-joined}
 use Rattle.world.proofs.streams.Streaming.{sent_to}
 use Rattle.world.proofs.streams.ForwardRuns.{run-append}
-use Rattle.world.proofs.streams.StreamSteps.{Between, some_or_not}
+use Rattle.world.proofs.streams.StepTellings.{some_or_not}
+use Rattle.world.proofs.streams.Stepped.{Stepped, Follows}
 use Rattle.world.proofs.waiting.Opening.{op_id, op_ids, Headed, Sends}
-use Rattle.world.proofs.waiting.OpenSteps.{ops_to, op_ids-append, Serves}
+use Rattle.world.proofs.waiting.HeadOps.{ops_to, op_ids-append}
+use Rattle.world.proofs.waiting.OpenSteps.{Serves}
 use Rattle.world.proofs.layers.LoggedLaws.{still_out}
 
 -- ---- what a lawful world tells
@@ -96,13 +99,13 @@ below_or_above x y other = elim (cases_lt x y) [
 
 -- ---- updates on their way
 
-module _ (t u : Traced) (a : ℕ) (input : Input) (o : Outcome) (h : Between t u a o)
-    (serves : Serves (server t.world a) input o) where
+module _ (t u : Traced) (h : Follows t u) (a : ℕ) (input : Input) (p : Stepped t.world u.world a input)
+    (serves : Serves (server t.world a) input (step (server t.world a) input)) where
   pub headed_other : (x y : ℕ) → x ≢ a → Headed u.world x y → Headed t.world x y
   headed_other x y other l = record {
     here = rw (← h.later.count) l.here;
     inside = rw (← h.later.count) l.inside;
-    head = ap (λ s. head_of s) (sym (h.others x other)) ∙ l.head;
+    head = ap (λ s. head_of s) (sym (p.others x other)) ∙ l.head;
     other = l.other;
     unaware = still_out t u h.later y x l.unaware;
   }
@@ -111,8 +114,8 @@ module _ (t u : Traced) (a : ℕ) (input : Input) (o : Outcome) (h : Between t u
   pub seen_later : (x y : ℕ) → x < count t → seen_of (server t.world y) x ≤ seen_of (server u.world y) x
   seen_later x y inside = elim (cases_eq y a) [
     | inl own ↦ rw own
-        (omega (arith, serves.seen x (omega (arith, inside, h.before.framed.most)), ap (λ s. seen_of s x) h.own))
-    | inr other ↦ omega (arith, ap (λ s. seen_of s x) (h.others y other))
+        (omega (arith, serves.seen x (omega (arith, inside, h.before.framed.most)), ap (λ s. seen_of s x) p.own))
+    | inr other ↦ omega (arith, ap (λ s. seen_of s x) (p.others y other))
   ]
 
   pub sends_other : (x y : ℕ)
@@ -127,48 +130,49 @@ module _ (t u : Traced) (a : ℕ) (input : Input) (o : Outcome) (h : Between t u
       record {
         from = s.from;
         last = s.last;
-        issued = ap (λ v. v.next_id) (h.others x other) ∙ s.issued;
+        issued = ap (λ v. v.next_id) (p.others x other) ∙ s.issued;
         seen = omega (arith, s.seen, seen_later x y old.here);
         run = rw same s.run;
       }
 
   pub sends_own : (y : ℕ) → (Headed t.world a y → Sends t.world a y) → Headed u.world a y → Sends u.world a y
   sends_own y f l =
+      let o = step (server t.world a) input in
       let inside : y < count t = rw (← h.later.count) l.inside in
-      let is : o.state.id ≡ a = serves.id ∙ h.before.framed.id a h.here in
+      let is : o.state.id ≡ a = serves.id ∙ h.before.framed.id a p.here in
       let first = head_of_is (server u.world a) y l.head in
-      let to : head_of o.state ≡ Some y = ap (λ s. head_of s) (sym h.own) ∙ l.head in
+      let to : head_of o.state ≡ Some y = ap (λ s. head_of s) (sym p.own) ∙ l.head in
       let apart : is_head o.state ≡ false =
       false_from_ne_true _ (λ e. l.other (same_Some y a (sym to ∙ that_is _ o.state.id e ∙ ap Some is))) in
       let out = still_out t u h.later a y first.out in
       let now : op_ids (link u.world a y) ≡ op_ids (link t.world a y) ++ ops_to y o.outputs =
-      ap (λ ms. op_ids ms) (h.sent y inside) ∙ op_ids-append (link t.world a y) (sent_to y o.outputs) in
-      let issued = ap (λ s. s.next_id) h.own in
+      ap (λ ms. op_ids ms) (p.sent y inside) ∙ op_ids-append (link t.world a y) (sent_to y o.outputs) in
+      let issued = ap (λ s. s.next_id) p.own in
       elim (some_or_not (head_of (server t.world a)) y) [
         | inl was ↦
             let s = f (record {
-              here = h.here;
+              here = p.here;
               inside = inside;
               head = was;
               other = l.other;
-              unaware = ap (λ s. has s.view a) (sym (h.others y l.other)) ∙ l.unaware;
+              unaware = ap (λ s. has s.view a) (sym (p.others y l.other)) ∙ l.unaware;
             }) in
             let r = serves.same y was to apart s.last s.issued in
             record {
               from = s.from;
               last = r.0;
               issued = issued ∙ r.1;
-              seen = omega (arith, s.seen, seen_later a y h.here);
+              seen = omega (arith, s.seen, seen_later a y p.here);
               run = rw now (run-append _ _ s.from s.last r.0 s.run r.2);
             }
         | inr new ↦
-            let none = none_sent t h.before.framed a y h.here inside out new in
+            let none = none_sent t h.before.framed a y p.here inside out new in
             let r = serves.new y new to apart in
             let below : y < a =
             elim (below_or_above y a l.other) [
               | inl low ↦ low
               | inr high ↦ absurd
-                  (both_ways _ (h.after.framed.own a (rw h.later.count h.here)) (first.below a high))
+                  (both_ways _ (h.after.framed.own a (rw h.later.count p.here)) (first.below a high))
             ] in
             record {
               from = r.0;
@@ -178,8 +182,8 @@ module _ (t u : Traced) (a : ℕ) (input : Input) (o : Outcome) (h : Between t u
                 arith,
                 r.2,
                 ap (λ i. seen_of o.state i) is,
-                ap (λ (v : ServerState). seen_of v a) h.own,
-                seen_before u h.after a y (rw h.later.count h.here) below first.out,
+                ap (λ (v : ServerState). seen_of v a) p.own,
+                seen_before u h.after a y (rw h.later.count p.here) below first.out,
               );
               run = rw (now, none) r.4;
             }

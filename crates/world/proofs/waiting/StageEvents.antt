@@ -34,8 +34,7 @@ use Rattle.world.proofs.trace.Outsets.{fresh_at}
 use Rattle.world.proofs.waiting.KeptOpen.{AnswersPort, KeepsOpen, open_done}
 use Rattle.world.proofs.waiting.CallsOpened.{IsOpenAt, HasRoom, call_opened}
 use Rattle.world.proofs.streams.Ways.{servers_connected, servers_linked, connections_linked, Way, Stays, Comes, Starts}
-use Rattle.world.proofs.streams.Ways.{Hands}
-use Rattle.world.proofs.streams.Ways.{Fails, Works, Delivers, Tells, Working}
+use Rattle.world.proofs.streams.Ways.{Hands, Fails, Works, Delivers, Tells, Working}
 use Rattle.world.proofs.waiting.Stages.{AllOpen, Fits, IsKept, acted_open}
 
 -- ---- replies that fit

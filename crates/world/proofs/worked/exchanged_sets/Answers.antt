@@ -1,7 +1,6 @@
 use Rattle.world.proofs.examples.WorkedInTime.{sets_are_shown}
 use Rattle.world.proofs.examples.WorkedInTimeOrder.{exchanged_legal, exchanged_begun, exchanged_once}
-use Rattle.world.proofs.examples.WorkedInTimeOrder.{exchanged_answered}
-use Rattle.world.proofs.examples.WorkedInTimeOrder.{exchanged_is_no_order}
+use Rattle.world.proofs.examples.WorkedInTimeOrder.{exchanged_answered, exchanged_is_no_order}
 use Rattle.world.proofs.worked.exchanged_sets.Goals as goal
 
 pub returns-clause-transcript : goal.returns-clause-transcript

@@ -1,5 +1,5 @@
 use Rattle.node.specs.Steps.{step}
-use Rattle.world.proofs.bodies.ServerLists.{server_stepped, server_at}
+use Rattle.world.proofs.bodies.ServerLists.{server_stepped}
 use Rattle.world.proofs.servers.Servers.step_logged.Goals as goal
 
 pub returns-in-Ok-clause-state : goal.returns-in-Ok-clause-state

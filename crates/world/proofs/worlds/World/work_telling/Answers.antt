@@ -3,7 +3,7 @@ use Rattle.std.specs.Prelude.{slice_get}
 use Rattle.world.specs.declared.deeds.Deed.{Deed}
 use Rattle.world.specs.Connections.{to_work, asked}
 use Rattle.world.specs.Worlds.{World, home_lives}
-use Rattle.world.specs.Deeds.{call_deed, work_deed}
+use Rattle.world.specs.Deeds.{call_deed}
 use Rattle.world.proofs.bodies.ConnectionLists.{call_worked, none_worked}
 use Rattle.world.proofs.bodies.DeedLaws.{served_work, called_deed}
 use Rattle.world.proofs.worlds.World.work_telling.Goals as goal
