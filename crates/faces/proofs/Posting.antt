@@ -8,13 +8,14 @@ use lib.ListN.{get_elem?}
 use Rattle.crossbeam_utils.specs.Register.{Admits, TurnsAt, Forks, Merges}
 use Rattle.atomic_table.proofs.Lists.{at_set, at_snoc, set_again}
 use Rattle.node.specs.declared.faces.FaceStep.{FaceStep}
-use Rattle.node.specs.Faces.{face_changed, face_after_all, face_at}
+use Rattle.node.specs.declared.faces.FaceStep.TheVariants as changes
+use Rattle.node.specs.Faces.{face_changed, face_after_all, face_at, no_face}
 use Rattle.faces.specs.declared.faces.Face.{Face}
-use Rattle.faces.specs.declared.faces.Act.{Act}
-use Rattle.faces.specs.declared.faces.Act.TheVariants.{Step}
+use Rattle.faces.specs.declared.acts.Act.{Act}
+use Rattle.faces.specs.declared.acts.Act.TheVariants.{Set, Clear}
 use Rattle.faces.specs.declared.boards.Knowledge.{Knowledge}
 use Rattle.faces.specs.Courses.{Origin, Course, shown_after}
-use Rattle.faces.specs.Shown.{Shown, applied, acts_of}
+use Rattle.faces.specs.Shown.{Shown, applied, acts_of, shown_first}
 use Rattle.faces.specs.Boards.{known, newcomer, IsShownBy, Keeps, Tells}
 
 -- each place that has looked knows this server
@@ -84,12 +85,22 @@ folded : (s : Shown) (steps : List FaceStep) (n : ℕ) (course : Course)
     → fold applied s (acts_of steps n course)
     ≡ record { face = face_at n (face_after_all s.face steps); course = course }
 folded s [] n course = refl
-folded s (x ∷ xs) n course = folded (applied s (Step x)) xs n course
+folded s (changes.Set key version ∷ xs) n course = folded (applied s (Set key version)) xs n course
+folded s (changes.Clear number ∷ xs) n course = folded (applied s (Clear number)) xs n course
 
 pub folded_by : (x : Face) (pending : List Act) (steps : List FaceStep) (n : ℕ) (course : Course)
     → pending ≡ acts_of steps n course
     → fold applied x pending ≡ record { face = face_changed x.face steps n; course = course }
 folded_by x pending steps n course acts = ap (fold applied x) acts ∙ folded x steps n course
+
+-- the acts of a change make it of a face without versions
+pub filled_by : (x : Shown) (acts : List Act) (steps : List FaceStep) (n : ℕ) (course : Course)
+    → x ≡ fold applied (record { face = no_face; course = course }) acts
+    → acts ≡ acts_of steps n course
+    → x ≡ shown_first steps n course
+filled_by x acts steps n course is done =
+    is ∙ (ap (fold applied (record { face = no_face; course = course })) done
+    ∙ folded (record { face = no_face; course = course }) steps n course)
 
 -- what is pending makes the face of the same server after the inputs that it says
 pub shows : (seat : ℕ) (v : Knowledge) (x y : Face) (pending : List Act)

@@ -2,6 +2,7 @@ pub mod Logs
 pub mod Courses
 pub mod Outputs
 pub mod Tombstones
+pub mod Versions
 pub mod Shown
 pub mod Boards
 pub mod Showing

@@ -5,7 +5,7 @@ use Rattle.left_right.specs.declared.Absorb.{Ghosts}
 use Rattle.node.specs.Nodes.{NodeState, running}
 use Rattle.faces.specs.declared.logs.Log.{Log}
 use Rattle.faces.specs.declared.faces.Face.{Face}
-use Rattle.faces.specs.declared.faces.Act.{Act}
+use Rattle.faces.specs.declared.acts.Act.{Act}
 use Rattle.faces.specs.declared.boards.Knowledge.{Knowledge}
 use Rattle.faces.specs.Courses.{Course, server_after}
 use Rattle.faces.specs.Showing.{Shows}

@@ -4,7 +4,7 @@ use Rattle.left_right.specs.declared.writer.Writer.{Writer}
 use Rattle.left_right.specs.declared.Absorb.{Ghosts}
 use Rattle.left_right.specs.Sides.{view}
 use Rattle.faces.specs.declared.faces.Face.{Face}
-use Rattle.faces.specs.declared.faces.Act.{Act}
+use Rattle.faces.specs.declared.acts.Act.{Act}
 use Rattle.faces.specs.declared.boards.Knowledge.{Knowledge}
 use Rattle.faces.specs.Courses.{Course, shown_after}
 use Rattle.faces.specs.Boards.{known}

@@ -1,21 +1,14 @@
 -- What a face shows, and of which inputs.
-use Rattle.std.specs.Prelude.{ℕ, List, [], ◌∷◌, ◌++◌, map, Option, refl}
+use Rattle.std.specs.Prelude.{ℕ, List, [], ◌∷◌, ◌++◌, map}
 use Rattle.std.specs.FinMap as maps
-use Rattle.std.specs.Coded.{Coded, code_by, coded×, coded_ℕ, coded_list, coded_option}
-use Rattle.table.specs.Items.{coded_item}
-use Rattle.table.specs.declared.items.Item.{Item}
-use Rattle.node.specs.declared.faces.Version.{Version}
+use Rattle.std.specs.Coded.{Coded, coded_ℕ, coded_list}
 use Rattle.node.specs.declared.faces.FaceStep.{FaceStep}
-use Rattle.node.specs.Faces.{Versions, FaceState, face_after, face_at}
-use Rattle.faces.specs.declared.faces.Act.{Act}
-use Rattle.faces.specs.declared.faces.Act.TheVariants.{Step, Reach}
+use Rattle.node.specs.declared.faces.FaceStep.TheVariants as steps
+use Rattle.node.specs.Faces.{Versions, FaceState, face_after, face_at, face_changed, no_face}
+use Rattle.faces.specs.declared.acts.Act.{Act}
+use Rattle.faces.specs.declared.acts.Act.TheVariants.{Set, Clear, Reach}
 use Rattle.faces.specs.Courses.{Course}
-
--- a version is stored as its two fields
-abbrev pub coded_version : Coded Version
-coded_version =
-    code_by (ℕ × Option Item) (coded× coded_ℕ (coded_option coded_item))
-    (λ v. (v.number, v.item)) (λ p. record { number = p.0; item = p.1 }) (λ _. refl)
+use Rattle.faces.specs.Versions.{coded_version}
 
 -- versions are stored as their entries
 abbrev pub coded_versions : Coded Versions
@@ -26,11 +19,21 @@ pub record Shown : Type 0 where
   pub face : FaceState
   pub course : Course
 
+-- what a step of a change does
+abbrev pub act_of : FaceStep → Act
+act_of (steps.Set key version) = Set key version
+act_of (steps.Clear number) = Clear number
+
 -- what one act does
 abbrev pub applied : Shown → Act → Shown
-applied s (Step x) = record s { face = face_after s.face x }
+applied s (Set key version) = record s { face = face_after s.face (steps.Set key version) }
+applied s (Clear number) = record s { face = face_after s.face (steps.Clear number) }
 applied s (Reach n course) = record { face = face_at n s.face; course = course }
 
 -- the acts of a change: its steps in order, and then the acknowledged number
 abbrev pub acts_of : List FaceStep → ℕ → Course → List Act
-acts_of steps acked course = map Step steps ++ Reach acked course ∷ []
+acts_of changes acked course = map act_of changes ++ Reach acked course ∷ []
+
+-- what a face shows that a change makes of one without versions
+abbrev pub shown_first : List FaceStep → ℕ → Course → Shown
+shown_first changes acked course = record { face = face_changed no_face changes acked; course = course }

@@ -7,7 +7,8 @@ ghost use Rattle.faces.specs.Courses.{shown_after};
 ghost use Rattle.faces.specs.Shown.{acts_of, applied};
 ghost use Rattle.node.specs.Faces.{face_changed};
 
-use crate::faces::{Act, Face};
+use crate::acts::Act;
+use crate::faces::Face;
 use crate::fronts::Front;
 use crate::published::Published;
 use atomic_table::{Join, Split};
@@ -15,7 +16,7 @@ use crossbeam_utils::rule::{Outcome, Protocol};
 use left_right::reader::Reader as Place;
 use left_right::writer::Writer;
 use node::FaceChange;
-use std::alloc::AllocError;
+use std::alloc::{AllocError, Global};
 use std::marker::Model;
 use std::sync::Wait;
 
@@ -108,6 +109,7 @@ pub fn place(writer: &mut FaceWriter) -> Result<FacePlace, AllocError>
 /// Shows the change of an input. It waits for those that still read the face before the last one.
 pub fn publish<R: Wait>(
     rt: &R,
+    alloc: Global,
     writer: FaceWriter,
     change: FaceChange,
     front: Front,
@@ -117,7 +119,7 @@ pub fn publish<R: Wait>(
     requires face { face_changed writer.desk.shown.value.face change.steps.items change.acked ≡ shown_after front }
     ensures { MatchResult result.1 (λ p. Shows result.0 p × (p ≡ front)) (λ _. Unit {0}) }
 {
-    let (writer, noted) = append(writer, change, front);
+    let (writer, noted) = append(alloc, writer, change, front);
     match noted {
         Ok(()) => show(rt, writer),
         Err(_) => (writer, Err(AllocError)),
@@ -145,6 +147,7 @@ fn show<R: Wait>(rt: &R, writer: FaceWriter) -> (FaceWriter, Result<Published, A
 
 // Notes what the change does, for the next publish.
 fn append(
+    alloc: Global,
     writer: FaceWriter,
     change: FaceChange,
     front: Front,
@@ -158,7 +161,10 @@ fn append(
     let mut writer = writer;
     let FaceChange { steps, acked } = change;
     for step in steps {
-        if writer.append(Act::Step(step)).is_err() {
+        let Ok(act) = Act::of(alloc, step) else {
+            return (writer, Err(AllocError));
+        };
+        if writer.append(act).is_err() {
             return (writer, Err(AllocError));
         }
     }

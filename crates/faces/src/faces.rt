@@ -1,39 +1,32 @@
 //! What readers see of a server: its face, after some of the inputs that it took.
-ghost use Rattle.std.specs.Prelude.{◌≡◌, ◌++◌, ◌∷◌, [], IfOk, OnOk, OnErr, MatchResult};
+ghost use Rattle.std.specs.Prelude.{◌≡◌, fold, IfOk, OnOk, OnErr, MatchResult};
 ghost use Rattle.std.specs.FinMap as maps;
-ghost use Rattle.node.specs.Faces.{look_at, face_after, face_after_all, face_at, face_changed, no_face};
-ghost use Rattle.faces.specs.Shown.{Shown, applied};
-ghost use Rattle.faces.specs.declared.faces.Act.TheVariants.{Step, Reach};
+ghost use Rattle.node.specs.Faces.{look_at, no_face};
+ghost use Rattle.faces.specs.Shown.{Shown, applied, shown_first};
+ghost use Rattle.faces.specs.declared.acts.Act.TheVariants.{Clear, Reach};
 
+use crate::acts::{Act, acts_of};
 use crate::fronts::Front;
-use crate::tombstones::{set, shared, take_away, version_of};
+use crate::shared_versions::SharedVersion;
+use crate::tombstones::{set, take_away, version_of};
 use left_right::Absorb;
-use node::{FaceChange, FaceStep, Look, Tombstone, Version};
+use node::{FaceChange, Look, Tombstone};
 use std::alloc::{AllocError, Global};
 use std::collections::{BTreeMap, VecDeque};
 use std::marker::Model;
 use table::{Item, Key, Place};
 use versions::Litter;
 
-/// One change of a face.
-#[derive(Drop)]
-pub enum Act {
-    /// The versions change.
-    Step(FaceStep),
-    /// The acknowledged number is this one, and the face is the server's after these inputs.
-    Reach(u64, Front),
-}
-
 /// A server's face, with the inputs that it is said to follow. Contracts see both (`Shown`).
 #[derive(Drop)]
 pub struct Face {
-    versions: BTreeMap<Place, Version>,
+    versions: BTreeMap<Place, SharedVersion>,
     tombstones: VecDeque<Tombstone>,
     cleared: u64,
     acked: u64,
     front: Front,
     // What clears took away.
-    litter: Litter<Version>,
+    litter: Litter<SharedVersion>,
 }
 
 impl Model for Face {
@@ -71,29 +64,37 @@ impl Face {
         }
     }
 
-    /// The face that a change makes of one without versions, after the inputs that it is said to follow. It shares the
-    /// bytes of keys and items.
-    pub fn filled(alloc: Global, change: &FaceChange, front: &Front) -> Result<Face, AllocError>
-        ensures { IfOk result (λ face. face ≡ record {
-          face = face_changed no_face change.now.steps.items change.now.acked;
-          course = front.now;
-        }) }
+    /// Both copies of the face that a change makes of one without versions, after the inputs that it is said to follow.
+    /// They share the versions, and the bytes of keys and items.
+    pub fn copies(
+        alloc: Global,
+        change: FaceChange,
+        front: &Front,
+    ) -> Result<(Face, Face), AllocError>
+        ensures first { IfOk result (λ faces. faces.0 ≡ shown_first change.steps.items change.acked front.now) }
+        ensures second { IfOk result (λ faces. faces.1 ≡ shown_first change.steps.items change.acked front.now) }
+    {
+        let acts = acts_of(alloc, change, front.again())?;
+        let first = Face::filled(alloc, front, acts.as_slice())?;
+        let second = Face::filled(alloc, front, acts.as_slice())?;
+        Ok((first, second))
+    }
+
+    fn filled(alloc: Global, front: &Front, acts: &[Act]) -> Result<Face, AllocError>
+        ensures { IfOk result
+            (λ face. face ≡ fold applied (record { face = no_face; course = front.now }) acts.now) }
     {
         let mut face = Face::new(alloc, front.again());
-        face.step_all(change.steps.as_slice())?;
-        face.reach(change.acked, front);
+        face.act_all(acts)?;
         Ok(face)
     }
 
-    // Some of these steps are done where it is refused.
-    fn step_all(&mut self, steps: &[FaceStep]) -> Result<(), AllocError>
-        ensures { OnOk result (self.new ≡ record {
-          face = face_after_all self.old.face steps.now;
-          course = self.old.course;
-        }) }
+    // Some of these acts are done where it is refused.
+    fn act_all(&mut self, acts: &[Act]) -> Result<(), AllocError>
+        ensures { OnOk result (self.new ≡ fold applied self.old acts.now) }
     {
-        for step in steps {
-            self.step(step)?;
+        for act in acts {
+            self.act(act)?;
         }
         Ok(())
     }
@@ -111,8 +112,8 @@ impl Face {
     {
         match version_of(&self.versions, key) {
             Some(version) => {
-                if version.number <= self.acked {
-                    Ok(Look::Clean(shared(&version.item)?))
+                if version.number() <= self.acked {
+                    Ok(Look::Clean(version.item()?))
                 } else {
                     Ok(Look::Dirty)
                 }
@@ -127,21 +128,29 @@ impl Face {
         }
     }
 
-    fn step(&mut self, step: &FaceStep) -> Result<(), AllocError>
-        ensures ok { OnOk result (self.new ≡ applied self.old (Step step.now)) }
+    fn act(&mut self, act: &Act) -> Result<(), AllocError>
+        ensures ok { OnOk result (self.new ≡ applied self.old act.now) }
         ensures err { OnErr result (self.new ≡ self.old) }
     {
-        match step {
-            FaceStep::Set(key, version) => {
-                set(&mut self.versions, &mut self.tombstones, key, version)
+        match act {
+            Act::Set(key, version) => set(&mut self.versions, &mut self.tombstones, key, version),
+            Act::Clear(number) => {
+                self.clear(*number);
+                Ok(())
             }
-            FaceStep::Clear(number) => {
-                self.litter.take(&mut self.versions);
-                self.tombstones.clear();
-                self.cleared = *number;
+            Act::Reach(acked, front) => {
+                self.reach(*acked, front);
                 Ok(())
             }
         }
+    }
+
+    fn clear(&mut self, number: u64)
+        ensures { self.new ≡ applied self.old (Clear number) }
+    {
+        self.litter.take(&mut self.versions);
+        self.tombstones.clear();
+        self.cleared = number;
     }
 
     fn reach(&mut self, acked: u64, front: &Front)
@@ -165,12 +174,6 @@ impl Absorb<Act> for Face {
     ghost applied = { applied };
 
     fn absorb_first(&mut self, operation: &Act, _other: &Face) -> Result<(), AllocError> {
-        match operation {
-            Act::Step(step) => self.step(step),
-            Act::Reach(acked, front) => {
-                self.reach(*acked, front);
-                Ok(())
-            }
-        }
+        self.act(operation)
     }
 }

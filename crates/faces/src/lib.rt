@@ -1,6 +1,7 @@
 //! What readers beside a server see: its face after each input that it took, shown to threads that wait for nobody.
 #![tactic(auto)]
 
+mod acts;
 mod boards;
 mod faces;
 mod faults;
@@ -9,6 +10,7 @@ mod logs;
 mod published;
 mod publishers;
 mod readers;
+mod shared_versions;
 #[cfg(test)]
 mod tests;
 mod tombstones;

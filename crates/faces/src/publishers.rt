@@ -20,6 +20,7 @@ use std::sync::Wait;
 /// took (`Course`). Its node is the server after them, and what is shown is the face of that server. It isn't `Drop`:
 /// end it by `end`.
 pub struct Publisher {
+    alloc: Global,
     node: Node,
     log: Log,
     // None once an input was refused.
@@ -58,9 +59,7 @@ impl Publisher {
         ensures inputs { IfOk result (λ publisher. publisher.inputs ≡ []) }
     {
         let (log, front) = Front::open(&node);
-        let change = node.face()?;
-        let first = Face::filled(alloc, &change, &front)?;
-        let second = Face::filled(alloc, &change, &front)?;
+        let (first, second) = Face::copies(alloc, node.face()?, &front)?;
         let writer = FaceWriter::new(alloc, first, second, readers)?;
         let (writer, shown) = begin(rt, writer);
         let Ok(published) = shown else {
@@ -68,6 +67,7 @@ impl Publisher {
             return Err(FaceFault::Memory);
         };
         Ok(Publisher {
+            alloc,
             node,
             log,
             writer: Some(writer),
@@ -119,7 +119,7 @@ impl Publisher {
             writer.take(rt);
             return Err(FaceFault::Memory);
         };
-        let (writer, shown) = publish(rt, writer, change, front);
+        let (writer, shown) = publish(rt, self.alloc, writer, change, front);
         let Ok(published) = shown else {
             writer.take(rt);
             return Err(FaceFault::Memory);
@@ -134,6 +134,7 @@ impl Publisher {
     /// Takes the face away: readers then get Closed. It waits for those that still look.
     pub fn end<R: Wait>(self, rt: &R) {
         let Publisher {
+            alloc: _alloc,
             node: _node,
             log: _log,
             writer,

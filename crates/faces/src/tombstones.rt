@@ -6,13 +6,17 @@ ghost use Rattle.std.specs.Option.{option_copied};
 ghost use Rattle.node.specs.Faces.{IsQueued, IsRising, is_removed};
 ghost use Rattle.faces.specs.Tombstones.{map_of, taken_at, without_removed};
 
-use node::{Tombstone, Version};
+use crate::shared_versions::SharedVersion;
+use node::Tombstone;
 use std::alloc::AllocError;
 use std::collections::{BTreeMap, VecDeque};
-use table::{Item, Key, Place};
+use table::{Key, Place};
 
 /// The version of a key, if there is one.
-pub fn version_of<'a>(versions: &'a BTreeMap<Place, Version>, key: &Key) -> Option<&'a Version>
+pub fn version_of<'a>(
+    versions: &'a BTreeMap<Place, SharedVersion>,
+    key: &Key,
+) -> Option<&'a SharedVersion>
     ensures { option_copied result ≡ maps.get (map_of versions.now.entries) key.now }
 {
     versions.get(key.place())
@@ -21,10 +25,10 @@ pub fn version_of<'a>(versions: &'a BTreeMap<Place, Version>, key: &Key) -> Opti
 /// Sets a key's version. Refused if memory is out, or if the version has no item and its number is below one that waits
 /// (the numbers of a log rise); then no version changes.
 pub fn set(
-    versions: &mut BTreeMap<Place, Version>,
+    versions: &mut BTreeMap<Place, SharedVersion>,
     tombstones: &mut VecDeque<Tombstone>,
     key: &Key,
-    version: &Version,
+    version: &SharedVersion,
 ) -> Result<(), AllocError>
     requires queued { IsQueued (map_of versions.old.entries) tombstones.old.items }
     ensures ok { OnOk result
@@ -32,8 +36,8 @@ pub fn set(
     ensures err { OnErr result (map_of versions.new.entries ≡ map_of versions.old.entries) }
     ensures queued { IsQueued (map_of versions.new.entries) tombstones.new.items }
 {
-    if version.item.is_none() {
-        note(tombstones, key, version.number)?;
+    if !version.has_item() {
+        note(tombstones, key, version.number())?;
     }
     put(versions, key, version)
 }
@@ -60,41 +64,22 @@ fn note(tombstones: &mut VecDeque<Tombstone>, key: &Key, number: u64) -> Result<
 }
 
 fn put(
-    versions: &mut BTreeMap<Place, Version>,
+    versions: &mut BTreeMap<Place, SharedVersion>,
     key: &Key,
-    version: &Version,
+    version: &SharedVersion,
 ) -> Result<(), AllocError>
     ensures ok { OnOk result
         (map_of versions.new.entries ≡ maps.insert (map_of versions.old.entries) key.now version.now) }
     ensures err { OnErr result (map_of versions.new.entries ≡ map_of versions.old.entries) }
 {
-    versions.insert(key.to_place()?, copy_of(version)?)?;
+    versions.insert(key.to_place()?, version.again()?)?;
     Ok(())
-}
-
-// A copy, which shares the item's data.
-fn copy_of(version: &Version) -> Result<Version, AllocError>
-    ensures { IfOk result (λ copy. copy ≡ version.now) }
-{
-    let number = version.number;
-    let item = shared(&version.item)?;
-    Ok(Version { number, item })
-}
-
-/// A copy of an item, which shares its data.
-pub fn shared(item: &Option<Item>) -> Result<Option<Item>, AllocError>
-    ensures { IfOk result (λ copy. copy ≡ item.now) }
-{
-    match item {
-        Some(item) => Ok(Some(item.clone()?)),
-        None => Ok(None),
-    }
 }
 
 /// Takes away the versions without item up to a number. Time is logarithmic in the number of keys for each tombstone
 /// that is taken out.
 pub fn take_away(
-    versions: &mut BTreeMap<Place, Version>,
+    versions: &mut BTreeMap<Place, SharedVersion>,
     tombstones: &mut VecDeque<Tombstone>,
     acked: u64,
 )
@@ -114,7 +99,7 @@ pub fn take_away(
 }
 
 // Takes the key's version away, where it has no item and its number is at most this one.
-fn take_away_at(versions: &mut BTreeMap<Place, Version>, key: &Key, acked: u64)
+fn take_away_at(versions: &mut BTreeMap<Place, SharedVersion>, key: &Key, acked: u64)
     ensures { map_of versions.new.entries ≡ taken_at acked key.now (map_of versions.old.entries) }
 {
     if is_to_go(versions, key, acked) {
@@ -122,11 +107,11 @@ fn take_away_at(versions: &mut BTreeMap<Place, Version>, key: &Key, acked: u64)
     }
 }
 
-fn is_to_go(versions: &BTreeMap<Place, Version>, key: &Key, acked: u64) -> bool
+fn is_to_go(versions: &BTreeMap<Place, SharedVersion>, key: &Key, acked: u64) -> bool
     ensures { result ≡ is_removed acked (maps.get (map_of versions.now.entries) key.now) }
 {
     match version_of(versions, key) {
-        Some(version) => version.item.is_none() && version.number <= acked,
+        Some(version) => !version.has_item() && version.number() <= acked,
         None => true,
     }
 }

@@ -1,0 +1,21 @@
+-- Versions as they are stored.
+use Rattle.std.specs.Prelude.{ℕ, Option, Some, None, if◌then◌else◌, refl}
+use Rattle.std.specs.Coded.{Coded, code_by, coded×, coded_ℕ, coded_option}
+use Rattle.table.specs.Items.{coded_item}
+use Rattle.table.specs.declared.items.Item.{Item}
+use Rattle.node.specs.declared.faces.Version.{Version}
+use Rattle.faces.specs.declared.shared_versions.Block.{Block}
+
+-- a version is stored as its two fields
+abbrev pub coded_version : Coded Version
+coded_version =
+    code_by (ℕ × Option Item) (coded× coded_ℕ (coded_option coded_item))
+    (λ v. (v.number, v.item)) (λ p. record { number = p.0; item = p.1 }) (λ _. refl)
+
+-- the version that a block holds
+abbrev pub version_of_block : Block → Version
+version_of_block b =
+    record {
+      number = b.number;
+      item = if b.has_item then Some (record { flags = b.flags; bytes = b.bytes; unique = b.unique }) else None;
+    }

@@ -1,0 +1,122 @@
+//! Versions that the copies of a face share.
+ghost use Rattle.std.specs.Prelude.{◌≡◌, is_some, IfOk};
+ghost use Rattle.faces.specs.Versions.{version_of_block};
+
+use bytes::Bytes;
+use node::Version;
+use std::alloc::{AllocError, Global};
+use std::marker::Model;
+use std::sync::Arc;
+use table::Item;
+
+/// A key's version in a block of its own, which its copies share: so a copy of a face holds eight bytes of it. Contracts
+/// see the version.
+#[derive(Drop)]
+pub struct SharedVersion {
+    block: Arc<Block>,
+}
+
+// A version's parts, laid out without gaps. The data is empty if there is no item.
+#[derive(Drop)]
+struct Block {
+    number: u64,
+    unique: u64,
+    bytes: Bytes,
+    flags: u32,
+    has_item: bool,
+}
+
+impl Model for SharedVersion {
+    ghost use Rattle.std.specs.Arc.{arc_value};
+    ghost use Rattle.node.specs.declared.faces.Version.{Version};
+    ghost use Rattle.faces.specs.Versions.{coded_version, version_of_block};
+
+    ghost Value = { Version };
+
+    ghost coded = { coded_version };
+
+    ghost view = { λ v. version_of_block (arc_value v.block) };
+}
+
+impl SharedVersion {
+    /// This version, in a block.
+    pub fn new(alloc: Global, version: Version) -> Result<SharedVersion, AllocError>
+        ensures { IfOk result (λ shared. shared ≡ version) }
+    {
+        let block = Arc::new(alloc, Block::of(version))?;
+        Ok(SharedVersion { block })
+    }
+
+    /// The number of the entry that made it.
+    pub fn number(&self) -> u64
+        ensures { result ≡ self.now.number }
+    {
+        self.block.number
+    }
+
+    /// Whether it has an item.
+    pub fn has_item(&self) -> bool
+        ensures { result ≡ is_some self.now.item }
+    {
+        self.block.has_item
+    }
+
+    /// Its item, which shares the data, or none.
+    pub fn item(&self) -> Result<Option<Item>, AllocError>
+        ensures { IfOk result (λ item. item ≡ self.now.item) }
+    {
+        self.block.item()
+    }
+
+    /// A copy, which shares the block: it allocates nothing.
+    pub fn again(&self) -> Result<SharedVersion, AllocError>
+        ensures { IfOk result (λ copy. copy ≡ self.now) }
+    {
+        let block = Arc::try_clone(&self.block)?;
+        Ok(SharedVersion { block })
+    }
+}
+
+impl Block {
+    fn of(version: Version) -> Block
+        ensures { version_of_block result ≡ version }
+    {
+        let Version { number, item } = version;
+        match item {
+            Some(item) => {
+                let Item {
+                    flags,
+                    bytes,
+                    unique,
+                } = item;
+                Block {
+                    number,
+                    unique,
+                    bytes,
+                    flags,
+                    has_item: true,
+                }
+            }
+            None => Block {
+                number,
+                unique: 0,
+                bytes: Bytes::new(),
+                flags: 0,
+                has_item: false,
+            },
+        }
+    }
+
+    fn item(&self) -> Result<Option<Item>, AllocError>
+        ensures { IfOk result (λ item. item ≡ (version_of_block self.now).item) }
+    {
+        if !self.has_item {
+            return Ok(None);
+        }
+        Ok(Some(Item {
+            flags: self.flags,
+            bytes: self.bytes.clone()?,
+            unique: self.unique,
+        }))
+    }
+}
