@@ -1,7 +1,6 @@
 -- The first element of a list that passes a test: its place, and the list without it.
 use Rattle.std.proofs.Common.{◌≡◌, ℕ, suc, ◌+◌, ◌<◌, ◌≤◌, nat_lt, Bool, true, false, not, cond, List, [], ◌∷◌, length}
-use Rattle.std.proofs.Common.{get_or, Option, Some, None, refl, sym, ap, ◌∙◌, arith, Bor}
-use Rattle.std.specs.Option.{option_copied}
+use Rattle.std.proofs.Common.{get_or, Option, Some, None, refl, sym, ap, ◌∙◌, arith}
 use Rattle.std.specs.Prelude.{position, find, remove, IsSome, IfSome, OnSome, ◌↔◌}
 use Rattle.std.proofs.lemmas.Option.{same_Some}
 use Rattle.std.proofs.lemmas.Bool.{ltb-true}
@@ -87,14 +86,3 @@ pub removed_left : {X : Type 0} (xs ys left : List X) (i n : ℕ) (r : Option X)
     → ys ≡ left
 removed_left xs ys left i n None low is len there items = let never : false ≡ true = there.1 (omega arith) in absurd cc
 removed_left xs ys left i n (Some y) low is len there items = items ∙ sym is
-
--- what `get` shows there
-pub got_found : {X : Type 0} (xs : List X) (i n : ℕ) (found : Option X) (r : Option (Bor X))
-    → i < length xs
-    → ((d : X) → found ≡ Some (get_or xs i d))
-    → n ≡ length xs
-    → (IsSome r ↔ (i < n))
-    → IfSome r (λ y. y.now ≡ get_or xs i y.now)
-    → option_copied r ≡ found
-got_found xs i n found None low is len there value = let never : false ≡ true = there.1 (omega arith) in absurd cc
-got_found xs i n found (Some y) low is len there value = ap Some value ∙ sym (is y.now)

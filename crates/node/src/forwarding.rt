@@ -1,35 +1,18 @@
 //! Forwarding: how entries go down the chain, and how their acknowledgements come back up it.
-ghost use Rattle.std.specs.Prelude.{◌≡◌, ◌≤◌, ◌+◌, ◌++◌, length, map, take, position, ◌==◌, OnOk};
+ghost use Rattle.std.specs.Prelude.{◌≡◌, ◌≤◌, ◌+◌, ◌++◌, length, map, take, OnOk};
 ghost use Rattle.std.specs.VecDeque.Iter.{deque_iter_rest};
 ghost use Rattle.versions.specs.Numbers.{IsRising};
 ghost use Rattle.versions.specs.Stores.{last_number};
 ghost use Rattle.node.specs.Lawful.{IsSound};
 ghost use Rattle.node.specs.Numbering as numbering;
 
+use crate::queues::take_out;
 use crate::servers::{OpenUpdate, Server, is_that};
 use crate::{Body, Output};
 use std::alloc::AllocError;
 use std::collections::VecDeque;
 use std::collections::vec_deque::Iter;
 use versions::Entry;
-
-// Takes the call of this id out of the open ones, if it is one of them.
-fn take_out(pend: &mut VecDeque<OpenUpdate>, id: u64) -> Option<OpenUpdate>
-    requires order { IsRising 0 (map (λ u. u.id) pend.old.items) }
-    ensures found { result ≡ numbering.open_update pend.old.items id }
-    ensures left { pend.new.items ≡ numbering.without_update pend.old.items id }
-{
-    let i = place_of(pend, id)?;
-    pend.remove(i)
-}
-
-// The place of the call of this id, by a binary search.
-fn place_of(pend: &VecDeque<OpenUpdate>, id: u64) -> Option<usize>
-    requires order { IsRising 0 (map (λ u. u.id) pend.now.items) }
-    ensures { result ≡ position (λ u. u.id == id) pend.now.items }
-{
-    pend.binary_search_by_key(&id, |update| update.id).ok()
-}
 
 // Where the entry's call is an own one without a reply, its port gets the reply.
 fn settle(

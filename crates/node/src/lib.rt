@@ -10,6 +10,7 @@ mod masters;
 mod messages;
 mod nodes;
 mod numbering;
+mod queues;
 mod reading;
 mod servers;
 mod standings;

@@ -1,15 +1,13 @@
 //! Reading: clean keys at once, dirty ones by asking the tail for its last number.
-ghost use Rattle.std.specs.Prelude.{◌≡◌, ◌+◌, ◌++◌, ◌==◌, map, position, Some, OnOk, IfOk};
+ghost use Rattle.std.specs.Prelude.{◌≡◌, ◌+◌, ◌++◌, Some, OnOk, IfOk};
 ghost use Rattle.std.specs.Option.{option_copied};
 ghost use Rattle.table.specs.declared.operations.Reply.TheVariants.{Value};
-ghost use Rattle.versions.specs.Numbers.{IsRising};
 ghost use Rattle.node.specs.Lawful.{IsSound};
 ghost use Rattle.node.specs.Reading as reading;
 
 use crate::servers::{OpenRead, Server, is_that};
-use crate::{Body, Output};
+use crate::{Body, Output, queues};
 use std::alloc::AllocError;
-use std::collections::VecDeque;
 use table::{Item, Key, Reply, Target};
 
 /// The reply that shows this item, or none.
@@ -20,24 +18,6 @@ pub(crate) fn value_reply(item: Option<&Item>) -> Result<Reply, AllocError>
         Some(item) => Ok(Reply::Value(Some(item.clone()?))),
         None => Ok(Reply::Value(None)),
     }
-}
-
-// Takes the read of this ask out of the open ones, if it is one of them.
-fn take_out(asks: &mut VecDeque<OpenRead>, ask: u64) -> Option<OpenRead>
-    requires order { IsRising 0 (map (λ r. r.ask) asks.old.items) }
-    ensures found { result ≡ reading.open_read asks.old.items ask }
-    ensures left { asks.new.items ≡ reading.without_read asks.old.items ask }
-{
-    let i = place_of(asks, ask)?;
-    asks.remove(i)
-}
-
-// The place of the read of this ask, by a binary search.
-fn place_of(asks: &VecDeque<OpenRead>, ask: u64) -> Option<usize>
-    requires order { IsRising 0 (map (λ r. r.ask) asks.now.items) }
-    ensures { result ≡ position (λ r. r.ask == ask) asks.now.items }
-{
-    asks.binary_search_by_key(&ask, |read| read.ask).ok()
 }
 
 impl Server {
@@ -136,7 +116,7 @@ impl Server {
             ≡ outputs.old.items
             ++ (reading.answered self.old ask n (reading.open_read self.old.asks ask)).outputs) }
     {
-        let Some(read) = open_read(&self.asks, ask) else {
+        let Some((place, read)) = queues::look_up(&self.asks, ask) else {
             return Ok(());
         };
         if n < read.mark || self.store.last() < n {
@@ -144,15 +124,7 @@ impl Server {
         }
         let reply = value_reply(self.store.at(&read.key, n))?;
         outputs.push(Output::Reply(read.port, reply))?;
-        take_out(&mut self.asks, ask);
+        self.asks.remove(place);
         Ok(())
     }
-}
-
-// The read of this ask, if it is open.
-fn open_read(asks: &VecDeque<OpenRead>, ask: u64) -> Option<&OpenRead>
-    requires order { IsRising 0 (map (λ r. r.ask) asks.now.items) }
-    ensures { option_copied result ≡ reading.open_read asks.now.items ask }
-{
-    asks.get(place_of(asks, ask)?)
 }

@@ -3,6 +3,7 @@ ghost use Rattle.std.specs.Prelude.{◌≡◌, ◌<◌, ◌≤◌, ◌++◌, OnO
 ghost use Rattle.node.specs.Servers as servers;
 ghost use Rattle.node.specs.Views as views;
 
+use crate::queues::Numbered;
 use crate::{Body, Output, Peer, View};
 use std::alloc::{AllocError, Global};
 use std::collections::VecDeque;
@@ -32,6 +33,22 @@ pub struct OpenRead {
     pub key: Key,
     /// The acknowledged number when it was asked.
     pub mark: u64,
+}
+
+impl Numbered for OpenUpdate {
+    ghost number_of = { λ update. update.id };
+
+    fn number(&self) -> u64 {
+        self.id
+    }
+}
+
+impl Numbered for OpenRead {
+    ghost number_of = { λ read. read.ask };
+
+    fn number(&self) -> u64 {
+        self.ask
+    }
 }
 
 /// What one server holds.

@@ -1,4 +1,4 @@
-use Rattle.std.proofs.Common.{◌≡◌, ap, sym, ◌∙◌, rules, Some}
+use Rattle.std.proofs.Common.{ap, sym, ◌∙◌, rules, Some}
 use Rattle.std.specs.Option.{option_map}
 use Rattle.std.proofs.lemmas.Option.{slice_get_past, slice_get_read}
 use Rattle.node.specs.declared.servers.OpenUpdate.{OpenUpdate}
