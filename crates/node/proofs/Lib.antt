@@ -1,4 +1,3 @@
-mod Worked
 pub mod ViewShapes
 pub mod ViewLaws
 pub mod NoticeShapes

@@ -1,5 +1,5 @@
 -- A face that is made from nothing: the base's items one after another, and then the entries above the floor.
-use Rattle.std.proofs.Common.{◌≡◌, ◌∙◌, ℕ, ◌-◌, Bool, true, false, cond, List, [], ◌∷◌, ◌++◌, drop, map, Option, None}
+use Rattle.std.proofs.Common.{◌≡◌, ◌∙◌, ℕ, ◌-◌, Bool, true, false, cond, List, [], ◌∷◌, ◌++◌, drop, map, Option}
 use Rattle.std.proofs.Common.{Some, refl, ap, sym, arith}
 use Rattle.std.specs.FinMap as maps
 use Rattle.std.specs.FinMap.{get-insert, get-empty, same_map}
@@ -11,7 +11,6 @@ use Rattle.table.specs.Keys.{key_cmp}
 use Rattle.table.specs.Plain.{Items, item_at}
 use Rattle.table.specs.declared.items.Item.{Item}
 use Rattle.versions.specs.Stores.{StoreState, items_put, entries_after}
-use Rattle.node.specs.declared.faces.Version.{Version}
 use Rattle.node.specs.declared.faces.FaceStep.{FaceStep}
 use Rattle.node.specs.declared.faces.FaceStep.TheVariants.{Set, Clear}
 use Rattle.node.specs.Servers.{ServerState}

@@ -107,6 +107,7 @@ impl Server {
             (outputs.new.items
             ≡ outputs.old.items ++ (numbering.passed_on (numbering.appended self.old entry) entry).outputs) }
     {
+        // At this call the proof learns that the entry keeps its ranges (as in `hold_entry`).
         let _number = entry.number();
         if self.is_tail() {
             self.append(entry)?;

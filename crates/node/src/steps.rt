@@ -203,7 +203,8 @@ impl Server {
     }
 }
 
-// An entry keeps its ranges by its type.
+// An entry keeps its ranges by its type, and a proof learns of them at a call on the entry. A step hands the entry on
+// without any, so it makes this one first. It changes nothing, and costs a look at the input.
 fn hold_entry(input: &Input)
     ensures { HoldsEntry input.now }
 {
