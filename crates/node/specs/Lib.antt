@@ -1,6 +1,7 @@
 pub mod Views
 pub mod Chains
 pub mod Servers
+pub mod Outcomes
 pub mod Numbering
 pub mod Reading
 pub mod Joining

@@ -4,6 +4,7 @@ ghost use Rattle.std.specs.VecDeque.Iter.{deque_iter_rest};
 ghost use Rattle.versions.specs.Numbers.{IsRising};
 ghost use Rattle.versions.specs.Stores.{last_number};
 ghost use Rattle.node.specs.Lawful.{IsSound};
+ghost use Rattle.node.specs.Outcomes.{Does};
 ghost use Rattle.node.specs.Numbering as numbering;
 
 use crate::queues::take_out;
@@ -67,8 +68,7 @@ impl Server {
         requires chain { IsSound self.old }
         requires above { self.old.store.acked ≤ n }
         requires known { n ≤ last_number self.old.store }
-        ensures state { OnOk result (self.new ≡ (numbering.rise self.old n).state) }
-        ensures outputs { OnOk result (outputs.new.items ≡ outputs.old.items ++ (numbering.rise self.old n).outputs) }
+        ensures { OnOk result (Does self.new outputs.old.items outputs.new.items (numbering.rise self.old n)) }
     {
         let acked = self.store.acked();
         let previous = self.previous();
@@ -102,10 +102,7 @@ impl Server {
     ) -> Result<(), AllocError>
         requires chain { IsSound self.old }
         requires next { entry.number ≡ last_number self.old.store + 1 }
-        ensures state { OnOk result (self.new ≡ (numbering.passed_on (numbering.appended self.old entry) entry).state) }
-        ensures outputs { OnOk result
-            (outputs.new.items
-            ≡ outputs.old.items ++ (numbering.passed_on (numbering.appended self.old entry) entry).outputs) }
+        ensures { OnOk result (Does self.new outputs.old.items outputs.new.items (numbering.passed_on (numbering.appended self.old entry) entry)) }
     {
         // At this call the proof learns that the entry keeps its ranges (as in `hold_entry`).
         let _number = entry.number();
@@ -126,9 +123,8 @@ impl Server {
         outputs: &mut Vec<Output>,
     ) -> Result<(), AllocError>
         requires chain { IsSound self.old }
-        ensures state { OnOk result (self.new ≡ (numbering.receive_forward self.old i entry).state) }
-        ensures outputs { OnOk result
-            (outputs.new.items ≡ outputs.old.items ++ (numbering.receive_forward self.old i entry).outputs) }
+        ensures { OnOk result
+            (Does self.new outputs.old.items outputs.new.items (numbering.receive_forward self.old i entry)) }
     {
         let last = self.store.last();
         if is_that(self.previous(), i) && last < entry.number() && entry.number() - last == 1 {
@@ -147,9 +143,7 @@ impl Server {
         outputs: &mut Vec<Output>,
     ) -> Result<(), AllocError>
         requires chain { IsSound self.old }
-        ensures state { OnOk result (self.new ≡ (numbering.receive_ack self.old i n).state) }
-        ensures outputs { OnOk result
-            (outputs.new.items ≡ outputs.old.items ++ (numbering.receive_ack self.old i n).outputs) }
+        ensures { OnOk result (Does self.new outputs.old.items outputs.new.items (numbering.receive_ack self.old i n)) }
     {
         if is_that(self.next(), i) && self.store.acked() < n && n <= self.store.last() {
             self.rise(n, outputs)

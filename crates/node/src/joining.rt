@@ -1,9 +1,10 @@
 //! Joining a view: what a server does when it learns of failed servers, in six steps.
-ghost use Rattle.std.specs.Prelude.{◌≡◌, ◌<◌, ◌≤◌, ◌+◌, ◌-◌, ◌++◌, true, false, OnOk, IfOk};
+ghost use Rattle.std.specs.Prelude.{◌≡◌, ◌<◌, ◌≤◌, ◌++◌, true, false, OnOk, IfOk};
 ghost use Rattle.versions.specs.Stores.{last_number, entries_after};
 ghost use Rattle.node.specs.Servers as servers;
 ghost use Rattle.node.specs.Views as views;
 ghost use Rattle.node.specs.Lawful.{IsSound};
+ghost use Rattle.node.specs.Outcomes.{Does};
 ghost use Rattle.node.specs.Joining as joining;
 
 use crate::reading::value_reply;
@@ -29,8 +30,7 @@ impl Server {
         requires chain { IsSound self.old }
         requires below { views.is_below v self.old.count ≡ true }
         requires outside { views.has v self.old.id ≡ false }
-        ensures state { OnOk result (self.new ≡ (joining.join self.old v).state) }
-        ensures outputs { OnOk result (outputs.new.items ≡ outputs.old.items ++ (joining.join self.old v).outputs) }
+        ensures { OnOk result (Does self.new outputs.old.items outputs.new.items (joining.join self.old v)) }
     {
         if !self.view.adds(v) {
             return Ok(());
@@ -52,10 +52,7 @@ impl Server {
     ) -> Result<(), AllocError>
         requires chain { IsSound self.old }
         requires last_before { (self.old.store.floor ≤ last_before) × (last_before ≤ last_number self.old.store) }
-        ensures state { OnOk result (self.new ≡ (joining.rejoined old last_before acked_before self.old).state) }
-        ensures outputs { OnOk result
-            (outputs.new.items
-            ≡ outputs.old.items ++ (joining.rejoined old last_before acked_before self.old).outputs) }
+        ensures { OnOk result (Does self.new outputs.old.items outputs.new.items (joining.rejoined old last_before acked_before self.old)) }
     {
         self.promote_to_head(old, outputs)?;
         self.promote_to_tail(outputs)?;
@@ -76,9 +73,7 @@ impl Server {
     #[tactic(auto, unfolding(crate::specs::Joining::promoted_to_head))]
     fn promote_to_head(&mut self, old: View, outputs: &mut Vec<Output>) -> Result<(), AllocError>
         requires chain { IsSound self.old }
-        ensures state { OnOk result (self.new ≡ (joining.promoted_to_head old self.old).state) }
-        ensures outputs { OnOk result
-            (outputs.new.items ≡ outputs.old.items ++ (joining.promoted_to_head old self.old).outputs) }
+        ensures { OnOk result (Does self.new outputs.old.items outputs.new.items (joining.promoted_to_head old self.old)) }
     {
         if self.is_head() {
             if is_that(old.head(self.count), self.id) {
@@ -132,9 +127,7 @@ impl Server {
     #[tactic(auto, unfolding(crate::specs::Joining::promoted_to_tail))]
     fn promote_to_tail(&mut self, outputs: &mut Vec<Output>) -> Result<(), AllocError>
         requires chain { IsSound self.old }
-        ensures state { OnOk result (self.new ≡ (joining.promoted_to_tail self.old).state) }
-        ensures outputs { OnOk result
-            (outputs.new.items ≡ outputs.old.items ++ (joining.promoted_to_tail self.old).outputs) }
+        ensures { OnOk result (Does self.new outputs.old.items outputs.new.items (joining.promoted_to_tail self.old)) }
     {
         let last = self.store.last();
         if self.is_tail() && self.store.acked() < last {
@@ -210,9 +203,7 @@ impl Server {
     #[tactic(auto, unfolding(crate::specs::Joining::asks_renewed))]
     fn renew_asks(&mut self, old: View, outputs: &mut Vec<Output>) -> Result<(), AllocError>
         requires chain { IsSound self.old }
-        ensures state { OnOk result (self.new ≡ (joining.asks_renewed old self.old).state) }
-        ensures outputs { OnOk result
-            (outputs.new.items ≡ outputs.old.items ++ (joining.asks_renewed old self.old).outputs) }
+        ensures { OnOk result (Does self.new outputs.old.items outputs.new.items (joining.asks_renewed old self.old)) }
     {
         if is_same(old.tail(self.count), self.tail()) {
             return Ok(());

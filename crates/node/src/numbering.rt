@@ -1,9 +1,10 @@
 //! Numbering: how an update gets its entry.
-ghost use Rattle.std.specs.Prelude.{◌≡◌, ◌<◌, ◌≤◌, ◌++◌, true, length, ◌-◌, ◌^◌, OnOk, IfOk, IsTrue};
+ghost use Rattle.std.specs.Prelude.{◌≡◌, ◌<◌, ◌≤◌, true, length, ◌-◌, ◌^◌, OnOk, IfOk, IsTrue};
 ghost use Rattle.std.specs.Option.{option_copied};
 ghost use Rattle.table.specs.Operations.{is_update};
 ghost use Rattle.versions.specs.Stores.{last_number};
 ghost use Rattle.node.specs.Lawful.{IsCall, IsSound};
+ghost use Rattle.node.specs.Outcomes.{Does};
 ghost use Rattle.node.specs.Numbering as numbering;
 
 use crate::servers::{OpenUpdate, Server};
@@ -75,9 +76,7 @@ impl Server {
         requires server { origin < 16 }
         requires call { IsCall call.now }
         requires update { is_update call.now.op ≡ true }
-        ensures state { OnOk result (self.new ≡ (numbering.take_update self.old origin id call.now).state) }
-        ensures outputs { OnOk result
-            (outputs.new.items ≡ outputs.old.items ++ (numbering.take_update self.old origin id call.now).outputs) }
+        ensures { OnOk result (Does self.new outputs.old.items outputs.new.items (numbering.take_update self.old origin id call.now)) }
     {
         if !self.is_taken(origin, id) {
             return Ok(());
@@ -97,9 +96,7 @@ impl Server {
         requires chain { IsSound self.old }
         requires call { IsCall call.now }
         requires update { is_update call.now.op ≡ true }
-        ensures state { OnOk result (self.new ≡ (numbering.update self.old port call.now).state) }
-        ensures outputs { OnOk result
-            (outputs.new.items ≡ outputs.old.items ++ (numbering.update self.old port call.now).outputs) }
+        ensures { OnOk result (Does self.new outputs.old.items outputs.new.items (numbering.update self.old port call.now)) }
     {
         if !self.is_room_for_update() {
             return Ok(());
@@ -136,9 +133,7 @@ impl Server {
         requires chain { IsSound self.old }
         requires call { IsCall call.now }
         requires update { is_update call.now.op ≡ true }
-        ensures state { OnOk result (self.new ≡ (numbering.called self.old id call.now).state) }
-        ensures outputs { OnOk result
-            (outputs.new.items ≡ outputs.old.items ++ (numbering.called self.old id call.now).outputs) }
+        ensures { OnOk result (Does self.new outputs.old.items outputs.new.items (numbering.called self.old id call.now)) }
     {
         if self.is_head() {
             self.take_update(self.id, id, call, outputs)
@@ -158,9 +153,7 @@ impl Server {
         requires chain { IsSound self.old }
         requires server { i < 16 }
         requires call { IsCall call.now }
-        ensures state { OnOk result (self.new ≡ (numbering.receive_op self.old i id call.now).state) }
-        ensures outputs { OnOk result
-            (outputs.new.items ≡ outputs.old.items ++ (numbering.receive_op self.old i id call.now).outputs) }
+        ensures { OnOk result (Does self.new outputs.old.items outputs.new.items (numbering.receive_op self.old i id call.now)) }
     {
         if self.is_head() && call.op.is_update() {
             self.take_update(i, id, call, outputs)

@@ -3,6 +3,7 @@ ghost use Rattle.std.specs.Prelude.{◌≡◌, ◌+◌, ◌++◌, Some, OnOk, If
 ghost use Rattle.std.specs.Option.{option_copied};
 ghost use Rattle.table.specs.declared.operations.Reply.TheVariants.{Value};
 ghost use Rattle.node.specs.Lawful.{IsSound};
+ghost use Rattle.node.specs.Outcomes.{Does};
 ghost use Rattle.node.specs.Reading as reading;
 
 use crate::servers::{OpenRead, Server, is_that};
@@ -29,9 +30,7 @@ impl Server {
         outputs: &mut Vec<Output>,
     ) -> Result<(), AllocError>
         requires chain { IsSound self.old }
-        ensures state { OnOk result (self.new ≡ (reading.read_of self.old port target).state) }
-        ensures outputs { OnOk result
-            (outputs.new.items ≡ outputs.old.items ++ (reading.read_of self.old port target).outputs) }
+        ensures { OnOk result (Does self.new outputs.old.items outputs.new.items (reading.read_of self.old port target)) }
     {
         let Target::One(key) = target else {
             return Ok(());
@@ -48,9 +47,7 @@ impl Server {
     #[tactic(auto, unfolding(crate::specs::Servers::most, crate::specs::Reading::dirty_read, crate::specs::Reading::asked))]
     fn ask(&mut self, port: usize, key: Key, outputs: &mut Vec<Output>) -> Result<(), AllocError>
         requires chain { IsSound self.old }
-        ensures state { OnOk result (self.new ≡ (reading.dirty_read self.old port key).state) }
-        ensures outputs { OnOk result
-            (outputs.new.items ≡ outputs.old.items ++ (reading.dirty_read self.old port key).outputs) }
+        ensures { OnOk result (Does self.new outputs.old.items outputs.new.items (reading.dirty_read self.old port key)) }
     {
         if self.next_ask == u64::MAX {
             return Ok(());
@@ -95,9 +92,7 @@ impl Server {
         outputs: &mut Vec<Output>,
     ) -> Result<(), AllocError>
         requires chain { IsSound self.old }
-        ensures state { OnOk result (self.new ≡ (reading.receive_answer self.old i ask n).state) }
-        ensures outputs { OnOk result
-            (outputs.new.items ≡ outputs.old.items ++ (reading.receive_answer self.old i ask n).outputs) }
+        ensures { OnOk result (Does self.new outputs.old.items outputs.new.items (reading.receive_answer self.old i ask n)) }
     {
         if !is_that(self.tail(), i) {
             return Ok(());
@@ -109,12 +104,7 @@ impl Server {
     #[tactic(auto, unfolding(crate::specs::Reading::answered))]
     fn answer(&mut self, ask: u64, n: u64, outputs: &mut Vec<Output>) -> Result<(), AllocError>
         requires chain { IsSound self.old }
-        ensures state { OnOk result
-            (self.new ≡ (reading.answered self.old ask n (reading.open_read self.old.asks ask)).state) }
-        ensures outputs { OnOk result
-            (outputs.new.items
-            ≡ outputs.old.items
-            ++ (reading.answered self.old ask n (reading.open_read self.old.asks ask)).outputs) }
+        ensures { OnOk result (Does self.new outputs.old.items outputs.new.items (reading.answered self.old ask n (reading.open_read self.old.asks ask))) }
     {
         let Some((place, read)) = queues::look_up(&self.asks, ask) else {
             return Ok(());

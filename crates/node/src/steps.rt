@@ -1,6 +1,7 @@
 //! One server's step: what each input does.
-ghost use Rattle.std.specs.Prelude.{◌≡◌, ◌<◌, ◌≤◌, ◌++◌, OnOk, IfOk};
+ghost use Rattle.std.specs.Prelude.{◌≡◌, ◌<◌, ◌≤◌, OnOk, IfOk};
 ghost use Rattle.node.specs.Lawful.{IsCall, IsBody, IsInput, IsSound, IsLawful, HoldsEntry, AreToOthers, AreFit};
+ghost use Rattle.node.specs.Outcomes.{Does};
 ghost use Rattle.node.specs.Steps as steps;
 ghost use Rattle.node.specs.Faces.{face_changed, face_of, steps_by, acked_by};
 ghost use Rattle.node.specs.Standings.{entries_by};
@@ -95,9 +96,7 @@ impl Server {
     fn take_in(&mut self, input: Input, outputs: &mut Vec<Output>) -> Result<(), AllocError>
         requires lawful { IsLawful self.old }
         requires input { IsInput input }
-        ensures state { OnOk result (self.new ≡ (steps.taken_in self.old input).state) }
-        ensures outputs { OnOk result
-            (outputs.new.items ≡ outputs.old.items ++ (steps.taken_in self.old input).outputs) }
+        ensures { OnOk result (Does self.new outputs.old.items outputs.new.items (steps.taken_in self.old input)) }
     {
         match input {
             Input::Call(port, call) => self.call(port, call, outputs),
@@ -110,9 +109,7 @@ impl Server {
     fn call(&mut self, port: usize, call: Call, outputs: &mut Vec<Output>) -> Result<(), AllocError>
         requires chain { IsSound self.old }
         requires call { IsCall call }
-        ensures state { OnOk result (self.new ≡ (steps.call self.old port call).state) }
-        ensures outputs { OnOk result
-            (outputs.new.items ≡ outputs.old.items ++ (steps.call self.old port call).outputs) }
+        ensures { OnOk result (Does self.new outputs.old.items outputs.new.items (steps.call self.old port call)) }
     {
         if call.op.is_update() {
             return self.update(port, &call, outputs);
@@ -124,8 +121,7 @@ impl Server {
     // The notice that server j has failed: it is joined, unless j is this server or none of the chain.
     fn gone(&mut self, j: u8, outputs: &mut Vec<Output>) -> Result<(), AllocError>
         requires chain { IsSound self.old }
-        ensures state { OnOk result (self.new ≡ (steps.gone self.old j).state) }
-        ensures outputs { OnOk result (outputs.new.items ≡ outputs.old.items ++ (steps.gone self.old j).outputs) }
+        ensures { OnOk result (Does self.new outputs.old.items outputs.new.items (steps.gone self.old j)) }
     {
         if j < self.count && j != self.id {
             self.join(View::single(j), outputs)
@@ -147,9 +143,7 @@ impl Server {
     fn from_peer(&mut self, i: u8, peer: Peer, outputs: &mut Vec<Output>) -> Result<(), AllocError>
         requires lawful { IsLawful self.old }
         requires body { IsBody peer.body }
-        ensures state { OnOk result (self.new ≡ (steps.from_peer self.old i peer).state) }
-        ensures outputs { OnOk result
-            (outputs.new.items ≡ outputs.old.items ++ (steps.from_peer self.old i peer).outputs) }
+        ensures { OnOk result (Does self.new outputs.old.items outputs.new.items (steps.from_peer self.old i peer)) }
     {
         if !self.is_heard(i, peer.view) {
             return Ok(());
@@ -163,9 +157,7 @@ impl Server {
         requires chain { IsSound self.old }
         requires server { i < 16 }
         requires body { IsBody body }
-        ensures state { OnOk result (self.new ≡ (steps.received self.old i body).state) }
-        ensures outputs { OnOk result
-            (outputs.new.items ≡ outputs.old.items ++ (steps.received self.old i body).outputs) }
+        ensures { OnOk result (Does self.new outputs.old.items outputs.new.items (steps.received self.old i body)) }
     {
         if self.view.has(i) {
             return Ok(());

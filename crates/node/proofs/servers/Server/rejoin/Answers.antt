@@ -43,21 +43,16 @@ renew_asks-requires c =
     c.in_ok-promote_to_head.ensures.state in
     record { chain = rw made r.third }
 
-pub returns-clause-state : goal.returns-clause-state
-returns-clause-state c =
+pub returns : goal.returns
+returns c =
     let made = c.in_ok-promote_to_tail.ensures.state ∙ ap (λ (t : ServerState). (promoted_to_tail t).state)
     c.in_ok-promote_to_head.ensures.state in
     on_ok c.renew_asks.result _ _
-    (λ e. e ∙ rejoined_state c.args.old c.args.last_before c.args.acked_before c.args.self.now _ made)
-    c.renew_asks.ensures.state
-
-pub returns-clause-outputs : goal.returns-clause-outputs
-returns-clause-outputs c =
-    let made = c.in_ok-promote_to_tail.ensures.state ∙ ap (λ (t : ServerState). (promoted_to_tail t).state)
-    c.in_ok-promote_to_head.ensures.state in
-    on_ok c.renew_asks.result _ _
-    (λ e. rejoined_outputs c.args.old c.args.last_before c.args.acked_before c.args.self.now _ _ _ _ _ _ _ _
-    c.in_ok-promote_to_head.ensures.state made
-    c.in_ok-promote_to_head.ensures.outputs c.in_ok-promote_to_tail.ensures.outputs c.in_ok-catch_up.ensures
-    c.in_ok-ack_to_predecessor.ensures e)
-    c.renew_asks.ensures.outputs
+    (λ e. record {
+      state = e.state ∙ rejoined_state c.args.old c.args.last_before c.args.acked_before c.args.self.now _ made;
+      outputs = rejoined_outputs c.args.old c.args.last_before c.args.acked_before c.args.self.now _ _ _ _ _ _ _ _
+          c.in_ok-promote_to_head.ensures.state made
+          c.in_ok-promote_to_head.ensures.outputs c.in_ok-promote_to_tail.ensures.outputs c.in_ok-catch_up.ensures
+          c.in_ok-ack_to_predecessor.ensures e.outputs;
+    })
+    c.renew_asks.ensures

@@ -11,8 +11,8 @@ submit-requires-clause-chain c =
     rw (c.in_ok-enter.ensures, same)
     (sound-entered c.args.self.now c.args.port c.args.call.now c.requires.call c.requires.update c.requires.chain)
 
-pub returns-clause-state : goal.returns-clause-state
-returns-clause-state c =
+pub returns : goal.returns
+returns c =
     let same : c.in_ok-clone.field-0 ≡ c.args.call.now = search rules in
     let room : is_room_for_update c.args.self.now ≡ true = search rules in
     let made : c.enter.new.self ≡ entered c.args.self.now c.args.port c.args.call.now =
@@ -21,16 +21,4 @@ returns-clause-state c =
       updated c.args.self.now c.args.port c.args.call.now room,
       ← made,
       ← ap (λ (s : ServerState). s.next_id) c.self.view_is,
-    ) c.submit.ensures.state
-
-pub returns-clause-outputs : goal.returns-clause-outputs
-returns-clause-outputs c =
-    let same : c.in_ok-clone.field-0 ≡ c.args.call.now = search rules in
-    let room : is_room_for_update c.args.self.now ≡ true = search rules in
-    let made : c.enter.new.self ≡ entered c.args.self.now c.args.port c.args.call.now =
-    rw (← same) c.in_ok-enter.ensures in
-    rw (
-      updated c.args.self.now c.args.port c.args.call.now room,
-      ← made,
-      ← ap (λ (s : ServerState). s.next_id) c.self.view_is,
-    ) c.submit.ensures.outputs
+    ) c.submit.ensures
