@@ -1,5 +1,4 @@
--- Lists alone: what stands at a place, beginnings, legal lists of calls.
+-- Lists alone: what stands at a place, and beginnings.
 pub mod Standing
 pub mod Beginnings
 pub mod Fronts
-pub mod LegalLists

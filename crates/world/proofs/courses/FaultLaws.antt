@@ -38,13 +38,6 @@ passes (None, left) later fault e = cc
 passes (Some (Faulty other), left) later fault e = refl
 passes (Some (Calls call form), left) later fault e = cc
 
--- nothing stands in turn
-abbrev pub IsEnd : Step → Type 0
-IsEnd (Calling target op) = ⊥
-IsEnd Emit = ⊥
-IsEnd Wait = Unit {0}
-IsEnd Close = Unit {0}
-
 -- behind a fault is what is behind the rest
 passed_one : FaultsTakeBytes
     → (h left : Held) (fault : Fault)
@@ -81,34 +74,3 @@ pub shorter_step : FaultsTakeBytes
     → left ≡ (next_of h).1
     → most_faults left < most_faults h
 shorter_step law h left e is = let fault = emits (next_of h) e in rw is (law h fault.0 fault.1)
-
--- a step that isn't a fault's ends the faults: its call, and what is left
-called_by : (r : Given) (target : Target) (op : Op)
-    → Calling target op ≡ step_of r
-    → call_of r.0 ≡ Some (record { target = target; op = op })
-called_by (None, left) target op e = by_closed left.closed e
-  where
-    by_closed : (b : Bool)
-        → Calling target op ≡ cond b Close Wait
-        → call_of None ≡ Some (record { target = target; op = op })
-    by_closed true e = cc
-    by_closed false e = cc
-called_by (Some (Faulty fault), left) target op e = cc
-called_by (Some (Calls call form), left) target op e =
-    let same_target : target ≡ call.target = cc in
-    let same_op : op ≡ call.op = cc in
-    rw (same_target, same_op) refl
-
-stays_called : (r later : Given) (call : Call) → call_of r.0 ≡ Some call → behind r later ≡ r
-stays_called (None, left) later call e = refl
-stays_called (Some (Faulty fault), left) later call e = cc
-stays_called (Some (Calls other form), left) later call e = refl
-
-nothing : (r : Given) (step : Step) → IsEnd step → step ≡ step_of r → r.0 ≡ None
-nothing (None, left) step end e = refl
-nothing (Some (Faulty fault), left) step end e = absurd (rw e at end)
-nothing (Some (Calls call form), left) step end e = absurd (rw e at end)
-
-stays_ended : (r later : Given) → r.0 ≡ None → behind r later ≡ r
-stays_ended (None, left) later e = refl
-stays_ended (Some turn, left) later e = cc

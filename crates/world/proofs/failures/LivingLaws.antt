@@ -387,9 +387,6 @@ pub alike_happen : (u v : World) (e : Event) → living_part u ≡ living_part v
     → living_part (happens u e) ≡ living_part (happens v e)
 alike_happen u v e same = sym (part-happens u e) ∙ ap (λ x. living_part (happens x e)) same ∙ part-happens v e
 
-pub alike_live : (u v : World) (i : ℕ) → living_part u ≡ living_part v → lives u i ≡ lives v i
-alike_live u v i same = sym (lives_same u i) ∙ ap (λ x. lives x i) same ∙ lives_same v i
-
 -- ---- which server steps
 
 part-works : (w : World) (o : Option Connection) → works_at (living_part w) o ≡ works_at w o

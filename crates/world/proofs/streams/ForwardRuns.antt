@@ -3,21 +3,24 @@ use Rattle.std.proofs.Common.{◌≡◌, ◌≢◌, ℕ, zero, suc, ◌+◌, ◌
 use Rattle.std.proofs.Common.{map, drop, set, get_or, Option, Some, None, refl, arith, inl, inr, ap, sym, ◌∙◌, cond}
 use Rattle.std.proofs.Common.{append_assoc}
 use Rattle.std.specs.Prelude.{◌==◌, slice_get}
-use Rattle.std.proofs.lemmas.Bool.{cases_eq, eq-eqb, ne_eqb}
+use Rattle.std.proofs.lemmas.Bool.{cond_both, cases_eq, eq-eqb, ne_eqb}
 use Rattle.std.proofs.lemmas.List.{length-set, get_or-set_same, get_or-set_other, append-nil}
+use Rattle.table.specs.declared.operations.Reply.{Reply}
 use Rattle.versions.specs.Entries.{LogEntry}
 use Rattle.versions.specs.Stores.{IsLog}
+use Rattle.node.specs.declared.servers.OpenUpdate.{OpenUpdate}
 use Rattle.node.specs.declared.messages.Body.{Body}
 use Rattle.node.specs.declared.messages.Body.TheVariants.{Forward}
 use Rattle.node.specs.declared.messages.Peer.{Peer}
 use Rattle.node.specs.declared.messages.Output.{Output}
 use Rattle.node.specs.declared.messages.Output.TheVariants.{To, Reply as Replied}
 use Rattle.node.specs.Servers.{ServerState, message_to}
+use Rattle.node.specs.Numbering.{open_update, replied, reply_to}
 use Rattle.world.specs.Connections.{Connection}
 use Rattle.world.specs.Worlds.{World, link, with_link, with_connection, put, put_all}
 use Rattle.node.proofs.Lists.{In}
 use Rattle.world.proofs.trace.WorldLaws.{link_cases, link-with_connection}
-use Rattle.world.proofs.streams.Streaming.{forwarded_number, numbers, IsRun, sent_to}
+use Rattle.world.proofs.streams.Streaming.{forwarded_number, brought, IsRun, sent_to}
 
 -- ---- runs
 
@@ -34,33 +37,13 @@ pub run_up : (xs : List ℕ) (f n : ℕ) → IsRun f n xs → f ≤ n
 run_up [] f n h = omega (arith, h)
 run_up (x ∷ xs) f n h = omega (arith, run_up xs (f + 1) n h.1)
 
--- the numbers of entries that follow one another
-pub run_log : (before n : ℕ) (es : List LogEntry)
-    → n ≡ before + length es
-    → IsLog before es
-    → IsRun before n (map (λ (e : LogEntry). e.number) es)
-run_log before n [] is log = omega (arith, is)
-run_log before n (e ∷ es) is log = (log.1, run_log (before + 1) n es (omega (arith, is)) log.2)
+-- ---- what messages and outputs bring
 
--- the same of those behind a number
-pub run_dropped : (floor k m n : ℕ) (es : List LogEntry)
-    → m ≡ floor + k
-    → k ≤ length es
-    → n ≡ floor + length es
-    → IsLog floor es
-    → IsRun m n (map (λ (e : LogEntry). e.number) (drop k es))
-run_dropped floor zero m n es is low all log =
-    let same : m ≡ floor = omega (arith, is) in rw same (run_log floor n es all log)
-run_dropped floor (suc k) m n [] is low all log = absurd (omega (arith, low))
-run_dropped floor (suc k) m n (e ∷ es) is low all log =
-    run_dropped (floor + 1) k m n es (omega (arith, is)) (omega (arith, low)) (omega (arith, all)) log.2
-
--- ---- the numbers of messages and outputs
-
-pub numbers-append : (ms ns : List Peer) → numbers (ms ++ ns) ≡ numbers ms ++ numbers ns
-numbers-append [] ns = refl
-numbers-append (m ∷ ms) ns = ap (λ ks. forwarded_number m.body ++ ks) (numbers-append ms ns)
-    ∙ sym (append_assoc (forwarded_number m.body) (numbers ms) (numbers ns))
+pub brought-append : (picked : Body → List ℕ) (ms ns : List Peer)
+    → brought picked (ms ++ ns) ≡ brought picked ms ++ brought picked ns
+brought-append picked [] ns = refl
+brought-append picked (m ∷ ms) ns = ap (λ ks. picked m.body ++ ks) (brought-append picked ms ns)
+    ∙ sym (append_assoc (picked m.body) (brought picked ms) (brought picked ns))
 
 sent_step : (b : Bool) (m : Peer) (ms ns all : List Peer)
     → all ≡ ms ++ ns
@@ -73,35 +56,48 @@ sent_to-append y [] ps = refl
 sent_to-append y (To j m ∷ os) ps = sent_step (j == y) m (sent_to y os) (sent_to y ps) _ (sent_to-append y os ps)
 sent_to-append y (Replied c reply ∷ os) ps = sent_to-append y os ps
 
+-- what these outputs bring to server y
+abbrev pub brought_to : (Body → List ℕ) → ℕ → List Output → List ℕ
+brought_to picked y os = brought picked (sent_to y os)
+
+pub brought_to-append : (picked : Body → List ℕ) (y : ℕ) (os ps : List Output)
+    → brought_to picked y (os ++ ps) ≡ brought_to picked y os ++ brought_to picked y ps
+brought_to-append picked y os ps =
+    ap (λ ms. brought picked ms) (sent_to-append y os ps) ∙ brought-append picked (sent_to y os) (sent_to y ps)
+
+none_step : (picked : Body → List ℕ) (b : Bool) (m : Peer)
+    → picked m.body ≡ []
+    → brought picked (cond b (m ∷ []) []) ≡ []
+none_step picked true m h = rw h refl
+none_step picked false m h = refl
+
+-- a message of another kind brings nothing
+pub none_brought : (picked : Body → List ℕ) (s : ServerState) (y : ℕ) (o : Option ℕ) (body : Body)
+    → picked body ≡ []
+    → brought_to picked y (message_to s o body) ≡ []
+none_brought picked s y None body h = refl
+none_brought picked s y (Some j) body h = none_step picked (j == y) (record { view = s.view; body = body }) h
+
+-- and so does a reply
+reply_none : (picked : Body → List ℕ) (y : ℕ) (reply : Reply) (u : Option OpenUpdate)
+    → brought_to picked y (replied reply u) ≡ []
+reply_none picked y reply None = refl
+reply_none picked y reply (Some u) = refl
+
+pub closed_none : (picked : Body → List ℕ) (y id : ℕ) (pend : List OpenUpdate) (e : LogEntry)
+    → brought_to picked y (reply_to id pend e) ≡ []
+closed_none picked y id pend e =
+    cond_both (e.origin == id) _ _ (λ (os : List Output). brought_to picked y os ≡ [])
+    (λ t. reply_none picked y e.reply (open_update pend e.id)) (λ f. refl)
+
 -- the numbers of the entries that go to server y
 abbrev pub numbers_to : ℕ → List Output → List ℕ
-numbers_to y os = numbers (sent_to y os)
-
-pub numbers_to-append : (y : ℕ) (os ps : List Output) → numbers_to y (os ++ ps) ≡ numbers_to y os ++ numbers_to y ps
-numbers_to-append y os ps =
-    ap (λ ms. numbers ms) (sent_to-append y os ps) ∙ numbers-append (sent_to y os) (sent_to y ps)
+numbers_to y os = brought_to forwarded_number y os
 
 pub number_there : (s : ServerState) (y : ℕ) (o : Option ℕ) (e : LogEntry)
     → o ≡ Some y
     → numbers_to y (message_to s o (Forward e)) ≡ e.number ∷ []
 number_there s y o e h = rw (h, eq-eqb y y refl) refl
-
-no_step : (b : Bool) (m : Peer) → forwarded_number m.body ≡ [] → numbers (cond b (m ∷ []) []) ≡ []
-no_step true m h = rw h refl
-no_step false m h = refl
-
--- a message of another kind forwards nothing
-pub no_number : (s : ServerState) (y : ℕ) (o : Option ℕ) (body : Body)
-    → forwarded_number body ≡ []
-    → numbers_to y (message_to s o body) ≡ []
-no_number s y None body h = refl
-no_number s y (Some j) body h = no_step (j == y) (record { view = s.view; body = body }) h
-
-pub no_numbers : (y : ℕ) (os ps : List Output)
-    → numbers_to y os ≡ []
-    → numbers_to y ps ≡ []
-    → numbers_to y (os ++ ps) ≡ []
-no_numbers y os ps h g = rw (numbers_to-append y os ps, h, g) refl
 
 -- what goes out to y is among what is sent to it
 in_step : (b : Bool) (m n : Peer) (ms : List Peer) → In m ms → In m (cond b (n ∷ ms) ms)

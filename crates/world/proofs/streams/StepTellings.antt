@@ -36,8 +36,8 @@ use Rattle.node.proofs.DoneActions.{grown_does}
 use Rattle.node.proofs.DoneRules.{last_appended}
 use Rattle.node.proofs.DoneSteps.{last_trimmed, step_whole}
 use Rattle.node.proofs.RuleLaws.{same_is}
-use Rattle.world.proofs.streams.Streaming.{IsRun}
-use Rattle.world.proofs.streams.ForwardRuns.{run-append, numbers_to, numbers_to-append, number_there, no_number}
+use Rattle.world.proofs.streams.Streaming.{forwarded_number, IsRun}
+use Rattle.world.proofs.streams.ForwardRuns.{run-append, brought_to-append, none_brought, closed_none, numbers_to, number_there}
 
 pub some_or_not : (found : Option ℕ) (y : ℕ) → (found ≡ Some y) ⊎ (found ≡ Some y → ⊥)
 some_or_not None y = inr (λ e. absurd cc)
@@ -49,24 +49,16 @@ same_self a b k e g = rw (e, g) (eq-eqb k k refl)
 
 -- ---- the successor
 
-reply_none : (y : ℕ) (reply : Reply) (u : Option OpenUpdate) → numbers_to y (replied reply u) ≡ []
-reply_none y reply None = refl
-reply_none y reply (Some u) = refl
-
-closed_none : (y id : ℕ) (pend : List OpenUpdate) (e : LogEntry) → numbers_to y (reply_to id pend e) ≡ []
-closed_none y id pend e = cond_both (e.origin == id) _ _ (λ (os : List Output). numbers_to y os ≡ [])
-    (λ t. reply_none y e.reply (open_update pend e.id)) (λ f. refl)
-
 sent_run : (c : Cause) (d : Due) (s : ServerState) (j : ℕ) (body : Body) (y : ℕ)
     → MaySend c s j body
     → IsTurnOf body d
     → next s ≡ Some y
     → IsRun d.forwarded (due_after body d).forwarded (numbers_to y (message_to s (Some j) body))
-sent_run c d s j (Op id call) y g t n = rw (no_number s y (Some j) (Op id call) refl) refl
+sent_run c d s j (Op id call) y g t n = rw (none_brought forwarded_number s y (Some j) (Op id call) refl) refl
 sent_run c d s j (Forward e) y g t n = rw (number_there s y (Some j) e (sym g.0 ∙ n)) (t, sym t)
-sent_run c d s j (Ack k) y g t n = rw (no_number s y (Some j) (Ack k) refl) refl
-sent_run c d s j (Query ask key) y g t n = rw (no_number s y (Some j) (Query ask key) refl) refl
-sent_run c d s j (Answer ask k) y g t n = rw (no_number s y (Some j) (Answer ask k) refl) refl
+sent_run c d s j (Ack k) y g t n = rw (none_brought forwarded_number s y (Some j) (Ack k) refl) refl
+sent_run c d s j (Query ask key) y g t n = rw (none_brought forwarded_number s y (Some j) (Query ask key) refl) refl
+sent_run c d s j (Answer ask k) y g t n = rw (none_brought forwarded_number s y (Some j) (Answer ask k) refl) refl
 
 -- an action forwards to a successor that stays what is due
 act_run : (c : Cause) (d : Due) (s : ServerState) (a : Action) (y : ℕ)
@@ -79,7 +71,7 @@ unfolding act
 act_run c d s (Widen v) y g t n m = rw (same_self (next s) (next (widened s v)) y n m) (ap (λ (x : Due). x.forwarded) t)
 act_run c d s (Append e) y g t n m = refl
 act_run c d s (Reach k) y g t n m = refl
-act_run c d s (Settle e) y g t n m = rw (closed_none y s.id s.pend e) refl
+act_run c d s (Settle e) y g t n m = rw (closed_none forwarded_number y s.id s.pend e) refl
 act_run c d s (Send j body) y g t n m = sent_run c d s j body y g.0 t n
 act_run c d s (Finish r k) y g t n m = refl
 act_run c d s Trim y g t n m = refl
@@ -91,11 +83,11 @@ sent_none : (c : Cause) (s : ServerState) (j : ℕ) (body : Body) (y : ℕ)
     → MaySend c s j body
     → (next s ≡ Some y → ⊥)
     → numbers_to y (message_to s (Some j) body) ≡ []
-sent_none c s j (Op id call) y g other = no_number s y (Some j) (Op id call) refl
+sent_none c s j (Op id call) y g other = none_brought forwarded_number s y (Some j) (Op id call) refl
 sent_none c s j (Forward e) y g other = rw (ne_eqb j y (λ same. other (g.0 ∙ ap Some same))) refl
-sent_none c s j (Ack k) y g other = no_number s y (Some j) (Ack k) refl
-sent_none c s j (Query ask key) y g other = no_number s y (Some j) (Query ask key) refl
-sent_none c s j (Answer ask k) y g other = no_number s y (Some j) (Answer ask k) refl
+sent_none c s j (Ack k) y g other = none_brought forwarded_number s y (Some j) (Ack k) refl
+sent_none c s j (Query ask key) y g other = none_brought forwarded_number s y (Some j) (Query ask key) refl
+sent_none c s j (Answer ask k) y g other = none_brought forwarded_number s y (Some j) (Answer ask k) refl
 
 -- and to no other
 act_none : (c : Cause) (s : ServerState) (a : Action) (y : ℕ)
@@ -106,7 +98,7 @@ unfolding act
 act_none c s (Widen v) y g other = refl
 act_none c s (Append e) y g other = refl
 act_none c s (Reach k) y g other = refl
-act_none c s (Settle e) y g other = closed_none y s.id s.pend e
+act_none c s (Settle e) y g other = closed_none forwarded_number y s.id s.pend e
 act_none c s (Send j body) y g other = sent_none c s j body y g.0 other
 act_none c s (Finish r k) y g other = refl
 act_none c s Trim y g other = refl
@@ -160,7 +152,7 @@ same_run [] c d s y g t n m = refl
 same_run (a ∷ later) c d s y g t n m =
     let u = (act s a).state in
     let mid = next_between s u (does u later).state y (grown_act c s a g.1) (grown_does later (left c) u g.2) n m in
-    rw (numbers_to-append y (act s a).outputs (does u later).outputs)
+    rw (brought_to-append forwarded_number y (act s a).outputs (does u later).outputs)
     (run-append _ _ _ (due d s a).forwarded _ (act_run c d s a y g.1 t.0 n mid)
     (same_run later (left c) (due d s a) u y g.2 t.1 mid m))
 
@@ -180,13 +172,13 @@ new_run (a ∷ later) c d s y g t other m =
       | inl now ↦ (
         s.store.acked,
         omega (arith, (grown_act c s a g.1).acked, (grown_does later (left c) u g.2).acked),
-        rw (numbers_to-append y (act s a).outputs (does u later).outputs, none)
+        rw (brought_to-append forwarded_number y (act s a).outputs (does u later).outputs, none)
             (subst (λ f. IsRun f (due_in_the_end (due d s a) u later).forwarded (numbers_to y (does u later).outputs))
             (act_new d s a y other now)
             (same_run later (left c) (due d s a) u y g.2 t.1 now m)),
       )
       | inr still ↦ (let r = new_run later (left c) (due d s a) u y g.2 t.1 still m in
-          (r.0, r.1, rw (numbers_to-append y (act s a).outputs (does u later).outputs, none) r.2))
+          (r.0, r.1, rw (brought_to-append forwarded_number y (act s a).outputs (does u later).outputs, none) r.2))
     ]
 
 -- ---- the predecessor

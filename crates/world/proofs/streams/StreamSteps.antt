@@ -18,7 +18,7 @@ use Rattle.world.proofs.lists.Beginnings.{begins-length}
 use Rattle.world.proofs.layers.HeldLogs.{held_last}
 use Rattle.world.proofs.trace.IdLaws.{next_of, following_from, previous_of}
 use Rattle.world.proofs.streams.Streaming.{forwarded_number, numbers, sent_to, Linked, Stream, LinkedBack, IsTold}
-use Rattle.world.proofs.streams.ForwardRuns.{run-append, run_as, numbers-append, in_sent}
+use Rattle.world.proofs.streams.ForwardRuns.{run-append, run_as, brought-append, in_sent}
 use Rattle.world.proofs.streams.StepTellings.{some_or_not, Informs, informs_step}
 use Rattle.world.proofs.streams.Stepped.{Stepped, Follows}
 use Rattle.world.proofs.layers.LoggedLaws.{still_out}
@@ -111,7 +111,7 @@ module _ (t u : Traced) (h : Follows t u) (a : ℕ) (input : Input) (p : Stepped
       let apart : y ≢ a = λ e. omega (arith, e, above) in
       let to : next o.state ≡ Some y = ap (λ s. next s) (sym p.own) ∙ l.next in
       let now : numbers (link u.world a y) ≡ numbers (link t.world a y) ++ numbers (sent_to y o.outputs) =
-      ap (λ ms. numbers ms) (p.sent y inside) ∙ numbers-append (link t.world a y) (sent_to y o.outputs) in
+      ap (λ ms. numbers ms) (p.sent y inside) ∙ brought-append forwarded_number (link t.world a y) (sent_to y o.outputs) in
       let last : last_number (server u.world a).store ≡ last_number o.state.store =
       ap (λ s. last_number s.store) p.own in
       elim (some_or_not (next (server t.world a)) y) [

@@ -20,10 +20,14 @@ forwarded_number (Ack n) = []
 forwarded_number (Query ask key) = []
 forwarded_number (Answer ask n) = []
 
+-- what these messages bring, in order, by what a body brings
+abbrev pub brought : (Body → List ℕ) → List Peer → List ℕ
+brought picked [] = []
+brought picked (m ∷ ms) = picked m.body ++ brought picked ms
+
 -- the numbers of the entries that these messages forward
 abbrev pub numbers : List Peer → List ℕ
-numbers [] = []
-numbers (m ∷ ms) = forwarded_number m.body ++ numbers ms
+numbers ms = brought forwarded_number ms
 
 -- f + 1, f + 2 and so on, up to n
 abbrev pub IsRun : ℕ → ℕ → List ℕ → Type 0

@@ -24,7 +24,8 @@ use Rattle.node.proofs.SoundActions.{Grown, grown_act, sound_act}
 use Rattle.node.proofs.DoneActions.{grown_does}
 use Rattle.node.proofs.RuleLaws.{same_is}
 use Rattle.world.proofs.streams.Streaming.{IsRun, sent_to}
-use Rattle.world.proofs.streams.ForwardRuns.{run-append, run_up, sent_to-append}
+use Rattle.world.proofs.streams.ForwardRuns.{run-append, run_up, brought_to, brought_to-append, none_brought}
+use Rattle.world.proofs.streams.ForwardRuns.{closed_none}
 use Rattle.world.proofs.waiting.Opening.{op_id, op_ids, ids}
 use Rattle.world.proofs.waiting.OwnIds.{OwnDue, ids-append}
 use Rattle.world.proofs.streams.StepTellings.{some_or_not, same_self}
@@ -32,32 +33,9 @@ use Rattle.world.proofs.waiting.OwnEntries.{Along, along_now, does_seen}
 
 -- ---- what goes to the head
 
+-- the ids of the updates that go to server y
 abbrev pub ops_to : ℕ → List Output → List ℕ
-ops_to y os = op_ids (sent_to y os)
-
-pub op_ids-append : (ms ns : List Peer) → op_ids (ms ++ ns) ≡ op_ids ms ++ op_ids ns
-op_ids-append [] ns = refl
-op_ids-append (m ∷ ms) ns =
-    ap (λ ks. op_id m.body ++ ks) (op_ids-append ms ns) ∙ sym (append_assoc (op_id m.body) (op_ids ms) (op_ids ns))
-
-ops_to-append : (y : ℕ) (os ps : List Output) → ops_to y (os ++ ps) ≡ ops_to y os ++ ops_to y ps
-ops_to-append y os ps = ap (λ ms. op_ids ms) (sent_to-append y os ps) ∙ op_ids-append (sent_to y os) (sent_to y ps)
-
-no_step : (b : Bool) (m : Peer) → op_id m.body ≡ [] → op_ids (cond b (m ∷ []) []) ≡ []
-no_step true m h = rw h refl
-no_step false m h = refl
-
--- a message of another kind brings none
-no_op : (s : ServerState) (y j : ℕ) (body : Body) → op_id body ≡ [] → ops_to y (message_to s (Some j) body) ≡ []
-no_op s y j body h = no_step (j == y) (record { view = s.view; body = body }) h
-
-reply_none : (y : ℕ) (reply : Reply) (u : Option OpenUpdate) → ops_to y (replied reply u) ≡ []
-reply_none y reply None = refl
-reply_none y reply (Some u) = refl
-
-closed_none : (y id : ℕ) (pend : List OpenUpdate) (e : LogEntry) → ops_to y (reply_to id pend e) ≡ []
-closed_none y id pend e = cond_both (e.origin == id) _ _ (λ (os : List Output). ops_to y os ≡ [])
-    (λ t. reply_none y e.reply (open_update pend e.id)) (λ f. refl)
+ops_to y os = brought_to op_id y os
 
 -- these ids went out, and those that are due follow them
 pub record IsSent (m : ℕ) (sent : List ℕ) (us : List OpenUpdate) (next_id : ℕ) : Type 0 where
@@ -108,13 +86,13 @@ sent_op c d s j (Op id call) h m last g t to issued run =
           (sym (ap (λ (us : List OpenUpdate). but_first us) t.2)) first.1;
     }
 sent_op c d s j (Forward e) h m last g t to issued run =
-    sent_still m last _ d.unsent s.next_id (no_op s h j (Forward e) refl) issued run
+    sent_still m last _ d.unsent s.next_id (none_brought op_id s h (Some j) (Forward e) refl) issued run
 sent_op c d s j (Ack n) h m last g t to issued run =
-    sent_still m last _ d.unsent s.next_id (no_op s h j (Ack n) refl) issued run
+    sent_still m last _ d.unsent s.next_id (none_brought op_id s h (Some j) (Ack n) refl) issued run
 sent_op c d s j (Query ask key) h m last g t to issued run =
-    sent_still m last _ d.unsent s.next_id (no_op s h j (Query ask key) refl) issued run
+    sent_still m last _ d.unsent s.next_id (none_brought op_id s h (Some j) (Query ask key) refl) issued run
 sent_op c d s j (Answer ask n) h m last g t to issued run =
-    sent_still m last _ d.unsent s.next_id (no_op s h j (Answer ask n) refl) issued run
+    sent_still m last _ d.unsent s.next_id (none_brought op_id s h (Some j) (Answer ask n) refl) issued run
 
 widened_op : (d : Due) (s : ServerState) (v : View) (h m last : ℕ)
     → d ≡ nothing_due s
@@ -143,7 +121,7 @@ act_op c d s (Widen v) h m last g t was is issued run = widened_op d s v h m las
 act_op c d s (Append e) h m last g t was is issued run = sent_still m last [] d.unsent s.next_id refl issued run
 act_op c d s (Reach n) h m last g t was is issued run = sent_still m last [] d.unsent s.next_id refl issued run
 act_op c d s (Settle e) h m last g t was is issued run =
-    sent_still m last _ d.unsent s.next_id (closed_none h s.id s.pend e) issued run
+    sent_still m last _ d.unsent s.next_id (closed_none op_id h s.id s.pend e) issued run
 act_op c d s (Send j body) h m last g t was is issued run = sent_op c d s j body h m last g.0 t was issued run
 act_op c d s (Finish r n) h m last g t was is issued run = sent_still m last [] d.unsent s.next_id refl issued run
 act_op c d s Trim h m last g t was is issued run = sent_still m last [] d.unsent s.next_id refl issued run
@@ -188,7 +166,7 @@ does_op (a ∷ later) c d s h m last g t was is issued run =
     let u = (act s a).state in
     let mid = head_between s u (does u later).state h (grown_act c s a g.1) (grown_does later (left c) u g.2) was is in
     let one = act_op c d s a h m last g.1 t.0 was mid issued run in
-    rw (ops_to-append h (act s a).outputs (does u later).outputs)
+    rw (brought_to-append op_id h (act s a).outputs (does u later).outputs)
     (sent_more m (ops_to h (act s a).outputs) (ops_to h (does u later).outputs) (due d s a).unsent _ u.next_id _ one
     (does_op later (left c) (due d s a) u h one.middle one.last g.2 t.1 mid is one.issued one.due))
 
@@ -197,10 +175,10 @@ sent_no_op : (c : Cause) (s : ServerState) (j : ℕ) (body : Body) (h : ℕ)
     → (head_of s ≡ Some h → ⊥)
     → ops_to h (message_to s (Some j) body) ≡ []
 sent_no_op c s j (Op id call) h g other = rw (ne_eqb j h (λ same. other (g.0 ∙ ap Some same))) refl
-sent_no_op c s j (Forward e) h g other = no_op s h j (Forward e) refl
-sent_no_op c s j (Ack n) h g other = no_op s h j (Ack n) refl
-sent_no_op c s j (Query ask key) h g other = no_op s h j (Query ask key) refl
-sent_no_op c s j (Answer ask n) h g other = no_op s h j (Answer ask n) refl
+sent_no_op c s j (Forward e) h g other = none_brought op_id s h (Some j) (Forward e) refl
+sent_no_op c s j (Ack n) h g other = none_brought op_id s h (Some j) (Ack n) refl
+sent_no_op c s j (Query ask key) h g other = none_brought op_id s h (Some j) (Query ask key) refl
+sent_no_op c s j (Answer ask n) h g other = none_brought op_id s h (Some j) (Answer ask n) refl
 
 act_no_op : (c : Cause) (s : ServerState) (a : Action) (h : ℕ)
     → Guard c s a
@@ -210,7 +188,7 @@ unfolding act
 act_no_op c s (Widen v) h g other = refl
 act_no_op c s (Append e) h g other = refl
 act_no_op c s (Reach n) h g other = refl
-act_no_op c s (Settle e) h g other = closed_none h s.id s.pend e
+act_no_op c s (Settle e) h g other = closed_none op_id h s.id s.pend e
 act_no_op c s (Send j body) h g other = sent_no_op c s j body h g.0 other
 act_no_op c s (Finish r n) h g other = refl
 act_no_op c s Trim h g other = refl
@@ -263,11 +241,11 @@ does_new_op (a ∷ later) c d s h g t own other is =
           let seen = does_seen later (left c) u u.id g.2 (omega (arith, sound.placed, sound.counted)) in (
             mine.answered,
             omega (arith, run_up _ mine.answered _ mine.taken, seen, ap (λ o. seen_of (does u later).state o) grown.id),
-            rw (ops_to-append h (act s a).outputs (does u later).outputs, none)
+            rw (brought_to-append op_id h (act s a).outputs (does u later).outputs, none)
                 (does_op later (left c) (due d s a) u h mine.answered mine.last g.2 t.1 now is mine.issued
                 (subst (λ us. IsRun mine.answered mine.last (ids us)) (sym (act_new_head d s a h other now))
                 mine.waiting)),
           ))
       | inr still ↦ (let r = does_new_op later (left c) (due d s a) u h g.2 t.1 own.1 still is in
-          (r.0, r.1, rw (ops_to-append h (act s a).outputs (does u later).outputs, none) r.2))
+          (r.0, r.1, rw (brought_to-append op_id h (act s a).outputs (does u later).outputs, none) r.2))
     ]

@@ -125,10 +125,6 @@ unfolding widened
 alike_widened s v same =
     record { id = refl; head = ap (λ o. is_that o s.id) (sym same); next_id = refl; seen = refl; last = refl }
 
-room_widened : (s : ServerState) (v : View) → HasRoom s → HasRoom (widened s v)
-unfolding widened
-room_widened s v h = h
-
 -- a new head has numbers for all its own updates
 leads_new : (s : ServerState) (v : View) (us : List OpenUpdate)
     → us ≡ s.pend

@@ -15,7 +15,7 @@ use Rattle.node.specs.Views.{has}
 use Rattle.node.specs.Servers.{ServerState, seen_of, head_of, is_head}
 use Rattle.world.specs.Worlds.{World, server, link}
 use Rattle.node.proofs.Lists.{In}
-use Rattle.world.proofs.streams.Streaming.{IsRun}
+use Rattle.world.proofs.streams.Streaming.{brought, IsRun}
 
 -- ---- ids
 
@@ -38,8 +38,7 @@ op_id (Answer ask n) = []
 
 -- the ids of the updates that these messages bring
 abbrev pub op_ids : List Peer → List ℕ
-op_ids [] = []
-op_ids (m ∷ ms) = op_id m.body ++ op_ids ms
+op_ids ms = brought op_id ms
 
 -- ---- servers
 

@@ -21,11 +21,11 @@ use Rattle.world.proofs.lists.Beginnings.{begins-take}
 use Rattle.world.proofs.trace.IdLaws.{that_is, head_of_is, head_from}
 use Rattle.world.proofs.calls.EntryCounts.{entries-joined}
 use Rattle.world.proofs.streams.Streaming.{sent_to}
-use Rattle.world.proofs.streams.ForwardRuns.{run-append}
+use Rattle.world.proofs.streams.ForwardRuns.{run-append, brought-append}
 use Rattle.world.proofs.streams.StepTellings.{some_or_not}
 use Rattle.world.proofs.streams.Stepped.{Stepped, Follows}
 use Rattle.world.proofs.waiting.Opening.{op_id, op_ids, Headed, Sends}
-use Rattle.world.proofs.waiting.HeadOps.{ops_to, op_ids-append}
+use Rattle.world.proofs.waiting.HeadOps.{ops_to}
 use Rattle.world.proofs.waiting.OpenSteps.{Serves}
 use Rattle.world.proofs.layers.LoggedLaws.{still_out}
 
@@ -146,7 +146,7 @@ module _ (t u : Traced) (h : Follows t u) (a : ℕ) (input : Input) (p : Stepped
       false_from_ne_true _ (λ e. l.other (same_Some y a (sym to ∙ that_is _ o.state.id e ∙ ap Some is))) in
       let out = still_out t u h.later a y first.out in
       let now : op_ids (link u.world a y) ≡ op_ids (link t.world a y) ++ ops_to y o.outputs =
-      ap (λ ms. op_ids ms) (p.sent y inside) ∙ op_ids-append (link t.world a y) (sent_to y o.outputs) in
+      ap (λ ms. op_ids ms) (p.sent y inside) ∙ brought-append op_id (link t.world a y) (sent_to y o.outputs) in
       let issued = ap (λ s. s.next_id) p.own in
       elim (some_or_not (head_of (server t.world a)) y) [
         | inl was ↦
