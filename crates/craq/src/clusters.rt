@@ -3,6 +3,7 @@ ghost use Rattle.std.specs.Prelude.{◌≡◌, ◌≤◌, true, IfOk};
 ghost use Rattle.node.specs.Nodes.{is_idle};
 
 use crate::doors::serve_seats;
+use crate::halls::{Hall, Hand};
 use crate::working::work;
 use command_line::Numbers;
 use commands::{FAILED, MEMORY};
@@ -10,11 +11,11 @@ use ends::{Sink, write_all};
 use itoa::Buffer;
 use node::{Master, Node};
 use rail::{Inlet, Server, Stand, Worker, open};
-use seats::{InProcessLinks, Link, Mark, SeatCaller};
+use seats::{Alone, InProcessLinks, Link, Mark, SeatCaller};
 use serving::ServeFault;
 use std::alloc::{AllocError, AllocFailed, Global};
 use std::net::{Ipv4Addr, Net, TcpListener, TcpStream};
-use std::sync::Wait;
+use std::sync::{Arc, Wait};
 use std::thread;
 use std::thread::{JoinHandle, Threads};
 use std::time::{Clock, Duration};
@@ -92,36 +93,41 @@ impl<T: Drop> From<AllocFailed<T>> for ClusterFault {
 
 /// A chain of running servers.
 #[derive(Drop)]
-pub struct Cluster {
+pub struct Cluster<R: Wait + Drop> {
     alloc: Global,
+    hall: Arc<Hall<R>, Global>,
     homes: Vec<Home>,
     seats: Vec<JoinHandle<()>>,
     workers: Vec<JoinHandle<()>>,
     master: Master,
 }
 
-// One server, as the program's own thread sees it.
+/// One server, as the program's own thread sees it.
 #[derive(Drop)]
-struct Home {
+pub struct Home {
     inlet: Inlet,
-    // The mark that callers look at.
-    failed: Mark,
+    /// The mark that callers look at.
+    pub failed: Mark,
     // The worker's mark.
     stopped: Mark,
 }
 
-impl Cluster {
+/// What a server has beside its worker.
+#[derive(Drop)]
+pub struct Side {
+    /// A stand for each seat.
+    pub stands: Vec<Stand>,
+    /// What the program's own thread sees of it.
+    pub home: Home,
+}
+
+impl<R: Wait + Copy + Drop + Send + 'static> Cluster<R> {
     /// Opens a chain: all its ports, its servers and their threads. Refused with Port if nobody can listen there, else
     /// with Memory if memory or threads run out, and with Run if no chain has such numbers.
-    pub fn open<
-        R: Wait
-            + Threads
-            + Net<Listener = TcpListener, Stream = TcpStream>
-            + Copy
-            + Drop
-            + Send
-            + 'static,
-    >(rt: R, alloc: Global, numbers: Numbers) -> Result<Cluster, ClusterFault> {
+    pub fn open(rt: R, alloc: Global, numbers: Numbers) -> Result<Cluster<R>, ClusterFault>
+    where
+        R: Threads + Net<Listener = TcpListener, Stream = TcpStream>,
+    {
         let count = numbers.servers;
         if count == 0 || count > 16 || numbers.seats == 0 || numbers.seats > 16 {
             return Err(ClusterFault::Run);
@@ -129,63 +135,58 @@ impl Cluster {
         let listeners = all_listeners(&rt, alloc, numbers)?;
         let mut servers = all_servers(rt, alloc, numbers)?;
         let links = all_links(rt, alloc, count, &mut servers)?;
+        let (hall, sides) = all_sides(alloc, servers, links)?;
         let mut cluster = Cluster {
             alloc,
+            hall: Arc::new(alloc, hall)?,
             homes: Vec::new(alloc),
             seats: Vec::new(alloc),
             workers: Vec::new(alloc),
             master: Master::new(count),
         };
         let mut listeners = listeners.into_iter();
-        let mut links = links.into_iter();
-        for server in servers {
-            let (Some(listener), Some(links)) = (listeners.next(), links.next()) else {
+        let mut id = 0u8;
+        for side in sides {
+            let Some(listener) = listeners.next() else {
                 return Err(ClusterFault::Run);
             };
-            cluster.start(rt, listener, server, links, numbers.serves)?;
+            cluster.start(rt, id, listener, side, numbers.serves)?;
+            id = id.wrapping_add(1);
         }
         Ok(cluster)
     }
 
     // Starts a server's threads.
-    fn start<R: Wait + Threads + Copy + Drop + Send + 'static>(
+    fn start(
         &mut self,
         rt: R,
+        id: u8,
         listener: TcpListener,
-        server: Server<R>,
-        links: InProcessLinks<R>,
+        side: Side,
         serves: u64,
-    ) -> Result<(), ClusterFault> {
-        let alloc = self.alloc;
-        let Server {
-            worker,
-            stands,
-            mut inlets,
-        } = server;
-        let Some(inlet) = inlets.pop() else {
-            return Err(ClusterFault::Run);
-        };
-        let failed = Mark::new(alloc)?;
-        let stopped = Mark::new(alloc)?;
-        let worker = start_worker(rt, worker, links, &stopped)?;
+    ) -> Result<(), ClusterFault>
+    where
+        R: Threads,
+    {
+        let Side { stands, home } = side;
+        let worker = start_attendant(rt, &self.hall, id)?;
         self.workers.push(worker)?;
-        let callers = all_callers(alloc, stands, &failed)?;
-        for seat in serve_seats(rt, alloc, &listener, callers, serves, &failed)? {
+        let callers = helping_callers(self.alloc, stands, &home.failed, &self.hall, id)?;
+        for seat in serve_seats(rt, self.alloc, &listener, callers, serves, &home.failed)? {
             self.seats.push(seat)?;
         }
-        self.homes.push(Home {
-            inlet,
-            failed,
-            stopped,
-        })?;
+        self.homes.push(home)?;
         Ok(())
     }
 
     /// Fails a server: its callers answer no more calls, its worker puts out nothing more, and then the others are
     /// told. Of one that has failed already nobody is told.
-    pub fn fail<R: Wait + Clock>(&mut self, rt: &R, j: u8) -> Result<(), ClusterFault> {
+    pub fn fail(&mut self, rt: &R, j: u8) -> Result<(), ClusterFault>
+    where
+        R: Clock,
+    {
         if let Some(home) = self.homes.get_mut(usize::from(j)) {
-            home.stop(rt);
+            home.stop(rt, &self.hall, j);
         }
         let Ok(notices) = self.master.gone(self.alloc, j) else {
             return Err(ClusterFault::Memory);
@@ -194,15 +195,20 @@ impl Cluster {
             let (i, j) = notice;
             if let Some(home) = self.homes.get_mut(usize::from(i)) {
                 let _ = home.inlet.gone(rt, j);
+                self.hall.ring(i);
             }
         }
         Ok(())
     }
 
     /// Waits until every seat's thread has ended, and then ends the workers.
-    pub fn end<R: Wait + Threads>(self, rt: &R) {
+    pub fn end(self, rt: &R)
+    where
+        R: Threads,
+    {
         let Cluster {
             alloc: _,
+            hall,
             homes,
             seats,
             workers,
@@ -211,8 +217,10 @@ impl Cluster {
         for seat in seats {
             seat.join(rt);
         }
+        let mut id = 0u8;
         for home in homes {
-            home.end(rt);
+            home.end(rt, &hall, id);
+            id = id.wrapping_add(1);
         }
         for worker in workers {
             worker.join(rt);
@@ -222,11 +230,12 @@ impl Cluster {
 
 impl Home {
     // Stops the server, and waits until its worker has stopped.
-    fn stop<R: Wait + Clock>(&mut self, rt: &R) {
+    fn stop<R: Wait + Clock + Drop>(&mut self, rt: &R, hall: &Hall<R>, id: u8) {
         self.failed.set();
         if self.inlet.stop(rt).is_err() {
             return;
         }
+        hall.ring(id);
         for _ in rt.forever() {
             if self.stopped.is_set() {
                 return;
@@ -236,9 +245,10 @@ impl Home {
     }
 
     // Ends the worker's loop.
-    fn end<R: Wait>(self, rt: &R) {
+    fn end<R: Wait + Drop>(self, rt: &R, hall: &Hall<R>, id: u8) {
         let mut inlet = self.inlet;
         let _ = inlet.end(rt);
+        hall.ring(id);
     }
 }
 
@@ -312,7 +322,51 @@ pub fn all_links<R: Wait + Copy + Drop>(
     Ok(all)
 }
 
-/// Starts a worker's thread.
+/// The hall of all workers, and what each server has beside its own.
+pub fn all_sides<R: Wait + Drop>(
+    alloc: Global,
+    servers: Vec<Server<R>>,
+    links: Vec<InProcessLinks<R>>,
+) -> Result<(Hall<R>, Vec<Side>), ClusterFault> {
+    let mut hall = Hall::new(alloc);
+    let mut sides = Vec::new(alloc);
+    let mut links = links.into_iter();
+    for server in servers {
+        let Server {
+            worker,
+            stands,
+            mut inlets,
+        } = server;
+        let (Some(links), Some(inlet)) = (links.next(), inlets.pop()) else {
+            return Err(ClusterFault::Run);
+        };
+        let failed = Mark::new(alloc)?;
+        let stopped = Mark::new(alloc)?;
+        hall.add(worker, links, stopped.share()?)?;
+        let home = Home {
+            inlet,
+            failed,
+            stopped,
+        };
+        sides.push(Side { stands, home })?;
+    }
+    Ok((hall, sides))
+}
+
+// Starts the thread of a worker that others help.
+fn start_attendant<R: Wait + Threads + Copy + Drop + Send + 'static>(
+    rt: R,
+    hall: &Arc<Hall<R>, Global>,
+    id: u8,
+) -> Result<JoinHandle<()>, ClusterFault> {
+    let hall = Arc::try_clone(hall)?;
+    match thread::spawn(&rt, move || hall.attend(&rt, id)) {
+        Ok(thread) => Ok(thread),
+        Err(_) => Err(ClusterFault::Memory),
+    }
+}
+
+/// Starts the thread of a worker that nobody helps.
 pub fn start_worker<R: Wait + Threads + Copy + Drop + Send + 'static>(
     rt: R,
     worker: Worker<R>,
@@ -330,15 +384,31 @@ pub fn start_worker<R: Wait + Threads + Copy + Drop + Send + 'static>(
     }
 }
 
-//// A caller for each stand.
+/// A caller for each stand of a server, who helps the workers of the hall.
+pub fn helping_callers<R: Wait + Drop>(
+    alloc: Global,
+    stands: Vec<Stand>,
+    failed: &Mark,
+    hall: &Arc<Hall<R>, Global>,
+    id: u8,
+) -> Result<Vec<SeatCaller<Hand<R>>>, ClusterFault> {
+    let mut callers = Vec::new(alloc);
+    for stand in stands {
+        let hand = Hand::new(hall, id)?;
+        callers.push(SeatCaller::new(stand, failed.share()?, hand))?;
+    }
+    Ok(callers)
+}
+
+/// A caller for each stand, who helps no worker.
 pub fn all_callers(
     alloc: Global,
     stands: Vec<Stand>,
     failed: &Mark,
-) -> Result<Vec<SeatCaller>, ClusterFault> {
+) -> Result<Vec<SeatCaller<Alone>>, ClusterFault> {
     let mut callers = Vec::new(alloc);
     for stand in stands {
-        callers.push(SeatCaller::new(stand, failed.share()?))?;
+        callers.push(SeatCaller::new(stand, failed.share()?, Alone))?;
     }
     Ok(callers)
 }

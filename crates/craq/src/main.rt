@@ -5,6 +5,7 @@ mod clusters;
 mod cuts;
 mod doors;
 mod greetings;
+mod halls;
 mod input_lines;
 mod masters;
 mod peer_doors;

@@ -1,4 +1,4 @@
-//! A worker's thread.
+//! The thread of a worker that nobody helps.
 
 use rail::{Links, RailFault, Turn, Worker};
 use seats::Mark;

@@ -212,8 +212,9 @@ impl Post {
 }
 
 impl Letters {
-    // The next reply, if one stands there.
-    fn try_take<R: Wait>(&mut self, rt: &R) -> Result<Option<Mail>, RailFault>
+    /// The next reply, if one stands there, which is added to what was taken. It doesn't wait for one. Refused with
+    /// Closed where the worker has gone or stopped.
+    pub fn try_take<R: Wait>(&mut self, rt: &R) -> Result<Option<Mail>, RailFault>
         ensures { IsTry HasGot (view self.old.pass) (view self.new.pass) result }
     {
         match self.from.try_recv_as::<Gets, R>(rt, &mut self.pass) {

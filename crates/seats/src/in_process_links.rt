@@ -3,6 +3,7 @@ ghost use Rattle.std.specs.Prelude.{◌≡◌, ◌≤◌, ◌<◌, ◌∷◌, []
 ghost use Rattle.node.specs.Lawful.{IsBody};
 ghost use Rattle.seats.specs.InProcessLinks.{before_last, failures_at, last_put, sent_on};
 
+use crate::server_sets::ServerSet;
 use boxcar::tag::{Names, Tag};
 use node::Peer;
 use rail::{Inlet, Links, Published, RailFault};
@@ -25,6 +26,8 @@ pub struct InProcessLinks<R: Wait + Drop> {
     id: u8,
     links: Vec<Link>,
     receivers: Receivers,
+    // The servers that were sent something since this was last asked for.
+    reached: ServerSet,
 }
 
 impl Link {
@@ -67,7 +70,15 @@ impl<R: Wait + Drop> InProcessLinks<R> {
             id,
             links,
             receivers: Receivers::new(),
+            reached: ServerSet::new(),
         }
+    }
+
+    /// The servers that were sent something since this was last asked.
+    pub fn take_reached(&mut self) -> ServerSet {
+        let reached = self.reached;
+        self.reached = ServerSet::new();
+        reached
     }
 }
 
@@ -86,6 +97,7 @@ impl<R: Wait + Drop> Links for InProcessLinks<R> {
         let peer = peer.clone()?;
         bring_to(&self.rt, &mut self.links, self.id, to, peer)?;
         self.receivers.add(to);
+        self.reached.add(to);
         Ok(())
     }
 }

@@ -1,24 +1,33 @@
 //! One who answers calls at a running server: by a look beside it, or by the server.
-ghost use Rattle.std.specs.Prelude.{◌≡◌, ◌⊎◌, ◌+◌, true, false, not, OnOk, OnErr, IfOk, IfSome};
+ghost use Rattle.std.specs.Prelude.{◌≡◌, ◌⊎◌, ◌+◌, true, false, not, MatchOption, MatchResult, OnOk, OnErr, IfOk};
+ghost use Rattle.std.specs.Prelude.{IfSome};
 ghost use Rattle.std.specs.Coded.{codes};
 ghost use Rattle.logbook.specs.Pages.{book_coded};
 ghost use Rattle.versions.specs.Stores.{coded_items};
 ghost use Rattle.table.specs.Operations.{Fits, Suits, is_update, is_value};
 ghost use Rattle.node.specs.Lawful.{IsCall};
+ghost use Rattle.node.specs.declared.messages.Output.TheVariants.{Reply as Replied};
 ghost use Rattle.faces.specs.Courses.{IsLater};
+ghost use Rattle.faces.specs.Outputs.{PutsOut};
+ghost use Rattle.rail.specs.Seats.{with_reply};
 ghost use Rattle.seats.specs.SeatCallers.{IsSeen, IsSubmitted, ShowsClean};
 
+use crate::helpers::Helper;
 use crate::marks::Mark;
 use ends::Failures;
 use node::Look;
-use rail::{Reader, Seat, Stand};
+use rail::{RailFault, Reader, Seat, Stand, Told};
 use serving::{CallFault, Caller};
 use std::sync::Wait;
 use table::{Call, Item, Op, Reply, Target};
 
-/// Answers calls at a server: a read by a clean look at the server's face, and all else by the server.
+/// How many turns a seat takes at most for one call before it sleeps, so that others' calls don't hold it for long.
+const MOST_TURNS: usize = 1000;
+
+/// Answers calls at a server: a read by a clean look at the server's face, and all else by the server, whose worker it
+/// helps meanwhile.
 #[derive(Drop)]
-pub struct SeatCaller {
+pub struct SeatCaller<H> {
     /// Looks, and knows what was seen.
     pub reader: Reader,
     /// Sends calls to the server, and takes their replies.
@@ -29,12 +38,13 @@ pub struct SeatCaller {
     pub failures: Failures,
     // Set as soon as the server fails.
     mark: Mark,
+    helper: H,
     ghost together: { seat.origin ≡ reader.origin } by { Prim.hlevel (codes, coded_items, book_coded) },
 }
 
-impl SeatCaller {
-    /// A caller at this stand, whose server has this mark.
-    pub fn new(stand: Stand, mark: Mark) -> SeatCaller
+impl<H: Helper> SeatCaller<H> {
+    /// A caller at this stand, whose server has this mark, with one who helps its workers.
+    pub fn new(stand: Stand, mark: Mark, helper: H) -> SeatCaller<H>
         ensures reader { result.reader ≡ stand.reader }
         ensures seat { result.seat ≡ stand.seat }
         ensures fresh { (result.lost ≡ false) × (result.failures ≡ 0) }
@@ -46,11 +56,12 @@ impl SeatCaller {
             lost: false,
             failures: Failures::new(),
             mark,
+            helper,
         }
     }
 }
 
-impl Caller for SeatCaller {
+impl<H: Helper> Caller for SeatCaller<H> {
     ghost answers = { λ before call reply after.
         IsSeen before.reader after.reader before.seat after.seat call reply ⊎
         IsSubmitted before.reader after.reader before.seat after.seat call reply };
@@ -65,6 +76,7 @@ impl Caller for SeatCaller {
             &mut self.seat,
             &mut self.lost,
             &self.mark,
+            &mut self.helper,
             call,
         ) {
             Ok(reply) => Ok(reply),
@@ -78,12 +90,13 @@ impl Caller for SeatCaller {
 
 /// Answers a call by a clean look, or by the server. It fails if the server is marked, also after a clean look; if a
 /// call that was sent, before or now, gets no reply; or if memory is out. It may wait.
-pub fn answer<R: Wait>(
+pub fn answer<R: Wait, H: Helper>(
     rt: &R,
     reader: &mut Reader,
     seat: &mut Seat,
     lost: &mut bool,
     mark: &Mark,
+    helper: &mut H,
     call: Call,
 ) -> Result<Reply, CallFault>
     requires call { IsCall call }
@@ -107,7 +120,7 @@ pub fn answer<R: Wait>(
     if *lost || mark.is_set() {
         return Err(CallFault);
     }
-    match exchange(rt, reader, seat, call) {
+    match exchange(rt, reader, seat, helper, call) {
         Ok(reply) => Ok(reply),
         Err(fault) => {
             *lost = true;
@@ -131,10 +144,11 @@ fn look(reader: &mut Reader, call: &Call) -> Option<Option<Item>>
 }
 
 // Sends a call and takes its reply, and learns what comes with it.
-fn exchange<R: Wait>(
+fn exchange<R: Wait, H: Helper>(
     rt: &R,
     reader: &mut Reader,
     seat: &mut Seat,
+    helper: &mut H,
     call: Call,
 ) -> Result<Reply, CallFault>
     requires call { IsCall call }
@@ -147,7 +161,7 @@ fn exchange<R: Wait>(
     if seat.submit(rt, call).is_err() {
         return Err(CallFault);
     }
-    match seat.reply(rt) {
+    match helped_reply(rt, seat, helper) {
         Ok((reply, told)) => {
             reader.learn(told);
             if matches!(reply, Reply::Value(_)) == reads {
@@ -158,4 +172,47 @@ fn exchange<R: Wait>(
         }
         Err(_) => Err(CallFault),
     }
+}
+
+// The next reply. It helps for a while, and then waits.
+fn helped_reply<R: Wait, H: Helper>(
+    rt: &R,
+    seat: &mut Seat,
+    helper: &mut H,
+) -> Result<(Reply, Told), RailFault>
+    ensures got { MatchResult result (λ r. seat.new ≡ with_reply seat.old r.0 r.1) (λ _. seat.new ≡ seat.old) }
+    ensures server { IfOk result (λ r. r.1.origin ≡ seat.old.origin) }
+    ensures put_out { IfOk result (λ r. PutsOut r.1 (Replied seat.old.port r.0)) }
+{
+    helper.begin();
+    let found = reply_while_helping(rt, seat, helper);
+    helper.end();
+    match found {
+        Ok(Some(found)) => Ok(found),
+        Ok(None) => seat.reply(rt),
+        Err(fault) => Err(fault),
+    }
+}
+
+// The next reply, if it comes while there is something to help with. After each turn it looks for the reply.
+fn reply_while_helping<R: Wait, H: Helper>(
+    rt: &R,
+    seat: &mut Seat,
+    helper: &mut H,
+) -> Result<Option<(Reply, Told)>, RailFault>
+    ensures got { MatchResult result
+        (λ found. MatchOption found (seat.new ≡ seat.old) (λ r. seat.new ≡ with_reply seat.old r.0 r.1))
+        (λ _. seat.new ≡ seat.old) }
+    ensures server { IfOk result (λ found. IfSome found (λ r. r.1.origin ≡ seat.old.origin)) }
+    ensures put_out { IfOk result (λ found. IfSome found (λ r. PutsOut r.1 (Replied seat.old.port r.0))) }
+{
+    for _ in 0..MOST_TURNS {
+        if !helper.help() {
+            return Ok(None);
+        }
+        if let Some(found) = seat.reply_if_any(rt)? {
+            return Ok(Some(found));
+        }
+    }
+    Ok(None)
 }
