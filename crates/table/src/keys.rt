@@ -99,7 +99,8 @@ pub fn is_key(bytes: &[u8]) -> bool
     !bytes.is_empty() && bytes.len() <= Key::MAX && are_key_bytes(bytes)
 }
 
-fn are_key_bytes(bytes: &[u8]) -> bool
+/// Whether a key may hold each of these bytes (protocol.txt, "Keys"). It allocates nothing.
+pub fn are_key_bytes(bytes: &[u8]) -> bool
     ensures { result ≡ list_all is_key_byte bytes.now }
 {
     bytes.iter().all(|b| is_key_byte(*b))

@@ -11,7 +11,7 @@ mod plain;
 
 pub use decisions::decide;
 pub use items::{Item, LIMIT};
-pub use keys::{Key, is_key};
+pub use keys::{Key, are_key_bytes, is_key};
 pub use numbers::number;
 pub use operations::{Call, Change, Op, Reply, Target};
 pub use places::Place;

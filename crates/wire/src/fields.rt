@@ -1,13 +1,12 @@
 //! Fields of frames: each is read from the front, and judged as soon as all its bytes are there.
 ghost use Rattle.std.specs.Prelude.{◌≡◌, ◌≤◌, length, IfOk};
 ghost use Rattle.std.specs.Int.{w16, w32, w64};
-ghost use Rattle.std.specs.List.{list_all};
 ghost use Rattle.table.specs.Items.{limit};
-ghost use Rattle.table.specs.Keys.{IsKey, is_key_byte};
+ghost use Rattle.table.specs.Keys.{IsKey};
 ghost use Rattle.wire.specs.Grammar.{any, positive};
 ghost use Rattle.wire.specs.Fronts.{Gives, block_at, byte_at, bytes_at, key_at, number_at, text_at};
 
-use table::{Key, LIMIT};
+use table::{Key, LIMIT, are_key_bytes};
 
 /// Why no value is read from the front.
 #[derive(Clone, Copy, Debug)]
@@ -111,18 +110,6 @@ pub fn text_at(count: usize, bytes: &[u8]) -> Result<(&[u8], &[u8]), Stop>
         return Err(Stop::Malformed);
     }
     Ok((text, rest))
-}
-
-fn are_key_bytes(bytes: &[u8]) -> bool
-    ensures { result ≡ list_all is_key_byte bytes.now }
-{
-    bytes.iter().all(|b| is_key_byte(*b))
-}
-
-fn is_key_byte(byte: u8) -> bool
-    ensures { result ≡ is_key_byte byte }
-{
-    matches!(byte, 33..=126 | 128..=255)
 }
 
 /// An item's data: a length, at most the limit, and as many bytes. No byte of them is looked at.
