@@ -1,10 +1,11 @@
 //! The program between its arguments, its files and its standard streams.
-ghost use Rattle.std.specs.Prelude.{◌≡◌, ◌≢◌, ◌<◌, ◌≤◌, ◌++◌, ℕ, List, [], string_bytes};
+ghost use Rattle.std.specs.Prelude.{◌≡◌, ◌≢◌, ◌<◌, ◌≤◌, ◌++◌, ℕ, List, [], Ok, true, string_bytes};
 ghost use Rattle.std.specs.IoError.{error_kind};
 ghost use Rattle.commands.specs.Faults.{IsTold, status_of};
 ghost use Rattle.ends.specs.Ends.{WritesBeginning};
-ghost use Rattle.commands.specs.Programs.{BeginsOutput, WritesOutput, file_name, version_line};
+ghost use Rattle.commands.specs.Programs.{BeginsOutput, WritesOutput, file_name, is_usage, version_line};
 ghost use Rattle.commands.specs.Scenarios.{IsScenarioStatus};
+ghost use Rattle.command_line.specs.declared.commands.Print.TheVariants.{Scenario};
 ghost use Rattle.commands.specs.declared.faults.ScenarioFault.{ScenarioFault};
 ghost use Rattle.commands.specs.declared.faults.ScenarioFault.TheVariants.{Run};
 
@@ -29,8 +30,12 @@ pub fn run<R: Files + Input + AllocGlobal, W: Sink, X: Sink>(
     errors: &mut X,
 ) -> u8
     ensures status { result ≤ 3 }
-    // Done: the output got the text of what a schedule's run shows, or the version's line, and the errors got nothing.
-    ensures shown { result ≡ DONE → WritesOutput (W.written output.old) (W.written output.new) }
+    // It is a usage fault if the arguments were no command, and only then.
+    ensures refused { is_usage asked ≡ true → result ≡ USAGE }
+    ensures asked { result ≡ USAGE → is_usage asked ≡ true }
+    // Done: the output got what was asked for, the text of what a schedule's run shows or the version's line, and the
+    // errors got nothing.
+    ensures shown { result ≡ DONE → WritesOutput asked (W.written output.old) (W.written output.new) }
     ensures written { result ≡ DONE → W.failures output.new ≡ W.failures output.old }
     ensures silent { result ≡ DONE → errors.new ≡ errors.old }
     // Else, but for a usage fault, one line tells a fault of that status, with the name of the file that was asked for.
@@ -40,7 +45,7 @@ pub fn run<R: Files + Input + AllocGlobal, W: Sink, X: Sink>(
         (X.written errors.old) (X.written errors.new) }
     ensures usage { result ≡ USAGE → output.new ≡ output.old }
     ensures begun { W.failures output.old < W.failures output.new →
-        BeginsOutput (W.written output.old) (W.written output.new) }
+        BeginsOutput asked (W.written output.old) (W.written output.new) }
     ensures untouched { result ≢ DONE → W.failures output.new ≡ W.failures output.old → output.new ≡ output.old }
 {
     match asked {
@@ -86,7 +91,7 @@ fn replay_file<R: Files + Input + AllocGlobal, W: Sink, X: Sink>(
     errors: &mut X,
 ) -> u8
     ensures status { IsScenarioStatus result }
-    ensures shown { result ≡ DONE → WritesOutput (W.written output.old) (W.written output.new) }
+    ensures shown { result ≡ DONE → WritesOutput (Ok (Scenario file)) (W.written output.old) (W.written output.new) }
     ensures written { result ≡ DONE → W.failures output.new ≡ W.failures output.old }
     ensures silent { result ≡ DONE → errors.new ≡ errors.old }
     ensures fault { result ≢ DONE → (fault : ScenarioFault) × (result ≡ status_of fault) ×
@@ -94,7 +99,7 @@ fn replay_file<R: Files + Input + AllocGlobal, W: Sink, X: Sink>(
         IsTold (string_bytes file) fault (X.failures errors.old) (X.failures errors.new)
         (X.written errors.old) (X.written errors.new) }
     ensures begun { W.failures output.old < W.failures output.new →
-        BeginsOutput (W.written output.old) (W.written output.new) }
+        BeginsOutput (Ok (Scenario file)) (W.written output.old) (W.written output.new) }
     ensures untouched { result ≢ DONE → W.failures output.new ≡ W.failures output.old → output.new ≡ output.old }
 {
     let file = file.as_str();

@@ -9,7 +9,7 @@ use command_line::Numbers;
 use commands::{FAILED, MEMORY};
 use ends::{Sink, write_all};
 use itoa::Buffer;
-use node::{Master, Node};
+use node::{Master, Node, SERVERS};
 use rail::{Inlet, Server, Stand, Worker, open};
 use seats::{Alone, InProcessLinks, Link, Mark, SeatCaller};
 use serving::ServeFault;
@@ -129,7 +129,7 @@ impl<R: Wait + Copy + Drop + Send + 'static> Cluster<R> {
         R: Threads + Net<Listener = TcpListener, Stream = TcpStream>,
     {
         let count = numbers.servers;
-        if count == 0 || count > 16 || numbers.seats == 0 || numbers.seats > 16 {
+        if count == 0 || count > SERVERS || numbers.seats == 0 || numbers.seats > 16 {
             return Err(ClusterFault::Run);
         }
         let listeners = all_listeners(&rt, alloc, numbers)?;

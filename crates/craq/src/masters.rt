@@ -6,14 +6,13 @@ use crate::settings::{MasterSettings, port_of};
 use commands::{DONE, FAILED, MEMORY};
 use ends::{Sink, Source, write_all};
 use itoa::Buffer;
-use links::MASTER;
-use node::{Master, MasterFault};
+use node::{Master, MasterFault, SERVERS};
 use peers::{LinkFault, put_frame};
 use std::alloc::{AllocError, AllocFailed, Global};
 use std::net::{Net, TcpListener, TcpStream};
 use std::sync::Wait;
 use thiserror::Error;
-use wire::Frame;
+use wire::{Frame, MASTER};
 
 /// Why a master ends before its input does.
 #[derive(Clone, Copy, Debug, PartialEq, Eq, Error)]
@@ -121,7 +120,7 @@ enum Channel {
 impl Teller {
     fn new(alloc: Global, settings: &MasterSettings) -> Result<Teller, TellFault> {
         let count = settings.numbers.servers;
-        if count == 0 || count > 16 {
+        if count == 0 || count > SERVERS {
             return Err(TellFault::Run);
         }
         let mut channels = Vec::new(alloc);

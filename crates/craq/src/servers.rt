@@ -10,6 +10,7 @@ use commands::{FAILED, MEMORY};
 use ends::{Sink, write_all};
 use itoa::Buffer;
 use links::{Lobby, PeerLink, PeerLinks, Places};
+use node::SERVERS;
 use rail::{Inlet, RailFault, Server, Turn, Worker, open};
 use seats::Mark;
 use serving::ServeFault;
@@ -19,6 +20,7 @@ use std::sync::Wait;
 use std::thread::Threads;
 use std::time::Clock;
 use thiserror::Error;
+use wire::MASTER;
 
 /// Why a server ends.
 #[derive(Clone, Copy, Debug, PartialEq, Eq, Error)]
@@ -249,7 +251,7 @@ fn sink_to<R: Clock + Net<Listener = TcpListener, Stream = TcpStream>>(
     let Some(host) = settings.hosts.get(usize::from(j)) else {
         return Err(ServerFault::Run);
     };
-    if settings.numbers.id > 16 {
+    if settings.numbers.id > MASTER {
         return Err(ServerFault::Run);
     }
     let port = port_of(settings.numbers.peer_port, j);
@@ -278,7 +280,7 @@ fn idle_server<R: Wait + Copy + Drop>(
 ) -> Result<Server<R>, ServerFault> {
     let seats = settings.numbers.seats;
     let servers = settings.numbers.servers;
-    if seats == 0 || seats > 16 || servers == 0 || servers > 16 {
+    if seats == 0 || seats > 16 || servers == 0 || servers > SERVERS {
         return Err(ServerFault::Run);
     }
     let node = idle_node(alloc, settings.numbers.id, servers)?;

@@ -3,4 +3,5 @@
 mod callers;
 mod chains;
 mod clients;
+mod processes;
 mod running;

@@ -12,5 +12,5 @@ mod speakers;
 pub use guests::Guest;
 pub use lobbies::{Cuts, Lobby};
 pub use peer_links::{PeerLink, PeerLinks};
-pub use places::{MASTER, Places};
+pub use places::Places;
 pub use speakers::Speaker;

@@ -2,10 +2,11 @@
 ghost use Rattle.std.specs.Prelude.{IfOk};
 ghost use Rattle.links.specs.Speakers.{Greets};
 
-use crate::places::{MASTER, Places};
+use crate::places::Places;
 use crate::speakers::Speaker;
 use peers::TakeFault;
 use std::sync::{Mutex, Wait};
+use wire::MASTER;
 
 /// What ends the connections to other servers.
 pub trait Cuts {

@@ -3,9 +3,7 @@ ghost use Rattle.std.specs.Prelude.{◌≡◌, ◌≢◌, ℕ, None};
 ghost use Rattle.links.specs.Waiting.{at_place};
 
 use rail::Inlet;
-
-/// The id by which a master greets; servers have lower ones.
-pub const MASTER: u8 = 16;
+use wire::MASTER;
 
 /// The inlets for those who may greet: one for each other server, and one for the master. Each is given once.
 #[derive(Drop)]

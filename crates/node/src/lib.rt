@@ -29,4 +29,4 @@ pub use messages::{Body, Input, Output, Peer};
 pub use nodes::{Node, NodeFault};
 pub use servers::{OpenRead, OpenUpdate};
 pub use standings::Standing;
-pub use views::View;
+pub use views::{SERVERS, View};

@@ -2,13 +2,10 @@
 
 use crate::texts::Text;
 use bytes::Bytes;
-use node::{Body, Peer, View};
+use node::{Body, Peer, SERVERS, View};
 use std::alloc::AllocError;
 use table::{Call, Change, Item, Key, Op, Reply, Target};
 use versions::Entry;
-
-/// The most servers of a chain.
-const SERVERS: u8 = 16;
 
 /// A call: its name, its key, and what it has besides, the data last.
 pub fn put_call(text: &mut Text, call: &Call) -> Result<(), AllocError> {

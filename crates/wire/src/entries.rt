@@ -8,10 +8,9 @@ ghost use Rattle.wire.specs.Grammar.{below};
 
 use crate::blocks::owned_flagged_at;
 use crate::fields::{Stop, byte_at, positive_at, u64_at};
-use crate::frames::SERVERS;
 use crate::reading::ReadFault;
 use crate::targets::{owned, target_at};
-use node::Body;
+use node::{Body, SERVERS};
 use std::alloc::Global;
 use table::{Change, Item, Reply};
 use versions::Entry;

@@ -2,7 +2,7 @@
 ghost use Rattle.std.specs.Prelude.{◌↔◌, IsTrue};
 ghost use Rattle.wire.specs.Spellings.{IsInRange};
 
-use node::Peer;
+use node::{Peer, SERVERS};
 
 /// The format's number, which is each frame's first byte.
 pub const FORMAT: u8 = 2;
@@ -10,11 +10,8 @@ pub const FORMAT: u8 = 2;
 /// The format of servers that took smaller items.
 pub const OLD_FORMAT: u8 = 1;
 
-/// The most servers of a chain: the id of each is below.
-pub const SERVERS: u8 = 16;
-
-/// The id by which the master greets.
-pub const MASTER: u8 = 16;
+/// The id by which the master greets: the one after the highest that a server has.
+pub const MASTER: u8 = SERVERS;
 
 /// What stands on a connection between servers, one after another (docs/FORMATS.md, "Peer messages").
 #[derive(Clone, Debug, Drop)]

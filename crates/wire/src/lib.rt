@@ -19,7 +19,7 @@ mod targets;
 
 pub use ends::PeerEnd;
 pub use faults::WireFault;
-pub use frames::Frame;
+pub use frames::{Frame, MASTER};
 pub use laws::{
     any_cutting, bad_front_is_final, bad_front_stays, beginning_waits, format_is_spelling,
     longest_frame, one_frame_at_a_front, partial_front_is_short, written_is_read,

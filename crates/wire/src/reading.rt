@@ -7,10 +7,10 @@ ghost use Rattle.wire.specs.declared.reading.ReadFault.TheVariants.{Memory, Stop
 use crate::Frame;
 use crate::entries::forward_body_at;
 use crate::fields::{Stop, byte_at, key_at, positive_at, u16_at, u64_at};
-use crate::frames::{FORMAT, MASTER, OLD_FORMAT, SERVERS};
+use crate::frames::{FORMAT, MASTER, OLD_FORMAT};
 use crate::operations::op_at;
 use crate::targets::{owned, owned_key, target_at};
-use node::{Body, Peer, View};
+use node::{Body, Peer, SERVERS, View};
 use std::alloc::{AllocError, Global};
 use table::Call;
 

@@ -3,21 +3,84 @@
 use super::clients::{answers, client, says};
 use crate::clusters::{all_callers, all_links, all_servers, start_worker};
 use crate::doors::serve_seats;
+use crate::working::work;
 use command_line::Numbers;
+use crossbeam_channel::{Sender, unbounded};
 use ends::Failures;
+use node::Peer;
+use rail::{Links, Published, RailFault, Worker};
 use seats::Mark;
 use serving::{CallFault, Caller};
+use std::alloc::Global;
 use std::io::Write;
+use std::marker::Model;
 use std::net::{Ipv4Addr, TcpListener};
 use std::sync::Wait;
 use std::test::Fail;
 use std::thread;
+use std::thread::{JoinHandle, Threads};
 use std::time::{Clock, Duration};
 use table::{Op, Reply, Target};
 
-// Server 1 takes no turn until its worker is started: the messages to it stay where they are.
+// A message that a gate took. It may be handed in where it goes.
+#[derive(Drop)]
+struct Kept {
+    peer: Peer,
+}
+
+impl Model for Kept {
+    ghost use Rattle.node.specs.declared.messages.Peer.{Peer};
+    ghost use Rattle.node.specs.Lawful.{IsBody};
+
+    ghost Value = { Peer };
+
+    ghost view = { λ kept. kept.peer };
+
+    ghost invariant = { λ kept. IsBody kept.peer.body };
+}
+
+impl Kept {
+    ghost use Rattle.node.specs.Lawful.{IsBody};
+
+    fn into_peer(self) -> Peer
+        ensures { IsBody result.body }
+    {
+        self.peer
+    }
+}
+
+// Links that keep what is put, and return at once. What they keep comes to the other end of the channel, whose holder
+// opens the gate by bringing it on.
+#[derive(Drop)]
+struct Gate<R: Wait + Drop> {
+    rt: R,
+    kept: Sender<Kept>,
+    // The same messages, for contracts.
+    put: Vec<(u8, Peer)>,
+}
+
+impl<R: Wait + Drop> Links for Gate<R> {
+    ghost list = { λ gate. gate.put.items };
+
+    ghost failures = { λ gate server. 0 };
+
+    fn failed(&self, _to: u8) -> bool {
+        false
+    }
+
+    fn put(&mut self, _published: &Published, to: u8, peer: &Peer) -> Result<(), RailFault> {
+        let kept = Kept {
+            peer: peer.clone()?,
+        };
+        self.put.push((to, peer.clone()?))?;
+        let _ = self.kept.send(&self.rt, kept);
+        Ok(())
+    }
+}
+
+// A set whose message stays on its link keeps no read of another connection waiting.
 #[test]
-fn connections_have_threads(rt: HostRuntime) -> Result<(), Fail> {
+fn held_link_holds_no_reader(rt: HostRuntime) -> Result<(), Fail> {
     let alloc = rt.alloc();
     let numbers = Numbers {
         servers: 2,
@@ -30,33 +93,53 @@ fn connections_have_threads(rt: HostRuntime) -> Result<(), Fail> {
     let mut tail = servers.pop().ok_or("a tail")?;
     let mut head = servers.pop().ok_or("a head")?;
     let tail_links = links.pop().ok_or("links of the tail")?;
-    let head_links = links.pop().ok_or("links of the head")?;
-    let mut inlets = (
-        head.inlets.pop().ok_or("an inlet")?,
-        tail.inlets.pop().ok_or("an inlet")?,
-    );
+    let mut to_head = head.inlets.pop().ok_or("an inlet")?;
+    let mut to_tail = tail.inlets.pop().ok_or("an inlet")?;
     let mark = Mark::new(alloc)?;
     let listener = TcpListener::bind(&rt, (Ipv4Addr::LOCALHOST, 0))?;
     let port = listener.local_addr()?.port();
     let callers = all_callers(alloc, head.stands, &mark)?;
     let seats = serve_seats(rt, alloc, &listener, callers, 1, &mark)?;
-    let head = start_worker(rt, head.worker, head_links, &mark)?;
+    let (sender, gate) = unbounded(alloc)?;
+    let head = start_held(rt, alloc, head.worker, sender, &mark)?;
+    let tail = start_worker(rt, tail.worker, tail_links, &mark)?;
     let mut first = client(&rt, port)?;
     first.write_all(b"set a 0 0 1\r\n1\r\n")?;
+    let kept: Kept = gate.recv_timeout(&rt, Duration::from_secs(50))?;
     let mut second = client(&rt, port)?;
     assert!(rt; answers(&mut second, b"get b\r\n", b"END\r\n"));
-    let tail = start_worker(rt, tail.worker, tail_links, &mark)?;
+    to_tail.bring(&rt, 0, kept.into_peer())?;
     assert!(rt; says(&mut first, b"STORED\r\n"));
     drop(first);
     drop(second);
     for seat in seats {
         seat.join(&rt);
     }
-    inlets.0.end(&rt)?;
-    inlets.1.end(&rt)?;
+    to_head.end(&rt)?;
+    to_tail.end(&rt)?;
     head.join(&rt);
     tail.join(&rt);
     Ok(())
+}
+
+// Starts a worker whose messages a gate takes.
+fn start_held<R: Wait + Threads + Copy + Drop + Send + 'static>(
+    rt: R,
+    alloc: Global,
+    worker: Worker<R>,
+    kept: Sender<Kept>,
+    mark: &Mark,
+) -> Result<JoinHandle<()>, Fail> {
+    let mark = mark.share()?;
+    let thread = thread::spawn(&rt, move || {
+        let mut gate = Gate {
+            rt,
+            kept,
+            put: Vec::new(alloc),
+        };
+        work(&rt, worker, &mut gate, &mark)
+    })?;
+    Ok(thread)
 }
 
 // One of two callers that meet in their calls: the first sets a mark and waits for the other's.

@@ -50,9 +50,9 @@ pub fn ready<
     None
 }
 
-// A port below those that the system gives out. Which one differs from call to call, so that tests that run at the same
-// time seldom meet.
-fn some_port<R: Net<Listener = TcpListener, Stream = TcpStream>>(rt: &R) -> Option<u16> {
+/// A port below those that the system gives out. Which one differs from call to call, so that tests that run at the same
+/// time seldom meet.
+pub fn some_port<R: Net<Listener = TcpListener, Stream = TcpStream>>(rt: &R) -> Option<u16> {
     let listener = TcpListener::bind(rt, (Ipv4Addr::LOCALHOST, 0)).ok()?;
     let given = listener.local_addr().ok()?.port();
     Some((given % 700).wrapping_mul(16).wrapping_add(12_000))

@@ -8,4 +8,5 @@ returns-in-Ok-Scenario-clause-fault c = λ d not_done not_usage.
     (told.0, told.1, told.2, rw (d.in-Ok-Scenario.is, d.in-Ok-Scenario.field-0-is) told.3)
 
 pub returns-in-Ok-Version-clause-begun : goal.returns-in-Ok-Version-clause-begun
-returns-in-Ok-Version-clause-begun g c = λ failed. version-beginning _ _ (c.print_version.ensures.begun failed)
+returns-in-Ok-Version-clause-begun g c = λ failed.
+    rw (c.in-Ok-Version.is, c.in-Ok-Version.field-0-is) (version-beginning _ _ (c.print_version.ensures.begun failed))
