@@ -143,7 +143,9 @@ fn start<
 fn warned_beyond_this_machine(rt: HostRuntime) -> Result<(), Fail> {
     let alloc = rt.alloc();
     assert!(rt; warning(alloc, Ipv4Addr::LOCALHOST).is_empty());
-    assert!(rt; warning(alloc, Ipv4Addr::UNSPECIFIED).starts_with(b"craq: warning: others may connect"));
+    assert!(rt;
+        warning(alloc, Ipv4Addr::UNSPECIFIED).starts_with(b"craq: warning: others may connect")
+    );
     Ok(())
 }
 
