@@ -1,13 +1,14 @@
 -- What clap found, as the command that was named and what it was given.
-use Rattle.std.proofs.Common.{◌≡◌, ◌∙◌, ◌↔◌, ◌<◌, ◌^◌, ℕ, List, true, false, Option, None, Some, IfSome, IsSome, is_some, codes, option_map, refl, ap, sym, subst, []}
+use Rattle.std.proofs.Common.{◌≡◌, ◌∙◌, ◌↔◌, ◌<◌, ◌≤◌, ◌^◌, ℕ, List, true, false, Option, None, Some, IfSome, IsSome, is_some, codes, option_map, refl, ap, sym, subst, arith, []}
 use Rattle.std.specs.Str.Parse.{IsNumeral, digits_value, without_leading_plus}
 use Rattle.clap.proofs.WalkLemmas.{first_value-rows, one_text-rows}
-use Rattle.clap.specs.Words.{HasMatchesOf, Row, Text, app_of, fault_of, first_of, first_value, is_simple, one_of, one_text, rows_of, subcommand_name_of, subcommand_of, subcommand_rows, subcommand_rows_of}
+use Rattle.clap.specs.Words.{HasMatchesOf, Row, Text, app_of, fault_of, first_of, first_value, is_simple, one_text, rows_of, subcommand_name_of, subcommand_of, subcommand_rows, subcommand_rows_of}
 use Rattle.clap.specs.declared.builder.command.Command.{Command as Parser}
 use Rattle.clap.specs.declared.parser.matches.ArgMatches.{ArgMatches}
 use Rattle.clap.specs.declared.parser.matches.ArgMatches.TheViews.{out-ArgMatches}
 use Rattle.clap.specs.declared.parser.matches.Found.{Found}
-use Rattle.command_line.specs.ClusterWords.{GivesNumber, NamesNumbers}
+use Rattle.command_line.specs.ClusterWords.{NamesNumbers}
+use Rattle.command_line.specs.Options.{GivesNumber}
 use Rattle.command_line.specs.Commands.{IsAskedFor}
 use Rattle.command_line.specs.Words.{IsNamed, NamesFile, program_app}
 use Rattle.command_line.specs.ProcessWords.{NamesHosts, NamesMaster, NamesServer}
@@ -69,6 +70,15 @@ pub same_rows : {X Y : Type 0} (o : Option (X × Y)) (x : X) (y z : Y)
     → y ≡ z
 same_rows o x y z p q = ap (λ p. p.1) (some_same _ _ (sym p ∙ q))
 
+-- if no number is found in the rows of a command, none is given to it
+pub given_none : (o : Option (Text × List Row)) (name : Text) (here rows : List Row) (least greatest : ℕ) (id : Text)
+    → o ≡ Some (name, here)
+    → o ≡ Some (name, rows)
+    → ((n : ℕ) → GivesNumber least greatest id here n → ⊥)
+    → (n : ℕ) → GivesNumber least greatest id rows n → ⊥
+given_none o name here rows least greatest id p q none n given =
+    none n (subst (λ (all : List Row). GivesNumber least greatest id all n) (sym (same_rows o name here rows p q)) given)
+
 -- what is no value is none
 pub none_if : {X : Type 0} (o : Option X) → ((x : X) → o ≡ Some x → ⊥) → o ≡ None
 none_if None never = refl
@@ -128,31 +138,43 @@ IsNumber bits t = IsNumeral 10 (without_leading_plus t) × (digits_value 10 (wit
 
 -- Of one option with a number of this many bits.
 module _ (bits : ℕ) (f : Found) (id : Text) where
-  number : (n : ℕ) (o : Option Text)
+  number : (least greatest n : ℕ) (o : Option Text)
+      → least ≤ n
+      → n ≤ greatest
       → one_text f id ≡ o
       → (one_text f id ≡ None → Some n ≡ None)
       → ((t : List ℕ) → one_text f id ≡ Some t → IsNumber bits t × (n ≡ digits_value 10 (without_leading_plus t)))
-      → GivesNumber bits id (rows_of f) n
-  number n None e none reads = let bad : Some n ≡ None = none e in cc
-  number n (Some t) e none reads =
+      → GivesNumber least greatest id (rows_of f) n
+  number least greatest n None low high e none reads = let bad : Some n ≡ None = none e in cc
+  number least greatest n (Some t) low high e none reads =
       let p = reads t e in
-      (t, sym (one_text-rows f id) ∙ e, p.0.0, p.0.1, p.1)
+      (t, sym (one_text-rows f id) ∙ e, p.0.0, p.1, low, high)
 
-  -- the number that was read is the one that is given
-  pub gives_number : (n : ℕ)
+  -- the number that was read is the one that is given, if it is in range
+  pub gives_number : (least greatest n : ℕ)
+      → least ≤ n
+      → n ≤ greatest
       → (one_text f id ≡ None → Some n ≡ None)
       → ((t : List ℕ) → one_text f id ≡ Some t → IsNumber bits t × (n ≡ digits_value 10 (without_leading_plus t)))
-      → GivesNumber bits id (rows_of f) n
-  gives_number n none reads = number n (one_text f id) refl none reads
+      → GivesNumber least greatest id (rows_of f) n
+  gives_number least greatest n low high none reads = number least greatest n (one_text f id) low high refl none reads
 
   -- if none was read, none is given
-  pub gives_no_number : (rows : List Row)
-      → rows_of f ≡ rows
+  pub gives_no_number : (least greatest : ℕ)
+      → greatest < 2 ^ bits
       → ((t : List ℕ) → one_text f id ≡ Some t → IsNumber bits t → ⊥)
-      → (n : ℕ) → GivesNumber bits id rows n → ⊥
-  gives_no_number rows same reads n (t, one, numeral, below, value) =
-      let text : one_text f id ≡ Some t = one_text-rows f id ∙ (ap (λ all. one_of id all) same ∙ one) in
-      reads t text (numeral, below)
+      → (n : ℕ) → GivesNumber least greatest id (rows_of f) n → ⊥
+  gives_no_number least greatest few reads n (t, one, numeral, value, low, high) =
+      reads t (one_text-rows f id ∙ one) (numeral, subst (λ m. m < 2 ^ bits) value (omega arith))
+
+  -- a number that is given is the one that was read
+  pub same_number : (least greatest m n : ℕ)
+      → ((t : List ℕ) → one_text f id ≡ Some t → IsNumber bits t × (m ≡ digits_value 10 (without_leading_plus t)))
+      → GivesNumber least greatest id (rows_of f) n
+      → (least ≤ m) × (m ≤ greatest)
+  same_number least greatest m n reads (t, one, numeral, value, low, high) =
+      let same : m ≡ n = (reads t (one_text-rows f id ∙ one)).1 ∙ sym value in
+      rw same (low, high)
 
 -- if no command's arguments are found, no command is named
 pub unnamed : (o : Option (Text × List Row))

@@ -1,33 +1,33 @@
 -- The program's parser, and the kinds of its errors.
-use Rattle.std.proofs.Common.{◌≡◌, ◌≢◌, ◌⊎◌, ◌∙◌, ℕ, List, [], ◌∷◌, false, true, ap, inl, inr, refl, sym, subst}
+use Rattle.std.proofs.Common.{◌≡◌, ◌||◌, ◌≢◌, ◌⊎◌, ◌∙◌, ℕ, List, [], ◌∷◌, true, ap, ap₂, inl, inr, refl, sym, subst}
 use Rattle.clap.specs.Kinds.{IsAmong, Kinds}
-use Rattle.clap.specs.Words.{AddsArg, AddsSubcommand, App, Rule, app_of, fault_of, is_simple_and_free, rule_of, shape_of, with_rule, with_subcommand}
+use Rattle.clap.specs.Words.{AddsArg, AddsSubcommand, App, Rule, app_of, fault_of, is_simple_and_free, shape_of, with_rule, with_subcommand}
 use Rattle.clap.specs.declared.builder.arg.Arg.{Arg}
 use Rattle.clap.specs.declared.builder.command.Command.{Command}
-use Rattle.clap.specs.declared.builder.command.Command.TheViews.{out-Command}
 use Rattle.clap.specs.declared.error.kind.ErrorKind.{ErrorKind}
 use Rattle.clap.specs.declared.error.kind.ErrorKind.TheVariants.{DisplayVersion, MissingSubcommand, OutOfMemory}
+use Rattle.command_line.specs.Options.{HasRule, ReadsAs}
 use Rattle.command_line.specs.Words.{IsRefusedFor, program_app}
 
--- a program and its command, by what the parser reads of each
+-- a program and its command, by what clap reads of each
 pub with_command : (old sub new : Command) (program command : App)
     → app_of old ≡ program
-    → app_of sub ≡ command
-    → (out-Command sub).has_globals ≡ false
+    → ReadsAs command sub
     → AddsSubcommand old sub new
     → app_of new ≡ with_subcommand program command.top
-with_command old sub new program command p q local adds =
+with_command old sub new program command p (q, local) adds =
     adds.shape local ∙ ap (λ a. with_subcommand a (shape_of sub)) p ∙ ap (λ (a : App). with_subcommand program a.top) q
 
--- a command with one more option, by what the parser reads of each
+-- a command with one more argument, by what clap reads of each
 pub with_option : (old new : Command) (option : Arg) (command : App) (rule : Rule)
-    → app_of old ≡ command
-    → rule_of option ≡ rule
-    → option.global ≡ false
+    → ReadsAs command old
+    → HasRule rule option
     → AddsArg old option new
-    → app_of new ≡ with_rule command rule
-with_option old new option command rule p q local adds =
-    adds.shape local ∙ ap (λ r. with_rule (app_of old) r) q ∙ ap (λ (a : App). with_rule a rule) p
+    → ReadsAs (with_rule command rule) new
+with_option old new option command rule (p, plain) (q, local) adds = (
+  adds.shape local ∙ ap (λ r. with_rule (app_of old) r) q ∙ ap (λ (a : App). with_rule a rule) p,
+  adds.globals ∙ ap₂ ◌||◌ plain local,
+)
 
 -- clap's account of the parser is exact
 pub program_is_free : is_simple_and_free program_app ≡ true

@@ -1,3 +1,4 @@
+pub mod Options
 pub mod ClusterWords
 pub mod ProcessWords
 pub mod Words

@@ -1,11 +1,11 @@
 -- The command line, by clap's own account of what a parser finds in words.
 use Rattle.std.specs.Prelude.{◌≡◌, ◌⊎◌, ℕ, List, [], codes, Option, Some, true, string_bytes}
-use Rattle.clap.specs.Words.{App, Row, Rule, Text, first_of, new_app, new_rule, subcommand_of, takes, with_rule, with_subcommand}
+use Rattle.clap.specs.Words.{App, Row, Text, first_of, new_app, subcommand_of, takes, with_rule, with_subcommand}
 use Rattle.clap.specs.Kinds.{IsAmong}
-use Rattle.clap.specs.declared.builder.ArgAction.TheVariants.{Set}
 use Rattle.clap.specs.declared.error.kind.ErrorKind.{ErrorKind}
 use Rattle.clap.specs.declared.error.kind.ErrorKind.TheVariants.{MissingSubcommand, OutOfMemory}
 use Rattle.command_line.specs.ClusterWords.{NamesNumbers, cluster_app}
+use Rattle.command_line.specs.Options.{file_rule}
 use Rattle.command_line.specs.ProcessWords.{NamesHosts, NamesMaster, NamesServer, master_app, server_app}
 use Rattle.command_line.specs.declared.commands.Command.{Command}
 use Rattle.command_line.specs.declared.commands.Command.TheVariants.{Print, Tell, Serve}
@@ -13,10 +13,6 @@ use Rattle.command_line.specs.declared.commands.Print.TheVariants.{Scenario, Ver
 use Rattle.command_line.specs.declared.commands.Serve.TheVariants.{Cluster, Server, Master}
 use Rattle.command_line.specs.declared.commands.Telling.{Telling}
 use Rattle.command_line.specs.declared.commands.Telling.TheVariants.{Trace, Draw}
-
--- FILE, which has to be given
-abbrev pub file_rule : Rule
-file_rule = record (new_rule (codes "FILE")) { required = true; action = Some Set }
 
 -- a command of this name with a FILE
 abbrev pub file_app : List ℕ → App

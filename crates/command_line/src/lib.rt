@@ -1,17 +1,18 @@
-//! The words of a command line of `craq`, read by one parser, and what they ask for.
+//! The words of a command line of `craq`, read by one parser, and what they ask for; the program's exit statuses.
 #![tactic(auto)]
 
 mod cluster_words;
 mod commands;
+mod given;
 mod numbers;
+mod options;
 mod process_words;
 mod processes;
+mod statuses;
 mod words;
 
 pub use commands::{Command, Print, Serve, Telling, UsageFault};
 pub use numbers::Numbers;
 pub use processes::{Hosts, MasterNumbers, ServerNumbers};
+pub use statuses::{DONE, FAILED, MEMORY, USAGE};
 pub use words::read_command;
-
-#[cfg(test)]
-mod tests;

@@ -1,9 +1,9 @@
 //! The words of a command line, and the command that they spell.
-ghost use Rattle.std.specs.Prelude.{◌≡◌, ℕ, codes, List, [], IfOk, IfErr, IfSome, OnOk, None, Some, map, false};
-ghost use Rattle.clap.specs.Words.{Row, app_of, fault_of, found_of, kind_of, rows_of, subcommand_of, subcommand_rows_of};
-ghost use Rattle.clap.specs.declared.builder.command.Command.TheViews.{out-Command};
+ghost use Rattle.std.specs.Prelude.{◌≡◌, ℕ, codes, List, [], IfOk, IfErr, IfSome, OnOk, None, map};
+ghost use Rattle.clap.specs.Words.{app_of, fault_of, kind_of, subcommand_of, subcommand_rows_of};
 ghost use Rattle.command_line.specs.Words.{IsNamed, IsRefusedFor, IsTaken, NamesFile, file_app, named_app, program_app};
 ghost use Rattle.command_line.specs.declared.commands.Command.{Command as Shown};
+ghost use Rattle.command_line.specs.Options.{ReadsAs};
 ghost use Rattle.command_line.specs.ProcessWords.{NamesHosts, NamesMaster, NamesServer};
 ghost use Rattle.command_line.specs.declared.processes.Hosts.{Hosts};
 ghost use Rattle.command_line.specs.declared.processes.MasterNumbers.{MasterNumbers};
@@ -12,11 +12,13 @@ ghost use Rattle.command_line.specs.Commands.{AskForVersion, IsAskedFor};
 
 use crate::cluster_words::{cluster_parser, numbers_given};
 use crate::commands::{Command, Print, Serve, Telling, UsageFault};
+use crate::given::given_to;
+use crate::options::file_argument;
 use crate::process_words::{
     hosts_given, master_numbers, master_parser, server_numbers, server_parser,
 };
 use clap::error::ErrorKind;
-use clap::{Arg, ArgAction, ArgMatches, Command as Parser, Error};
+use clap::{ArgMatches, Command as Parser, Error};
 use std::alloc::{AllocError, Global};
 
 /// The command that these words spell. The first word is the program's own name. Words that name a file or a chain in
@@ -121,15 +123,6 @@ fn file_given<'a>(matches: &ArgMatches<'a>, name: &str) -> Option<&'a str>
     given.get_str("FILE")
 }
 
-/// What was given to the command of this name, if that is the command.
-pub fn given_to<'m, 'a>(matches: &'m ArgMatches<'a>, name: &str) -> Option<&'m ArgMatches<'a>>
-    ensures given { IfSome result (λ given.
-        subcommand_rows_of matches.now ≡ Some (name.now, rows_of (found_of given.now))) }
-    ensures none { result ≡ None → (rows : List Row) → subcommand_rows_of matches.now ≡ Some (name.now, rows) → ⊥ }
-{
-    matches.subcommand_matches(name)
-}
-
 fn parser<'a>(alloc: Global) -> Result<Parser<'a>, AllocError>
     ensures { IfOk result (λ parser. app_of parser ≡ program_app) }
 {
@@ -172,14 +165,11 @@ fn program_parser<'a>(alloc: Global) -> Parser<'a>
 
 // The parser of a command that takes a FILE.
 fn file_parser<'a>(alloc: Global, name: &'a str, about: &'a str) -> Result<Parser<'a>, AllocError>
-    ensures app { IfOk result (λ parser. app_of parser ≡ file_app name.entry.now) }
-    ensures local { IfOk result (λ parser. (out-Command parser).has_globals ≡ false) }
+    ensures { IfOk result (ReadsAs (file_app name.entry.now)) }
 {
-    let file = Arg::new(alloc, "FILE")
-        .help("The schedule: servers, homes, and one event a line; - is the standard input")
-        .required(true)
-        .action(ArgAction::Set);
-    let command = Parser::new(alloc, name).about(about).arg(file)?;
+    let command = Parser::new(alloc, name)
+        .about(about)
+        .arg(file_argument(alloc))?;
     Ok(command)
 }
 

@@ -2,24 +2,13 @@
 ghost use Rattle.std.specs.Prelude.{◌≡◌, ◌+◌, ◌++◌, OnOk, OnErr};
 ghost use Rattle.ends.specs.Ends.{WritesBeginning};
 
+use command_line::{FAILED, MEMORY};
 use ends::{ReadFault, Sink, WriteFault, write_all};
 use itoa::Buffer;
 use schedules::ScheduleFault;
 use std::alloc::AllocError;
 use thiserror::Error;
 use world::SceneFault;
-
-/// The transcript was printed.
-pub const DONE: u8 = 0;
-
-/// The schedule or the output failed.
-pub const FAILED: u8 = 1;
-
-/// The arguments are no command.
-pub const USAGE: u8 = 2;
-
-/// No memory was left.
-pub const MEMORY: u8 = 3;
 
 /// Why a scenario wasn't replayed.
 #[derive(Clone, Copy, Debug, PartialEq, Eq, Error)]

@@ -6,10 +6,8 @@ mod program;
 mod scenarios;
 mod tellings;
 
-pub use faults::{DONE, FAILED, MEMORY, ScenarioFault, USAGE};
+pub use command_line::{DONE, FAILED, MEMORY, USAGE};
+pub use faults::ScenarioFault;
 pub use program::{read_arguments, run};
 pub use scenarios::scenario;
 pub use tellings::tell_file;
-
-#[cfg(test)]
-mod tests;

@@ -9,9 +9,9 @@ ghost use Rattle.command_line.specs.declared.commands.Print.TheVariants.{Scenari
 ghost use Rattle.commands.specs.declared.faults.ScenarioFault.{ScenarioFault};
 ghost use Rattle.commands.specs.declared.faults.ScenarioFault.TheVariants.{Run};
 
-use crate::faults::{DONE, MEMORY, ScenarioFault, USAGE};
+use crate::faults::ScenarioFault;
 use crate::scenarios::scenario;
-use command_line::{Command, Print, UsageFault, read_command};
+use command_line::{Command, DONE, MEMORY, Print, USAGE, UsageFault, read_command};
 use ends::{Sink, TrackedReader, WriteFault, write_all};
 use std::io::ErrorKind;
 use std::rt::{Env, Files};

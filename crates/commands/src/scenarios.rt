@@ -5,7 +5,8 @@ ghost use Rattle.commands.specs.Scenarios.{IsScenarioStatus, NamesLine, NamesLin
 ghost use Rattle.commands.specs.declared.faults.ScenarioFault.{ScenarioFault};
 ghost use Rattle.commands.specs.declared.faults.ScenarioFault.TheVariants.{Unreadable, Run};
 
-use crate::faults::{DONE, FAILED, ScenarioFault};
+use crate::faults::ScenarioFault;
+use command_line::{DONE, FAILED};
 use ends::{Sink, Source, read_to_end, write_all};
 use schedules::{print_transcript, read_schedule};
 use std::alloc::Global;

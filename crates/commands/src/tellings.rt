@@ -5,8 +5,8 @@ ghost use Rattle.commands.specs.Tellings.{Traces};
 ghost use Rattle.commands.specs.declared.faults.ScenarioFault.{ScenarioFault};
 ghost use Rattle.command_line.specs.declared.commands.Telling.TheVariants.{Trace};
 
-use crate::faults::{DONE, ScenarioFault};
-use command_line::Telling;
+use crate::faults::ScenarioFault;
+use command_line::{DONE, Telling};
 use ends::{Sink, Source, TrackedReader, read_to_end, write_all};
 use schedules::read_schedule;
 use std::alloc::Global;

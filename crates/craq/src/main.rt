@@ -1,32 +1,16 @@
-//! The program `craq`: its threads and its sockets, between the commands and what its users see.
+//! The program `craq`: it reads its arguments, and does what they ask for.
 #![tactic(auto)]
-
-mod clusters;
-mod cuts;
-mod doors;
-mod greetings;
-mod halls;
-mod input_lines;
-mod masters;
-mod peer_doors;
-mod servers;
-mod settings;
-mod steering;
-mod working;
 
 use command_line::{Command, Serve, UsageFault};
 use commands::{read_arguments, run, tell_file};
 use ends::{Sink, Source, TrackedReader, TrackedWriter};
-use masters::master;
-use servers::server;
-use settings::{MasterSettings, ServerSettings};
+use runtime::{MasterSettings, ServerSettings, cluster, master, server};
 use std::alloc::Global;
 use std::net::{Net, TcpListener, TcpStream};
 use std::process::ExitCode;
 use std::sync::Wait;
 use std::thread::Threads;
 use std::time::Clock;
-use steering::cluster;
 
 fn main(rt: HostRuntime) -> ExitCode {
     let mut output = TrackedWriter::new(rt.stdout());
@@ -89,6 +73,3 @@ fn serve<
         }
     }
 }
-
-#[cfg(test)]
-mod tests;

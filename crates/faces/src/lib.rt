@@ -11,8 +11,6 @@ mod published;
 mod publishers;
 mod readers;
 mod shared_versions;
-#[cfg(test)]
-mod tests;
 mod tombstones;
 
 pub use boards::Name;

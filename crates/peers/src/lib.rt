@@ -13,6 +13,3 @@ pub use putting::{put_all, put_frame};
 pub use serving::serve_peer;
 pub use takers::{TakeFault, Taker};
 pub use wire::PeerEnd;
-
-#[cfg(test)]
-mod tests;

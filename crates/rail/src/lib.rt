@@ -25,6 +25,3 @@ pub use seats::Seat;
 pub use servers::{Server, open};
 pub use stands::Stand;
 pub use workers::{Turn, Worker};
-
-#[cfg(test)]
-mod tests;

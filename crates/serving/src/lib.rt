@@ -4,8 +4,6 @@
 mod callers;
 mod serving;
 mod talks;
-#[cfg(test)]
-mod tests;
 
 pub use callers::{CallFault, Caller};
 pub use serving::{End, ServeFault, serve_stream};

@@ -1,4 +1,4 @@
-use Rattle.std.proofs.Common.{ap, codes, option_map, string_bytes, sym, ◌∙◌}
+use Rattle.std.proofs.Common.{ap, codes, option_map, string_bytes, ◌∙◌}
 use Rattle.clap.specs.Words.{found_of}
 use Rattle.command_line.proofs.Found.{first_given, none_given, none_if}
 use Rattle.command_line.proofs.process_words.hosts_given.Goals as goal

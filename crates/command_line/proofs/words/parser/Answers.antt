@@ -3,14 +3,14 @@ use Rattle.command_line.proofs.words.parser.Goals as goal
 
 pub returns : goal.returns
 returns c =
-    let scenario = with_command _ _ _ _ _ c.program_parser.ensures c.in_ok-scenario.ensures.app
-    c.in_ok-scenario.ensures.local c.in_ok-subcommand.ensures in
-    let trace = with_command _ _ _ _ _ scenario c.in_ok-trace.ensures.app c.in_ok-trace.ensures.local
+    let scenario = with_command _ _ _ _ _ c.program_parser.ensures c.in_ok-scenario.ensures
+    c.in_ok-subcommand.ensures in
+    let trace = with_command _ _ _ _ _ scenario c.in_ok-trace.ensures
     c.in_ok-subcommand-2.ensures in
-    let draw = with_command _ _ _ _ _ trace c.in_ok-draw.ensures.app c.in_ok-draw.ensures.local
+    let draw = with_command _ _ _ _ _ trace c.in_ok-draw.ensures
     c.in_ok-subcommand-3.ensures in
-    let cluster = with_command _ _ _ _ _ draw c.in_ok-cluster.ensures.app c.in_ok-cluster.ensures.local
+    let cluster = with_command _ _ _ _ _ draw c.in_ok-cluster.ensures
     c.in_ok-subcommand-4.ensures in
-    let server = with_command _ _ _ _ _ cluster c.in_ok-server.ensures.app c.in_ok-server.ensures.local
+    let server = with_command _ _ _ _ _ cluster c.in_ok-server.ensures
     c.in_ok-subcommand-5.ensures in
-    with_command _ _ _ _ _ server c.in_ok-master.ensures.app c.in_ok-master.ensures.local c.in_ok-program.ensures
+    with_command _ _ _ _ _ server c.in_ok-master.ensures c.in_ok-program.ensures

@@ -1,0 +1,73 @@
+//! What was given to a command, of what the parser found in words.
+ghost use Rattle.std.specs.Prelude.{◌≡◌, ℕ, List, IfOk, IfSome, None, Some, option_map, string_bytes};
+ghost use Rattle.clap.specs.Words.{Row, first_value, found_of, rows_of, subcommand_rows_of};
+ghost use Rattle.command_line.specs.Options.{GivesNumber};
+
+use clap::ArgMatches;
+use std::alloc::{AllocError, Global};
+
+/// What was given to the command of this name, if that is the command.
+pub fn given_to<'m, 'a>(matches: &'m ArgMatches<'a>, name: &str) -> Option<&'m ArgMatches<'a>>
+    ensures given { IfSome result (λ given.
+        subcommand_rows_of matches.now ≡ Some (name.now, rows_of (found_of given.now))) }
+    ensures none { result ≡ None → (rows : List Row) → subcommand_rows_of matches.now ≡ Some (name.now, rows) → ⊥ }
+{
+    matches.subcommand_matches(name)
+}
+
+/// The number of this option, if it is one from `least` to `greatest`.
+pub fn small_number<'a>(given: &ArgMatches<'a>, id: &str, least: u8, greatest: u8) -> Option<u8>
+    ensures given { IfSome result (GivesNumber least greatest id.now (rows_of (found_of given.now))) }
+    ensures none { result ≡ None →
+        (n : ℕ) → GivesNumber least greatest id.now (rows_of (found_of given.now)) n → ⊥ }
+{
+    let number = given.get_one::<u8>(id)?;
+    if number < least {
+        return None;
+    }
+    if greatest < number {
+        return None;
+    }
+    Some(number)
+}
+
+/// The port of this option, if it is one from 1 to `greatest`.
+pub fn port_number<'a>(given: &ArgMatches<'a>, id: &str, greatest: u16) -> Option<u16>
+    ensures given { IfSome result (GivesNumber 1 greatest id.now (rows_of (found_of given.now))) }
+    ensures none { result ≡ None → (n : ℕ) → GivesNumber 1 greatest id.now (rows_of (found_of given.now)) n → ⊥ }
+{
+    let port = given.get_one::<u16>(id)?;
+    if port < 1 {
+        return None;
+    }
+    if greatest < port {
+        return None;
+    }
+    Some(port)
+}
+
+/// The number of this option, if it is one up to `greatest`.
+pub fn large_number<'a>(given: &ArgMatches<'a>, id: &str, greatest: u64) -> Option<u64>
+    ensures given { IfSome result (GivesNumber 0 greatest id.now (rows_of (found_of given.now))) }
+    ensures none { result ≡ None → (n : ℕ) → GivesNumber 0 greatest id.now (rows_of (found_of given.now)) n → ⊥ }
+{
+    let number = given.get_one::<u64>(id)?;
+    if greatest < number {
+        return None;
+    }
+    Some(number)
+}
+
+/// The text of this option, if it was given.
+pub fn text_given<'a>(
+    alloc: Global,
+    given: &ArgMatches<'a>,
+    id: &str,
+) -> Result<Option<String>, AllocError>
+    ensures { IfOk result (λ text. option_map string_bytes text ≡ first_value (found_of given.now) id.now) }
+{
+    match given.get_str(id) {
+        Some(text) => Ok(Some(String::from_str(alloc, text)?)),
+        None => Ok(None),
+    }
+}

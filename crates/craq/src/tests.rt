@@ -1,7 +1,0 @@
-//! Chains that serve clients over sockets. Each port is one that nobody listens on.
-
-mod callers;
-mod chains;
-mod clients;
-mod processes;
-mod running;

@@ -1,0 +1,155 @@
+//! Servers of a chain that speak over sockets, and a master that tells them of a failure.
+
+use super::clients::{answers, client, says};
+use super::running::some_port;
+use command_line::{Hosts, MasterNumbers, ServerNumbers};
+use ends::{TrackedReader, TrackedWriter};
+use runtime::{MasterSettings, ServerSettings, master, server, warn_of};
+use std::alloc::{AllocError, Global};
+use std::io::{PipeReader, Write, pipe};
+use std::net::{Ipv4Addr, Net, SocketAddr, SocketAddrV4, TcpListener, TcpStream};
+use std::rt::Files;
+use std::sync::Wait;
+use std::test::Fail;
+use std::thread;
+use std::thread::Threads;
+use std::time::Clock;
+
+// How many servers the chain has.
+const SERVERS: u8 = 3;
+
+// Servers 0 and 2 of three, and the place of server 1, where the test listens.
+#[derive(Drop)]
+struct Broken {
+    port: u16,
+    peer_port: u16,
+    middle: TcpListener,
+}
+
+// A set that waits for a silent server is committed once the others were told that it has failed. Servers 0 and 2 go on
+// when the test ends.
+#[test]
+fn set_waits_for_the_master(rt: HostRuntime) -> Result<(), Fail> {
+    let alloc = rt.alloc();
+    let broken = ready(rt, alloc).ok_or("two servers")?;
+    let (head, _) = broken.middle.accept()?;
+    let (tail, _) = broken.middle.accept()?;
+    let mut first = client(&rt, broken.port)?;
+    first.write_all(b"set a 0 0 1\r\n1\r\n")?;
+    let mut second = client(&rt, broken.port.wrapping_add(2))?;
+    assert!(rt; answers(&mut second, b"get a\r\n", b"END\r\n"));
+    assert!(rt; tells(&rt, alloc, broken.peer_port)?);
+    assert!(rt; says(&mut first, b"STORED\r\n"));
+    drop((head, tail));
+    Ok(())
+}
+
+// Whether a master that reads `gone 1` tells both others.
+fn tells<R: Wait + Net<Listener = TcpListener, Stream = TcpStream> + Files>(
+    rt: &R,
+    alloc: Global,
+    peer_port: u16,
+) -> Result<bool, Fail> {
+    let numbers = MasterNumbers {
+        servers: SERVERS,
+        peer_port,
+    };
+    let settings = MasterSettings::new(alloc, numbers, here(alloc)?)?;
+    let (input, mut lines) = pipe(rt)?;
+    lines.write_all(b"gone 1\n")?;
+    drop(lines);
+    let mut input = TrackedReader::new(input);
+    let mut output = TrackedWriter::new(Vec::new(alloc));
+    let mut errors = TrackedWriter::new(Vec::new(alloc));
+    let status = master(rt, alloc, &settings, &mut input, &mut output, &mut errors);
+    Ok(status == 0 && output.inner.as_slice() == b"gone 1 told 2\n".as_slice())
+}
+
+// This machine alone.
+fn here(alloc: Global) -> Result<Hosts, AllocError> {
+    Ok(Hosts {
+        address: String::from_str(alloc, "127.0.0.1")?,
+        peers: None,
+    })
+}
+
+// Two servers that are ready. If a port is taken others are tried.
+fn ready<
+    R: Wait
+        + Threads
+        + Clock
+        + Eprint
+        + Files
+        + Net<Listener = TcpListener, Stream = TcpStream>
+        + Copy
+        + Drop
+        + Send
+        + 'static,
+>(rt: R, alloc: Global) -> Option<Broken> {
+    for _ in 0..50 {
+        let port = some_port(&rt)?;
+        let peer_port = port.wrapping_add(u16::from(SERVERS));
+        let Ok(middle) = TcpListener::bind(&rt, (Ipv4Addr::LOCALHOST, peer_port.wrapping_add(1)))
+        else {
+            continue;
+        };
+        let mut head = start(rt, alloc, 0, port, peer_port)?;
+        let mut tail = start(rt, alloc, 2, port, peer_port)?;
+        if says(&mut head, b"ready\n") && says(&mut tail, b"ready\n") {
+            return Some(Broken {
+                port,
+                peer_port,
+                middle,
+            });
+        }
+    }
+    None
+}
+
+// Starts a server on a thread of its own, and gives the other end of its output.
+fn start<
+    R: Wait
+        + Threads
+        + Clock
+        + Eprint
+        + Files
+        + Net<Listener = TcpListener, Stream = TcpStream>
+        + Copy
+        + Drop
+        + Send
+        + 'static,
+>(rt: R, alloc: Global, id: u8, port: u16, peer_port: u16) -> Option<PipeReader> {
+    let numbers = ServerNumbers {
+        id,
+        servers: SERVERS,
+        port,
+        peer_port,
+        seats: 1,
+    };
+    let settings = ServerSettings::new(alloc, numbers, here(alloc).ok()?).ok()?;
+    let (output, ours) = pipe(&rt).ok()?;
+    let started = thread::spawn(&rt, move || {
+        let mut output = TrackedWriter::new(ours);
+        let mut errors = TrackedWriter::new(Vec::new(alloc));
+        server(rt, alloc, &settings, &mut output, &mut errors)
+    });
+    started.is_ok().then_some(output)
+}
+
+// Who listens beyond this machine is warned, and who doesn't is not.
+#[test]
+fn warned_beyond_this_machine(rt: HostRuntime) -> Result<(), Fail> {
+    let alloc = rt.alloc();
+    assert!(rt; warning(alloc, Ipv4Addr::LOCALHOST).is_empty());
+    assert!(rt;
+        warning(alloc, Ipv4Addr::UNSPECIFIED).starts_with(b"craq: warning: others may connect")
+    );
+    Ok(())
+}
+
+fn warning(alloc: Global, address: Ipv4Addr) -> Vec<u8> {
+    let mut errors = TrackedWriter::new(Vec::new(alloc));
+    warn_of(SocketAddr::V4(SocketAddrV4::new(address, 0)), &mut errors);
+    let TrackedWriter { inner, .. } = errors;
+    inner
+}

@@ -1,0 +1,109 @@
+//! A program that runs a chain, with the other ends of its input and its output.
+
+use super::clients::says;
+use command_line::Numbers;
+use ends::{TrackedReader, TrackedWriter};
+use runtime::cluster;
+use std::alloc::Global;
+use std::io::{Error, ErrorKind, PipeReader, PipeWriter, pipe};
+use std::net::{Ipv4Addr, Net, TcpListener, TcpStream};
+use std::rt::Files;
+use std::sync::Wait;
+use std::thread::{JoinHandle, Threads};
+use std::time::Clock;
+use std::{io, thread};
+
+/// A program that runs a chain in a thread of its own, with the other ends of its input and its output.
+#[derive(Drop)]
+pub struct Running {
+    pub input: PipeWriter,
+    pub output: PipeReader,
+    program: JoinHandle<u8>,
+}
+
+/// A chain of `servers` servers that is ready, and the port of server 0. If a port is taken others are tried.
+pub fn ready<
+    R: Wait
+        + Threads
+        + Clock
+        + Files
+        + Net<Listener = TcpListener, Stream = TcpStream>
+        + Copy
+        + Drop
+        + Send
+        + 'static,
+>(rt: R, alloc: Global, servers: u8, seats: u8) -> Option<(Running, u16)> {
+    for _ in 0..50 {
+        let port = some_port(&rt)?;
+        let numbers = Numbers {
+            servers,
+            port,
+            seats,
+            serves: 1,
+        };
+        let mut running = start(rt, alloc, numbers).ok()?;
+        if says(&mut running.output, b"ready\n") {
+            return Some((running, port));
+        }
+        status(&rt, running);
+    }
+    None
+}
+
+/// A port below those that the system gives out. Which one differs from call to call, so that tests that run at the same
+/// time seldom meet.
+pub fn some_port<R: Net<Listener = TcpListener, Stream = TcpStream>>(rt: &R) -> Option<u16> {
+    let listener = TcpListener::bind(rt, (Ipv4Addr::LOCALHOST, 0)).ok()?;
+    let given = listener.local_addr().ok()?.port();
+    Some((given % 700).wrapping_mul(16).wrapping_add(12_000))
+}
+
+fn start<
+    R: Wait
+        + Threads
+        + Clock
+        + Files
+        + Net<Listener = TcpListener, Stream = TcpStream>
+        + Copy
+        + Drop
+        + Send
+        + 'static,
+>(rt: R, alloc: Global, numbers: Numbers) -> io::Result<Running> {
+    let (theirs, input) = pipe(&rt)?;
+    let (output, ours) = pipe(&rt)?;
+    match thread::spawn(&rt, move || program(rt, alloc, numbers, theirs, ours)) {
+        Ok(program) => Ok(Running {
+            input,
+            output,
+            program,
+        }),
+        Err(_) => Err(Error::from(ErrorKind::OutOfMemory)),
+    }
+}
+
+fn program<
+    R: Wait
+        + Threads
+        + Clock
+        + Net<Listener = TcpListener, Stream = TcpStream>
+        + Copy
+        + Drop
+        + Send
+        + 'static,
+>(rt: R, alloc: Global, numbers: Numbers, input: PipeReader, output: PipeWriter) -> u8 {
+    let mut input = TrackedReader::new(input);
+    let mut output = TrackedWriter::new(output);
+    let mut errors = TrackedWriter::new(Vec::new(alloc));
+    cluster(rt, alloc, numbers, &mut input, &mut output, &mut errors)
+}
+
+/// Ends the program's input, and gives its exit status.
+pub fn status<R: Threads>(rt: &R, running: Running) -> u8 {
+    let Running {
+        input,
+        output: _,
+        program,
+    } = running;
+    drop(input);
+    program.join(rt)
+}

@@ -1,0 +1,12 @@
+//! Tests of what the threads of a server stand on, by public functions. A crate with tests is proved twice, so they
+//! stand here, and each library is proved once.
+#![tactic(auto)]
+
+#[cfg(test)]
+mod faces_tests;
+#[cfg(test)]
+mod peers_tests;
+#[cfg(test)]
+mod rail_tests;
+#[cfg(test)]
+mod serving_tests;
