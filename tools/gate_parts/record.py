@@ -1,0 +1,59 @@
+"""The record of must-fail edits: crates whose edits an earlier run of the gate tried, and all were refused.
+
+Edits test how strong contracts are. Their verdicts depend on the crate's sources, on those of the crates below it, on the
+edits, on the kit and on the gate's own scripts, and on nothing else: a sum over exactly these stands in the record. A crate
+with another sum is tried. In each run one crate that could be taken from the record is tried all the same, in turn; if one
+of its edits is not refused then, the gate fails.
+
+A row is a crate's name, its sum, and how many edits it has. The rows are what a run of the gate printed after `record:`."""
+import hashlib
+import os
+
+import kit
+from kit import rt
+
+HERE = os.path.dirname(os.path.realpath(__file__))
+FILE = f"{HERE}/edits_record.txt"
+HEAD = "# Crates whose must-fail edits a whole run of the gate tried and saw refused: name, sum of all that they rest on, edits.\n"
+# The scripts that make the verdicts.
+SCRIPTS = ("../gate", "edits.py", "kept.py", "places.py", "record.py", "kit.py")
+
+
+def sum_of(crate):
+    """The sum of all that the verdicts of a crate's edits rest on."""
+    found = hashlib.sha256(repr((kit.identity(), crate.stamp())).encode())
+    for file in [*rt.edits_of(crate)[0], *(f"{HERE}/{it}" for it in SCRIPTS)]:
+        with open(file, "rb") as it:
+            found.update(repr((os.path.basename(file), it.read())).encode())
+    return found.hexdigest()
+
+
+def row_of(crate):
+    return f"{crate.name} {sum_of(crate)} {len(rt.edits_of(crate)[0])}"
+
+
+def read(file=FILE):
+    """The rows of the record; none if there is no such file."""
+    try:
+        with open(file, encoding="utf-8") as it:
+            return {line.strip() for line in it if line.strip() and not line.startswith("#")}
+    except FileNotFoundError:
+        return set()
+
+
+def write(rows, file=FILE):
+    """Writes these rows, and keeps those of other crates."""
+    new = {it.split()[0]: it for it in [*sorted(read(file)), *rows]}
+    with open(file, "w", encoding="utf-8") as it:
+        it.write(HEAD + "".join(f"{new[name]}\n" for name in sorted(new)))
+
+
+def taken(crates, rows, tries_all=False):
+    """The names of those crates with edits whose row stands in the record, without the one whose turn it is."""
+    if tries_all:
+        return set()
+    able = {it.name: sum_of(it) for it in crates if rt.edits_of(it)[0] and row_of(it) in rows}
+    # the turn goes by the sums, so it changes with the sources and is the same for the same ones
+    turn = int(hashlib.sha256(repr(sorted(able.items())).encode()).hexdigest(), 16)
+    names = sorted(able)
+    return set(names) - ({names[turn % len(names)]} if names else set())
