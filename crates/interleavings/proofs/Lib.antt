@@ -1,0 +1,10 @@
+pub mod relation
+pub mod lists
+pub mod sessions
+pub mod servers
+pub mod passing
+pub mod seats
+pub mod steps
+pub mod runs
+pub mod examples
+pub mod ports

@@ -1,0 +1,5 @@
+-- The world that stands for a running chain, at the start and along a run. Begin with `StandsFor` and `Transfer`.
+pub mod StandsFor
+pub mod Opening
+pub mod Transfer
+pub mod Following

@@ -1,0 +1,2 @@
+-- All moves together: `Simulating` is what the law cites with `Following`.
+pub mod Simulating

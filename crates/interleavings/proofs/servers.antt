@@ -1,0 +1,2 @@
+-- Servers alone.
+pub mod CleanReads

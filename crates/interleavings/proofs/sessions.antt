@@ -1,0 +1,3 @@
+-- Sessions alone.
+pub mod Rested
+pub mod OneRequest

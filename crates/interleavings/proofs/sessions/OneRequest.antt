@@ -1,0 +1,118 @@
+-- A session at which no bytes wait gives the call of the one request that comes, and no bytes wait there afterwards.
+use Rattle.std.proofs.Common.{◌≡◌, ℕ, false, List, [], ◌∷◌, ◌++◌, length, drop, cond, None, Some, refl, arith, ap, sym}
+use Rattle.std.proofs.Common.{◌∙◌, subst, append-nil}
+use Rattle.std.proofs.lemmas.List.{drop_all}
+use Rattle.table.specs.declared.operations.Call.{Call}
+use Rattle.proto.specs.declared.requests.Request.{Request}
+use Rattle.proto.specs.declared.requests.Request.TheVariants.{Store, Get, Arith, Delete, Flush, Quit, Bad}
+use Rattle.proto.specs.declared.texts.Form.{Form}
+use Rattle.proto.specs.declared.front.Found.TheVariants.{Request as Requested}
+use Rattle.proto.specs.Fronts.{front, found_at, refused_at, found_of}
+use Rattle.proto.specs.Grammar.{Spells}
+use Rattle.proto.specs.Turns.{Turn, Calls, Faulty, turns_of}
+use Rattle.proto.specs.Sessions.{Held, Given, fed, kept, passed, next_of, by_request, by_found, by_passing, by_later}
+use Rattle.proto.proofs.GrammarLaws.{spelled_is_found}
+use Rattle.world.specs.Connections.{past_faults, behind}
+use Rattle.interleavings.specs.Asked.{IsAsked}
+use Rattle.interleavings.proofs.sessions.Rested.{IsRested}
+
+-- a turn that a session gave, which left it with no bytes waiting
+pub record GivesRested (given : Given) (call : Call) (form : Form) : Type 0 where
+  pub turn : given.0 ≡ Some (Calls call form)
+  pub rested : IsRested given.1
+
+one_turn : (t u : Turn) → ◌≡◌ {A = List Turn} (t ∷ []) (u ∷ []) → t ≡ u
+one_turn t u e = cc
+
+by_one : (request : Request) (call : Call) (form : Form) (h : Held)
+    → IsRested h
+    → turns_of request ≡ Calls call form ∷ []
+    → GivesRested (by_request request h) call form
+by_one (Store key op silent) call form h r e =
+    record {
+      turn = ap Some (one_turn _ _ e);
+      rested = record { unread = r.unread; passing = r.passing; later = r.later; closed = r.closed };
+    }
+by_one (Get [] unique) call form h r e = absurd cc
+by_one (Get (key ∷ []) unique) call form h r e =
+    record {
+      turn = ap Some (one_turn _ _ e);
+      rested = record { unread = r.unread; passing = r.passing; later = refl; closed = r.closed };
+    }
+by_one (Get (key ∷ (other ∷ keys)) unique) call form h r e = absurd cc
+by_one (Arith key op silent) call form h r e =
+    record {
+      turn = ap Some (one_turn _ _ e);
+      rested = record { unread = r.unread; passing = r.passing; later = r.later; closed = r.closed };
+    }
+by_one (Delete key silent) call form h r e =
+    record {
+      turn = ap Some (one_turn _ _ e);
+      rested = record { unread = r.unread; passing = r.passing; later = r.later; closed = r.closed };
+    }
+by_one (Flush silent) call form h r e =
+    record {
+      turn = ap Some (one_turn _ _ e);
+      rested = record { unread = r.unread; passing = r.passing; later = r.later; closed = r.closed };
+    }
+by_one Quit call form h r e = absurd cc
+by_one (Bad fault) call form h r e = absurd (let no : Faulty fault ≡ Calls call form = one_turn _ _ e in cc)
+
+module _ (h : Held) (call : Call) (request : Request) (bytes : List ℕ) (form : Form)
+    (spelled : Spells request bytes) (alone : turns_of request ≡ Calls call form ∷ [])
+    (unread : h.unread ≡ bytes) (passing : h.passing ≡ None) (later : h.later ≡ []) (closed : h.closed ≡ false) where
+  found : found_at h.unread ≡ Requested request (length bytes)
+  found =
+      let at : front bytes ≡ Some (request, length bytes) =
+      subst (λ bs. front bs ≡ Some (request, length bytes)) (append-nil bytes)
+      (spelled_is_found request bytes [] spelled) in
+      ap (λ f. found_of f (refused_at h.unread)) (ap front unread ∙ at)
+
+  by_front : GivesRested (by_found (Requested request (length bytes)) h) call form
+  by_front =
+      by_one request call form (record h { unread = drop (length bytes) h.unread })
+      (record {
+        unread = drop_all (length bytes) h.unread (omega (arith, ap length unread));
+        passing = passing;
+        later = later;
+        closed = closed;
+      })
+      alone
+
+  next_gives : GivesRested (next_of h) call form
+  next_gives =
+      subst (λ b. GivesRested (cond b (None, h) (by_later h.later h)) call form) (sym closed)
+      (subst (λ ls. GivesRested (by_later ls h) call form) (sym later)
+      (subst (λ p. GivesRested (by_passing p h) call form) (sym passing)
+      (subst (λ f. GivesRested (by_found f h) call form) (sym found) by_front)))
+
+behind_call : (g later : Given) (call : Call) (form : Form)
+    → GivesRested g call form
+    → GivesRested (behind g later) call form
+behind_call (None, left) later call form g = absurd (let no = g.turn in cc)
+behind_call (Some (Faulty fault), left) later call form g = absurd (let no = g.turn in cc)
+behind_call (Some (Calls other shape), left) later call form g = g
+
+-- what a rested session takes of such bytes
+fed_rested : (h : Held) (bytes : List ℕ)
+    → IsRested h
+    → ((fed h bytes).unread ≡ bytes) × ((fed h bytes).passing ≡ None) × ((fed h bytes).later ≡ [])
+    × ((fed h bytes).closed ≡ false)
+fed_rested h bytes r =
+    let e : fed h bytes ≡ record h { unread = h.unread ++ kept h.passing bytes; passing = passed h.passing bytes } =
+    ap (λ b. cond b h (record h { unread = h.unread ++ kept h.passing bytes; passing = passed h.passing bytes }))
+    r.closed in (
+      ap (λ (x : Held). x.unread) e ∙ ap (λ u. u ++ kept h.passing bytes) r.unread ∙ ap (λ p. kept p bytes) r.passing,
+      ap (λ (x : Held). x.passing) e ∙ ap (λ p. passed p bytes) r.passing,
+      ap (λ (x : Held). x.later) e ∙ r.later,
+      ap (λ (x : Held). x.closed) e ∙ r.closed,
+    )
+
+-- fed the bytes of one request, it gives that request's call
+pub asks : (h : Held) (call : Call) (a : IsAsked call)
+    → IsRested h
+    → GivesRested (past_faults (fed h a.bytes)) call a.form
+asks h call a r =
+    let f = fed_rested h a.bytes r in
+    behind_call (next_of (fed h a.bytes)) _ call a.form
+    (next_gives (fed h a.bytes) call a.request a.bytes a.form a.spelled a.alone f.0 f.1 f.2 f.3)

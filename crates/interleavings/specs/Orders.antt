@@ -1,0 +1,41 @@
+-- The order of calls in time along a run of moves, and the one order in which a single table would have answered them:
+-- in the words of `world/specs/Orders.antt`.
+use Rattle.std.specs.Prelude.{◌≡◌, ℕ, ◌<◌, List, take, map, Option, None, Some, slice_get, IsSome}
+use Rattle.table.specs.Histories.{IsLegal}
+use Rattle.table.specs.declared.operations.Call.{Call}
+use Rattle.table.specs.declared.operations.Reply.{Reply}
+use Rattle.world.specs.Calls.{CallId}
+use Rattle.world.specs.Orders.{Entry, StandsAt}
+use Rattle.interleavings.specs.Chains.{Chain}
+use Rattle.interleavings.specs.Moves.{Move, moved}
+
+-- the call, once its seat has sent it, or has looked; a call's name is a seat, and a place among its calls
+abbrev pub begun_call : Chain → CallId → Option Call
+begun_call l x = slice_get (l.seats x.connection).calls x.place
+
+-- its reply, once its seat has it
+abbrev pub reply_to : Chain → CallId → Option Reply
+reply_to l x = slice_get (l.seats x.connection).got x.place
+
+-- x precedes y: after some first k moves x is answered, and y isn't begun
+pub record Precedes (count : ℕ) (homes : List ℕ) (moves : List Move) (x y : CallId) : Type 0 where
+  pub k : ℕ
+  pub answered : IsSome (reply_to (moved count homes (take k moves)) x)
+  pub not_begun : begun_call (moved count homes (take k moves)) y ≡ None
+
+-- The order h is a linearization of the run:
+pub record IsLinearization (count : ℕ) (homes : List ℕ) (moves : List Move) (h : List Entry) : Type 0 where
+  -- each reply in it is that of a single table, after all calls before it;
+  pub legal : IsLegal (map (λ e. (e.call, e.reply)) h)
+  -- each entry is a begun call, as it was begun;
+  pub begun : (i : ℕ) (e : Entry) → slice_get h i ≡ Some e → begun_call (moved count homes moves) e.id ≡ Some e.call
+  -- no call stands in it twice;
+  pub once : (i j : ℕ) (x : CallId) → StandsAt h i x → StandsAt h j x → i ≡ j
+  -- each answered call stands in it, with the reply that it got;
+  pub answered : (x : CallId) (reply : Reply) → reply_to (moved count homes moves) x ≡ Some reply
+      → (i : ℕ) × (at : StandsAt h i x) × (at.entry.reply ≡ reply)
+  -- if x precedes y and y is in it, x is in it, at an earlier place.
+  pub in_time : (x y : CallId) (j : ℕ)
+      → Precedes count homes moves x y
+      → StandsAt h j y
+      → (i : ℕ) × (i < j) × StandsAt h i x

@@ -1,0 +1,73 @@
+//! Worked runs: what they come to; and runs that have no order, or forget a call, if a move lacks its rule.
+ghost use Rattle.std.specs.Prelude.{◌≡◌, ℕ, false, List, [], ◌∷◌, ◌++◌, None, Some};
+ghost use Rattle.table.specs.declared.operations.Reply.TheVariants.{Stored, Value};
+ghost use Rattle.world.specs.Orders.{Entry};
+ghost use Rattle.world.specs.WorkedSchedules.{name};
+ghost use Rattle.interleavings.specs.Moves.{Move, Looks, moved, done};
+ghost use Rattle.interleavings.specs.Asked.{AreAsked};
+ghost use Rattle.interleavings.specs.Orders.{begun_call, reply_to, IsLinearization};
+ghost use Rattle.interleavings.specs.OtherMoves.{moved_by, IsLinearizationBy, HasNoOrder};
+ghost use Rattle.interleavings.specs.WrongMoves.{with_older_looks, with_early_puts, with_early_notices};
+ghost use Rattle.interleavings.specs.WrongMoves.{with_lossy_wires};
+ghost use Rattle.interleavings.specs.WorkedRuns.{key, set, item, set_homes, set_moves, left_to_do};
+ghost use Rattle.interleavings.specs.WorkedRuns.{failover_homes, look_while_dirty, failover_moves};
+ghost use Rattle.interleavings.specs.WorkedRuns.{older_homes, before_older_look, early_homes};
+ghost use Rattle.interleavings.specs.WorkedRuns.{before_unpublished_look, told_homes, before_outlived_look};
+ghost use Rattle.interleavings.specs.WorkedRuns.{lossy_moves};
+
+/// A set passes down a chain of two and back, and its client has the reply.
+pub fn set_is_answered()
+    ensures answered { reply_to (moved 2 set_homes set_moves) (name 0 0) ≡ Some Stored }
+    // Clients can ask these calls.
+    ensures asked { AreAsked set_moves }
+{}
+
+/// A look shows nothing of a dirty key; the tail stops, and the head is left as head and tail; then the set is
+/// answered, and a look shows its item.
+pub fn failover_with_looks()
+    ensures dirty { begun_call (moved 2 failover_homes look_while_dirty) (name 1 0) ≡ None }
+    ensures stored { reply_to (moved 2 failover_homes failover_moves) (name 0 0) ≡ Some Stored }
+    ensures shown { reply_to (moved 2 failover_homes failover_moves) (name 1 0) ≡ Some (Value (Some item)) }
+    // Clients can ask these calls.
+    ensures asked { AreAsked failover_moves }
+{}
+
+/// If a look may show an older face than the one that stands, a run has no order.
+pub fn older_look_has_no_order()
+    ensures { HasNoOrder with_older_looks 1 older_homes (before_older_look ++ Looks 1 key ∷ []) }
+{}
+
+/// If what a step puts out may be put before the step is published, a run has no order.
+pub fn early_put_has_no_order()
+    ensures { HasNoOrder with_early_puts 2 early_homes (before_unpublished_look ++ Looks 1 key ∷ []) }
+{}
+
+/// If others may be told that a server has stopped while its face still stands, a run has no order.
+pub fn early_notice_has_no_order()
+    ensures { HasNoOrder with_early_notices 2 told_homes (before_outlived_look ++ Looks 1 key ∷ []) }
+{}
+
+/// If a wire may leave out a message, a call may be forgotten: nothing is left to do in a chain all of whose servers go
+/// on, and the call has no reply.
+pub fn lossy_wire_forgets_a_call()
+    ensures begun { begun_call (moved_by with_lossy_wires 2 set_homes lossy_moves) (name 0 0) ≡ Some set }
+    ensures forgotten { reply_to (moved_by with_lossy_wires 2 set_homes lossy_moves) (name 0 0) ≡ None }
+    ensures first { left_to_do (moved_by with_lossy_wires 2 set_homes lossy_moves) 0 ≡ ([], None, []) }
+    ensures second { left_to_do (moved_by with_lossy_wires 2 set_homes lossy_moves) 1 ≡ ([], None, []) }
+    ensures down { (moved_by with_lossy_wires 2 set_homes lossy_moves).wires 0 1 ≡ [] }
+    ensures back { (moved_by with_lossy_wires 2 set_homes lossy_moves).wires 1 0 ≡ [] }
+    ensures mail { ((moved_by with_lossy_wires 2 set_homes lossy_moves).seats 0).mail ≡ [] }
+    ensures head_goes_on { ((moved_by with_lossy_wires 2 set_homes lossy_moves).servers 0).stopped ≡ false }
+    ensures tail_goes_on { ((moved_by with_lossy_wires 2 set_homes lossy_moves).servers 1).stopped ≡ false }
+{}
+
+/// With what the moves do, `IsLinearizationBy` is the law's `IsLinearization`: so the runs above differ from the law's
+/// by the moves that lack a rule alone.
+pub fn ordinary_moves()
+    ensures order { (count : ℕ) (homes : List ℕ) (moves : List Move) (h : List Entry)
+        → IsLinearizationBy done count homes moves h
+        → IsLinearization count homes moves h }
+    ensures converse { (count : ℕ) (homes : List ℕ) (moves : List Move) (h : List Entry)
+        → IsLinearization count homes moves h
+        → IsLinearizationBy done count homes moves h }
+{}
