@@ -202,6 +202,7 @@ asked words (Tell telling file) fine n = (fine, n)
 asked words (Serve serve) fine n = (fine, n)
 
 program_is_simple : is_simple program_app ≡ true
+unfolding program_app
 program_is_simple = refl
 
 -- what a parse by the program's parser finds

@@ -31,6 +31,7 @@ with_option old new option command rule (p, plain) (q, local) adds = (
 
 -- clap's account of the parser is exact
 pub program_is_free : is_simple_and_free program_app ≡ true
+unfolding program_app
 program_is_free = refl
 
 -- what an error of a parse is for

@@ -25,7 +25,7 @@ named_app =
     record named { top = record named.top { has_version = true; subcommand_required = true } }
 
 -- the program with its commands
-abbrev pub program_app : App
+unfoldable pub program_app : App
 program_app =
     let scenario = with_subcommand named_app (file_app (codes "scenario")).top in
     let trace = with_subcommand scenario (file_app (codes "trace")).top in

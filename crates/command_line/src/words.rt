@@ -1,6 +1,6 @@
 //! The words of a command line, and the command that they spell.
 ghost use Rattle.std.specs.Prelude.{◌≡◌, ℕ, codes, List, [], IfOk, IfErr, IfSome, OnOk, None, map};
-ghost use Rattle.clap.specs.Words.{app_of, fault_of, kind_of, subcommand_of, subcommand_rows_of};
+ghost use Rattle.clap.specs.Words.{app_of, fault_of, kind_of, new_app, subcommand_of, subcommand_rows_of};
 ghost use Rattle.command_line.specs.Words.{IsNamed, IsRefusedFor, IsTaken, NamesFile, file_app, named_app, program_app};
 ghost use Rattle.command_line.specs.declared.commands.Command.{Command as Shown};
 ghost use Rattle.command_line.specs.Options.{ReadsAs};
@@ -167,10 +167,15 @@ fn program_parser<'a>(alloc: Global) -> Parser<'a>
 fn file_parser<'a>(alloc: Global, name: &'a str, about: &'a str) -> Result<Parser<'a>, AllocError>
     ensures { IfOk result (ReadsAs (file_app name.entry.now)) }
 {
-    let command = Parser::new(alloc, name)
-        .about(about)
-        .arg(file_argument(alloc))?;
+    let command = bare_parser(alloc, name, about).arg(file_argument(alloc))?;
     Ok(command)
+}
+
+// The parser of a command without arguments.
+fn bare_parser<'a>(alloc: Global, name: &'a str, about: &'a str) -> Parser<'a>
+    ensures { ReadsAs (new_app name.entry.now) result }
+{
+    Parser::new(alloc, name).about(about)
 }
 
 fn usage_fault(alloc: Global, error: Error) -> UsageFault

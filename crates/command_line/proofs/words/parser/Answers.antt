@@ -1,7 +1,9 @@
+use Rattle.command_line.specs.Words.{program_app}
 use Rattle.command_line.proofs.Parsers.{with_command}
 use Rattle.command_line.proofs.words.parser.Goals as goal
 
 pub returns : goal.returns
+unfolding program_app
 returns c =
     let scenario = with_command _ _ _ _ _ c.program_parser.ensures c.in_ok-scenario.ensures
     c.in_ok-subcommand.ensures in
