@@ -1,10 +1,12 @@
 pub mod relation
 pub mod lists
 pub mod sessions
+pub mod asking
 pub mod servers
 pub mod passing
 pub mod seats
 pub mod steps
 pub mod runs
+pub mod quiet
 pub mod examples
 pub mod ports

@@ -1,7 +1,9 @@
--- Worked runs: answers and a failover; runs that have no order, or forget a call, if a move lacks its rule.
+-- Worked runs: answers, a failover, runs at whose end nothing is left to do; and runs that have no order, or forget a
+-- call, if a move lacks its rule.
 pub mod InTwoParts
 pub mod WorkedLooks
 pub mod AskedCalls
 pub mod MissedSet
 pub mod Answered
 pub mod WithoutRules
+pub mod QuietRuns

@@ -2,7 +2,9 @@ pub mod Chains
 pub mod Moves
 pub mod Asked
 pub mod Orders
+pub mod Quiet
 pub mod OtherMoves
 pub mod WrongMoves
 pub mod WorkedRuns
 pub mod Ports
+pub mod OwnPorts

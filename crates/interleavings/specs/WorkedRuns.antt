@@ -56,6 +56,18 @@ look_while_dirty = set_is_taken ++ Looks 1 key ∷ []
 abbrev pub failover_moves : List Move
 failover_moves = set_is_taken ++ Looks 1 key ∷ (tail_stops ++ Looks 1 key ∷ [])
 
+-- ---- Two servers, a client of the head. The tail commits a set and stops before it has put the acknowledgement. The
+-- ---- head is told, and answers.
+
+-- the tail has the set, and has published the step that commits it
+unfoldable pub set_is_committed : List Move
+set_is_committed =
+    Sends 0 set ∷ Takes 0 (OfSeat 0) ∷ Publishes 0 ∷ Puts 0 1 ∷ Arrives 0 1 ∷ Takes 1 (OfServer 0) ∷ Publishes 1 ∷ []
+
+-- all moves
+abbrev pub cut_moves : List Move
+cut_moves = set_is_committed ++ tail_stops
+
 -- ---- Three runs in which a set is answered, and a look that begins afterwards shows nothing of it. Each needs a move
 -- ---- that lacks its rule (`WrongMoves.antt`).
 

@@ -1,11 +1,16 @@
-//! Laws: whatever order the threads' moves come in, there is one order of calls; and ports are names.
-ghost use Rattle.std.specs.Prelude.{◌≡◌, ℕ, ◌≤◌, List};
+//! Laws: whatever order the threads' moves come in, there is one order of calls, and no call is forgotten; and ports are
+//! names.
+ghost use Rattle.std.specs.Prelude.{◌≡◌, ℕ, ◌^◌, ◌≤◌, ◌<◌, List, length, Some, slice_get};
+ghost use Rattle.table.specs.declared.operations.Call.{Call};
 ghost use Rattle.node.specs.Servers.{ServerState};
 ghost use Rattle.node.specs.Steps.{step};
 ghost use Rattle.node.specs.declared.messages.Input.{Input};
-ghost use Rattle.interleavings.specs.Moves.{Move};
-ghost use Rattle.interleavings.specs.Asked.{AreAsked};
+ghost use Rattle.interleavings.specs.Moves.{Move, moved};
+ghost use Rattle.interleavings.specs.Asked.{AreAsked, IsAsked, IsSpelled};
 ghost use Rattle.interleavings.specs.Orders.{IsLinearization};
+ghost use Rattle.interleavings.specs.Quiet.{IsQuiet, NoneForgotten};
+ghost use Rattle.interleavings.specs.OtherMoves.{IsLinearizationBy};
+ghost use Rattle.interleavings.specs.OwnPorts.{seats_at, port_at, with_own_ports};
 ghost use Rattle.interleavings.specs.Ports.{input_at, renamed, renamed_outcome};
 ghost use Rattle.world.specs.Orders.{Entry};
 
@@ -18,9 +23,44 @@ pub fn every_run_is_linearizable()
         → (h : List Entry) × IsLinearization count homes moves h }
 {}
 
+/// No call is forgotten: if nothing is left to do, each call of a seat whose server goes on has its reply. Fewer than 2^62
+/// moves leave each server a number for the next call.
+pub fn no_call_is_forgotten()
+    ensures { (count : ℕ) (homes : List ℕ) (moves : List Move)
+        → count ≤ 16
+        → length moves < 2 ^ 62
+        → AreAsked moves
+        → IsQuiet (moved count homes moves)
+        → NoneForgotten (moved count homes moves) }
+{}
+
 /// Ports are names: a step of a server whose ports are given other names, at an input whose port is, is the step with
 /// its ports renamed, in what the server holds and in what it puts out.
 pub fn ports_are_names()
     ensures { (f : ℕ → ℕ) (s : ServerState) (input : Input)
         → step (renamed f s) (input_at f input) ≡ renamed_outcome f (step s input) }
+{}
+
+/// Seats may be numbered by each server for itself: every run of moves in which a seat's calls have the port that it has
+/// among the seats of its server, has an order of its calls.
+pub fn seats_may_have_own_ports()
+    ensures order { (count : ℕ) (homes : List ℕ) (moves : List Move)
+        → count ≤ 16
+        → AreAsked moves
+        → (h : List Entry) × IsLinearizationBy (with_own_ports homes) count homes moves h }
+    // A server and a port name one seat.
+    ensures apart { (homes : List ℕ) (c d i : ℕ)
+        → slice_get homes c ≡ Some i
+        → slice_get homes d ≡ Some i
+        → port_at homes c i ≡ port_at homes d i
+        → c ≡ d }
+    // The ports of a server are the numbers below the number of its seats.
+    ensures from_zero { (homes : List ℕ) (c i : ℕ)
+        → slice_get homes c ≡ Some i
+        → port_at homes c i < seats_at homes i }
+{}
+
+/// Each call that clients can ask is spelled by some bytes, as the one call of a request.
+pub fn asked_calls_are_spelled()
+    ensures { (call : Call) → IsAsked call → IsSpelled call }
 {}

@@ -4,4 +4,7 @@
 mod laws;
 pub mod worked;
 
-pub use laws::{every_run_is_linearizable, ports_are_names};
+pub use laws::{
+    asked_calls_are_spelled, every_run_is_linearizable, no_call_is_forgotten, ports_are_names,
+    seats_may_have_own_ports,
+};

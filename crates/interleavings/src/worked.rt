@@ -1,11 +1,14 @@
 //! Worked runs: what they come to; and runs that have no order, or forget a call, if a move lacks its rule.
 ghost use Rattle.std.specs.Prelude.{◌≡◌, ℕ, false, List, [], ◌∷◌, ◌++◌, None, Some};
 ghost use Rattle.table.specs.declared.operations.Reply.TheVariants.{Stored, Value};
+ghost use Rattle.node.specs.declared.messages.Body.TheVariants.{Ack};
 ghost use Rattle.world.specs.Orders.{Entry};
 ghost use Rattle.world.specs.WorkedSchedules.{name};
+ghost use Rattle.interleavings.specs.Chains.{messages_to};
 ghost use Rattle.interleavings.specs.Moves.{Move, Looks, moved, done};
 ghost use Rattle.interleavings.specs.Asked.{AreAsked};
 ghost use Rattle.interleavings.specs.Orders.{begun_call, reply_to, IsLinearization};
+ghost use Rattle.interleavings.specs.Quiet.{IsQuiet};
 ghost use Rattle.interleavings.specs.OtherMoves.{moved_by, IsLinearizationBy, HasNoOrder};
 ghost use Rattle.interleavings.specs.WrongMoves.{with_older_looks, with_early_puts, with_early_notices};
 ghost use Rattle.interleavings.specs.WrongMoves.{with_lossy_wires};
@@ -13,11 +16,12 @@ ghost use Rattle.interleavings.specs.WorkedRuns.{key, set, item, set_homes, set_
 ghost use Rattle.interleavings.specs.WorkedRuns.{failover_homes, look_while_dirty, failover_moves};
 ghost use Rattle.interleavings.specs.WorkedRuns.{older_homes, before_older_look, early_homes};
 ghost use Rattle.interleavings.specs.WorkedRuns.{before_unpublished_look, told_homes, before_outlived_look};
-ghost use Rattle.interleavings.specs.WorkedRuns.{lossy_moves};
+ghost use Rattle.interleavings.specs.WorkedRuns.{cut_moves, lossy_moves};
 
 /// A set passes down a chain of two and back, and its client has the reply.
 pub fn set_is_answered()
     ensures answered { reply_to (moved 2 set_homes set_moves) (name 0 0) ≡ Some Stored }
+    ensures quiet { IsQuiet (moved 2 set_homes set_moves) }
     // Clients can ask these calls.
     ensures asked { AreAsked set_moves }
 {}
@@ -28,8 +32,20 @@ pub fn failover_with_looks()
     ensures dirty { begun_call (moved 2 failover_homes look_while_dirty) (name 1 0) ≡ None }
     ensures stored { reply_to (moved 2 failover_homes failover_moves) (name 0 0) ≡ Some Stored }
     ensures shown { reply_to (moved 2 failover_homes failover_moves) (name 1 0) ≡ Some (Value (Some item)) }
+    ensures quiet { IsQuiet (moved 2 failover_homes failover_moves) }
     // Clients can ask these calls.
     ensures asked { AreAsked failover_moves }
+{}
+
+/// The tail commits a set and stops before it has put the acknowledgement. The head is told, and answers; then nothing is
+/// left to do, though what the tail had left to put was never put.
+pub fn stopped_before_put()
+    ensures left { messages_to 0 ((moved 2 set_homes cut_moves).servers 1).outbox
+        ≡ record { view = 0; body = Ack 1 } ∷ [] }
+    ensures stored { reply_to (moved 2 set_homes cut_moves) (name 0 0) ≡ Some Stored }
+    ensures quiet { IsQuiet (moved 2 set_homes cut_moves) }
+    // Clients can ask these calls.
+    ensures asked { AreAsked cut_moves }
 {}
 
 /// If a look may show an older face than the one that stands, a run has no order.
@@ -52,6 +68,7 @@ pub fn early_notice_has_no_order()
 pub fn lossy_wire_forgets_a_call()
     ensures begun { begun_call (moved_by with_lossy_wires 2 set_homes lossy_moves) (name 0 0) ≡ Some set }
     ensures forgotten { reply_to (moved_by with_lossy_wires 2 set_homes lossy_moves) (name 0 0) ≡ None }
+    ensures quiet { IsQuiet (moved_by with_lossy_wires 2 set_homes lossy_moves) }
     ensures first { left_to_do (moved_by with_lossy_wires 2 set_homes lossy_moves) 0 ≡ ([], None, []) }
     ensures second { left_to_do (moved_by with_lossy_wires 2 set_homes lossy_moves) 1 ≡ ([], None, []) }
     ensures down { (moved_by with_lossy_wires 2 set_homes lossy_moves).wires 0 1 ≡ [] }

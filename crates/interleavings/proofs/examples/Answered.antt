@@ -82,7 +82,8 @@ shows_item = look-face_of left_alone key lawful_alone.sound ∙ clean_there
 abbrev first : Chain
 first = moved 2 failover_homes set_is_taken
 
-abbrev second : Chain
+-- behind the notice
+abbrev pub second : Chain
 second = moved_from first tail_stops
 
 first_seat : first.seats 1 ≡ opening_seat 0
@@ -100,7 +101,8 @@ unfolding set_is_taken with_at has union single is_below adds next_from predeces
     left_open replies risen passed_on take_update
 first_node = refl
 
-second_served : second.seats ≡ served_seats 2 failover_homes 0
+-- the set is answered there
+pub second_served : second.seats ≡ served_seats 2 failover_homes 0
 unfolding set_is_taken tail_stops with_at has union single is_below adds next_from predecessor most appended entered
     widened taken_all sent_again forwarded replies_to trimmed left_open replies risen passed_on take_update
     promoted_to_head promoted_to_tail caught_up acked_to_predecessor asks_renewed
@@ -123,7 +125,7 @@ dirty_look : done first (Looks 1 key) ≡ first
 dirty_look = look_passes first 0 taken_set first_seat first_goes_on first_node shows_dirty
 
 -- the look behind the failover shows the item
-last_is : moved 2 failover_homes failover_moves ≡ with_seat second 1 (looked_seat 0 (Some item))
+pub last_is : moved 2 failover_homes failover_moves ≡ with_seat second 1 (looked_seat 0 (Some item))
 last_is =
     moved_from-append (opening_chain 2 failover_homes) set_is_taken (Looks 1 key ∷ (tail_stops ++ Looks 1 key ∷ []))
     ∙ ap (λ l. moved_from l (tail_stops ++ Looks 1 key ∷ [])) dirty_look

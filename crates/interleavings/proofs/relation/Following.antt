@@ -1,6 +1,6 @@
 -- If each single move has its events, each run has the schedules that follow it; and so an order of its calls.
-use Rattle.std.proofs.Common.{◌≡◌, ℕ, zero, suc, ◌≤◌, List, [], ◌∷◌, ◌++◌, length, take, Option, None, Some, refl}
-use Rattle.std.proofs.Common.{arith, ap, sym, ◌∙◌, append-nil, append_assoc}
+use Rattle.std.proofs.Common.{◌≡◌, ℕ, zero, suc, ◌*◌, ◌≤◌, List, [], ◌∷◌, ◌++◌, length, take, Option, None, Some, refl}
+use Rattle.std.proofs.Common.{arith, ap, sym, ◌∙◌, append-nil, append_assoc, subst, length-append}
 use Rattle.std.specs.Prelude.{slice_get}
 use Rattle.table.specs.declared.operations.Call.{Call}
 use Rattle.table.specs.declared.operations.Reply.{Reply}
@@ -43,12 +43,12 @@ sees l w h = record {
 
 -- ---- runs
 
--- the events of each move
+-- the events of each move, four at most
 abbrev pub Simulates : ℕ → List ℕ → Type 0
 Simulates count homes = (es : List Event) (l : Chain) (m : Move)
     → StandsFor l (run_of count homes es)
     → IsAskedBy m
-    → (fs : List Event) × StandsFor (done l m) (run_of count homes (es ++ fs))
+    → (fs : List Event) × (length fs ≤ 4) × StandsFor (done l m) (run_of count homes (es ++ fs))
 
 module _ (count : ℕ) (homes : List ℕ) where
   record Behind (l : Chain) (es : List Event) (moves : List Move) : Type 0 where
@@ -91,7 +91,7 @@ module _ (count : ℕ) (homes : List ℕ) where
       nothing_left (suc k) = h
   behind sim (m ∷ ms) l es h asked =
       let one = sim es l m h asked.0 in
-      let rest = behind sim ms (done l m) (es ++ one.0) one.1 asked.1 in
+      let rest = behind sim ms (done l m) (es ++ one.0) one.2 asked.1 in
       record {
         at = first_then es rest.at;
         first = refl;
@@ -120,3 +120,21 @@ module _ (count : ℕ) (homes : List ℕ) where
       } in
       let o = one_order count homes (b.at (length moves)) few in
       (o.0, transfer count homes moves f o.0 o.1)
+
+  -- and there are at most four events a move
+  pub follows : Simulates count homes
+      → (moves : List Move) (l : Chain) (es : List Event)
+      → StandsFor l (run_of count homes es)
+      → AreAsked moves
+      → (fs : List Event) × (length fs ≤ length moves * 4)
+      × StandsFor (moved_from l moves) (run_of count homes (es ++ fs))
+  follows sim [] l es h asked =
+      ([], omega arith, subst (λ xs. StandsFor l (run_of count homes xs)) (sym (append-nil es)) h)
+  follows sim (m ∷ ms) l es h asked =
+      let one = sim es l m h asked.0 in
+      let rest = follows sim ms (done l m) (es ++ one.0) one.2 asked.1 in (
+        one.0 ++ rest.0,
+        omega (arith, one.1, rest.1, length-append one.0 rest.0),
+        subst (λ xs. StandsFor (moved_from (done l m) ms) (run_of count homes xs)) (append_assoc es one.0 rest.0)
+            rest.2,
+      )

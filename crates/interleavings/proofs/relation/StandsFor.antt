@@ -1,5 +1,5 @@
 -- The world that stands for a running chain: what of the chain each of its parts is.
-use Rattle.std.proofs.Common.{◌≡◌, ℕ, ◌<◌, ◌+◌, true, false, List, [], ◌∷◌, ◌++◌, length, Option, None, Some, ap, ◌∙◌}
+use Rattle.std.proofs.Common.{◌≡◌, ℕ, ◌<◌, ◌≤◌, ◌+◌, true, false, List, [], ◌∷◌, ◌++◌, length, Option, None, Some, ap, ◌∙◌}
 use Rattle.std.specs.Prelude.{slice_get, not, ◌==◌, if◌then◌else◌}
 use Rattle.table.specs.declared.operations.Call.{Call}
 use Rattle.table.specs.declared.operations.Reply.{Reply}
@@ -86,9 +86,9 @@ pub record StandsFor (l : Chain) (w : World) : Type 0 where
       → (j < l.count) × ((l.servers j).stopped ≡ true)
   pub seats : (c : ℕ) → Sits l w (slice_get w.connections c) (l.seats c)
 
--- some events make of the world what stands for this chain
+-- some events, four at most, make of the world what stands for this chain
 abbrev pub Reaches : World → Chain → Type 0
-Reaches w l = (events : List Event) × StandsFor l (run_from w events)
+Reaches w l = (events : List Event) × (length events ≤ 4) × StandsFor l (run_from w events)
 
 -- a server that goes on lives
 pub lives_on : (l : Chain) (w : World) (i : ℕ) → StandsFor l w → (l.servers i).stopped ≡ false → lives w i ≡ true

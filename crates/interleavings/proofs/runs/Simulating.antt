@@ -10,6 +10,7 @@ use Rattle.node.specs.declared.messages.Input.{Input}
 use Rattle.node.specs.declared.messages.Input.TheVariants.{Call as Called, From, Gone}
 use Rattle.node.specs.Lawful.{IsLawful}
 use Rattle.node.specs.Steps.{step}
+use Rattle.node.specs.Views.{has}
 use Rattle.world.specs.declared.events.Event.{Event}
 use Rattle.world.specs.declared.events.Event.TheVariants.{Work, Deliver, Tell}
 use Rattle.world.specs.Awaited.{AreAwaited}
@@ -25,7 +26,8 @@ use Rattle.world.proofs.trace.Traces.{Traced}
 use Rattle.interleavings.specs.Asked.{IsAskedBy}
 use Rattle.interleavings.specs.Chains.{Chain}
 use Rattle.interleavings.specs.Moves.{Move, Sends, Takes, Publishes, Puts, Arrives, Replies, Receives, Looks, Stops}
-use Rattle.interleavings.specs.Moves.{Notices, published, publishing, done}
+use Rattle.interleavings.specs.Moves.{Notices, published, publishing, read_of, done}
+use Rattle.interleavings.proofs.asking.Spelling.{is_spelled}
 use Rattle.interleavings.proofs.passing.Alike.{IsAlike, alike_itself, alike_stands}
 use Rattle.interleavings.proofs.relation.StandsFor.{Reaches, StandsFor, lives_on}
 use Rattle.interleavings.proofs.relation.Following.{Simulates}
@@ -45,6 +47,7 @@ use Rattle.interleavings.proofs.passing.Taking.{takes_stands}
 -- what `world` has proved of each schedule's world
 pub record Known (w : World) : Type 0 where
   pub lawful : (i : ℕ) → i < length w.servers → IsLawful (server w i)
+  pub named : (i k : ℕ) → i < length w.servers → has (server w i).view k ≡ true → has w.failed k ≡ true
   pub joined : (i j : ℕ) → lives w i ≡ true → lives w j ≡ true → HasLink w i j
   pub carried : (i j : ℕ) (m : Peer) (ms : List Peer) → link w i j ≡ m ∷ ms → HasLink w i j
   pub works : (c : ℕ) (k : Connection) (call : Call) → slice_get w.connections c ≡ Some k → lives w k.home ≡ true
@@ -73,12 +76,16 @@ module _ (n : ℕ) (homes : List ℕ) (events : List Event) (few : n ≤ 16) whe
   abbrev Lawfuls : World → Type 0
   Lawfuls w = (i : ℕ) → i < length w.servers → IsLawful (server w i)
 
+  abbrev Named : World → Type 0
+  Named w = (i k : ℕ) → i < length w.servers → has (server w i).view k ≡ true → has w.failed k ≡ true
+
   -- all of it holds of each schedule's world
   pub known : Known (run_of n homes events)
   known =
       let framed = ((all n homes events few).lawful (length events)).framed in
       record {
         lawful = subst Lawfuls world ((all n homes events few).all (length events));
+        named = subst Named world framed.known;
         joined = subst Linked world (λ i j a b.
             has_link last framed i j (living_parts last.world i a).0 (living_parts last.world j b).0);
         carried = subst Carried world (λ i j m ms e.
@@ -98,6 +105,7 @@ turn_reaches : (l : Chain) (w : World) (i : ℕ) (input : Input)
     → Reaches w (done l (Publishes i))
 turn_reaches l w i (Called c call) f h going turn = (
   Work c ∷ [],
+  omega arith,
   publishes_call l w i (Called c call) h going turn c call refl
       (λ y e. f.joined i y (lives_on l w i h going) e)
       (λ k here home work. subst (λ x. AreAwaited (with_connection w c asked).connections x
@@ -108,12 +116,14 @@ turn_reaches l w i (From j m) f h going turn =
     let first = h.links j i going ∙ way_first l w i (From j m) h going turn j m refl in
     let alive = lives_on l w i h going in (
       Deliver j i ∷ [],
+      omega arith,
       publishes_message l w i (From j m) h going turn j m refl (f.carried j i m _ first)
           (λ y e. f.joined i y alive e) (f.delivers j i m _ first alive),
     )
 turn_reaches l w i (Gone j) f h going turn =
     let alive = lives_on l w i h going in (
       Tell i j ∷ [],
+      omega arith,
       publishes_notice l w i (Gone j) h going turn j refl (λ y e. f.joined i y alive e)
           (f.tells i j alive (named_failed l w i (Gone j) h going turn j refl)),
     )
@@ -124,6 +134,7 @@ still : (l : Chain) (w : World) (i : ℕ)
     → Reaches w (done l (Publishes i))
 still l w i h same = (
   [],
+  omega arith,
   alike_stands l w i (publishing (l.servers i)) h
       (subst (λ s. IsAlike (l.servers i) s) (sym same) (alike_itself (l.servers i))),
 )
@@ -155,19 +166,19 @@ lawful_nodes l w f h i going = subst IsLawful (h.servers i going)
     (f.lawful i (living_parts w i (h.lives i ∙ ap not going)).0)
 
 reaches : (l : Chain) (w : World) (m : Move) → Known w → StandsFor l w → IsAskedBy m → Reaches w (done l m)
-reaches l w (Sends c call) f h a = sends_reach l w c call a h
-reaches l w (Takes i sender) f h a = ([], takes_stands l w i sender h)
+reaches l w (Sends c call) f h a = sends_reach l w c call (is_spelled call a) h
+reaches l w (Takes i sender) f h a = ([], omega arith, takes_stands l w i sender h)
 reaches l w (Publishes i) f h a = publishes_reach l w i f h
-reaches l w (Puts i j) f h a = ([], puts_stands l w i j h)
-reaches l w (Arrives i j) f h a = ([], arrives_stands l w i j h)
+reaches l w (Puts i j) f h a = ([], omega arith, puts_stands l w i j h)
+reaches l w (Arrives i j) f h a = ([], omega arith, arrives_stands l w i j h)
 reaches l w (Replies i c) f h a = replies_reach l w i c h
-reaches l w (Receives c) f h a = ([], receives_stands l w c h)
-reaches l w (Looks c key) f h a = looks_reach l w c key a h (lawful_nodes l w f h)
+reaches l w (Receives c) f h a = ([], omega arith, receives_stands l w c h)
+reaches l w (Looks c key) f h a = looks_reach l w c key (is_spelled (read_of key) a) h (lawful_nodes l w f h)
 reaches l w (Stops i) f h a = stops_reach l w i h
-reaches l w (Notices i j) f h a = ([], notices_stands l w i j h)
+reaches l w (Notices i j) f h a = ([], omega arith, notices_stands l w i j h)
 
 -- each move has its events
 pub simulates : (count : ℕ) (homes : List ℕ) → count ≤ 16 → Simulates count homes
 simulates count homes few es l m h a =
     let r = reaches l (run_of count homes es) m (known count homes es few) h a in
-    (r.0, subst (λ w. StandsFor (done l m) w) (sym (run-append es r.0 (opening_world count homes))) r.1)
+    (r.0, r.1, subst (λ w. StandsFor (done l m) w) (sym (run-append es r.0 (opening_world count homes))) r.2)

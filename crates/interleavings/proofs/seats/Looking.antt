@@ -22,7 +22,7 @@ use Rattle.world.specs.Waiting.{waiting_reply}
 use Rattle.world.specs.Worlds.{World, server, lives, with_connection, put_all, acted, sent_in, worked, where_home_lives}
 use Rattle.world.specs.Worlds.{happens}
 use Rattle.world.proofs.moments.WholeSteps.{set_same}
-use Rattle.interleavings.specs.Asked.{IsAsked}
+use Rattle.interleavings.specs.Asked.{IsSpelled}
 use Rattle.interleavings.specs.Chains.{Seat, Chain, with_seat}
 use Rattle.interleavings.specs.Moves.{Looks, is_free, read_of, looked, done}
 use Rattle.interleavings.proofs.relation.StandsFor.{IsSeat, Reaches, Sits, StandsFor, call_at, listed, reply_at}
@@ -44,7 +44,7 @@ nothing_more : (xs : List Reply) (n : ℕ) → n ≡ n + length xs → xs ≡ []
 nothing_more [] n e = refl
 nothing_more (x ∷ xs) n e = absurd (omega arith)
 
-module _ (l : Chain) (w : World) (c : ℕ) (key : List ℕ) (item : Option Item) (a : IsAsked (read_of key))
+module _ (l : Chain) (w : World) (c : ℕ) (key : List ℕ) (item : Option Item) (a : IsSpelled (read_of key))
     (h : StandsFor l w)
     (free : is_free (l.seats c) ≡ true) (going : (l.servers (l.seats c).home).stopped ≡ false) (k : Connection)
     (here : slice_get w.connections c ≡ Some k) (g : IsSeat w k (l.seats c))
@@ -177,6 +177,7 @@ module _ (l : Chain) (w : World) (c : ℕ) (key : List ℕ) (item : Option Item)
       let all =
       one_seat l w (happens t (Hand c)) c i k last (l.servers i) new h here g.home g.home whole waits sits in (
         Piece c a.bytes ∷ (Begin c ∷ (Work c ∷ (Hand c ∷ []))),
+        omega arith,
         subst (λ x. StandsFor (with_seat l c new) (happens x (Hand c))) (sym work_is)
             (subst (λ f. StandsFor (with_seat (record l { servers = f }) c new) (happens t (Hand c)))
             (at_self l.servers i) all),
@@ -185,7 +186,7 @@ module _ (l : Chain) (w : World) (c : ℕ) (key : List ℕ) (item : Option Item)
 -- ---- the move
 
 looks_by : (l : Chain) (w : World) (c : ℕ) (key : List ℕ)
-    → IsAsked (read_of key)
+    → IsSpelled (read_of key)
     → StandsFor l w
     → is_free (l.seats c) ≡ true
     → (l.servers (l.seats c).home).stopped ≡ false
@@ -195,7 +196,7 @@ looks_by : (l : Chain) (w : World) (c : ℕ) (key : List ℕ)
     → (look : Look Item)
     → look_at (face_of (l.servers (l.seats c).home).node) key ≡ look
     → Reaches w (looked l c (l.seats c) key look)
-looks_by l w c key a h free going lawful o here Dirty shown = ([], h)
+looks_by l w c key a h free going lawful o here Dirty shown = ([], omega arith, h)
 looks_by l w c key a h free going lawful None here (Clean item) shown =
     absurd (both_ways _ going (away_stopped l w (l.seats c) _ here (h.seats c)))
 looks_by l w c key a h free going lawful (Some k) here (Clean item) shown =
@@ -203,7 +204,7 @@ looks_by l w c key a h free going lawful (Some k) here (Clean item) shown =
 
 -- a look is a piece, a begin, a work and a hand, or nothing
 pub looks_reach : (l : Chain) (w : World) (c : ℕ) (key : List ℕ)
-    → IsAsked (read_of key)
+    → IsSpelled (read_of key)
     → StandsFor l w
     → ((i : ℕ) → (l.servers i).stopped ≡ false → IsLawful (l.servers i).node)
     → Reaches w (done l (Looks c key))
@@ -216,4 +217,4 @@ looks_reach l w c key a h lawful =
     let going = not-true _ p.1 in
     looks_by l w c key a h p.0 going (lawful i going) (slice_get w.connections c) refl
     (look_at (face_of (l.servers i).node) key) refl)
-    (λ other. ([], h))
+    (λ other. ([], omega arith, h))

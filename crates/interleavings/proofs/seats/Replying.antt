@@ -107,7 +107,7 @@ module _ (l : Chain) (w : World) (i c : ℕ) (h : StandsFor l w) (going : (l.ser
   by_replies : (rs : List Reply)
       → replies_to c (l.servers i).outbox ≡ rs
       → Reaches w (mailed l i c (l.seats c) rs)
-  by_replies [] first = ([], h)
+  by_replies [] first = ([], omega arith, h)
   by_replies (reply ∷ more) first =
       let f = has c i reply more (slice_get w.connections c) (sym (h.replies i c going) ∙ first) in
       let k = f.0.connection in
@@ -118,6 +118,7 @@ module _ (l : Chain) (w : World) (i c : ℕ) (h : StandsFor l w) (going : (l.ser
       (reconnects w c (where_home_lives w (λ x. handed x.stage x)) k f.0.here) in
       let seat : IsSeat w k (l.seats c) = subst (λ o. Sits l w o (l.seats c)) f.0.here (h.seats c) in (
         Hand c ∷ [],
+        omega arith,
         one_seat l w v c i k (handed (Replied reply) k) without
             (record (l.seats c) { mail = (l.seats c).mail ++ reply ∷ [] }) h f.0.here f.0.home f.0.home r
             (waits reply more k first f.1 f.0.here f.0.stage) (sits reply k (l.seats c) v r.lives f.0.stage seat),
@@ -127,4 +128,4 @@ module _ (l : Chain) (w : World) (i c : ℕ) (h : StandsFor l w) (going : (l.ser
 pub replies_reach : (l : Chain) (w : World) (i c : ℕ) → StandsFor l w → Reaches w (done l (Replies i c))
 replies_reach l w i c h =
     cond_both (l.servers i).stopped l (mailed l i c (l.seats c) (replies_to c (l.servers i).outbox)) (λ m. Reaches w m)
-    (λ t. ([], h)) (λ going. by_replies l w i c h going (replies_to c (l.servers i).outbox) refl)
+    (λ t. ([], omega arith, h)) (λ going. by_replies l w i c h going (replies_to c (l.servers i).outbox) refl)

@@ -16,7 +16,7 @@ use Rattle.world.specs.declared.events.Event.TheVariants.{Piece, Begin}
 use Rattle.world.specs.Connections.{Connection, came, past_faults, begun_by, begun, open_call, to_work}
 use Rattle.world.specs.Waiting.{waiting_reply}
 use Rattle.world.specs.Worlds.{World, lives, where_home_lives, happens}
-use Rattle.interleavings.specs.Asked.{IsAsked}
+use Rattle.interleavings.specs.Asked.{IsSpelled}
 use Rattle.interleavings.specs.Chains.{RunningServer, Seat, Chain, with_at, with_running, with_seat, messages_from}
 use Rattle.interleavings.specs.Chains.{messages_to, calls_from, replies_to}
 use Rattle.interleavings.specs.Moves.{Sends, is_free, brought, sent, done}
@@ -69,7 +69,7 @@ begun_gives (Some (Calls other shape), left) k call form e =
     let same : other ≡ call = cc in
     ap (λ x. record k { session = left; calls = k.calls ++ x ∷ []; stage = Begun }) same
 
-module _ (w : World) (c : ℕ) (call : Call) (a : IsAsked call) (k : Connection)
+module _ (w : World) (c : ℕ) (call : Call) (a : IsSpelled call) (k : Connection)
     (here : slice_get w.connections c ≡ Some k)
     (living : lives w k.home ≡ true) (stage : k.stage ≡ Idle) (rested : IsRested k.session) where
   -- the connection that has begun the call
@@ -105,7 +105,7 @@ module _ (w : World) (c : ℕ) (call : Call) (a : IsAsked call) (k : Connection)
 
 -- ---- the move, to a server that goes on
 
-module _ (l : Chain) (w : World) (c : ℕ) (call : Call) (a : IsAsked call) (h : StandsFor l w)
+module _ (l : Chain) (w : World) (c : ℕ) (call : Call) (a : IsSpelled call) (h : StandsFor l w)
     (free : is_free (l.seats c) ≡ true) (going : (l.servers (l.seats c).home).stopped ≡ false) (k : Connection)
     (here : slice_get w.connections c ≡ Some k) (g : IsSeat w k (l.seats c)) where
   abbrev i : ℕ
@@ -182,6 +182,7 @@ module _ (l : Chain) (w : World) (c : ℕ) (call : Call) (a : IsAsked call) (h :
       let all = one_seat l w v c i k k' full s' h here g.home g.home
       (begins_call w c call a k here seat_lives at_idle (g.rested seat_lives)) waits (sits v) in (
         Piece c a.bytes ∷ (Begin c ∷ []),
+        omega arith,
         subst (λ b. StandsFor (cond b (with_seat (with_running l i full) c s') l) v)
             (sym free) all,
       )
@@ -254,7 +255,7 @@ away_stopped l w s None e g = g.stopped
 away_stopped l w s (Some k) e g = absurd cc
 
 sends_by : (l : Chain) (w : World) (c : ℕ) (call : Call)
-    → IsAsked call
+    → IsSpelled call
     → StandsFor l w
     → (o : Option Connection)
     → slice_get w.connections c ≡ o
@@ -274,14 +275,15 @@ full_chain l c call =
 
 -- a send is a piece and a begin, or nothing
 pub sends_reach : (l : Chain) (w : World) (c : ℕ) (call : Call)
-    → IsAsked call
+    → IsSpelled call
     → StandsFor l w
     → Reaches w (done l (Sends c call))
 sends_reach l w c call a h = elim (cases_Bool (is_free (l.seats c))) [
-  | inr busy ↦ ([], subst (λ b. StandsFor (cond b (full_chain l c call) l) w) (sym busy) h)
+  | inr busy ↦ ([], omega arith, subst (λ b. StandsFor (cond b (full_chain l c call) l) w) (sym busy) h)
   | inl free ↦ elim (cases_Bool (l.servers (l.seats c).home).stopped) [
     | inl over ↦ (
       [],
+      omega arith,
       subst (λ b. StandsFor (cond b (full_chain l c call) l) w) (sym free)
           (sent_passes l w c call h over),
     )

@@ -13,7 +13,7 @@ use Rattle.proto.specs.Turns.{Turn, Calls, Faulty, turns_of}
 use Rattle.proto.specs.Sessions.{Held, Given, fed, kept, passed, next_of, by_request, by_found, by_passing, by_later}
 use Rattle.proto.proofs.GrammarLaws.{spelled_is_found}
 use Rattle.world.specs.Connections.{past_faults, behind}
-use Rattle.interleavings.specs.Asked.{IsAsked}
+use Rattle.interleavings.specs.Asked.{IsSpelled}
 use Rattle.interleavings.proofs.sessions.Rested.{IsRested}
 
 -- a turn that a session gave, which left it with no bytes waiting
@@ -109,7 +109,7 @@ fed_rested h bytes r =
     )
 
 -- fed the bytes of one request, it gives that request's call
-pub asks : (h : Held) (call : Call) (a : IsAsked call)
+pub asks : (h : Held) (call : Call) (a : IsSpelled call)
     → IsRested h
     → GivesRested (past_faults (fed h a.bytes)) call a.form
 asks h call a r =

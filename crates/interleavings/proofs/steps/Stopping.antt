@@ -1,6 +1,6 @@
 -- A server that stops fails.
 use Rattle.std.proofs.Common.{◌≡◌, ◌≢◌, ℕ, Bool, true, false, cond, [], ◌∷◌, ◌++◌, length, Option, None, Some, refl, ap}
-use Rattle.std.proofs.Common.{sym, ◌∙◌, subst, inl, inr}
+use Rattle.std.proofs.Common.{sym, ◌∙◌, subst, inl, inr, arith}
 use Rattle.std.specs.Prelude.{not, ◌&&◌, ◌||◌, nat_lt}
 use Rattle.std.proofs.lemmas.Bool.{cases_eq, cases_Bool, both_ways, not-true, or_right, and_right, not_from_true}
 use Rattle.node.specs.declared.messages.Input.TheVariants.{Gone}
@@ -109,13 +109,14 @@ module _ (l : Chain) (w : World) (i : ℕ) (h : StandsFor l w) (going : (l.serve
   stops_going : Reaches w (done l (Stops i))
   stops_going =
       let living : lives w i ≡ true = h.lives i ∙ ap not going in
-      (Fail i ∷ [], subst (λ v. StandsFor after v) (sym (ap (λ b. cond b less w) living)) stopped_stands)
+      (Fail i ∷ [], omega arith, subst (λ v. StandsFor after v) (sym (ap (λ b. cond b less w) living)) stopped_stands)
 
 -- a stop is a fail, or nothing
 pub stops_reach : (l : Chain) (w : World) (i : ℕ) → StandsFor l w → Reaches w (done l (Stops i))
 stops_reach l w i h = elim (cases_Bool (l.servers i).stopped) [
   | inl t ↦ (
     [],
+    omega arith,
     alike_stands l w i (record (l.servers i) { stopped = true }) h
         (record { node = refl; stopped = sym t; queue_is = refl; outbox = refl }),
   )

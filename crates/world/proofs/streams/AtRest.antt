@@ -1,5 +1,5 @@
--- Where nothing is on its way to living servers and each knows who failed, all have the same log, and have acknowledged
--- all of it.
+-- Where nothing is on its way between living servers and each knows who failed, all have the same log, and have
+-- acknowledged all of it.
 use Rattle.std.proofs.Common.{◌≡◌, ◌==◌, ◌||◌, Bool, not, ℕ, zero, suc, ◌+◌, ◌<◌, ◌≤◌, true, false, List, [], ◌∷◌}
 use Rattle.std.proofs.Common.{length, Option, Some, None, refl, sym, ap, ◌∙◌, arith, inl, inr}
 use Rattle.std.specs.Prelude.{slice_get}
@@ -20,10 +20,11 @@ use Rattle.world.proofs.trace.IdLaws.{living_from}
 use Rattle.world.proofs.streams.Streaming.{numbers, IsRun, IsTold, Streaming}
 use Rattle.world.proofs.streams.StreamSteps.{last_is, next_in}
 
--- no message is on its way to a living server, and each knows exactly who failed
+-- no message is on its way between living servers, and each knows exactly who failed; what failed servers have sent
+-- may still lie on their links
 pub record IsAtRest (w : World) : Type 0 where
-  pub links : (i j : ℕ) → i < length w.servers → lives w j ≡ true → link w i j ≡ []
-  pub views : (j : ℕ) → lives w j ≡ true → (server w j).view ≡ w.failed
+  pub links : (i j : ℕ) → lives w i ≡ true → lives w j ≡ true → link w i j ≡ []
+  pub views : (j k : ℕ) → lives w j ≡ true → k < length w.servers → has (server w j).view k ≡ has w.failed k
 
 below_all : (n : ℕ) (test : ℕ → Bool) → all_below n test ≡ true → (k : ℕ) → k < n → test k ≡ true
 below_all zero test h k l = absurd (omega arith)
@@ -54,9 +55,10 @@ quiet_server w h j a =
 -- so it is in a quiet world
 pub at_rest : (w : World) → is_quiet w ≡ true → IsAtRest w
 at_rest w h = record {
-  links = λ i j l a. none_there (link w i j)
-      (below_all (length w.servers) (λ k. is_empty (link w k j)) (quiet_parts w j (quiet_server w h j a)).0 i l);
-  views = λ j a. eqb-true _ _ (quiet_parts w j (quiet_server w h j a)).1;
+  links = λ i j b a. none_there (link w i j)
+      (below_all (length w.servers) (λ k. is_empty (link w k j)) (quiet_parts w j (quiet_server w h j a)).0 i
+      (living_parts w i b).0);
+  views = λ j k a l. ap (λ v. has v k) (eqb-true _ _ (quiet_parts w j (quiet_server w h j a)).1);
 }
 
 -- its log is the committed entries, and it has acknowledged them all
@@ -85,8 +87,7 @@ module _ (t : Traced) (h : Lawful t) (s : Streaming t.world) (rest : IsAtRest t.
       let here = living_parts t.world i a in
       let there = living_parts t.world j b in
       let f = following_is (server t.world i).view (count t) i j n in
-      let unaware : has (server t.world j).view i ≡ false = ap (λ v. has v i) (rest.views j b) ∙ here.1 in
-      let views : (server t.world j).view ≡ (server t.world i).view = rest.views j b ∙ sym (rest.views i a) in
+      let unaware : has (server t.world j).view i ≡ false = rest.views j i b here.0 ∙ here.1 in
       let stream = s.forwards i j
       (record {
         here = here.0;
@@ -95,14 +96,19 @@ module _ (t : Traced) (h : Lawful t) (s : Streaming t.world) (rest : IsAtRest t.
         unaware = unaware;
         alive = there.1;
       }) in
-      let whole = none_left _ _ (link t.world i j) (rest.links i j here.0 b) stream.run in
+      let whole = none_left _ _ (link t.world i j) (rest.links i j a b) stream.run in
       let same : log t j ≡ log t i = begins-whole (log t j) (log t i) (h.logged.begins i j f.above there.0 unaware)
       (omega (arith, stream.reached, whole, last_is t h.logged i here.0, last_is t h.logged j there.0)) in
       let before : previous (server t.world j) ≡ Some i =
       ap (λ x. predecessor (server t.world j).view x) (h.framed.id j there.0)
       ∙ previous_from (server t.world j).view j i
-      (record { below = f.above; out = unaware; between = λ x p q. ap (λ v. has v x) views ∙ f.between x p q }) in
-      let told = not_more t.world i j (rest.links j i there.0 a)
+      (record {
+        below = f.above;
+        out = unaware;
+        between = λ x p q. (let l : x < count t = omega (arith, q, there.0) in
+            rest.views j x b l ∙ sym (rest.views i x a l) ∙ f.between x p q);
+      }) in
+      let told = not_more t.world i j (rest.links j i b a)
       (s.acks i j (record
       { here = here.0; inside = there.0; previous = before; unaware = f.out; alive = here.1 })) in
       record {
@@ -113,15 +119,16 @@ module _ (t : Traced) (h : Lawful t) (s : Streaming t.world) (rest : IsAtRest t.
   level_last : (i : ℕ) → lives t.world i ≡ true → successor (server t.world i).view (count t) i ≡ None → IsLevel t i
   level_last i a n =
       let here = living_parts t.world i a in
-      let view = rest.views i a in
       let last : IsPrevious (server t.world i).view (count t) i =
       record {
         below = here.0;
-        out = ap (λ v. has v i) view ∙ here.1;
+        out = rest.views i i a here.0 ∙ here.1;
         between = no_following (server t.world i).view (count t) i n;
       } in
       let found = previous_from (server t.world i).view (count t) i last in
-      let committed : t.committed ≡ log t i = h.logged.last i (ap (λ v. predecessor v (count t)) (sym view) ∙ found) in
+      let committed : t.committed ≡ log t i = h.logged.last i
+      (previous_from t.world.failed (count t) i
+      (record { below = here.0; out = here.1; between = λ x p q. sym (rest.views i x a q) ∙ last.between x p q })) in
       let is_last : is_tail (server t.world i) ≡ true =
       rw (h.framed.chain i here.0, h.framed.id i here.0)
       (is_itself (tail (server t.world i).view (count t)) i found) in
@@ -138,7 +145,7 @@ module _ (t : Traced) (h : Lawful t) (s : Streaming t.world) (rest : IsAtRest t.
   level_found many i None l a n f = level_last i a n
   level_found many i (Some j) l a n f =
       let following = following_is (server t.world i).view (count t) i j n in
-      let alive = living_from t.world j following.within (ap (λ v. has v j) (sym (rest.views i a)) ∙ following.out) in
+      let alive = living_from t.world j following.within (sym (rest.views i j a following.within) ∙ following.out) in
       level_before i j a alive n (f j alive following.above)
 
   level_from : (many i : ℕ) → count t ≤ i + many → lives t.world i ≡ true → IsLevel t i

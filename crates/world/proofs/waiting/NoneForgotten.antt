@@ -1,4 +1,4 @@
--- In a quiet world each begun call of a connection whose home lives is answered.
+-- In a world at rest, and so in a quiet one, each begun call of a connection whose home lives is answered.
 use Rattle.std.proofs.Common.{◌≡◌, ℕ, zero, suc, ◌+◌, ◌-◌, ◌^◌, ◌<◌, ◌≤◌, Bool, true, false, not, ◌&&◌, ◌||◌, List, []}
 use Rattle.std.proofs.Common.{◌∷◌, length, take, Option, Some, None, refl, sym, ap, subst, ◌∙◌, arith, lit<, inl, inr}
 use Rattle.std.specs.Prelude.{slice_get, IsSome}
@@ -176,21 +176,26 @@ all_replied Begun k p e h quiet other l = absurd cc
 all_replied Asked k p e h quiet other l = absurd (other refl)
 all_replied (Replied reply) k p e h quiet other l = absurd cc
 
-module _ (k : ℕ) (t : Traced) (h : Lawful t) (servers : (i : ℕ) → i < count t → IsLawful (server t.world i))
-    (r : Running k t) (quiet : is_quiet t.world ≡ true) where
-  resting : IsAtRest t.world
-  resting = at_rest t.world quiet
+-- the world is at rest, and no call or reply waits at a connection whose home lives
+pub record IsResting (w : World) : Type 0 where
+  pub servers : IsAtRest w
+  pub connections : (c : ℕ) (k : Connection)
+      → slice_get w.connections c ≡ Some k
+      → lives w k.home ≡ true
+      → waits k.stage ≡ false
 
+module _ (k : ℕ) (t : Traced) (h : Lawful t) (servers : (i : ℕ) → i < count t → IsLawful (server t.world i))
+    (r : Running k t) (resting : IsResting t.world) where
   none_asked : (c : ℕ) (x : Connection)
       → slice_get t.world.connections c ≡ Some x
       → lives t.world x.home ≡ true
       → x.stage ≡ Asked
       → ⊥
   none_asked c x here alive stage = elim (r.waits c x here stage) [
-    | inl update ↦ updates_closed t h resting servers r.opening
-        (all_level t h r.streaming resting (λ i a. (servers i (living_parts t.world i a).0).settled)) x.home update.0
-        alive update.1
-    | inr read ↦ reads_closed t h resting servers r.asking x.home read.0 alive read.1
+    | inl update ↦ updates_closed t h resting.servers servers r.opening
+        (all_level t h r.streaming resting.servers (λ i a. (servers i (living_parts t.world i a).0).settled)) x.home
+        update.0 alive update.1
+    | inr read ↦ reads_closed t h resting.servers servers r.asking x.home read.0 alive read.1
   ]
 
   answered_at : (x : CallId) (o : Option Connection)
@@ -202,13 +207,33 @@ module _ (k : ℕ) (t : Traced) (h : Lawful t) (servers : (i : ℕ) → i < coun
   answered_at x (Some c) here alive begun =
       let call = some_of (slice_get c.calls x.place) begun in
       all_replied c.stage c x.place refl (r.in_step x.connection c here)
-      (not_waiting t.world x.connection c quiet here alive) (none_asked x.connection c here alive)
+      (resting.connections x.connection c here alive) (none_asked x.connection c here alive)
       (slice_get_within c.calls x.place call.0 call.1)
 
   all_answered : (x : CallId) → IsBegun t.world x → has_living_home t.world x ≡ true → IsAnswered t.world x
   all_answered x begun alive = answered_at x (slice_get t.world.connections x.connection) refl alive begun
 
--- no call is forgotten
+-- no call is forgotten in a world at rest
+pub none_forgotten_at_rest : (n : ℕ) (homes : List ℕ) (events : List Event)
+    → n ≤ 16
+    → length events < 2 ^ 64
+    → IsResting (run_of n homes events)
+    → (x : CallId)
+    → IsBegun (run_of n homes events) x
+    → has_living_home (run_of n homes events) x ≡ true
+    → IsAnswered (run_of n homes events) x
+none_forgotten_at_rest n homes events few short resting x begun alive =
+    let m = all_moments n homes events few in
+    let k = length events in
+    let same : (m.at k).world ≡ run_of n homes events =
+    m.world k ∙ ap (λ es. run_of n homes es) (take_all k events (omega arith)) in
+    let back = sym same in
+    subst (λ w. IsAnswered w x) same
+    (all_answered k (m.at k) (m.lawful k) (m.all k) (running n homes few events m (at_most k short) k (omega arith))
+    (subst (λ w. IsResting w) back resting) x
+    (subst (λ w. IsBegun w x) back begun) (subst (λ w. has_living_home w x ≡ true) back alive))
+
+-- nor in a quiet one
 pub none_forgotten : (n : ℕ) (homes : List ℕ) (events : List Event)
     → n ≤ 16
     → length events < 2 ^ 64
@@ -217,13 +242,7 @@ pub none_forgotten : (n : ℕ) (homes : List ℕ) (events : List Event)
     → IsBegun (run_of n homes events) x
     → has_living_home (run_of n homes events) x ≡ true
     → IsAnswered (run_of n homes events) x
-none_forgotten n homes events few short quiet x begun alive =
-    let m = all_moments n homes events few in
-    let k = length events in
-    let same : (m.at k).world ≡ run_of n homes events =
-    m.world k ∙ ap (λ es. run_of n homes es) (take_all k events (omega arith)) in
-    let back = sym same in
-    subst (λ w. IsAnswered w x) same
-    (all_answered k (m.at k) (m.lawful k) (m.all k) (running n homes few events m (at_most k short) k (omega arith))
-    (subst (λ w. is_quiet w ≡ true) back quiet) x
-    (subst (λ w. IsBegun w x) back begun) (subst (λ w. has_living_home w x ≡ true) back alive))
+none_forgotten n homes events few short quiet = none_forgotten_at_rest n homes events few short (record {
+  servers = at_rest (run_of n homes events) quiet;
+  connections = λ c k here alive. not_waiting (run_of n homes events) c k quiet here alive;
+})

@@ -1,4 +1,4 @@
--- Where nothing is on its way to living servers and each knows who failed, no own call of a living server is open.
+-- Where nothing is on its way between living servers and each knows who failed, no own call of a living server is open.
 use Rattle.std.proofs.Common.{◌≡◌, ℕ, ◌+◌, ◌<◌, ◌≤◌, true, false, List, [], ◌∷◌, length, Option, Some, None, refl, sym}
 use Rattle.std.proofs.Common.{ap, subst, ◌∙◌, arith, inl, inr}
 use Rattle.std.proofs.lemmas.Bool.{cases_eq, both_ways}
@@ -27,7 +27,7 @@ module _ (t : Traced) (h : Lawful t) (rest : IsAtRest t.world)
     (servers : (i : ℕ) → i < count t → IsLawful (server t.world i)) where
   -- who lives is in no living server's view
   unaware : (i j : ℕ) → lives t.world i ≡ true → lives t.world j ≡ true → has (server t.world j).view i ≡ false
-  unaware i j a b = ap (λ v. has v i) (rest.views j b) ∙ (living_parts t.world i a).1
+  unaware i j a b = (let p = living_parts t.world i a in rest.views j i b p.0 ∙ p.1)
 
   -- and who isn't lives
   alive : (i j : ℕ)
@@ -35,7 +35,7 @@ module _ (t : Traced) (h : Lawful t) (rest : IsAtRest t.world)
       → j < count t
       → has (server t.world i).view j ≡ false
       → lives t.world j ≡ true
-  alive i j a l out = living_from t.world j l (ap (λ v. has v j) (sym (rest.views i a)) ∙ out)
+  alive i j a l out = living_from t.world j l (sym (rest.views i j a l) ∙ out)
 
   some_tail : (i : ℕ)
       → lives t.world i ≡ true
@@ -61,7 +61,7 @@ module _ (t : Traced) (h : Lawful t) (rest : IsAtRest t.world)
 
   nothing_there : (i j : ℕ) (m : Peer) → lives t.world i ≡ true → lives t.world j ≡ true → In m (link t.world i j) → ⊥
   nothing_there i j m a b there =
-      nothing_in m (subst (λ ms. In m ms) (rest.links i j (living_parts t.world i a).0 b) there)
+      nothing_in m (subst (λ ms. In m ms) (rest.links i j a b) there)
 
   pub reads_closed : Asking t.world → (i : ℕ) (r : OpenRead) → lives t.world i ≡ true → In r (server t.world i).asks → ⊥
   reads_closed asking i r a waits =
@@ -123,7 +123,7 @@ module _ (t : Traced) (h : Lawful t) (rest : IsAtRest t.world)
         | inr other ↦ (let sends = opening.ops i j
             (record { here = here; inside = inside; head = found.1; other = other; unaware = unaware i j a b }) in
             let all : sends.from ≡ sends.last =
-            subst (λ ms. IsRun sends.from sends.last (op_ids ms)) (rest.links i j here b) sends.run in
+            subst (λ ms. IsRun sends.from sends.last (op_ids ms)) (rest.links i j a b) sends.run in
             let low : i < 16 = omega (arith, here, h.framed.most) in
             let there = h.calling.seen j i inside low in
             let at = h.calling.seen i i here low in

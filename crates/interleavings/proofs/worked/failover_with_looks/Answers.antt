@@ -1,4 +1,5 @@
 use Rattle.interleavings.proofs.examples.Answered.{failover_dirty, failover_stored, failover_shown, failover_asked}
+use Rattle.interleavings.proofs.examples.QuietRuns.{failover_quiet}
 use Rattle.interleavings.proofs.worked.failover_with_looks.Goals as goal
 
 pub returns-clause-dirty : goal.returns-clause-dirty
@@ -12,3 +13,6 @@ returns-clause-shown c = failover_shown
 
 pub returns-clause-asked : goal.returns-clause-asked
 returns-clause-asked c = failover_asked
+
+pub returns-clause-quiet : goal.returns-clause-quiet
+returns-clause-quiet c = failover_quiet

@@ -1,5 +1,6 @@
 use Rattle.interleavings.proofs.examples.WithoutRules.{lossy_begun, lossy_forgotten, lossy_first, lossy_second}
 use Rattle.interleavings.proofs.examples.WithoutRules.{lossy_down, lossy_back, lossy_mail, lossy_head, lossy_tail}
+use Rattle.interleavings.proofs.examples.QuietRuns.{lossy_quiet}
 use Rattle.interleavings.proofs.worked.lossy_wire_forgets_a_call.Goals as goal
 
 pub returns-clause-begun : goal.returns-clause-begun
@@ -28,3 +29,6 @@ returns-clause-head_goes_on c = lossy_head
 
 pub returns-clause-tail_goes_on : goal.returns-clause-tail_goes_on
 returns-clause-tail_goes_on c = lossy_tail
+
+pub returns-clause-quiet : goal.returns-clause-quiet
+returns-clause-quiet c = lossy_quiet
