@@ -1,11 +1,13 @@
-"""The record of must-fail edits: crates whose edits an earlier run of the gate tried, and all were refused.
+"""The record of must-fail edits: crates that a run of the gate, `--only` or whole, proved from nothing and whose edits it
+tried, each of which was refused.
 
 Edits test how strong contracts are. Their verdicts depend on the crate's sources, on those of the crates below it, on the
 edits, on the kit and on the gate's own scripts, and on nothing else: a sum over exactly these stands in the record. A crate
 with another sum is tried. In each run one crate that could be taken from the record is tried all the same, in turn; if one
 of its edits is not refused then, the gate fails.
 
-A row is a crate's name, its sum, and how many edits it has. The rows are what a run of the gate printed after `record:`."""
+A row is a crate's name, its sum, and how many edits it has. A run with `--costs` writes a row as soon as a crate's edits are
+tried."""
 import hashlib
 import os
 
@@ -14,7 +16,7 @@ from kit import rt
 
 HERE = os.path.dirname(os.path.realpath(__file__))
 FILE = f"{HERE}/edits_record.txt"
-HEAD = "# Crates whose must-fail edits a whole run of the gate tried and saw refused: name, sum of all that they rest on, edits.\n"
+HEAD = "# Crates whose must-fail edits a run of the gate tried and saw refused: name, sum of all that they rest on, edits.\n"
 # The scripts that make the verdicts.
 SCRIPTS = ("../gate", "edits.py", "kept.py", "places.py", "record.py", "kit.py")
 
