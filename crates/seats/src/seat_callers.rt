@@ -32,7 +32,7 @@ pub struct SeatCaller<H> {
     pub reader: Reader,
     /// Sends calls to the server, and takes their replies.
     pub seat: Seat,
-    /// Whether a call that was sent got no reply. Nothing is sent from then on.
+    /// Whether a call that was sent got no reply. From then on every call fails.
     pub lost: bool,
     /// How many calls have failed.
     pub failures: Failures,
@@ -62,9 +62,10 @@ impl<H: Helper> SeatCaller<H> {
 }
 
 impl<H: Helper> Caller for SeatCaller<H> {
-    ghost answers = { λ before call reply after.
-        IsSeen before.reader after.reader before.seat after.seat call reply ⊎
-        IsSubmitted before.reader after.reader before.seat after.seat call reply };
+    // After a call that was sent and got no reply, no call is answered.
+    ghost answers = { λ before call reply after. (before.lost ≡ false) ×
+        (IsSeen before.reader after.reader before.seat after.seat call reply ⊎
+        IsSubmitted before.reader after.reader before.seat after.seat call reply) };
 
     ghost failures = { λ caller. caller.failures };
 
@@ -88,8 +89,9 @@ impl<H: Helper> Caller for SeatCaller<H> {
     }
 }
 
-/// Answers a call by a clean look, or by the server. It fails if the server is marked, also after a clean look; if a
-/// call that was sent, before or now, gets no reply; or if memory is out. It may wait.
+/// Answers a call by a clean look, or by the server. It fails if a call that was sent before got no reply, and then it
+/// looks at nothing; if the server is marked, also after a clean look; if this call is sent and gets no reply; or if
+/// memory is out. It may wait.
 pub fn answer<R: Wait, H: Helper>(
     rt: &R,
     reader: &mut Reader,
@@ -105,19 +107,23 @@ pub fn answer<R: Wait, H: Helper>(
     ensures answered { IfOk result
         (λ reply. IsSeen reader.old reader.new seat.old seat.new call reply ⊎ IsSubmitted reader.old reader.new seat.old
         seat.new call reply) }
+    ensures unlost { IfOk result (λ _. lost.old ≡ false) }
     ensures kind { IfOk result (λ reply. is_value reply ≡ not (is_update call.op)) }
     // Nothing was sent, or nothing is sent from now on.
     ensures failed { OnErr result ((seat.new ≡ seat.old) ⊎ (lost.new ≡ true)) }
-    // After a call that was sent and got no reply, nothing is sent.
-    ensures silent { lost.old ≡ true → (seat.new ≡ seat.old) × (lost.new ≡ true) }
+    // After a call that was sent and got no reply, nothing is looked at and nothing is sent.
+    ensures silent { lost.old ≡ true → (reader.new ≡ reader.old) × (seat.new ≡ seat.old) × (lost.new ≡ true) }
 {
+    if *lost {
+        return Err(CallFault);
+    }
     if let Some(item) = look(reader, &call) {
         if mark.is_set() {
             return Err(CallFault);
         }
         return Ok(Reply::Value(item));
     }
-    if *lost || mark.is_set() {
+    if mark.is_set() {
         return Err(CallFault);
     }
     match exchange(rt, reader, seat, helper, call) {
