@@ -115,7 +115,7 @@ def verdicts(crate, edits):
     """Of each edit whether it is refused, and the gate's text on it; None if the crate itself isn't proved over its
     kept work. The one place that knows the gate's form of this."""
     from edits import Trial
-    from kept import KeptFolder
+    from kept import Kept
 
     class Warm(Trial):
         """Without a second try from nothing of what isn't refused: here that is an answer."""
@@ -128,7 +128,7 @@ def verdicts(crate, edits):
     if ran.returncode:
         print(ran.stdout, end="")
         return None
-    trial = Warm(crate, KeptFolder(folder, ran.stdout), flags)
+    trial = Warm(crate, Kept(folder, ran.stdout), flags)
     trial.log = Said()
     return trial.run(edits)
 

@@ -32,8 +32,14 @@ NO_OP = b" let _gate = 0u8;"
 NO_OPS = 3
 
 
+def tried_alone(crate, edit, flags, folder=None):
+    """The kit's own verdict on an edit: (whether it is refused, what to say); from nothing, if no folder is given."""
+    kind, text = rt.must_fail(crate, edit, flags, folder)
+    return kind in (rt.REFUSED, rt.AT_LIMIT), text
+
+
 class Trial:
-    """The must-fail edits of one crate, tried over the work that its proof kept."""
+    """The must-fail edits of one crate, tried over what a check of the crate kept."""
 
     def __init__(self, crate, kept, flags):
         self.crate, self.kept, self.flags = crate, kept, flags
@@ -51,7 +57,7 @@ class Trial:
         alone = [it for it in edits if it not in self.verdicts]
         for it in alone:
             with self.kept.opened() as room:
-                self.verdicts[it] = rt.must_fail(self.crate, it, self.flags, room)
+                self.verdicts[it] = tried_alone(self.crate, it, self.flags, room)
         if alone:
             self.log.append(f"alone: {len(alone)}: {' '.join(os.path.basename(it) for it in alone)}")
         return self.judged(edits)
@@ -59,14 +65,13 @@ class Trial:
     def judged(self, edits):
         """As the verdicts say, if the crate without an edit is proved over the kept work; else each from nothing."""
         with self.kept.opened() as room:
-            is_sound = not rt.checked(self.crate, {}, self.flags, room).returncode
+            is_sound = not rt.checked(self.crate, {}, self.flags, room).returncode and self.kept.is_untouched()
         if not is_sound:
             self.log.append("the crate itself is not proved over its kept work: each edit is tried from nothing")
-        found = []
-        for it in edits:
-            is_refused, text = self.verdicts[it]
-            found.append((is_refused, text) if is_sound and is_refused else rt.must_fail(self.crate, it, self.flags))
-        return found
+        return [
+            self.verdicts[it] if is_sound and self.verdicts[it][0] else tried_alone(self.crate, it, self.flags)
+            for it in edits
+        ]
 
     def try_in_batches(self, edits):
         places = {it: place_of(it, self.crate, self.functions, self.texts) for it in edits}

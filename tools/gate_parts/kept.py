@@ -1,10 +1,12 @@
-"""What the proof of a crate checked, kept for its edits: each check of edits gets a folder of its own, as the proof left it."""
+"""What a check of a crate left for its edits: each check of edits gets a folder of its own, as that check left it."""
 import collections
-import json
 import os
 import re
 import shutil
+import signal
 import tempfile
+
+from kit import rt
 
 # A check's line on one function, impl or type.
 SUBJECT = re.compile(r"(fn|impl|struct|enum|trait|union) (\S+): (.*)")
@@ -20,36 +22,48 @@ def proved_in(said):
 
 
 class Kept:
-    """What `rattle check -o` wrote into the folder `checked`; `build` is the build of rattle that wrote it."""
-
-    def __init__(self, checked, build, said):
-        self.checked, self.build, self.proved, self.room = checked, build, proved_in(said), None
-
-    def opened(self):
-        """A new folder, to be removed by its owner, that `--incremental` takes."""
-        made = tempfile.TemporaryDirectory(prefix="gate-kept-")
-        folder = f"{made.name}/{self.build}"
-        with (
-            open(f"{self.checked}/toolchain/checked.a", "rb") as whole,
-            open(f"{self.checked}/toolchain/checked.json", encoding="utf-8") as names,
-        ):
-            for line in names:
-                name, start, size = json.loads(line)[:3]
-                path = f"{folder}/{name}.oantt"
-                os.makedirs(os.path.dirname(path), exist_ok=True)
-                whole.seek(start)
-                with open(path, "wb") as it:
-                    it.write(whole.read(size))
-        return made
-
-
-class KeptFolder:
-    """The same of a crate's out/incremental, which `rt check` fills."""
+    """The folder that a check with `--incremental` filled, and which names it proved."""
 
     def __init__(self, folder, said):
-        self.folder, self.proved = folder, proved_in(said)
+        self.folder, self.proved, self.files = folder, proved_in(said), rt.listing(folder)
 
     def opened(self):
+        """A new folder, to be removed by its owner, that `--incremental` takes. Its large files are links: a check
+        replaces such a file and never writes into it, and `is_untouched` looks."""
         made = tempfile.TemporaryDirectory(prefix="gate-kept-")
-        shutil.copytree(self.folder, made.name, dirs_exist_ok=True)
-        return made
+        rt.linked(self.folder, f"{made.name}/kept")
+        return Opened(made, f"{made.name}/kept")
+
+    def is_untouched(self):
+        return rt.listing(self.folder) == self.files
+
+
+class Opened:
+    """A folder for one check, which goes with it."""
+
+    def __init__(self, made, folder):
+        self.made, self.folder = made, folder
+
+    def __enter__(self):
+        return self.folder
+
+    def __exit__(self, *_):
+        self.made.cleanup()
+
+
+def seeded(crate, flags):
+    """What a check of the crate from nothing leaves for its edits, or None if that check fails. The folder goes with the
+    run, or by `removed`."""
+    room = tempfile.mkdtemp(prefix=f"rt-edits-{os.getpid()}-")
+    rt.SEEDS.append(room)
+    os.mkdir(f"{room}/seed")
+    for words in (flags, ["--jobs", "1"]):
+        ran = rt.checked(crate, {}, words, f"{room}/seed")
+        # most likely for memory: once more, with one process
+        if ran.returncode != -signal.SIGKILL:
+            break
+    return Kept(f"{room}/seed", ran.stdout) if ran.returncode == 0 else None
+
+
+def removed(kept):
+    shutil.rmtree(os.path.dirname(kept.folder), ignore_errors=True)

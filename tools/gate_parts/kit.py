@@ -11,8 +11,8 @@ sys.dont_write_bytecode = True
 
 # The kit's identity, and the sums of the scripts whose inside is used.
 KNOWN = (
-    "rattle-kit-13b logic dac8208d650f15bf",
-    "a29960395884d54b18725ad44ad89e0f82549f67150763bf576db274e11439c6",
+    "rattle-kit-13f logic dac8208d650f15bf",
+    "80bcb2d5aef7205688dd85a279ba826502bb88dcc037e860a256d3963c92d37f",
     "4a12f3c5badcbef95b02ce10e5a270c6bfa7318c8bbf46eea97d0f86c02889dd",
 )
 

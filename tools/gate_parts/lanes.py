@@ -37,6 +37,8 @@ HEAD = """\
 """
 # Kinds of work that use one process, whatever they are given.
 NARROW = ("edits",)
+# Kinds of work that cost what another does: a seed is a check of the crate from nothing.
+LIKE = {"seed": "proof"}
 
 
 class Cost(NamedTuple):
@@ -47,6 +49,10 @@ class Cost(NamedTuple):
     tests: float = 0
     edits: float = 0
     memory: float = 0
+
+
+# The kinds of work whose cost is kept, in that order.
+MEASURED = Cost._fields[:3]
 
 
 def read_costs(file):
@@ -102,7 +108,7 @@ class Plan:
         lines = self.tasks[key][1]
         if not lines:
             return 0.0
-        known = getattr(costs.get(key[0], Cost()), kind_of(key), 0)
+        known = getattr(costs.get(key[0], Cost()), LIKE.get(kind_of(key), kind_of(key)), 0)
         return known * lines / self.whole[key[0], kind_of(key)] if known else OF_A_LINE * lines
 
     def memory_of(self, key, costs):
@@ -304,6 +310,7 @@ def selftest():
     large = Watched({**proofs(a="", b=""), ("c", "proof"): ([], 100, 9e9, True)}, {}, 4, 2.5e9)
     several = {**proofs(a=""), **{("a", f"edits {at}"): ([("a", "proof")], 30 * at, 1e9, True) for at in (1, 2)}}
     shares = [Plan(several, {"a": Cost(40, 0, 900)}, 4, 1e12).seconds["a", f"edits {at}"] for at in (1, 2)]
+    seeds = Plan({**several, ("a", "seed"): ([], 100, 1e9, True)}, {"a": Cost(40, 0, 900)}, 4, 1e12)
     unknown = Plan(proofs(a=""), {}, 1, 1e12)
     raising = {("a", "proof"): ([], 1, 1, KeyError())}
     kinds = Watched(several, {"a": Cost(40, 0, 900)}, 4, 1e12)
@@ -328,6 +335,7 @@ def selftest():
         "a task that needs more memory than there is runs alone": large.most == [2, 9e9],
         "tasks of one kind share its cost by their lines": shares == [300, 600],
         "edits get one process": kinds.jobs()["a", "edits 2"] == 1,
+        "a seed costs what a proof does": seeds.seconds["a", "seed"] == 40,
         "what nobody measured goes by its lines": [*unknown.seconds.values()] == [OF_A_LINE * 100],
         "work of no lines costs nothing": idle.plan.seconds["a", "tests"] == 0 and idle.given["a", "tests"],
         "a task that failed is given, and those above it see so": [*failed.values()].count(False) == 3

@@ -1,10 +1,11 @@
 """What each check costs: processor seconds, seconds on the clock, and the most memory of one process."""
 import collections
+import contextlib
 import os
 import subprocess
 import threading
 
-KINDS = ("proof", "tests", "edits")
+KINDS = ("proof", "tests", "seed", "edits")
 
 
 class Meter:
@@ -13,7 +14,21 @@ class Meter:
     def __init__(self):
         self.lock = threading.Lock()
         self.used, self.wall, self.peak = collections.Counter(), collections.Counter(), collections.Counter()
-        self.jobs = {}
+        self.jobs, self.here = {}, threading.local()
+
+    @contextlib.contextmanager
+    def counting(self, kind):
+        """What this thread starts meanwhile is counted as work of this kind."""
+        self.here.kind = kind
+        try:
+            yield
+        finally:
+            self.here.kind = None
+
+    def kind_of(self, words, named):
+        """The kind of work that a command of the prover is."""
+        told = getattr(self.here, "kind", None)
+        return told or ("edits" if "rt-edit-" in str(named.get("cwd")) else "tests" if "--test" in words else "proof")
 
     def add(self, key, spent):
         with self.lock:
@@ -38,8 +53,7 @@ class Metered(subprocess.Popen):
     def __init__(self, words, *more, **named):
         self.of = None
         if isinstance(words, list) and "--crate-name" in words:
-            kind = "edits" if "rt-edit-" in str(named.get("cwd")) else "tests" if "--test" in words else "proof"
-            self.of = words[words.index("--crate-name") + 1], kind
+            self.of = words[words.index("--crate-name") + 1], METER.kind_of(words, named)
         super().__init__(words, *more, **named)
 
     def _try_wait(self, flags):

@@ -1,5 +1,5 @@
-"""The record of must-fail edits: crates that a run of the gate, `--only` or whole, proved from nothing and whose edits it
-tried, each of which was refused.
+"""The record of must-fail edits: crates that passed a run of the gate, `--only` or whole, and whose edits it tried, each of
+which was refused.
 
 Edits test how strong contracts are. Their verdicts depend on the crate's sources, on those of the crates below it, on the
 edits, on the kit and on the gate's own scripts, and on nothing else: a sum over exactly these stands in the record. A crate

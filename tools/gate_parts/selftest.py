@@ -190,7 +190,7 @@ def run_gate(case):
             with open(file, "w", encoding="utf-8") as it:
                 it.write(text)
         how = {"stdout": subprocess.PIPE, "stderr": subprocess.STDOUT, "stdin": subprocess.DEVNULL}
-        ran = subprocess.run([sys.executable, GATE], cwd=room, errors="replace", **how)
+        ran = subprocess.run([sys.executable, GATE, "--anew"], cwd=room, errors="replace", **how)
     last = "gate: passed" if case.passes else ("gate: FAILED", "0 passed, 1 failed")
     ends_well = all(it in ran.stdout for it in case.says) and any(it.startswith(last) for it in ran.stdout.split("\n")[-3:])
     return (ran.returncode == 0) == case.passes and ends_well, ran.stdout
