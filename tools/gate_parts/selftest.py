@@ -14,7 +14,7 @@ from types import SimpleNamespace
 import record
 from edits import Reading
 from kept import proved_in
-from kit import rtlib
+from kit import rt, rtlib
 from places import Function
 
 GATE = os.path.join(os.path.dirname(os.path.dirname(os.path.realpath(__file__))), "gate")
@@ -321,6 +321,7 @@ def selftest(words):
     """Runs the cases whose name has one of these words, all if there are none."""
     is_chosen = lambda name: not words or any(it in name for it in words)
     failed, number = 0, os.environ.get("RT_JOBS", "")
+    side_by_side = int(number) if number.isdigit() and int(number) else rt.processors()
     readings = [("reading", name, call) for name, call in READINGS.items() if is_chosen(name)]
     readings += [("record", name, call) for name, call in RECORDS.items() if is_chosen(name)]
     for of, name, call in readings:
@@ -328,7 +329,7 @@ def selftest(words):
         print(f"selftest: {of}: {name}: {'as it must be' if is_well else 'WRONG'}", flush=True)
         failed += not is_well
     chosen = [it for it in CASES if is_chosen(it)]
-    with concurrent.futures.ThreadPoolExecutor(int(number) if number.isdigit() and int(number) else 2) as pool:
+    with concurrent.futures.ThreadPoolExecutor(side_by_side) as pool:
         for name, (is_well, said) in zip(chosen, pool.map(lambda it: run_gate(CASES[it]), chosen)):
             wanted = "passed" if CASES[name].passes else "refused"
             print(f"selftest: {name}: {wanted}, as it must be" if is_well else f"selftest: {name}: WRONG; it said:\n{said}", flush=True)
