@@ -20,6 +20,16 @@ abbrev first_or : Call → List Call → Call
 first_or d [] = d
 first_or d (c ∷ cs) = c
 
+-- the others
+abbrev others : List Call → List Call
+others [] = []
+others (c ∷ cs) = cs
+
+-- after the reply to the one call that waits none waits
+pub has_idle : (c d : Connected) (call : Call) (reply : Reply) → c.waiting ≡ call ∷ [] → HasReply reply c d
+    → d.waiting ≡ []
+has_idle c d call reply waits has = ap (λ x. x.waiting) has.4 ∙ ap others (sym has.3 ∙ waits)
+
 -- what holds anyway holds of a fault
 pub by_fault : {T E Q : Type 0} (r : Result T E) → Q → IfErr r (λ _. Q)
 by_fault (Ok value) q = tt
@@ -98,6 +108,29 @@ module _ {V : Type 0} (answers : V → Call → Reply → V → Type 0) where
     pub cut_here : (c : Connected) (bytes sent : List ℕ) (now : V) → Stands c sent now → IsBegun c bytes
         → IsCut answers bytes base sent first
     cut_here c bytes sent now s b = cut c bytes sent sent now s b ([], c.due, refl, sym (append-nil sent))
+
+    -- the bytes that were read are all there is
+    pub cut_now : (c : Connected) (sent after : List ℕ) (now : V) → Stands c sent now
+        → ((more : List ℕ) → IsBegun c (c.read ++ more)) → WritesBeginning sent after c.due
+        → IsCut answers c.read base after first
+    cut_now c sent after now s b wrote = subst (λ bytes. IsCut answers bytes base after first) (append-nil c.read)
+        (cut c (c.read ++ []) sent after now s (b []) wrote)
+
+    pub cut_now_here : (c : Connected) (sent : List ℕ) (now : V) → Stands c sent now
+        → ((more : List ℕ) → IsBegun c (c.read ++ more)) → IsCut answers c.read base sent first
+    cut_now_here c sent now s b = cut_now c sent sent now s b ([], c.due, refl, sym (append-nil sent))
+
+    -- nothing was read, and nothing is done
+    pub cut_at_first : IsCut answers [] base base first
+    cut_at_first = record {
+      replies = [];
+      last = first;
+      front = [];
+      rest = texts (turns []) [];
+      calls = refl;
+      written = sym (append-nil base);
+      due = refl;
+    }
 
     -- all is answered and written: all is served
     pub served : (end : End) (c : Connected) (sent : List ℕ) (now : V) → Stands c sent now
