@@ -1,24 +1,19 @@
 -- What a connection comes to, one action of its session after another.
-use Rattle.std.proofs.Common.{◌≡◌, ℕ, ◌+◌, ◌<◌, ◌≤◌, Bool, true, false, List, [], ◌∷◌, ◌++◌, length, take, drop, Option}
-use Rattle.std.proofs.Common.{None, Some, refl, sym, ap, subst, ◌∙◌, arith, append_assoc, append-nil, length-append}
+use Rattle.std.proofs.Common.{◌≡◌, ℕ, ◌+◌, ◌≤◌, Bool, false, List, [], ◌∷◌, ◌++◌, length, take, drop, Option}
+use Rattle.std.proofs.Common.{None, Some, refl, sym, ap, subst, ◌∙◌, arith, append-nil, length-append}
 use Rattle.std.proofs.Common.{length-drop, length-take-le, take-append-drop}
-use Rattle.std.proofs.lemmas.List.{take_all, take_at, drop_at, take-append-le, drop-append-le}
+use Rattle.std.proofs.lemmas.List.{take_all, take_at, take-append-le, drop-append-le}
 use Rattle.table.specs.declared.operations.Call.{Call}
 use Rattle.table.specs.declared.operations.Reply.{Reply}
-use Rattle.proto.specs.declared.requests.Fault.{Fault}
-use Rattle.proto.specs.declared.requests.Fault.TheVariants.{Command, Format, DataChunk, TooLarge, LineTooLong, Expiry}
 use Rattle.proto.specs.declared.texts.Form.{Form}
-use Rattle.proto.specs.declared.sessions.Step.{Step}
-use Rattle.proto.specs.declared.sessions.Step.TheVariants.{Call as Opened, Emit, Wait, Close}
-use Rattle.proto.specs.Turns.{Turn, Faulty, Calls, calls_of, fault_text, text}
-use Rattle.proto.specs.Sessions.{Held, Given, CanAnswer, IsOpen, IsFormOf, Tells, Writes, fresh, fed, next_of, answered_by}
-use Rattle.proto.specs.Streams.{ends, texts, to_come, turns}
-use Rattle.proto.specs.Runs.{Run, IsRun, Opens, Acts, Feed, Next, Answer, Take, turn_given, taken_from, open_calls}
-use Rattle.proto.proofs.RunLaws.{any_cutting, gives_all, closes_at_last}
+use Rattle.proto.specs.Turns.{Turn, calls_of, text}
+use Rattle.proto.specs.Sessions.{Held, CanAnswer, fresh, fed, answered_by}
+use Rattle.proto.specs.Streams.{texts, to_come, turns}
+use Rattle.proto.specs.Runs.{Run, IsRun, Opens, Acts, Feed, Answer, Take, taken_from, open_calls}
+use Rattle.proto.proofs.RunLaws.{any_cutting}
 use Rattle.proto.proofs.RunTexts.{output_is_texts, calls_have_replies}
-use Rattle.proto.proofs.WriteLaws.{next_writes, answer_writes, answer_idle, fewer_replies_begin, calls_of_more}
-use Rattle.serving.specs.Connections.{IsBegun, IsAnswered, IsLooked, IsAsked, HasReply, MayHave, IsReached, reached}
-use Rattle.serving.specs.Wanted.{HasStepped}
+use Rattle.proto.proofs.WriteLaws.{answer_writes, answer_idle, fewer_replies_begin, calls_of_more}
+use Rattle.serving.specs.Connections.{IsBegun, IsAsked, HasReply, MayHave, IsReached, reached}
 
 -- a run, by what has come of it
 abbrev pub run_of : List ℕ → List Turn → List Reply → List ℕ → Held → Run
@@ -196,17 +191,17 @@ seen_answered read replies reply written held left ended failed r can e =
       text form.0 reply,
       waits,
       ap (λ h. reached read more written h ended failed) e
-      ∙ (λ i. record {
-        read = read;
-        calls = calls i;
-        replies = more;
-        waiting = none i;
-        due = out i;
-        written = written;
-        closed = closed i;
-        ended = ended;
-        failed = failed;
-      }),
+          ∙ (λ i. record {
+            read = read;
+            calls = calls i;
+            replies = more;
+            waiting = none i;
+            due = out i;
+            written = written;
+            closed = closed i;
+            ended = ended;
+            failed = failed;
+          }),
     )
 
 -- output was taken away

@@ -1,14 +1,13 @@
 -- How serving a connection goes on, and what it comes to.
-use Rattle.std.proofs.Common.{◌≡◌, ℕ, length, Bool, true, false, List, [], ◌∷◌, ◌++◌, take, refl, sym, ap, subst, ◌∙◌}
+use Rattle.std.proofs.Common.{◌≡◌, ℕ, List, [], ◌∷◌, ◌++◌, refl, sym, ap, subst, ◌∙◌}
 use Rattle.std.proofs.Common.{append_assoc, append-nil, Result, Ok, Err, IfErr}
 use Rattle.table.specs.declared.operations.Call.{Call}
 use Rattle.table.specs.declared.operations.Reply.{Reply}
-use Rattle.proto.specs.Turns.{calls_of}
-use Rattle.proto.specs.Streams.{ends, texts, turns}
+use Rattle.proto.specs.Streams.{texts, turns}
 use Rattle.ends.specs.Ends.{WritesBeginning}
 use Rattle.serving.specs.declared.serving.End.{End}
 use Rattle.serving.specs.Serving.{AreAnswered, IsCut, IsServed, is_closed}
-use Rattle.serving.specs.Connections.{Connected, IsBegun, IsAnswered, IsLooked, HasReply, unused}
+use Rattle.serving.specs.Connections.{Connected, IsBegun, IsAnswered, HasReply, unused}
 
 -- what a source gave, with one piece more
 pub given_on : (before read piece now then : List ℕ) → now ≡ before ++ read → then ≡ now ++ piece

@@ -1,5 +1,5 @@
 -- What a connection comes to by a step of its session.
-use Rattle.std.proofs.Common.{◌≡◌, ℕ, ◌+◌, ◌<◌, ◌≤◌, Bool, true, false, List, [], ◌∷◌, ◌++◌, length, take, drop, Option}
+use Rattle.std.proofs.Common.{◌≡◌, ℕ, ◌<◌, Bool, true, false, List, [], ◌∷◌, ◌++◌, length, take, drop}
 use Rattle.std.proofs.Common.{None, Some, refl, sym, ap, subst, ◌∙◌, arith, append-nil, length-append}
 use Rattle.std.proofs.lemmas.List.{take_all, drop_at}
 use Rattle.table.specs.declared.operations.Call.{Call}
@@ -10,9 +10,9 @@ use Rattle.proto.specs.declared.texts.Form.{Form}
 use Rattle.proto.specs.declared.sessions.Step.{Step}
 use Rattle.proto.specs.declared.sessions.Step.TheVariants.{Call as Opened, Emit, Wait, Close}
 use Rattle.proto.specs.Turns.{Turn, Faulty, Calls, calls_of, fault_text}
-use Rattle.proto.specs.Sessions.{Held, Given, IsOpen, IsFormOf, Tells, Writes, next_of}
-use Rattle.proto.specs.Streams.{ends, texts, turns}
-use Rattle.proto.specs.Runs.{Run, IsRun, Acts, Next, turn_given, open_calls}
+use Rattle.proto.specs.Sessions.{Held, Given, IsOpen, Tells, Writes, next_of}
+use Rattle.proto.specs.Streams.{texts, turns}
+use Rattle.proto.specs.Runs.{IsRun, Acts, Next, turn_given, open_calls}
 use Rattle.proto.proofs.RunLaws.{gives_all, closes_at_last}
 use Rattle.proto.proofs.RunTexts.{output_is_texts}
 use Rattle.proto.proofs.WriteLaws.{next_writes, calls_of_more}
@@ -116,10 +116,10 @@ module _ (read : List ℕ) (replies : List Reply) (written : List ℕ) (held : H
       ∙ drop_at (calls_of r.given) (call ∷ []) (length replies) all_given) in
       record {
         is = record {
-            given = after;
-            is_run = is_run;
-            asked = subst (λ cs. IsAsked cs left.asked) (sym waits) opens.form;
-          };
+          given = after;
+          is_run = is_run;
+          asked = subst (λ cs. IsAsked cs left.asked) (sym waits) opens.form;
+        };
         looked = looks [] (wrote.0 ∙ sym (append-nil held.out));
         stepped = (record { waiting = waits; fits = opens.fits; suits = opens.aimed }, wrote.0);
       }

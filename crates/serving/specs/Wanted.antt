@@ -1,5 +1,5 @@
 -- What a connection wants next, and what has come of it then.
-use Rattle.std.specs.Prelude.{◌≡◌, ◌<◌, Bool, true, false, [], ◌∷◌, length}
+use Rattle.std.specs.Prelude.{◌≡◌, ◌<◌, ◌≤◌, ◌⊎◌, Bool, true, false, [], ◌∷◌, length}
 use Rattle.table.specs.Operations.{Fits, Suits}
 use Rattle.table.specs.declared.operations.Target.{Target}
 use Rattle.table.specs.declared.operations.Op.{Op}
@@ -18,11 +18,13 @@ pub record IsAsking (target : Target) (op : Op) (c : Connected) : Type 0 where
   pub fits : Fits op
   pub suits : Suits target op
 
--- The connection wants this. A call begins only while less than 64 KiB is due; output is written before more input is
--- read, and before the end; and the end comes if all is answered and written.
+-- The connection wants this. A call begins only while less than 64 KiB is due; output is to be written once that much is
+-- due, or all is answered; it is written before more input is read, and before the end; and the end comes if all is
+-- answered and written.
 abbrev pub IsWanted : Wants → Connected → Type 0
 IsWanted (Call target op) c = IsAsking target op c × (length c.due < OUTPUT)
-IsWanted Write c = (c.waiting ≡ []) × (0 < length c.due)
+IsWanted Write c =
+    (c.waiting ≡ []) × (0 < length c.due) × (OUTPUT ≤ length c.due ⊎ ((shut : Bool) × IsAnswered shut c))
 IsWanted Read c = IsAnswered false c × (c.due ≡ []) × (c.ended ≡ false)
 IsWanted (End end) c = IsAnswered (is_closed end) c × (c.due ≡ []) × (end ≡ Input → c.ended ≡ true)
 

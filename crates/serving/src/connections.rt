@@ -124,9 +124,12 @@ impl Connection {
         ensures idle { OnErr result (self.new.waiting ≡ []) }
         ensures spent { self.old.failed ≡ true → IsErr result }
     {
+        if self.has_failed() {
+            return Err(AllocError);
+        }
         'turns: loop {
             if self.output().len() >= OUTPUT {
-                return self.full();
+                return Ok(Wants::Write);
             }
             match self.turn()? {
                 Step::Call(target, op) => return Ok(Wants::Call(target, op)),
@@ -173,18 +176,22 @@ impl Connection {
         self.session.taken(n);
     }
 
+    /// Whether memory was refused to it.
+    pub fn has_failed(&self) -> bool
+        ensures { result ≡ self.now.failed }
+    {
+        self.failed
+    }
+
     // The next step of the session.
     fn turn(&mut self) -> Result<Step, AllocError>
         requires idle { self.old.waiting ≡ [] }
+        requires unfailed { self.old.failed ≡ false }
         ensures looked { IsLooked self.old self.new }
         ensures stepped { IfOk result (λ step. HasStepped step self.old self.new) }
         ensures idle { OnErr result (self.new.waiting ≡ []) }
         ensures failed { MatchResult result (λ _. self.new.failed ≡ false) (λ _. self.new.failed ≡ true) }
-        ensures spent { self.old.failed ≡ true → IsErr result }
     {
-        if self.failed {
-            return Err(AllocError);
-        }
         match self.session.next() {
             Ok(step) => Ok(step),
             Err(_) => {
@@ -192,16 +199,6 @@ impl Connection {
                 Err(AllocError)
             }
         }
-    }
-
-    // There is much output.
-    fn full(&self) -> Result<Wants, AllocError>
-        requires idle { self.now.waiting ≡ [] }
-        requires full { OUTPUT ≤ length self.now.due }
-        ensures wanted { IfOk result (λ wants. IsWanted wants self.now) }
-        ensures failed { MatchResult result (λ _. self.now.failed ≡ false) (λ _. self.now.failed ≡ true) }
-    {
-        if self.failed { Err(AllocError) } else { Ok(Wants::Write) }
     }
 
     // All is answered, and this is the end if nothing more is read.

@@ -77,7 +77,8 @@ pub fn serve_stream<R: Wait, S: Source, W: Sink, C: Caller>(
 {
     let mut piece = blank(alloc, PIECE)?;
     let mut connection = Connection::new(alloc);
-    serve(rt, piece.as_mut_slice(), &mut connection, source, sink, caller)
+    let room = piece.as_mut_slice();
+    serve(rt, room, &mut connection, source, sink, caller)
 }
 
 // Serves by a connection of which nothing was read, and reads into this slice.

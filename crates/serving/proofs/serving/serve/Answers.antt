@@ -1,7 +1,7 @@
-use Rattle.std.proofs.Common.{◌≡◌, ◌++◌, ◌∷◌, [], sym, ap, subst, ◌∙◌, arith}
+use Rattle.std.proofs.Common.{◌++◌, sym, ap, subst, ◌∙◌, arith}
 use Rattle.serving.specs.Wanted.{IsWanted}
-use Rattle.serving.proofs.Served.{stands_first, stands_same, stands_answered, stands_written, has_idle, given_on, by_fault}
-use Rattle.serving.proofs.Served.{cut_here, cut_now, cut_now_here, served}
+use Rattle.serving.proofs.Served.{stands_same, stands_answered, has_idle, by_fault}
+use Rattle.serving.proofs.Served.{cut_now, cut_now_here}
 use Rattle.serving.proofs.serving.serve.Goals as goal
 
 -- no call, output or input was had

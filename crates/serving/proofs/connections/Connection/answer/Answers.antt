@@ -1,4 +1,4 @@
-use Rattle.std.proofs.Common.{◌∷◌, ◌++◌, [], length, take, drop, sym, ap, subst, ◌∙◌}
+use Rattle.std.proofs.Common.{length, take, drop, sym, subst}
 use Rattle.proto.specs.Turns.{calls_of}
 use Rattle.proto.specs.Streams.{turns}
 use Rattle.proto.specs.Runs.{open_calls}

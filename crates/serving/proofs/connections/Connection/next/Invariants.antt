@@ -1,4 +1,4 @@
-use Rattle.std.proofs.Common.{◌≡◌, ◌-◌, [], length, true}
+use Rattle.std.proofs.Common.{◌≡◌, ◌-◌, [], length, false}
 use Rattle.serving.specs.declared.connections.TheConstants.{OUTPUT}
 use Rattle.serving.specs.Connections.{IsLooked}
 use Rattle.serving.proofs.connections.Connection.next.Given as goal
@@ -8,7 +8,7 @@ invariant-turns l =
     record {
       idle : l.self.waiting ≡ [];
       looked : IsLooked l.fn.self l.self;
-      spent : l.fn.self.failed ≡ true → l.self.failed ≡ true;
+      unfailed : l.self.failed ≡ false;
     }
 
 abbrev pub decreases-turns : goal.decreases-turns
