@@ -133,7 +133,8 @@ some_form : (asked : Option Form) (reply : Reply) → CanAnswer asked reply → 
 some_form None reply can = absurd can
 some_form (Some form) reply can = (form, refl)
 
-answered_closed : (asked : Option Form) (held : Held) (reply : Reply) → (answered_by asked held reply).closed ≡ held.closed
+answered_closed : (asked : Option Form) (held : Held) (reply : Reply)
+    → (answered_by asked held reply).closed ≡ held.closed
 answered_closed None held reply = refl
 answered_closed (Some form) held reply = refl
 

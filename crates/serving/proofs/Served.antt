@@ -52,7 +52,8 @@ module _ {V : Type 0} (answers : V → Call → Reply → V → Type 0) where
 
     -- nothing was read
     pub stands_first : (c : Connected) → c ≡ unused → Stands c base first
-    stands_first c e = subst (λ d. Stands d base first) (sym e) (record { calls = refl; written = sym (append-nil base) })
+    stands_first c e =
+        subst (λ d. Stands d base first) (sym e) (record { calls = refl; written = sym (append-nil base) })
 
     -- its calls, replies and written bytes are the same
     pub stands_same : (c d : Connected) (sent : List ℕ) (now : V) → d.calls ≡ c.calls → d.replies ≡ c.replies

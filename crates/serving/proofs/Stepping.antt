@@ -46,7 +46,8 @@ some_text Expiry = omega arith
 pub record Stepped (step : Step) (read : List ℕ) (replies : List Reply) (written : List ℕ) (held left : Held)
     (ended failed : Bool) : Type 0 where
   pub is : IsReached read replies written left
-  pub looked : IsLooked (reached read replies written held ended failed) (reached read replies written left ended failed)
+  pub looked : IsLooked (reached read replies written held ended failed)
+      (reached read replies written left ended failed)
   pub stepped : HasStepped step (reached read replies written held ended failed)
       (reached read replies written left ended failed)
 

@@ -44,4 +44,5 @@ from_parts-to_parts Flushed = refl
 -- the code of lists of replies
 abbrev pub coded_replies : Coded (List Reply)
 coded_replies =
-    coded_list (code_by Parts (coded× coded_ℕ (coded× coded_ℕ (coded_option coded_item))) to_parts from_parts from_parts-to_parts)
+    coded_list
+    (code_by Parts (coded× coded_ℕ (coded× coded_ℕ (coded_option coded_item))) to_parts from_parts from_parts-to_parts)

@@ -18,8 +18,8 @@ pub record IsAsking (target : Target) (op : Op) (c : Connected) : Type 0 where
   pub fits : Fits op
   pub suits : Suits target op
 
--- The connection wants this. A call begins only while less than 64 KiB is due; output is to be written once that much is
--- due, or all is answered; it is written before more input is read, and before the end; and the end comes if all is
+-- The connection wants this. A call begins only while less than 64 KiB is due; output is to be written once that much
+-- is due, or all is answered; it is written before more input is read, and before the end; and the end comes if all is
 -- answered and written.
 abbrev pub IsWanted : Wants → Connected → Type 0
 IsWanted (Call target op) c = IsAsking target op c × (length c.due < OUTPUT)

@@ -27,8 +27,8 @@ pub enum Wants {
 pub const OUTPUT: usize = 65_536;
 
 /// One client's connection. It is fed with what was read, says what it wants next, is handed the replies to its calls
-/// and told how much of its output was written. It reads, writes, calls and waits for nothing by itself. After a refusal
-/// for memory it makes no further call, and takes no further input; what is due may still be written.
+/// and told how much of its output was written. It reads, writes, calls and waits for nothing by itself. After a
+/// refusal for memory it makes no further call, and takes no further input; what is due may still be written.
 #[derive(Drop)]
 pub struct Connection {
     session: Session,
@@ -79,8 +79,8 @@ impl Connection {
         let _ = &self.session;
     }
 
-    /// Takes a piece of input, which is copied once. It may be fed where it wants to read. Refused if memory is out, and
-    /// then the piece counts as not read.
+    /// Takes a piece of input, which is copied once. It may be fed where it wants to read. Refused if memory is out,
+    /// and then the piece counts as not read.
     pub fn feed(&mut self, piece: &[u8]) -> Result<(), AllocError>
         requires idle { self.old.waiting ≡ [] }
         requires written { self.old.due ≡ [] }
@@ -113,8 +113,8 @@ impl Connection {
         self.ended = true;
     }
 
-    /// What it wants next: the call that it hands out waits from now on, until it is answered. Refused if memory is out,
-    /// and from then on always.
+    /// What it wants next: the call that it hands out waits from now on, until it is answered. Refused if memory is
+    /// out, and from then on always.
     pub fn next(&mut self) -> Result<Wants, AllocError>
         requires idle { self.old.waiting ≡ [] }
         ensures looked { IsLooked self.old self.new }

@@ -20,7 +20,8 @@ pub returns-in-Ok-clause-ok : goal.returns-in-Ok-clause-ok
 returns-in-Ok-clause-ok c =
     let s = c.self.inside in
     let reply = c.args.reply.now in
-    subst (λ v. HasReply reply v (reached s.read c.then-self-inside.result.all s.written c.answer.new.self s.ended s.failed))
+    subst (λ v. HasReply reply v
+    (reached s.read c.then-self-inside.result.all s.written c.answer.new.self s.ended s.failed))
     c.self.view_is
     (subst (λ rs. HasReply reply (reached s.read s.replies.all s.written s.session s.ended s.failed)
     (reached s.read rs s.written c.answer.new.self s.ended s.failed)) (sym c.then-self-inside.ensures)
