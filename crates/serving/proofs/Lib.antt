@@ -1,2 +1,4 @@
-pub mod Talking
+pub mod Walks
+pub mod Reaching
+pub mod Stepping
 pub mod Served

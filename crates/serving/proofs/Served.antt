@@ -1,127 +1,145 @@
--- How serving goes on, one read after another.
-use Rattle.std.proofs.Common.{◌≡◌, ℕ, ◌+◌, length, true, false, List, [], ◌++◌, None, refl, sym, ap, subst, ◌∙◌}
-use Rattle.std.proofs.Common.{append_assoc, append-nil}
-use Rattle.std.proofs.Common.{Result, Ok, Err, IfErr}
+-- How serving a connection goes on, and what it comes to.
+use Rattle.std.proofs.Common.{◌≡◌, ℕ, List, [], ◌∷◌, ◌++◌, refl, sym, ap, subst, ◌∙◌}
+use Rattle.std.proofs.Common.{append_assoc, append-nil, Result, Ok, Err, IfErr}
 use Rattle.table.specs.declared.operations.Call.{Call}
 use Rattle.table.specs.declared.operations.Reply.{Reply}
-use Rattle.proto.specs.Turns.{Turn, calls_of}
-use Rattle.proto.specs.Sessions.{Held, fresh, fed}
-use Rattle.proto.specs.Streams.{texts, to_come, turns}
-use Rattle.proto.specs.Runs.{Feed, Run, IsRun, opening_run, acted, open_calls}
-use Rattle.serving.specs.declared.serving.End.TheVariants.{Input, Closed}
-use Rattle.serving.specs.Serving.{IsCut, IsServed}
-use Rattle.serving.specs.Talks.{Tracks, HasAnswered, HasAll}
-use Rattle.serving.proofs.Talking.{tracks_opening, tracks_fed, cut_here, served}
-
--- an open session that no call is open in is fed: none is open then
-idle_fed : (held : Held) (piece : List ℕ) → held.closed ≡ false → held.asked ≡ None → (fed held piece).asked ≡ None
-idle_fed held piece unclosed idle = rw unclosed idle
+use Rattle.proto.specs.Streams.{texts, turns}
+use Rattle.ends.specs.Ends.{WritesBeginning}
+use Rattle.serving.specs.declared.serving.End.{End}
+use Rattle.serving.specs.Serving.{AreAnswered, IsCut, IsServed, is_closed}
+use Rattle.serving.specs.Connections.{Connected, IsBegun, IsAnswered, HasReply, unused}
 
 -- what a source gave, with one piece more
 pub given_on : (before read piece now then : List ℕ) → now ≡ before ++ read → then ≡ now ++ piece
     → then ≡ before ++ (read ++ piece)
 given_on before read piece now then e more = more ∙ (ap (λ bytes. bytes ++ piece) e ∙ append_assoc before read piece)
 
+-- the first call of a list, or this one
+abbrev first_or : Call → List Call → Call
+first_or d [] = d
+first_or d (c ∷ cs) = c
+
+-- the others
+abbrev others : List Call → List Call
+others [] = []
+others (c ∷ cs) = cs
+
+-- after the reply to the one call that waits none waits
+pub has_idle : (c d : Connected) (call : Call) (reply : Reply) → c.waiting ≡ call ∷ [] → HasReply reply c d
+    → d.waiting ≡ []
+has_idle c d call reply waits has = ap (λ x. x.waiting) has.4 ∙ ap others (sym has.3 ∙ waits)
+
 -- what holds anyway holds of a fault
 pub by_fault : {T E Q : Type 0} (r : Result T E) → Q → IfErr r (λ _. Q)
 by_fault (Ok value) q = tt
 by_fault (Err fault) q = q
 
-module _ {V : Type 0} (answers : V → Call → Reply → V → Type 0) (first : V) (base : List ℕ) where
-  -- Of an open connection: all that was read is answered, and written.
-  pub record Stands (read : List ℕ) (held : Held) (sent : List ℕ) (now : V) : Type 0 where
-    pub run : Run
-    pub tracks : Tracks answers first base run held sent now
-    pub stream : run.stream ≡ read
-    pub all : HasAll false run held
-    pub out : held.out ≡ []
-    pub idle : held.asked ≡ None
+module _ {V : Type 0} (answers : V → Call → Reply → V → Type 0) where
+  -- one more call was answered
+  answered_more : (v u w : V) (cs : List Call) (rs : List Reply) (c : Call) (r : Reply) → AreAnswered answers v cs rs u
+      → answers u c r w
+      → AreAnswered answers v (cs ++ c ∷ []) (rs ++ r ∷ []) w
+  answered_more v u w [] [] c r so by = (w, subst (λ x. answers x c r w) so by, refl)
+  answered_more v u w [] (s ∷ rs) c r so by = absurd so
+  answered_more v u w (d ∷ cs) [] c r so by = absurd so
+  answered_more v u w (d ∷ cs) (s ∷ rs) c r so by = (so.0, so.1, answered_more so.0 u w cs rs c r so.2 by)
 
-  -- nothing was read
-  pub stands_at_first : (held : Held) → held ≡ fresh → Stands [] held base first
-  stands_at_first held e = subst (λ h. Stands [] h base first) (sym e) (record {
-    run = opening_run;
-    tracks = tracks_opening answers first base;
-    stream = refl;
-    all = record { given = refl; ends = refl; closed = refl };
-    out = refl;
-    idle = refl;
-  })
+  module _ (first : V) (base : List ℕ) where
+    -- Of a connection: its calls were answered, and what it says was written was written.
+    pub record Stands (c : Connected) (sent : List ℕ) (now : V) : Type 0 where
+      pub calls : AreAnswered answers first c.calls c.replies now
+      pub written : sent ≡ base ++ c.written
 
-  -- nothing was read, and nothing is done
-  pub cut_at_first : IsCut answers [] base base first
-  cut_at_first = record {
-    replies = [];
-    last = first;
-    front = [];
-    rest = texts (turns []) [];
-    calls = refl;
-    written = sym (append-nil base);
-    due = refl;
-  }
+    -- nothing was read
+    pub stands_first : (c : Connected) → c ≡ unused → Stands c base first
+    stands_first c e =
+        subst (λ d. Stands d base first) (sym e) (record { calls = refl; written = sym (append-nil base) })
 
-  -- a piece was read and answered, and the connection stays open
-  pub stands_on : (read piece sent written : List ℕ) (held left : Held) (before now : V)
-      (s : Stands read held sent before)
-      → HasAnswered answers first base (acted s.run (Feed piece)) left written now false → left.asked ≡ None
-      → Stands (read ++ piece) left written now
-  stands_on read piece sent written held left before now s h idle = record {
-    run = h.next;
-    tracks = h.tracks;
-    stream = h.stream ∙ ap (λ bytes. bytes ++ piece) s.stream;
-    all = h.all;
-    out = h.out;
-    idle = idle;
-  }
+    -- its calls, replies and written bytes are the same
+    pub stands_same : (c d : Connected) (sent : List ℕ) (now : V) → d.calls ≡ c.calls → d.replies ≡ c.replies
+        → d.written ≡ c.written → Stands c sent now → Stands d sent now
+    stands_same c d sent now calls replies written s =
+        record {
+          calls = subst (λ cs. AreAnswered answers first cs d.replies now) (sym calls)
+              (subst (λ rs. AreAnswered answers first c.calls rs now) (sym replies) s.calls);
+          written = s.written ∙ ap (λ bytes. base ++ bytes) (sym written);
+        }
 
-  -- What is known of all runs.
-  module _
-      (cutting : (run : Run) → IsRun run → run.given ++ to_come run.held ≡ turns run.stream)
-      (output : (run : Run) → IsRun run → run.taken ++ run.held.out ≡ texts run.given run.replies)
-      (replied : (run : Run) → IsRun run → length run.replies + open_calls run.held.asked ≡ length (calls_of run.given))
-      (fewer : (ts us : List Turn) (rs ss : List Reply) → (rest : List ℕ)
-      × (texts (ts ++ us) (rs ++ ss) ≡ texts ts rs ++ rest))
-    where
-      -- the input ends
-      pub served_whole : (read sent : List ℕ) (held : Held) (now : V) → Stands read held sent now
-          → IsServed answers Input read base sent first now
-      served_whole read sent held now s = subst (λ bytes. IsServed answers Input bytes base sent first now) s.stream
-          (served answers first base cutting output replied fewer Input s.run held sent now s.tracks s.out s.all)
+    -- a call was answered
+    pub stands_answered : (c d : Connected) (call : Call) (reply : Reply) (sent : List ℕ) (before now : V)
+        → c.waiting ≡ call ∷ [] → HasReply reply c d → answers before call reply now → Stands c sent before
+        → Stands d sent now
+    stands_answered c d call reply sent before now waits has by s =
+        let same : has.0 ≡ call = ap (λ cs. first_or call cs) (sym has.3 ∙ waits) in
+        subst (λ x. Stands x sent now) (sym has.4) (record {
+          calls = answered_more first before now c.calls c.replies has.0 reply s.calls
+              (subst (λ x. answers before x reply now) (sym same) by);
+          written = s.written;
+        })
 
-      -- a piece was read and answered, and the connection is closed
-      pub served_closed : (read piece sent written : List ℕ) (held left : Held) (before now : V)
-          (s : Stands read held sent before)
-          → HasAnswered answers first base (acted s.run (Feed piece)) left written now true
-          → IsServed answers Closed (read ++ piece) base written first now
-      served_closed read piece sent written held left before now s h =
-          subst (λ bytes. IsServed answers Closed bytes base written first now)
-          (h.stream ∙ ap (λ bytes. bytes ++ piece) s.stream)
-          (served answers first base cutting output replied fewer Closed h.next left written now h.tracks h.out h.all)
+    -- all that is due was written
+    pub stands_written : (c d : Connected) (sent after : List ℕ) (now : V)
+        → d ≡ record c { due = []; written = c.written ++ c.due } → after ≡ sent ++ c.due → Stands c sent now
+        → Stands d after now
+    stands_written c d sent after now e more s =
+        subst (λ x. Stands x after now) (sym e) (record {
+          calls = s.calls;
+          written = more ∙ (ap (λ bytes. bytes ++ c.due) s.written ∙ append_assoc base c.written c.due);
+        })
 
-      -- a read failed
-      pub cut_unread : (read sent : List ℕ) (held : Held) (now : V) → Stands read held sent now
-          → IsCut answers read base sent first
-      cut_unread read sent held now s = subst (λ bytes. IsCut answers bytes base sent first) s.stream
-          (cut_here answers first base cutting output replied fewer s.run held sent now s.tracks s.idle)
+    -- a beginning of what is due was written, and no more: it is cut there
+    pub cut : (c : Connected) (bytes sent after : List ℕ) (now : V) → Stands c sent now → IsBegun c bytes
+        → WritesBeginning sent after c.due → IsCut answers bytes base after first
+    cut c bytes sent after now s b (front, rest, split, e) =
+        record {
+          replies = c.replies;
+          last = now;
+          front = c.written ++ front;
+          rest = rest ++ b.rest;
+          calls = subst (λ cs. AreAnswered answers first cs c.replies now) b.calls s.calls;
+          written = e ∙ (ap (λ out. out ++ front) s.written ∙ append_assoc base c.written front);
+          due = sym b.output
+              ∙ (ap (λ out. (c.written ++ out) ++ b.rest) split
+              ∙ (ap (λ out. out ++ b.rest) (sym (append_assoc c.written front rest))
+              ∙ append_assoc (c.written ++ front) rest b.rest));
+        }
 
-      -- a piece was read that the session has no room for
-      pub cut_unfed : (read piece sent : List ℕ) (held : Held) (now : V) → Stands read held sent now
-          → IsCut answers (read ++ piece) base sent first
-      cut_unfed read piece sent held now s = subst (λ bytes. IsCut answers (bytes ++ piece) base sent first) s.stream
-          (cut_here answers first base cutting output replied fewer (acted s.run (Feed piece)) (fed held piece) sent now
-          (tracks_fed answers first base s.run held piece sent now s.tracks)
-          (idle_fed held piece s.all.closed s.idle))
+    -- nothing of it was written
+    pub cut_here : (c : Connected) (bytes sent : List ℕ) (now : V) → Stands c sent now → IsBegun c bytes
+        → IsCut answers bytes base sent first
+    cut_here c bytes sent now s b = cut c bytes sent sent now s b ([], c.due, refl, sym (append-nil sent))
 
-  -- a piece was read, and cut while it was answered
-  pub cut_answering : (read piece sent written : List ℕ) (held : Held) (now : V) (s : Stands read held sent now)
-      → IsCut answers (s.run.stream ++ piece) base written first → IsCut answers (read ++ piece) base written first
-  cut_answering read piece sent written held now s cut =
-      subst (λ bytes. IsCut answers (bytes ++ piece) base written first) s.stream cut
+    -- the bytes that were read are all there is
+    pub cut_now : (c : Connected) (sent after : List ℕ) (now : V) → Stands c sent now
+        → ((more : List ℕ) → IsBegun c (c.read ++ more)) → WritesBeginning sent after c.due
+        → IsCut answers c.read base after first
+    cut_now c sent after now s b wrote = subst (λ bytes. IsCut answers bytes base after first) (append-nil c.read)
+        (cut c (c.read ++ []) sent after now s (b []) wrote)
 
-  -- a piece was read, and the session took it
-  pub tracks_on : (read piece sent : List ℕ) (held left : Held) (now : V) (s : Stands read held sent now)
-      → left ≡ fed held piece
-      → Tracks answers first base (acted s.run (Feed piece)) left sent now
-  tracks_on read piece sent held left now s e =
-      subst (λ h. Tracks answers first base (acted s.run (Feed piece)) h sent now) (sym e)
-      (tracks_fed answers first base s.run held piece sent now s.tracks)
+    pub cut_now_here : (c : Connected) (sent : List ℕ) (now : V) → Stands c sent now
+        → ((more : List ℕ) → IsBegun c (c.read ++ more)) → IsCut answers c.read base sent first
+    cut_now_here c sent now s b = cut_now c sent sent now s b ([], c.due, refl, sym (append-nil sent))
+
+    -- nothing was read, and nothing is done
+    pub cut_at_first : IsCut answers [] base base first
+    cut_at_first = record {
+      replies = [];
+      last = first;
+      front = [];
+      rest = texts (turns []) [];
+      calls = refl;
+      written = sym (append-nil base);
+      due = refl;
+    }
+
+    -- all is answered and written: all is served
+    pub served : (end : End) (c : Connected) (sent : List ℕ) (now : V) → Stands c sent now
+        → IsAnswered (is_closed end) c → c.due ≡ [] → IsServed answers end c.read base sent first now
+    served end c sent now s a out =
+        record {
+          replies = c.replies;
+          calls = subst (λ cs. AreAnswered answers first cs c.replies now) a.calls s.calls;
+          written = s.written ∙ ap (λ bytes. base ++ bytes)
+              (sym (append-nil c.written) ∙ (ap (λ bytes. c.written ++ bytes) (sym out) ∙ a.output));
+          closed = sym a.ends;
+        }

@@ -1,2 +1,4 @@
 pub mod Serving
-pub mod Talks
+pub mod Replied
+pub mod Connections
+pub mod Wanted

@@ -2,8 +2,11 @@
 #![tactic(auto)]
 
 mod callers;
+mod connections;
+mod replies;
 mod serving;
 mod talks;
 
 pub use callers::{CallFault, Caller};
+pub use connections::{Connection, OUTPUT, Wants};
 pub use serving::{End, ServeFault, serve_stream};

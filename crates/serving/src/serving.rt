@@ -1,13 +1,13 @@
 //! The connection engine: reads a client's bytes, answers their calls, and writes what is due.
 ghost use Rattle.std.specs.Prelude.{◌≡◌, ◌+◌, ◌++◌, ◌<◌, ℕ, List, length, true, IfOk, IfErr, vec_len};
-ghost use Rattle.proto.specs.Sessions.{fresh};
+ghost use Rattle.serving.specs.Connections.{unused};
 ghost use Rattle.serving.specs.declared.serving.End.{End};
 ghost use Rattle.serving.specs.Serving.{IsServed, IsCut, failed_reads, failed_writes, failed_calls};
 
 use crate::callers::Caller;
-use crate::talks::{answer, feed};
+use crate::connections::{Connection, Wants};
+use crate::talks::{ask, read, write};
 use ends::{Sink, Source};
-use proto::{Session, any_cutting, calls_have_replies, fewer_replies_begin, output_is_texts};
 use std::alloc::{AllocError, Global};
 use std::sync::Wait;
 use thiserror::Error;
@@ -76,21 +76,22 @@ pub fn serve_stream<R: Wait, S: Source, W: Sink, C: Caller>(
     ensures calls { C.failures caller.new ≡ C.failures caller.old + failed_calls result }
 {
     let mut piece = blank(alloc, PIECE)?;
-    let mut session = Session::new(alloc);
-    serve(rt, piece.as_mut_slice(), &mut session, source, sink, caller)
+    let mut connection = Connection::new(alloc);
+    let room = piece.as_mut_slice();
+    serve(rt, room, &mut connection, source, sink, caller)
 }
 
-// Serves by a session that was fed with nothing, and reads into this slice.
+// Serves by a connection of which nothing was read, and reads into this slice.
 fn serve<R: Wait, S: Source, W: Sink, C: Caller>(
     rt: &R,
     piece: &mut [u8],
-    session: &mut Session,
+    connection: &mut Connection,
     source: &mut S,
     sink: &mut W,
     caller: &mut C,
 ) -> Result<End, ServeFault>
     requires some_room { 0 < length piece.old }
-    requires fresh { session.old ≡ fresh }
+    requires unused { connection.old ≡ unused }
     ensures served { IfOk result (λ end. (read : List ℕ) × (S.given source.new ≡ S.given source.old ++ read) ×
         IsServed C.answers end read (W.written sink.old) (W.written sink.new) caller.old caller.new) }
     ensures ended { IfOk result (λ end. end ≡ End.Input → S.has_ended source.new ≡ true) }
@@ -100,19 +101,15 @@ fn serve<R: Wait, S: Source, W: Sink, C: Caller>(
     ensures writes { W.failures sink.new ≡ W.failures sink.old + failed_writes result }
     ensures calls { C.failures caller.new ≡ C.failures caller.old + failed_calls result }
 {
-    any_cutting();
-    output_is_texts();
-    calls_have_replies();
-    fewer_replies_begin();
     for _ in rt.forever() {
-        let n = match source.read(piece) {
-            Ok(0) => return Ok(End::Input),
-            Ok(n) => n,
-            Err(_) => return Err(ServeFault::Read),
-        };
-        feed(session, &piece[..n])?;
-        if answer(rt, session, sink, caller)? {
-            return Ok(End::Closed);
+        connection.so_far();
+        let wants = connection.next()?;
+        connection.so_far();
+        match wants {
+            Wants::Call(target, op) => ask(rt, connection, caller, target, op)?,
+            Wants::Write => write(connection, sink)?,
+            Wants::Read => read(connection, piece, source)?,
+            Wants::End(end) => return Ok(end),
         }
     }
     unreachable!()

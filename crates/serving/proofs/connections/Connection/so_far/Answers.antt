@@ -1,0 +1,12 @@
+use Rattle.std.proofs.Common.{◌++◌, subst}
+use Rattle.serving.specs.Connections.{IsBegun}
+use Rattle.serving.proofs.Reaching.{begun}
+use Rattle.serving.proofs.connections.Connection.so_far.Goals as goal
+
+pub returns : goal.returns
+returns c =
+    let s = c.self.inside in
+    record {
+      begun = λ more. subst (λ v. IsBegun v (v.read ++ more)) c.self.view_is
+          (begun s.read s.replies.all s.written s.session s.ended s.failed c.self.invariant more);
+    }

@@ -1,0 +1,14 @@
+use Rattle.std.proofs.Common.{◌++◌, ◌≤◌, length, take, sym, ap, subst, ◌∙◌}
+use Rattle.proto.specs.Runs.{taken_from}
+use Rattle.serving.specs.Connections.{IsReached}
+use Rattle.serving.proofs.Reaching.{reached_written}
+use Rattle.serving.proofs.connections.Connection.written.Goals as goal
+
+pub invariant_of-self : goal.invariant_of-self
+invariant_of-self c =
+    let s = c.self.inside in
+    subst (λ held. IsReached s.read s.replies.all c.add.new.self held) (sym c.taken.ensures)
+    (subst (λ written. IsReached s.read s.replies.all written (taken_from s.session c.args.n))
+    (sym (c.add.ensures ∙ ap (λ out. s.written ++ take c.args.n out) c.out.ensures))
+    (reached_written s.read s.replies.all s.written s.session c.args.n c.self.invariant
+    (subst (λ v. c.args.n ≤ length v.due) (sym c.self.view_is) c.requires)))

@@ -1,0 +1,217 @@
+//! A connection without a thread: a client's side of the protocol, driven by what it wants next.
+ghost use Rattle.std.specs.Prelude.{◌≡◌, ◌∷◌, [], length};
+ghost use Rattle.table.specs.declared.operations.Reply.{Reply};
+
+use crate::replies::Replies;
+use crate::serving::End;
+use ends::Passed;
+use proto::{Session, Step};
+use std::alloc::{AllocError, Global};
+use std::marker::Model;
+use table::{Op, Reply, Target};
+
+/// What a connection wants next.
+#[derive(Debug, Drop)]
+pub enum Wants {
+    /// The reply to this operation on this target.
+    Call(Target, Op),
+    /// That output is written.
+    Write,
+    /// Input.
+    Read,
+    /// Nothing any more.
+    End(End),
+}
+
+/// So much output is written before a further call begins: 64 KiB.
+pub const OUTPUT: usize = 65_536;
+
+/// One client's connection. It is fed with what was read, says what it wants next, is handed the replies to its calls
+/// and told how much of its output was written. It reads, writes, calls and waits for nothing by itself. After a
+/// refusal for memory it makes no further call, and takes no further input; what is due may still be written.
+#[derive(Drop)]
+pub struct Connection {
+    session: Session,
+    // What was read, the replies, and what was written, for contracts alone.
+    read: Passed,
+    replies: Replies,
+    written: Passed,
+    ended: bool,
+    failed: bool,
+}
+
+impl Model for Connection {
+    ghost use Rattle.serving.specs.Connections.{Connected, IsReached, reached};
+
+    ghost Value = { Connected };
+
+    ghost view = { λ c. reached c.read c.replies.all c.written c.session c.ended c.failed };
+
+    ghost invariant = { λ c. IsReached c.read c.replies.all c.written c.session };
+}
+
+impl Connection {
+    ghost use Rattle.std.specs.Prelude.{◌≡◌, ◌≤◌, ◌++◌, ℕ, List, [], false, true, take, drop, length};
+    ghost use Rattle.std.specs.Prelude.{IsOk, IsErr, IfOk, OnOk, OnErr, MatchResult};
+    ghost use Rattle.serving.specs.Connections.{unused, IsAnswered, IsBegun, IsLooked, HasReply, MayHave};
+    ghost use Rattle.serving.specs.Wanted.{IsWanted, HasStepped};
+    ghost use Rattle.serving.specs.Serving.{is_closed};
+
+    /// A connection of which nothing was read. It allocates nothing.
+    pub fn new(alloc: Global) -> Connection
+        ensures { result ≡ unused }
+    {
+        Connection {
+            session: Session::new(alloc),
+            read: Passed::new(),
+            replies: Replies::new(),
+            written: Passed::new(),
+            ended: false,
+            failed: false,
+        }
+    }
+
+    /// Whatever was done: the calls are the first ones of the bytes that were read, each with its reply, and what was
+    /// written, with what is due, is a beginning of what is due for them; and so it stays, whatever bytes may follow.
+    pub fn so_far(&self)
+        ensures begun { (more : List ℕ) → IsBegun self.now (self.now.read ++ more) }
+    {
+        let _ = &self.session;
+    }
+
+    /// Takes a piece of input, which is copied once. It may be fed where it wants to read. Refused if memory is out,
+    /// and then the piece counts as not read.
+    pub fn feed(&mut self, piece: &[u8]) -> Result<(), AllocError>
+        requires idle { self.old.waiting ≡ [] }
+        requires written { self.old.due ≡ [] }
+        requires open { self.old.closed ≡ false }
+        requires goes_on { self.old.ended ≡ false }
+        ensures ok { OnOk result (self.new ≡ record self.old { read = self.old.read ++ piece.now }) }
+        ensures err { OnErr result (self.new ≡ record self.old { failed = true }) }
+        ensures spent { self.old.failed ≡ true → IsErr result }
+    {
+        if self.failed {
+            return Err(AllocError);
+        }
+        match self.session.feed(piece) {
+            Ok(()) => {
+                self.read.add(piece);
+                Ok(())
+            }
+            Err(_) => {
+                self.failed = true;
+                Err(AllocError)
+            }
+        }
+    }
+
+    /// The input has ended: what was read is answered, and then it is at its end.
+    pub fn input_ended(&mut self)
+        requires idle { self.old.waiting ≡ [] }
+        ensures { self.new ≡ record self.old { ended = true } }
+    {
+        self.ended = true;
+    }
+
+    /// What it wants next: the call that it hands out waits from now on, until it is answered. Refused if memory is
+    /// out, and from then on always.
+    pub fn next(&mut self) -> Result<Wants, AllocError>
+        requires idle { self.old.waiting ≡ [] }
+        ensures looked { IsLooked self.old self.new }
+        ensures wanted { IfOk result (λ wants. IsWanted wants self.new) }
+        ensures failed { MatchResult result (λ _. self.new.failed ≡ false) (λ _. self.new.failed ≡ true) }
+        // No call is open after a refusal, and none is opened then.
+        ensures idle { OnErr result (self.new.waiting ≡ []) }
+        ensures spent { self.old.failed ≡ true → IsErr result }
+    {
+        if self.has_failed() {
+            return Err(AllocError);
+        }
+        'turns: loop {
+            if self.output().len() >= OUTPUT {
+                return Ok(Wants::Write);
+            }
+            match self.turn()? {
+                Step::Call(target, op) => return Ok(Wants::Call(target, op)),
+                Step::Emit => {}
+                Step::Wait => return Ok(self.at_rest(End::Input)),
+                Step::Close => return Ok(self.at_rest(End::Closed)),
+            }
+        }
+    }
+
+    /// Answers the call that waits longest, by an item, or none, exactly if it is a read. Its text is due then. Refused
+    /// if memory is out; the call still waits then.
+    pub fn answer(&mut self, reply: &Reply) -> Result<(), AllocError>
+        requires may_have { MayHave self.old.waiting reply.now }
+        ensures ok { OnOk result (HasReply reply.now self.old self.new) }
+        ensures err { OnErr result (self.new ≡ record self.old { failed = true }) }
+    {
+        match self.session.answer(reply) {
+            Ok(()) => {
+                self.replies = self.replies.then(reply);
+                Ok(())
+            }
+            Err(_) => {
+                self.failed = true;
+                Err(AllocError)
+            }
+        }
+    }
+
+    /// The output that is due.
+    pub fn output(&self) -> &[u8]
+        ensures { result.now ≡ self.now.due }
+    {
+        self.session.out()
+    }
+
+    /// The first n bytes of the output were written.
+    pub fn written(&mut self, n: usize)
+        requires { n ≤ length self.old.due }
+        ensures { self.new ≡
+            record self.old { due = drop n self.old.due; written = self.old.written ++ take n self.old.due } }
+    {
+        self.written.add(&self.session.out()[..n]);
+        self.session.taken(n);
+    }
+
+    /// Whether memory was refused to it.
+    pub fn has_failed(&self) -> bool
+        ensures { result ≡ self.now.failed }
+    {
+        self.failed
+    }
+
+    // The next step of the session.
+    fn turn(&mut self) -> Result<Step, AllocError>
+        requires idle { self.old.waiting ≡ [] }
+        requires unfailed { self.old.failed ≡ false }
+        ensures looked { IsLooked self.old self.new }
+        ensures stepped { IfOk result (λ step. HasStepped step self.old self.new) }
+        ensures idle { OnErr result (self.new.waiting ≡ []) }
+        ensures failed { MatchResult result (λ _. self.new.failed ≡ false) (λ _. self.new.failed ≡ true) }
+    {
+        match self.session.next() {
+            Ok(step) => Ok(step),
+            Err(_) => {
+                self.failed = true;
+                Err(AllocError)
+            }
+        }
+    }
+
+    // All is answered, and this is the end if nothing more is read.
+    fn at_rest(&self, end: End) -> Wants
+        requires answered { IsAnswered (is_closed end) self.now }
+        ensures { IsWanted result self.now }
+    {
+        if !self.output().is_empty() {
+            return Wants::Write;
+        }
+        if end == End::Input && !self.ended {
+            return Wants::Read;
+        }
+        Wants::End(end)
+    }
+}

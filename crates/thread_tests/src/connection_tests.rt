@@ -1,0 +1,132 @@
+//! Connections that are driven by hand, to a plain table.
+ghost use Rattle.std.specs.Prelude.{◌≡◌, [], OnOk, IfOk};
+ghost use Rattle.std.specs.Option.{ForNone};
+ghost use Rattle.serving.specs.Wanted.{IsAsking};
+
+use serving::{Connection, End, Wants};
+use std::alloc::{AllocError, Global};
+use std::test::Fail;
+use table::{Op, Table, Target};
+
+const REQUESTS: &[u8] = b"set a 5 0 3\r\nxyz\r\ngets a\r\nbad\r\nget a b\r\nquit\r\n";
+
+const REPLIES: &[u8] =
+    b"STORED\r\nVALUE a 5 3 1\r\nxyz\r\nEND\r\nERROR\r\nVALUE a 5 3\r\nxyz\r\nEND\r\n";
+
+// What is beside a connection: its input, of which so many bytes are read at once, its output, of which so many are
+// written at once, and a table.
+#[derive(Drop)]
+struct Beside<'a> {
+    input: &'a [u8],
+    reads: usize,
+    output: Vec<u8>,
+    writes: usize,
+    table: Table,
+}
+
+// Has a call answered.
+fn answer(
+    connection: &mut Connection,
+    table: &mut Table,
+    target: &Target,
+    op: &Op,
+) -> Result<(), AllocError>
+    requires asking { IsAsking target.now op.now connection.old }
+    ensures idle { OnOk result (connection.new.waiting ≡ []) }
+{
+    match table.call(target, op) {
+        Ok(reply) => connection.answer(&reply),
+        Err(_) => Err(AllocError),
+    }
+}
+
+// Does what the connection wants next, and tells whether it is at its end.
+fn go(connection: &mut Connection, beside: &mut Beside<'_>) -> Result<Option<End>, AllocError>
+    requires idle { connection.old.waiting ≡ [] }
+    ensures idle { OnOk result (connection.new.waiting ≡ []) }
+{
+    match connection.next()? {
+        Wants::Call(target, op) => {
+            answer(connection, &mut beside.table, &target, &op)?;
+        }
+        Wants::Write => {
+            let n = connection.output().len().min(beside.writes);
+            beside.output.extend_from_slice(&connection.output()[..n])?;
+            connection.written(n);
+        }
+        Wants::Read => {
+            let n = beside.input.len().min(beside.reads);
+            if n == 0 {
+                connection.input_ended();
+            } else {
+                connection.feed(&beside.input[..n])?;
+                beside.input = &beside.input[n..];
+            }
+        }
+        Wants::End(end) => return Ok(Some(end)),
+    }
+    Ok(None)
+}
+
+// How a connection with this input comes to its end, if it does in so many steps, and what was written.
+fn driven(
+    alloc: Global,
+    input: &[u8],
+    reads: usize,
+    writes: usize,
+    steps: usize,
+) -> Result<(Option<End>, Vec<u8>), AllocError> {
+    let mut connection = Connection::new(alloc);
+    let mut beside = Beside {
+        input,
+        reads,
+        output: Vec::new(alloc),
+        writes,
+        table: Table::new(alloc),
+    };
+    for _ in 0..steps {
+        if let Some(end) = go(&mut connection, &mut beside)? {
+            return Ok((Some(end), beside.output));
+        }
+    }
+    Ok((None, beside.output))
+}
+
+// Whether a connection comes to this end, and leaves this output.
+fn comes_to(came: &(Option<End>, Vec<u8>), end: End, output: &[u8]) -> bool {
+    came.0 == Some(end) && came.1.as_slice() == output
+}
+
+// A value that may be handed to another thread.
+fn is_handed<T: Send>(value: T) -> T {
+    value
+}
+
+// However the input is cut, and however little of the output is taken at once.
+#[test]
+fn any_pace_writes_the_same(rt: HostRuntime) -> Result<(), Fail> {
+    for reads in 1..9usize {
+        for writes in 1..9usize {
+            let came = driven(rt.alloc(), REQUESTS, reads, writes, 1000)?;
+            assert!(rt;
+                comes_to(&came, End::Closed, REPLIES),
+                "{reads} and {writes}"
+            );
+        }
+    }
+    Ok(())
+}
+
+#[test]
+fn an_input_that_ends_in_a_request(rt: HostRuntime) -> Result<(), Fail> {
+    let came = driven(rt.alloc(), b"get a\r\nget b", 64, 64, 1000)?;
+    assert!(rt; comes_to(&came, End::Input, b"END\r\n"));
+    Ok(())
+}
+
+#[test]
+fn a_connection_may_go_to_another_thread(rt: HostRuntime) -> Result<(), Fail> {
+    let connection = is_handed(Connection::new(rt.alloc()));
+    assert!(rt; connection.output().is_empty());
+    Ok(())
+}
