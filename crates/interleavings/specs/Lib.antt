@@ -11,3 +11,4 @@ pub mod OwnPorts
 pub mod Connections
 pub mod ServingMoves
 pub mod Served
+pub mod WorkedServing

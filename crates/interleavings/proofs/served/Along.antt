@@ -11,6 +11,12 @@ use Rattle.interleavings.proofs.served.InTurn.{InTurn, upto}
 use Rattle.interleavings.proofs.served.Steps.{IsInOrder, Grows, grows_same, grows_more, IsStep}
 use Rattle.interleavings.proofs.served.EachMove.{step}
 
+-- one part behind the other
+pub served_from-append : (s : ServingChain) (ms ns : List ServingMove)
+    → served_from s (ms ++ ns) ≡ served_from (served_from s ms) ns
+served_from-append s [] ns = refl
+served_from-append s (m ∷ ms) ns = served_from-append (served_by s m) ms ns
+
 -- before any move
 pub opening_order : (count : ℕ) (homes : List ℕ) → IsInOrder (opening_serving count homes)
 unfolding upto
