@@ -31,6 +31,17 @@ pub record IsServed (k : Connection) : Type 0 where
       → (next_of k.session).0 ≡ None
       → length k.replies ≡ length (calls_of (turns k.read))
 
+-- nothing is left to do at the connection: no call is to be made, no turn can begin, and no output is left
+pub record IsRested (k : Connection) : Type 0 where
+  pub due : k.due ≡ None
+  pub turns : (next_of k.session).0 ≡ None
+  pub out : k.session.out ≡ []
+
+-- each call that its bytes spell has a reply, and all that is due was written to it
+pub record HasAll (k : Connection) : Type 0 where
+  pub answered : length k.replies ≡ length (calls_of (turns k.read))
+  pub written : k.written ≡ texts (turns k.read) k.replies
+
 -- ---- the order of all calls, in the words of `Orders.antt`
 
 -- A call's name: its connection, by a seat and the connection's number there, and its place among the connection's calls.
@@ -89,3 +100,11 @@ NoneUnanswered s =
     → goes_on s.chain (s.chain.seats x.seat).home ≡ true
     → IsSome (call_made s x)
     → IsSome (reply_got s x)
+
+-- each connection at which nothing is left to do has all, if the server of its seat goes on
+abbrev pub AllHaveAll : ServingChain → Type 0
+AllHaveAll s =
+    (c n : ℕ)
+    → goes_on s.chain (s.chain.seats c).home ≡ true
+    → IsRested (s.connections c n)
+    → HasAll (s.connections c n)

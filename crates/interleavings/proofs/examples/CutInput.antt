@@ -1,6 +1,7 @@
 -- A set and a get that come in two pieces are answered, and the next connection of the seat gets nothing of it.
-use Rattle.std.proofs.Common.{◌≡◌, ℕ, [], ◌∷◌, ◌++◌, take, Option, None, Some, false, refl, ap, sym, ◌∙◌}
-use Rattle.std.specs.Prelude.{codes}
+use Rattle.std.proofs.Common.{◌≡◌, ℕ, List, arith, [], ◌∷◌, ◌++◌, take, Option, None, Some, false, refl, ap, ◌∙◌}
+use Rattle.std.specs.Prelude.{codes, decimal}
+use Rattle.std.proofs.lemmas.Fmt.{decimal_digit}
 use Rattle.std.specs.Cmp.Lexicographic.{nat_list_cmp_total}
 use Rattle.std.specs.FinMap.{empty, insert, get-insert}
 use Rattle.table.specs.Plain.{item_at}
@@ -11,7 +12,7 @@ use Rattle.node.specs.Reading.{answered as answered_there}
 use Rattle.node.specs.Servers.{most}
 use Rattle.node.specs.Steps.{trimmed}
 use Rattle.node.specs.Views.{has, union, single, is_below, adds, next_from, predecessor}
-use Rattle.proto.specs.Words.{line_limit}
+use Rattle.proto.specs.Words.{space, crlf, line_limit}
 use Rattle.proto.specs.Sessions.{fresh}
 use Rattle.proto.specs.Turns.{item_text}
 use Rattle.interleavings.specs.Chains.{Chain, with_at}
@@ -73,6 +74,15 @@ in_two =
     ∙ ap (λ (e : ℕ → ℕ). served_from (record { chain = talked.chain; ended = e; connections = talked.connections })
     last_moves) none_ended
 
+-- the item's text, by the digits of its flags and of its length
+abbrev item_with : List ℕ → List ℕ → List ℕ
+item_with flags size =
+    codes "STO"
+    ++ take 40
+    (codes "RED\r\n"
+    ++ ((codes "VALUE " ++ key ++ (space ∷ flags) ++ (space ∷ size) ++ [] ++ crlf) ++ codes "p" ++ crlf)
+    ++ codes "END\r\n")
+
 -- the first client is written both answers,
 pub written_to_first : ((served 2 talk_homes (talk_moves ++ last_moves)).connections 0 0).written
     ≡ codes "STORED\r\nVALUE a 0 1\r\np\r\nEND\r\n"
@@ -80,6 +90,8 @@ written_to_first =
     ap (λ (s : ServingChain). (s.connections 0 0).written) in_two
     ∙ end_written talked.chain talked.connections (talked_with (Some item))
     (talked_computed ∙ ap talked_with (get-insert nat_list_cmp_total empty key item key))
+    ∙ ap (λ zero. item_with zero (decimal 1)) (decimal_digit 0 (omega arith))
+    ∙ ap (λ one. item_with (codes "0") one) (decimal_digit 1 (omega arith))
 
 -- and the next one its own
 pub written_to_next : ((served 2 talk_homes (talk_moves ++ last_moves)).connections 0 1).written ≡ codes "ERROR\r\n"

@@ -1,14 +1,13 @@
 -- A run of a chain that serves is a run of the chain, and what holds of seats and connections holds along it.
 use Rattle.std.proofs.Common.{◌≡◌, ℕ, zero, suc, ◌≤◌, List, [], ◌∷◌, ◌++◌, length, take, refl, arith, ap, sym, ◌∙◌}
 use Rattle.std.proofs.Common.{append_assoc, length-append}
-use Rattle.interleavings.specs.Chains.{Chain}
 use Rattle.interleavings.specs.Moves.{Move, moved_from}
 use Rattle.interleavings.specs.Asked.{AreAsked}
 use Rattle.interleavings.specs.ServingMoves.{ServingChain, ServingMove, served_by, served_from, opening_serving}
 use Rattle.interleavings.proofs.examples.InTwoParts.{moved_from-append}
 use Rattle.interleavings.proofs.served.Connected.{connected_opening}
-use Rattle.interleavings.proofs.served.InTurn.{InTurn, upto}
-use Rattle.interleavings.proofs.served.Steps.{IsInOrder, Grows, grows_same, grows_more, IsStep}
+use Rattle.interleavings.proofs.served.InTurn.{upto}
+use Rattle.interleavings.proofs.served.Steps.{IsInOrder, Grows, grows_same, grows_more}
 use Rattle.interleavings.proofs.served.EachMove.{step}
 
 -- one part behind the other

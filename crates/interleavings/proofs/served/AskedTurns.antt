@@ -1,6 +1,6 @@
 -- Each call that the bytes of a stream spell is one that clients can ask.
 use Rattle.std.proofs.Common.{◌≡◌, ℕ, zero, suc, ◌^◌, ◌<◌, ◌≤◌, Bool, true, false, cond, List, [], ◌∷◌, ◌++◌, length, take}
-use Rattle.std.proofs.Common.{drop, Option, None, Some, refl, ap, sym, subst, ◌∙◌}
+use Rattle.std.proofs.Common.{drop, None, Some, refl, ap, sym, subst, ◌∙◌}
 use Rattle.std.specs.Prelude.{◌&&◌, nat_lt, IsTrue}
 use Rattle.std.specs.List.{list_all, flat_map}
 use Rattle.std.specs.Char.{is_ascii_digit}
@@ -14,7 +14,7 @@ use Rattle.table.specs.declared.operations.Call.{Call}
 use Rattle.table.specs.declared.operations.Op.{Op}
 use Rattle.table.specs.declared.operations.Op.TheVariants.{Read, Set, Add, Replace, Append, Prepend, Cas, Incr, Decr}
 use Rattle.table.specs.declared.operations.Op.TheVariants.{Delete, Flush}
-use Rattle.table.specs.declared.operations.Target.TheVariants.{One, All}
+use Rattle.table.specs.declared.operations.Target.TheVariants.{One}
 use Rattle.proto.specs.declared.requests.Request.{Request}
 use Rattle.proto.specs.declared.requests.Request.TheVariants as requests
 use Rattle.proto.specs.declared.storage.StorageLine.{StorageLine}
@@ -101,27 +101,27 @@ request_asked : (request : Request) (bytes : List ℕ)
     → Spells request bytes
     → AllAsked (calls_of (turns_of request))
 request_asked (requests.Store key op silent) bytes s = (
-    subst (λ o. IsAsked (on key o)) s.5 (store_asked s.2.storing s.2.fields key s.0 s.1 s.2.are_storage s.3),
-    tt,
+  subst (λ o. IsAsked (on key o)) s.5 (store_asked s.2.storing s.2.fields key s.0 s.1 s.2.are_storage s.3),
+  tt,
 )
 request_asked (requests.Get keys unique) bytes s = looks_asked keys unique s.1.each
 request_asked (requests.Arith key (Incr amount) silent) bytes s = (
-    record {
-      fits = tt;
-      suits = refl;
-      target = s.2.key_is;
-      numbers = number_below (2 ^ 64) s.2.amount_field amount s.2.amount_is;
-    },
-    tt,
+  record {
+    fits = tt;
+    suits = refl;
+    target = s.2.key_is;
+    numbers = number_below (2 ^ 64) s.2.amount_field amount s.2.amount_is;
+  },
+  tt,
 )
 request_asked (requests.Arith key (Decr amount) silent) bytes s = (
-    record {
-      fits = tt;
-      suits = refl;
-      target = s.2.key_is;
-      numbers = number_below (2 ^ 64) s.2.amount_field amount s.2.amount_is;
-    },
-    tt,
+  record {
+    fits = tt;
+    suits = refl;
+    target = s.2.key_is;
+    numbers = number_below (2 ^ 64) s.2.amount_field amount s.2.amount_is;
+  },
+  tt,
 )
 request_asked (requests.Arith key Read silent) bytes s = absurd s
 request_asked (requests.Arith key (Set flags block) silent) bytes s = absurd s
@@ -150,6 +150,7 @@ upto_asked (suc k) bytes = by_front (front bytes) refl (λ n. upto_asked k (drop
         → AllAsked (calls_of (flat_map turns_of (cond b [] later)))
     unless_last true later a = tt
     unless_last false later a = a
+
     by_front : (f : Front)
         → front bytes ≡ f
         → ((n : ℕ) → AllAsked (calls_of (flat_map turns_of (requests_upto k (drop n bytes)))))

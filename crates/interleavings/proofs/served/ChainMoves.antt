@@ -1,9 +1,8 @@
 -- What the chain's moves make of the calls and replies of its seats.
-use Rattle.std.proofs.Common.{◌≡◌, ◌≢◌, ℕ, Bool, true, false, cond, List, [], ◌∷◌, ◌++◌, length, Option, None, Some, refl}
-use Rattle.std.proofs.Common.{ap, sym, subst}
-use Rattle.std.specs.Prelude.{◌==◌, not, ◌&&◌}
+use Rattle.std.proofs.Common.{◌≡◌, ℕ, Bool, true, false, cond, List, [], ◌∷◌, ◌++◌, None, Some, refl}
+use Rattle.std.proofs.Common.{ap}
+use Rattle.std.specs.Prelude.{not, ◌&&◌}
 use Rattle.std.proofs.lemmas.Option.{same_Some}
-use Rattle.std.proofs.lemmas.Bool.{and_parts}
 use Rattle.table.specs.declared.items.Item.{Item}
 use Rattle.table.specs.declared.operations.Call.{Call}
 use Rattle.table.specs.declared.operations.Reply.{Reply}
@@ -15,7 +14,7 @@ use Rattle.node.specs.declared.looks.Look.TheVariants.{Clean, Dirty}
 use Rattle.node.specs.Faces.{face_of, look_at}
 use Rattle.interleavings.specs.Chains.{Seat, Chain, with_at, messages_to, replies_to}
 use Rattle.interleavings.specs.Moves.{Move, Sends, Takes, Publishes, Puts, Arrives, Replies, Receives, Looks, Stops}
-use Rattle.interleavings.specs.Moves.{Notices, is_free, read_of, sent, received, looked, looking, put, arrived, mailed}
+use Rattle.interleavings.specs.Moves.{Notices, is_free, read_of, looked, put, arrived, mailed}
 use Rattle.interleavings.specs.Moves.{has_stopped, brought, done}
 use Rattle.interleavings.specs.ServingMoves.{reply_by, look_reply, is_of_seat}
 use Rattle.interleavings.proofs.lists.Places.{kept_at}

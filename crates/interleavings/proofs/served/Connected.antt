@@ -3,23 +3,25 @@
 use Rattle.std.proofs.Common.{◌≡◌, ℕ, zero, suc, ◌+◌, ◌<◌, ◌≤◌, Bool, true, false, cond, List, [], ◌∷◌, ◌++◌, length, take, drop}
 use Rattle.std.proofs.Common.{Option, None, Some, refl, arith, ap, sym, ◌∙◌, inl, inr, subst, append-nil, append_assoc}
 use Rattle.std.proofs.Common.{length-append}
-use Rattle.std.specs.Prelude.{not, ◌||◌, is_some, nat_lt}
+use Rattle.std.specs.Prelude.{not, ◌||◌, is_some, slice_get, IsSome}
 use Rattle.std.proofs.lemmas.Bool.{cases_lt, ltb-true}
 use Rattle.std.proofs.lemmas.List.{take_all}
+use Rattle.std.proofs.lemmas.Option.{slice_get_within}
+use Rattle.world.proofs.lists.Standing.{some_of}
 use Rattle.table.specs.Operations.{is_value}
 use Rattle.table.specs.declared.operations.Call.{Call}
 use Rattle.table.specs.declared.operations.Reply.{Reply}
 use Rattle.proto.specs.declared.texts.Form.{Form}
 use Rattle.proto.specs.Turns.{Turn, Faulty, Calls, call_of, calls_of, fault_text, text}
-use Rattle.proto.specs.Sessions.{Held, next_of, shows, CanAnswer}
+use Rattle.proto.specs.Sessions.{next_of, shows, CanAnswer}
 use Rattle.proto.specs.Streams.{turns, texts, to_come}
 use Rattle.proto.specs.Runs.{Feed, Next, Answer, Take, Run, IsRun, Opens, Acts, turn_given, open_calls}
 use Rattle.proto.proofs.RunLaws.{any_cutting, gives_all}
 use Rattle.proto.proofs.RunTexts.{output_is_texts, calls_have_replies}
 use Rattle.proto.proofs.WriteLaws.{calls_of_more, fewer_replies_begin}
 use Rattle.interleavings.specs.Connections.{Connection, opening_connection, heard, begun, made, answered, wrote, waits}
-use Rattle.interleavings.specs.Connections.{may_have, gives_none}
-use Rattle.interleavings.specs.Served.{IsServed}
+use Rattle.interleavings.specs.Connections.{may_have}
+use Rattle.interleavings.specs.Served.{IsServed, IsRested, HasAll}
 use Rattle.interleavings.proofs.relation.Transfer.{take_front}
 
 -- the call that is to be made, as a list
@@ -88,9 +90,9 @@ connected_begun k t = by_asked k.session.asked refl
       is = Acts (run_with k t.given) Next t.is e;
       calls =
           calls_of_more t.given (turn_given (next_of k.session).0)
-              ∙ ap (λ cs. cs ++ calls_of (turn_given (next_of k.session).0))
-              (t.calls ∙ ap (λ d. k.calls ++ as_list d) (nothing_due k t e) ∙ append-nil k.calls)
-              ∙ ap (λ cs. k.calls ++ cs) (one_call (next_of k.session).0);
+          ∙ ap (λ cs. cs ++ calls_of (turn_given (next_of k.session).0))
+          (t.calls ∙ ap (λ d. k.calls ++ as_list d) (nothing_due k t e) ∙ append-nil k.calls)
+          ∙ ap (λ cs. k.calls ++ cs) (one_call (next_of k.session).0);
       few = t.few;
     }
 
@@ -156,6 +158,11 @@ connected_wrote n k t = elim (cases_lt (length k.session.out) n) [
       (wrote_within (length k.session.out) k (omega arith) t)
   | inr within ↦ wrote_within n k (omega (arith, within)) t
 ]
+
+some_within : {X : Type 0} (xs : List X) (p : ℕ) → p < length xs → IsSome (slice_get xs p)
+some_within [] p h = absurd (omega (arith, h))
+some_within (x ∷ xs) zero h = refl
+some_within (x ∷ xs) (suc p) h = some_within xs p (omega (arith, h))
 
 -- ---- what it comes to
 
@@ -254,3 +261,31 @@ module _ (k : Connection) (t : IsConnected k) where
     all_written = λ none gives. all_out none ∙ sym (texts_given (is_some k.session.asked) refl gives);
     all_answered = answered_all;
   }
+
+  no_more : (o : Option Form) (r c : ℕ) → r + open_calls o ≡ c + 0 → r ≡ c → o ≡ None
+  no_more None r c e same = refl
+  no_more (Some form) r c e same = absurd (omega (arith, e, same))
+
+  -- if the first call without a reply would have one, and nothing is left to do, it has all
+  pub has_all : (IsSome (slice_get k.calls (length k.replies)) → IsSome (slice_get k.replies (length k.replies)))
+      → IsRested k
+      → HasAll k
+  has_all replied rested =
+      let n : length k.replies + open_calls k.session.asked ≡ length k.calls + 0 =
+      subst (λ d. length k.replies + open_calls k.session.asked ≡ length k.calls + length (as_list d)) rested.due
+      (counted k t) in
+      let idle = no_more k.session.asked (length k.replies) (length k.calls) n no_open in
+      record {
+        answered = answered_all idle rested.turns;
+        written =
+            all_out rested.out ∙ ap (λ ts. texts ts k.replies) (gives_all (run_with k t.given) t.is rested.turns);
+      }
+    where
+      no_open : length k.replies ≡ length k.calls
+      no_open = elim (cases_lt (length k.replies) (length k.calls)) [
+        | inl less ↦
+            let r = some_of _ (replied (some_within k.calls (length k.replies) less)) in
+            let p = slice_get_within k.replies (length k.replies) r.0 r.1 in
+            absurd (omega (arith, p))
+        | inr past ↦ let f = t.few in omega (arith, f, past)
+      ]

@@ -1,7 +1,7 @@
 -- Each move of a chain that serves is such a step.
-use Rattle.std.proofs.Common.{◌≡◌, ◌≢◌, ℕ, suc, ◌+◌, ◌<◌, ◌≤◌, Bool, true, false, cond, List, [], ◌∷◌, ◌++◌, length}
-use Rattle.std.proofs.Common.{Option, None, Some, refl, arith, ap, sym, ◌∙◌, inl, inr, subst, length-append}
-use Rattle.std.specs.Prelude.{◌&&◌, ◌==◌, nat_lt, is_some, slice_get}
+use Rattle.std.proofs.Common.{◌≡◌, ℕ, suc, ◌+◌, ◌≤◌, Bool, true, false, cond, List, [], ◌∷◌, ◌++◌, length}
+use Rattle.std.proofs.Common.{Option, None, Some, refl, arith, ap, sym, inl, inr, subst, length-append}
+use Rattle.std.specs.Prelude.{◌&&◌, is_some}
 use Rattle.std.proofs.lemmas.Bool.{cases_eq, ltb-true, lt-ltb, eqb-true}
 use Rattle.std.proofs.lemmas.Option.{same_Some}
 use Rattle.table.specs.declared.operations.Call.{Call}
@@ -16,21 +16,21 @@ use Rattle.proto.specs.declared.texts.Form.{Form}
 use Rattle.proto.specs.Turns.{call_of}
 use Rattle.proto.specs.Sessions.{next_of}
 use Rattle.proto.specs.Runs.{open_calls}
-use Rattle.interleavings.specs.Chains.{Seat, Chain, with_at}
+use Rattle.interleavings.specs.Chains.{with_at}
 use Rattle.interleavings.specs.Moves.{Move, Sends, Takes, Publishes, Puts, Arrives, Replies, Receives, Looks, Stops}
 use Rattle.interleavings.specs.Moves.{Notices, is_free, read_of, done}
-use Rattle.interleavings.specs.Asked.{IsAsked, IsAskedBy}
+use Rattle.interleavings.specs.Asked.{IsAskedBy}
 use Rattle.interleavings.specs.Connections.{Connection, heard, begun, made, answered, wrote, waits, may_have}
 use Rattle.interleavings.specs.ServingMoves.{ServingChain, ServingMove, Reads, Begins, Asks, Peeks, Answers, Writes, Ends}
-use Rattle.interleavings.specs.ServingMoves.{Runs, served_at, with_served, with_move, asking, key_read, key_due, look_reply}
+use Rattle.interleavings.specs.ServingMoves.{Runs, served_at, with_move, asking, key_read, key_due, look_reply}
 use Rattle.interleavings.specs.ServingMoves.{peeked, peeking, answering, is_of_seat, served_by}
 use Rattle.interleavings.proofs.lists.Places.{at_same, at_other, at_self}
 use Rattle.interleavings.proofs.served.Connected.{as_list, IsConnected, connected_heard, connected_begun, connected_made}
 use Rattle.interleavings.proofs.served.Connected.{connected_answered, connected_wrote, counted, is_served}
 use Rattle.interleavings.proofs.served.AskedTurns.{due_asked}
 use Rattle.interleavings.proofs.served.InTurn.{InTurn, turn_asked, turn_peeked, turn_answered, turn_ended}
-use Rattle.interleavings.proofs.served.ChainMoves.{sends_seats, looks_seats, receives_seats, SameCalls, others_same}
-use Rattle.interleavings.proofs.served.Steps.{calls_at, replies_at, IsInOrder, Grows, IsStep, stays, session_step}
+use Rattle.interleavings.proofs.served.ChainMoves.{sends_seats, looks_seats, receives_seats, others_same}
+use Rattle.interleavings.proofs.served.Steps.{calls_at, replies_at, IsInOrder, IsStep, stays, session_step}
 use Rattle.interleavings.proofs.served.Steps.{seat_step}
 
 -- ---- the session alone
@@ -146,6 +146,7 @@ asks_step s c h = by_due (served_at s c).due refl
   where
     t : IsConnected (served_at s c)
     t = h.connected c (s.ended c)
+
     by_free : (call : Call) (b : Bool)
         → (served_at s c).due ≡ Some call
         → is_free (s.chain.seats c) ≡ b
@@ -162,6 +163,7 @@ asks_step s c h = by_due (served_at s c).due refl
         (sym (at_self (replies_at s c) (s.ended c)))
         (turn_asked seat.calls seat.got (calls_at s c) (replies_at s c) (s.ended c) (h.seats c) call
         (eqb-true (length seat.calls) (length seat.got) free) (even (served_at s c) call t e)))
+
     by_due : (due : Option Call) → (served_at s c).due ≡ due → IsStep s (asking s c due)
     by_due None e = stays s h
     by_due (Some call) e = by_free call (is_free (s.chain.seats c)) e refl
@@ -192,6 +194,7 @@ peeks_step s c h = by_key (key_due (served_at s c).due) refl
   where
     t : IsConnected (served_at s c)
     t = h.connected c (s.ended c)
+
     by_may : (key : List ℕ) (reply : Reply) (b : Bool)
         → (served_at s c).due ≡ Some (read_of key)
         → look_reply s.chain c key ≡ Some reply
@@ -212,12 +215,14 @@ peeks_step s c h = by_key (key_due (served_at s c).due) refl
         (λ q other g. get_front (served_at s c).calls (read_of key ∷ []) q other g)
         (turn_peeked seat.calls seat.got (calls_at s c) (replies_at s c) (s.ended c) (h.seats c) (read_of key) reply
         (eqb-true (length seat.calls) (length seat.got) l.0) same)
+
     by_reply : (key : List ℕ) (o : Option Reply)
         → (served_at s c).due ≡ Some (read_of key)
         → look_reply s.chain c key ≡ o
         → IsStep s (peeked s c key o)
     by_reply key None e r = stays s h
     by_reply key (Some reply) e r = by_may key reply (may_have (served_at s c).session.asked reply) e r refl
+
     by_key : (o : Option (List ℕ)) → key_due (served_at s c).due ≡ o → IsStep s (peeking s c o)
     by_key None e = stays s h
     by_key (Some key) e = by_reply key (look_reply s.chain c key) (due_read (served_at s c).due key e) refl
@@ -227,6 +232,7 @@ answers_step s c h = by_mail (s.chain.seats c).mail refl
   where
     t : IsConnected (served_at s c)
     t = h.connected c (s.ended c)
+
     by_guard : (reply : Reply) (more : List Reply) (a b : Bool)
         → (s.chain.seats c).mail ≡ reply ∷ more
         → waits (served_at s c) ≡ a
@@ -244,6 +250,7 @@ answers_step s c h = by_mail (s.chain.seats c).mail refl
         (sym (at_self (calls_at s c) (s.ended c)))
         (turn_answered seat.calls seat.got (calls_at s c) (replies_at s c) (s.ended c) (h.seats c) reply
         (ltb-true (length k.replies) (length k.calls) w) (is_served k t).one_open))
+
     by_mail : (mail : List Reply) → (s.chain.seats c).mail ≡ mail → IsStep s (answering s c mail)
     by_mail [] e = stays s h
     by_mail (reply ∷ more) e =

@@ -1,6 +1,6 @@
 -- The calls of a seat are those of its connections, one connection after another, and so are its replies.
 use Rattle.std.proofs.Common.{◌≡◌, ◌≢◌, ℕ, zero, suc, ◌+◌, ◌-◌, ◌<◌, ◌≤◌, Bool, true, false, cond, List, [], ◌∷◌, ◌++◌}
-use Rattle.std.proofs.Common.{length, Option, None, Some, refl, arith, ap, sym, ◌∙◌, inl, inr, subst, length-append}
+use Rattle.std.proofs.Common.{length, refl, arith, ap, sym, ◌∙◌, inl, inr, subst, length-append}
 use Rattle.std.proofs.Common.{append-nil, append_assoc}
 use Rattle.std.specs.Prelude.{nat_lt, slice_get, if◌then◌else◌}
 use Rattle.std.proofs.lemmas.Bool.{cases_lt, cases_eq, ltb-true, ltb-false, lt-ltb}

@@ -1,16 +1,16 @@
 -- A call of a connection is one of its seat, at the place behind those of the connections before.
-use Rattle.std.proofs.Common.{◌≡◌, ◌≢◌, ℕ, suc, ◌+◌, ◌<◌, ◌≤◌, List, [], ◌∷◌, length, Option, None, Some, refl, arith, ap}
-use Rattle.std.proofs.Common.{sym, ◌∙◌, inl, inr, subst}
+use Rattle.std.proofs.Common.{◌≡◌, ℕ, suc, ◌+◌, ◌<◌, List, length, Some, arith, ap}
+use Rattle.std.proofs.Common.{sym, ◌∙◌, inl, inr}
 use Rattle.std.specs.Prelude.{slice_get}
 use Rattle.std.proofs.lemmas.Bool.{cases_lt}
-use Rattle.std.proofs.lemmas.Option.{slice_get_past, slice_get_within, slice_get_cases}
+use Rattle.std.proofs.lemmas.Option.{slice_get_within, slice_get_cases}
 use Rattle.table.specs.declared.operations.Call.{Call}
 use Rattle.table.specs.declared.operations.Reply.{Reply}
 use Rattle.world.specs.Calls.{CallId}
 use Rattle.interleavings.specs.Orders.{begun_call, reply_to}
 use Rattle.interleavings.specs.ServingMoves.{ServingChain}
 use Rattle.interleavings.specs.Served.{CallName, call_made, reply_got}
-use Rattle.interleavings.proofs.served.InTurn.{InTurn, upto, upto_same, start, found_there, owner, IsOwner, owner_is}
+use Rattle.interleavings.proofs.served.InTurn.{upto, upto_same, start, found_there, owner, owner_is}
 use Rattle.interleavings.proofs.served.InTurn.{owner_found}
 use Rattle.interleavings.proofs.served.Steps.{calls_at, replies_at, IsInOrder, Grows}
 

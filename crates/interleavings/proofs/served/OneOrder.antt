@@ -1,5 +1,5 @@
 -- An order of the seats' calls, each by the name of its connection, is one of all connections' calls.
-use Rattle.std.proofs.Common.{◌≡◌, ℕ, suc, ◌^◌, ◌<◌, ◌≤◌, List, [], ◌∷◌, ◌++◌, length, take, map, Option, None, Some, true, refl}
+use Rattle.std.proofs.Common.{◌≡◌, ℕ, ◌^◌, ◌<◌, ◌≤◌, List, [], ◌∷◌, length, take, map, Option, None, Some, true, refl}
 use Rattle.std.proofs.Common.{arith, ap, sym, ◌∙◌, subst}
 use Rattle.std.specs.Prelude.{slice_get, IsSome}
 use Rattle.std.specs.Option.{option_map}
@@ -7,23 +7,22 @@ use Rattle.std.proofs.lemmas.Option.{same_Some, slice_get-map}
 use Rattle.table.specs.Histories.{IsLegal}
 use Rattle.table.specs.declared.operations.Call.{Call}
 use Rattle.table.specs.declared.operations.Reply.{Reply}
-use Rattle.world.specs.Calls.{CallId}
 use Rattle.world.specs.Orders.{Entry, StandsAt}
 use Rattle.world.proofs.lists.Standing.{some_of}
 use Rattle.world.proofs.order.Since.{is_some}
-use Rattle.interleavings.specs.Chains.{Chain}
 use Rattle.interleavings.specs.Moves.{Move, moved}
 use Rattle.interleavings.specs.Orders.{begun_call, reply_to, Precedes, IsLinearization}
+use Rattle.interleavings.specs.Asked.{AreAsked}
 use Rattle.interleavings.specs.Quiet.{goes_on, IsQuiet}
 use Rattle.interleavings.specs.ServingMoves.{ServingChain, ServingMove, served, opening_serving}
 use Rattle.interleavings.specs.Served.{IsServed, CallName, call_made, reply_got, ServedEntry, StandsThere, ComesBefore}
-use Rattle.interleavings.specs.Served.{IsOneOrder, NoneUnanswered}
+use Rattle.interleavings.specs.Served.{IsOneOrder, NoneUnanswered, AllHaveAll}
 use Rattle.interleavings.proofs.relation.Following.{linearizable}
 use Rattle.interleavings.proofs.relation.Transfer.{take_front}
 use Rattle.interleavings.proofs.runs.Simulating.{simulates}
 use Rattle.interleavings.proofs.quiet.Answering.{none_forgotten}
-use Rattle.interleavings.proofs.served.Connected.{is_served}
-use Rattle.interleavings.proofs.served.Steps.{calls_at, IsInOrder, Grows}
+use Rattle.interleavings.proofs.served.Connected.{is_served, has_all}
+use Rattle.interleavings.proofs.served.Steps.{IsInOrder, Grows}
 use Rattle.interleavings.proofs.served.Along.{opening_order, made_along, order_along, chain_along, short_along, asked_along}
 use Rattle.interleavings.proofs.served.Along.{grows_from, first_along}
 use Rattle.interleavings.proofs.served.Names.{place_of, name_of, begun_there, same_reply, named_there, made_if_answered}
@@ -160,7 +159,7 @@ module _ (count : ℕ) (homes : List ℕ) (moves : List ServingMove) where
           answered = is_some _ reply (ap (λ l. reply_to l (place_of last x)) f.1 ∙ r);
           not_begun =
               ap (λ l. begun_call l e.entry.id) f.1
-                  ∙ not_some (begun_call (front k).chain e.entry.id) (λ call begun. not_there call begun);
+              ∙ not_some (begun_call (front k).chain e.entry.id) (λ call begun. not_there call begun);
         }
       where
         not_there : (call : Call) → begun_call (front k).chain e.entry.id ≡ Some call → ⊥
@@ -227,3 +226,19 @@ module _ (count : ℕ) (homes : List ℕ) (moves : List ServingMove) where
     where
       fewer : (a b c : ℕ) → a ≤ b → b < c → a < c
       fewer a b c l k = omega (arith, l, k)
+
+  -- so a connection at which nothing is left to do has all
+  pub all_have_all : count ≤ 16
+      → length moves < 2 ^ 62
+      → IsQuiet (served count homes moves).chain
+      → AllHaveAll (served count homes moves)
+  all_have_all few short quiet c n on rested =
+      has_all (last.connections c n) (ordered.connected c n)
+      (λ made. none_unanswered few short quiet (name c n) on made) rested
+    where
+      name : ℕ → ℕ → CallName
+      name a b = record { seat = a; number = b; place = length (last.connections a b).replies }
+
+  -- and its servers make a run of moves
+  pub is_run : (ms : List Move) × AreAsked ms × ((served count homes moves).chain ≡ moved count homes ms)
+  is_run = (run, asked_along moves (opening_serving count homes) (opening_order count homes), same_chain)

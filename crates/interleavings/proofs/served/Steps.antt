@@ -1,35 +1,23 @@
 -- Each move of a chain that serves is some moves of the running chain, one at most, and keeps what holds of seats and
 -- connections.
-use Rattle.std.proofs.Common.{◌≡◌, ◌≢◌, ℕ, suc, ◌+◌, ◌<◌, ◌≤◌, Bool, true, false, cond, List, [], ◌∷◌, ◌++◌, length}
-use Rattle.std.proofs.Common.{Option, None, Some, refl, arith, ap, sym, ◌∙◌, inl, inr, subst}
-use Rattle.std.specs.Prelude.{◌⊎◌, ◌&&◌, nat_lt, ◌==◌, slice_get}
+use Rattle.std.proofs.Common.{◌≡◌, ◌≢◌, ℕ, ◌<◌, ◌≤◌, List, [], ◌∷◌, length}
+use Rattle.std.proofs.Common.{Some, refl, arith, ap, sym, ◌∙◌, inl, inr, subst}
+use Rattle.std.specs.Prelude.{◌⊎◌, slice_get}
 use mathlib.Core.Path.{fun_ext}
-use Rattle.std.proofs.lemmas.Bool.{cases_eq, and_parts, ltb-true, lt-ltb, eqb-true}
+use Rattle.std.proofs.lemmas.Bool.{cases_eq}
 use Rattle.table.specs.declared.operations.Call.{Call}
-use Rattle.table.specs.declared.operations.Op.{Op}
-use Rattle.table.specs.declared.operations.Op.TheVariants.{Read, Set, Add, Replace, Append, Prepend, Cas, Incr, Decr}
-use Rattle.table.specs.declared.operations.Op.TheVariants.{Delete, Flush}
-use Rattle.table.specs.declared.operations.Target.{Target}
-use Rattle.table.specs.declared.operations.Target.TheVariants.{One, All}
 use Rattle.table.specs.declared.operations.Reply.{Reply}
-use Rattle.node.proofs.Lists.{get_front}
-use Rattle.proto.specs.declared.texts.Form.{Form}
-use Rattle.proto.specs.Runs.{open_calls}
 use Rattle.interleavings.specs.Chains.{Seat, Chain, with_at}
-use Rattle.interleavings.specs.Moves.{Move, Sends, Takes, Publishes, Puts, Arrives, Replies, Receives, Looks, Stops}
-use Rattle.interleavings.specs.Moves.{Notices, is_free, read_of, done, moved_from}
-use Rattle.interleavings.specs.Asked.{IsAsked, AreAsked, IsAskedBy}
-use Rattle.interleavings.specs.Connections.{Connection, opening_connection, heard, begun, made, answered, wrote, waits}
-use Rattle.interleavings.specs.Connections.{may_have}
-use Rattle.interleavings.specs.ServingMoves.{ServingChain, ServingMove, Reads, Begins, Asks, Peeks, Answers, Writes, Ends}
-use Rattle.interleavings.specs.ServingMoves.{Runs, served_at, with_served, with_move, asking, key_read, key_due, look_reply}
-use Rattle.interleavings.specs.ServingMoves.{peeked, peeking, answering, is_of_seat, served_by}
+use Rattle.interleavings.specs.Moves.{Move}
+use Rattle.interleavings.specs.Moves.{done, moved_from}
+use Rattle.interleavings.specs.Asked.{AreAsked, IsAskedBy}
+use Rattle.interleavings.specs.Connections.{Connection}
+use Rattle.interleavings.specs.ServingMoves.{ServingChain}
+use Rattle.interleavings.specs.ServingMoves.{served_at, with_served}
 use Rattle.interleavings.proofs.lists.Places.{at_same, at_other, at_self}
-use Rattle.interleavings.proofs.served.Connected.{as_list, IsConnected, connected_heard, connected_begun, connected_made}
-use Rattle.interleavings.proofs.served.Connected.{connected_answered, connected_wrote, counted, is_served}
-use Rattle.interleavings.proofs.served.AskedTurns.{due_asked}
-use Rattle.interleavings.proofs.served.InTurn.{InTurn, turn_asked, turn_peeked, turn_answered, turn_ended}
-use Rattle.interleavings.proofs.served.ChainMoves.{sends_seats, looks_seats, receives_seats, SameCalls, others_same}
+use Rattle.interleavings.proofs.served.Connected.{IsConnected}
+use Rattle.interleavings.proofs.served.InTurn.{InTurn}
+use Rattle.interleavings.proofs.served.ChainMoves.{SameCalls}
 
 -- the calls, and the replies, of a seat's connections
 abbrev pub calls_at : ServingChain → ℕ → ℕ → List Call
