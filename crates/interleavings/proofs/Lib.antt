@@ -10,3 +10,4 @@ pub mod runs
 pub mod quiet
 pub mod examples
 pub mod ports
+pub mod served

@@ -7,3 +7,4 @@ pub mod MissedSet
 pub mod Answered
 pub mod WithoutRules
 pub mod QuietRuns
+pub mod CutInput

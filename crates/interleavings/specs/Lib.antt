@@ -8,3 +8,7 @@ pub mod WrongMoves
 pub mod WorkedRuns
 pub mod Ports
 pub mod OwnPorts
+pub mod Connections
+pub mod ServingMoves
+pub mod Served
+pub mod WorkedServing

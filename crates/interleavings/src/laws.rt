@@ -12,6 +12,8 @@ ghost use Rattle.interleavings.specs.Quiet.{IsQuiet, NoneForgotten};
 ghost use Rattle.interleavings.specs.OtherMoves.{IsLinearizationBy};
 ghost use Rattle.interleavings.specs.OwnPorts.{seats_at, port_at, with_own_ports};
 ghost use Rattle.interleavings.specs.Ports.{input_at, renamed, renamed_outcome};
+ghost use Rattle.interleavings.specs.ServingMoves.{ServingMove, served};
+ghost use Rattle.interleavings.specs.Served.{IsServed, ServedEntry, IsOneOrder, NoneUnanswered, AllHaveAll};
 ghost use Rattle.world.specs.Orders.{Entry};
 
 /// Every run of moves of a chain of up to 16 servers, with servers that stop at any move, has an order of its calls in
@@ -63,4 +65,33 @@ pub fn seats_may_have_own_ports()
 /// Each call that clients can ask is spelled by some bytes, as the one call of a request.
 pub fn asked_calls_are_spelled()
     ensures { (call : Call) → IsAsked call → IsSpelled call }
+{}
+
+/// From bytes of clients to bytes of clients: every run of a chain that serves connections, with servers that stop and
+/// connections that end at any move.
+pub fn clients_see_one_table()
+    // Its servers, wires and queues make a run of moves, with calls that clients can ask: so all that is proved of these
+    // holds.
+    ensures run { (count : ℕ) (homes : List ℕ) (moves : List ServingMove)
+        → (ms : List Move) × AreAsked ms × ((served count homes moves).chain ≡ moved count homes ms) }
+    // There is one order of the calls of all connections, in which a single table would have answered them.
+    ensures order { (count : ℕ) (homes : List ℕ) (moves : List ServingMove)
+        → count ≤ 16
+        → (h : List ServedEntry) × IsOneOrder count homes moves h }
+    // Each connection makes the calls that its bytes spell, in turn, and is written the texts of its turns, each call's
+    // with its reply: a beginning of them, and all of them once no output is left and no turn can begin.
+    ensures bytes { (count : ℕ) (homes : List ℕ) (moves : List ServingMove) (c n : ℕ)
+        → IsServed ((served count homes moves).connections c n) }
+    // If nothing is left to do in the chain, each call that was made at a server that goes on has its reply;
+    ensures answered { (count : ℕ) (homes : List ℕ) (moves : List ServingMove)
+        → count ≤ 16
+        → length moves < 2 ^ 62
+        → IsQuiet (served count homes moves).chain
+        → NoneUnanswered (served count homes moves) }
+    // and if nothing is left to do at a connection either, all its calls are answered, and all is written.
+    ensures all { (count : ℕ) (homes : List ℕ) (moves : List ServingMove)
+        → count ≤ 16
+        → length moves < 2 ^ 62
+        → IsQuiet (served count homes moves).chain
+        → AllHaveAll (served count homes moves) }
 {}

@@ -1,5 +1,5 @@
 //! Worked runs: what they come to; and runs that have no order, or forget a call, if a move lacks its rule.
-ghost use Rattle.std.specs.Prelude.{◌≡◌, ℕ, false, List, [], ◌∷◌, ◌++◌, None, Some};
+ghost use Rattle.std.specs.Prelude.{◌≡◌, ℕ, false, List, [], ◌∷◌, ◌++◌, None, Some, codes};
 ghost use Rattle.table.specs.declared.operations.Reply.TheVariants.{Stored, Value};
 ghost use Rattle.node.specs.declared.messages.Body.TheVariants.{Ack};
 ghost use Rattle.world.specs.Orders.{Entry};
@@ -17,6 +17,8 @@ ghost use Rattle.interleavings.specs.WorkedRuns.{failover_homes, look_while_dirt
 ghost use Rattle.interleavings.specs.WorkedRuns.{older_homes, before_older_look, early_homes};
 ghost use Rattle.interleavings.specs.WorkedRuns.{before_unpublished_look, told_homes, before_outlived_look};
 ghost use Rattle.interleavings.specs.WorkedRuns.{cut_moves, lossy_moves};
+ghost use Rattle.interleavings.specs.ServingMoves.{served};
+ghost use Rattle.interleavings.specs.WorkedServing.{talk_homes, talk_moves, last_moves};
 
 /// A set passes down a chain of two and back, and its client has the reply.
 pub fn set_is_answered()
@@ -46,6 +48,15 @@ pub fn stopped_before_put()
     ensures quiet { IsQuiet (moved 2 set_homes cut_moves) }
     // Clients can ask these calls.
     ensures asked { AreAsked cut_moves }
+{}
+
+/// A set and a get, cut within the set's data block, are answered in turn, and their client is written both answers. The
+/// next client of the seat is written nothing of them.
+pub fn cut_input_is_answered()
+    ensures written { ((served 2 talk_homes (talk_moves ++ last_moves)).connections 0 0).written
+        ≡ codes "STORED\r\nVALUE a 0 1\r\np\r\nEND\r\n" }
+    ensures next { ((served 2 talk_homes (talk_moves ++ last_moves)).connections 0 1).written
+        ≡ codes "ERROR\r\n" }
 {}
 
 /// If a look may show an older face than the one that stands, a run has no order.

@@ -1,14 +1,14 @@
 -- How a number is written is read as it; how it is written, and a key, are fields; and a line of short fields is one.
-use Rattle.std.proofs.Common.{◌≡◌, ℕ, suc, ◌+◌, ◌^◌, ◌<◌, ◌≤◌, Bool, true, false, List, [], ◌∷◌, ◌++◌, length, Some, refl}
-use Rattle.std.proofs.Common.{ap, arith, nat_le, length-append, inl, inr}
-use Rattle.std.specs.Prelude.{◌==◌, ◌&&◌, ◌||◌, not, decimal, IsTrue}
+use Rattle.std.proofs.Common.{◌≡◌, ℕ, ◌+◌, ◌^◌, ◌<◌, ◌≤◌, Bool, true, false, List, [], ◌∷◌, ◌++◌, length, Some, refl}
+use Rattle.std.proofs.Common.{arith, nat_le, length-append, inl, inr}
+use Rattle.std.specs.Prelude.{◌&&◌, ◌||◌, decimal, IsTrue}
 use Rattle.std.specs.Char.{is_ascii_digit}
 use Rattle.std.specs.List.{list_all, join_with_byte}
 use Rattle.std.specs.Str.Parse.{AllDigits, digits_value}
 use Rattle.std.proofs.lemmas.Bool.{and_parts, and_from, cases_Bool, leb-true, le-leb, lt-ltb, ne_eqb, not_from_false}
 use Rattle.std.proofs.lemmas.Fmt.{decimal_is_IsNumeral, length-decimal-le}
 use Rattle.std.proofs.lemmas.Str.Parse.{digit_from_value}
-use Rattle.table.specs.Keys.{is_key_byte, is_key, IsKey}
+use Rattle.table.specs.Keys.{is_key_byte, IsKey}
 use Rattle.table.specs.Numbers.{number_of}
 use Rattle.proto.specs.Words.{lf, space, crlf, line_limit}
 use Rattle.proto.specs.Grammar.{is_field, IsLine}

@@ -1,12 +1,10 @@
 -- The bytes of a storage command: its line, its data, CR LF.
-use Rattle.std.proofs.Common.{◌≡◌, ℕ, ◌+◌, ◌^◌, ◌<◌, ◌≤◌, true, false, List, [], ◌∷◌, ◌++◌, length, Some, refl, arith, ap, sym}
-use Rattle.std.proofs.Common.{append-nil, subst}
-use Rattle.std.specs.Prelude.{◌&&◌, decimal, IsTrue, codes}
+use Rattle.std.proofs.Common.{ℕ, ◌^◌, ◌<◌, ◌≤◌, false, List, [], ◌∷◌, ◌++◌, length, refl, arith}
+use Rattle.std.specs.Prelude.{decimal, IsTrue, codes}
 use Rattle.std.specs.List.{list_all}
-use Rattle.std.proofs.lemmas.Bool.{and_parts, and_from}
+use Rattle.std.proofs.lemmas.Bool.{and_from}
 use Rattle.table.specs.Items.{limit}
 use Rattle.table.specs.Keys.{IsKey}
-use Rattle.table.specs.Numbers.{number_of}
 use Rattle.proto.specs.declared.requests.Request.TheVariants as requests
 use Rattle.proto.specs.declared.storage.Verb.{Verb}
 use Rattle.proto.specs.declared.storage.StorageLine.{StorageLine}

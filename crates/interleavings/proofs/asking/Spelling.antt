@@ -1,7 +1,6 @@
 -- Each call that clients can ask is spelled by some bytes.
-use Rattle.std.proofs.Common.{◌≡◌, ℕ, ◌+◌, ◌^◌, ◌<◌, ◌≤◌, true, false, List, [], ◌∷◌, ◌++◌, length, Some, refl, arith}
-use Rattle.std.specs.Prelude.{◌&&◌, decimal, IsTrue, codes}
-use Rattle.std.specs.List.{list_all}
+use Rattle.std.proofs.Common.{ℕ, ◌^◌, ◌<◌, ◌≤◌, true, false, List, [], ◌∷◌, length, refl, arith}
+use Rattle.std.specs.Prelude.{decimal, IsTrue, codes}
 use Rattle.std.proofs.lemmas.Bool.{and_from}
 use Rattle.table.specs.Items.{limit}
 use Rattle.table.specs.Keys.{IsKey, is_key}
@@ -18,12 +17,11 @@ use Rattle.proto.specs.declared.storage.Verb.TheVariants as verbs
 use Rattle.proto.specs.declared.texts.Form.TheVariants.{Status, Show}
 use Rattle.proto.specs.declared.words.Storing.{Storing}
 use Rattle.proto.specs.declared.words.Storing.TheVariants as storing
-use Rattle.proto.specs.declared.words.Word.TheVariants as words
 use Rattle.proto.specs.Grammar.{is_field, IsLine, IsVerb}
 use Rattle.proto.specs.Verbs.{op_of}
 use Rattle.interleavings.specs.Asked.{AreNumbers, IsTarget, IsAsked, IsSpelled}
 use Rattle.interleavings.proofs.asking.SpelledFields.{number_read, number_field, number_short, key_field, key_short}
-use Rattle.interleavings.proofs.asking.SpelledFields.{room, line_of, is_line}
+use Rattle.interleavings.proofs.asking.SpelledFields.{line_of, is_line}
 use Rattle.interleavings.proofs.asking.SpelledStores.{store_bytes, spelled_store}
 
 -- a call on one key

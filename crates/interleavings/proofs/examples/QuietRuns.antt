@@ -1,11 +1,10 @@
 -- Worked runs of two servers at whose end nothing is left to do.
-use Rattle.std.proofs.Common.{◌≡◌, ℕ, zero, suc, ◌<◌, true, false, List, [], ◌∷◌, ◌++◌, None, Some, refl, arith, ap, sym}
+use Rattle.std.proofs.Common.{◌≡◌, ℕ, zero, suc, ◌<◌, true, false, List, [], ◌∷◌, None, Some, refl, arith, ap, sym}
 use Rattle.std.proofs.Common.{◌∙◌, subst, inl, inr}
 use Rattle.std.specs.Prelude.{not, nat_lt}
 use Rattle.std.proofs.lemmas.Bool.{and_parts, cases_eq, ltb-true}
 use Rattle.table.specs.declared.operations.Reply.TheVariants.{Stored}
 use Rattle.node.specs.declared.messages.Body.TheVariants.{Ack}
-use Rattle.node.specs.declared.messages.Peer.{Peer}
 use Rattle.node.specs.Joining.{widened, taken_all, sent_again, forwarded, replies_to as open_replies, promoted_to_head}
 use Rattle.node.specs.Joining.{promoted_to_tail, caught_up, acked_to_predecessor, asks_renewed}
 use Rattle.node.specs.Numbering.{left_open, replies, risen, appended, passed_on, take_update, entered}

@@ -1,8 +1,8 @@
 -- Each move with own ports is one with the seats' numbers as ports.
-use Rattle.std.proofs.Common.{◌≡◌, ℕ, ◌<◌, Bool, true, false, cond, List, [], ◌∷◌, ◌++◌, map, Option, None, Some, refl}
-use Rattle.std.proofs.Common.{arith, ap, sym, ◌∙◌, subst, inl, inr, eq-eqb}
+use Rattle.std.proofs.Common.{◌≡◌, ℕ, Bool, true, false, cond, List, [], ◌∷◌, ◌++◌, refl}
+use Rattle.std.proofs.Common.{ap, sym, ◌∙◌, subst}
 use Rattle.std.specs.Prelude.{slice_index_or, not, nat_lt, ◌==◌, ◌&&◌}
-use Rattle.std.proofs.lemmas.Bool.{cases_eq, ne_eqb, and_parts, not-true}
+use Rattle.std.proofs.lemmas.Bool.{and_parts, not-true}
 use Rattle.table.specs.declared.items.Item.{Item}
 use Rattle.table.specs.declared.operations.Call.{Call}
 use Rattle.table.specs.declared.operations.Reply.{Reply}
@@ -12,17 +12,15 @@ use Rattle.node.specs.declared.messages.Input.TheVariants.{Call as Called, From,
 use Rattle.node.specs.declared.messages.Peer.{Peer}
 use Rattle.node.specs.Faces.{face_of, look_at}
 use Rattle.interleavings.specs.Chains.{RunningServer, Seat, Chain, with_running, with_wire, with_seat, messages_to}
-use Rattle.interleavings.specs.Chains.{without_message, replies_to, without_reply, Sender, OfSeat, OfServer, OfNotices}
+use Rattle.interleavings.specs.Chains.{without_message, Sender, OfNotices}
 use Rattle.interleavings.specs.Moves.{Move, Sends, Takes, Publishes, Puts, Arrives, Replies, Receives, Looks, Stops}
 use Rattle.interleavings.specs.Moves.{Notices, is_free, brought, sent, received, looked, taking, publishing, put, arrived}
-use Rattle.interleavings.specs.Moves.{mailed, has_stopped, done}
-use Rattle.interleavings.specs.OwnPorts.{port_at, sent_from, mailed_from, with_own_ports}
-use Rattle.interleavings.specs.Ports.{output_to}
-use Rattle.interleavings.proofs.lists.Places.{at_self}
+use Rattle.interleavings.specs.Moves.{has_stopped, done}
+use Rattle.interleavings.specs.OwnPorts.{port_at, sent_from, with_own_ports}
 use Rattle.interleavings.proofs.ports.RenamedChains.{Same, of_chain, seat_there, same_server, same_wire, same_seat}
 use Rattle.interleavings.proofs.ports.RenamedChains.{same_brought}
 use Rattle.interleavings.proofs.ports.RenamedServers.{running_renamed, sender_at, messages_renamed}
-use Rattle.interleavings.proofs.ports.RenamedServers.{without_message_renamed, replies_renamed, without_reply_renamed}
+use Rattle.interleavings.proofs.ports.RenamedServers.{without_message_renamed}
 use Rattle.interleavings.proofs.ports.RenamedServers.{taking_renamed, taking_stopped, publishing_renamed}
 use Rattle.interleavings.proofs.ports.RenamedServers.{publishing_stopped}
 use Rattle.interleavings.proofs.ports.SeatNames.{seat_in, seat_named, seat_apart}

@@ -1,12 +1,12 @@
 -- A reply that goes to a seat by its port goes to the seat of that number.
-use Rattle.std.proofs.Common.{◌≡◌, ℕ, ◌<◌, Bool, true, false, cond, List, [], ◌∷◌, ◌++◌, map, refl, ap, sym, ◌∙◌, subst}
+use Rattle.std.proofs.Common.{◌≡◌, ℕ, true, cond, List, [], ◌∷◌, ◌++◌, map, refl, ap, sym, ◌∙◌, subst}
 use Rattle.std.proofs.Common.{inl, inr, eq-eqb, arith}
-use Rattle.std.specs.Prelude.{slice_index_or, not, ◌==◌, ◌&&◌, is_some}
+use Rattle.std.specs.Prelude.{not, ◌==◌, ◌&&◌, is_some}
 use Rattle.std.proofs.lemmas.Bool.{cases_eq, ne_eqb}
 use Rattle.table.specs.declared.operations.Reply.{Reply}
-use Rattle.interleavings.specs.Chains.{RunningServer, Seat, Chain, with_running, with_seat, replies_to, without_reply}
+use Rattle.interleavings.specs.Chains.{RunningServer, Seat, Chain, with_running, replies_to, without_reply}
 use Rattle.interleavings.specs.Chains.{OfNotices, first_of}
-use Rattle.interleavings.specs.Moves.{Takes, Replies, mailed, taking, took, done}
+use Rattle.interleavings.specs.Moves.{Takes, Replies, mailed, took, done}
 use Rattle.interleavings.specs.OwnPorts.{port_at, mailed_from, with_own_ports}
 use Rattle.interleavings.specs.Ports.{output_to}
 use Rattle.interleavings.proofs.lists.Places.{at_self}

@@ -1,8 +1,8 @@
 -- Ports that each server numbers for itself: which seat has a port.
-use Rattle.std.proofs.Common.{◌≡◌, ℕ, zero, suc, ◌<◌, Bool, true, false, cond, List, [], ◌∷◌, take, Some, refl, arith, ap}
+use Rattle.std.proofs.Common.{◌≡◌, ℕ, zero, suc, ◌<◌, Bool, true, false, cond, List, [], ◌∷◌, Some, refl, arith, ap}
 use Rattle.std.proofs.Common.{sym, ◌∙◌, inl, inr, eq-eqb}
 use Rattle.std.specs.Prelude.{slice_get, ◌==◌}
-use Rattle.std.proofs.lemmas.Bool.{cases_eq, ne_eqb, eqb-true}
+use Rattle.std.proofs.lemmas.Bool.{cases_eq, ne_eqb}
 use Rattle.std.proofs.lemmas.Option.{same_Some}
 use Rattle.interleavings.specs.OwnPorts.{seats_at, port_at}
 

@@ -1,18 +1,16 @@
 -- In a quiet chain each begun call of a seat whose server goes on has its reply.
-use Rattle.std.proofs.Common.{◌≡◌, ℕ, ◌+◌, ◌*◌, ◌^◌, ◌<◌, ◌≤◌, true, false, List, [], ◌∷◌, ◌++◌, length, Option, None, Some}
-use Rattle.std.proofs.Common.{refl, arith, ap, sym, ◌∙◌, subst, append-nil}
-use Rattle.std.specs.Prelude.{slice_get, not, nat_lt, IsSome}
+use Rattle.std.proofs.Common.{◌≡◌, ℕ, ◌*◌, ◌^◌, ◌<◌, ◌≤◌, true, false, List, [], ◌++◌, length, Option, None, Some}
+use Rattle.std.proofs.Common.{arith, ap, sym, ◌∙◌, subst, append-nil}
+use Rattle.std.specs.Prelude.{slice_get, nat_lt, IsSome}
 use Rattle.std.specs.Option.{option_and_then}
 use Rattle.std.proofs.lemmas.Bool.{and_parts, both_ways, not-true}
-use Rattle.world.specs.declared.events.Event.{Event}
 use Rattle.world.specs.Connections.{Connection}
 use Rattle.world.specs.Worlds.{World, lives, home_lives, run_of}
-use Rattle.world.specs.Calls.{CallId, IsBegun, IsAnswered, has_living_home}
 use Rattle.world.proofs.waiting.NoneForgotten.{none_forgotten_at_rest}
 use Rattle.interleavings.specs.Chains.{Seat, Chain, opening_chain}
 use Rattle.interleavings.specs.Moves.{Move, moved}
 use Rattle.interleavings.specs.Asked.{AreAsked}
-use Rattle.interleavings.specs.Quiet.{goes_on, IsQuiet, NoneForgotten}
+use Rattle.interleavings.specs.Quiet.{IsQuiet, NoneForgotten}
 use Rattle.interleavings.proofs.relation.StandsFor.{IsSeat, Sits, StandsFor, lives_on}
 use Rattle.interleavings.proofs.relation.Opening.{opens}
 use Rattle.interleavings.proofs.relation.Following.{follows}

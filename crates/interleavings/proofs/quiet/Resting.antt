@@ -1,5 +1,5 @@
 -- The world that stands for a quiet chain is at rest.
-use Rattle.std.proofs.Common.{◌≡◌, ℕ, ◌+◌, ◌<◌, Bool, true, false, cond, List, [], ◌∷◌, ◌++◌, length, Option, None, Some}
+use Rattle.std.proofs.Common.{◌≡◌, ℕ, ◌<◌, Bool, true, false, cond, [], ◌++◌, length, Option, None, Some}
 use Rattle.std.proofs.Common.{refl, arith, ap, sym, ◌∙◌, subst, inl, inr, eq-eqb}
 use Rattle.std.specs.Prelude.{slice_get, not, nat_lt, ◌&&◌, ◌==◌}
 use Rattle.std.proofs.lemmas.Bool.{cases_Bool, and_from, both_ways, lt-ltb, not-true, not-false, not_from_false}
@@ -13,7 +13,7 @@ use Rattle.world.specs.Worlds.{World, server, link, lives}
 use Rattle.world.proofs.lists.Fronts.{found_below}
 use Rattle.world.proofs.trace.IdLaws.{living_parts}
 use Rattle.world.proofs.waiting.NoneForgotten.{IsResting}
-use Rattle.interleavings.specs.Chains.{Chain, messages_from, messages_to, calls_from, replies_to}
+use Rattle.interleavings.specs.Chains.{Chain, messages_from, messages_to, calls_from}
 use Rattle.interleavings.specs.Moves.{has_stopped}
 use Rattle.interleavings.specs.Quiet.{goes_on, IsQuiet}
 use Rattle.interleavings.proofs.relation.StandsFor.{listed, queue, call_at, reply_at, Tallies, Sits, StandsFor}

@@ -1,0 +1,10 @@
+-- Chains that serve connections: what each of them is written, and the one order of their calls.
+pub mod Connected
+pub mod AskedTurns
+pub mod InTurn
+pub mod ChainMoves
+pub mod Steps
+pub mod EachMove
+pub mod Along
+pub mod Names
+pub mod OneOrder

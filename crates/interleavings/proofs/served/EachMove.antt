@@ -1,0 +1,268 @@
+-- Each move of a chain that serves is such a step.
+use Rattle.std.proofs.Common.{◌≡◌, ℕ, suc, ◌+◌, ◌≤◌, Bool, true, false, cond, List, [], ◌∷◌, ◌++◌, length}
+use Rattle.std.proofs.Common.{Option, None, Some, refl, arith, ap, sym, inl, inr, subst, length-append}
+use Rattle.std.specs.Prelude.{◌&&◌, is_some}
+use Rattle.std.proofs.lemmas.Bool.{cases_eq, ltb-true, lt-ltb, eqb-true}
+use Rattle.std.proofs.lemmas.Option.{same_Some}
+use Rattle.table.specs.declared.operations.Call.{Call}
+use Rattle.table.specs.declared.operations.Op.{Op}
+use Rattle.table.specs.declared.operations.Op.TheVariants.{Read, Set, Add, Replace, Append, Prepend, Cas, Incr, Decr}
+use Rattle.table.specs.declared.operations.Op.TheVariants.{Delete, Flush}
+use Rattle.table.specs.declared.operations.Target.{Target}
+use Rattle.table.specs.declared.operations.Target.TheVariants.{One, All}
+use Rattle.table.specs.declared.operations.Reply.{Reply}
+use Rattle.node.proofs.Lists.{get_front}
+use Rattle.proto.specs.declared.texts.Form.{Form}
+use Rattle.proto.specs.Turns.{call_of}
+use Rattle.proto.specs.Sessions.{next_of}
+use Rattle.proto.specs.Runs.{open_calls}
+use Rattle.interleavings.specs.Chains.{with_at}
+use Rattle.interleavings.specs.Moves.{Move, Sends, Takes, Publishes, Puts, Arrives, Replies, Receives, Looks, Stops}
+use Rattle.interleavings.specs.Moves.{Notices, is_free, read_of, done}
+use Rattle.interleavings.specs.Asked.{IsAskedBy}
+use Rattle.interleavings.specs.Connections.{Connection, heard, begun, made, answered, wrote, waits, may_have}
+use Rattle.interleavings.specs.ServingMoves.{ServingChain, ServingMove, Reads, Begins, Asks, Peeks, Answers, Writes, Ends}
+use Rattle.interleavings.specs.ServingMoves.{Runs, served_at, with_move, asking, key_read, key_due, look_reply}
+use Rattle.interleavings.specs.ServingMoves.{peeked, peeking, answering, is_of_seat, served_by}
+use Rattle.interleavings.proofs.lists.Places.{at_same, at_other, at_self}
+use Rattle.interleavings.proofs.served.Connected.{as_list, IsConnected, connected_heard, connected_begun, connected_made}
+use Rattle.interleavings.proofs.served.Connected.{connected_answered, connected_wrote, counted, is_served}
+use Rattle.interleavings.proofs.served.AskedTurns.{due_asked}
+use Rattle.interleavings.proofs.served.InTurn.{InTurn, turn_asked, turn_peeked, turn_answered, turn_ended}
+use Rattle.interleavings.proofs.served.ChainMoves.{sends_seats, looks_seats, receives_seats, others_same}
+use Rattle.interleavings.proofs.served.Steps.{calls_at, replies_at, IsInOrder, IsStep, stays, session_step}
+use Rattle.interleavings.proofs.served.Steps.{seat_step}
+
+-- ---- the session alone
+
+begun_same : {X : Type 0} (view : Connection → X) (b : Bool) (k m : Connection)
+    → view m ≡ view k
+    → view (cond b k m) ≡ view k
+begun_same view true k m e = refl
+begun_same view false k m e = e
+
+reads_step : (s : ServingChain) (c : ℕ) (piece : List ℕ) → IsInOrder s → IsStep s (served_by s (Reads c piece))
+reads_step s c piece h =
+    session_step s c (heard piece (served_at s c)) h
+    (connected_heard piece (served_at s c) (h.connected c (s.ended c))) refl refl
+
+begins_step : (s : ServingChain) (c : ℕ) → IsInOrder s → IsStep s (served_by s (Begins c))
+begins_step s c h =
+    let k = served_at s c in
+    let m = record k { session = (next_of k.session).1; due = call_of (next_of k.session).0 } in
+    session_step s c (begun k) h (connected_begun k (h.connected c (s.ended c)))
+    (begun_same (λ (x : Connection). x.calls) (is_some k.session.asked) k m refl)
+    (begun_same (λ (x : Connection). x.replies) (is_some k.session.asked) k m refl)
+
+writes_step : (s : ServingChain) (c n : ℕ) → IsInOrder s → IsStep s (served_by s (Writes c n))
+writes_step s c n h =
+    session_step s c (wrote n (served_at s c)) h (connected_wrote n (served_at s c) (h.connected c (s.ended c))) refl refl
+
+-- ---- the next connection
+
+ends_step : (s : ServingChain) (c : ℕ) → IsInOrder s → IsStep s (served_by s (Ends c))
+ends_step s c h = record {
+  moves = [];
+  chain = refl;
+  short = omega arith;
+  asked = tt;
+  order = record {
+    connected = h.connected;
+    seats = λ d. elim (cases_eq d c) [
+      | inl same ↦ subst
+          (λ i. InTurn (s.chain.seats i).calls (s.chain.seats i).got (calls_at s i) (replies_at s i)
+          (with_at s.ended c (suc (s.ended c)) i)) (sym same)
+          (subst (InTurn (s.chain.seats c).calls (s.chain.seats c).got (calls_at s c) (replies_at s c))
+          (sym (at_same s.ended c (suc (s.ended c))))
+          (turn_ended (s.chain.seats c).calls (s.chain.seats c).got (calls_at s c) (replies_at s c) (s.ended c)
+          (h.seats c)))
+      | inr other ↦ subst (InTurn (s.chain.seats d).calls (s.chain.seats d).got (calls_at s d) (replies_at s d))
+          (sym (at_other s.ended c (suc (s.ended c)) d other)) (h.seats d)
+    ];
+  };
+  grows = record {
+    ended = λ d. elim (cases_eq d c) [
+      | inl same ↦ subst (λ i. s.ended i ≤ with_at s.ended c (suc (s.ended c)) i) (sym same)
+          (subst (λ n. s.ended c ≤ n) (sym (at_same s.ended c (suc (s.ended c)))) (omega arith))
+      | inr other ↦ subst (λ n. s.ended d ≤ n) (sym (at_other s.ended c (suc (s.ended c)) d other)) (omega arith)
+    ];
+    over = λ d n l. refl;
+    calls = λ d n q call e. e;
+  };
+}
+
+-- ---- moves of the chain
+
+asked_others : (m : Move) → is_of_seat m ≡ false → IsAskedBy m
+asked_others (Sends c call) e = absurd (let no : true ≡ false = e in cc)
+asked_others (Takes i sender) e = tt
+asked_others (Publishes i) e = tt
+asked_others (Puts i j) e = tt
+asked_others (Arrives i j) e = tt
+asked_others (Replies i c) e = tt
+asked_others (Receives c) e = tt
+asked_others (Looks c key) e = absurd (let no : true ≡ false = e in cc)
+asked_others (Stops i) e = tt
+asked_others (Notices i j) e = tt
+
+runs_step : (s : ServingChain) (m : Move) → IsInOrder s → IsStep s (served_by s (Runs m))
+runs_step s m h = by_seat (is_of_seat m) refl
+  where
+    by_seat : (b : Bool) → is_of_seat m ≡ b → IsStep s (cond b s (record s { chain = done s.chain m }))
+    by_seat true e = stays s h
+    by_seat false e = record {
+      moves = m ∷ [];
+      chain = refl;
+      short = omega arith;
+      asked = (asked_others m e, tt);
+      order = record {
+        connected = h.connected;
+        seats = λ d. let o = others_same s.chain m d e in rw (o.calls, o.got) (h.seats d);
+      };
+      grows = record {
+        ended = λ d. omega arith;
+        over = λ d n l. refl;
+        calls = λ d n q call g. g;
+      };
+    }
+
+-- ---- calls
+
+open_below : (o : Option Form) → open_calls o ≤ 1
+open_below None = omega arith
+open_below (Some form) = omega arith
+
+-- where a call is to be made, all others have their replies
+even : (k : Connection) (call : Call) → IsConnected k → k.due ≡ Some call → length k.replies ≡ length k.calls
+even k call t e =
+    let n : length k.replies + open_calls k.session.asked ≡ length k.calls + 1 =
+    subst (λ d. length k.replies + open_calls k.session.asked ≡ length k.calls + length (as_list d)) e (counted k t) in
+    let o = open_below k.session.asked in
+    let f = t.few in
+    omega (arith, n, o, f)
+
+asks_step : (s : ServingChain) (c : ℕ) → IsInOrder s → IsStep s (served_by s (Asks c))
+asks_step s c h = by_due (served_at s c).due refl
+  where
+    t : IsConnected (served_at s c)
+    t = h.connected c (s.ended c)
+
+    by_free : (call : Call) (b : Bool)
+        → (served_at s c).due ≡ Some call
+        → is_free (s.chain.seats c) ≡ b
+        → IsStep s (cond b (with_move s (Sends c call) c (made call (served_at s c))) s)
+    by_free call false e free = stays s h
+    by_free call true e free =
+        let seat = s.chain.seats c in
+        seat_step s c (made call (served_at s c)) (Sends c call) (record seat { calls = seat.calls ++ call ∷ [] }) h
+        (connected_made call (served_at s c) e t) (due_asked (served_at s c) t call e)
+        (sends_seats s.chain c call free)
+        (λ q other g. get_front (served_at s c).calls (call ∷ []) q other g)
+        (subst (λ (rs : ℕ → List Reply). InTurn (seat.calls ++ call ∷ []) seat.got
+        (with_at (calls_at s c) (s.ended c) (calls_at s c (s.ended c) ++ call ∷ [])) rs (s.ended c))
+        (sym (at_self (replies_at s c) (s.ended c)))
+        (turn_asked seat.calls seat.got (calls_at s c) (replies_at s c) (s.ended c) (h.seats c) call
+        (eqb-true (length seat.calls) (length seat.got) free) (even (served_at s c) call t e)))
+
+    by_due : (due : Option Call) → (served_at s c).due ≡ due → IsStep s (asking s c due)
+    by_due None e = stays s h
+    by_due (Some call) e = by_free call (is_free (s.chain.seats c)) e refl
+
+-- a call that reads a key
+key_is : (target : Target) (op : Op) (key : List ℕ)
+    → key_read target op ≡ Some key
+    → record { target = target; op = op } ≡ read_of key
+key_is All op key e = absurd (let no : None ≡ Some key = e in cc)
+key_is (One k) Read key e = ap read_of (same_Some k key e)
+key_is (One k) (Set flags block) key e = absurd (let no : None ≡ Some key = e in cc)
+key_is (One k) (Add flags block) key e = absurd (let no : None ≡ Some key = e in cc)
+key_is (One k) (Replace flags block) key e = absurd (let no : None ≡ Some key = e in cc)
+key_is (One k) (Append block) key e = absurd (let no : None ≡ Some key = e in cc)
+key_is (One k) (Prepend block) key e = absurd (let no : None ≡ Some key = e in cc)
+key_is (One k) (Cas flags block unique) key e = absurd (let no : None ≡ Some key = e in cc)
+key_is (One k) (Incr amount) key e = absurd (let no : None ≡ Some key = e in cc)
+key_is (One k) (Decr amount) key e = absurd (let no : None ≡ Some key = e in cc)
+key_is (One k) Delete key e = absurd (let no : None ≡ Some key = e in cc)
+key_is (One k) Flush key e = absurd (let no : None ≡ Some key = e in cc)
+
+due_read : (due : Option Call) (key : List ℕ) → key_due due ≡ Some key → due ≡ Some (read_of key)
+due_read None key e = absurd (let no : None ≡ Some key = e in cc)
+due_read (Some call) key e = ap (λ x. Some x) (key_is call.target call.op key e)
+
+peeks_step : (s : ServingChain) (c : ℕ) → IsInOrder s → IsStep s (served_by s (Peeks c))
+peeks_step s c h = by_key (key_due (served_at s c).due) refl
+  where
+    t : IsConnected (served_at s c)
+    t = h.connected c (s.ended c)
+
+    by_may : (key : List ℕ) (reply : Reply) (b : Bool)
+        → (served_at s c).due ≡ Some (read_of key)
+        → look_reply s.chain c key ≡ Some reply
+        → may_have (served_at s c).session.asked reply ≡ b
+        → IsStep s
+        (cond b (with_move s (Looks c key) c (answered reply (made (read_of key) (served_at s c)))) s)
+    by_may key reply false e r may = stays s h
+    by_may key reply true e r may =
+        let seat = s.chain.seats c in
+        let k = made (read_of key) (served_at s c) in
+        let l = looks_seats s.chain c key reply r in
+        let same = even (served_at s c) (read_of key) t e in
+        let n = length-append (served_at s c).calls (read_of key ∷ []) in
+        seat_step s c (answered reply k) (Looks c key)
+        (record seat { calls = seat.calls ++ read_of key ∷ []; got = seat.got ++ reply ∷ [] }) h
+        (connected_answered reply k (lt-ltb (length k.replies) (length k.calls) (omega (arith, n, same))) may
+        (connected_made (read_of key) (served_at s c) e t)) (due_asked (served_at s c) t (read_of key) e) l.1
+        (λ q other g. get_front (served_at s c).calls (read_of key ∷ []) q other g)
+        (turn_peeked seat.calls seat.got (calls_at s c) (replies_at s c) (s.ended c) (h.seats c) (read_of key) reply
+        (eqb-true (length seat.calls) (length seat.got) l.0) same)
+
+    by_reply : (key : List ℕ) (o : Option Reply)
+        → (served_at s c).due ≡ Some (read_of key)
+        → look_reply s.chain c key ≡ o
+        → IsStep s (peeked s c key o)
+    by_reply key None e r = stays s h
+    by_reply key (Some reply) e r = by_may key reply (may_have (served_at s c).session.asked reply) e r refl
+
+    by_key : (o : Option (List ℕ)) → key_due (served_at s c).due ≡ o → IsStep s (peeking s c o)
+    by_key None e = stays s h
+    by_key (Some key) e = by_reply key (look_reply s.chain c key) (due_read (served_at s c).due key e) refl
+
+answers_step : (s : ServingChain) (c : ℕ) → IsInOrder s → IsStep s (served_by s (Answers c))
+answers_step s c h = by_mail (s.chain.seats c).mail refl
+  where
+    t : IsConnected (served_at s c)
+    t = h.connected c (s.ended c)
+
+    by_guard : (reply : Reply) (more : List Reply) (a b : Bool)
+        → (s.chain.seats c).mail ≡ reply ∷ more
+        → waits (served_at s c) ≡ a
+        → may_have (served_at s c).session.asked reply ≡ b
+        → IsStep s (cond (a && b) (with_move s (Receives c) c (answered reply (served_at s c))) s)
+    by_guard reply more false b e w may = stays s h
+    by_guard reply more true false e w may = stays s h
+    by_guard reply more true true e w may =
+        let seat = s.chain.seats c in
+        let k = served_at s c in
+        seat_step s c (answered reply k) (Receives c) (record seat { got = seat.got ++ reply ∷ []; mail = more }) h
+        (connected_answered reply k w may t) tt (receives_seats s.chain c reply more e) (λ q other g. g)
+        (subst (λ (cs : ℕ → List Call). InTurn seat.calls (seat.got ++ reply ∷ []) cs
+        (with_at (replies_at s c) (s.ended c) (replies_at s c (s.ended c) ++ reply ∷ [])) (s.ended c))
+        (sym (at_self (calls_at s c) (s.ended c)))
+        (turn_answered seat.calls seat.got (calls_at s c) (replies_at s c) (s.ended c) (h.seats c) reply
+        (ltb-true (length k.replies) (length k.calls) w) (is_served k t).one_open))
+
+    by_mail : (mail : List Reply) → (s.chain.seats c).mail ≡ mail → IsStep s (answering s c mail)
+    by_mail [] e = stays s h
+    by_mail (reply ∷ more) e =
+        by_guard reply more (waits (served_at s c)) (may_have (served_at s c).session.asked reply) e refl refl
+
+-- each move
+pub step : (s : ServingChain) (m : ServingMove) → IsInOrder s → IsStep s (served_by s m)
+step s (Reads c piece) h = reads_step s c piece h
+step s (Begins c) h = begins_step s c h
+step s (Asks c) h = asks_step s c h
+step s (Peeks c) h = peeks_step s c h
+step s (Answers c) h = answers_step s c h
+step s (Writes c n) h = writes_step s c n h
+step s (Ends c) h = ends_step s c h
+step s (Runs m) h = runs_step s m h

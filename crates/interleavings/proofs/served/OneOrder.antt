@@ -1,0 +1,244 @@
+-- An order of the seats' calls, each by the name of its connection, is one of all connections' calls.
+use Rattle.std.proofs.Common.{◌≡◌, ℕ, ◌^◌, ◌<◌, ◌≤◌, List, [], ◌∷◌, length, take, map, Option, None, Some, true, refl}
+use Rattle.std.proofs.Common.{arith, ap, sym, ◌∙◌, subst}
+use Rattle.std.specs.Prelude.{slice_get, IsSome}
+use Rattle.std.specs.Option.{option_map}
+use Rattle.std.proofs.lemmas.Option.{same_Some, slice_get-map}
+use Rattle.table.specs.Histories.{IsLegal}
+use Rattle.table.specs.declared.operations.Call.{Call}
+use Rattle.table.specs.declared.operations.Reply.{Reply}
+use Rattle.world.specs.Orders.{Entry, StandsAt}
+use Rattle.world.proofs.lists.Standing.{some_of}
+use Rattle.world.proofs.order.Since.{is_some}
+use Rattle.interleavings.specs.Moves.{Move, moved}
+use Rattle.interleavings.specs.Orders.{begun_call, reply_to, Precedes, IsLinearization}
+use Rattle.interleavings.specs.Asked.{AreAsked}
+use Rattle.interleavings.specs.Quiet.{goes_on, IsQuiet}
+use Rattle.interleavings.specs.ServingMoves.{ServingChain, ServingMove, served, opening_serving}
+use Rattle.interleavings.specs.Served.{IsServed, CallName, call_made, reply_got, ServedEntry, StandsThere, ComesBefore}
+use Rattle.interleavings.specs.Served.{IsOneOrder, NoneUnanswered, AllHaveAll}
+use Rattle.interleavings.proofs.relation.Following.{linearizable}
+use Rattle.interleavings.proofs.relation.Transfer.{take_front}
+use Rattle.interleavings.proofs.runs.Simulating.{simulates}
+use Rattle.interleavings.proofs.quiet.Answering.{none_forgotten}
+use Rattle.interleavings.proofs.served.Connected.{is_served, has_all}
+use Rattle.interleavings.proofs.served.Steps.{IsInOrder, Grows}
+use Rattle.interleavings.proofs.served.Along.{opening_order, made_along, order_along, chain_along, short_along, asked_along}
+use Rattle.interleavings.proofs.served.Along.{grows_from, first_along}
+use Rattle.interleavings.proofs.served.Names.{place_of, name_of, begun_there, same_reply, named_there, made_if_answered}
+use Rattle.interleavings.proofs.served.Names.{made_there, same_place}
+
+-- an entry by the name of its connection
+abbrev named : ServingChain → Entry → ServedEntry
+named s e = record { id = name_of s e.id; call = e.call; reply = e.reply }
+
+same_history : (s : ServingChain) (h : List Entry)
+    → map {B = Call × Reply} (λ (e : Entry). (e.call, e.reply)) h
+    ≡ map {B = Call × Reply} (λ (e : ServedEntry). (e.call, e.reply)) (map (named s) h)
+same_history s [] = refl
+same_history s (e ∷ es) = ap (λ xs. (e.call, e.reply) ∷ xs) (same_history s es)
+
+-- what stands in a list whose elements were changed
+mapped : {X Y : Type 0} (f : X → Y) (o : Option X) (y : Y) → option_map f o ≡ Some y → (x : X) × (o ≡ Some x) × (f x ≡ y)
+mapped f None y e = absurd (let no : None ≡ Some y = e in cc)
+mapped f (Some x) y e = (x, refl, same_Some (f x) y e)
+
+not_some : {X : Type 0} (o : Option X) → ((x : X) → o ≡ Some x → ⊥) → o ≡ None
+not_some None f = refl
+not_some (Some x) f = absurd (f x refl)
+
+module _ (count : ℕ) (homes : List ℕ) (moves : List ServingMove) where
+  abbrev first : ServingChain
+  first = opening_serving count homes
+
+  abbrev last : ServingChain
+  last = served count homes moves
+
+  ordered : IsInOrder last
+  ordered = order_along moves (opening_serving count homes) (opening_order count homes)
+
+  -- each connection got what its bytes ask for
+  pub each_is_served : (c n : ℕ) → IsServed ((served count homes moves).connections c n)
+  each_is_served c n =
+      is_served ((served count homes moves).connections c n)
+      ((order_along moves (opening_serving count homes) (opening_order count homes)).connected c n)
+
+  abbrev run : List Move
+  run = made_along moves (opening_serving count homes) (opening_order count homes)
+
+  same_chain : last.chain ≡ moved count homes run
+  same_chain = chain_along moves (opening_serving count homes) (opening_order count homes)
+
+  -- after the first k moves
+  abbrev front : ℕ → ServingChain
+  front k = served count homes (take k moves)
+
+  front_ordered : (k : ℕ) → IsInOrder (front k)
+  front_ordered k = order_along (take k moves) (opening_serving count homes) (opening_order count homes)
+
+  front_chain : (k : ℕ) → (j : ℕ) × (moved count homes (take j run) ≡ (front k).chain)
+  front_chain k =
+      let part = made_along (take k moves) (opening_serving count homes) (opening_order count homes) in
+      let f = first_along k moves (opening_serving count homes) (opening_order count homes) in (
+        length part,
+        ap (moved count homes) (ap (take (length part)) f.1 ∙ take_front part f.0)
+            ∙ sym (chain_along (take k moves) (opening_serving count homes) (opening_order count homes)),
+      )
+
+  front_grows : (k : ℕ) → Grows (front k) last
+  front_grows k = grows_from k moves (opening_serving count homes) (opening_order count homes)
+
+  module _ (h : List Entry) (lin : IsLinearization count homes run h) where
+    abbrev order : List ServedEntry
+    order = map (named last) h
+
+    -- an entry of the one is an entry of the other
+    record IsEntry (i : ℕ) (x : CallName) : Type 0 where
+      entry : Entry
+      here : slice_get h i ≡ Some entry
+      its_name : name_of last entry.id ≡ x
+      begun : begun_call last.chain entry.id ≡ Some entry.call
+
+    entry_at : (i : ℕ) (e : ServedEntry) → slice_get order i ≡ Some e → (x : Entry) × (slice_get h i ≡ Some x) × (named last x ≡ e)
+    entry_at i e at = mapped (named last) (slice_get h i) e (sym (slice_get-map (named last) h i) ∙ at)
+
+    begun_last : (i : ℕ) (x : Entry) → slice_get h i ≡ Some x → begun_call last.chain x.id ≡ Some x.call
+    begun_last i x at = ap (λ l. begun_call l x.id) same_chain ∙ lin.begun i x at
+
+    stands_there : (i : ℕ) (x : CallName) → StandsThere order i x → IsEntry i x
+    stands_there i x s =
+        let e = entry_at i s.entry s.here in
+        record {
+          entry = e.0;
+          here = e.1;
+          its_name = ap (λ (z : ServedEntry). z.id) e.2 ∙ s.named;
+          begun = begun_last i e.0 e.1;
+        }
+
+    -- its place
+    place_is : (i : ℕ) (x : CallName) (e : IsEntry i x) → place_of last x ≡ e.entry.id
+    place_is i x e =
+        subst (λ z. place_of last z ≡ e.entry.id) e.its_name
+        (made_there last ordered e.entry.id e.entry.call e.begun).1
+
+    -- a call that was made stands there if its place does
+    named_so : (i : ℕ) (x : CallName) (call : Call)
+        → call_made last x ≡ Some call
+        → (at : StandsAt h i (place_of last x))
+        → StandsThere order i x
+    named_so i x call made at = record {
+      entry = named last at.entry;
+      here = slice_get-map (named last) h i ∙ ap (option_map (named last)) at.here;
+      named = ap (name_of last) at.same ∙ named_there last ordered x call made;
+    }
+
+    answered_there : (x : CallName) (reply : Reply)
+        → reply_got last x ≡ Some reply
+        → (i : ℕ) × (at : StandsThere order i x) × (at.entry.reply ≡ reply)
+    unfolding named_so
+    answered_there x reply got =
+        let m = made_if_answered last ordered x reply got in
+        let r = ap (λ l. reply_to l (place_of last x)) (sym same_chain)
+        ∙ sym (same_reply last ordered x m.0 m.1) ∙ got in
+        let a = lin.answered (place_of last x) reply r in
+        (a.0, named_so a.0 x m.0 m.1 a.1, a.2)
+
+    precedes : (x y : CallName) (j k : ℕ) (reply : Reply)
+        → reply_got (front k) x ≡ Some reply
+        → call_made (front k) y ≡ None
+        → (e : IsEntry j y)
+        → Precedes count homes run (place_of last x) e.entry.id
+    precedes x y j k reply got not_made e =
+        let f = front_chain k in
+        let m = made_if_answered (front k) (front_ordered k) x reply got in
+        let same = same_place (front k) last x m.0 (front_ordered k) (front_grows k) m.1 in
+        let r : reply_to (front k).chain (place_of last x) ≡ Some reply =
+        ap (reply_to (front k).chain) same ∙ sym (same_reply (front k) (front_ordered k) x m.0 m.1) ∙ got in
+        record {
+          k = f.0;
+          answered = is_some _ reply (ap (λ l. reply_to l (place_of last x)) f.1 ∙ r);
+          not_begun =
+              ap (λ l. begun_call l e.entry.id) f.1
+              ∙ not_some (begun_call (front k).chain e.entry.id) (λ call begun. not_there call begun);
+        }
+      where
+        not_there : (call : Call) → begun_call (front k).chain e.entry.id ≡ Some call → ⊥
+        not_there call begun =
+            let z = name_of (front k) e.entry.id in
+            let m = made_there (front k) (front_ordered k) e.entry.id call begun in
+            let now = (front_grows k).calls z.seat z.number z.place call m.0 in
+            let same = same_place (front k) last z call (front_ordered k) (front_grows k) m.0 ∙ m.1 in
+            let is : y ≡ z =
+            sym e.its_name ∙ ap (name_of last) (sym same) ∙ named_there last ordered z call now in
+            let no : None ≡ Some call = sym not_made ∙ ap (call_made (front k)) is ∙ m.0 in
+            absurd cc
+
+    in_time_there : (x y : CallName) (j : ℕ)
+        → ComesBefore count homes moves x y
+        → StandsThere order j y
+        → (i : ℕ) × (i < j) × StandsThere order i x
+    in_time_there x y j p s =
+        let e = stands_there j y s in
+        let r = some_of (reply_got (front p.k) x) p.answered in
+        let m = made_if_answered (front p.k) (front_ordered p.k) x r.0 r.1 in
+        let t = lin.in_time (place_of last x) e.entry.id j (precedes x y j p.k r.0 r.1 p.not_made e)
+        (record { entry = e.entry; here = e.here; same = refl }) in
+        (t.0, t.1, named_so t.0 x m.0 ((front_grows p.k).calls x.seat x.number x.place m.0 m.1) t.2)
+
+    pub is_one_order : IsOneOrder count homes moves (map (named (served count homes moves)) h)
+    is_one_order = record {
+      legal = subst IsLegal (same_history last h) lin.legal;
+      made = λ i e at.
+          let x = entry_at i e at in
+          subst (λ (z : ServedEntry). call_made last z.id ≡ Some z.call) x.2
+          (made_there last ordered x.0.id x.0.call (begun_last i x.0 x.1)).0;
+      once = λ i j x s t.
+          let e = stands_there i x s in
+          let f = stands_there j x t in
+          lin.once i j (place_of last x) (record { entry = e.entry; here = e.here; same = sym (place_is i x e) })
+          (record { entry = f.entry; here = f.here; same = sym (place_is j x f) });
+      answered = answered_there;
+      in_time = in_time_there;
+    }
+
+  -- so there is one,
+  pub one_order : count ≤ 16 → (h : List ServedEntry) × IsOneOrder count homes moves h
+  one_order few =
+      let o = linearizable count homes (simulates count homes few) run few
+      (asked_along moves (opening_serving count homes) (opening_order count homes)) in
+      (map (named last) o.0, is_one_order o.0 o.1)
+
+  -- and no call is unanswered in a quiet chain
+  pub none_unanswered : count ≤ 16
+      → length moves < 2 ^ 62
+      → IsQuiet (served count homes moves).chain
+      → NoneUnanswered (served count homes moves)
+  none_unanswered few short quiet x on made =
+      let m = some_of (call_made last x) made in
+      let n = short_along moves (opening_serving count homes) (opening_order count homes) in
+      let there = none_forgotten count homes run few
+      (fewer (length run) (length moves) (2 ^ 62) n short)
+      (asked_along moves (opening_serving count homes) (opening_order count homes))
+      (subst IsQuiet same_chain quiet) (place_of last x)
+      (subst (λ l. goes_on l (l.seats x.seat).home ≡ true) same_chain on)
+      (is_some _ m.0 (ap (λ l. begun_call l (place_of last x)) (sym same_chain) ∙ begun_there last ordered x m.0 m.1)) in
+      subst IsSome (ap (λ l. reply_to l (place_of last x)) (sym same_chain) ∙ sym (same_reply last ordered x m.0 m.1)) there
+    where
+      fewer : (a b c : ℕ) → a ≤ b → b < c → a < c
+      fewer a b c l k = omega (arith, l, k)
+
+  -- so a connection at which nothing is left to do has all
+  pub all_have_all : count ≤ 16
+      → length moves < 2 ^ 62
+      → IsQuiet (served count homes moves).chain
+      → AllHaveAll (served count homes moves)
+  all_have_all few short quiet c n on rested =
+      has_all (last.connections c n) (ordered.connected c n)
+      (λ made. none_unanswered few short quiet (name c n) on made) rested
+    where
+      name : ℕ → ℕ → CallName
+      name a b = record { seat = a; number = b; place = length (last.connections a b).replies }
+
+  -- and its servers make a run of moves
+  pub is_run : (ms : List Move) × AreAsked ms × ((served count homes moves).chain ≡ moved count homes ms)
+  is_run = (run, asked_along moves (opening_serving count homes) (opening_order count homes), same_chain)

@@ -1,0 +1,110 @@
+-- What clients get: the one order of their calls, and the bytes that each of them is written.
+use Rattle.std.specs.Prelude.{◌≡◌, ℕ, ◌+◌, ◌<◌, ◌≤◌, true, List, [], ◌++◌, length, take, map, Option, None, Some}
+use Rattle.std.specs.Prelude.{slice_get, IsSome}
+use Rattle.table.specs.Histories.{IsLegal}
+use Rattle.table.specs.declared.operations.Call.{Call}
+use Rattle.table.specs.declared.operations.Reply.{Reply}
+use Rattle.proto.specs.Turns.{calls_of}
+use Rattle.proto.specs.Sessions.{next_of}
+use Rattle.proto.specs.Streams.{turns, texts}
+use Rattle.interleavings.specs.Quiet.{goes_on}
+use Rattle.interleavings.specs.Connections.{Connection, gives_none}
+use Rattle.interleavings.specs.ServingMoves.{ServingChain, ServingMove, served}
+
+-- ---- of one connection
+
+-- A connection got what its bytes ask for, and nothing else:
+pub record IsServed (k : Connection) : Type 0 where
+  -- its calls are the first of those that its bytes spell, in turn, wherever they were cut;
+  pub calls : k.calls ≡ take (length k.calls) (calls_of (turns k.read))
+  -- each has its reply, but for the last one at most;
+  pub replies : length k.replies ≤ length k.calls
+  pub one_open : length k.calls ≤ length k.replies + 1
+  -- what was written to it begins the texts of its turns, each call's with its reply, up to the first call without one;
+  pub written : (rest : List ℕ) × (texts (turns k.read) k.replies ≡ k.written ++ rest)
+  -- and is all of them, if no output is left and the session has no turn to give;
+  pub all_written : k.session.out ≡ []
+      → gives_none k.session ≡ true
+      → k.written ≡ texts (turns k.read) k.replies
+  -- and if no call is open and none can begin, each call that its bytes spell has a reply.
+  pub all_answered : k.session.asked ≡ None
+      → (next_of k.session).0 ≡ None
+      → length k.replies ≡ length (calls_of (turns k.read))
+
+-- nothing is left to do at the connection: no call is to be made, no turn can begin, and no output is left
+pub record IsRested (k : Connection) : Type 0 where
+  pub due : k.due ≡ None
+  pub turns : (next_of k.session).0 ≡ None
+  pub out : k.session.out ≡ []
+
+-- each call that its bytes spell has a reply, and all that is due was written to it
+pub record HasAll (k : Connection) : Type 0 where
+  pub answered : length k.replies ≡ length (calls_of (turns k.read))
+  pub written : k.written ≡ texts (turns k.read) k.replies
+
+-- ---- the order of all calls, in the words of `Orders.antt`
+
+-- A call's name: its connection, by a seat and the connection's number there, and its place among the connection's calls.
+pub record CallName : Type 0 where
+  pub seat : ℕ
+  pub number : ℕ
+  pub place : ℕ
+
+-- the call, once it was made
+abbrev pub call_made : ServingChain → CallName → Option Call
+call_made s x = slice_get (s.connections x.seat x.number).calls x.place
+
+-- its reply, once its connection has it
+abbrev pub reply_got : ServingChain → CallName → Option Reply
+reply_got s x = slice_get (s.connections x.seat x.number).replies x.place
+
+-- An entry of an order: a call's name, the call, and its reply.
+pub record ServedEntry : Type 0 where
+  pub id : CallName
+  pub call : Call
+  pub reply : Reply
+
+-- the call x stands at place i of the order
+pub record StandsThere (h : List ServedEntry) (i : ℕ) (x : CallName) : Type 0 where
+  pub entry : ServedEntry
+  pub here : slice_get h i ≡ Some entry
+  pub named : entry.id ≡ x
+
+-- x precedes y: after some first k moves x is answered, and y isn't made
+pub record ComesBefore (count : ℕ) (homes : List ℕ) (moves : List ServingMove) (x y : CallName) : Type 0 where
+  pub k : ℕ
+  pub answered : IsSome (reply_got (served count homes (take k moves)) x)
+  pub not_made : call_made (served count homes (take k moves)) y ≡ None
+
+-- The order h is one of all connections' calls:
+pub record IsOneOrder (count : ℕ) (homes : List ℕ) (moves : List ServingMove) (h : List ServedEntry) : Type 0 where
+  -- each reply in it is that of a single table, after all calls before it;
+  pub legal : IsLegal (map (λ e. (e.call, e.reply)) h)
+  -- each entry is a call that its connection made;
+  pub made : (i : ℕ) (e : ServedEntry) → slice_get h i ≡ Some e → call_made (served count homes moves) e.id ≡ Some e.call
+  -- no call stands in it twice;
+  pub once : (i j : ℕ) (x : CallName) → StandsThere h i x → StandsThere h j x → i ≡ j
+  -- each answered call stands in it, with the reply that its connection got;
+  pub answered : (x : CallName) (reply : Reply) → reply_got (served count homes moves) x ≡ Some reply
+      → (i : ℕ) × (at : StandsThere h i x) × (at.entry.reply ≡ reply)
+  -- if x precedes y and y is in it, x is in it, at an earlier place.
+  pub in_time : (x y : CallName) (j : ℕ)
+      → ComesBefore count homes moves x y
+      → StandsThere h j y
+      → (i : ℕ) × (i < j) × StandsThere h i x
+
+-- each call that a connection made has its reply, if the server of its seat goes on
+abbrev pub NoneUnanswered : ServingChain → Type 0
+NoneUnanswered s =
+    (x : CallName)
+    → goes_on s.chain (s.chain.seats x.seat).home ≡ true
+    → IsSome (call_made s x)
+    → IsSome (reply_got s x)
+
+-- each connection at which nothing is left to do has all, if the server of its seat goes on
+abbrev pub AllHaveAll : ServingChain → Type 0
+AllHaveAll s =
+    (c n : ℕ)
+    → goes_on s.chain (s.chain.seats c).home ≡ true
+    → IsRested (s.connections c n)
+    → HasAll (s.connections c n)

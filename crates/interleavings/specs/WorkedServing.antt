@@ -1,0 +1,33 @@
+-- A worked run of a chain that serves: its moves.
+use Rattle.std.specs.Prelude.{ℕ, List, [], ◌∷◌, ◌++◌, codes}
+use Rattle.interleavings.specs.Chains.{OfSeat, OfServer}
+use Rattle.interleavings.specs.Moves.{Takes, Publishes, Puts, Arrives, Replies}
+use Rattle.interleavings.specs.ServingMoves.{ServingMove, Reads, Begins, Asks, Answers, Writes, Ends, Runs}
+
+-- ---- Two servers, a client of the head. A set and a get come in two pieces, of which the first is cut within the set's
+-- ---- data block. Of the set's answer three bytes are written at first.
+
+-- the homes of the seats
+abbrev pub talk_homes : List ℕ
+talk_homes = 0 ∷ []
+
+-- the set passes down the chain and back, and its reply is put
+abbrev pub down_and_back : List ServingMove
+down_and_back =
+    Runs (Takes 0 (OfSeat 0)) ∷ Runs (Publishes 0) ∷ Runs (Puts 0 1) ∷ Runs (Arrives 0 1)
+    ∷ Runs (Takes 1 (OfServer 0)) ∷ Runs (Publishes 1) ∷ Runs (Puts 1 0) ∷ Runs (Arrives 1 0)
+    ∷ Runs (Takes 0 (OfServer 1)) ∷ Runs (Publishes 0) ∷ Runs (Replies 0 0) ∷ []
+
+-- the head answers the get
+abbrev pub at_the_head : List ServingMove
+at_the_head = Runs (Takes 0 (OfSeat 0)) ∷ Runs (Publishes 0) ∷ Runs (Replies 0 0) ∷ []
+
+-- the moves up to the get's reply
+unfoldable pub talk_moves : List ServingMove
+talk_moves =
+    Reads 0 (codes "set a 0 0 1\r\np") ∷ Begins 0 ∷ Reads 0 (codes "\r\nget a\r\n") ∷ Begins 0 ∷ Asks 0
+    ∷ (down_and_back ++ Answers 0 ∷ Writes 0 3 ∷ Begins 0 ∷ Asks 0 ∷ (at_the_head ++ Answers 0 ∷ []))
+
+-- the rest is written, and the connection ends; of the next one a line comes that is no request
+unfoldable pub last_moves : List ServingMove
+last_moves = Writes 0 40 ∷ Ends 0 ∷ Reads 0 (codes "what\r\n") ∷ Begins 0 ∷ Writes 0 40 ∷ []
