@@ -10,13 +10,18 @@ use wire::{Frame, Frames, encode_onto};
 /// Carries out a load, and tells how many bytes and frames came out. Reading other frames than were written is a fault.
 pub fn run(alloc: Global, load: &Load) -> Result<Done, LoadFault> {
     let frame = message(alloc, load.size)?;
+    run_with(alloc, load, &frame)
+}
+
+// The same with the frame that is written. (Who owns a frame has few exits: each costs a proof for each kind of frame.)
+fn run_with(alloc: Global, load: &Load, frame: &Frame) -> Result<Done, LoadFault> {
     if !frame.is_in_range() || load.piece == 0 {
         return Err(LoadFault::Frame);
     }
     let mut stream = BytesMut::new(alloc);
-    write_round(&mut stream, &frame)?;
+    write_round(&mut stream, frame)?;
     match load.work {
-        Work::Write => write(&mut stream, &frame, load.rounds),
+        Work::Write => write(&mut stream, frame, load.rounds),
         Work::Read => {
             let done = read(alloc, stream.as_slice(), load.rounds, load.piece as usize)?;
             if is_whole(&done, load) {

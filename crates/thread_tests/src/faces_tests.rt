@@ -1,4 +1,5 @@
 //! Tests: what readers see beside a server.
+ghost use Rattle.node.specs.Lawful.{IsInput};
 ghost use Rattle.std.specs.Prelude.{◌≡◌, false, IfOk};
 
 use bytes::Bytes;
@@ -79,9 +80,18 @@ fn look(beside: &mut Reader, key: &Key) -> Shown
 fn feed<R: Wait>(rt: &R, publisher: &mut Publisher, input: Input) -> Result<(), FaceFault>
     ensures { publisher.new.origin ≡ publisher.old.origin }
 {
-    if !input.is_fit() {
-        return Err(FaceFault::Closed);
+    if input.is_fit() {
+        take(rt, publisher, input)
+    } else {
+        Err(FaceFault::Closed)
     }
+}
+
+// An input is taken.
+fn take<R: Wait>(rt: &R, publisher: &mut Publisher, input: Input) -> Result<(), FaceFault>
+    requires { IsInput input }
+    ensures { publisher.new.origin ≡ publisher.old.origin }
+{
     match publisher.take(rt, input) {
         Ok(_) => Ok(()),
         Err(fault) => Err(fault),

@@ -50,18 +50,27 @@ pub(super) fn chain_of(alloc: Global, count: u8) -> Result<Chain, Fail> {
 
 // One step of node i. Its messages and replies are kept.
 pub(super) fn step(chain: &mut Chain, i: u8, input: Input) -> Result<(), Fail> {
-    if !input.is_fit() {
-        return Err("an input that may be handed in".into());
+    for output in outputs(&mut chain.nodes, i, input)? {
+        keep(chain, i, output)?;
     }
-    let node = chain.nodes.get_mut(usize::from(i)).ok_or("a node")?;
-    for output in node.step(input)? {
-        match output {
-            Output::To(j, peer) => {
-                chain.sent.push_back((i, j, peer))?;
-                chain.count = chain.count.wrapping_add(1);
-            }
-            Output::Reply(port, reply) => chain.replies.push((port, reply))?,
+    Ok(())
+}
+
+// The outputs of an input. (Who owns an input has few exits: each costs a proof for each kind of input.)
+fn outputs(nodes: &mut Vec<Node>, i: u8, input: Input) -> Result<Vec<Output>, Fail> {
+    match nodes.get_mut(usize::from(i)) {
+        Some(node) if input.is_fit() => Ok(node.step(input)?),
+        _ => Err("a node, and an input that may be handed in".into()),
+    }
+}
+
+fn keep(chain: &mut Chain, i: u8, output: Output) -> Result<(), Fail> {
+    match output {
+        Output::To(j, peer) => {
+            chain.sent.push_back((i, j, peer))?;
+            chain.count = chain.count.wrapping_add(1);
         }
+        Output::Reply(port, reply) => chain.replies.push((port, reply))?,
     }
     Ok(())
 }

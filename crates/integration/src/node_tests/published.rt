@@ -51,25 +51,29 @@ struct Scene {
 }
 
 fn empty_scene(alloc: Global) -> Result<Scene, Fail> {
+    let a = key(alloc, b"a")?;
+    let b = key(alloc, b"b")?;
+    let node = Node::new(alloc, 0, 2)?;
     let face = Published {
         versions: BTreeMap::new(alloc),
         cleared: 0,
         acked: 0,
     };
-    Ok(Scene {
-        node: Node::new(alloc, 0, 2)?,
-        face,
-        a: key(alloc, b"a")?,
-        b: key(alloc, b"b")?,
-    })
+    Ok(Scene { node, face, a, b })
+}
+
+// What an input changes of the face.
+fn changed(node: &mut Node, input: Input) -> Result<FaceChange, Fail> {
+    if input.is_fit() {
+        Ok(node.step_face(input)?.1)
+    } else {
+        Err("an input that may be handed in".into())
+    }
 }
 
 // One step, replayed. Both looks are the same for each key.
 fn change(scene: &mut Scene, input: Input) -> Result<(), Fail> {
-    if !input.is_fit() {
-        return Err("an input that may be handed in".into());
-    }
-    let (_, change) = scene.node.step_face(input)?;
+    let change = changed(&mut scene.node, input)?;
     replay(&mut scene.face, change)?;
     for key in [&scene.a, &scene.b] {
         if look(&scene.face, key) != scene.node.peek(key) {

@@ -19,10 +19,11 @@ fn drop_of(alloc: Global, number: u64, origin: u8) -> Result<Entry, Fail> {
 // How many outputs a message from server i gives.
 fn count_from(node: &mut Node, i: u8, view: View, body: Body) -> Result<usize, Fail> {
     let input = Input::From(i, Peer { view, body });
-    if !input.is_fit() {
-        return Err("an input that may be handed in".into());
+    if input.is_fit() {
+        Ok(node.step(input)?.len())
+    } else {
+        Err("an input that may be handed in".into())
     }
-    Ok(node.step(input)?.len())
 }
 
 // How many messages a message from server i that names nobody puts out.
