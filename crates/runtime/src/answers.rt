@@ -45,6 +45,28 @@ impl Answers {
         self.give(output, errors, who);
     }
 
+    /// Writes `not gone J`, and tells on the other output why.
+    pub(crate) fn not_gone<W: Sink, X: Sink>(
+        &mut self,
+        output: &mut W,
+        errors: &mut X,
+        who: &str,
+        j: u8,
+    ) {
+        let mut digits = Buffer::new();
+        let number = digits.format(j).as_bytes();
+        let _ = write_all(errors, b"craq: server ");
+        let _ = write_all(errors, number);
+        let _ = write_all(
+            errors,
+            b" can't be stopped, so nobody is told that it is gone\n",
+        );
+        self.line.clear();
+        self.add(b"not gone ");
+        self.add(number);
+        self.give(output, errors, who);
+    }
+
     /// Writes `gone J told K`.
     pub(crate) fn told<W: Sink, X: Sink>(
         &mut self,

@@ -3,7 +3,7 @@
 use crate::cluster_faults::ClusterFault;
 use crate::doors::serve_seats;
 use crate::halls::Hall;
-use crate::homes::{Home, Homes};
+use crate::homes::{Home, Homes, StopFault};
 use crate::offices::{Office, start_watching};
 use crate::sides::{Side, all_links, all_servers, all_sides, helping_callers};
 use command_line::Numbers;
@@ -60,11 +60,11 @@ impl<R: Wait + Copy + Drop + Send + 'static> Cluster<R> {
     }
 
     /// Fails a server (`Office::fail`).
-    pub(crate) fn fail(&self, rt: &R, j: u8)
+    pub(crate) fn fail(&self, rt: &R, j: u8) -> Result<(), StopFault>
     where
         R: Clock,
     {
-        self.office.fail(rt, j);
+        self.office.fail(rt, j)
     }
 
     /// Waits until every seat's thread has ended, and then ends the other threads.

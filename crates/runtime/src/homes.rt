@@ -1,4 +1,6 @@
 //! What the program's own threads know of the servers of a cluster.
+ghost use Rattle.std.specs.Prelude.{◌≡◌, ◌++◌, ◌∷◌, [], Ok, OnErr};
+ghost use Rattle.rail.specs.declared.events.Event.TheVariants.{Stop};
 
 use crate::halls::Hall;
 use node::Master;
@@ -6,6 +8,21 @@ use rail::Inlet;
 use seats::{Mark, ServerSet};
 use std::alloc::Global;
 use std::sync::Wait;
+use thiserror::Error;
+
+/// What came of telling a server to stop.
+#[derive(Clone, Copy, Debug, PartialEq, Eq)]
+pub(crate) enum Stopping {
+    /// Its worker had stopped before.
+    Done,
+    /// Its worker was told, and will stop.
+    Told,
+}
+
+/// A server can't be told to stop, so its worker may go on.
+#[derive(Clone, Copy, Debug, PartialEq, Eq, Error)]
+#[error("a server can't be told to stop")]
+pub(crate) struct StopFault;
 
 /// One server, as the program's own threads see it.
 #[derive(Drop)]
@@ -24,6 +41,23 @@ impl Home {
             inlet,
             failed,
             stopped,
+        }
+    }
+
+    // Has the callers answer no more calls, and the worker stop. Refused only if the worker hasn't stopped and can't be
+    // told to: then its inbox got nothing.
+    fn stop<R: Wait>(&mut self, rt: &R) -> Result<Stopping, StopFault>
+        ensures told { result ≡ Ok Stopping.Told → self.new.inlet ≡ self.old.inlet ++ Stop ∷ [] }
+        ensures done { result ≡ Ok Stopping.Done → self.new.inlet ≡ self.old.inlet }
+        ensures refused { OnErr result (self.new.inlet ≡ self.old.inlet) }
+    {
+        if self.stopped.is_set() {
+            return Ok(Stopping::Done);
+        }
+        self.failed.set();
+        match self.inlet.stop(rt) {
+            Ok(()) => Ok(Stopping::Told),
+            Err(_) => Err(StopFault),
         }
     }
 
@@ -54,19 +88,20 @@ impl Homes {
         }
     }
 
-    /// Has the callers of server `j` answer no more calls, and its worker stop. It tells whether the worker will; it
-    /// won't if it has stopped already.
-    pub(crate) fn stop<R: Wait + Drop>(&mut self, rt: &R, hall: &Hall<R>, j: u8) -> bool {
+    /// Has the callers of server `j` answer no more calls, and its worker stop. Refused if the worker hasn't stopped and
+    /// can't be told to, or there is no such server.
+    pub(crate) fn stop<R: Wait + Drop>(
+        &mut self,
+        rt: &R,
+        hall: &Hall<R>,
+        j: u8,
+    ) -> Result<Stopping, StopFault> {
         let Some(home) = self.homes.get_mut(usize::from(j)) else {
-            return false;
+            return Err(StopFault);
         };
-        if home.stopped.is_set() {
-            return false;
-        }
-        home.failed.set();
-        let will_stop = home.inlet.stop(rt).is_ok();
+        let stopping = home.stop(rt)?;
         hall.ring(j);
-        will_stop
+        Ok(stopping)
     }
 
     /// Whether the worker of server `j` puts out nothing more.

@@ -1,7 +1,7 @@
 //! Where the servers of a cluster are failed: by the input's lines, and by themselves if they are refused memory.
 
 use crate::halls::Hall;
-use crate::homes::Homes;
+use crate::homes::{Homes, StopFault, Stopping};
 use std::alloc::{AllocError, Global};
 use std::sync::{Arc, Mutex, Wait};
 use std::thread;
@@ -37,23 +37,25 @@ impl<R: Wait + Copy + Drop + Send + 'static> Office<R> {
     }
 
     /// Fails a server: its callers answer no more calls, its worker puts out nothing more, and then the others are
-    /// told. Of one that has failed already nobody is told. If memory is refused, the others are told later, as soon as
-    /// it isn't.
-    pub(crate) fn fail(&self, rt: &R, j: u8)
+    /// told. Of one that has failed already nobody is told, and neither is anybody if it is refused, since the server
+    /// can't be stopped. If memory is refused, the others are told later, as soon as it isn't.
+    pub(crate) fn fail(&self, rt: &R, j: u8) -> Result<(), StopFault>
     where
         R: Clock,
     {
-        if self.stop(rt, j) {
-            self.wait_until_stopped(rt, j);
+        match self.stop(rt, j)? {
+            Stopping::Told => self.wait_until_stopped(rt, j),
+            Stopping::Done => {}
         }
         let mut homes = self.homes.lock(rt);
         homes.note(j);
         if !homes.tell(rt, &self.hall) {
             self.hall.alarm().ring();
         }
+        Ok(())
     }
 
-    fn stop(&self, rt: &R, j: u8) -> bool {
+    fn stop(&self, rt: &R, j: u8) -> Result<Stopping, StopFault> {
         let mut homes = self.homes.lock(rt);
         homes.stop(rt, &self.hall, j)
     }

@@ -1,6 +1,6 @@
 //! The parts of a chain of servers in one process, before their threads are started.
 ghost use Rattle.std.specs.Prelude.{◌≡◌, ◌≤◌, true, IfOk};
-ghost use Rattle.node.specs.Nodes.{is_idle};
+ghost use Rattle.node.specs.Nodes.{fresh, is_idle};
 
 use crate::cluster_faults::ClusterFault;
 use crate::halls::Hall;
@@ -47,9 +47,10 @@ pub fn all_servers<R: Wait + Copy + Drop>(
     Ok(servers)
 }
 
-/// A server before any input.
+/// Server `id` of a chain of `count`, before any input.
 pub(crate) fn idle_node(alloc: Global, id: u8, count: u8) -> Result<Node, ClusterFault>
-    ensures { IfOk result (λ node. is_idle node ≡ true) }
+    ensures which { IfOk result (λ node. node ≡ fresh id count) }
+    ensures idle { IfOk result (λ node. is_idle node ≡ true) }
 {
     match Node::new(alloc, id, count) {
         Ok(node) if node.is_idle() => Ok(node),

@@ -3,6 +3,7 @@
 use crate::answers::Answers;
 use crate::cluster_faults::ClusterFault;
 use crate::clusters::Cluster;
+use crate::homes::StopFault;
 use crate::input_lines::{empty_line, next_line, server_named};
 use command_line::{DONE, Numbers};
 use ends::{Sink, Source, write_all};
@@ -16,9 +17,9 @@ use std::time::Clock;
 const WHO: &str = "the cluster";
 
 /// Runs a chain of servers that serve clients over TCP, until the input and every seat's thread have ended. It says
-/// `ready` when all listen. For each line `fail J` of the input server J is failed, and `gone J` printed; any other
-/// line prints `bad line`. Of a server that is refused memory the others are told at once, and so is the user, by a
-/// line on standard error. It answers the exit status: 0, or, after a line on `errors`, 1 if a port is taken or `ready`
+/// `ready` when all listen. For each line `fail J` of the input server J is failed, and `gone J` printed, or `not gone J`
+/// if it can't be stopped; any other line prints `bad line`. Of a server that is refused memory the others are told at
+/// once, and so is the user, by a line on standard error. It answers the exit status: 0, or, after a line on `errors`, 1 if a port is taken or `ready`
 /// can't be written, or 3 if memory is out at the start. An answer that can't be written is told there once.
 pub fn cluster<
     R: Wait
@@ -77,10 +78,10 @@ fn steer<
             return Ok(());
         }
         match server_named(line.as_slice(), b"fail", numbers.servers) {
-            Some(j) => {
-                cluster.fail(&rt, j);
-                answers.gone(output, errors, WHO, j);
-            }
+            Some(j) => match cluster.fail(&rt, j) {
+                Ok(()) => answers.gone(output, errors, WHO, j),
+                Err(StopFault) => answers.not_gone(output, errors, WHO, j),
+            },
             None => answers.bad_line(output, errors, WHO),
         }
     }
