@@ -2,10 +2,13 @@
 connections, a taken port, and the lines that steer a chain. Each case gives what is wrong, in words. It connects to
 127.0.0.1 alone.
 """
+import re
+import resource
 import socket
 import subprocess
+import time
 
-from chain_clients import Closed, Connection, LIMIT
+from chain_clients import Closed, Connection, LIMIT, Wrong
 
 LARGEST = 1048576  # the largest data of an item
 KEY = 250  # the longest key
@@ -137,7 +140,7 @@ def taken_port(program, first):
         words = [program, "cluster", "--servers", "3", "--port", str(first)]
         run = subprocess.run(words, input=b"", capture_output=True, timeout=LIMIT * 2, check=False)
     faults = differs("the status", str(run.returncode), "1") + differs("the output", run.stdout, b"")
-    return faults + differs("the fault", run.stderr, b"craq: cannot listen on port %d\n" % (first + 1))
+    return faults + differs("the fault", run.stderr, b"craq: cannot listen on 127.0.0.1 port %d\n" % (first + 1))
 
 
 def steered(cluster):
@@ -157,3 +160,66 @@ def steered(cluster):
     process.stdin.close()
     faults += differs("the status", str(process.wait(LIMIT)), "0")
     return faults + differs("the rest of the output", process.stdout.read(), "")
+
+
+def lost_answers(cluster):
+    """Nobody reads the output any more: that is told once, servers are failed as before, and the chain goes on."""
+    process = cluster.process
+    process.stdout.close()
+    for line in ("fail 1", "nonsense", "fail 2"):
+        process.stdin.write(line + "\n")
+        process.stdin.flush()
+    client = Connection(cluster.ports[0])
+    faults = differs("a set", stored(client, b"a", 1), b"STORED")
+    client.close()
+    for port in cluster.ports[1:]:
+        faults += is_closed(Connection(port))
+    process.stdin.close()
+    faults += differs("the status", str(process.wait(LIMIT)), "0")
+    line = ("craq: standard output cannot be written; this and maybe later answers are lost: gone 1; "
+            "the cluster goes on\n")
+    return faults + ([] if cluster.told() == line else [f"standard error: {cluster.told()!r}"])
+
+
+# The address space, in bytes, that a cluster may still take once it is ready.
+ROOM = 24 * 1024 * 1024
+FALLEN = re.compile(r"craq: server (\d) ran out of memory and was stopped; (the others go on without it|no server is left)")
+
+
+def memory_runs_out(cluster):
+    """Memory is refused to a server's worker: a line names it, the others are told by the cluster itself, and answer."""
+    with open(f"/proc/{cluster.process.pid}/status", encoding="ascii") as status:
+        held = next(int(line.split()[1]) for line in status if line.startswith("VmSize:")) * 1024
+    resource.prlimit(cluster.process.pid, resource.RLIMIT_AS, (held + ROOM, resource.RLIM_INFINITY))
+    end, number = time.monotonic() + 2 * LIMIT, 0
+    while not FALLEN.search(cluster.told()):
+        if time.monotonic() > end:
+            return [f"no server runs out of memory: {cluster.told()!r}"]
+        number = filled(cluster, number)
+    resource.prlimit(cluster.process.pid, resource.RLIMIT_AS, (held + 4 * ROOM, resource.RLIM_INFINITY))
+    lines = cluster.told().splitlines()
+    cluster.failed = {int(FALLEN.fullmatch(line)[1]) for line in lines}
+    faults = [] if len(cluster.failed) == len(lines) else [f"standard error: {lines!r}"]
+    for home in set(range(len(cluster.ports))) - cluster.failed:
+        client = Connection(cluster.ports[home])
+        faults += differs(f"a set at server {home}", stored(client, b"last", 1), b"STORED")
+        client.close()
+    for home in cluster.failed:
+        faults += is_closed(Connection(cluster.ports[home]))
+    return faults
+
+
+def filled(cluster, number):
+    """Stores items with long keys, numbered from this one on, until a connection ends. Gives the next number."""
+    try:
+        client = Connection(cluster.ports[number % len(cluster.ports)])
+        for _ in range(20):
+            keys = [b"%0200d" % (number + i) for i in range(100)]
+            number += len(keys)
+            client.send(b"".join(b"set %s 0 0 1\r\nx\r\n" % key for key in keys))
+            for _ in keys:
+                client.line()
+        client.close()
+    except (Closed, Wrong):
+        pass
+    return number + 1

@@ -41,6 +41,10 @@ impl Speaker {
             Frame::Hello(id) => self.greet(rt, lobby, id),
             Frame::Peer(peer) => self.bring(rt, peer),
             Frame::Gone(j) => self.tell(rt, lobby.cuts(), j),
+            // Greetings don't go on after a Hello yet.
+            Frame::Introduction(_) | Frame::Accepted(_) | Frame::Refused(_) | Frame::Noted(_) => {
+                Err(TakeFault)
+            }
         }
     }
 

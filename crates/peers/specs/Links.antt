@@ -4,7 +4,7 @@ use Rattle.std.specs.Prelude.{◌≡◌, ℕ, List, ◌++◌, Result, Ok, Err}
 use Rattle.node.specs.Lawful.{IsBody}
 use Rattle.wire.specs.declared.ends.PeerEnd.{PeerEnd}
 use Rattle.wire.specs.declared.frames.Frame.{Frame}
-use Rattle.wire.specs.declared.frames.Frame.TheVariants.{Hello, Peer, Gone}
+use Rattle.wire.specs.declared.frames.Frame.TheVariants.{Hello, Peer, Gone, Introduction, Accepted, Refused, Noted}
 use Rattle.wire.specs.Streams.{frames_in}
 use Rattle.wire.specs.Ends.{AreFirst, end_in}
 use Rattle.peers.specs.declared.faults.LinkFault.{LinkFault}
@@ -15,6 +15,10 @@ abbrev pub MayCome : Frame → Type 0
 MayCome (Hello id) = Unit {0}
 MayCome (Peer peer) = IsBody peer.body
 MayCome (Gone id) = Unit {0}
+MayCome (Introduction opener) = Unit {0}
+MayCome (Accepted answer) = Unit {0}
+MayCome (Refused reason) = Unit {0}
+MayCome (Noted id) = Unit {0}
 
 -- all frames that stand in these bytes were taken, in order, and the bytes end so
 pub record TakesAll (end : PeerEnd) (read : List ℕ) (before after : List Frame) : Type 0 where

@@ -1,5 +1,6 @@
 //! Doors: threads that accept connections, and serve each whole before the next.
 
+use crate::keepalive::keep_alive;
 use ends::{TrackedReader, TrackedWriter};
 use seats::Mark;
 use serving::{Caller, ServeFault, serve_stream};
@@ -7,11 +8,15 @@ use std::alloc::Global;
 use std::net::{TcpListener, TcpStream};
 use std::sync::Wait;
 use std::thread;
-use std::thread::{JoinHandle, Threads};
+use std::thread::{JoinHandle, Parker, Threads};
+use std::time::Duration;
+
+/// The pause after a connection that can't be accepted, in milliseconds.
+const PAUSE: u64 = 50;
 
 /// Starts one thread for each caller. It accepts a connection, serves it whole, and accepts the next; with `serves`
 /// above 0 it ends after that many. A connection that it accepts while the mark is set is closed without a byte, and
-/// counts.
+/// counts. After one that can't be accepted it pauses.
 pub fn serve_seats<
     R: Wait + Threads + Copy + Drop + Send + 'static,
     C: Caller + Drop + Send + 'static,
@@ -54,12 +59,14 @@ fn serve_door<R: Wait, C: Caller + Drop>(
     let mut caller = caller;
     let mut served = 0u64;
     for stream in listener.incoming() {
-        if let Ok(stream) = stream {
-            serve_connection(rt, alloc, stream, &mut caller, mark);
-            served = served.wrapping_add(1);
-            if served == serves {
-                return;
-            }
+        let Ok(stream) = stream else {
+            Parker::new().park_timeout(rt, Duration::from_millis(PAUSE));
+            continue;
+        };
+        serve_connection(rt, alloc, stream, &mut caller, mark);
+        served = served.wrapping_add(1);
+        if served == serves {
+            return;
         }
     }
 }
@@ -76,6 +83,7 @@ fn serve_connection<R: Wait, C: Caller>(
         return;
     }
     let _ = stream.set_nodelay(true);
+    keep_alive(&stream);
     let mut source = TrackedReader::new(&stream);
     let mut sink = TrackedWriter::new(&stream);
     let _ = serve_stream(rt, alloc, &mut source, &mut sink, caller);

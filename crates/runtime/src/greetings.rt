@@ -1,6 +1,7 @@
 //! Connections to the peers of a chain, each of which begins with a Hello.
 ghost use Rattle.std.specs.Prelude.{◌≤◌};
 
+use crate::keepalive::keep_alive;
 use ends::TrackedWriter;
 use peers::{LinkFault, put_frame};
 use std::alloc::{AllocError, Global};
@@ -21,26 +22,44 @@ const PATIENCE: u64 = 5;
 /// Where frames for a peer go.
 pub(crate) type PeerSink = TrackedWriter<TcpStream>;
 
-/// Connects to a port of a host and sends the Hello of `id`: up to 200 tries, with pauses of 50 milliseconds. None if
-/// nobody answered. Fails only if memory runs out.
+/// What came of trying to connect.
+#[derive(Drop)]
+pub(crate) enum Greeted {
+    /// A connection, on which the Hello was written.
+    Sink(PeerSink),
+    /// The host has no address.
+    NoHost,
+    /// Nobody answered there.
+    NoAnswer,
+}
+
+/// Connects to a port of a host and sends the Hello of `id`: up to 200 tries, with pauses of 50 milliseconds. It
+/// answers `NoHost` if no try found an address. Fails only if memory runs out.
 pub(crate) fn reach<R: Clock + Net<Listener = TcpListener, Stream = TcpStream>>(
     rt: &R,
     alloc: Global,
     host: &str,
     port: u16,
     id: u8,
-) -> Result<Option<PeerSink>, AllocError>
+) -> Result<Greeted, AllocError>
     requires id { id ≤ 16 }
 {
+    let mut is_known = false;
     for tried in 0..TRIES {
         if tried > 0 {
             thread::sleep(rt, Duration::from_millis(PAUSE));
         }
-        if let Some(sink) = greet(rt, alloc, host, port, id)? {
-            return Ok(Some(sink));
+        match greet(rt, alloc, host, port, id)? {
+            Greeted::Sink(sink) => return Ok(Greeted::Sink(sink)),
+            Greeted::NoAnswer => is_known = true,
+            Greeted::NoHost => {}
         }
     }
-    Ok(None)
+    if is_known {
+        Ok(Greeted::NoAnswer)
+    } else {
+        Ok(Greeted::NoHost)
+    }
 }
 
 /// The same with one try.
@@ -50,26 +69,28 @@ pub(crate) fn greet<R: Net<Listener = TcpListener, Stream = TcpStream>>(
     host: &str,
     port: u16,
     id: u8,
-) -> Result<Option<PeerSink>, AllocError>
+) -> Result<Greeted, AllocError>
     requires id { id ≤ 16 }
 {
-    let Some(stream) = connect(rt, host, port) else {
-        return Ok(None);
+    let stream = match connect(rt, host, port) {
+        Some(Some(stream)) => stream,
+        Some(None) => return Ok(Greeted::NoAnswer),
+        None => return Ok(Greeted::NoHost),
     };
     let mut sink = TrackedWriter::new(stream);
     match put_frame(alloc, &mut sink, &Frame::Hello(id)) {
-        Ok(()) => Ok(Some(sink)),
+        Ok(()) => Ok(Greeted::Sink(sink)),
         Err(LinkFault::Memory) => Err(AllocError),
-        Err(_) => Ok(None),
+        Err(_) => Ok(Greeted::NoAnswer),
     }
 }
 
-// Connects to the first address of the host that answers.
+// Connects to the first address of the host that answers, if one does. None if the host has no address.
 fn connect<R: Net<Listener = TcpListener, Stream = TcpStream>>(
     rt: &R,
     host: &str,
     port: u16,
-) -> Option<TcpStream> {
+) -> Option<Option<TcpStream>> {
     let Ok(addresses) = (host, port).to_socket_addrs(rt) else {
         return None;
     };
@@ -78,11 +99,12 @@ fn connect<R: Net<Listener = TcpListener, Stream = TcpStream>>(
         if let Ok(stream) = TcpStream::connect_timeout(rt, &address, patience) {
             if !is_to_itself(&stream) {
                 let _ = stream.set_nodelay(true);
-                return Some(stream);
+                keep_alive(&stream);
+                return Some(Some(stream));
             }
         }
     }
-    None
+    Some(None)
 }
 
 // A socket that tries a free port of its own machine may be given that very port, and is then connected to itself.

@@ -1,16 +1,13 @@
 //! The workers of the servers of one process. Whoever puts a message takes the turn that it asks for, unless another
 //! thread is at that worker.
 
+use crate::alarms::Alarm;
 use rail::{RailFault, Turn, Worker};
-use seats::{Helper, InProcessLinks, Mark, ServerSet};
+use seats::{InProcessLinks, Mark, ServerSet};
 use std::alloc::{AllocError, Global};
 use std::sync::atomic::{AtomicBool, Ordering};
-use std::sync::{Arc, Mutex, Wait};
+use std::sync::{Mutex, Wait};
 use std::thread::Parker;
-
-/// How many turns one who has a reply still takes before it leaves the rest to the workers' threads. Most calls leave
-/// two or three, which cost less than to wake a thread.
-const LAST_TURNS: usize = 16;
 
 /// One server's worker with its links.
 #[derive(Drop)]
@@ -43,24 +40,27 @@ struct Station<R: Wait + Drop> {
 #[derive(Drop)]
 pub struct Hall<R: Wait + Drop> {
     stations: Vec<Station<R>>,
+    // Rung when a server has stopped since memory was refused.
+    alarm: Alarm,
 }
 
 impl<R: Wait + Drop> Station<R> {
     // Takes a turn if no other thread is at the worker, and answers which servers were sent something by it.
-    fn try_turn(&self) -> Option<ServerSet> {
+    fn try_turn(&self, alarm: &Alarm) -> Option<ServerSet> {
         let mut bench = self.bench.try_lock()?;
         if self.ended.load(Ordering::SeqCst) {
             return None;
         }
         self.due.store(false, Ordering::SeqCst);
-        if self.turn(&mut *bench) {
+        if self.turn(&mut *bench, alarm) {
             self.due.store(true, Ordering::SeqCst);
         }
         Some(bench.links.take_reached())
     }
 
-    // Takes a turn, if there is a message. Whether there may be more.
-    fn turn(&self, bench: &mut Bench<R>) -> bool {
+    // Takes a turn, if there is a message. Whether there may be more. If memory is refused the server is stopped, and
+    // the alarm is rung.
+    fn turn(&self, bench: &mut Bench<R>, alarm: &Alarm) -> bool {
         match bench.worker.turn_if_any(&mut bench.links) {
             Ok(None) => return false,
             Ok(Some(Turn::Went)) => {}
@@ -74,7 +74,10 @@ impl<R: Wait + Drop> Station<R> {
                 self.end();
                 return false;
             }
-            Err(_) => self.stopped.set(),
+            Err(_) => {
+                self.stopped.set();
+                alarm.ring();
+            }
         }
         true
     }
@@ -96,6 +99,7 @@ impl<R: Wait + Drop> Hall<R> {
     pub(crate) fn new(alloc: Global) -> Hall<R> {
         Hall {
             stations: Vec::new(alloc),
+            alarm: Alarm::new(),
         }
     }
 
@@ -120,6 +124,11 @@ impl<R: Wait + Drop> Hall<R> {
         }
     }
 
+    /// What is rung when a server has stopped since memory was refused.
+    pub(crate) fn alarm(&self) -> &Alarm {
+        &self.alarm
+    }
+
     fn station(&self, id: u8) -> Option<&Station<R>> {
         self.stations.get(usize::from(id))
     }
@@ -131,8 +140,8 @@ impl<R: Wait + Drop> Hall<R> {
         }
     }
 
-    // Says that something was put into the inboxes of these servers, and that they will be tried.
-    fn note(&self, servers: ServerSet) {
+    /// Says that something was put into the inboxes of these servers, and that they will be tried.
+    pub(crate) fn note(&self, servers: ServerSet) {
         let mut left = servers;
         for _ in 0..self.stations.len() {
             let Some(id) = left.take_after(0) else {
@@ -144,8 +153,8 @@ impl<R: Wait + Drop> Hall<R> {
         }
     }
 
-    // Leaves it to these servers' threads to take turns there.
-    fn ring_all(&self, servers: ServerSet) {
+    /// Leaves it to these servers' threads to take turns there.
+    pub(crate) fn ring_all(&self, servers: ServerSet) {
         let mut left = servers;
         for _ in 0..self.stations.len() {
             let Some(id) = left.take_after(0) else {
@@ -155,13 +164,13 @@ impl<R: Wait + Drop> Hall<R> {
         }
     }
 
-    // Takes a turn of a server, if no other thread is at it. Answers the servers that are to be tried then.
-    fn visit(&self, id: u8) -> ServerSet {
+    /// Takes a turn of a server, if no other thread is at it. Answers the servers that are to be tried then.
+    pub(crate) fn visit(&self, id: u8) -> ServerSet {
         let mut due = ServerSet::new();
         let Some(station) = self.station(id) else {
             return due;
         };
-        let Some(reached) = station.try_turn() else {
+        let Some(reached) = station.try_turn(&self.alarm) else {
             return due;
         };
         self.note(reached);
@@ -203,56 +212,5 @@ impl<R: Wait + Drop> Hall<R> {
             }
         }
         unreachable!()
-    }
-}
-
-/// One who takes turns for the calls of one seat.
-#[derive(Drop)]
-pub struct Hand<R: Wait + Drop> {
-    hall: Arc<Hall<R>, Global>,
-    home: u8,
-    // The servers that it is to try, and the one that it tried last.
-    due: ServerSet,
-    last: u8,
-}
-
-impl<R: Wait + Drop> Hand<R> {
-    /// For a seat at this server. Refused only when out of memory.
-    pub(crate) fn new(hall: &Arc<Hall<R>, Global>, home: u8) -> Result<Hand<R>, AllocError> {
-        Ok(Hand {
-            hall: Arc::try_clone(hall)?,
-            home,
-            due: ServerSet::new(),
-            last: home,
-        })
-    }
-}
-
-impl<R: Wait + Drop> Helper for Hand<R> {
-    fn begin(&mut self) {
-        self.due.add(self.home);
-        self.hall.note(self.due);
-    }
-
-    fn help(&mut self) -> bool {
-        match self.due.take_after(self.last) {
-            Some(at) => {
-                self.last = at;
-                let more = self.hall.visit(at);
-                self.due.merge(more);
-                true
-            }
-            None => false,
-        }
-    }
-
-    fn end(&mut self) {
-        for _ in 0..LAST_TURNS {
-            if !self.help() {
-                return;
-            }
-        }
-        self.hall.ring_all(self.due);
-        self.due = ServerSet::new();
     }
 }

@@ -2,10 +2,15 @@
 
 use ends::Source;
 use itoa::Buffer;
-use std::alloc::AllocError;
+use std::alloc::{AllocError, Global};
 
 /// The most bytes of a line that are kept: more than any line has that means something.
 const KEPT: usize = 16;
+
+/// An empty line, with room for all that is kept of one: `next_line` needs no memory for it.
+pub(crate) fn empty_line(alloc: Global) -> Result<Vec<u8>, AllocError> {
+    Vec::with_capacity(alloc, KEPT)
+}
 
 /// Puts the next line without its end there, or a beginning of it if it is long. It tells whether there is one: there is
 /// none after the end of input, or after a read that fails.

@@ -2,27 +2,44 @@
 //! the master that tells servers of failures.
 #![tactic(auto)]
 
+mod alarms;
+mod answers;
+mod cluster_faults;
 mod clusters;
 mod cuts;
 mod doors;
 mod greetings;
 mod halls;
+mod hands;
+mod homes;
 mod input_lines;
+mod keepalive;
+mod link_lines;
 mod masters;
+mod offices;
+mod outgoing;
 mod peer_doors;
+mod refusals;
+mod server_faults;
 mod servers;
 mod settings;
+mod sides;
 mod steering;
+mod strangers;
+mod told_guests;
+mod told_sinks;
 mod working;
 
-pub use clusters::{
-    ClusterFault, Home, Side, all_callers, all_links, all_servers, all_sides, helping_callers,
-    start_worker,
-};
+pub use cluster_faults::ClusterFault;
 pub use doors::serve_seats;
-pub use halls::{Hall, Hand};
+pub use halls::Hall;
+pub use hands::Hand;
+pub use homes::Home;
 pub use masters::master;
 pub use servers::{server, warn_of};
 pub use settings::{MasterSettings, ServerSettings};
+pub use sides::{
+    Side, all_callers, all_links, all_servers, all_sides, helping_callers, start_worker,
+};
 pub use steering::cluster;
 pub use working::work;

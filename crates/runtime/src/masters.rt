@@ -1,11 +1,11 @@
 //! The command `master`: tells the servers of a chain which of them has failed.
 
-use crate::greetings::{PeerSink, greet};
-use crate::input_lines::{next_line, server_named};
+use crate::answers::Answers;
+use crate::greetings::{Greeted, PeerSink, greet};
+use crate::input_lines::{empty_line, next_line, server_named};
 use crate::settings::{MasterSettings, port_of};
 use command_line::{DONE, FAILED, MEMORY};
 use ends::{Sink, Source, write_all};
-use itoa::Buffer;
 use node::{Master, MasterFault, SERVERS};
 use peers::{LinkFault, put_frame};
 use std::alloc::{AllocError, AllocFailed, Global};
@@ -14,13 +14,16 @@ use std::sync::Wait;
 use thiserror::Error;
 use wire::{Frame, MASTER};
 
+/// Who goes on if standard output can't be written.
+const WHO: &str = "the master";
+
 /// Why a master ends before its input does.
 #[derive(Clone, Copy, Debug, PartialEq, Eq, Error)]
 pub(crate) enum TellFault {
     /// No memory was left.
     #[error("out of memory")]
     Memory,
-    /// The number of servers is none of a chain, or the output can't be written.
+    /// The number of servers is none of a chain.
     #[error("run failed")]
     Run,
 }
@@ -45,8 +48,8 @@ impl From<MasterFault> for TellFault {
 
 /// Reads lines until the input ends. For each line `gone J` each other server that hasn't failed is told that server J
 /// has, and `gone J told K` is printed, K being the notices that were written whole; any other line prints `bad line`.
-/// It answers the exit status: 0, or, after a line on `errors`, 1 if the output can't be written, or 3 if memory is
-/// out.
+/// An answer that can't be written is told once on `errors`. It answers the exit status: 0, or, after a line on
+/// `errors`, 1 if no chain has so many servers, or 3 if memory is out.
 pub fn master<
     R: Wait + Net<Listener = TcpListener, Stream = TcpStream>,
     S: Source,
@@ -60,7 +63,7 @@ pub fn master<
     output: &mut W,
     errors: &mut X,
 ) -> u8 {
-    match tell_all(rt, alloc, settings, input, output) {
+    match tell_all(rt, alloc, settings, input, output, errors) {
         Ok(()) => DONE,
         Err(TellFault::Memory) => {
             let _ = write_all(errors, b"craq: out of memory\n");
@@ -74,15 +77,17 @@ pub fn master<
 }
 
 // Tells of each failure that the input names.
-fn tell_all<R: Wait + Net<Listener = TcpListener, Stream = TcpStream>, S: Source, W: Sink>(
+fn tell_all<R: Wait + Net<Listener = TcpListener, Stream = TcpStream>, S: Source, W: Sink, X: Sink>(
     rt: &R,
     alloc: Global,
     settings: &MasterSettings,
     input: &mut S,
     output: &mut W,
+    errors: &mut X,
 ) -> Result<(), TellFault> {
     let mut teller = Teller::new(alloc, settings)?;
-    let mut line = Vec::new(alloc);
+    let mut line = empty_line(alloc)?;
+    let mut answers = Answers::new(alloc)?;
     for _ in rt.forever() {
         if !next_line(input, &mut line)? {
             return Ok(());
@@ -90,9 +95,9 @@ fn tell_all<R: Wait + Net<Listener = TcpListener, Stream = TcpStream>, S: Source
         match server_named(line.as_slice(), b"gone", settings.numbers.servers) {
             Some(j) => {
                 let told = teller.tell(rt, settings, j)?;
-                print_told(output, j, told)?;
+                answers.told(output, errors, WHO, j, told);
             }
-            None => print(output, b"bad line\n")?,
+            None => answers.bad_line(output, errors, WHO),
         }
     }
     unreachable!()
@@ -182,7 +187,7 @@ impl Channel {
         port: u16,
     ) -> Result<(), TellFault> {
         if let Channel::Unopened = self {
-            if let Some(sink) = greet(rt, alloc, host, port, MASTER)? {
+            if let Greeted::Sink(sink) = greet(rt, alloc, host, port, MASTER)? {
                 *self = Channel::Open(sink);
             }
         }
@@ -206,20 +211,5 @@ impl Channel {
                 Ok(false)
             }
         }
-    }
-}
-
-fn print_told<W: Sink>(output: &mut W, j: u8, told: u8) -> Result<(), TellFault> {
-    print(output, b"gone ")?;
-    print(output, Buffer::new().format(j).as_bytes())?;
-    print(output, b" told ")?;
-    print(output, Buffer::new().format(told).as_bytes())?;
-    print(output, b"\n")
-}
-
-fn print<W: Sink>(output: &mut W, text: &[u8]) -> Result<(), TellFault> {
-    match write_all(output, text) {
-        Ok(()) => Ok(()),
-        Err(_) => Err(TellFault::Run),
     }
 }

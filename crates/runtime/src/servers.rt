@@ -1,71 +1,22 @@
 //! The command `server`: one server of a chain in a process of its own.
 
-use crate::clusters::{ClusterFault, all_callers, idle_node};
-use crate::cuts::Connections;
 use crate::doors::serve_seats;
-use crate::greetings::{PeerSink, reach};
+use crate::outgoing::{LinkSink, Outgoing};
 use crate::peer_doors::open_peer_door;
+use crate::server_faults::{ServerFault, tell};
 use crate::settings::{ServerSettings, port_of};
+use crate::sides::{all_callers, idle_node};
 use command_line::{FAILED, MEMORY};
 use ends::{Sink, write_all};
-use itoa::Buffer;
-use links::{Lobby, PeerLink, PeerLinks, Places};
+use links::{Lobby, PeerLinks, Places};
 use node::SERVERS;
 use rail::{Inlet, RailFault, Server, Turn, Worker, open};
 use seats::Mark;
-use serving::ServeFault;
-use std::alloc::{AllocError, AllocFailed, Global};
+use std::alloc::Global;
 use std::net::{Net, SocketAddr, TcpListener, TcpStream};
 use std::sync::Wait;
 use std::thread::Threads;
 use std::time::Clock;
-use thiserror::Error;
-use wire::MASTER;
-
-/// Why a server ends.
-#[derive(Clone, Copy, Debug, PartialEq, Eq, Error)]
-pub(crate) enum ServerFault {
-    /// No memory was left, or no thread.
-    #[error("out of memory")]
-    Memory,
-    /// Nobody can listen on this port.
-    #[error("cannot listen on port {0}")]
-    Port(u16),
-    /// This server can't be reached.
-    #[error("cannot connect to server {0}")]
-    Away(u8),
-    /// The numbers are none of a chain, or the output can't be written.
-    #[error("run failed")]
-    Run,
-}
-
-impl From<AllocError> for ServerFault {
-    fn from(_e: AllocError) -> ServerFault {
-        ServerFault::Memory
-    }
-}
-
-impl<T: Drop> From<AllocFailed<T>> for ServerFault {
-    fn from(_e: AllocFailed<T>) -> ServerFault {
-        ServerFault::Memory
-    }
-}
-
-impl From<ServeFault> for ServerFault {
-    fn from(_e: ServeFault) -> ServerFault {
-        ServerFault::Memory
-    }
-}
-
-impl From<ClusterFault> for ServerFault {
-    fn from(e: ClusterFault) -> ServerFault {
-        match e {
-            ClusterFault::Memory => ServerFault::Memory,
-            ClusterFault::Port(port) => ServerFault::Port(port),
-            ClusterFault::Run => ServerFault::Run,
-        }
-    }
-}
 
 /// Runs one server of a chain, until a fault ends it. It connects to each other server, and says `ready` when these
 /// links stand. It answers the exit status, after a line on `errors`: 1 if a port is taken, a peer can't be reached or
@@ -95,9 +46,9 @@ pub fn server<
 }
 
 // A server whose doors are open.
-struct Running<R: Wait + Drop> {
+struct Running<R: Wait + Eprint + Drop> {
     worker: Worker<R>,
-    links: PeerLinks<PeerSink>,
+    links: PeerLinks<LinkSink<R>>,
     failed: Mark,
 }
 
@@ -108,7 +59,7 @@ struct Ports {
     peers: TcpListener,
 }
 
-impl<R: Wait + Copy + Drop + Send + 'static> Running<R> {
+impl<R: Wait + Eprint + Copy + Drop + Send + 'static> Running<R> {
     // Opens the ports, connects to the other servers, and starts the threads that serve clients and peers.
     fn open<X: Sink>(
         rt: R,
@@ -117,11 +68,11 @@ impl<R: Wait + Copy + Drop + Send + 'static> Running<R> {
         errors: &mut X,
     ) -> Result<Running<R>, ServerFault>
     where
-        R: Threads + Clock + Eprint + Net<Listener = TcpListener, Stream = TcpStream>,
+        R: Threads + Clock + Net<Listener = TcpListener, Stream = TcpStream>,
     {
         let ports = Ports::open(&rt, settings)?;
         warn(&ports.peers, errors);
-        let (links, connections) = all_links(&rt, alloc, settings)?;
+        let Outgoing { links, connections } = Outgoing::open(rt, alloc, settings)?;
         let Server {
             worker,
             stands,
@@ -130,7 +81,8 @@ impl<R: Wait + Copy + Drop + Send + 'static> Running<R> {
         let places = all_places(alloc, settings, inlets)?;
         let failed = Mark::new(alloc)?;
         let callers = all_callers(alloc, stands, &failed)?;
-        let _ = open_peer_door(rt, alloc, ports.peers, Lobby::new(places, connections))?;
+        let lobby = Lobby::new(places, connections);
+        let _ = open_peer_door(rt, alloc, ports.peers, lobby, settings.numbers.id)?;
         let _ = serve_seats(rt, alloc, &ports.clients, callers, 0, &failed)?;
         let links = PeerLinks::new(alloc, links);
         Ok(Running {
@@ -157,10 +109,10 @@ impl<R: Wait + Copy + Drop + Send + 'static> Running<R> {
 }
 
 // Takes turns until the worker stops, and answers why it does.
-fn take_turns<R: Wait + Drop>(
+fn take_turns<R: Wait + Eprint + Drop>(
     rt: &R,
     worker: Worker<R>,
-    links: &mut PeerLinks<PeerSink>,
+    links: &mut PeerLinks<LinkSink<R>>,
 ) -> ServerFault {
     let mut worker = worker;
     for _ in rt.forever() {
@@ -222,56 +174,6 @@ pub fn warn_of<X: Sink>(address: SocketAddr, errors: &mut X) {
     }
 }
 
-// The links to the other servers, and what cuts them.
-fn all_links<R: Clock + Net<Listener = TcpListener, Stream = TcpStream>>(
-    rt: &R,
-    alloc: Global,
-    settings: &ServerSettings,
-) -> Result<(Vec<PeerLink<PeerSink>>, Connections), ServerFault> {
-    let mut links = Vec::new(alloc);
-    let mut streams = Vec::new(alloc);
-    for j in 0..settings.numbers.servers {
-        let sink = sink_to(rt, alloc, settings, j)?;
-        streams.push(stream_of(&sink)?)?;
-        links.push(PeerLink::new(sink))?;
-    }
-    Ok((links, Connections::new(streams)))
-}
-
-// The connection to a server; none to itself.
-fn sink_to<R: Clock + Net<Listener = TcpListener, Stream = TcpStream>>(
-    rt: &R,
-    alloc: Global,
-    settings: &ServerSettings,
-    j: u8,
-) -> Result<Option<PeerSink>, ServerFault> {
-    if j == settings.numbers.id {
-        return Ok(None);
-    }
-    let Some(host) = settings.hosts.get(usize::from(j)) else {
-        return Err(ServerFault::Run);
-    };
-    if settings.numbers.id > MASTER {
-        return Err(ServerFault::Run);
-    }
-    let port = port_of(settings.numbers.peer_port, j);
-    match reach(rt, alloc, host.as_str(), port, settings.numbers.id)? {
-        Some(sink) => Ok(Some(sink)),
-        None => Err(ServerFault::Away(j)),
-    }
-}
-
-// The same connection once more.
-fn stream_of(sink: &Option<PeerSink>) -> Result<Option<TcpStream>, ServerFault> {
-    match sink {
-        Some(sink) => match sink.inner.try_clone() {
-            Ok(stream) => Ok(Some(stream)),
-            Err(_) => Err(ServerFault::Memory),
-        },
-        None => Ok(None),
-    }
-}
-
 // The server before any input, with an inlet for each other server and for the master.
 fn idle_server<R: Wait + Copy + Drop>(
     rt: R,
@@ -307,40 +209,4 @@ fn all_places(
         places.push(inlet)?;
     }
     Ok(Places::new(places, inlets.pop()))
-}
-
-// Tells in one line why the server ends.
-fn tell<X: Sink>(fault: ServerFault, settings: &ServerSettings, errors: &mut X) {
-    match fault {
-        ServerFault::Memory => {
-            let _ = write_all(errors, b"craq: out of memory\n");
-        }
-        ServerFault::Port(port) => {
-            let _ = write_all(errors, b"craq: cannot listen on port ");
-            write_number(port, errors);
-            let _ = write_all(errors, b"\n");
-        }
-        ServerFault::Away(j) => tell_away(j, settings, errors),
-        ServerFault::Run => {
-            let _ = write_all(errors, b"craq: run failed\n");
-        }
-    }
-}
-
-// Tells which server can't be reached.
-fn tell_away<X: Sink>(j: u8, settings: &ServerSettings, errors: &mut X) {
-    let _ = write_all(errors, b"craq: cannot connect to server ");
-    write_number(u16::from(j), errors);
-    if let Some(host) = settings.hosts.get(usize::from(j)) {
-        let _ = write_all(errors, b" at ");
-        let _ = write_all(errors, host.as_str().as_bytes());
-        let _ = write_all(errors, b" port ");
-        write_number(port_of(settings.numbers.peer_port, j), errors);
-    }
-    let _ = write_all(errors, b"\n");
-}
-
-fn write_number<X: Sink>(number: u16, errors: &mut X) {
-    let mut digits = Buffer::new();
-    let _ = write_all(errors, digits.format(number).as_bytes());
 }

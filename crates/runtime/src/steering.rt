@@ -1,24 +1,31 @@
 //! The command `cluster`: runs a chain, and fails the servers that its input names.
 
-use crate::clusters::{Cluster, ClusterFault};
-use crate::input_lines::{next_line, server_named};
+use crate::answers::Answers;
+use crate::cluster_faults::ClusterFault;
+use crate::clusters::Cluster;
+use crate::homes::StopFault;
+use crate::input_lines::{empty_line, next_line, server_named};
 use command_line::{DONE, Numbers};
 use ends::{Sink, Source, write_all};
-use itoa::Buffer;
 use std::alloc::Global;
 use std::net::{Net, TcpListener, TcpStream};
 use std::sync::Wait;
 use std::thread::Threads;
 use std::time::Clock;
 
+/// Who goes on if standard output can't be written.
+const WHO: &str = "the cluster";
+
 /// Runs a chain of servers that serve clients over TCP, until the input and every seat's thread have ended. It says
-/// `ready` when all listen. For each line `fail J` of the input server J is failed, and `gone J` printed; any other
-/// line prints `bad line`. It answers the exit status: 0, or 1 if a port is taken or the output can't be written, or 3
-/// if memory is out.
+/// `ready` when all listen. For each line `fail J` of the input server J is failed, and `gone J` printed, or `not gone J`
+/// if it can't be stopped; any other line prints `bad line`. Of a server that is refused memory the others are told at
+/// once, and so is the user, by a line on standard error. It answers the exit status: 0, or, after a line on `errors`, 1 if a port is taken or `ready`
+/// can't be written, or 3 if memory is out at the start. An answer that can't be written is told there once.
 pub fn cluster<
     R: Wait
         + Threads
         + Clock
+        + Eprint
         + Net<Listener = TcpListener, Stream = TcpStream>
         + Copy
         + Drop
@@ -28,7 +35,7 @@ pub fn cluster<
     W: Sink,
     X: Sink,
 >(rt: R, alloc: Global, numbers: Numbers, input: &mut S, output: &mut W, errors: &mut X) -> u8 {
-    match steer(rt, alloc, numbers, input, output) {
+    match steer(rt, alloc, numbers, input, output, errors) {
         Ok(()) => DONE,
         Err(fault) => {
             fault.tell(errors);
@@ -42,6 +49,7 @@ fn steer<
     R: Wait
         + Threads
         + Clock
+        + Eprint
         + Net<Listener = TcpListener, Stream = TcpStream>
         + Copy
         + Drop
@@ -49,37 +57,33 @@ fn steer<
         + 'static,
     S: Source,
     W: Sink,
+    X: Sink,
 >(
     rt: R,
     alloc: Global,
     numbers: Numbers,
     input: &mut S,
     output: &mut W,
+    errors: &mut X,
 ) -> Result<(), ClusterFault> {
-    let mut cluster = Cluster::open(rt, alloc, numbers)?;
-    print(output, b"ready\n")?;
-    let mut line = Vec::new(alloc);
+    let mut line = empty_line(alloc)?;
+    let mut answers = Answers::new(alloc)?;
+    let cluster = Cluster::open(rt, alloc, numbers)?;
+    if write_all(output, b"ready\n").is_err() {
+        return Err(ClusterFault::Run);
+    }
     for _ in rt.forever() {
         if !next_line(input, &mut line)? {
             cluster.end(&rt);
             return Ok(());
         }
         match server_named(line.as_slice(), b"fail", numbers.servers) {
-            Some(j) => {
-                cluster.fail(&rt, j)?;
-                print(output, b"gone ")?;
-                print(output, Buffer::new().format(j).as_bytes())?;
-                print(output, b"\n")?;
-            }
-            None => print(output, b"bad line\n")?,
+            Some(j) => match cluster.fail(&rt, j) {
+                Ok(()) => answers.gone(output, errors, WHO, j),
+                Err(StopFault) => answers.not_gone(output, errors, WHO, j),
+            },
+            None => answers.bad_line(output, errors, WHO),
         }
     }
     unreachable!()
-}
-
-fn print<W: Sink>(output: &mut W, text: &[u8]) -> Result<(), ClusterFault> {
-    match write_all(output, text) {
-        Ok(()) => Ok(()),
-        Err(_) => Err(ClusterFault::Run),
-    }
 }

@@ -18,14 +18,17 @@ use Rattle.node.specs.declared.messages.Body.{Body}
 use Rattle.node.specs.declared.messages.Body.TheVariants as bodies
 use Rattle.wire.specs.declared.fields.Stop.TheVariants.{Malformed}
 use Rattle.wire.specs.declared.frames.Frame.{Frame}
-use Rattle.wire.specs.declared.frames.Frame.TheVariants.{Hello, Peer, Gone}
+use Rattle.wire.specs.declared.frames.Frame.TheVariants.{Hello, Peer, Gone, Accepted, Refused, Noted}
+use Rattle.wire.specs.declared.frames.Frame.TheVariants as frames
+use Rattle.wire.specs.declared.greetings.Reason.TheVariants as reasons
 use Rattle.wire.specs.Parts.{Part, followed, makes, refused, either, byte, number, bytes_of, text_of}
 use Rattle.wire.specs.Grammar as format
-use Rattle.wire.specs.Grammar.{any, positive, at_most, below, is_key_length}
+use Rattle.wire.specs.Grammar.{any, positive, at_most, below, is_key_length, is_server_count}
 use Rattle.wire.specs.Fronts.{Read, ◌>>=◌, byte_at, number_at, bytes_at, text_at, key_at, target_at, block_at}
 use Rattle.wire.specs.Fronts.{flagged_at, key_operation_at, op_at, key_reply_at, reply_at, key_change_at, change_at}
 use Rattle.wire.specs.Fronts.{op_body_at, forward_body_at, ack_body_at, query_body_at, answer_body_at, body_at}
-use Rattle.wire.specs.Fronts.{message_at, of_kind_at}
+use Rattle.wire.specs.Fronts.{message_at, introduction_at, acceptance_at, refusal_of_at, refusal_at, greeting_at}
+use Rattle.wire.specs.Fronts.{of_kind_at}
 use Rattle.wire.proofs.Readers.{IsReader, in_turn, made, refusing, chosen}
 use Rattle.wire.proofs.FieldReaders.{byte_reader, number_reader, bytes_reader, text_reader, wide16, wide32, wide64}
 
@@ -216,12 +219,50 @@ message_reader kind =
     (λ view. mapped (body_at kind) (format.body kind) (λ says. Peer (record { view = view; body = says }))
     (body_reader kind))
 
+introduction_reader : IsReader introduction_at format.introduction
+unfolding introduction_at
+introduction_reader =
+    in_turn (byte_at is_server_count) (byte is_server_count) _ _ (byte_reader is_server_count)
+    (λ servers. in_turn (number_at w64 any) (number w64 any) _ _ (number_reader w64 any wide64)
+    (λ start. mapped key_at format.key
+    (λ chain. frames.Introduction (record { servers = servers; start = start; chain = chain })) key_reader))
+
+acceptance_reader : IsReader acceptance_at format.acceptance
+unfolding acceptance_at
+acceptance_reader =
+    in_turn (number_at w64 any) (number w64 any) _ _ (number_reader w64 any wide64)
+    (λ start. mapped (number_at w16 any) (number w16 any) (λ gone. Accepted (record { start = start; gone = gone }))
+    (number_reader w16 any wide16))
+
+refusal_of_reader : (code : ℕ) → IsReader (refusal_of_at code) (format.refusal_of code)
+unfolding refusal_of_at
+refusal_of_reader code =
+    chosen (code == 1) _ _ _ _ (made (Refused reasons.Servers))
+    (chosen (code == 2) _ _ _ _ (made (Refused reasons.Chain))
+    (chosen (code == 3) _ _ _ _ (made (Refused reasons.Taken))
+    (chosen (code == 4) _ _ _ _ (made (Refused reasons.Gone))
+    (chosen (code == 5) _ _ _ _ (made (Refused reasons.Format)) refusing))))
+
+refusal_reader : IsReader refusal_at format.refusal
+unfolding refusal_at
+refusal_reader = in_turn (byte_at any) (byte any) refusal_of_at format.refusal_of (byte_reader any) refusal_of_reader
+
+greeting_reader : (kind : ℕ) → IsReader (greeting_at kind) (format.greeting kind)
+unfolding greeting_at
+greeting_reader kind =
+    chosen (kind == 7) introduction_at _ format.introduction _ introduction_reader
+    (chosen (kind == 8) acceptance_at _ format.acceptance _ acceptance_reader
+    (chosen (kind == 9) refusal_at _ format.refusal _ refusal_reader
+    (chosen (kind == 10) _ _ _ _ (mapped (byte_at (below 16)) (byte (below 16)) Noted (byte_reader (below 16)))
+    refusing)))
+
 of_kind_reader : (kind : ℕ) → IsReader (of_kind_at kind) (format.of_kind kind)
 unfolding of_kind_at
 of_kind_reader kind =
     chosen (kind == 0) _ _ _ _ (mapped (byte_at (at_most 16)) (byte (at_most 16)) Hello (byte_reader (at_most 16)))
     (chosen (kind == 6) _ _ _ _ (mapped (byte_at (below 16)) (byte (below 16)) Gone (byte_reader (below 16)))
-    (chosen (nat_lt 6 kind) _ (message_at kind) _ (format.message kind) refusing (message_reader kind)))
+    (chosen (nat_lt 6 kind) (greeting_at kind) (message_at kind) (format.greeting kind) (format.message kind)
+    (greeting_reader kind) (message_reader kind)))
 
 -- reading that doesn't tell an older server's format apart
 abbrev pub plain_front : List ℕ → Read Frame

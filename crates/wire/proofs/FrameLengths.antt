@@ -21,14 +21,17 @@ use Rattle.node.specs.declared.messages.Body.{Body}
 use Rattle.node.specs.declared.messages.Body.TheVariants as bodies
 use Rattle.wire.specs.declared.fields.Stop.TheVariants.{Short, Malformed, Old}
 use Rattle.wire.specs.declared.frames.Frame.{Frame}
-use Rattle.wire.specs.declared.frames.Frame.TheVariants.{Hello, Peer, Gone}
+use Rattle.wire.specs.declared.frames.Frame.TheVariants.{Hello, Peer, Gone, Accepted, Refused, Noted}
+use Rattle.wire.specs.declared.frames.Frame.TheVariants as frames
+use Rattle.wire.specs.declared.greetings.Reason.TheVariants as reasons
 use Rattle.wire.specs.Spellings.{IsFrame, spelling}
 use Rattle.wire.specs.Lengths.{longest}
-use Rattle.wire.specs.Grammar.{IsPartial, any, positive, at_most, below, is_key_length}
+use Rattle.wire.specs.Grammar.{IsPartial, any, positive, at_most, below, is_key_length, is_server_count}
 use Rattle.wire.specs.Fronts.{Read, ◌>>=◌, byte_at, number_at, bytes_at, text_at, key_at, target_at, block_at}
 use Rattle.wire.specs.Fronts.{flagged_at, key_operation_at, op_at, key_reply_at, reply_at, key_change_at, change_at}
 use Rattle.wire.specs.Fronts.{op_body_at, forward_body_at, ack_body_at, query_body_at, answer_body_at, body_at}
-use Rattle.wire.specs.Fronts.{message_at, of_kind_at, front}
+use Rattle.wire.specs.Fronts.{message_at, introduction_at, acceptance_at, refusal_of_at, refusal_at, greeting_at}
+use Rattle.wire.specs.Fronts.{of_kind_at, front}
 use Rattle.wire.proofs.Readers.{IsBytes}
 use Rattle.wire.proofs.FieldReaders.{byte_takes, judged, counted_ok, within_ok}
 use Rattle.wire.proofs.FormatReaders.{plain_front, plain_reader}
@@ -218,6 +221,47 @@ within_body kind =
     (wider 259 (286 + limit) query_body_at (omega arith) within_query_body)
     (wider 16 (286 + limit) answer_body_at (omega arith) within_answer_body))))
 
+-- ---- greetings
+
+within_introduction : IsWithin 260 introduction_at
+unfolding introduction_at
+within_introduction =
+    within_turn 1 259 (byte_at is_server_count) _ (within_byte is_server_count)
+    (λ servers bytes rest e. within_turn 8 251 (number_at w64 any) _ (within_number w64 any)
+    (λ start bytes rest e. within_mapped 251 key_at
+    (λ chain. frames.Introduction (record { servers = servers; start = start; chain = chain })) within_key))
+
+within_acceptance : IsWithin 10 acceptance_at
+unfolding acceptance_at
+within_acceptance =
+    within_turn 8 2 (number_at w64 any) _ (within_number w64 any)
+    (λ start bytes rest e. within_mapped 2 (number_at w16 any) (λ gone. Accepted (record { start = start; gone = gone }))
+    (within_number w16 any))
+
+within_refusal_of : (code : ℕ) → IsWithin 0 (refusal_of_at code)
+unfolding refusal_of_at
+within_refusal_of code =
+    within_chosen 0 (code == 1) _ _ (within_made (Refused reasons.Servers))
+    (within_chosen 0 (code == 2) _ _ (within_made (Refused reasons.Chain))
+    (within_chosen 0 (code == 3) _ _ (within_made (Refused reasons.Taken))
+    (within_chosen 0 (code == 4) _ _ (within_made (Refused reasons.Gone))
+    (within_chosen 0 (code == 5) _ _ (within_made (Refused reasons.Format)) (within_refusing 0)))))
+
+within_refusal : IsWithin 1 refusal_at
+unfolding refusal_at
+within_refusal =
+    within_turn 1 0 (byte_at any) refusal_of_at (within_byte any) (λ code bytes rest e. within_refusal_of code)
+
+within_greeting : (kind : ℕ) → IsWithin 260 (greeting_at kind)
+unfolding greeting_at
+within_greeting kind =
+    within_chosen 260 (kind == 7) introduction_at _ within_introduction
+    (within_chosen 260 (kind == 8) acceptance_at _ (wider 10 260 acceptance_at (omega arith) within_acceptance)
+    (within_chosen 260 (kind == 9) refusal_at _ (wider 1 260 refusal_at (omega arith) within_refusal)
+    (within_chosen 260 (kind == 10) _ _
+    (wider 1 260 _ (omega arith) (within_mapped 1 (byte_at (below 16)) Noted (within_byte (below 16))))
+    (within_refusing 260))))
+
 -- ---- frames
 
 within_message : (kind : ℕ) → IsWithin (288 + limit) (message_at kind)
@@ -235,8 +279,8 @@ within_kind kind =
     (within_mapped 1 (byte_at (at_most 16)) Hello (within_byte (at_most 16))))
     (within_chosen (288 + limit) (kind == 6) _ _
     (wider 1 (288 + limit) _ (omega arith) (within_mapped 1 (byte_at (below 16)) Gone (within_byte (below 16))))
-    (within_chosen (288 + limit) (nat_lt 6 kind) _ (message_at kind) (within_refusing (288 + limit))
-    (within_message kind)))
+    (within_chosen (288 + limit) (nat_lt 6 kind) (greeting_at kind) (message_at kind)
+    (wider 260 (288 + limit) (greeting_at kind) (omega arith) (within_greeting kind)) (within_message kind)))
 
 -- reading that doesn't tell formats apart takes no more than the longest frame, and waits only at fewer
 within_frame : IsWithin longest plain_front

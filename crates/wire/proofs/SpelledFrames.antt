@@ -14,16 +14,18 @@ use Rattle.versions.specs.Entries.{PutsOwn, is_clear, is_flushed}
 use Rattle.node.specs.declared.messages.Body.{Body}
 use Rattle.node.specs.declared.messages.Body.TheVariants as bodies
 use Rattle.wire.specs.declared.frames.Frame.{Frame}
-use Rattle.wire.specs.declared.frames.Frame.TheVariants.{Hello, Peer, Gone}
+use Rattle.wire.specs.declared.frames.Frame.TheVariants.{Hello, Peer, Gone, Accepted, Refused, Noted}
+use Rattle.wire.specs.declared.frames.Frame.TheVariants as frames
 use Rattle.wire.specs.Spellings.{four_bytes, eight_bytes, key_spelling, target_spelling, block_spelling, op_spelling}
 use Rattle.wire.specs.Spellings.{reply_spelling, change_spelling, body_spelling, kind_of, spelling, HasReplyWidth}
-use Rattle.wire.specs.Spellings.{HasChangeWidth, IsBody, IsFrame}
+use Rattle.wire.specs.Spellings.{HasChangeWidth, IsBody, IsFrame, introduction_spelling, acceptance_spelling, code_of}
 use Rattle.wire.specs.Parts.{followed, makes, byte, number}
 use Rattle.wire.specs.Grammar as format
 use Rattle.wire.specs.Grammar.{any, positive, at_most, below}
 use Rattle.wire.proofs.Spelled.{by_test, from_made, to_made, at_most_is, below_is, joined, key_from, key_to}
 use Rattle.wire.proofs.Spelled.{target_from, target_to, flagged_from, flagged_to, by_part, by_value, by_code, with_code}
 use Rattle.wire.proofs.Spelled.{op_from, op_to, amount_to}
+use Rattle.wire.proofs.SpelledGreetings.{SentFrame, greeting_from, introduction_to, acceptance_to, refusal_to}
 
 -- ---- replies
 
@@ -388,26 +390,24 @@ body_to (bodies.Answer ask n) h =
 message_from : (kind : ℕ) (f : Frame) (text : List ℕ)
     → IsKind kind
     → (format.message kind).Spells f text
-    → IsFrame f × (2 ∷ kind ∷ text ≡ spelling f)
+    → SentFrame kind f text
 message_from kind f text k s =
     let m = from_made (format.body kind) (λ says. Peer (record { view = s.0; body = says })) f s.2 s.4 in
     let b = body_from kind m.0 s.2 k m.1 in
     let spelled : text ≡ to_be_bytes w16 s.0 ++ body_spelling m.0 =
     joined text s.1 s.2 (to_be_bytes w16 s.0) (body_spelling m.0) s.5 s.3.2 b.spelled in
-    subst (λ f. IsFrame f × (2 ∷ kind ∷ text ≡ spelling f)) (sym m.2) (
+    subst (λ f. SentFrame kind f text) (sym m.2) (
       (s.3.0, b.whole),
       ap (λ (t : List ℕ). 2 ∷ kind ∷ t) spelled
           ∙ ap (λ (k : ℕ). 2 ∷ k ∷ (to_be_bytes w16 s.0 ++ body_spelling m.0)) (sym b.kind_is),
     )
 
-of_kind_from : (kind : ℕ) (f : Frame) (text : List ℕ)
-    → (format.of_kind kind).Spells f text
-    → IsFrame f × (2 ∷ kind ∷ text ≡ spelling f)
+of_kind_from : (kind : ℕ) (f : Frame) (text : List ℕ) → (format.of_kind kind).Spells f text → SentFrame kind f text
 of_kind_from kind f text s0 =
     elim (by_test (kind == 0) _ _ f text s0) [
       | inl h ↦
           let m = from_made (byte (at_most 16)) Hello f text h.1 in
-          subst (λ f. IsFrame f × (2 ∷ kind ∷ text ≡ spelling f)) (sym m.2) (
+          subst (λ f. SentFrame kind f text) (sym m.2) (
             at_most_is 16 m.0 m.1.0,
             ap (λ (k : ℕ). 2 ∷ k ∷ text) (eqb-true kind 0 h.0)
                 ∙ ap (λ (t : List ℕ). 2 ∷ 0 ∷ t) m.1.1,
@@ -415,13 +415,13 @@ of_kind_from kind f text s0 =
       | inr s1 ↦ elim (by_test (kind == 6) _ _ f text s1.1) [
         | inl h ↦
             let m = from_made (byte (below 16)) Gone f text h.1 in
-            subst (λ f. IsFrame f × (2 ∷ kind ∷ text ≡ spelling f)) (sym m.2) (
+            subst (λ f. SentFrame kind f text) (sym m.2) (
               below_is 16 m.0 m.1.0,
               ap (λ (k : ℕ). 2 ∷ k ∷ text) (eqb-true kind 6 h.0)
                   ∙ ap (λ (t : List ℕ). 2 ∷ 6 ∷ t) m.1.1,
             )
-        | inr s2 ↦ elim (by_test (nat_lt 6 kind) _ (format.message kind) f text s2.1) [
-          | inl h ↦ absurd h.1
+        | inr s2 ↦ elim (by_test (nat_lt 6 kind) (format.greeting kind) (format.message kind) f text s2.1) [
+          | inl h ↦ greeting_from kind f text h.1
           | inr s3 ↦ message_from kind f text
               (kind_is kind (eqb-false kind 0 s1.0) (eqb-false kind 6 s2.0) (ltb-false 6 kind s3.0)) s3.1
         ]
@@ -445,6 +445,10 @@ of_kind_to : (f : Frame)
     → (kind : ℕ) × (text : List ℕ) × (format.of_kind kind).Spells f text × (spelling f ≡ 2 ∷ kind ∷ text)
 of_kind_to (Hello id) h = (0, id ∷ [], to_made (byte (at_most 16)) Hello id (id ∷ []) (le-leb id 16 h, refl), refl)
 of_kind_to (Gone id) h = (6, id ∷ [], to_made (byte (below 16)) Gone id (id ∷ []) (lt-ltb id 16 h, refl), refl)
+of_kind_to (frames.Introduction opener) h = (7, introduction_spelling opener, introduction_to opener h, refl)
+of_kind_to (Accepted answer) h = (8, acceptance_spelling answer, acceptance_to answer h, refl)
+of_kind_to (Refused reason) h = (9, code_of reason ∷ [], refusal_to reason, refl)
+of_kind_to (Noted id) h = (10, id ∷ [], to_made (byte (below 16)) Noted id (id ∷ []) (lt-ltb id 16 h, refl), refl)
 of_kind_to (Peer peer) h =
     let s : (format.message (kind_of peer.body)).Spells (Peer peer)
     (to_be_bytes w16 peer.view ++ body_spelling peer.body) = (

@@ -23,8 +23,10 @@ use Rattle.wire.specs.declared.fields.Stop.TheVariants.{Short, Malformed, Old}
 use Rattle.wire.specs.declared.reading.ReadFault.{ReadFault}
 use Rattle.wire.specs.declared.reading.ReadFault.TheVariants as faults
 use Rattle.wire.specs.declared.frames.Frame.{Frame}
-use Rattle.wire.specs.declared.frames.Frame.TheVariants.{Hello, Peer, Gone}
-use Rattle.wire.specs.Grammar.{any, positive, at_most, below, is_key_length}
+use Rattle.wire.specs.declared.frames.Frame.TheVariants.{Hello, Peer, Gone, Accepted, Refused, Noted}
+use Rattle.wire.specs.declared.frames.Frame.TheVariants as frames
+use Rattle.wire.specs.declared.greetings.Reason.TheVariants as reasons
+use Rattle.wire.specs.Grammar.{any, positive, at_most, below, is_key_length, is_server_count}
 
 -- a value and the bytes after it, or why reading stops
 abbrev pub Read : Type 0 → Type 0
@@ -230,12 +232,52 @@ message_at kind bytes = do
   says ← body_at kind view.1
   Ok (Peer (record { view = view.0; body = says.0 }), says.1)
 
+-- what the opener tells of its chain
+unfoldable pub introduction_at : List ℕ → Read Frame
+introduction_at bytes = do
+  servers ← byte_at is_server_count bytes
+  start ← number_at w64 any servers.1
+  chain ← key_at start.1
+  Ok (frames.Introduction (record { servers = servers.0; start = start.0; chain = chain.0 }), chain.1)
+
+-- what the acceptor tells of itself
+unfoldable pub acceptance_at : List ℕ → Read Frame
+acceptance_at bytes = do
+  start ← number_at w64 any bytes
+  gone ← number_at w16 any start.1
+  Ok (Accepted (record { start = start.0; gone = gone.0 }), gone.1)
+
+-- the reason of a code
+unfoldable pub refusal_of_at : ℕ → List ℕ → Read Frame
+refusal_of_at code bytes =
+    if code == 1 then Ok (Refused reasons.Servers, bytes)
+    else if code == 2 then Ok (Refused reasons.Chain, bytes)
+    else if code == 3 then Ok (Refused reasons.Taken, bytes)
+    else if code == 4 then Ok (Refused reasons.Gone, bytes)
+    else if code == 5 then Ok (Refused reasons.Format, bytes)
+    else Err Malformed
+
+-- why the acceptor doesn't take a connection
+unfoldable pub refusal_at : List ℕ → Read Frame
+refusal_at bytes = do
+  code ← byte_at any bytes
+  refusal_of_at code.0 code.1
+
+-- what is read after a kind from 7 on
+unfoldable pub greeting_at : ℕ → List ℕ → Read Frame
+greeting_at kind bytes =
+    if kind == 7 then introduction_at bytes
+    else if kind == 8 then acceptance_at bytes
+    else if kind == 9 then refusal_at bytes
+    else if kind == 10 then (byte_at (below 16) bytes >>= λ id. Ok (Noted id.0, id.1))
+    else Err Malformed
+
 -- what is read after a kind
 unfoldable pub of_kind_at : ℕ → List ℕ → Read Frame
 of_kind_at kind bytes =
     if kind == 0 then (byte_at (at_most 16) bytes >>= λ id. Ok (Hello id.0, id.1))
     else if kind == 6 then (byte_at (below 16) bytes >>= λ id. Ok (Gone id.0, id.1))
-    else if nat_lt 6 kind then Err Malformed
+    else if nat_lt 6 kind then greeting_at kind bytes
     else message_at kind bytes
 
 -- the format's byte: an older server's is told apart

@@ -17,7 +17,9 @@ use Rattle.table.specs.declared.operations.Change.TheVariants.{Keep, Put, Drop, 
 use Rattle.node.specs.declared.messages.Body.{Body}
 use Rattle.node.specs.declared.messages.Body.TheVariants as bodies
 use Rattle.wire.specs.declared.frames.Frame.{Frame}
-use Rattle.wire.specs.declared.frames.Frame.TheVariants.{Hello, Peer, Gone}
+use Rattle.wire.specs.declared.frames.Frame.TheVariants.{Hello, Peer, Gone, Accepted, Refused, Noted}
+use Rattle.wire.specs.declared.frames.Frame.TheVariants as frames
+use Rattle.wire.specs.declared.greetings.Reason.TheVariants as reasons
 use Rattle.wire.specs.Spellings.{IsFrame, spelling}
 use Rattle.wire.specs.Parts.{Part, ◌>>=◌, makes, refused, either, byte, number, bytes_of, text_of}
 
@@ -40,6 +42,10 @@ below end n = nat_lt n end
 -- 1 to 250
 abbrev pub is_key_length : ℕ → Bool
 is_key_length n = nat_le 1 n && nat_le n 250
+
+-- 1 to 16
+abbrev pub is_server_count : ℕ → Bool
+is_server_count n = nat_le 1 n && nat_le n 16
 
 -- a key: 1 byte of length, 1 to 250, and as many key bytes
 abbrev pub key : Part (List ℕ)
@@ -169,12 +175,48 @@ message kind = do
   says ← body kind
   makes (Peer (record { view = view; body = says }))
 
--- what stands after a kind: 0 greets, 1 to 5 are messages, 6 is a notice
+-- what the opener tells of its chain: its number of servers, the opener's start, and the chain
+abbrev pub introduction : Part Frame
+introduction = do
+  servers ← byte is_server_count
+  start ← number w64 any
+  chain ← key
+  makes (frames.Introduction (record { servers = servers; start = start; chain = chain }))
+
+-- what the acceptor tells of itself: its start, and the servers that have failed
+abbrev pub acceptance : Part Frame
+acceptance = do
+  start ← number w64 any
+  gone ← number w16 any
+  makes (Accepted (record { start = start; gone = gone }))
+
+-- the reason of a code
+abbrev pub refusal_of : ℕ → Part Frame
+refusal_of code =
+    either (code == 1) (makes (Refused reasons.Servers))
+    (either (code == 2) (makes (Refused reasons.Chain))
+    (either (code == 3) (makes (Refused reasons.Taken))
+    (either (code == 4) (makes (Refused reasons.Gone))
+    (either (code == 5) (makes (Refused reasons.Format)) refused))))
+
+-- why the acceptor doesn't take a connection: a code
+abbrev pub refusal : Part Frame
+refusal = byte any >>= λ code. refusal_of code
+
+-- what stands after a kind from 7 on: 7 introduces, 8 and 9 answer that, 10 answers a notice
+abbrev pub greeting : ℕ → Part Frame
+greeting kind =
+    either (kind == 7) introduction
+    (either (kind == 8) acceptance
+    (either (kind == 9) refusal
+    (either (kind == 10) (byte (below 16) >>= λ id. makes (Noted id)) refused)))
+
+-- what stands after a kind: 0 greets, 1 to 5 are messages, 6 is a notice, and the others belong to greetings
 abbrev pub of_kind : ℕ → Part Frame
 of_kind kind =
     either (kind == 0) (byte (at_most 16) >>= λ id. makes (Hello id))
     (either (kind == 6) (byte (below 16) >>= λ id. makes (Gone id))
-    (either (nat_lt 6 kind) refused (message kind)))
+    (either (nat_lt 6 kind) (greeting kind) (message kind)))
 
 -- a frame: the format's byte, the kind's, and what stands after it
 abbrev pub frame : Part Frame

@@ -18,7 +18,12 @@ use Rattle.node.specs.Lawful.{IsCall, IsSendable}
 use Rattle.node.specs.declared.messages.Body.{Body}
 use Rattle.node.specs.declared.messages.Body.TheVariants as bodies
 use Rattle.wire.specs.declared.frames.Frame.{Frame}
-use Rattle.wire.specs.declared.frames.Frame.TheVariants.{Hello, Peer, Gone}
+use Rattle.wire.specs.declared.frames.Frame.TheVariants.{Hello, Peer, Gone, Accepted, Refused, Noted}
+use Rattle.wire.specs.declared.frames.Frame.TheVariants as frames
+use Rattle.wire.specs.declared.greetings.Introduction.{Introduction}
+use Rattle.wire.specs.declared.greetings.Acceptance.{Acceptance}
+use Rattle.wire.specs.declared.greetings.Reason.{Reason}
+use Rattle.wire.specs.declared.greetings.Reason.TheVariants as reasons
 
 -- a number of eight bytes, the most significant byte first
 abbrev pub eight_bytes : ℕ → List ℕ
@@ -98,18 +103,42 @@ body_spelling (bodies.Ack n) = eight_bytes n
 body_spelling (bodies.Query ask key) = eight_bytes ask ++ key_spelling key
 body_spelling (bodies.Answer ask n) = eight_bytes ask ++ eight_bytes n
 
--- a frame: format, kind, view and body
+-- what the opener tells of its chain: the number of servers, the start, and the chain
+abbrev pub introduction_spelling : Introduction → List ℕ
+introduction_spelling opener = opener.servers ∷ (eight_bytes opener.start ++ key_spelling opener.chain)
+
+-- what the acceptor tells of itself: the start, and the servers that have failed
+abbrev pub acceptance_spelling : Acceptance → List ℕ
+acceptance_spelling answer = eight_bytes answer.start ++ to_be_bytes w16 answer.gone
+
+-- the code of a reason
+abbrev pub code_of : Reason → ℕ
+code_of reasons.Servers = 1
+code_of reasons.Chain = 2
+code_of reasons.Taken = 3
+code_of reasons.Gone = 4
+code_of reasons.Format = 5
+
+-- a frame: format, kind, and what stands after it, as view and body
 abbrev pub spelling : Frame → List ℕ
 spelling (Hello id) = 2 ∷ 0 ∷ id ∷ []
 spelling (Peer peer) = 2 ∷ kind_of peer.body ∷ (to_be_bytes w16 peer.view ++ body_spelling peer.body)
 spelling (Gone id) = 2 ∷ 6 ∷ id ∷ []
+spelling (frames.Introduction opener) = 2 ∷ 7 ∷ introduction_spelling opener
+spelling (Accepted answer) = 2 ∷ 8 ∷ acceptance_spelling answer
+spelling (Refused reason) = 2 ∷ 9 ∷ code_of reason ∷ []
+spelling (Noted id) = 2 ∷ 10 ∷ id ∷ []
 
 -- A frame whose fields are in the ranges that no type keeps: a server has an id below 16, and 16 is the master, who may
--- greet and is never gone; a message is one that may be sent.
+-- greet and is never gone; a message is one that may be sent; a chain has 1 to 16 servers.
 abbrev pub IsInRange : Frame → Type 0
 IsInRange (Hello id) = id ≤ 16
 IsInRange (Peer peer) = IsSendable peer.body
 IsInRange (Gone id) = id < 16
+IsInRange (frames.Introduction opener) = (1 ≤ opener.servers) × (opener.servers ≤ 16)
+IsInRange (Accepted answer) = Unit {0}
+IsInRange (Refused reason) = Unit {0}
+IsInRange (Noted id) = id < 16
 
 -- a target, if a frame is seen as plain data: its key is one, as the type of keys keeps it
 abbrev pub IsTarget : Target → Type 0
@@ -158,8 +187,21 @@ IsBody (bodies.Ack n) = n < 2 ^ 64
 IsBody (bodies.Query ask key) = (1 ≤ ask) × (ask < 2 ^ 64) × IsKey key
 IsBody (bodies.Answer ask n) = (1 ≤ ask) × (ask < 2 ^ 64) × (n < 2 ^ 64)
 
+-- an introduction all of whose fields are in their ranges
+abbrev pub IsIntroduction : Introduction → Type 0
+IsIntroduction opener =
+    (1 ≤ opener.servers) × (opener.servers ≤ 16) × (opener.start < 2 ^ 64) × IsKey opener.chain
+
+-- the same of what an acceptor tells of itself
+abbrev pub IsAcceptance : Acceptance → Type 0
+IsAcceptance answer = (answer.start < 2 ^ 64) × (answer.gone < 2 ^ 16)
+
 -- a frame all of whose fields are in their ranges
 abbrev pub IsFrame : Frame → Type 0
 IsFrame (Hello id) = id ≤ 16
 IsFrame (Peer peer) = (peer.view < 2 ^ 16) × IsBody peer.body
 IsFrame (Gone id) = id < 16
+IsFrame (frames.Introduction opener) = IsIntroduction opener
+IsFrame (Accepted answer) = IsAcceptance answer
+IsFrame (Refused reason) = Unit {0}
+IsFrame (Noted id) = id < 16

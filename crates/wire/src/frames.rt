@@ -2,6 +2,7 @@
 ghost use Rattle.std.specs.Prelude.{◌↔◌, IsTrue};
 ghost use Rattle.wire.specs.Spellings.{IsInRange};
 
+use crate::{Acceptance, Introduction, Reason};
 use node::{Peer, SERVERS};
 
 /// The format's number, which is each frame's first byte.
@@ -22,6 +23,14 @@ pub enum Frame {
     Peer(Peer),
     /// The master's notice that the server of this id, below 16, has failed.
     Gone(u8),
+    /// What the opener tells of its chain, after its Hello.
+    Introduction(Introduction),
+    /// The acceptor's answer: it takes the connection.
+    Accepted(Acceptance),
+    /// The acceptor's answer: it doesn't, and the connection ends.
+    Refused(Reason),
+    /// The answer to the master's notice of the server of this id, below 16.
+    Noted(u8),
 }
 
 impl Frame {
@@ -32,7 +41,9 @@ impl Frame {
         match self {
             Frame::Hello(id) => *id <= MASTER,
             Frame::Peer(peer) => peer.body.is_sendable(),
-            Frame::Gone(id) => *id < SERVERS,
+            Frame::Gone(id) | Frame::Noted(id) => *id < SERVERS,
+            Frame::Introduction(opener) => 1 <= opener.servers && opener.servers <= SERVERS,
+            Frame::Accepted(_) | Frame::Refused(_) => true,
         }
     }
 }

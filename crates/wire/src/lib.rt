@@ -7,6 +7,8 @@ mod entries;
 mod faults;
 mod fields;
 mod frames;
+mod greeting_fronts;
+mod greetings;
 mod laws;
 mod operations;
 mod ranges;
@@ -20,6 +22,7 @@ mod targets;
 pub use ends::PeerEnd;
 pub use faults::WireFault;
 pub use frames::{Frame, MASTER};
+pub use greetings::{Acceptance, Introduction, Reason};
 pub use laws::{
     any_cutting, bad_front_is_final, bad_front_stays, beginning_waits, format_is_spelling,
     longest_frame, one_frame_at_a_front, partial_front_is_short, written_is_read,

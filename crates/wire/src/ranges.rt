@@ -16,10 +16,18 @@ pub fn hold_ranges(frame: &Frame)
     ensures { IsFrame frame.now }
 {
     match frame {
-        Frame::Hello(_) | Frame::Gone(_) => {}
+        Frame::Hello(_) | Frame::Gone(_) | Frame::Refused(_) | Frame::Noted(_) => {}
         Frame::Peer(peer) => {
             hold_view(peer.view.bits());
             hold_body(&peer.body);
+        }
+        Frame::Introduction(opener) => {
+            hold_number(opener.start);
+            hold_key(&opener.chain);
+        }
+        Frame::Accepted(answer) => {
+            hold_number(answer.start);
+            hold_view(answer.gone);
         }
     }
 }

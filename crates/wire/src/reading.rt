@@ -8,6 +8,7 @@ use crate::Frame;
 use crate::entries::forward_body_at;
 use crate::fields::{Stop, byte_at, key_at, positive_at, u16_at, u64_at};
 use crate::frames::{FORMAT, MASTER, OLD_FORMAT};
+use crate::greeting_fronts::greeting_at;
 use crate::operations::op_at;
 use crate::targets::{owned, owned_key, target_at};
 use node::{Body, Peer, SERVERS, View};
@@ -82,7 +83,7 @@ fn of_kind_at(alloc: Global, kind: u8, bytes: &[u8]) -> Result<(Frame, &[u8]), R
             }
             Ok((Frame::Gone(id), rest))
         }
-        7.. => Err(ReadFault::Stopped(Stop::Malformed)),
+        7.. => greeting_at(alloc, kind, bytes),
         _ => message_at(alloc, kind, bytes),
     }
 }

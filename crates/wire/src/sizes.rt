@@ -17,8 +17,10 @@ pub fn size(frame: &Frame) -> usize
     ensures { result ≡ length (spelling frame.now) }
 {
     match frame {
-        Frame::Hello(_) | Frame::Gone(_) => 3,
+        Frame::Hello(_) | Frame::Gone(_) | Frame::Refused(_) | Frame::Noted(_) => 3,
         Frame::Peer(peer) => 4 + body_size(&peer.body),
+        Frame::Introduction(opener) => 12 + opener.chain.bytes().len(),
+        Frame::Accepted(_) => 12,
     }
 }
 

@@ -4,14 +4,15 @@ ghost use Rattle.std.specs.Prelude.{◌≡◌, ◌+◌, ◌≤◌, ◌++◌, ◌
 ghost use Rattle.table.specs.Items.{limit};
 ghost use Rattle.table.specs.Operations.{Fits, is_value};
 ghost use Rattle.node.specs.Lawful.{IsSendable};
-ghost use Rattle.wire.specs.Spellings.{IsFrame, IsInRange, block_spelling, body_spelling, change_spelling, eight_bytes};
-ghost use Rattle.wire.specs.Spellings.{entry_spelling, four_bytes, key_spelling, kind_of, op_spelling, reply_spelling};
+ghost use Rattle.wire.specs.Spellings.{IsFrame, IsInRange, acceptance_spelling, block_spelling, body_spelling};
+ghost use Rattle.wire.specs.Spellings.{change_spelling, code_of, eight_bytes, entry_spelling, four_bytes};
+ghost use Rattle.wire.specs.Spellings.{introduction_spelling, key_spelling, kind_of, op_spelling, reply_spelling};
 ghost use Rattle.wire.specs.Spellings.{spelling, target_spelling};
 
 use crate::frames::FORMAT;
 use crate::ranges::hold_ranges;
 use crate::sizes::size;
-use crate::{Frame, WireFault};
+use crate::{Acceptance, Frame, Introduction, Reason, WireFault};
 use bytes::{Bytes, BytesMut};
 use node::Body;
 use std::alloc::Global;
@@ -60,6 +61,45 @@ fn put(out: &mut BytesMut, frame: &Frame)
             put_body(out, &peer.body);
         }
         Frame::Gone(id) => out.extend_reserved(&[FORMAT, 6, *id]),
+        Frame::Introduction(opener) => {
+            out.extend_reserved(&[FORMAT, 7]);
+            put_introduction(out, opener);
+        }
+        Frame::Accepted(answer) => {
+            out.extend_reserved(&[FORMAT, 8]);
+            put_acceptance(out, answer);
+        }
+        Frame::Refused(reason) => out.extend_reserved(&[FORMAT, 9, code_of(*reason)]),
+        Frame::Noted(id) => out.extend_reserved(&[FORMAT, 10, *id]),
+    }
+}
+
+fn put_introduction(out: &mut BytesMut, opener: &Introduction)
+    requires room { length (introduction_spelling opener.now) ≤ out.old.spare }
+    ensures { out.new.items ≡ out.old.items ++ introduction_spelling opener.now }
+{
+    out.extend_reserved(&[opener.servers]);
+    out.extend_reserved(&opener.start.to_be_bytes());
+    put_key(out, &opener.chain);
+}
+
+fn put_acceptance(out: &mut BytesMut, answer: &Acceptance)
+    requires room { 10 ≤ out.old.spare }
+    ensures { out.new.items ≡ out.old.items ++ acceptance_spelling answer.now }
+{
+    out.extend_reserved(&answer.start.to_be_bytes());
+    out.extend_reserved(&answer.gone.to_be_bytes());
+}
+
+fn code_of(reason: Reason) -> u8
+    ensures { result ≡ code_of reason }
+{
+    match reason {
+        Reason::Servers => 1,
+        Reason::Chain => 2,
+        Reason::Taken => 3,
+        Reason::Gone => 4,
+        Reason::Format => 5,
     }
 }
 

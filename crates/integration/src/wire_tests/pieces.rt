@@ -13,7 +13,7 @@ use wire::Frames;
 // The vectors one after another.
 fn all_vectors(alloc: Global) -> Result<Vec<u8>, Fail> {
     let mut stream = Vec::new(alloc);
-    for place in 0..9 {
+    for place in 0..13 {
         stream.extend_from_slice(vector(place))?;
     }
     Ok(stream)
@@ -28,7 +28,7 @@ fn read_in_pieces(alloc: Global, stream: &[u8], size: usize) -> Result<Vec<u8>, 
     let mut read = Vec::new(alloc);
     for piece in stream.chunks(size) {
         frames.feed(piece)?;
-        for _ in 0..9 {
+        for _ in 0..13 {
             if next_found(alloc, &mut frames, &mut text)? == Found::Frame {
                 read.extend_from_slice(text.as_slice())?;
             }

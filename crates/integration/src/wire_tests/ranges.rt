@@ -94,6 +94,35 @@ fn length_row(place: usize) -> (u8, &'static [u8], Found) {
     }
 }
 
+// Bytes of a greeting, and what stands at the front then.
+fn greeting_row(place: usize) -> (&'static [u8], Found) {
+    match place {
+        0 => (b"\x02\x07\x00", Found::Malformed),
+        1 => (b"\x02\x07\x11", Found::Malformed),
+        2 => (
+            b"\x02\x07\x10\xff\xff\xff\xff\xff\xff\xff\xff",
+            Found::Nothing,
+        ),
+        3 => (
+            b"\x02\x07\x10\xff\xff\xff\xff\xff\xff\xff\xff\x00",
+            Found::Malformed,
+        ),
+        4 => (
+            b"\x02\x07\x01\x00\x00\x00\x00\x00\x00\x00\x00\x01a",
+            Found::Frame,
+        ),
+        5 => (
+            b"\x02\x08\xff\xff\xff\xff\xff\xff\xff\xff\xff\xff",
+            Found::Frame,
+        ),
+        6 => (b"\x02\x09\x00", Found::Malformed),
+        7 => (b"\x02\x09\x05", Found::Frame),
+        8 => (b"\x02\x09\x06", Found::Malformed),
+        9 => (b"\x02\x0a\x0f", Found::Frame),
+        _ => (b"\x02\x0a\x10", Found::Malformed),
+    }
+}
+
 // What stands at the front of a message of this kind.
 fn found_behind(alloc: Global, kind: u8, behind: &[u8]) -> Result<Found, Fail> {
     let text = row(alloc, kind, behind)?;
@@ -125,6 +154,16 @@ fn entries_out_of_range(rt: HostRuntime) -> Result<(), Fail> {
     for place in 0..6 {
         let (behind, wanted) = entry_row(place);
         let first = found_behind(rt.alloc(), 2, behind)?;
+        assert!(rt; first == wanted, "row {place}");
+    }
+    Ok(())
+}
+
+#[test]
+fn greetings_out_of_range(rt: HostRuntime) -> Result<(), Fail> {
+    for place in 0..11 {
+        let (text, wanted) = greeting_row(place);
+        let first = first_found(rt.alloc(), text)?;
         assert!(rt; first == wanted, "row {place}");
     }
     Ok(())

@@ -1,4 +1,4 @@
-//! The nine vectors, both ways.
+//! The thirteen vectors, both ways.
 
 use bytes::{Bytes, BytesMut};
 use node::{Body, Peer, View};
@@ -7,7 +7,7 @@ use std::process::Abort;
 use std::test::Fail;
 use table::{Call, Change, Item, Key, Op, Reply, Target};
 use versions::Entry;
-use wire::{Frame, Frames, encode, encode_onto};
+use wire::{Acceptance, Frame, Frames, Introduction, Reason, encode, encode_onto};
 
 fn key(alloc: Global, bytes: &[u8]) -> Result<Key, Fail> {
     Ok(Key::new(alloc, bytes)?.ok_or("a key")?)
@@ -48,8 +48,12 @@ pub(super) fn vector(place: usize) -> &'static [u8] {
             b"\x02\x02\x00\x00\x00\x00\x00\x00\x00\x00\x00\x01\x00\x00\x00\x00\x00\x00\x00\x00\x01\x01a\x01\x01\x00\x00\x00\x05\x00\x00\x00\x03xyz",
         6 => b"\x02\x06\x05",
         7 => b"\x02\x01\x00\x00\x00\x00\x00\x00\x00\x00\x00\x03\x00\x0a",
-        _ =>
+        8 =>
             b"\x02\x02\x00\x00\x00\x00\x00\x00\x00\x00\x00\x04\x01\x00\x00\x00\x00\x00\x00\x00\x02\x00\x0a\x03",
+        9 => b"\x02\x07\x03\x00\x00\x00\x00\x00\x00\x01\x02\x05cache",
+        10 => b"\x02\x08\x00\x00\x00\x00\x00\x00\x01\x02\x02\x01",
+        11 => b"\x02\x09\x03",
+        _ => b"\x02\x0a\x05",
     }
 }
 
@@ -64,8 +68,29 @@ fn frame_at(alloc: Global, place: usize) -> Result<Frame, Fail> {
         5 => Ok(says(0, Body::Forward(three_bytes_put(alloc)?))),
         6 => Ok(Frame::Gone(5)),
         7 => Ok(says(0, Body::Op(3, flush()))),
-        _ => Ok(says(0, Body::Forward(clear()))),
+        8 => Ok(says(0, Body::Forward(clear()))),
+        9 => introduced(alloc),
+        10 => Ok(accepted()),
+        11 => Ok(Frame::Refused(Reason::Taken)),
+        _ => Ok(Frame::Noted(5)),
     }
+}
+
+// Of the chain `cache` of 3 servers, and the opener's start 258.
+fn introduced(alloc: Global) -> Result<Frame, Fail> {
+    Ok(Frame::Introduction(Introduction {
+        servers: 3,
+        start: 258,
+        chain: key(alloc, b"cache")?,
+    }))
+}
+
+// At the acceptor's start 258, when the servers 0 and 9 have failed.
+fn accepted() -> Frame {
+    Frame::Accepted(Acceptance {
+        start: 258,
+        gone: 513,
+    })
 }
 
 fn flush() -> Call {
@@ -114,7 +139,7 @@ fn check_written<R: Abort + AllocGlobal>(rt: &R, place: usize) -> Result<(), Fai
 
 #[test]
 fn vectors_are_written(rt: HostRuntime) -> Result<(), Fail> {
-    for place in 0..9 {
+    for place in 0..13 {
         check_written(&rt, place)?;
     }
     Ok(())

@@ -26,6 +26,7 @@ pub fn ready<
     R: Wait
         + Threads
         + Clock
+        + Eprint
         + Files
         + Net<Listener = TcpListener, Stream = TcpStream>
         + Copy
@@ -62,6 +63,7 @@ fn start<
     R: Wait
         + Threads
         + Clock
+        + Eprint
         + Files
         + Net<Listener = TcpListener, Stream = TcpStream>
         + Copy
@@ -85,6 +87,7 @@ fn program<
     R: Wait
         + Threads
         + Clock
+        + Eprint
         + Net<Listener = TcpListener, Stream = TcpStream>
         + Copy
         + Drop

@@ -1,0 +1,158 @@
+//! Where the servers of a cluster are failed: by the input's lines, and by themselves if they are refused memory.
+
+use crate::halls::Hall;
+use crate::homes::{Homes, StopFault, Stopping};
+use std::alloc::{AllocError, Global};
+use std::sync::{Arc, Mutex, Wait};
+use std::thread;
+use std::thread::{JoinHandle, Threads};
+use std::time::{Clock, Duration};
+
+/// What the program's own thread and the one that looks after the servers share. The lock is held while the others are
+/// told, never while one waits for a worker to stop, and no worker takes it.
+#[derive(Drop)]
+pub(crate) struct Office<R: Wait + Drop> {
+    hall: Arc<Hall<R>, Global>,
+    homes: Mutex<Homes>,
+}
+
+// What a look at the servers found.
+#[derive(Clone, Copy, Debug, PartialEq, Eq)]
+enum Found {
+    // This server has stopped by itself, and so many others haven't failed.
+    Fallen(u8, usize),
+    // The others couldn't be told, for want of memory.
+    Untold,
+    // Nothing is left to do.
+    Nothing,
+}
+
+impl<R: Wait + Copy + Drop + Send + 'static> Office<R> {
+    /// For the servers of this hall.
+    pub(crate) fn new(hall: Arc<Hall<R>, Global>, homes: Homes) -> Office<R> {
+        Office {
+            hall,
+            homes: Mutex::new(homes),
+        }
+    }
+
+    /// Fails a server: its callers answer no more calls, its worker puts out nothing more, and then the others are
+    /// told. Of one that has failed already nobody is told, and neither is anybody if it is refused, since the server
+    /// can't be stopped. If memory is refused, the others are told later, as soon as it isn't.
+    pub(crate) fn fail(&self, rt: &R, j: u8) -> Result<(), StopFault>
+    where
+        R: Clock,
+    {
+        match self.stop(rt, j)? {
+            Stopping::Told => self.wait_until_stopped(rt, j),
+            Stopping::Done => {}
+        }
+        let mut homes = self.homes.lock(rt);
+        homes.note(j);
+        if !homes.tell(rt, &self.hall) {
+            self.hall.alarm().ring();
+        }
+        Ok(())
+    }
+
+    fn stop(&self, rt: &R, j: u8) -> Result<Stopping, StopFault> {
+        let mut homes = self.homes.lock(rt);
+        homes.stop(rt, &self.hall, j)
+    }
+
+    // Looks each millisecond. Between two looks the lock is free.
+    fn wait_until_stopped(&self, rt: &R, j: u8)
+    where
+        R: Clock,
+    {
+        for _ in rt.forever() {
+            if self.has_stopped(rt, j) {
+                return;
+            }
+            thread::sleep(rt, Duration::from_millis(1));
+        }
+        unreachable!()
+    }
+
+    fn has_stopped(&self, rt: &R, j: u8) -> bool {
+        let homes = self.homes.lock(rt);
+        homes.has_stopped(j)
+    }
+
+    /// Ends the workers' loops, and that of the thread that looks after the servers.
+    pub(crate) fn end(&self, rt: &R) {
+        let mut homes = self.homes.lock(rt);
+        homes.end(rt, &self.hall);
+        self.hall.alarm().end();
+    }
+
+    // Waits until a server has stopped by itself, and tells that, until nothing more comes.
+    fn watch(&self, rt: &R)
+    where
+        R: Eprint,
+    {
+        for _ in rt.forever() {
+            self.hall.alarm().wait(rt);
+            self.tell_fallen(rt);
+            if self.hall.alarm().is_over() {
+                return;
+            }
+        }
+        unreachable!()
+    }
+
+    // Tells the others of each server that has stopped by itself, and the user. The line is written after the lock was
+    // given back, since who reads it may be slow.
+    fn tell_fallen(&self, rt: &R)
+    where
+        R: Eprint,
+    {
+        for _ in rt.forever() {
+            match self.look(rt) {
+                Found::Fallen(j, living) => say_fallen(rt, j, living),
+                Found::Untold => self.hall.alarm().wait_a_little(rt),
+                Found::Nothing => return,
+            }
+            if self.hall.alarm().is_over() {
+                return;
+            }
+        }
+        unreachable!()
+    }
+
+    fn look(&self, rt: &R) -> Found {
+        let mut homes = self.homes.lock(rt);
+        let fallen = homes.next_fallen();
+        if let Some(j) = fallen {
+            homes.note(j);
+        }
+        let all_told = homes.tell(rt, &self.hall);
+        match fallen {
+            Some(j) => Found::Fallen(j, homes.living()),
+            None if all_told => Found::Nothing,
+            None => Found::Untold,
+        }
+    }
+}
+
+/// Starts the thread that looks after the servers. Refused only if memory or threads run out.
+pub(crate) fn start_watching<R: Wait + Threads + Eprint + Copy + Drop + Send + 'static>(
+    rt: R,
+    office: &Arc<Office<R>, Global>,
+) -> Result<JoinHandle<()>, AllocError> {
+    let office = Arc::try_clone(office)?;
+    match thread::spawn(&rt, move || office.watch(&rt)) {
+        Ok(thread) => Ok(thread),
+        Err(_) => Err(AllocError),
+    }
+}
+
+// Tells the user that server `j` has stopped by itself.
+fn say_fallen<R: Eprint>(rt: &R, j: u8, living: usize) {
+    let rest = if living > 0 {
+        "the others go on without it"
+    } else {
+        "no server is left"
+    };
+    let _ = eprintln!(rt; "craq: server {j} ran out of memory and was stopped; {rest}");
+}

@@ -1,0 +1,72 @@
+//! Connections that a port can't take.
+
+use std::io::Error;
+use std::time::{Clock, Instant};
+
+/// How many seconds pass at least between two lines.
+const QUIET: u64 = 60;
+
+/// What the system answers if the process, or the machine, has as many files open as it may.
+const OF_PROCESS: i32 = 24;
+
+const OF_MACHINE: i32 = 23;
+
+/// What can't be done, and why.
+const NO_ACCEPT: &str = "no connection can be accepted at the peer port";
+
+const NO_FILES: &str = "has as many open files as it may";
+
+/// Tells of connections that the peer port of a server can't take, at most once a minute.
+#[derive(Drop)]
+pub(crate) struct Refusals {
+    id: u8,
+    last: Option<Instant>,
+}
+
+impl Refusals {
+    /// Before the first line of server `id`.
+    pub(crate) fn new(id: u8) -> Refusals {
+        Refusals { id, last: None }
+    }
+
+    /// A connection couldn't be accepted.
+    pub(crate) fn tell<R: Clock + Eprint>(&mut self, rt: &R, fault: &Error) {
+        if !self.is_time(rt) {
+            return;
+        }
+        let id = self.id;
+        match fault.raw_os_error() {
+            Some(OF_PROCESS) => {
+                let _ = eprintln!(rt; "craq: server {id}: {NO_ACCEPT}: this process {NO_FILES}");
+            }
+            Some(OF_MACHINE) => {
+                let _ = eprintln!(rt; "craq: server {id}: {NO_ACCEPT}: this machine {NO_FILES}");
+            }
+            _ => {
+                let _ = eprintln!(rt; "craq: server {id}: {NO_ACCEPT}: {fault}");
+            }
+        }
+    }
+
+    /// There was no memory or no thread for a connection.
+    pub(crate) fn tell_no_thread<R: Clock + Eprint>(&mut self, rt: &R) {
+        if self.is_time(rt) {
+            let id = self.id;
+            let _ = eprintln!(rt; "craq: server {id}: {NO_ACCEPT}: memory or threads ran out");
+        }
+    }
+
+    // Whether a line may be written now.
+    fn is_time<R: Clock>(&mut self, rt: &R) -> bool {
+        let Ok(now) = Instant::now(rt) else {
+            return false;
+        };
+        if let Some(last) = self.last {
+            if now.duration_since(last).as_secs() < QUIET {
+                return false;
+            }
+        }
+        self.last = Some(now);
+        true
+    }
+}
