@@ -97,11 +97,6 @@ fn comes_to(came: &(Option<End>, Vec<u8>), end: End, output: &[u8]) -> bool {
     came.0 == Some(end) && came.1.as_slice() == output
 }
 
-// A value that may be handed to another thread.
-fn is_handed<T: Send>(value: T) -> T {
-    value
-}
-
 // However the input is cut, and however little of the output is taken at once.
 #[test]
 fn any_pace_writes_the_same(rt: HostRuntime) -> Result<(), Fail> {
@@ -121,12 +116,5 @@ fn any_pace_writes_the_same(rt: HostRuntime) -> Result<(), Fail> {
 fn an_input_that_ends_in_a_request(rt: HostRuntime) -> Result<(), Fail> {
     let came = driven(rt.alloc(), b"get a\r\nget b", 64, 64, 1000)?;
     assert!(rt; comes_to(&came, End::Input, b"END\r\n"));
-    Ok(())
-}
-
-#[test]
-fn a_connection_may_go_to_another_thread(rt: HostRuntime) -> Result<(), Fail> {
-    let connection = is_handed(Connection::new(rt.alloc()));
-    assert!(rt; connection.output().is_empty());
     Ok(())
 }
