@@ -8,3 +8,5 @@ pub mod EachMove
 pub mod Along
 pub mod Names
 pub mod OneOrder
+pub mod Forms
+pub mod Kinds

@@ -1,7 +1,8 @@
 //! Laws: whatever order the threads' moves come in, there is one order of calls, and no call is forgotten; and ports are
 //! names.
-ghost use Rattle.std.specs.Prelude.{◌≡◌, ℕ, ◌^◌, ◌≤◌, ◌<◌, List, length, Some, slice_get};
+ghost use Rattle.std.specs.Prelude.{◌≡◌, ℕ, ◌^◌, ◌≤◌, ◌<◌, List, ◌∷◌, length, Some, slice_get, true};
 ghost use Rattle.table.specs.declared.operations.Call.{Call};
+ghost use Rattle.table.specs.declared.operations.Reply.{Reply};
 ghost use Rattle.node.specs.Servers.{ServerState};
 ghost use Rattle.node.specs.Steps.{step};
 ghost use Rattle.node.specs.declared.messages.Input.{Input};
@@ -12,7 +13,8 @@ ghost use Rattle.interleavings.specs.Quiet.{IsQuiet, NoneForgotten};
 ghost use Rattle.interleavings.specs.OtherMoves.{IsLinearizationBy};
 ghost use Rattle.interleavings.specs.OwnPorts.{seats_at, port_at, with_own_ports};
 ghost use Rattle.interleavings.specs.Ports.{input_at, renamed, renamed_outcome};
-ghost use Rattle.interleavings.specs.ServingMoves.{ServingMove, served};
+ghost use Rattle.interleavings.specs.Connections.{waits, may_have};
+ghost use Rattle.interleavings.specs.ServingMoves.{ServingMove, served_at, served};
 ghost use Rattle.interleavings.specs.Served.{IsServed, ServedEntry, IsOneOrder, NoneUnanswered, AllHaveAll};
 ghost use Rattle.world.specs.Orders.{Entry};
 
@@ -82,6 +84,13 @@ pub fn clients_see_one_table()
     // with its reply: a beginning of them, and all of them once no output is left and no turn can begin.
     ensures bytes { (count : ℕ) (homes : List ℕ) (moves : List ServingMove) (c n : ℕ)
         → IsServed ((served count homes moves).connections c n) }
+    // What stands first in a seat's queue is an item, or none, exactly if the call that its connection waits for is a
+    // read: so the connection can take it.
+    ensures kinds { (count : ℕ) (homes : List ℕ) (moves : List ServingMove) (c : ℕ) (reply : Reply) (more : List Reply)
+        → count ≤ 16
+        → ((served count homes moves).chain.seats c).mail ≡ reply ∷ more
+        → waits (served_at (served count homes moves) c) ≡ true
+        → may_have (served_at (served count homes moves) c).session.asked reply ≡ true }
     // If nothing is left to do in the chain, each call that was made at a server that goes on has its reply;
     ensures answered { (count : ℕ) (homes : List ℕ) (moves : List ServingMove)
         → count ≤ 16

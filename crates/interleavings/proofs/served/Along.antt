@@ -59,7 +59,7 @@ short_along (m ∷ ms) s h =
     let b = short_along ms (served_by s m) one.order in
     omega (arith, n, a, b)
 
-both_asked : (ms ns : List Move) → AreAsked ms → AreAsked ns → AreAsked (ms ++ ns)
+pub both_asked : (ms ns : List Move) → AreAsked ms → AreAsked ns → AreAsked (ms ++ ns)
 both_asked [] ns a b = b
 both_asked (m ∷ ms) ns a b = (a.0, both_asked ms ns a.1 b)
 

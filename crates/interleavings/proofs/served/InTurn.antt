@@ -42,7 +42,7 @@ upto_same cs ds (suc n) same =
     ap (λ xs. xs ++ cs n) (upto_same cs ds n (λ i l. same i (omega (arith, l))))
     ∙ ap (λ xs. upto ds n ++ xs) (same n (omega arith))
 
-start_next : (cs : ℕ → List Call) (n : ℕ) → start cs (suc n) ≡ start cs n + length (cs n)
+pub start_next : (cs : ℕ → List Call) (n : ℕ) → start cs (suc n) ≡ start cs n + length (cs n)
 unfolding upto
 start_next cs n = length-append (upto cs n) (cs n)
 
