@@ -89,10 +89,7 @@ look_reply l c key =
 -- the read of this key is made, and has this reply
 abbrev pub peeked : ServingChain → ℕ → List ℕ → Option Reply → ServingChain
 peeked s c key None = s
-peeked s c key (Some reply) =
-    if may_have (served_at s c).session.asked reply
-    then with_move s (Looks c key) c (answered reply (made (read_of key) (served_at s c)))
-    else s
+peeked s c key (Some reply) = with_move s (Looks c key) c (answered reply (made (read_of key) (served_at s c)))
 
 -- this key is to be read: it is looked at
 abbrev pub peeking : ServingChain → ℕ → Option (List ℕ) → ServingChain

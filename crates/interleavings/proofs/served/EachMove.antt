@@ -4,6 +4,7 @@ use Rattle.std.proofs.Common.{Option, None, Some, refl, arith, ap, sym, inl, inr
 use Rattle.std.specs.Prelude.{◌&&◌, is_some}
 use Rattle.std.proofs.lemmas.Bool.{cases_eq, ltb-true, lt-ltb, eqb-true}
 use Rattle.std.proofs.lemmas.Option.{same_Some}
+use Rattle.table.specs.Operations.{is_value}
 use Rattle.table.specs.declared.operations.Call.{Call}
 use Rattle.table.specs.declared.operations.Op.{Op}
 use Rattle.table.specs.declared.operations.Op.TheVariants.{Read, Set, Add, Replace, Append, Prepend, Cas, Incr, Decr}
@@ -14,7 +15,7 @@ use Rattle.table.specs.declared.operations.Reply.{Reply}
 use Rattle.node.proofs.Lists.{get_front}
 use Rattle.proto.specs.declared.texts.Form.{Form}
 use Rattle.proto.specs.Turns.{call_of}
-use Rattle.proto.specs.Sessions.{next_of}
+use Rattle.proto.specs.Sessions.{next_of, shows}
 use Rattle.proto.specs.Runs.{open_calls}
 use Rattle.interleavings.specs.Chains.{with_at}
 use Rattle.interleavings.specs.Moves.{Move, Sends, Takes, Publishes, Puts, Arrives, Replies, Receives, Looks, Stops}
@@ -28,8 +29,9 @@ use Rattle.interleavings.proofs.lists.Places.{at_same, at_other, at_self}
 use Rattle.interleavings.proofs.served.Connected.{as_list, IsConnected, connected_heard, connected_begun, connected_made}
 use Rattle.interleavings.proofs.served.Connected.{connected_answered, connected_wrote, counted, is_served}
 use Rattle.interleavings.proofs.served.AskedTurns.{due_asked}
+use Rattle.interleavings.proofs.served.Forms.{due_form}
 use Rattle.interleavings.proofs.served.InTurn.{InTurn, turn_asked, turn_peeked, turn_answered, turn_ended}
-use Rattle.interleavings.proofs.served.ChainMoves.{sends_seats, looks_seats, receives_seats, others_same}
+use Rattle.interleavings.proofs.served.ChainMoves.{sends_seats, looks_seats, receives_seats, look_shows_value, others_same}
 use Rattle.interleavings.proofs.served.Steps.{calls_at, replies_at, IsInOrder, IsStep, stays, session_step}
 use Rattle.interleavings.proofs.served.Steps.{seat_step}
 
@@ -189,39 +191,40 @@ due_read : (due : Option Call) (key : List ℕ) → key_due due ≡ Some key →
 due_read None key e = absurd (let no : None ≡ Some key = e in cc)
 due_read (Some call) key e = ap (λ x. Some x) (key_is call.target call.op key e)
 
+-- an item, or none, can be the answer to a read
+shown_may : (asked : Option Form) (form : Form) (reply : Reply)
+    → asked ≡ Some form
+    → shows form ≡ true
+    → is_value reply ≡ true
+    → may_have asked reply ≡ true
+shown_may asked form reply e s v = rw (e, s, v) refl
+
 peeks_step : (s : ServingChain) (c : ℕ) → IsInOrder s → IsStep s (served_by s (Peeks c))
 peeks_step s c h = by_key (key_due (served_at s c).due) refl
   where
     t : IsConnected (served_at s c)
     t = h.connected c (s.ended c)
 
-    by_may : (key : List ℕ) (reply : Reply) (b : Bool)
-        → (served_at s c).due ≡ Some (read_of key)
-        → look_reply s.chain c key ≡ Some reply
-        → may_have (served_at s c).session.asked reply ≡ b
-        → IsStep s
-        (cond b (with_move s (Looks c key) c (answered reply (made (read_of key) (served_at s c)))) s)
-    by_may key reply false e r may = stays s h
-    by_may key reply true e r may =
-        let seat = s.chain.seats c in
-        let k = made (read_of key) (served_at s c) in
-        let l = looks_seats s.chain c key reply r in
-        let same = even (served_at s c) (read_of key) t e in
-        let n = length-append (served_at s c).calls (read_of key ∷ []) in
-        seat_step s c (answered reply k) (Looks c key)
-        (record seat { calls = seat.calls ++ read_of key ∷ []; got = seat.got ++ reply ∷ [] }) h
-        (connected_answered reply k (lt-ltb (length k.replies) (length k.calls) (omega (arith, n, same))) may
-        (connected_made (read_of key) (served_at s c) e t)) (due_asked (served_at s c) t (read_of key) e) l.1
-        (λ q other g. get_front (served_at s c).calls (read_of key ∷ []) q other g)
-        (turn_peeked seat.calls seat.got (calls_at s c) (replies_at s c) (s.ended c) (h.seats c) (read_of key) reply
-        (eqb-true (length seat.calls) (length seat.got) l.0) same)
-
     by_reply : (key : List ℕ) (o : Option Reply)
         → (served_at s c).due ≡ Some (read_of key)
         → look_reply s.chain c key ≡ o
         → IsStep s (peeked s c key o)
     by_reply key None e r = stays s h
-    by_reply key (Some reply) e r = by_may key reply (may_have (served_at s c).session.asked reply) e r refl
+    by_reply key (Some reply) e r =
+        let seat = s.chain.seats c in
+        let k = made (read_of key) (served_at s c) in
+        let l = looks_seats s.chain c key reply r in
+        let same = even (served_at s c) (read_of key) t e in
+        let n = length-append (served_at s c).calls (read_of key ∷ []) in
+        let f = due_form (served_at s c) t (read_of key) e in
+        seat_step s c (answered reply k) (Looks c key)
+        (record seat { calls = seat.calls ++ read_of key ∷ []; got = seat.got ++ reply ∷ [] }) h
+        (connected_answered reply k (lt-ltb (length k.replies) (length k.calls) (omega (arith, n, same)))
+        (shown_may (served_at s c).session.asked f.0 reply f.1 f.2 (look_shows_value s.chain c key reply r))
+        (connected_made (read_of key) (served_at s c) e t)) (due_asked (served_at s c) t (read_of key) e) l.1
+        (λ q other g. get_front (served_at s c).calls (read_of key ∷ []) q other g)
+        (turn_peeked seat.calls seat.got (calls_at s c) (replies_at s c) (s.ended c) (h.seats c) (read_of key) reply
+        (eqb-true (length seat.calls) (length seat.got) l.0) same)
 
     by_key : (o : Option (List ℕ)) → key_due (served_at s c).due ≡ o → IsStep s (peeking s c o)
     by_key None e = stays s h

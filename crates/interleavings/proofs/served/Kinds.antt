@@ -1,6 +1,6 @@
 -- The reply that stands first in a seat's queue is one that the call which waits for it can have.
 use Rattle.std.proofs.Common.{◌≡◌, ℕ, zero, suc, ◌+◌, ◌<◌, ◌≤◌, Bool, true, false, cond, List, [], ◌∷◌, ◌++◌, length, map}
-use Rattle.std.proofs.Common.{Option, None, Some, refl, arith, ap, sym, ◌∙◌, subst, append_assoc}
+use Rattle.std.proofs.Common.{Option, None, Some, refl, arith, ap, sym, ◌∙◌}
 use Rattle.std.specs.Prelude.{not, slice_get}
 use Rattle.std.specs.Option.{option_map}
 use Rattle.std.proofs.lemmas.Bool.{ltb-true}
@@ -22,22 +22,21 @@ use Rattle.proto.specs.declared.texts.Form.{Form}
 use Rattle.proto.specs.Sessions.{shows}
 use Rattle.world.specs.Calls.{CallId}
 use Rattle.world.specs.Orders.{Entry}
-use Rattle.interleavings.specs.Chains.{Seat, Chain, with_at}
-use Rattle.interleavings.specs.Moves.{Move, Receives, done, moved, moved_from}
-use Rattle.interleavings.specs.Asked.{IsAsked, AreAsked}
-use Rattle.interleavings.specs.Orders.{begun_call, reply_to, IsLinearization}
+use Rattle.interleavings.specs.Chains.{Seat}
+use Rattle.interleavings.specs.Moves.{Move, Receives, done, moved}
+use Rattle.interleavings.specs.Orders.{begun_call, reply_to}
 use Rattle.interleavings.specs.Connections.{Connection, waits, may_have}
 use Rattle.interleavings.specs.ServingMoves.{ServingChain, ServingMove, served_at, opening_serving, served}
 use Rattle.interleavings.proofs.examples.InTwoParts.{moved_from-append}
 use Rattle.interleavings.proofs.lists.Places.{at_same}
 use Rattle.interleavings.proofs.relation.Following.{linearizable}
 use Rattle.interleavings.proofs.runs.Simulating.{simulates}
-use Rattle.interleavings.proofs.served.Connected.{IsConnected, is_served}
+use Rattle.interleavings.proofs.served.Connected.{is_served}
 use Rattle.interleavings.proofs.served.AskedTurns.{made_asked}
 use Rattle.interleavings.proofs.served.Forms.{IsWaiting, waiting}
-use Rattle.interleavings.proofs.served.InTurn.{start, start_next, upto}
+use Rattle.interleavings.proofs.served.InTurn.{start, start_next}
 use Rattle.interleavings.proofs.served.ChainMoves.{receives_seats}
-use Rattle.interleavings.proofs.served.Steps.{calls_at, replies_at, IsInOrder}
+use Rattle.interleavings.proofs.served.Steps.{calls_at, IsInOrder}
 use Rattle.interleavings.proofs.served.Along.{opening_order, made_along, order_along, chain_along, asked_along, both_asked}
 use Rattle.interleavings.proofs.served.Names.{begun_there}
 
