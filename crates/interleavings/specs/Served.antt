@@ -44,7 +44,8 @@ pub record HasAll (k : Connection) : Type 0 where
 
 -- ---- the order of all calls, in the words of `Orders.antt`
 
--- A call's name: its connection, by a seat and the connection's number there, and its place among the connection's calls.
+-- A call's name: its connection, by a seat and the connection's number there, and its place among the connection's
+-- calls.
 pub record CallName : Type 0 where
   pub seat : ℕ
   pub number : ℕ
@@ -81,7 +82,9 @@ pub record IsOneOrder (count : ℕ) (homes : List ℕ) (moves : List ServingMove
   -- each reply in it is that of a single table, after all calls before it;
   pub legal : IsLegal (map (λ e. (e.call, e.reply)) h)
   -- each entry is a call that its connection made;
-  pub made : (i : ℕ) (e : ServedEntry) → slice_get h i ≡ Some e → call_made (served count homes moves) e.id ≡ Some e.call
+  pub made : (i : ℕ) (e : ServedEntry)
+      → slice_get h i ≡ Some e
+      → call_made (served count homes moves) e.id ≡ Some e.call
   -- no call stands in it twice;
   pub once : (i j : ℕ) (x : CallName) → StandsThere h i x → StandsThere h j x → i ≡ j
   -- each answered call stands in it, with the reply that its connection got;

@@ -4,8 +4,8 @@ use Rattle.interleavings.specs.Chains.{OfSeat, OfServer}
 use Rattle.interleavings.specs.Moves.{Takes, Publishes, Puts, Arrives, Replies}
 use Rattle.interleavings.specs.ServingMoves.{ServingMove, Reads, Begins, Asks, Answers, Writes, Ends, Runs}
 
--- ---- Two servers, a client of the head. A set and a get come in two pieces, of which the first is cut within the set's
--- ---- data block. Of the set's answer three bytes are written at first.
+-- ---- Two servers, a client of the head. A set and a get come in two pieces, cut within the set's data block. Of the
+-- ---- set's answer three bytes are written at first.
 
 -- the homes of the seats
 abbrev pub talk_homes : List ℕ

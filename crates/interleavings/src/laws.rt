@@ -1,5 +1,5 @@
-//! Laws: whatever order the threads' moves come in, there is one order of calls, and no call is forgotten; and ports are
-//! names.
+//! Laws: whatever order the threads' moves come in, there is one order of calls, no call is forgotten, and clients are
+//! written what their bytes ask for; and ports are names.
 ghost use Rattle.std.specs.Prelude.{◌≡◌, ℕ, ◌^◌, ◌≤◌, ◌<◌, List, ◌∷◌, length, Some, slice_get, true};
 ghost use Rattle.table.specs.declared.operations.Call.{Call};
 ghost use Rattle.table.specs.declared.operations.Reply.{Reply};
@@ -72,8 +72,8 @@ pub fn asked_calls_are_spelled()
 /// From bytes of clients to bytes of clients: every run of a chain that serves connections, with servers that stop and
 /// connections that end at any move.
 pub fn clients_see_one_table()
-    // Its servers, wires and queues make a run of moves, with calls that clients can ask: so all that is proved of these
-    // holds.
+    // Its servers, wires and queues make a run of moves, with calls that clients can ask: so all that is proved of
+    // these holds.
     ensures run { (count : ℕ) (homes : List ℕ) (moves : List ServingMove)
         → (ms : List Move) × AreAsked ms × ((served count homes moves).chain ≡ moved count homes ms) }
     // There is one order of the calls of all connections, in which a single table would have answered them.

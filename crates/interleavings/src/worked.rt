@@ -50,8 +50,8 @@ pub fn stopped_before_put()
     ensures asked { AreAsked cut_moves }
 {}
 
-/// A set and a get, cut within the set's data block, are answered in turn, and their client is written both answers. The
-/// next client of the seat is written nothing of them.
+/// A set and a get, cut within the set's data block, are answered in turn, and their client is written both answers.
+/// The next client of the seat is written nothing of them.
 pub fn cut_input_is_answered()
     ensures written { ((served 2 talk_homes (talk_moves ++ last_moves)).connections 0 0).written
         ≡ codes "STORED\r\nVALUE a 0 1\r\np\r\nEND\r\n" }

@@ -39,7 +39,9 @@ same_history s [] = refl
 same_history s (e ∷ es) = ap (λ xs. (e.call, e.reply) ∷ xs) (same_history s es)
 
 -- what stands in a list whose elements were changed
-mapped : {X Y : Type 0} (f : X → Y) (o : Option X) (y : Y) → option_map f o ≡ Some y → (x : X) × (o ≡ Some x) × (f x ≡ y)
+mapped : {X Y : Type 0} (f : X → Y) (o : Option X) (y : Y)
+    → option_map f o ≡ Some y
+    → (x : X) × (o ≡ Some x) × (f x ≡ y)
 mapped f None y e = absurd (let no : None ≡ Some y = e in cc)
 mapped f (Some x) y e = (x, refl, same_Some (f x) y e)
 
@@ -99,7 +101,9 @@ module _ (count : ℕ) (homes : List ℕ) (moves : List ServingMove) where
       its_name : name_of last entry.id ≡ x
       begun : begun_call last.chain entry.id ≡ Some entry.call
 
-    entry_at : (i : ℕ) (e : ServedEntry) → slice_get order i ≡ Some e → (x : Entry) × (slice_get h i ≡ Some x) × (named last x ≡ e)
+    entry_at : (i : ℕ) (e : ServedEntry)
+        → slice_get order i ≡ Some e
+        → (x : Entry) × (slice_get h i ≡ Some x) × (named last x ≡ e)
     entry_at i e at = mapped (named last) (slice_get h i) e (sym (slice_get-map (named last) h i) ∙ at)
 
     begun_last : (i : ℕ) (x : Entry) → slice_get h i ≡ Some x → begun_call last.chain x.id ≡ Some x.call
