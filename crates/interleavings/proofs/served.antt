@@ -10,3 +10,4 @@ pub mod Names
 pub mod OneOrder
 pub mod Forms
 pub mod Kinds
+pub mod OwnPortServing

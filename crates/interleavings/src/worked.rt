@@ -53,9 +53,9 @@ pub fn stopped_before_put()
 /// A set and a get, cut within the set's data block, are answered in turn, and their client is written both answers.
 /// The next client of the seat is written nothing of them.
 pub fn cut_input_is_answered()
-    ensures written { ((served 2 talk_homes (talk_moves ++ last_moves)).connections 0 0).written
+    ensures written { ((served done 2 talk_homes (talk_moves ++ last_moves)).connections 0 0).written
         ≡ codes "STORED\r\nVALUE a 0 1\r\np\r\nEND\r\n" }
-    ensures next { ((served 2 talk_homes (talk_moves ++ last_moves)).connections 0 1).written
+    ensures next { ((served done 2 talk_homes (talk_moves ++ last_moves)).connections 0 1).written
         ≡ codes "ERROR\r\n" }
 {}
 

@@ -43,12 +43,12 @@ begun_same : {X : Type 0} (view : Connection → X) (b : Bool) (k m : Connection
 begun_same view true k m e = refl
 begun_same view false k m e = e
 
-reads_step : (s : ServingChain) (c : ℕ) (piece : List ℕ) → IsInOrder s → IsStep s (served_by s (Reads c piece))
+reads_step : (s : ServingChain) (c : ℕ) (piece : List ℕ) → IsInOrder s → IsStep s (served_by done s (Reads c piece))
 reads_step s c piece h =
     session_step s c (heard piece (served_at s c)) h
     (connected_heard piece (served_at s c) (h.connected c (s.ended c))) refl refl
 
-begins_step : (s : ServingChain) (c : ℕ) → IsInOrder s → IsStep s (served_by s (Begins c))
+begins_step : (s : ServingChain) (c : ℕ) → IsInOrder s → IsStep s (served_by done s (Begins c))
 begins_step s c h =
     let k = served_at s c in
     let m = record k { session = (next_of k.session).1; due = call_of (next_of k.session).0 } in
@@ -56,13 +56,13 @@ begins_step s c h =
     (begun_same (λ (x : Connection). x.calls) (is_some k.session.asked) k m refl)
     (begun_same (λ (x : Connection). x.replies) (is_some k.session.asked) k m refl)
 
-writes_step : (s : ServingChain) (c n : ℕ) → IsInOrder s → IsStep s (served_by s (Writes c n))
+writes_step : (s : ServingChain) (c n : ℕ) → IsInOrder s → IsStep s (served_by done s (Writes c n))
 writes_step s c n h =
     session_step s c (wrote n (served_at s c)) h (connected_wrote n (served_at s c) (h.connected c (s.ended c))) refl refl
 
 -- ---- the next connection
 
-ends_step : (s : ServingChain) (c : ℕ) → IsInOrder s → IsStep s (served_by s (Ends c))
+ends_step : (s : ServingChain) (c : ℕ) → IsInOrder s → IsStep s (served_by done s (Ends c))
 ends_step s c h = record {
   moves = [];
   chain = refl;
@@ -107,7 +107,7 @@ asked_others (Looks c key) e = absurd (let no : true ≡ false = e in cc)
 asked_others (Stops i) e = tt
 asked_others (Notices i j) e = tt
 
-runs_step : (s : ServingChain) (m : Move) → IsInOrder s → IsStep s (served_by s (Runs m))
+runs_step : (s : ServingChain) (m : Move) → IsInOrder s → IsStep s (served_by done s (Runs m))
 runs_step s m h = by_seat (is_of_seat m) refl
   where
     by_seat : (b : Bool) → is_of_seat m ≡ b → IsStep s (cond b s (record s { chain = done s.chain m }))
@@ -143,7 +143,7 @@ even k call t e =
     let f = t.few in
     omega (arith, n, o, f)
 
-asks_step : (s : ServingChain) (c : ℕ) → IsInOrder s → IsStep s (served_by s (Asks c))
+asks_step : (s : ServingChain) (c : ℕ) → IsInOrder s → IsStep s (served_by done s (Asks c))
 asks_step s c h = by_due (served_at s c).due refl
   where
     t : IsConnected (served_at s c)
@@ -152,7 +152,7 @@ asks_step s c h = by_due (served_at s c).due refl
     by_free : (call : Call) (b : Bool)
         → (served_at s c).due ≡ Some call
         → is_free (s.chain.seats c) ≡ b
-        → IsStep s (cond b (with_move s (Sends c call) c (made call (served_at s c))) s)
+        → IsStep s (cond b (with_move done s (Sends c call) c (made call (served_at s c))) s)
     by_free call false e free = stays s h
     by_free call true e free =
         let seat = s.chain.seats c in
@@ -166,7 +166,7 @@ asks_step s c h = by_due (served_at s c).due refl
         (turn_asked seat.calls seat.got (calls_at s c) (replies_at s c) (s.ended c) (h.seats c) call
         (eqb-true (length seat.calls) (length seat.got) free) (even (served_at s c) call t e)))
 
-    by_due : (due : Option Call) → (served_at s c).due ≡ due → IsStep s (asking s c due)
+    by_due : (due : Option Call) → (served_at s c).due ≡ due → IsStep s (asking done s c due)
     by_due None e = stays s h
     by_due (Some call) e = by_free call (is_free (s.chain.seats c)) e refl
 
@@ -199,7 +199,7 @@ shown_may : (asked : Option Form) (form : Form) (reply : Reply)
     → may_have asked reply ≡ true
 shown_may asked form reply e s v = rw (e, s, v) refl
 
-peeks_step : (s : ServingChain) (c : ℕ) → IsInOrder s → IsStep s (served_by s (Peeks c))
+peeks_step : (s : ServingChain) (c : ℕ) → IsInOrder s → IsStep s (served_by done s (Peeks c))
 peeks_step s c h = by_key (key_due (served_at s c).due) refl
   where
     t : IsConnected (served_at s c)
@@ -208,7 +208,7 @@ peeks_step s c h = by_key (key_due (served_at s c).due) refl
     by_reply : (key : List ℕ) (o : Option Reply)
         → (served_at s c).due ≡ Some (read_of key)
         → look_reply s.chain c key ≡ o
-        → IsStep s (peeked s c key o)
+        → IsStep s (peeked done s c key o)
     by_reply key None e r = stays s h
     by_reply key (Some reply) e r =
         let seat = s.chain.seats c in
@@ -226,11 +226,11 @@ peeks_step s c h = by_key (key_due (served_at s c).due) refl
         (turn_peeked seat.calls seat.got (calls_at s c) (replies_at s c) (s.ended c) (h.seats c) (read_of key) reply
         (eqb-true (length seat.calls) (length seat.got) l.0) same)
 
-    by_key : (o : Option (List ℕ)) → key_due (served_at s c).due ≡ o → IsStep s (peeking s c o)
+    by_key : (o : Option (List ℕ)) → key_due (served_at s c).due ≡ o → IsStep s (peeking done s c o)
     by_key None e = stays s h
     by_key (Some key) e = by_reply key (look_reply s.chain c key) (due_read (served_at s c).due key e) refl
 
-answers_step : (s : ServingChain) (c : ℕ) → IsInOrder s → IsStep s (served_by s (Answers c))
+answers_step : (s : ServingChain) (c : ℕ) → IsInOrder s → IsStep s (served_by done s (Answers c))
 answers_step s c h = by_mail (s.chain.seats c).mail refl
   where
     t : IsConnected (served_at s c)
@@ -240,7 +240,7 @@ answers_step s c h = by_mail (s.chain.seats c).mail refl
         → (s.chain.seats c).mail ≡ reply ∷ more
         → waits (served_at s c) ≡ a
         → may_have (served_at s c).session.asked reply ≡ b
-        → IsStep s (cond (a && b) (with_move s (Receives c) c (answered reply (served_at s c))) s)
+        → IsStep s (cond (a && b) (with_move done s (Receives c) c (answered reply (served_at s c))) s)
     by_guard reply more false b e w may = stays s h
     by_guard reply more true false e w may = stays s h
     by_guard reply more true true e w may =
@@ -254,13 +254,13 @@ answers_step s c h = by_mail (s.chain.seats c).mail refl
         (turn_answered seat.calls seat.got (calls_at s c) (replies_at s c) (s.ended c) (h.seats c) reply
         (ltb-true (length k.replies) (length k.calls) w) (is_served k t).one_open))
 
-    by_mail : (mail : List Reply) → (s.chain.seats c).mail ≡ mail → IsStep s (answering s c mail)
+    by_mail : (mail : List Reply) → (s.chain.seats c).mail ≡ mail → IsStep s (answering done s c mail)
     by_mail [] e = stays s h
     by_mail (reply ∷ more) e =
         by_guard reply more (waits (served_at s c)) (may_have (served_at s c).session.asked reply) e refl refl
 
 -- each move
-pub step : (s : ServingChain) (m : ServingMove) → IsInOrder s → IsStep s (served_by s m)
+pub step : (s : ServingChain) (m : ServingMove) → IsInOrder s → IsStep s (served_by done s m)
 step s (Reads c piece) h = reads_step s c piece h
 step s (Begins c) h = begins_step s c h
 step s (Asks c) h = asks_step s c h

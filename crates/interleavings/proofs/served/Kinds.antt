@@ -89,7 +89,7 @@ by_kind asked form reply e same = rw e (both (is_value reply) (shows form) same)
 module _ (count : ℕ) (homes : List ℕ) (moves : List ServingMove) (few : count ≤ 16) (c : ℕ) (reply : Reply)
     (more : List Reply) where
   abbrev last : ServingChain
-  last = served count homes moves
+  last = served done count homes moves
 
   abbrev k : Connection
   k = served_at last c
@@ -150,7 +150,7 @@ module _ (count : ℕ) (homes : List ℕ) (moves : List ServingMove) (few : coun
     fits = (made_asked k (ordered.connected c (last.ended c)) (length k.replies) w.call w.made).fits
 
     -- so it is of the kind that the call can have
-    pub first_fits : may_have (served_at (served count homes moves) c).session.asked reply ≡ true
+    pub first_fits : may_have (served_at (served done count homes moves) c).session.asked reply ≡ true
     first_fits =
         let o = linearizable count homes (simulates count homes few) run few
         (both_asked (made_along moves (opening_serving count homes) (opening_order count homes)) (Receives c ∷ [])
