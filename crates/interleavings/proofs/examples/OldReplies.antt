@@ -20,12 +20,13 @@ unfolding lost_moves with_at line_limit has union single is_below adds next_from
     trimmed left_open replies risen passed_on take_update
 reply_kept = refl
 
--- the next connection's call is still to be made,
+-- the next connection has a call to be made,
 pub delete_due : (lost.connections 0 1).due ≡ Some delete
 unfolding lost_moves with_at line_limit has union single is_below adds next_from predecessor most appended entered
     trimmed left_open replies risen passed_on take_update
 delete_due = refl
 
+-- but has made none,
 pub no_calls : (lost.connections 0 1).calls ≡ []
 unfolding lost_moves with_at line_limit has union single is_below adds next_from predecessor most appended entered
     trimmed left_open replies risen passed_on take_update

@@ -34,10 +34,12 @@ pub made_along : (ms : List ServingMove) (s : ServingChain) → IsInOrder s → 
 made_along [] s h = []
 made_along (m ∷ ms) s h = (step s m h).moves ++ made_along ms (served_by done s m) (step s m h).order
 
+-- what holds at first holds after a run
 pub order_along : (ms : List ServingMove) (s : ServingChain) → IsInOrder s → IsInOrder (served_from done s ms)
 order_along [] s h = h
 order_along (m ∷ ms) s h = order_along ms (served_by done s m) (step s m h).order
 
+-- the chain is what these moves make of it
 pub chain_along : (ms : List ServingMove) (s : ServingChain) (h : IsInOrder s)
     → (served_from done s ms).chain ≡ moved_from s.chain (made_along ms s h)
 unfolding made_along
@@ -48,6 +50,7 @@ chain_along (m ∷ ms) s h =
     chain_along ms (served_by done s m) one.order ∙ ap (λ l. moved_from l rest) one.chain
     ∙ sym (moved_from-append s.chain one.moves rest)
 
+-- there are at most as many
 pub short_along : (ms : List ServingMove) (s : ServingChain) (h : IsInOrder s)
     → length (made_along ms s h) ≤ length ms
 unfolding made_along
@@ -59,10 +62,12 @@ short_along (m ∷ ms) s h =
     let b = short_along ms (served_by done s m) one.order in
     omega (arith, n, a, b)
 
+-- two lists of moves whose calls clients can ask
 pub both_asked : (ms ns : List Move) → AreAsked ms → AreAsked ns → AreAsked (ms ++ ns)
 both_asked [] ns a b = b
 both_asked (m ∷ ms) ns a b = (a.0, both_asked ms ns a.1 b)
 
+-- clients can ask all calls of a run
 pub asked_along : (ms : List ServingMove) (s : ServingChain) (h : IsInOrder s) → AreAsked (made_along ms s h)
 unfolding made_along
 asked_along [] s h = tt
@@ -78,6 +83,7 @@ grows_along (m ∷ ms) s h =
 
 -- ---- after some first k moves
 
+-- from there to the end it grows
 pub grows_from : (k : ℕ) (ms : List ServingMove) (s : ServingChain)
     → IsInOrder s
     → Grows (served_from done s (take k ms)) (served_from done s ms)
@@ -85,6 +91,7 @@ grows_from zero ms s h = grows_along ms s h
 grows_from (suc k) [] s h = grows_same s
 grows_from (suc k) (m ∷ ms) s h = grows_from k ms (served_by done s m) (step s m h).order
 
+-- their moves are the first ones of the whole run
 pub first_along : (k : ℕ) (ms : List ServingMove) (s : ServingChain) (h : IsInOrder s)
     → (rest : List Move) × (made_along ms s h ≡ made_along (take k ms) s h ++ rest)
 unfolding made_along

@@ -167,6 +167,7 @@ pub record IsWaiting (k : Connection) : Type 0 where
   pub made : slice_get k.calls (length k.replies) ≡ Some call
   pub fits : shows form ≡ not (is_update call.op)
 
+-- so it is, if a call was made and has no reply
 pub waiting : (k : Connection) → IsConnected k → length k.replies < length k.calls → IsWaiting k
 waiting k t less = by_asked k.session.asked refl
   where

@@ -189,6 +189,7 @@ module _ (count : ℕ) (homes : List ℕ) (moves : List ServingMove) where
         (record { entry = e.entry; here = e.here; same = refl }) in
         (t.0, t.1, named_so t.0 x m.0 ((front_grows p.k).calls x.seat x.number x.place m.0 m.1) t.2)
 
+    -- so it is an order of all connections' calls
     pub is_one_order : IsOneOrder done count homes moves (map (named (served done count homes moves)) h)
     is_one_order = record {
       legal = subst IsLegal (same_history last h) lin.legal;
