@@ -73,13 +73,15 @@ pub record StandsThere (h : List ServedEntry) (i : ℕ) (x : CallName) : Type 0 
   pub named : entry.id ≡ x
 
 -- x precedes y: after some first k moves x is answered, and y isn't made
-pub record ComesBefore (does : Doing) (count : ℕ) (homes : List ℕ) (moves : List ServingMove) (x y : CallName) : Type 0 where
+pub record ComesBefore (does : Doing) (count : ℕ) (homes : List ℕ) (moves : List ServingMove) (x y : CallName) :
+    Type 0 where
   pub k : ℕ
   pub answered : IsSome (reply_got (served does count homes (take k moves)) x)
   pub not_made : call_made (served does count homes (take k moves)) y ≡ None
 
 -- The order h is one of all connections' calls, where a move of the running chain does this:
-pub record IsOneOrder (does : Doing) (count : ℕ) (homes : List ℕ) (moves : List ServingMove) (h : List ServedEntry) : Type 0 where
+pub record IsOneOrder (does : Doing) (count : ℕ) (homes : List ℕ) (moves : List ServingMove) (h : List ServedEntry) :
+    Type 0 where
   -- each reply in it is that of a single table, after all calls before it;
   pub legal : IsLegal (map (λ e. (e.call, e.reply)) h)
   -- each entry is a call that its connection made;

@@ -73,13 +73,15 @@ unfolding made_along
 asked_along [] s h = tt
 asked_along (m ∷ ms) s h =
     let one = step s m h in
-    both_asked one.moves (made_along ms (served_by done s m) one.order) one.asked (asked_along ms (served_by done s m) one.order)
+    both_asked one.moves (made_along ms (served_by done s m) one.order) one.asked
+    (asked_along ms (served_by done s m) one.order)
 
 grows_along : (ms : List ServingMove) (s : ServingChain) → IsInOrder s → Grows s (served_from done s ms)
 grows_along [] s h = grows_same s
 grows_along (m ∷ ms) s h =
     let one = step s m h in
-    grows_more s (served_by done s m) (served_from done (served_by done s m) ms) one.grows (grows_along ms (served_by done s m) one.order)
+    grows_more s (served_by done s m) (served_from done (served_by done s m) ms) one.grows
+    (grows_along ms (served_by done s m) one.order)
 
 -- ---- after some first k moves
 
