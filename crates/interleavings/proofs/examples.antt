@@ -8,3 +8,4 @@ pub mod Answered
 pub mod WithoutRules
 pub mod QuietRuns
 pub mod CutInput
+pub mod OldReplies

@@ -1,6 +1,7 @@
 -- Chains that serve connections: what each of them is written, and the one order of their calls.
 pub mod Connected
 pub mod AskedTurns
+pub mod Forms
 pub mod InTurn
 pub mod ChainMoves
 pub mod Steps
@@ -8,3 +9,5 @@ pub mod EachMove
 pub mod Along
 pub mod Names
 pub mod OneOrder
+pub mod Kinds
+pub mod OwnPortServing

@@ -11,8 +11,8 @@ use Rattle.proto.specs.Sessions.{Held, fresh, fed, next_of, answered_by, shows}
 use Rattle.proto.specs.Runs.{taken_from}
 
 -- A connection: the bytes that were read of it; what its session holds; the call that its session has given and that
--- isn't made yet; its calls that were made, and the replies that they got, the oldest first; the bytes that were written
--- to it.
+-- isn't made yet; its calls that were made, and the replies that they got, the oldest first; the bytes that were
+-- written to it.
 pub record Connection : Type 0 where
   pub read : List ℕ
   pub session : Held

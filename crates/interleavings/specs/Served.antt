@@ -7,6 +7,7 @@ use Rattle.table.specs.declared.operations.Reply.{Reply}
 use Rattle.proto.specs.Turns.{calls_of}
 use Rattle.proto.specs.Sessions.{next_of}
 use Rattle.proto.specs.Streams.{turns, texts}
+use Rattle.interleavings.specs.OtherMoves.{Doing}
 use Rattle.interleavings.specs.Quiet.{goes_on}
 use Rattle.interleavings.specs.Connections.{Connection, gives_none}
 use Rattle.interleavings.specs.ServingMoves.{ServingChain, ServingMove, served}
@@ -44,7 +45,8 @@ pub record HasAll (k : Connection) : Type 0 where
 
 -- ---- the order of all calls, in the words of `Orders.antt`
 
--- A call's name: its connection, by a seat and the connection's number there, and its place among the connection's calls.
+-- A call's name: its connection, by a seat and the connection's number there, and its place among the connection's
+-- calls.
 pub record CallName : Type 0 where
   pub seat : ℕ
   pub number : ℕ
@@ -71,25 +73,29 @@ pub record StandsThere (h : List ServedEntry) (i : ℕ) (x : CallName) : Type 0 
   pub named : entry.id ≡ x
 
 -- x precedes y: after some first k moves x is answered, and y isn't made
-pub record ComesBefore (count : ℕ) (homes : List ℕ) (moves : List ServingMove) (x y : CallName) : Type 0 where
+pub record ComesBefore (does : Doing) (count : ℕ) (homes : List ℕ) (moves : List ServingMove) (x y : CallName) :
+    Type 0 where
   pub k : ℕ
-  pub answered : IsSome (reply_got (served count homes (take k moves)) x)
-  pub not_made : call_made (served count homes (take k moves)) y ≡ None
+  pub answered : IsSome (reply_got (served does count homes (take k moves)) x)
+  pub not_made : call_made (served does count homes (take k moves)) y ≡ None
 
--- The order h is one of all connections' calls:
-pub record IsOneOrder (count : ℕ) (homes : List ℕ) (moves : List ServingMove) (h : List ServedEntry) : Type 0 where
+-- The order h is one of all connections' calls, where a move of the running chain does this:
+pub record IsOneOrder (does : Doing) (count : ℕ) (homes : List ℕ) (moves : List ServingMove) (h : List ServedEntry) :
+    Type 0 where
   -- each reply in it is that of a single table, after all calls before it;
   pub legal : IsLegal (map (λ e. (e.call, e.reply)) h)
   -- each entry is a call that its connection made;
-  pub made : (i : ℕ) (e : ServedEntry) → slice_get h i ≡ Some e → call_made (served count homes moves) e.id ≡ Some e.call
+  pub made : (i : ℕ) (e : ServedEntry)
+      → slice_get h i ≡ Some e
+      → call_made (served does count homes moves) e.id ≡ Some e.call
   -- no call stands in it twice;
   pub once : (i j : ℕ) (x : CallName) → StandsThere h i x → StandsThere h j x → i ≡ j
   -- each answered call stands in it, with the reply that its connection got;
-  pub answered : (x : CallName) (reply : Reply) → reply_got (served count homes moves) x ≡ Some reply
+  pub answered : (x : CallName) (reply : Reply) → reply_got (served does count homes moves) x ≡ Some reply
       → (i : ℕ) × (at : StandsThere h i x) × (at.entry.reply ≡ reply)
   -- if x precedes y and y is in it, x is in it, at an earlier place.
   pub in_time : (x y : CallName) (j : ℕ)
-      → ComesBefore count homes moves x y
+      → ComesBefore does count homes moves x y
       → StandsThere h j y
       → (i : ℕ) × (i < j) × StandsThere h i x
 

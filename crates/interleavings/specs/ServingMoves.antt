@@ -13,7 +13,8 @@ use Rattle.node.specs.declared.looks.Look.TheVariants.{Clean, Dirty}
 use Rattle.node.specs.Faces.{face_of, look_at}
 use Rattle.interleavings.specs.Chains.{Chain, with_at, opening_chain}
 use Rattle.interleavings.specs.Moves.{Move, Sends, Takes, Publishes, Puts, Arrives, Replies, Receives, Looks, Stops}
-use Rattle.interleavings.specs.Moves.{Notices, is_free, read_of, done}
+use Rattle.interleavings.specs.Moves.{Notices, is_free, read_of}
+use Rattle.interleavings.specs.OtherMoves.{Doing}
 use Rattle.interleavings.specs.Connections.{Connection, opening_connection, heard, begun, made, answered, wrote, waits}
 use Rattle.interleavings.specs.Connections.{may_have}
 
@@ -51,17 +52,7 @@ served_at s c = s.connections c (s.ended c)
 abbrev pub with_served : ServingChain → ℕ → Connection → ServingChain
 with_served s c k = record s { connections = with_at s.connections c (with_at (s.connections c) (s.ended c) k) }
 
--- the same, where the running chain has made this move
-abbrev pub with_move : ServingChain → Move → ℕ → Connection → ServingChain
-with_move s m c k = with_served (record s { chain = done s.chain m }) c k
-
--- ---- calls and replies
-
--- this call is to be made: it is sent, if the seat waits for no reply
-abbrev pub asking : ServingChain → ℕ → Option Call → ServingChain
-asking s c None = s
-asking s c (Some call) =
-    if is_free (s.chain.seats c) then with_move s (Sends c call) c (made call (served_at s c)) else s
+-- ---- looks
 
 -- the key that a call reads, if it is a read
 abbrev pub key_read : Target → Op → Option (List ℕ)
@@ -86,29 +77,6 @@ look_reply l c key =
     then reply_by (look_at (face_of (l.servers (l.seats c).home).node) key)
     else None
 
--- the read of this key is made, and has this reply
-abbrev pub peeked : ServingChain → ℕ → List ℕ → Option Reply → ServingChain
-peeked s c key None = s
-peeked s c key (Some reply) =
-    if may_have (served_at s c).session.asked reply
-    then with_move s (Looks c key) c (answered reply (made (read_of key) (served_at s c)))
-    else s
-
--- this key is to be read: it is looked at
-abbrev pub peeking : ServingChain → ℕ → Option (List ℕ) → ServingChain
-peeking s c None = s
-peeking s c (Some key) = peeked s c key (look_reply s.chain c key)
-
--- the connection takes the first of these replies, which stand in the seat's queue, if it waits for one
-abbrev pub answering : ServingChain → ℕ → List Reply → ServingChain
-answering s c [] = s
-answering s c (reply ∷ more) =
-    if waits (served_at s c) && may_have (served_at s c).session.asked reply
-    then with_move s (Receives c) c (answered reply (served_at s c))
-    else s
-
--- ---- runs
-
 -- the move is one that a seat makes for its connection
 abbrev pub is_of_seat : Move → Bool
 is_of_seat (Sends c call) = true
@@ -122,27 +90,63 @@ is_of_seat (Looks c key) = true
 is_of_seat (Stops i) = false
 is_of_seat (Notices i j) = false
 
--- what a move does. One that doesn't apply has no effect.
-abbrev pub served_by : ServingChain → ServingMove → ServingChain
-served_by s (Reads c piece) = with_served s c (heard piece (served_at s c))
-served_by s (Begins c) = with_served s c (begun (served_at s c))
-served_by s (Asks c) = asking s c (served_at s c).due
-served_by s (Peeks c) = peeking s c (key_due (served_at s c).due)
-served_by s (Answers c) = answering s c (s.chain.seats c).mail
-served_by s (Writes c n) = with_served s c (wrote n (served_at s c))
-served_by s (Ends c) = record s { ended = with_at s.ended c (suc (s.ended c)) }
-served_by s (Runs m) = if is_of_seat m then s else record s { chain = done s.chain m }
-
--- the chain after these moves, one after another
-abbrev pub served_from : ServingChain → List ServingMove → ServingChain
-served_from s [] = s
-served_from s (m ∷ ms) = served_from (served_by s m) ms
-
 -- before any move: an opening chain, and seats of whose connections nothing was read
 abbrev pub opening_serving : ℕ → List ℕ → ServingChain
 opening_serving count homes =
     record { chain = opening_chain count homes; ended = λ c. 0; connections = λ c n. opening_connection }
 
--- the chain after a run
-abbrev pub served : ℕ → List ℕ → List ServingMove → ServingChain
-served count homes moves = served_from (opening_serving count homes) moves
+-- ---- runs
+
+-- What a move of the running chain does is an argument, `does`: it is `done`, or that with the ports of the code.
+module _ (does : Doing) where
+  -- the running chain has made this move, and this is the connection that seat c serves from now on
+  abbrev pub with_move : ServingChain → Move → ℕ → Connection → ServingChain
+  with_move s m c k = with_served (record s { chain = does s.chain m }) c k
+
+  -- ---- calls and replies
+
+  -- this call is to be made: it is sent, if the seat waits for no reply
+  abbrev pub asking : ServingChain → ℕ → Option Call → ServingChain
+  asking s c None = s
+  asking s c (Some call) =
+      if is_free (s.chain.seats c) then with_move s (Sends c call) c (made call (served_at s c)) else s
+
+  -- the read of this key is made, and has this reply
+  abbrev pub peeked : ServingChain → ℕ → List ℕ → Option Reply → ServingChain
+  peeked s c key None = s
+  peeked s c key (Some reply) = with_move s (Looks c key) c (answered reply (made (read_of key) (served_at s c)))
+
+  -- this key is to be read: it is looked at
+  abbrev pub peeking : ServingChain → ℕ → Option (List ℕ) → ServingChain
+  peeking s c None = s
+  peeking s c (Some key) = peeked s c key (look_reply s.chain c key)
+
+  -- the connection takes the first of these replies, which stand in the seat's queue, if it waits for one
+  abbrev pub answering : ServingChain → ℕ → List Reply → ServingChain
+  answering s c [] = s
+  answering s c (reply ∷ more) =
+      if waits (served_at s c) && may_have (served_at s c).session.asked reply
+      then with_move s (Receives c) c (answered reply (served_at s c))
+      else s
+
+  -- ---- moves
+
+  -- what a move does. One that doesn't apply has no effect.
+  abbrev pub served_by : ServingChain → ServingMove → ServingChain
+  served_by s (Reads c piece) = with_served s c (heard piece (served_at s c))
+  served_by s (Begins c) = with_served s c (begun (served_at s c))
+  served_by s (Asks c) = asking s c (served_at s c).due
+  served_by s (Peeks c) = peeking s c (key_due (served_at s c).due)
+  served_by s (Answers c) = answering s c (s.chain.seats c).mail
+  served_by s (Writes c n) = with_served s c (wrote n (served_at s c))
+  served_by s (Ends c) = record s { ended = with_at s.ended c (suc (s.ended c)) }
+  served_by s (Runs m) = if is_of_seat m then s else record s { chain = does s.chain m }
+
+  -- the chain after these moves, one after another
+  abbrev pub served_from : ServingChain → List ServingMove → ServingChain
+  served_from s [] = s
+  served_from s (m ∷ ms) = served_from (served_by s m) ms
+
+  -- the chain after a run
+  abbrev pub served : ℕ → List ℕ → List ServingMove → ServingChain
+  served count homes moves = served_from (opening_serving count homes) moves

@@ -1,11 +1,15 @@
 -- A worked run of a chain that serves: its moves.
 use Rattle.std.specs.Prelude.{ℕ, List, [], ◌∷◌, ◌++◌, codes}
+use Rattle.table.specs.declared.operations.Call.{Call}
+use Rattle.table.specs.declared.operations.Op.TheVariants.{Delete}
+use Rattle.table.specs.declared.operations.Target.TheVariants.{One}
 use Rattle.interleavings.specs.Chains.{OfSeat, OfServer}
 use Rattle.interleavings.specs.Moves.{Takes, Publishes, Puts, Arrives, Replies}
+use Rattle.interleavings.specs.WorkedRuns.{key}
 use Rattle.interleavings.specs.ServingMoves.{ServingMove, Reads, Begins, Asks, Answers, Writes, Ends, Runs}
 
--- ---- Two servers, a client of the head. A set and a get come in two pieces, of which the first is cut within the set's
--- ---- data block. Of the set's answer three bytes are written at first.
+-- ---- Two servers, a client of the head. A set and a get come in two pieces, cut within the set's data block. Of the
+-- ---- set's answer three bytes are written at first.
 
 -- the homes of the seats
 abbrev pub talk_homes : List ℕ
@@ -31,3 +35,16 @@ talk_moves =
 -- the rest is written, and the connection ends; of the next one a line comes that is no request
 unfoldable pub last_moves : List ServingMove
 last_moves = Writes 0 40 ∷ Ends 0 ∷ Reads 0 (codes "what\r\n") ∷ Begins 0 ∷ Writes 0 40 ∷ []
+
+-- ---- The same two servers. A connection ends while its set has no reply. The seat's next connection asks for a
+-- ---- delete, while the set's reply is put into the seat's queue.
+
+-- the call of the delete
+abbrev pub delete : Call
+delete = record { target = One key; op = Delete }
+
+-- the moves
+unfoldable pub lost_moves : List ServingMove
+lost_moves =
+    Reads 0 (codes "set a 0 0 1\r\np\r\n") ∷ Begins 0 ∷ Asks 0 ∷ Ends 0
+    ∷ (down_and_back ++ Reads 0 (codes "delete a\r\n") ∷ Begins 0 ∷ Asks 0 ∷ Answers 0 ∷ Writes 0 40 ∷ [])

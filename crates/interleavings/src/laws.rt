@@ -1,18 +1,20 @@
-//! Laws: whatever order the threads' moves come in, there is one order of calls, and no call is forgotten; and ports are
-//! names.
-ghost use Rattle.std.specs.Prelude.{◌≡◌, ℕ, ◌^◌, ◌≤◌, ◌<◌, List, length, Some, slice_get};
+//! Laws: whatever order the threads' moves come in, there is one order of calls, no call is forgotten, and clients are
+//! written what their bytes ask for; and ports are names.
+ghost use Rattle.std.specs.Prelude.{◌≡◌, ℕ, ◌^◌, ◌≤◌, ◌<◌, List, ◌∷◌, length, Some, slice_get, true};
 ghost use Rattle.table.specs.declared.operations.Call.{Call};
+ghost use Rattle.table.specs.declared.operations.Reply.{Reply};
 ghost use Rattle.node.specs.Servers.{ServerState};
 ghost use Rattle.node.specs.Steps.{step};
 ghost use Rattle.node.specs.declared.messages.Input.{Input};
-ghost use Rattle.interleavings.specs.Moves.{Move, moved};
+ghost use Rattle.interleavings.specs.Moves.{Move, moved, done};
 ghost use Rattle.interleavings.specs.Asked.{AreAsked, IsAsked, IsSpelled};
 ghost use Rattle.interleavings.specs.Orders.{IsLinearization};
 ghost use Rattle.interleavings.specs.Quiet.{IsQuiet, NoneForgotten};
 ghost use Rattle.interleavings.specs.OtherMoves.{IsLinearizationBy};
 ghost use Rattle.interleavings.specs.OwnPorts.{seats_at, port_at, with_own_ports};
 ghost use Rattle.interleavings.specs.Ports.{input_at, renamed, renamed_outcome};
-ghost use Rattle.interleavings.specs.ServingMoves.{ServingMove, served};
+ghost use Rattle.interleavings.specs.Connections.{waits, may_have};
+ghost use Rattle.interleavings.specs.ServingMoves.{ServingMove, served_at, served};
 ghost use Rattle.interleavings.specs.Served.{IsServed, ServedEntry, IsOneOrder, NoneUnanswered, AllHaveAll};
 ghost use Rattle.world.specs.Orders.{Entry};
 
@@ -62,6 +64,17 @@ pub fn seats_may_have_own_ports()
         → port_at homes c i < seats_at homes i }
 {}
 
+/// Seats that serve connections may be numbered by each server for itself, as the code does.
+pub fn served_seats_may_have_own_ports()
+    // There is one order of the calls of all connections.
+    ensures order { (count : ℕ) (homes : List ℕ) (moves : List ServingMove)
+        → count ≤ 16
+        → (h : List ServedEntry) × IsOneOrder (with_own_ports homes) count homes moves h }
+    // Each connection makes the calls that its bytes spell, and is written the texts of its turns.
+    ensures bytes { (count : ℕ) (homes : List ℕ) (moves : List ServingMove) (c n : ℕ)
+        → IsServed ((served (with_own_ports homes) count homes moves).connections c n) }
+{}
+
 /// Each call that clients can ask is spelled by some bytes, as the one call of a request.
 pub fn asked_calls_are_spelled()
     ensures { (call : Call) → IsAsked call → IsSpelled call }
@@ -70,28 +83,35 @@ pub fn asked_calls_are_spelled()
 /// From bytes of clients to bytes of clients: every run of a chain that serves connections, with servers that stop and
 /// connections that end at any move.
 pub fn clients_see_one_table()
-    // Its servers, wires and queues make a run of moves, with calls that clients can ask: so all that is proved of these
-    // holds.
+    // Its servers, wires and queues make a run of moves, with calls that clients can ask: so all that is proved of
+    // these holds.
     ensures run { (count : ℕ) (homes : List ℕ) (moves : List ServingMove)
-        → (ms : List Move) × AreAsked ms × ((served count homes moves).chain ≡ moved count homes ms) }
+        → (ms : List Move) × AreAsked ms × ((served done count homes moves).chain ≡ moved count homes ms) }
     // There is one order of the calls of all connections, in which a single table would have answered them.
     ensures order { (count : ℕ) (homes : List ℕ) (moves : List ServingMove)
         → count ≤ 16
-        → (h : List ServedEntry) × IsOneOrder count homes moves h }
+        → (h : List ServedEntry) × IsOneOrder done count homes moves h }
     // Each connection makes the calls that its bytes spell, in turn, and is written the texts of its turns, each call's
     // with its reply: a beginning of them, and all of them once no output is left and no turn can begin.
     ensures bytes { (count : ℕ) (homes : List ℕ) (moves : List ServingMove) (c n : ℕ)
-        → IsServed ((served count homes moves).connections c n) }
+        → IsServed ((served done count homes moves).connections c n) }
+    // What stands first in a seat's queue is an item, or none, exactly if the call that its connection waits for is a
+    // read: so the connection can take it.
+    ensures kinds { (count : ℕ) (homes : List ℕ) (moves : List ServingMove) (c : ℕ) (reply : Reply) (more : List Reply)
+        → count ≤ 16
+        → ((served done count homes moves).chain.seats c).mail ≡ reply ∷ more
+        → waits (served_at (served done count homes moves) c) ≡ true
+        → may_have (served_at (served done count homes moves) c).session.asked reply ≡ true }
     // If nothing is left to do in the chain, each call that was made at a server that goes on has its reply;
     ensures answered { (count : ℕ) (homes : List ℕ) (moves : List ServingMove)
         → count ≤ 16
         → length moves < 2 ^ 62
-        → IsQuiet (served count homes moves).chain
-        → NoneUnanswered (served count homes moves) }
+        → IsQuiet (served done count homes moves).chain
+        → NoneUnanswered (served done count homes moves) }
     // and if nothing is left to do at a connection either, all its calls are answered, and all is written.
     ensures all { (count : ℕ) (homes : List ℕ) (moves : List ServingMove)
         → count ≤ 16
         → length moves < 2 ^ 62
-        → IsQuiet (served count homes moves).chain
-        → AllHaveAll (served count homes moves) }
+        → IsQuiet (served done count homes moves).chain
+        → AllHaveAll (served done count homes moves) }
 {}

@@ -18,7 +18,7 @@ ghost use Rattle.interleavings.specs.WorkedRuns.{older_homes, before_older_look,
 ghost use Rattle.interleavings.specs.WorkedRuns.{before_unpublished_look, told_homes, before_outlived_look};
 ghost use Rattle.interleavings.specs.WorkedRuns.{cut_moves, lossy_moves};
 ghost use Rattle.interleavings.specs.ServingMoves.{served};
-ghost use Rattle.interleavings.specs.WorkedServing.{talk_homes, talk_moves, last_moves};
+ghost use Rattle.interleavings.specs.WorkedServing.{talk_homes, talk_moves, last_moves, lost_moves, delete};
 
 /// A set passes down a chain of two and back, and its client has the reply.
 pub fn set_is_answered()
@@ -50,13 +50,22 @@ pub fn stopped_before_put()
     ensures asked { AreAsked cut_moves }
 {}
 
-/// A set and a get, cut within the set's data block, are answered in turn, and their client is written both answers. The
-/// next client of the seat is written nothing of them.
+/// A set and a get, cut within the set's data block, are answered in turn, and their client is written both answers.
+/// The next client of the seat is written nothing of them.
 pub fn cut_input_is_answered()
-    ensures written { ((served 2 talk_homes (talk_moves ++ last_moves)).connections 0 0).written
+    ensures written { ((served done 2 talk_homes (talk_moves ++ last_moves)).connections 0 0).written
         ≡ codes "STORED\r\nVALUE a 0 1\r\np\r\nEND\r\n" }
-    ensures next { ((served 2 talk_homes (talk_moves ++ last_moves)).connections 0 1).written
+    ensures next { ((served done 2 talk_homes (talk_moves ++ last_moves)).connections 0 1).written
         ≡ codes "ERROR\r\n" }
+{}
+
+/// A connection ends while its call has no reply. The reply stays in the seat's queue: the seat's next connection isn't
+/// written it, and makes no call.
+pub fn next_connection_gets_no_old_reply()
+    ensures kept { ((served done 2 talk_homes lost_moves).chain.seats 0).mail ≡ Stored ∷ [] }
+    ensures due { ((served done 2 talk_homes lost_moves).connections 0 1).due ≡ Some delete }
+    ensures calls { ((served done 2 talk_homes lost_moves).connections 0 1).calls ≡ [] }
+    ensures written { ((served done 2 talk_homes lost_moves).connections 0 1).written ≡ [] }
 {}
 
 /// If a look may show an older face than the one that stands, a run has no order.

@@ -16,7 +16,7 @@ use Rattle.proto.specs.Words.{space, crlf, line_limit}
 use Rattle.proto.specs.Sessions.{fresh}
 use Rattle.proto.specs.Turns.{item_text}
 use Rattle.interleavings.specs.Chains.{Chain, with_at}
-use Rattle.interleavings.specs.Moves.{read_of}
+use Rattle.interleavings.specs.Moves.{read_of, done}
 use Rattle.interleavings.specs.Connections.{Connection, opening_connection}
 use Rattle.interleavings.specs.ServingMoves.{ServingChain, served_from, opening_serving, served}
 use Rattle.interleavings.specs.WorkedRuns.{key, set, item}
@@ -24,7 +24,7 @@ use Rattle.interleavings.specs.WorkedServing.{talk_homes, talk_moves, last_moves
 use Rattle.interleavings.proofs.served.Along.{served_from-append}
 
 abbrev talked : ServingChain
-talked = served 2 talk_homes talk_moves
+talked = served done 2 talk_homes talk_moves
 
 -- the first connection then, where the get found this
 abbrev talked_with : Option Item → Connection
@@ -45,14 +45,14 @@ talked_computed = refl
 -- what comes of it then
 end_written : (l : Chain) (f : ℕ → ℕ → Connection) (k : Connection)
     → f 0 0 ≡ k
-    → ((served_from (record { chain = l; ended = λ c. 0; connections = f }) last_moves).connections 0 0).written
+    → ((served_from done (record { chain = l; ended = λ c. 0; connections = f }) last_moves).connections 0 0).written
     ≡ k.written ++ take 40 k.session.out
 unfolding last_moves with_at
 end_written l f k e = ap (λ (x : Connection). x.written ++ take 40 x.session.out) e
 
 next_written : (l : Chain) (f : ℕ → ℕ → Connection)
     → f 0 1 ≡ opening_connection
-    → ((served_from (record { chain = l; ended = λ c. 0; connections = f }) last_moves).connections 0 1).written
+    → ((served_from done (record { chain = l; ended = λ c. 0; connections = f }) last_moves).connections 0 1).written
     ≡ codes "ERROR\r\n"
 unfolding last_moves with_at line_limit
 next_written l f e = rw e refl
@@ -67,11 +67,11 @@ unfolding talk_moves with_at line_limit has union single is_below adds next_from
     trimmed left_open replies risen passed_on take_update answered_there
 next_fresh = refl
 
-in_two : served 2 talk_homes (talk_moves ++ last_moves)
-    ≡ served_from (record { chain = talked.chain; ended = λ c. 0; connections = talked.connections }) last_moves
+in_two : served done 2 talk_homes (talk_moves ++ last_moves)
+    ≡ served_from done (record { chain = talked.chain; ended = λ c. 0; connections = talked.connections }) last_moves
 in_two =
     served_from-append (opening_serving 2 talk_homes) talk_moves last_moves
-    ∙ ap (λ (e : ℕ → ℕ). served_from (record { chain = talked.chain; ended = e; connections = talked.connections })
+    ∙ ap (λ (e : ℕ → ℕ). served_from done (record { chain = talked.chain; ended = e; connections = talked.connections })
     last_moves) none_ended
 
 -- the item's text, by the digits of its flags and of its length
@@ -84,7 +84,7 @@ item_with flags size =
     ++ codes "END\r\n")
 
 -- the first client is written both answers,
-pub written_to_first : ((served 2 talk_homes (talk_moves ++ last_moves)).connections 0 0).written
+pub written_to_first : ((served done 2 talk_homes (talk_moves ++ last_moves)).connections 0 0).written
     ≡ codes "STORED\r\nVALUE a 0 1\r\np\r\nEND\r\n"
 written_to_first =
     ap (λ (s : ServingChain). (s.connections 0 0).written) in_two
@@ -94,7 +94,7 @@ written_to_first =
     ∙ ap (λ one. item_with (codes "0") one) (decimal_digit 1 (omega arith))
 
 -- and the next one its own
-pub written_to_next : ((served 2 talk_homes (talk_moves ++ last_moves)).connections 0 1).written ≡ codes "ERROR\r\n"
+pub written_to_next : ((served done 2 talk_homes (talk_moves ++ last_moves)).connections 0 1).written ≡ codes "ERROR\r\n"
 written_to_next =
     ap (λ (s : ServingChain). (s.connections 0 1).written) in_two
     ∙ next_written talked.chain talked.connections next_fresh

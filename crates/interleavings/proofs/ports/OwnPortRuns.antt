@@ -20,7 +20,7 @@ use Rattle.interleavings.proofs.relation.Following.{linearizable}
 use Rattle.interleavings.proofs.runs.Simulating.{simulates}
 
 module _ (n : ℕ) (homes : List ℕ) where
-  moves_same : (m : Move) (l g : Chain)
+  pub moves_same : (m : Move) (l g : Chain)
       → Same n homes l g
       → Same n homes (with_own_ports homes l m) (done g (named n homes m))
   moves_same (Sends c call) l g h = sends_same n homes l g h c call

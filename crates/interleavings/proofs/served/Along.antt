@@ -1,7 +1,7 @@
 -- A run of a chain that serves is a run of the chain, and what holds of seats and connections holds along it.
 use Rattle.std.proofs.Common.{◌≡◌, ℕ, zero, suc, ◌≤◌, List, [], ◌∷◌, ◌++◌, length, take, refl, arith, ap, sym, ◌∙◌}
 use Rattle.std.proofs.Common.{append_assoc, length-append}
-use Rattle.interleavings.specs.Moves.{Move, moved_from}
+use Rattle.interleavings.specs.Moves.{Move, moved_from, done}
 use Rattle.interleavings.specs.Asked.{AreAsked}
 use Rattle.interleavings.specs.ServingMoves.{ServingChain, ServingMove, served_by, served_from, opening_serving}
 use Rattle.interleavings.proofs.examples.InTwoParts.{moved_from-append}
@@ -12,9 +12,9 @@ use Rattle.interleavings.proofs.served.EachMove.{step}
 
 -- one part behind the other
 pub served_from-append : (s : ServingChain) (ms ns : List ServingMove)
-    → served_from s (ms ++ ns) ≡ served_from (served_from s ms) ns
+    → served_from done s (ms ++ ns) ≡ served_from done (served_from done s ms) ns
 served_from-append s [] ns = refl
-served_from-append s (m ∷ ms) ns = served_from-append (served_by s m) ms ns
+served_from-append s (m ∷ ms) ns = served_from-append (served_by done s m) ms ns
 
 -- before any move
 pub opening_order : (count : ℕ) (homes : List ℕ) → IsInOrder (opening_serving count homes)
@@ -32,59 +32,68 @@ opening_order count homes = record {
 -- the moves of the running chain
 pub made_along : (ms : List ServingMove) (s : ServingChain) → IsInOrder s → List Move
 made_along [] s h = []
-made_along (m ∷ ms) s h = (step s m h).moves ++ made_along ms (served_by s m) (step s m h).order
+made_along (m ∷ ms) s h = (step s m h).moves ++ made_along ms (served_by done s m) (step s m h).order
 
-pub order_along : (ms : List ServingMove) (s : ServingChain) → IsInOrder s → IsInOrder (served_from s ms)
+-- what holds at first holds after a run
+pub order_along : (ms : List ServingMove) (s : ServingChain) → IsInOrder s → IsInOrder (served_from done s ms)
 order_along [] s h = h
-order_along (m ∷ ms) s h = order_along ms (served_by s m) (step s m h).order
+order_along (m ∷ ms) s h = order_along ms (served_by done s m) (step s m h).order
 
+-- the chain is what these moves make of it
 pub chain_along : (ms : List ServingMove) (s : ServingChain) (h : IsInOrder s)
-    → (served_from s ms).chain ≡ moved_from s.chain (made_along ms s h)
+    → (served_from done s ms).chain ≡ moved_from s.chain (made_along ms s h)
 unfolding made_along
 chain_along [] s h = refl
 chain_along (m ∷ ms) s h =
     let one = step s m h in
-    let rest = made_along ms (served_by s m) one.order in
-    chain_along ms (served_by s m) one.order ∙ ap (λ l. moved_from l rest) one.chain
+    let rest = made_along ms (served_by done s m) one.order in
+    chain_along ms (served_by done s m) one.order ∙ ap (λ l. moved_from l rest) one.chain
     ∙ sym (moved_from-append s.chain one.moves rest)
 
+-- there are at most as many
 pub short_along : (ms : List ServingMove) (s : ServingChain) (h : IsInOrder s)
     → length (made_along ms s h) ≤ length ms
 unfolding made_along
 short_along [] s h = omega arith
 short_along (m ∷ ms) s h =
     let one = step s m h in
-    let n = length-append one.moves (made_along ms (served_by s m) one.order) in
+    let n = length-append one.moves (made_along ms (served_by done s m) one.order) in
     let a = one.short in
-    let b = short_along ms (served_by s m) one.order in
+    let b = short_along ms (served_by done s m) one.order in
     omega (arith, n, a, b)
 
-both_asked : (ms ns : List Move) → AreAsked ms → AreAsked ns → AreAsked (ms ++ ns)
+-- two lists of moves whose calls clients can ask
+pub both_asked : (ms ns : List Move) → AreAsked ms → AreAsked ns → AreAsked (ms ++ ns)
 both_asked [] ns a b = b
 both_asked (m ∷ ms) ns a b = (a.0, both_asked ms ns a.1 b)
 
+-- clients can ask all calls of a run
 pub asked_along : (ms : List ServingMove) (s : ServingChain) (h : IsInOrder s) → AreAsked (made_along ms s h)
 unfolding made_along
 asked_along [] s h = tt
 asked_along (m ∷ ms) s h =
     let one = step s m h in
-    both_asked one.moves (made_along ms (served_by s m) one.order) one.asked (asked_along ms (served_by s m) one.order)
+    both_asked one.moves (made_along ms (served_by done s m) one.order) one.asked
+    (asked_along ms (served_by done s m) one.order)
 
-grows_along : (ms : List ServingMove) (s : ServingChain) → IsInOrder s → Grows s (served_from s ms)
+grows_along : (ms : List ServingMove) (s : ServingChain) → IsInOrder s → Grows s (served_from done s ms)
 grows_along [] s h = grows_same s
 grows_along (m ∷ ms) s h =
     let one = step s m h in
-    grows_more s (served_by s m) (served_from (served_by s m) ms) one.grows (grows_along ms (served_by s m) one.order)
+    grows_more s (served_by done s m) (served_from done (served_by done s m) ms) one.grows
+    (grows_along ms (served_by done s m) one.order)
 
 -- ---- after some first k moves
 
+-- from there to the end it grows
 pub grows_from : (k : ℕ) (ms : List ServingMove) (s : ServingChain)
     → IsInOrder s
-    → Grows (served_from s (take k ms)) (served_from s ms)
+    → Grows (served_from done s (take k ms)) (served_from done s ms)
 grows_from zero ms s h = grows_along ms s h
 grows_from (suc k) [] s h = grows_same s
-grows_from (suc k) (m ∷ ms) s h = grows_from k ms (served_by s m) (step s m h).order
+grows_from (suc k) (m ∷ ms) s h = grows_from k ms (served_by done s m) (step s m h).order
 
+-- their moves are the first ones of the whole run
 pub first_along : (k : ℕ) (ms : List ServingMove) (s : ServingChain) (h : IsInOrder s)
     → (rest : List Move) × (made_along ms s h ≡ made_along (take k ms) s h ++ rest)
 unfolding made_along
@@ -92,8 +101,8 @@ first_along zero ms s h = (made_along ms s h, refl)
 first_along (suc k) [] s h = ([], refl)
 first_along (suc k) (m ∷ ms) s h =
     let one = step s m h in
-    let f = first_along k ms (served_by s m) one.order in (
+    let f = first_along k ms (served_by done s m) one.order in (
       f.0,
       ap (λ xs. one.moves ++ xs) f.1
-          ∙ sym (append_assoc one.moves (made_along (take k ms) (served_by s m) one.order) f.0),
+          ∙ sym (append_assoc one.moves (made_along (take k ms) (served_by done s m) one.order) f.0),
     )

@@ -1,7 +1,7 @@
 -- Each call that the bytes of a stream spell is one that clients can ask.
 use Rattle.std.proofs.Common.{◌≡◌, ℕ, zero, suc, ◌^◌, ◌<◌, ◌≤◌, Bool, true, false, cond, List, [], ◌∷◌, ◌++◌, length, take}
 use Rattle.std.proofs.Common.{drop, None, Some, refl, ap, sym, subst, ◌∙◌}
-use Rattle.std.specs.Prelude.{◌&&◌, nat_lt, IsTrue}
+use Rattle.std.specs.Prelude.{◌&&◌, nat_lt, IsTrue, slice_get}
 use Rattle.std.specs.List.{list_all, flat_map}
 use Rattle.std.specs.Char.{is_ascii_digit}
 use Rattle.std.specs.Str.Parse.{digits_value}
@@ -44,6 +44,14 @@ both_asked (call ∷ cs) ds a b = (a.0, both_asked cs ds a.1 b)
 one_asked : (cs ds : List Call) (call : Call) → AllAsked (cs ++ call ∷ ds) → IsAsked call
 one_asked [] ds call a = a.0
 one_asked (c ∷ cs) ds call a = one_asked cs ds call a.1
+
+at_place : (cs ds : List Call) (q : ℕ) (call : Call)
+    → AllAsked (cs ++ ds)
+    → slice_get cs q ≡ Some call
+    → IsAsked call
+at_place [] ds q call a e = absurd (let no : None ≡ Some call = e in cc)
+at_place (c ∷ cs) ds zero call a e = subst IsAsked (same_Some c call e) a.0
+at_place (c ∷ cs) ds (suc q) call a e = at_place cs ds q call a.1 e
 
 -- a number that was read is below its bound
 number_below : (bound : ℕ) (field : List ℕ) (n : ℕ) → number_of bound field ≡ Some n → n < bound
@@ -174,3 +182,11 @@ due_asked k t call e =
     one_asked k.calls (calls_of (to_come k.session)) call
     (subst AllAsked (calls_spelled k t ∙ ap (λ d. k.calls ++ (as_list d ++ calls_of (to_come k.session))) e)
     (stream_asked k.read))
+
+-- and each that was made
+pub made_asked : (k : Connection) (t : IsConnected k) (q : ℕ) (call : Call)
+    → slice_get k.calls q ≡ Some call
+    → IsAsked call
+made_asked k t q call e =
+    at_place k.calls (as_list k.due ++ calls_of (to_come k.session)) q call
+    (subst AllAsked (calls_spelled k t) (stream_asked k.read)) e

@@ -1,9 +1,10 @@
 -- What the chain's moves make of the calls and replies of its seats.
 use Rattle.std.proofs.Common.{◌≡◌, ℕ, Bool, true, false, cond, List, [], ◌∷◌, ◌++◌, None, Some, refl}
-use Rattle.std.proofs.Common.{ap}
+use Rattle.std.proofs.Common.{ap, sym}
 use Rattle.std.specs.Prelude.{not, ◌&&◌}
 use Rattle.std.proofs.lemmas.Option.{same_Some}
 use Rattle.table.specs.declared.items.Item.{Item}
+use Rattle.table.specs.Operations.{is_value}
 use Rattle.table.specs.declared.operations.Call.{Call}
 use Rattle.table.specs.declared.operations.Reply.{Reply}
 use Rattle.table.specs.declared.operations.Reply.TheVariants.{Value}
@@ -52,6 +53,19 @@ looks_seats l c key reply h =
     by_guard true true Dirty e = absurd (let no : None ≡ Some reply = e in cc)
     by_guard true false look e = absurd (let no : None ≡ Some reply = e in cc)
     by_guard false g look e = absurd (let no : None ≡ Some reply = e in cc)
+
+-- a look shows an item, or none
+pub look_shows_value : (l : Chain) (c : ℕ) (key : List ℕ) (reply : Reply)
+    → look_reply l c key ≡ Some reply
+    → is_value reply ≡ true
+look_shows_value l c key reply h =
+    by_guard (is_free (l.seats c) && not (l.servers (l.seats c).home).stopped)
+    (look_at (face_of (l.servers (l.seats c).home).node) key) h
+  where
+    by_guard : (g : Bool) (look : Look Item) → cond g (reply_by look) None ≡ Some reply → is_value reply ≡ true
+    by_guard true (Clean item) e = ap is_value (sym (same_Some (Value item) reply e))
+    by_guard true Dirty e = absurd (let no : None ≡ Some reply = e in cc)
+    by_guard false look e = absurd (let no : None ≡ Some reply = e in cc)
 
 -- after a reply was taken
 pub receives_seats : (l : Chain) (c : ℕ) (reply : Reply) (more : List Reply)

@@ -43,9 +43,11 @@ pub record IsConnected (k : Connection) : Type 0 where
 
 -- ---- what each move keeps
 
+-- nothing was done
 pub connected_opening : IsConnected opening_connection
 connected_opening = record { given = []; is = Opens; calls = refl; few = omega arith }
 
+-- a piece was read
 pub connected_heard : (piece : List ℕ) (k : Connection) → IsConnected k → IsConnected (heard piece k)
 connected_heard piece k t = record {
   given = t.given;
@@ -80,6 +82,7 @@ abbrev begun_if : Connection → Bool → Connection
 begun_if k b =
     cond b k (record k { session = (next_of k.session).1; due = call_of (next_of k.session).0 })
 
+-- the next turn was given
 pub connected_begun : (k : Connection) → IsConnected k → IsConnected (begun k)
 connected_begun k t = by_asked k.session.asked refl
   where
@@ -96,6 +99,7 @@ connected_begun k t = by_asked k.session.asked refl
       few = t.few;
     }
 
+-- a call was made
 pub connected_made : (call : Call) (k : Connection) → k.due ≡ Some call → IsConnected k → IsConnected (made call k)
 connected_made call k e t = record {
   given = t.given;
@@ -114,6 +118,7 @@ can_answer (Some form) reply h = by_kind (is_value reply) (shows form) h
     by_kind false true h = absurd (let no : false ≡ true = h in cc)
     by_kind false false h = refl
 
+-- it was answered
 pub connected_answered : (reply : Reply) (k : Connection)
     → waits k ≡ true
     → may_have k.session.asked reply ≡ true
@@ -152,6 +157,7 @@ wrote_all n k past =
     let u : take n out ≡ take (length out) out = take_all n out past ∙ sym (take_all (length out) out (omega arith)) in
     rw (d, u) refl)
 
+-- output was written
 pub connected_wrote : (n : ℕ) (k : Connection) → IsConnected k → IsConnected (wrote n k)
 connected_wrote n k t = elim (cases_lt (length k.session.out) n) [
   | inl past ↦ subst IsConnected (sym (wrote_all n k (omega (arith, past))))
@@ -191,6 +197,7 @@ module _ (k : Connection) (t : IsConnected k) where
       ∙ ap (λ cs. cs ++ calls_of (to_come k.session)) t.calls
       ∙ append_assoc k.calls (as_list k.due) (calls_of (to_come k.session))
 
+  -- the calls that were made are the first of them
   pub first_calls : k.calls ≡ take (length k.calls) (calls_of (turns k.read))
   first_calls =
       sym (take_front k.calls (as_list k.due ++ calls_of (to_come k.session)))

@@ -4,6 +4,7 @@ use Rattle.std.proofs.Common.{Option, None, Some, refl, arith, ap, sym, inl, inr
 use Rattle.std.specs.Prelude.{◌&&◌, is_some}
 use Rattle.std.proofs.lemmas.Bool.{cases_eq, ltb-true, lt-ltb, eqb-true}
 use Rattle.std.proofs.lemmas.Option.{same_Some}
+use Rattle.table.specs.Operations.{is_value}
 use Rattle.table.specs.declared.operations.Call.{Call}
 use Rattle.table.specs.declared.operations.Op.{Op}
 use Rattle.table.specs.declared.operations.Op.TheVariants.{Read, Set, Add, Replace, Append, Prepend, Cas, Incr, Decr}
@@ -14,7 +15,7 @@ use Rattle.table.specs.declared.operations.Reply.{Reply}
 use Rattle.node.proofs.Lists.{get_front}
 use Rattle.proto.specs.declared.texts.Form.{Form}
 use Rattle.proto.specs.Turns.{call_of}
-use Rattle.proto.specs.Sessions.{next_of}
+use Rattle.proto.specs.Sessions.{next_of, shows}
 use Rattle.proto.specs.Runs.{open_calls}
 use Rattle.interleavings.specs.Chains.{with_at}
 use Rattle.interleavings.specs.Moves.{Move, Sends, Takes, Publishes, Puts, Arrives, Replies, Receives, Looks, Stops}
@@ -28,8 +29,9 @@ use Rattle.interleavings.proofs.lists.Places.{at_same, at_other, at_self}
 use Rattle.interleavings.proofs.served.Connected.{as_list, IsConnected, connected_heard, connected_begun, connected_made}
 use Rattle.interleavings.proofs.served.Connected.{connected_answered, connected_wrote, counted, is_served}
 use Rattle.interleavings.proofs.served.AskedTurns.{due_asked}
+use Rattle.interleavings.proofs.served.Forms.{due_form}
 use Rattle.interleavings.proofs.served.InTurn.{InTurn, turn_asked, turn_peeked, turn_answered, turn_ended}
-use Rattle.interleavings.proofs.served.ChainMoves.{sends_seats, looks_seats, receives_seats, others_same}
+use Rattle.interleavings.proofs.served.ChainMoves.{sends_seats, looks_seats, receives_seats, look_shows_value, others_same}
 use Rattle.interleavings.proofs.served.Steps.{calls_at, replies_at, IsInOrder, IsStep, stays, session_step}
 use Rattle.interleavings.proofs.served.Steps.{seat_step}
 
@@ -41,12 +43,12 @@ begun_same : {X : Type 0} (view : Connection → X) (b : Bool) (k m : Connection
 begun_same view true k m e = refl
 begun_same view false k m e = e
 
-reads_step : (s : ServingChain) (c : ℕ) (piece : List ℕ) → IsInOrder s → IsStep s (served_by s (Reads c piece))
+reads_step : (s : ServingChain) (c : ℕ) (piece : List ℕ) → IsInOrder s → IsStep s (served_by done s (Reads c piece))
 reads_step s c piece h =
     session_step s c (heard piece (served_at s c)) h
     (connected_heard piece (served_at s c) (h.connected c (s.ended c))) refl refl
 
-begins_step : (s : ServingChain) (c : ℕ) → IsInOrder s → IsStep s (served_by s (Begins c))
+begins_step : (s : ServingChain) (c : ℕ) → IsInOrder s → IsStep s (served_by done s (Begins c))
 begins_step s c h =
     let k = served_at s c in
     let m = record k { session = (next_of k.session).1; due = call_of (next_of k.session).0 } in
@@ -54,13 +56,13 @@ begins_step s c h =
     (begun_same (λ (x : Connection). x.calls) (is_some k.session.asked) k m refl)
     (begun_same (λ (x : Connection). x.replies) (is_some k.session.asked) k m refl)
 
-writes_step : (s : ServingChain) (c n : ℕ) → IsInOrder s → IsStep s (served_by s (Writes c n))
+writes_step : (s : ServingChain) (c n : ℕ) → IsInOrder s → IsStep s (served_by done s (Writes c n))
 writes_step s c n h =
     session_step s c (wrote n (served_at s c)) h (connected_wrote n (served_at s c) (h.connected c (s.ended c))) refl refl
 
 -- ---- the next connection
 
-ends_step : (s : ServingChain) (c : ℕ) → IsInOrder s → IsStep s (served_by s (Ends c))
+ends_step : (s : ServingChain) (c : ℕ) → IsInOrder s → IsStep s (served_by done s (Ends c))
 ends_step s c h = record {
   moves = [];
   chain = refl;
@@ -105,7 +107,7 @@ asked_others (Looks c key) e = absurd (let no : true ≡ false = e in cc)
 asked_others (Stops i) e = tt
 asked_others (Notices i j) e = tt
 
-runs_step : (s : ServingChain) (m : Move) → IsInOrder s → IsStep s (served_by s (Runs m))
+runs_step : (s : ServingChain) (m : Move) → IsInOrder s → IsStep s (served_by done s (Runs m))
 runs_step s m h = by_seat (is_of_seat m) refl
   where
     by_seat : (b : Bool) → is_of_seat m ≡ b → IsStep s (cond b s (record s { chain = done s.chain m }))
@@ -141,7 +143,7 @@ even k call t e =
     let f = t.few in
     omega (arith, n, o, f)
 
-asks_step : (s : ServingChain) (c : ℕ) → IsInOrder s → IsStep s (served_by s (Asks c))
+asks_step : (s : ServingChain) (c : ℕ) → IsInOrder s → IsStep s (served_by done s (Asks c))
 asks_step s c h = by_due (served_at s c).due refl
   where
     t : IsConnected (served_at s c)
@@ -150,7 +152,7 @@ asks_step s c h = by_due (served_at s c).due refl
     by_free : (call : Call) (b : Bool)
         → (served_at s c).due ≡ Some call
         → is_free (s.chain.seats c) ≡ b
-        → IsStep s (cond b (with_move s (Sends c call) c (made call (served_at s c))) s)
+        → IsStep s (cond b (with_move done s (Sends c call) c (made call (served_at s c))) s)
     by_free call false e free = stays s h
     by_free call true e free =
         let seat = s.chain.seats c in
@@ -164,7 +166,7 @@ asks_step s c h = by_due (served_at s c).due refl
         (turn_asked seat.calls seat.got (calls_at s c) (replies_at s c) (s.ended c) (h.seats c) call
         (eqb-true (length seat.calls) (length seat.got) free) (even (served_at s c) call t e)))
 
-    by_due : (due : Option Call) → (served_at s c).due ≡ due → IsStep s (asking s c due)
+    by_due : (due : Option Call) → (served_at s c).due ≡ due → IsStep s (asking done s c due)
     by_due None e = stays s h
     by_due (Some call) e = by_free call (is_free (s.chain.seats c)) e refl
 
@@ -189,45 +191,46 @@ due_read : (due : Option Call) (key : List ℕ) → key_due due ≡ Some key →
 due_read None key e = absurd (let no : None ≡ Some key = e in cc)
 due_read (Some call) key e = ap (λ x. Some x) (key_is call.target call.op key e)
 
-peeks_step : (s : ServingChain) (c : ℕ) → IsInOrder s → IsStep s (served_by s (Peeks c))
+-- an item, or none, can be the answer to a read
+shown_may : (asked : Option Form) (form : Form) (reply : Reply)
+    → asked ≡ Some form
+    → shows form ≡ true
+    → is_value reply ≡ true
+    → may_have asked reply ≡ true
+shown_may asked form reply e s v = rw (e, s, v) refl
+
+peeks_step : (s : ServingChain) (c : ℕ) → IsInOrder s → IsStep s (served_by done s (Peeks c))
 peeks_step s c h = by_key (key_due (served_at s c).due) refl
   where
     t : IsConnected (served_at s c)
     t = h.connected c (s.ended c)
 
-    by_may : (key : List ℕ) (reply : Reply) (b : Bool)
+    by_reply : (key : List ℕ) (o : Option Reply)
         → (served_at s c).due ≡ Some (read_of key)
-        → look_reply s.chain c key ≡ Some reply
-        → may_have (served_at s c).session.asked reply ≡ b
-        → IsStep s
-        (cond b (with_move s (Looks c key) c (answered reply (made (read_of key) (served_at s c)))) s)
-    by_may key reply false e r may = stays s h
-    by_may key reply true e r may =
+        → look_reply s.chain c key ≡ o
+        → IsStep s (peeked done s c key o)
+    by_reply key None e r = stays s h
+    by_reply key (Some reply) e r =
         let seat = s.chain.seats c in
         let k = made (read_of key) (served_at s c) in
         let l = looks_seats s.chain c key reply r in
         let same = even (served_at s c) (read_of key) t e in
         let n = length-append (served_at s c).calls (read_of key ∷ []) in
+        let f = due_form (served_at s c) t (read_of key) e in
         seat_step s c (answered reply k) (Looks c key)
         (record seat { calls = seat.calls ++ read_of key ∷ []; got = seat.got ++ reply ∷ [] }) h
-        (connected_answered reply k (lt-ltb (length k.replies) (length k.calls) (omega (arith, n, same))) may
+        (connected_answered reply k (lt-ltb (length k.replies) (length k.calls) (omega (arith, n, same)))
+        (shown_may (served_at s c).session.asked f.0 reply f.1 f.2 (look_shows_value s.chain c key reply r))
         (connected_made (read_of key) (served_at s c) e t)) (due_asked (served_at s c) t (read_of key) e) l.1
         (λ q other g. get_front (served_at s c).calls (read_of key ∷ []) q other g)
         (turn_peeked seat.calls seat.got (calls_at s c) (replies_at s c) (s.ended c) (h.seats c) (read_of key) reply
         (eqb-true (length seat.calls) (length seat.got) l.0) same)
 
-    by_reply : (key : List ℕ) (o : Option Reply)
-        → (served_at s c).due ≡ Some (read_of key)
-        → look_reply s.chain c key ≡ o
-        → IsStep s (peeked s c key o)
-    by_reply key None e r = stays s h
-    by_reply key (Some reply) e r = by_may key reply (may_have (served_at s c).session.asked reply) e r refl
-
-    by_key : (o : Option (List ℕ)) → key_due (served_at s c).due ≡ o → IsStep s (peeking s c o)
+    by_key : (o : Option (List ℕ)) → key_due (served_at s c).due ≡ o → IsStep s (peeking done s c o)
     by_key None e = stays s h
     by_key (Some key) e = by_reply key (look_reply s.chain c key) (due_read (served_at s c).due key e) refl
 
-answers_step : (s : ServingChain) (c : ℕ) → IsInOrder s → IsStep s (served_by s (Answers c))
+answers_step : (s : ServingChain) (c : ℕ) → IsInOrder s → IsStep s (served_by done s (Answers c))
 answers_step s c h = by_mail (s.chain.seats c).mail refl
   where
     t : IsConnected (served_at s c)
@@ -237,7 +240,7 @@ answers_step s c h = by_mail (s.chain.seats c).mail refl
         → (s.chain.seats c).mail ≡ reply ∷ more
         → waits (served_at s c) ≡ a
         → may_have (served_at s c).session.asked reply ≡ b
-        → IsStep s (cond (a && b) (with_move s (Receives c) c (answered reply (served_at s c))) s)
+        → IsStep s (cond (a && b) (with_move done s (Receives c) c (answered reply (served_at s c))) s)
     by_guard reply more false b e w may = stays s h
     by_guard reply more true false e w may = stays s h
     by_guard reply more true true e w may =
@@ -251,13 +254,13 @@ answers_step s c h = by_mail (s.chain.seats c).mail refl
         (turn_answered seat.calls seat.got (calls_at s c) (replies_at s c) (s.ended c) (h.seats c) reply
         (ltb-true (length k.replies) (length k.calls) w) (is_served k t).one_open))
 
-    by_mail : (mail : List Reply) → (s.chain.seats c).mail ≡ mail → IsStep s (answering s c mail)
+    by_mail : (mail : List Reply) → (s.chain.seats c).mail ≡ mail → IsStep s (answering done s c mail)
     by_mail [] e = stays s h
     by_mail (reply ∷ more) e =
         by_guard reply more (waits (served_at s c)) (may_have (served_at s c).session.asked reply) e refl refl
 
 -- each move
-pub step : (s : ServingChain) (m : ServingMove) → IsInOrder s → IsStep s (served_by s m)
+pub step : (s : ServingChain) (m : ServingMove) → IsInOrder s → IsStep s (served_by done s m)
 step s (Reads c piece) h = reads_step s c piece h
 step s (Begins c) h = begins_step s c h
 step s (Asks c) h = asks_step s c h

@@ -1,8 +1,9 @@
 -- An open call is answered in the form of its operation: an item, or none, exactly if it is a read.
-use Rattle.std.proofs.Common.{◌≡◌, ℕ, zero, suc, ◌+◌, ◌<◌, ◌≤◌, Bool, true, false, cond, List, [], ◌∷◌, ◌++◌, length, take}
+use Rattle.std.proofs.Common.{◌≡◌, ℕ, zero, suc, ◌+◌, ◌<◌, Bool, true, false, cond, List, [], ◌∷◌, ◌++◌, length, take}
 use Rattle.std.proofs.Common.{drop, Option, None, Some, refl, arith, ap, sym, ◌∙◌, subst, append-nil, length-append}
 use Rattle.std.specs.Prelude.{not, slice_get}
 use Rattle.std.specs.List.{flat_map}
+use Rattle.std.proofs.lemmas.Option.{same_Some}
 use Rattle.table.specs.Operations.{is_update}
 use Rattle.table.specs.declared.operations.Call.{Call}
 use Rattle.table.specs.declared.operations.Op.TheVariants.{Read, Set, Add, Replace, Append, Prepend, Cas, Incr, Decr}
@@ -19,8 +20,8 @@ use Rattle.proto.specs.Grammar.{Spells}
 use Rattle.proto.specs.Fronts.{Front, front, is_last}
 use Rattle.proto.specs.Turns.{Turn, Faulty, Calls, calls_of, looks, turns_of, form_of}
 use Rattle.proto.specs.Sessions.{Held, Given, Writes, fed, next_of, answered_by, shows}
-use Rattle.proto.specs.Streams.{and_later, requests_upto, turns, to_come}
-use Rattle.proto.specs.Runs.{Action, Feed, Next, Answer, Take, Run, IsRun, Opens, Acts, acted, turn_given, open_calls}
+use Rattle.proto.specs.Streams.{and_later, requests_upto, to_come}
+use Rattle.proto.specs.Runs.{Feed, Next, Answer, Take, Run, IsRun, Opens, Acts, turn_given, open_calls}
 use Rattle.proto.proofs.GrammarLaws.{found_is_spelled}
 use Rattle.proto.proofs.RunLaws.{any_cutting}
 use Rattle.proto.proofs.WriteLaws.{calls_of_more, next_writes}
@@ -101,6 +102,7 @@ upto_fit (suc k) bytes = by_front (front bytes) refl (λ n. upto_fit k (drop n b
         → FitForms (flat_map turns_of (cond b [] later))
     unless_last true later a = tt
     unless_last false later a = a
+
     by_front : (f : Front)
         → front bytes ≡ f
         → ((n : ℕ) → FitForms (flat_map turns_of (requests_upto k (drop n bytes))))
@@ -149,6 +151,14 @@ last_turn run (Acts earlier (Answer reply) is allowed) =
     answered_last earlier.held earlier.held.asked reply earlier.given refl
 last_turn run (Acts earlier (Take n) is allowed) = last_turn earlier is
 
+given_fit : (k : Connection) (t : IsConnected k) (before : List Turn) (call : Call) (form : Form)
+    → t.given ≡ before ++ Calls call form ∷ []
+    → FitForms (before ++ Calls call form ∷ [])
+given_fit k t before call form e =
+    subst FitForms e
+    (first_fit t.given (to_come k.session)
+    (subst FitForms (sym (any_cutting (run_with k t.given) t.is)) (upto_fit (length k.read) k.read)))
+
 -- The call that a connection waits for is the last that it made, and the form of its answer is its operation's.
 pub record IsWaiting (k : Connection) : Type 0 where
   pub form : Form
@@ -157,6 +167,7 @@ pub record IsWaiting (k : Connection) : Type 0 where
   pub made : slice_get k.calls (length k.replies) ≡ Some call
   pub fits : shows form ≡ not (is_update call.op)
 
+-- so it is, if a call was made and has no reply
 pub waiting : (k : Connection) → IsConnected k → length k.replies < length k.calls → IsWaiting k
 waiting k t less = by_asked k.session.asked refl
   where
@@ -187,16 +198,51 @@ waiting k t less = by_asked k.session.asked refl
           asked = e;
           made =
               ap (λ cs. slice_get cs (length k.replies)) calls
-                  ∙ ap (slice_get (calls_of l.0 ++ l.1 ∷ [])) there
-                  ∙ get_last (calls_of l.0) l.1;
-          fits = last_fits l.0 l.1 form
-              (subst FitForms l.2
-              (first_fit t.given (to_come k.session)
-              (subst FitForms (sym (any_cutting (run_with k t.given) t.is)) (upto_fit (length k.read) k.read))));
+              ∙ ap (slice_get (calls_of l.0 ++ l.1 ∷ [])) there
+              ∙ get_last (calls_of l.0) l.1;
+          fits = last_fits l.0 l.1 form (given_fit k t l.0 l.1 form l.2);
         }
+
     by_asked : (asked : Option Form) → k.session.asked ≡ asked → IsWaiting k
     by_asked None e =
         let n : length k.replies + 0 ≡ length k.calls + length (as_list k.due) =
         subst (λ a. length k.replies + open_calls a ≡ length k.calls + length (as_list k.due)) e (counted k t) in
         absurd (omega (arith, n, less))
     by_asked (Some form) e = by_due form k.due e refl
+
+last_same : {X : Type 0} (xs ys : List X) (x y : X) → xs ++ x ∷ [] ≡ ys ++ y ∷ [] → x ≡ y
+last_same xs ys x y e =
+    let n = length-append xs (x ∷ []) in
+    let m = length-append ys (y ∷ []) in
+    let s = ap length e in
+    let l : length xs ≡ length ys = omega (arith, n, m, s) in
+    same_Some x y
+    (sym (get_last xs x) ∙ ap (λ zs. slice_get zs (length xs)) e ∙ ap (slice_get (ys ++ y ∷ [])) l ∙ get_last ys y)
+
+-- The form of a call that is to be made is its operation's.
+pub due_form : (k : Connection) (t : IsConnected k) (call : Call)
+    → k.due ≡ Some call
+    → (form : Form) × (k.session.asked ≡ Some form) × (shows form ≡ not (is_update call.op))
+due_form k t call d = by_asked k.session.asked refl
+  where
+    by_asked : (asked : Option Form)
+        → k.session.asked ≡ asked
+        → (form : Form) × (k.session.asked ≡ Some form) × (shows form ≡ not (is_update call.op))
+    by_asked None e =
+        let n : length k.replies + open_calls k.session.asked ≡ length k.calls + 1 =
+        subst (λ x. length k.replies + open_calls k.session.asked ≡ length k.calls + length (as_list x)) d (counted k t)
+        in
+        let m : length k.replies + 0 ≡ length k.calls + 1 =
+        subst (λ a. length k.replies + open_calls a ≡ length k.calls + 1) e n in
+        let f = t.few in
+        absurd (omega (arith, m, f))
+    by_asked (Some form) e =
+        let l : IsLastTurn (Some form) t.given =
+        subst (λ a. IsLastTurn a t.given) e (last_turn (run_with k t.given) t.is) in
+        let calls : k.calls ++ call ∷ [] ≡ calls_of l.0 ++ l.1 ∷ [] =
+        sym (t.calls ∙ ap (λ x. k.calls ++ as_list x) d) ∙ ap calls_of l.2 ∙ calls_of_more l.0 (Calls l.1 form ∷ []) in (
+          form,
+          e,
+          last_fits l.0 l.1 form (given_fit k t l.0 l.1 form l.2)
+              ∙ ap (λ (c : Call). not (is_update c.op)) (sym (last_same k.calls (calls_of l.0) call l.1 calls)),
+        )

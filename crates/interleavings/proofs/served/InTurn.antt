@@ -13,11 +13,13 @@ use Rattle.interleavings.proofs.lists.Places.{at_same, at_other, at_self}
 
 -- ---- two lists, one behind the other
 
+-- a place in the first
 pub get_before : {X : Type 0} (xs ys : List X) (p : ℕ) → p < length xs → slice_get (xs ++ ys) p ≡ slice_get xs p
 get_before [] ys p h = absurd (omega (arith, h))
 get_before (x ∷ xs) ys zero h = refl
 get_before (x ∷ xs) ys (suc p) h = get_before xs ys p (omega (arith, h))
 
+-- a place in the second
 pub get_behind : {X : Type 0} (xs ys : List X) (q : ℕ) → slice_get (xs ++ ys) (length xs + q) ≡ slice_get ys q
 get_behind [] ys q = let e : 0 + q ≡ q = omega arith in ap (slice_get ys) e
 get_behind (x ∷ xs) ys q =
@@ -35,6 +37,7 @@ upto cs (suc n) = upto cs n ++ cs n
 abbrev pub start : (ℕ → List Call) → ℕ → ℕ
 start cs n = length (upto cs n)
 
+-- the same calls of each connection are the same calls
 pub upto_same : (cs ds : ℕ → List Call) (n : ℕ) → ((i : ℕ) → i < n → cs i ≡ ds i) → upto cs n ≡ upto ds n
 unfolding upto
 upto_same cs ds zero same = refl
@@ -42,10 +45,12 @@ upto_same cs ds (suc n) same =
     ap (λ xs. xs ++ cs n) (upto_same cs ds n (λ i l. same i (omega (arith, l))))
     ∙ ap (λ xs. upto ds n ++ xs) (same n (omega arith))
 
-start_next : (cs : ℕ → List Call) (n : ℕ) → start cs (suc n) ≡ start cs n + length (cs n)
+-- those of one connection more
+pub start_next : (cs : ℕ → List Call) (n : ℕ) → start cs (suc n) ≡ start cs n + length (cs n)
 unfolding upto
 start_next cs n = length-append (upto cs n) (cs n)
 
+-- a connection's calls come before those of a later one
 pub starts_before : (cs : ℕ → List Call) (n m : ℕ) → n < m → start cs n + length (cs n) ≤ start cs m
 unfolding upto
 starts_before cs n zero l = absurd (omega (arith, l))
@@ -58,6 +63,7 @@ starts_before cs n (suc m) l = elim (cases_eq n m) [
       omega (arith, e, s)
 ]
 
+-- a call stands behind those of the connections before
 pub found_there : (cs : ℕ → List Call) (m n q : ℕ)
     → n < m
     → q < length (cs n)
@@ -85,6 +91,7 @@ pub record IsOwner (cs : ℕ → List Call) (m p : ℕ) (x : ℕ × ℕ) : Type 
   pub inside : x.1 < length (cs x.0)
   pub place : start cs x.0 + x.1 ≡ p
 
+-- so it is, for a place that there is
 pub owner_is : (cs : ℕ → List Call) (m p : ℕ) → p < start cs m → IsOwner cs m p (owner cs m p)
 unfolding upto owner
 owner_is cs zero p h = absurd (omega (arith, h))
@@ -102,6 +109,7 @@ owner_is cs (suc m) p h = by_test (nat_lt p (start cs m)) refl (λ l. owner_is c
         let past : start cs m ≤ p = ltb-false p (start cs m) e in
         record { below = omega arith; inside = omega (arith, n, past, h); place = omega (arith, past) }
 
+-- the place of a call is the call's
 pub owner_found : (cs : ℕ → List Call) (m n q : ℕ)
     → n < m
     → q < length (cs n)
@@ -135,6 +143,7 @@ pub record InTurn (calls : List Call) (got : List Reply) (cs : ℕ → List Call
   pub placed : (n q : ℕ) → q < length (cs n) → slice_get (rs n) q ≡ slice_get got (start cs n + q)
   pub open_one : length (rs e) < length (cs e) → length calls ≡ suc (length got)
 
+-- what a connection makes changes nothing of those before it
 pub start_at : (cs : ℕ → List Call) (e : ℕ) (x : List Call) (n : ℕ)
     → n ≤ e
     → upto (with_at cs e x) n ≡ upto cs n

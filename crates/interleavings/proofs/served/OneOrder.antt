@@ -10,7 +10,7 @@ use Rattle.table.specs.declared.operations.Reply.{Reply}
 use Rattle.world.specs.Orders.{Entry, StandsAt}
 use Rattle.world.proofs.lists.Standing.{some_of}
 use Rattle.world.proofs.order.Since.{is_some}
-use Rattle.interleavings.specs.Moves.{Move, moved}
+use Rattle.interleavings.specs.Moves.{Move, moved, done}
 use Rattle.interleavings.specs.Orders.{begun_call, reply_to, Precedes, IsLinearization}
 use Rattle.interleavings.specs.Asked.{AreAsked}
 use Rattle.interleavings.specs.Quiet.{goes_on, IsQuiet}
@@ -39,7 +39,9 @@ same_history s [] = refl
 same_history s (e ∷ es) = ap (λ xs. (e.call, e.reply) ∷ xs) (same_history s es)
 
 -- what stands in a list whose elements were changed
-mapped : {X Y : Type 0} (f : X → Y) (o : Option X) (y : Y) → option_map f o ≡ Some y → (x : X) × (o ≡ Some x) × (f x ≡ y)
+mapped : {X Y : Type 0} (f : X → Y) (o : Option X) (y : Y)
+    → option_map f o ≡ Some y
+    → (x : X) × (o ≡ Some x) × (f x ≡ y)
 mapped f None y e = absurd (let no : None ≡ Some y = e in cc)
 mapped f (Some x) y e = (x, refl, same_Some (f x) y e)
 
@@ -52,15 +54,15 @@ module _ (count : ℕ) (homes : List ℕ) (moves : List ServingMove) where
   first = opening_serving count homes
 
   abbrev last : ServingChain
-  last = served count homes moves
+  last = served done count homes moves
 
   ordered : IsInOrder last
   ordered = order_along moves (opening_serving count homes) (opening_order count homes)
 
   -- each connection got what its bytes ask for
-  pub each_is_served : (c n : ℕ) → IsServed ((served count homes moves).connections c n)
+  pub each_is_served : (c n : ℕ) → IsServed ((served done count homes moves).connections c n)
   each_is_served c n =
-      is_served ((served count homes moves).connections c n)
+      is_served ((served done count homes moves).connections c n)
       ((order_along moves (opening_serving count homes) (opening_order count homes)).connected c n)
 
   abbrev run : List Move
@@ -71,7 +73,7 @@ module _ (count : ℕ) (homes : List ℕ) (moves : List ServingMove) where
 
   -- after the first k moves
   abbrev front : ℕ → ServingChain
-  front k = served count homes (take k moves)
+  front k = served done count homes (take k moves)
 
   front_ordered : (k : ℕ) → IsInOrder (front k)
   front_ordered k = order_along (take k moves) (opening_serving count homes) (opening_order count homes)
@@ -99,7 +101,9 @@ module _ (count : ℕ) (homes : List ℕ) (moves : List ServingMove) where
       its_name : name_of last entry.id ≡ x
       begun : begun_call last.chain entry.id ≡ Some entry.call
 
-    entry_at : (i : ℕ) (e : ServedEntry) → slice_get order i ≡ Some e → (x : Entry) × (slice_get h i ≡ Some x) × (named last x ≡ e)
+    entry_at : (i : ℕ) (e : ServedEntry)
+        → slice_get order i ≡ Some e
+        → (x : Entry) × (slice_get h i ≡ Some x) × (named last x ≡ e)
     entry_at i e at = mapped (named last) (slice_get h i) e (sym (slice_get-map (named last) h i) ∙ at)
 
     begun_last : (i : ℕ) (x : Entry) → slice_get h i ≡ Some x → begun_call last.chain x.id ≡ Some x.call
@@ -174,7 +178,7 @@ module _ (count : ℕ) (homes : List ℕ) (moves : List ServingMove) where
             absurd cc
 
     in_time_there : (x y : CallName) (j : ℕ)
-        → ComesBefore count homes moves x y
+        → ComesBefore done count homes moves x y
         → StandsThere order j y
         → (i : ℕ) × (i < j) × StandsThere order i x
     in_time_there x y j p s =
@@ -185,7 +189,8 @@ module _ (count : ℕ) (homes : List ℕ) (moves : List ServingMove) where
         (record { entry = e.entry; here = e.here; same = refl }) in
         (t.0, t.1, named_so t.0 x m.0 ((front_grows p.k).calls x.seat x.number x.place m.0 m.1) t.2)
 
-    pub is_one_order : IsOneOrder count homes moves (map (named (served count homes moves)) h)
+    -- so it is an order of all connections' calls
+    pub is_one_order : IsOneOrder done count homes moves (map (named (served done count homes moves)) h)
     is_one_order = record {
       legal = subst IsLegal (same_history last h) lin.legal;
       made = λ i e at.
@@ -202,7 +207,7 @@ module _ (count : ℕ) (homes : List ℕ) (moves : List ServingMove) where
     }
 
   -- so there is one,
-  pub one_order : count ≤ 16 → (h : List ServedEntry) × IsOneOrder count homes moves h
+  pub one_order : count ≤ 16 → (h : List ServedEntry) × IsOneOrder done count homes moves h
   one_order few =
       let o = linearizable count homes (simulates count homes few) run few
       (asked_along moves (opening_serving count homes) (opening_order count homes)) in
@@ -211,8 +216,8 @@ module _ (count : ℕ) (homes : List ℕ) (moves : List ServingMove) where
   -- and no call is unanswered in a quiet chain
   pub none_unanswered : count ≤ 16
       → length moves < 2 ^ 62
-      → IsQuiet (served count homes moves).chain
-      → NoneUnanswered (served count homes moves)
+      → IsQuiet (served done count homes moves).chain
+      → NoneUnanswered (served done count homes moves)
   none_unanswered few short quiet x on made =
       let m = some_of (call_made last x) made in
       let n = short_along moves (opening_serving count homes) (opening_order count homes) in
@@ -230,8 +235,8 @@ module _ (count : ℕ) (homes : List ℕ) (moves : List ServingMove) where
   -- so a connection at which nothing is left to do has all
   pub all_have_all : count ≤ 16
       → length moves < 2 ^ 62
-      → IsQuiet (served count homes moves).chain
-      → AllHaveAll (served count homes moves)
+      → IsQuiet (served done count homes moves).chain
+      → AllHaveAll (served done count homes moves)
   all_have_all few short quiet c n on rested =
       has_all (last.connections c n) (ordered.connected c n)
       (λ made. none_unanswered few short quiet (name c n) on made) rested
@@ -240,5 +245,5 @@ module _ (count : ℕ) (homes : List ℕ) (moves : List ServingMove) where
       name a b = record { seat = a; number = b; place = length (last.connections a b).replies }
 
   -- and its servers make a run of moves
-  pub is_run : (ms : List Move) × AreAsked ms × ((served count homes moves).chain ≡ moved count homes ms)
+  pub is_run : (ms : List Move) × AreAsked ms × ((served done count homes moves).chain ≡ moved count homes ms)
   is_run = (run, asked_along moves (opening_serving count homes) (opening_order count homes), same_chain)

@@ -19,10 +19,11 @@ use Rattle.interleavings.proofs.served.Connected.{IsConnected}
 use Rattle.interleavings.proofs.served.InTurn.{InTurn}
 use Rattle.interleavings.proofs.served.ChainMoves.{SameCalls}
 
--- the calls, and the replies, of a seat's connections
+-- the calls of a seat's connections
 abbrev pub calls_at : ServingChain → ℕ → ℕ → List Call
 calls_at s c n = (s.connections c n).calls
 
+-- and their replies
 abbrev pub replies_at : ServingChain → ℕ → ℕ → List Reply
 replies_at s c n = (s.connections c n).replies
 
@@ -40,6 +41,7 @@ pub record Grows (s t : ServingChain) : Type 0 where
       → slice_get (calls_at s c n) q ≡ Some call
       → slice_get (calls_at t c n) q ≡ Some call
 
+-- what stays grows by nothing
 pub grows_same : (s : ServingChain) → Grows s s
 grows_same s = record {
   ended = λ c. omega arith;
@@ -47,6 +49,7 @@ grows_same s = record {
   calls = λ c n q call h. h;
 }
 
+-- one after the other
 pub grows_more : (s t u : ServingChain) → Grows s t → Grows t u → Grows s u
 grows_more s t u g h = record {
   ended = λ c. let a = g.ended c in let b = h.ended c in omega (arith, a, b);

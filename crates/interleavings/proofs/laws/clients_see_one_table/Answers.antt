@@ -1,4 +1,5 @@
 use Rattle.interleavings.proofs.served.OneOrder.{is_run, one_order, each_is_served, none_unanswered, all_have_all}
+use Rattle.interleavings.proofs.served.Kinds.{first_fits}
 use Rattle.interleavings.proofs.laws.clients_see_one_table.Goals as goal
 
 pub returns-clause-run : goal.returns-clause-run
@@ -15,3 +16,7 @@ returns-clause-answered c count homes moves few short quiet = none_unanswered co
 
 pub returns-clause-all : goal.returns-clause-all
 returns-clause-all c count homes moves few short quiet = all_have_all count homes moves few short quiet
+
+pub returns-clause-kinds : goal.returns-clause-kinds
+returns-clause-kinds c count homes moves a reply more few mail wait =
+    first_fits count homes moves few a reply more mail wait
