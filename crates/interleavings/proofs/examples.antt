@@ -6,6 +6,8 @@ pub mod AskedCalls
 pub mod MissedSet
 pub mod Answered
 pub mod WithoutRules
+pub mod QuietPairs
 pub mod QuietRuns
+pub mod QuietLoss
 pub mod CutInput
 pub mod OldReplies

@@ -1,6 +1,6 @@
 use Rattle.interleavings.proofs.examples.WithoutRules.{lossy_begun, lossy_forgotten, lossy_first, lossy_second}
 use Rattle.interleavings.proofs.examples.WithoutRules.{lossy_down, lossy_back, lossy_mail, lossy_head, lossy_tail}
-use Rattle.interleavings.proofs.examples.QuietRuns.{lossy_quiet}
+use Rattle.interleavings.proofs.examples.QuietLoss.{lossy_quiet}
 use Rattle.interleavings.proofs.worked.lossy_wire_forgets_a_call.Goals as goal
 
 pub returns-clause-begun : goal.returns-clause-begun
