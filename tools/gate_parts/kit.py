@@ -1,5 +1,5 @@
 """The kit's own command `rt`, loaded as a module: `rt` and, below it, `rtlib`. Whoever imports this makes use of the
-inside of one version of the kit, which KNOWN names; `is_known` says whether the kit that stands here is that one."""
+inside of a few versions of the kit, which KNOWN names; `is_known` says whether the kit that stands here is one of them."""
 import hashlib
 import importlib.machinery
 import importlib.util
@@ -9,11 +9,18 @@ import sys
 
 sys.dont_write_bytecode = True
 
-# The kit's identity, and the sums of the scripts whose inside is used.
+# Each kit's identity, and the sums of the scripts whose inside is used.
 KNOWN = (
-    "rattle-kit-13f logic dac8208d650f15bf",
-    "80bcb2d5aef7205688dd85a279ba826502bb88dcc037e860a256d3963c92d37f",
-    "4a12f3c5badcbef95b02ce10e5a270c6bfa7318c8bbf46eea97d0f86c02889dd",
+    (
+        "rattle-kit-13b logic dac8208d650f15bf",
+        "a29960395884d54b18725ad44ad89e0f82549f67150763bf576db274e11439c6",
+        "4a12f3c5badcbef95b02ce10e5a270c6bfa7318c8bbf46eea97d0f86c02889dd",
+    ),
+    (
+        "rattle-kit-13f logic dac8208d650f15bf",
+        "80bcb2d5aef7205688dd85a279ba826502bb88dcc037e860a256d3963c92d37f",
+        "4a12f3c5badcbef95b02ce10e5a270c6bfa7318c8bbf46eea97d0f86c02889dd",
+    ),
 )
 
 
@@ -29,7 +36,7 @@ def sum_of(file):
 
 
 def identity():
-    """What KNOWN has to be for the kit that stands here, or None if there is none."""
+    """What KNOWN has to name for the kit that stands here, or None if there is none."""
     if RT is None:
         return None
     folder = os.path.dirname(RT)
@@ -41,7 +48,7 @@ def identity():
 
 
 def is_known():
-    return identity() == KNOWN
+    return identity() in KNOWN
 
 
 def load():
