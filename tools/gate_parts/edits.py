@@ -34,8 +34,9 @@ NO_OPS = 3
 
 def tried_alone(crate, edit, flags, folder=None):
     """The kit's own verdict on an edit: (whether it is refused, what to say); from nothing, if no folder is given."""
-    kind, text = rt.must_fail(crate, edit, flags, folder)
-    return kind in (rt.REFUSED, rt.AT_LIMIT), text
+    verdict, text = rt.must_fail(crate, edit, flags, folder)
+    # rattle-kit-13b says it itself; later ones say how it was refused
+    return verdict is True or verdict in (getattr(rt, "REFUSED", True), getattr(rt, "AT_LIMIT", True)), text
 
 
 class Trial:

@@ -1,9 +1,9 @@
 """What a check of a crate left for its edits: each check of edits gets a folder of its own, as that check left it."""
 import collections
+import json
 import os
 import re
 import shutil
-import signal
 import tempfile
 
 from kit import rt
@@ -25,17 +25,48 @@ class Kept:
     """The folder that a check with `--incremental` filled, and which names it proved."""
 
     def __init__(self, folder, said):
-        self.folder, self.proved, self.files = folder, proved_in(said), rt.listing(folder)
+        self.folder, self.proved, self.files = folder, proved_in(said), listing(folder)
 
     def opened(self):
-        """A new folder, to be removed by its owner, that `--incremental` takes. Its large files are links: a check
-        replaces such a file and never writes into it, and `is_untouched` looks."""
+        """A new folder, to be removed by its owner, that `--incremental` takes."""
         made = tempfile.TemporaryDirectory(prefix="gate-kept-")
-        rt.linked(self.folder, f"{made.name}/kept")
+        copied(self.folder, f"{made.name}/kept")
         return Opened(made, f"{made.name}/kept")
 
     def is_untouched(self):
-        return rt.listing(self.folder) == self.files
+        return listing(self.folder) == self.files
+
+    def remove(self):
+        shutil.rmtree(os.path.dirname(self.folder), ignore_errors=True)
+
+
+class KeptArchive:
+    """What `rattle check -o` wrote into the folder `checked` of `room`; `build` is the build of rattle that wrote it."""
+
+    def __init__(self, room, build, said):
+        self.room, self.build, self.proved = room, build, proved_in(said)
+
+    def opened(self):
+        """A new folder, to be removed by its owner, that `--incremental` takes."""
+        made = tempfile.TemporaryDirectory(prefix="gate-kept-")
+        folder = f"{made.name}/{self.build}"
+        kept = f"{self.room.name}/checked/toolchain/checked"
+        with open(f"{kept}.a", "rb") as whole, open(f"{kept}.json", encoding="utf-8") as names:
+            for line in names:
+                name, start, size = json.loads(line)[:3]
+                path = f"{folder}/{name}.oantt"
+                os.makedirs(os.path.dirname(path), exist_ok=True)
+                whole.seek(start)
+                with open(path, "wb") as it:
+                    it.write(whole.read(size))
+        return Opened(made, made.name)
+
+    def is_untouched(self):
+        """Each check gets a copy."""
+        return True
+
+    def remove(self):
+        self.room.cleanup()
 
 
 class Opened:
@@ -51,19 +82,17 @@ class Opened:
         self.made.cleanup()
 
 
-def seeded(crate, flags):
-    """What a check of the crate from nothing leaves for its edits, or None if that check fails. The folder goes with the
-    run, or by `removed`."""
-    room = tempfile.mkdtemp(prefix=f"rt-edits-{os.getpid()}-")
-    rt.SEEDS.append(room)
-    os.mkdir(f"{room}/seed")
-    for words in (flags, ["--jobs", "1"]):
-        ran = rt.checked(crate, {}, words, f"{room}/seed")
-        # most likely for memory: once more, with one process
-        if ran.returncode != -signal.SIGKILL:
-            break
-    return Kept(f"{room}/seed", ran.stdout) if ran.returncode == 0 else None
+def copied(folder, to):
+    """Copies a folder; the kit's later versions link its large files, which a check replaces and never writes into."""
+    if hasattr(rt, "linked"):
+        rt.linked(folder, to)
+    else:
+        shutil.copytree(folder, to)
 
 
-def removed(kept):
-    shutil.rmtree(os.path.dirname(kept.folder), ignore_errors=True)
+def listing(folder):
+    """What stands in a folder, so that a change of it is seen."""
+    if hasattr(rt, "listing"):
+        return rt.listing(folder)
+    found = ((it, os.stat(it)) for at, _, names in os.walk(folder) for it in (f"{at}/{name}" for name in names))
+    return sorted((name, it.st_size, it.st_mtime_ns) for name, it in found)

@@ -6,8 +6,8 @@ edits, on the kit and on the gate's own scripts, and on nothing else: a sum over
 with another sum is tried. In each run one crate that could be taken from the record is tried all the same, in turn; if one
 of its edits is not refused then, the gate fails.
 
-A row is a crate's name, its sum, and how many edits it has. A run with `--costs` writes a row as soon as a crate's edits are
-tried."""
+A row is a crate's name, the kit, the sum, and how many edits the crate has. A run with `--costs` writes a row as soon as a
+crate's edits are tried, in place of the one that it had with this kit."""
 import hashlib
 import os
 
@@ -16,22 +16,23 @@ from kit import rt
 
 HERE = os.path.dirname(os.path.realpath(__file__))
 FILE = f"{HERE}/edits_record.txt"
-HEAD = "# Crates whose must-fail edits a run of the gate tried and saw refused: name, sum of all that they rest on, edits.\n"
-# The scripts that make the verdicts.
-SCRIPTS = ("../gate", "edits.py", "kept.py", "places.py", "record.py", "kit.py")
+HEAD = "# Crates whose must-fail edits a run of the gate tried and saw refused: name, kit, sum of all that they rest on, edits.\n"
+# The scripts that make the verdicts, beside the one that works with the kit.
+SCRIPTS = ("edits.py", "kept.py", "places.py", "record.py", "tried.py")
 
 
 def sum_of(crate):
     """The sum of all that the verdicts of a crate's edits rest on."""
     found = hashlib.sha256(repr((kit.identity(), crate.stamp())).encode())
-    for file in [*rt.edits_of(crate)[0], *(f"{HERE}/{it}" for it in SCRIPTS)]:
+    scripts = [f"{HERE}/{it}" for it in (*SCRIPTS, f"{kit.way()}.py")]
+    for file in [*rt.edits_of(crate)[0], *scripts]:
         with open(file, "rb") as it:
             found.update(repr((os.path.basename(file), it.read())).encode())
     return found.hexdigest()
 
 
 def row_of(crate):
-    return f"{crate.name} {sum_of(crate)} {len(rt.edits_of(crate)[0])}"
+    return f"{crate.name} {kit.identity()[0].split()[0]} {sum_of(crate)} {len(rt.edits_of(crate)[0])}"
 
 
 def read(file=FILE):
@@ -44,10 +45,10 @@ def read(file=FILE):
 
 
 def write(rows, file=FILE):
-    """Writes these rows, and keeps those of other crates."""
-    new = {it.split()[0]: it for it in [*sorted(read(file)), *rows]}
+    """Writes these rows, and keeps those of other crates and kits."""
+    new = {tuple(it.split()[:2]): it for it in [*sorted(read(file)), *rows]}
     with open(file, "w", encoding="utf-8") as it:
-        it.write(HEAD + "".join(f"{new[name]}\n" for name in sorted(new)))
+        it.write(HEAD + "".join(f"{new[key]}\n" for key in sorted(new)))
 
 
 def taken(crates, rows, tries_all=False):
