@@ -1,9 +1,8 @@
 //! The words of a command line, and the command that they spell.
 ghost use Rattle.std.specs.Prelude.{◌≡◌, ℕ, codes, List, [], IfOk, IfErr, IfSome, OnOk, None, map};
-ghost use Rattle.clap.specs.Words.{app_of, fault_of, kind_of, new_app, subcommand_of, subcommand_rows_of};
-ghost use Rattle.command_line.specs.Words.{IsNamed, IsRefusedFor, IsTaken, NamesFile, file_app, named_app, program_app};
+ghost use Rattle.clap.specs.Words.{app_of, fault_of, kind_of, subcommand_of, subcommand_rows_of};
+ghost use Rattle.command_line.specs.Words.{IsNamed, IsRefusedFor, IsTaken, NamesFile, named_app, program_app};
 ghost use Rattle.command_line.specs.declared.commands.Command.{Command as Shown};
-ghost use Rattle.command_line.specs.Options.{ReadsAs};
 ghost use Rattle.command_line.specs.ProcessWords.{NamesHosts, NamesMaster, NamesServer};
 ghost use Rattle.command_line.specs.declared.processes.Hosts.{Hosts};
 ghost use Rattle.command_line.specs.declared.processes.MasterNumbers.{MasterNumbers};
@@ -12,8 +11,8 @@ ghost use Rattle.command_line.specs.Commands.{AskForVersion, IsAskedFor};
 
 use crate::cluster_words::{cluster_parser, numbers_given};
 use crate::commands::{Command, Print, Serve, Telling, UsageFault};
+use crate::file_words::{draw_parser, scenario_parser, trace_parser};
 use crate::given::given_to;
-use crate::options::file_argument;
 use crate::process_words::{
     hosts_given, master_numbers, master_parser, server_numbers, server_parser,
 };
@@ -126,21 +125,9 @@ fn file_given<'a>(matches: &ArgMatches<'a>, name: &str) -> Option<&'a str>
 fn parser<'a>(alloc: Global) -> Result<Parser<'a>, AllocError>
     ensures { IfOk result (λ parser. app_of parser ≡ program_app) }
 {
-    let scenario = file_parser(
-        alloc,
-        "scenario",
-        "Replays a schedule over a chain of servers and prints the transcript",
-    )?;
-    let trace = file_parser(
-        alloc,
-        "trace",
-        "Replays a schedule and prints what each of its events did, and the transcript",
-    )?;
-    let draw = file_parser(
-        alloc,
-        "draw",
-        "Replays a schedule and prints a picture of it, SVG 1.1",
-    )?;
+    let scenario = scenario_parser(alloc)?;
+    let trace = trace_parser(alloc)?;
+    let draw = draw_parser(alloc)?;
     let cluster = cluster_parser(alloc)?;
     let server = server_parser(alloc)?;
     let master = master_parser(alloc)?;
@@ -161,21 +148,6 @@ fn program_parser<'a>(alloc: Global) -> Parser<'a>
         .about("A replicated object cache (CRAQ) that speaks memcached's text protocol")
         .version("0.1.0")
         .subcommand_required(true)
-}
-
-// The parser of a command that takes a FILE.
-fn file_parser<'a>(alloc: Global, name: &'a str, about: &'a str) -> Result<Parser<'a>, AllocError>
-    ensures { IfOk result (ReadsAs (file_app name.entry.now)) }
-{
-    let command = bare_parser(alloc, name, about).arg(file_argument(alloc))?;
-    Ok(command)
-}
-
-// The parser of a command without arguments.
-fn bare_parser<'a>(alloc: Global, name: &'a str, about: &'a str) -> Parser<'a>
-    ensures { ReadsAs (new_app name.entry.now) result }
-{
-    Parser::new(alloc, name).about(about)
 }
 
 fn usage_fault(alloc: Global, error: Error) -> UsageFault
