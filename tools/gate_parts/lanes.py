@@ -6,11 +6,15 @@ once all keys of `waits` have ended; `lines` is its work in lines of code, 0 if 
 bytes that the kit expects; call(given, jobs) does it with that many processes, and what it returns stands in `given`
 under its key from then on. A call itself looks in `given` whether what it waits for went well.
 
-The task that is ready and has the longest chain of others after it begins first. One on the longest chain of all gets
-several processes. No verdict rests on the costs: a wrong figure costs time alone.
+The task that is ready and has the longest chain of others after it begins first. How many processes each gets is found by
+playing the whole on the clock of the costs, again and again with one change, and keeping what ends sooner. No verdict
+rests on the costs: a wrong figure costs time alone.
 
   lanes.py --selftest     tries the order and the limits on made-up tasks
 """
+import bisect
+import heapq
+import random
 import re
 import sys
 import tempfile
@@ -30,6 +34,8 @@ MARGIN = 1.15
 OF_A_LINE = 0.3
 # Shorter tasks get one process.
 SHORT = 60
+# So many changes of a plan are played.
+STEPS = 1500
 # The first lines of a file of costs.
 HEAD = """\
 # Of each crate: processor seconds of its proof, of its tests and of its edits (at one process), and the MB of its
@@ -90,9 +96,9 @@ def usable(free, most=None):
 
 
 class Plan:
-    """What each task is expected to take, and how much lies behind it."""
+    """What each task is expected to take, how much lies behind it, and how many processes it is to get."""
 
-    def __init__(self, tasks, costs, lanes, memory, chain_jobs=None):
+    def __init__(self, tasks, costs, lanes, memory):
         check_waits(tasks)
         self.tasks, self.lanes, self.room = tasks, max(1, lanes), memory
         self.whole = Counter()
@@ -100,8 +106,10 @@ class Plan:
             self.whole[key[0], kind_of(key)] += lines
         self.seconds = {key: self.cost_of(key, costs) for key in tasks}
         self.memory = {key: self.memory_of(key, costs) for key in tasks}
-        self.behind = behind(tasks, self.seconds)
-        self.chain_jobs = chain_jobs or self.best_jobs()
+        self.above = all_above(tasks)
+        self.order = in_order(tasks, self.above)
+        self.set_wanted(dict.fromkeys(tasks, 1))
+        self.choose()
 
     def cost_of(self, key, costs):
         """Seconds at one process. Several tasks of one kind share what their crate's work of this kind costs."""
@@ -119,42 +127,82 @@ class Plan:
     def held(self, key, jobs):
         return self.memory[key] * (1 + MORE_MEMORY * (jobs - 1))
 
-    def best_jobs(self):
-        """How many processes the longest chain should get, so that all ends soonest by the costs."""
-        able = range(1, min(self.lanes, max(SPEED)) + 1)
-        self.chain_jobs = 1
-        ends = {}
-        for self.chain_jobs in able:
-            ends[self.chain_jobs] = played(self, {}, ())[0]
-        return min(able, key=lambda it: (round(ends[it]), it))
+    def choose(self):
+        """Finds how many processes each task should get, so that all ends soonest by the costs."""
+        most = min(self.lanes, max(SPEED))
+        able = [it for it in self.tasks if self.seconds[it] >= SHORT and kind_of(it) not in NARROW]
+        if most < 2 or not able:
+            return
+        picks, best, least = random.Random(0), self.wanted, self.worth()
+        for _ in range(STEPS):
+            changed = dict(best)
+            for it in picks.sample(able, min(len(able), picks.choice((1, 1, 2, 3)))):
+                changed[it] = picks.randint(1, most)
+            self.set_wanted(changed)
+            found = self.worth()
+            if found <= least:
+                best, least = changed, found
+        self.set_wanted(best)
 
-    def next_of(self, left, running, done):
+    def set_wanted(self, wanted):
+        """From now on each task gets so many processes, and its place goes by the time that they take."""
+        self.wanted, self.behind = wanted, {}
+        for key in reversed(self.order):
+            after = max((self.behind[it] for it in self.above[key]), default=0)
+            self.behind[key] = self.seconds[key] / SPEED[wanted[key]] + after
+
+    def worth(self):
+        """What this choice takes on the clock, and a little for each processor second."""
+        clock, used, _ = played(self)
+        return clock + used / (20 * self.lanes)
+
+    def next_of(self, queue, running):
         """The task to begin now and its processes, or None. `running` has the processes of each running task."""
-        ready = [it for it in left if all(below in done for below in self.tasks[it][0])]
-        if not ready and not running:
-            raise ValueError(f"tasks wait for each other: {left[0]}")
         idle = self.lanes - sum(running.values())
+        if idle < 1:
+            return None
         room = self.room - sum(self.held(key, jobs) for key, jobs in running.items())
-        longest = max(self.behind[it] for it in [*left, *running])
-        ready.sort(key=lambda it: -self.behind[it])
-        for at, key in enumerate(ready):
-            if idle < 1 or running and self.held(key, 1) > room:
+        for key in queue.ready:
+            if running and self.held(key, 1) > room:
                 continue
-            is_chain = self.behind[key] >= 0.85 * longest
-            # another task than the chain's gets the lanes that no ready one waits for
-            wanted = min(self.chain_jobs, idle) if is_chain else idle // (len(ready) - at)
-            if self.seconds[key] < SHORT or kind_of(key) in NARROW:
-                wanted = 1
-            jobs = max(1, min(wanted, max(SPEED)))
+            # the last task gets the lanes that nobody else waits for
+            wanted = idle if queue.count == 1 and kind_of(key) not in NARROW else self.wanted[key]
+            jobs = max(1, min(wanted, idle, max(SPEED)))
             while jobs > 1 and self.held(key, jobs) > room:
                 jobs -= 1
             return key, jobs
         return None
 
 
+class Queue:
+    """The tasks that haven't begun: those that are ready, with the longest chain after them first, and how many in all."""
+
+    def __init__(self, plan, running=(), done=()):
+        left = [it for it in plan.tasks if it not in done and it not in running]
+        self.plan, self.count = plan, len(left)
+        self.waits = {it: sum(below not in done for below in plan.tasks[it][0]) for it in left}
+        self.ready = sorted((it for it in left if not self.waits[it]), key=self.place)
+        if left and not self.ready and not running:
+            raise ValueError(f"tasks wait for each other: {left[0]}")
+
+    def place(self, key):
+        return -self.plan.behind[key]
+
+    def begun(self, key):
+        self.ready.remove(key)
+        self.count -= 1
+
+    def ended(self, key):
+        for it in self.plan.above[key]:
+            if it in self.waits:
+                self.waits[it] -= 1
+                if not self.waits[it]:
+                    bisect.insort(self.ready, it, key=self.place)
+
+
 def kind_of(key):
     """The kind of work that a key names: `edits` of ("world", "edits 2")."""
-    return re.match(r"[a-z]*", key[1])[0]
+    return key[1].partition(" ")[0]
 
 
 def check_waits(tasks):
@@ -164,44 +212,46 @@ def check_waits(tasks):
                 raise ValueError(f"the task {key} waits for {it}, which isn't there")
 
 
-def behind(tasks, seconds):
-    """Of each task the seconds of the longest chain that begins with it."""
+def all_above(tasks):
+    """Of each task those that wait for it."""
     above = {it: [] for it in tasks}
     for key, (waits, *_) in tasks.items():
-        for it in waits:
+        for it in set(waits):
             above[it].append(key)
-    found, open_now = {}, set()
-
-    def length(key):
-        if key in open_now:
-            raise ValueError(f"tasks wait for each other: {key}")
-        if key not in found:
-            open_now.add(key)
-            found[key] = seconds[key] + max((length(it) for it in above[key]), default=0)
-            open_now.remove(key)
-        return found[key]
-
-    return {it: length(it) for it in tasks}
+    return above
 
 
-def in_lanes(tasks, costs, lanes, memory, told=None):
-    """Runs the tasks, in at most so many lanes and bytes of memory, and returns what each gave. A task that needs more
-    memory than there is runs alone. told(key, 'begun', jobs, 0) and told(key, 'ended', result, seconds) are called in
+def in_order(tasks, above):
+    """The tasks, each after all that it waits for."""
+    waits = {key: len(set(it[0])) for key, it in tasks.items()}
+    found = [it for it in tasks if not waits[it]]
+    for key in found:
+        for it in above[key]:
+            waits[it] -= 1
+            if not waits[it]:
+                found.append(it)
+    if len(found) < len(tasks):
+        raise ValueError(f"tasks wait for each other: {next(it for it in tasks if waits[it])}")
+    return found
+
+
+def in_lanes(plan, told=None):
+    """Runs the tasks of the plan, in at most its lanes and bytes of memory, and returns what each gave. A task that needs
+    more memory than there is runs alone. told(key, 'begun', jobs, 0) and told(key, 'ended', result, seconds) are called in
     the caller's thread. If a call or `told` raises, nothing more begins, and it is raised here once all have ended."""
-    plan = Plan(tasks, costs, lanes, memory)
-    left, running, given, futures = [*tasks], {}, {}, {}
+    queue, running, given, futures = Queue(plan), {}, {}, {}
     told = told or (lambda *_: None)
 
     def timed(key, jobs):
         began = time.monotonic()
-        return tasks[key][3](given, jobs), time.monotonic() - began
+        return plan.tasks[key][3](given, jobs), time.monotonic() - began
 
     with ThreadPoolExecutor(plan.lanes) as pool:
-        while left or futures:
-            chosen = plan.next_of(left, running, given) if left else None
+        while queue.count or futures:
+            chosen = plan.next_of(queue, running)
             if chosen:
                 key, jobs = chosen
-                left.remove(key)
+                queue.begun(key)
                 running[key] = jobs
                 told(key, "begun", jobs, 0.0)
                 futures[pool.submit(timed, key, jobs)] = key
@@ -210,40 +260,32 @@ def in_lanes(tasks, costs, lanes, memory, told=None):
                 key = futures.pop(it)
                 del running[key]
                 given[key], seconds = it.result()
+                queue.ended(key)
                 told(key, "ended", given[key], seconds)
     return given
 
 
-def simulated(tasks, costs, lanes, memory, running=None, done=()):
-    """The seconds on the clock and the processor seconds that the tasks would take by the costs alone: all of them, or
-    what is left if some are `done` and some are running ({key: (jobs, seconds since it began)})."""
-    return played(Plan(tasks, costs, lanes, memory), running or {}, done)[:2]
-
-
-def most_memory(tasks, costs, lanes, memory):
-    """The most bytes that the tasks would hold at a time, by the costs alone."""
-    return played(Plan(tasks, costs, lanes, memory), {}, ())[2]
-
-
-def played(plan, running, done):
-    """Plays the lanes on the clock of the costs: seconds on the clock, processor seconds, bytes held at most."""
-    now, used, most, done = 0.0, 0.0, 0.0, {*done}
-    ends = {key: max(0.0, plan.seconds[key] / SPEED[jobs] - gone) for key, (jobs, gone) in running.items()}
+def played(plan, running=None, done=()):
+    """Plays the lanes on the clock of the costs: the seconds on the clock, the processor seconds and the bytes held at most
+    of all tasks, or of what is left if some are `done` and some running ({key: (jobs, seconds since it began)})."""
+    now, used, most, running = 0.0, 0.0, 0.0, running or {}
+    ends = [(max(0.0, plan.seconds[key] / SPEED[jobs] - gone), str(key), key) for key, (jobs, gone) in running.items()]
+    heapq.heapify(ends)
     running = {key: jobs for key, (jobs, _) in running.items()}
-    left = [it for it in plan.tasks if it not in done and it not in running]
-    while left or ends:
-        chosen = plan.next_of(left, running, done) if left else None
+    queue = Queue(plan, running, done)
+    while queue.count or ends:
+        chosen = plan.next_of(queue, running)
         if chosen:
             key, jobs = chosen
-            left.remove(key)
+            queue.begun(key)
             running[key] = jobs
-            ends[key] = now + plan.seconds[key] / SPEED[jobs]
+            heapq.heappush(ends, (now + plan.seconds[key] / SPEED[jobs], str(key), key))
             most = max(most, sum(plan.held(*it) for it in running.items()))
             continue
-        key = min(ends, key=ends.get)
-        now = max(now, ends.pop(key))
+        end, _, key = heapq.heappop(ends)
+        now = max(now, end)
         used += plan.seconds[key] * WORK[running.pop(key)]
-        done.add(key)
+        queue.ended(key)
     return now, used, most
 
 
@@ -259,7 +301,7 @@ class Watched:
             call = lambda given, _jobs, key=key, result=result: self.called(key, given, result)  # noqa: E731
             self.tasks[key] = waits, lines, needs, call
         self.plan = Plan(self.tasks, costs, lanes, memory)
-        self.given = in_lanes(self.tasks, costs, lanes, memory, self.told)
+        self.given = in_lanes(self.plan, self.told)
 
     def called(self, key, given, result):
         time.sleep(0.02)
@@ -318,8 +360,9 @@ def selftest():
     failing["low", "proof"] = [], 100, 1e9, False
     failed = Watched(failing, {}, 2, 1e12).given
     idle = Watched({**proofs(a=""), ("a", "tests"): ([("a", "proof")], 0, 1e9, True)}, {"a": Cost(100, 500)}, 2, 1e12)
-    clock, used = simulated(fork, costs, 1, 1e12)
-    half, _ = simulated(fork, costs, 1, 1e12, {("mid", "proof"): (1, 100.0)}, [("short", "proof"), ("low", "proof")])
+    clock, used, held = played(Plan(fork, costs, 1, 1e12))
+    half = played(Plan(fork, costs, 1, 1e12), {("mid", "proof"): (1, 100.0)}, [("short", "proof"), ("low", "proof")])[0]
+    ends = {lanes: played(Plan(fork, costs, lanes, 1e12))[0] for lanes in (2, 4)}
     begun = one.begun()
     cases = {
         "the longest chain begins first": begun == [(it, "proof") for it in ("low", "mid", "short", "high")],
@@ -341,12 +384,12 @@ def selftest():
         "a task that failed is given, and those above it see so": [*failed.values()].count(False) == 3
         and failed["side", "proof"],
         "what a call raises comes out": raised(Watched, raising, {}, 2, 1e9) is KeyError,
-        "a ring of tasks is refused": raised(in_lanes, proofs(a="b", b="a"), {}, 2, 1e12) is ValueError,
-        "a task that isn't there is refused": raised(in_lanes, proofs(a="b"), {}, 2, 1e12) is ValueError,
+        "a ring of tasks is refused": raised(Plan, proofs(a="b", b="a"), {}, 2, 1e12) is ValueError,
+        "a task that isn't there is refused": raised(Plan, proofs(a="b"), {}, 2, 1e12) is ValueError,
         "the clock of one lane is the sum of the costs": (clock, used) == (650, 650),
         "what is done and begun is left out": half == 400,
-        "more lanes take no longer": simulated(fork, costs, 4, 1e12)[0] < simulated(fork, costs, 2, 1e12)[0] < clock,
-        "what is held is told": most_memory(fork, costs, 1, 1e12) == 1e9,
+        "more lanes take no longer": ends[4] < ends[2] < clock,
+        "what is held is told": held == 1e9,
         "costs are read as they were written": read_back(lambda it: write_costs(it, costs)) == costs,
         "a file of costs that isn't there has none": read_back(lambda it: None) == {},
         "costs that can't be read are refused": raised(read_back, written("a 1 two\n")) is SystemExit,
