@@ -1,8 +1,6 @@
 pub mod relation
 pub mod lists
-pub mod sessions
 pub mod asking
-pub mod servers
 pub mod passing
 pub mod seats
 pub mod steps

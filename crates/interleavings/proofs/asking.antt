@@ -3,3 +3,4 @@
 pub mod SpelledFields
 pub mod SpelledStores
 pub mod Spelling
+pub mod OneRequest

@@ -31,3 +31,4 @@ pub mod PortLaws
 pub mod FaceLaws
 pub mod FaceChanges
 pub mod Openings
+pub mod CleanReads

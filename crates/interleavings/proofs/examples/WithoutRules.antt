@@ -125,6 +125,7 @@ unfolding lossy_moves with_at has union single is_below adds next_from predecess
     passed_on take_update
 lossy_first = refl
 
+-- nothing is left to do at the second server
 pub lossy_second : left_to_do lossy 1 ≡ ([], None, [])
 unfolding lossy_moves with_at has union single is_below adds next_from predecessor most appended entered trimmed
     passed_on take_update
@@ -136,6 +137,7 @@ unfolding lossy_moves with_at has union single is_below adds next_from predecess
     passed_on take_update
 lossy_down = refl
 
+-- nothing is on the wire back
 pub lossy_back : lossy.wires 1 0 ≡ []
 unfolding lossy_moves with_at has union single is_below adds next_from predecessor most appended entered trimmed
     passed_on take_update
@@ -153,6 +155,7 @@ unfolding lossy_moves with_at has union single is_below adds next_from predecess
     passed_on take_update
 lossy_head = refl
 
+-- the tail goes on
 pub lossy_tail : (lossy.servers 1).stopped ≡ false
 unfolding lossy_moves with_at has union single is_below adds next_from predecessor most appended entered trimmed
     passed_on take_update

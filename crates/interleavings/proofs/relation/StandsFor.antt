@@ -14,7 +14,7 @@ use Rattle.world.specs.Waiting.{waiting_reply}
 use Rattle.world.specs.Worlds.{World, server, link, lives, run_from}
 use Rattle.world.specs.declared.events.Event.{Event}
 use Rattle.interleavings.specs.Chains.{RunningServer, Seat, Chain, messages_from, messages_to, calls_from, replies_to}
-use Rattle.interleavings.proofs.sessions.Rested.{IsRested}
+use Rattle.proto.proofs.RestedLaws.{IsRested}
 
 -- the one there is, or none
 abbrev pub listed : {X : Type 0} → Option X → List X

@@ -30,8 +30,8 @@ use Rattle.interleavings.proofs.seats.OneSeat.{Reconnects, WaitsFor, one_seat, r
 use Rattle.interleavings.proofs.seats.Sending.{all_answered, all_heard, at_idle, away_stopped, begins_call, call_opened}
 use Rattle.interleavings.proofs.seats.Sending.{rested_after, seat_lives, with_call}
 use Rattle.interleavings.proofs.lists.Places.{at_self, same_both}
-use Rattle.interleavings.proofs.servers.CleanReads.{clean_step}
-use Rattle.interleavings.proofs.sessions.Rested.{rested_answered}
+use Rattle.node.proofs.CleanReads.{clean_step}
+use Rattle.proto.proofs.RestedLaws.{rested_answered}
 
 -- a server that stays as it was, and replies
 acted_same : (v : World) (j c : ℕ) (reply : Reply)

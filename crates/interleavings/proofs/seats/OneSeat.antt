@@ -12,7 +12,7 @@ use Rattle.interleavings.specs.Chains.{RunningServer, Seat, Chain, with_at, with
 use Rattle.interleavings.specs.Chains.{messages_to, calls_from, replies_to}
 use Rattle.interleavings.proofs.relation.StandsFor.{IsSeat, Sits, StandsFor, call_at, listed, queue, reply_at}
 use Rattle.interleavings.proofs.lists.Places.{at_other, at_same, kept_at}
-use Rattle.interleavings.proofs.lists.Connections.{changed_other, changed_same}
+use Rattle.world.proofs.lists.Changed.{changed_other, changed_same}
 
 -- the c-th connection is this from now on, and all else is as it was
 pub record Reconnects (w v : World) (c : ℕ) (k : Connection) : Type 0 where

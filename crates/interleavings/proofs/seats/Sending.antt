@@ -20,8 +20,8 @@ use Rattle.interleavings.specs.Asked.{IsSpelled}
 use Rattle.interleavings.specs.Chains.{RunningServer, Seat, Chain, with_at, with_running, with_seat, messages_from}
 use Rattle.interleavings.specs.Chains.{messages_to, calls_from, replies_to}
 use Rattle.interleavings.specs.Moves.{Sends, is_free, brought, sent, done}
-use Rattle.interleavings.proofs.sessions.OneRequest.{GivesRested, asks}
-use Rattle.interleavings.proofs.sessions.Rested.{IsRested}
+use Rattle.interleavings.proofs.asking.OneRequest.{asks}
+use Rattle.proto.proofs.RestedLaws.{GivesRested, IsRested}
 use Rattle.interleavings.proofs.relation.StandsFor.{IsSeat, Reaches, Sits, StandsFor, Tallies, call_at, listed, queue}
 use Rattle.interleavings.proofs.relation.StandsFor.{reply_at, sits_still}
 use Rattle.interleavings.proofs.seats.OneSeat.{Reconnects, WaitsFor, one_seat, reconnects, reconnects_twice}

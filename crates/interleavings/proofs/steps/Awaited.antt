@@ -16,7 +16,7 @@ use Rattle.world.specs.Awaited.{AreAwaited}
 use Rattle.world.proofs.trace.WorldLaws.{changed_one}
 use Rattle.interleavings.specs.Chains.{replies_to}
 use Rattle.interleavings.proofs.relation.StandsFor.{call_at, listed, reply_at}
-use Rattle.interleavings.proofs.lists.Connections.{none_changed}
+use Rattle.world.proofs.lists.Changed.{none_changed}
 use Rattle.interleavings.proofs.lists.Places.{same_both}
 
 -- its open call has the one reply among them, or there is none

@@ -22,7 +22,7 @@ use Rattle.interleavings.proofs.relation.StandsFor.{IsSeat, Sits, StandsFor, Tal
 use Rattle.interleavings.proofs.relation.StandsFor.{reply_at}
 use Rattle.interleavings.proofs.steps.TurnsOver.{TurnIsOver, freed, publishes_is, turn_is_over}
 use Rattle.interleavings.proofs.steps.Acting.{acts}
-use Rattle.interleavings.proofs.lists.Connections.{changed_other, changed_same}
+use Rattle.world.proofs.lists.Changed.{changed_other, changed_same}
 use Rattle.interleavings.proofs.lists.Places.{same_both}
 
 -- ---- the first of the queue is this call: its connection has begun it

@@ -2,7 +2,9 @@
 use Rattle.std.proofs.Common.{◌≡◌, ℕ, ◌-◌, true, cond, List, [], ◌∷◌, Option, refl, arith, ap, sym, ◌∙◌, inl, inr}
 use Rattle.std.proofs.lemmas.Bool.{cases_Bool}
 use Rattle.table.specs.declared.items.Item.{Item}
+use Rattle.table.specs.declared.operations.Op.TheVariants.{Read}
 use Rattle.table.specs.declared.operations.Reply.TheVariants.{Value}
+use Rattle.table.specs.declared.operations.Target.TheVariants.{One}
 use Rattle.versions.specs.Stores.{StoreState, dropped_to, is_clean, value_at, last_number}
 use Rattle.node.specs.declared.looks.Look.TheVariants.{Clean, Dirty}
 use Rattle.node.specs.declared.messages.Input.TheVariants.{Call as Called}
@@ -12,7 +14,6 @@ use Rattle.node.specs.Lawful.{IsLawful}
 use Rattle.node.specs.Reading.{read, dirty_read}
 use Rattle.node.specs.Steps.{step, trimmed}
 use Rattle.node.specs.Faces.{peeked}
-use Rattle.interleavings.specs.Moves.{read_of}
 
 dropped_same : (s : StoreState) → dropped_to s s.floor ≡ s
 dropped_same s = let none : s.floor - s.floor ≡ 0 = omega arith in rw none refl
@@ -39,7 +40,7 @@ clean_by s key item e = elim (cases_Bool (is_clean s.store key)) [
 pub clean_step : (s : ServerState) (c : ℕ) (key : List ℕ) (item : Option Item)
     → IsLawful s
     → peeked s key ≡ Clean item
-    → step s (Called c (read_of key)) ≡ record { state = s; outputs = Replied c (Value item) ∷ [] }
+    → step s (Called c (record { target = One key; op = Read })) ≡ record { state = s; outputs = Replied c (Value item) ∷ [] }
 clean_step s c key item l e =
     let f = clean_by s key item e in
     let answer : Outcome = putting s (reply_at c (Value (value_at s.store key (last_number s.store)))) in

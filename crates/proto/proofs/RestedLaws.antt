@@ -1,8 +1,9 @@
--- A session at which no bytes wait gives the call of the one request that comes, and no bytes wait there afterwards.
-use Rattle.std.proofs.Common.{◌≡◌, ℕ, false, List, [], ◌∷◌, ◌++◌, length, drop, cond, None, Some, refl, arith, ap, sym}
-use Rattle.std.proofs.Common.{◌∙◌, subst, append-nil}
+-- Sessions at which no bytes wait: one gives the call of the one request that comes, and no bytes wait there afterwards.
+use Rattle.std.proofs.Common.{◌≡◌, ℕ, false, List, [], ◌∷◌, ◌++◌, length, drop, cond, Option, None, Some, refl, arith, ap}
+use Rattle.std.proofs.Common.{sym, ◌∙◌, subst, append-nil}
 use Rattle.std.proofs.lemmas.List.{drop_all}
 use Rattle.table.specs.declared.operations.Call.{Call}
+use Rattle.table.specs.declared.operations.Reply.{Reply}
 use Rattle.proto.specs.declared.requests.Request.{Request}
 use Rattle.proto.specs.declared.requests.Request.TheVariants.{Store, Get, Arith, Delete, Flush, Quit, Bad}
 use Rattle.proto.specs.declared.texts.Form.{Form}
@@ -10,11 +11,24 @@ use Rattle.proto.specs.declared.front.Found.TheVariants.{Request as Requested}
 use Rattle.proto.specs.Fronts.{front, found_at, refused_at, found_of}
 use Rattle.proto.specs.Grammar.{Spells}
 use Rattle.proto.specs.Turns.{Turn, Calls, Faulty, turns_of}
-use Rattle.proto.specs.Sessions.{Held, Given, fed, kept, passed, next_of, by_request, by_found, by_passing, by_later}
+use Rattle.proto.specs.Sessions.{Held, Given, answered_by, fed, kept, passed, next_of, by_request, by_found, by_passing}
+use Rattle.proto.specs.Sessions.{by_later}
 use Rattle.proto.proofs.GrammarLaws.{spelled_is_found}
-use Rattle.world.specs.Connections.{past_faults, behind}
-use Rattle.interleavings.specs.Asked.{IsSpelled}
-use Rattle.interleavings.proofs.sessions.Rested.{IsRested}
+
+-- a session that no bytes wait at
+pub record IsRested (h : Held) : Type 0 where
+  pub unread : h.unread ≡ []
+  pub passing : h.passing ≡ None
+  pub later : h.later ≡ []
+  pub closed : h.closed ≡ false
+
+-- one that is handed a reply stays so
+pub rested_answered : (asked : Option Form) (s : Held) (reply : Reply)
+    → IsRested s
+    → IsRested (answered_by asked s reply)
+rested_answered None s reply r = r
+rested_answered (Some form) s reply r =
+    record { unread = r.unread; passing = r.passing; later = r.later; closed = r.closed }
 
 -- a turn that a session gave, which left it with no bytes waiting
 pub record GivesRested (given : Given) (call : Call) (form : Form) : Type 0 where
@@ -79,22 +93,16 @@ module _ (h : Held) (call : Call) (request : Request) (bytes : List ℕ) (form :
       })
       alone
 
-  next_gives : GivesRested (next_of h) call form
+  -- it gives that request's call
+  pub next_gives : GivesRested (next_of h) call form
   next_gives =
       subst (λ b. GivesRested (cond b (None, h) (by_later h.later h)) call form) (sym closed)
       (subst (λ ls. GivesRested (by_later ls h) call form) (sym later)
       (subst (λ p. GivesRested (by_passing p h) call form) (sym passing)
       (subst (λ f. GivesRested (by_found f h) call form) (sym found) by_front)))
 
-behind_call : (g later : Given) (call : Call) (form : Form)
-    → GivesRested g call form
-    → GivesRested (behind g later) call form
-behind_call (None, left) later call form g = absurd (let no = g.turn in cc)
-behind_call (Some (Faulty fault), left) later call form g = absurd (let no = g.turn in cc)
-behind_call (Some (Calls other shape), left) later call form g = g
-
--- what a rested session takes of such bytes
-fed_rested : (h : Held) (bytes : List ℕ)
+-- what a rested session holds once it was fed
+pub fed_rested : (h : Held) (bytes : List ℕ)
     → IsRested h
     → ((fed h bytes).unread ≡ bytes) × ((fed h bytes).passing ≡ None) × ((fed h bytes).later ≡ [])
     × ((fed h bytes).closed ≡ false)
@@ -107,12 +115,3 @@ fed_rested h bytes r =
       ap (λ (x : Held). x.later) e ∙ r.later,
       ap (λ (x : Held). x.closed) e ∙ r.closed,
     )
-
--- fed the bytes of one request, it gives that request's call
-pub asks : (h : Held) (call : Call) (a : IsSpelled call)
-    → IsRested h
-    → GivesRested (past_faults (fed h a.bytes)) call a.form
-asks h call a r =
-    let f = fed_rested h a.bytes r in
-    behind_call (next_of (fed h a.bytes)) _ call a.form
-    (next_gives (fed h a.bytes) call a.request a.bytes a.form a.spelled a.alone f.0 f.1 f.2 f.3)

@@ -1,2 +1,0 @@
--- Servers alone.
-pub mod CleanReads

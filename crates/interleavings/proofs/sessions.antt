@@ -1,3 +1,0 @@
--- Sessions alone.
-pub mod Rested
-pub mod OneRequest
