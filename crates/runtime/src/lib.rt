@@ -23,6 +23,7 @@ mod refusals;
 mod server_faults;
 mod servers;
 mod settings;
+mod short_frames;
 mod sides;
 mod steering;
 mod strangers;
