@@ -66,12 +66,7 @@ impl Speaker {
     }
 
     // Brings a notice that server `j` has failed, if a master speaks. The link to that server is cut first.
-    fn tell<R: Wait, C: Cuts>(
-        &mut self,
-        rt: &R,
-        lobby: &Lobby<C>,
-        j: u8,
-    ) -> Result<(), TakeFault>
+    fn tell<R: Wait, C: Cuts>(&mut self, rt: &R, lobby: &Lobby<C>, j: u8) -> Result<(), TakeFault>
         ensures heard { OnOk result (Hears self.old (Frame.Gone j) self.new) }
         ensures refused { OnErr result (self.new ≡ self.old) }
     {

@@ -78,7 +78,12 @@ pub fn master<
 }
 
 // Tells of each failure that the input names.
-fn tell_all<R: Wait + Clock + Net<Listener = TcpListener, Stream = TcpStream>, S: Source, W: Sink, X: Sink>(
+fn tell_all<
+    R: Wait + Clock + Net<Listener = TcpListener, Stream = TcpStream>,
+    S: Source,
+    W: Sink,
+    X: Sink,
+>(
     rt: &R,
     alloc: Global,
     settings: &MasterSettings,

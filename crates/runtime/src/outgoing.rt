@@ -23,9 +23,9 @@ pub(crate) struct Outgoing<R> {
     pub(crate) starts: Vec<Option<u64>>,
 }
 
-impl<R: Wait + Clock + Eprint + Net<Listener = TcpListener, Stream = TcpStream> + Copy + Drop> Outgoing<
-    R,
-> {
+impl<
+    R: Wait + Clock + Eprint + Net<Listener = TcpListener, Stream = TcpStream> + Copy + Drop,
+> Outgoing<R> {
     /// Connects to each other server, one after another, and has the lobby cut these connections from then on.
     pub(crate) fn open(
         rt: R,
@@ -39,7 +39,7 @@ impl<R: Wait + Clock + Eprint + Net<Listener = TcpListener, Stream = TcpStream> 
             let (sink, start) = if j == settings.numbers.id {
                 (None, None)
             } else {
-                let Channel { sink, start, .. } = channel_to(rt, alloc, settings, lobby, j)?;
+                let Channel { sink, start, .. } = channel_to(&rt, alloc, settings, lobby, j)?;
                 (Some(told(rt, lobby, j, sink)?), Some(start))
             };
             links.push(PeerLink::new(sink))?;
@@ -51,7 +51,7 @@ impl<R: Wait + Clock + Eprint + Net<Listener = TcpListener, Stream = TcpStream> 
 
 // The connection to another server.
 fn channel_to<R: Clock + Net<Listener = TcpListener, Stream = TcpStream>>(
-    rt: R,
+    rt: &R,
     alloc: Global,
     settings: &ServerSettings,
     lobby: &Lobby<Connections>,
@@ -61,7 +61,7 @@ fn channel_to<R: Clock + Net<Listener = TcpListener, Stream = TcpStream>>(
         return Err(ServerFault::Run);
     };
     let port = port_of(settings.numbers.peer_port, j);
-    match reach(&rt, alloc, host.as_str(), port, lobby.host())? {
+    match reach(rt, alloc, host.as_str(), port, lobby.host())? {
         Greeted::Accepted(channel) => Ok(channel),
         Greeted::Refused(reason) => Err(ServerFault::Refused(j, reason)),
         Greeted::NoAnswer => Err(ServerFault::Away(j)),

@@ -126,7 +126,10 @@ pub(crate) fn tell<X: Sink>(fault: ServerFault, settings: &ServerSettings, error
         ServerFault::Restarted(j) => {
             write_server(errors, "craq: server ", id);
             write_server(errors, ": server ", j);
-            write(errors, " was started again before all servers were connected");
+            write(
+                errors,
+                " was started again before all servers were connected",
+            );
             write(errors, ANEW);
         }
         ServerFault::Gone => {

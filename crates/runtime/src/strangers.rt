@@ -58,12 +58,7 @@ enum Opening {
     Nothing,
 }
 
-fn read_hello<R: Clock>(
-    rt: &R,
-    alloc: Global,
-    stream: &TcpStream,
-    deadline: Deadline,
-) -> Opening {
+fn read_hello<R: Clock>(rt: &R, alloc: Global, stream: &TcpStream, deadline: Deadline) -> Opening {
     match next_frame(rt, alloc, stream, deadline, HELLO) {
         Ok(Heard::Frame(frame)) => opening_of(&frame),
         Ok(Heard::Old) => Opening::Old,
