@@ -65,8 +65,7 @@ impl ScenarioFault {
     }
 }
 
-/// Writes three pieces, one after another.
-pub(crate) fn write_parts<X: Sink>(
+fn write_parts<X: Sink>(
     errors: &mut X,
     start: &[u8],
     middle: &[u8],
