@@ -19,6 +19,7 @@ mod input_lines;
 mod keepalive;
 mod link_lines;
 mod masters;
+mod meetings;
 mod offices;
 mod outgoing;
 mod paces;
