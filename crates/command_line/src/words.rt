@@ -1,8 +1,9 @@
 //! The words of a command line, and the command that they spell.
 ghost use Rattle.std.specs.Prelude.{◌≡◌, ℕ, codes, List, [], IfOk, IfErr, IfSome, OnOk, None, map};
 ghost use Rattle.clap.specs.Words.{app_of, fault_of, kind_of, subcommand_of, subcommand_rows_of};
-ghost use Rattle.command_line.specs.Words.{IsNamed, IsRefusedFor, IsTaken, NamesFile, named_app, program_app};
+ghost use Rattle.command_line.specs.Words.{IsNamed, IsRefusedFor, IsTaken, named_app, program_app};
 ghost use Rattle.command_line.specs.declared.commands.Command.{Command as Shown};
+ghost use Rattle.command_line.specs.Options.{ReadsAs};
 ghost use Rattle.command_line.specs.ProcessWords.{NamesHosts, NamesMaster, NamesServer};
 ghost use Rattle.command_line.specs.declared.processes.Hosts.{Hosts};
 ghost use Rattle.command_line.specs.declared.processes.MasterNumbers.{MasterNumbers};
@@ -11,11 +12,11 @@ ghost use Rattle.command_line.specs.Commands.{AskForVersion, IsAskedFor};
 
 use crate::cluster_words::{cluster_parser, numbers_given};
 use crate::commands::{Command, Print, Serve, Telling, UsageFault};
-use crate::file_words::{draw_parser, scenario_parser, trace_parser};
-use crate::given::given_to;
+use crate::file_words::{draw_parser, file_given, scenario_parser, trace_parser};
 use crate::process_words::{
     hosts_given, master_numbers, master_parser, server_numbers, server_parser,
 };
+use crate::version::VERSION;
 use clap::error::ErrorKind;
 use clap::{ArgMatches, Command as Parser, Error};
 use std::alloc::{AllocError, Global};
@@ -113,15 +114,6 @@ fn process_given<'a>(alloc: Global, matches: &ArgMatches<'a>) -> Result<Option<S
     Ok(None)
 }
 
-// The FILE that was given to the command of this name, if that is the command.
-fn file_given<'a>(matches: &ArgMatches<'a>, name: &str) -> Option<&'a str>
-    ensures given { IfSome result (λ file. NamesFile name.now (subcommand_rows_of matches.now) file.now) }
-    ensures none { result ≡ None → (file : List ℕ) → NamesFile name.now (subcommand_rows_of matches.now) file → ⊥ }
-{
-    let given = given_to(matches, name)?;
-    given.get_str("FILE")
-}
-
 fn parser<'a>(alloc: Global) -> Result<Parser<'a>, AllocError>
     ensures { IfOk result (λ parser. app_of parser ≡ program_app) }
 {
@@ -146,7 +138,7 @@ fn program_parser<'a>(alloc: Global) -> Parser<'a>
 {
     Parser::new(alloc, "craq")
         .about("A replicated object cache (CRAQ) that speaks memcached's text protocol")
-        .version("0.1.0")
+        .version(VERSION)
         .subcommand_required(true)
 }
 

@@ -1,7 +1,7 @@
 //! The command `master`: tells the servers of a chain which of them has failed.
 
 use crate::answers::Answers;
-use crate::greetings::{Greeted, PeerSink, greet};
+use crate::greetings::{Greeted, Identity, PeerSink, greet, next_small_frame};
 use crate::input_lines::{empty_line, next_line, server_named};
 use crate::settings::{MasterSettings, port_of};
 use command_line::{DONE, FAILED, MEMORY};
@@ -11,6 +11,7 @@ use peers::{LinkFault, put_frame};
 use std::alloc::{AllocError, AllocFailed, Global};
 use std::net::{Net, TcpListener, TcpStream};
 use std::sync::Wait;
+use std::time::Clock;
 use thiserror::Error;
 use wire::{Frame, MASTER};
 
@@ -51,7 +52,7 @@ impl From<MasterFault> for TellFault {
 /// An answer that can't be written is told once on `errors`. It answers the exit status: 0, or, after a line on
 /// `errors`, 1 if no chain has so many servers, or 3 if memory is out.
 pub fn master<
-    R: Wait + Net<Listener = TcpListener, Stream = TcpStream>,
+    R: Wait + Clock + Net<Listener = TcpListener, Stream = TcpStream>,
     S: Source,
     W: Sink,
     X: Sink,
@@ -77,7 +78,12 @@ pub fn master<
 }
 
 // Tells of each failure that the input names.
-fn tell_all<R: Wait + Net<Listener = TcpListener, Stream = TcpStream>, S: Source, W: Sink, X: Sink>(
+fn tell_all<
+    R: Wait + Clock + Net<Listener = TcpListener, Stream = TcpStream>,
+    S: Source,
+    W: Sink,
+    X: Sink,
+>(
     rt: &R,
     alloc: Global,
     settings: &MasterSettings,
@@ -140,7 +146,7 @@ impl Teller {
     }
 
     // Gives the notices of a failure. It answers how many were written.
-    fn tell<R: Net<Listener = TcpListener, Stream = TcpStream>>(
+    fn tell<R: Clock + Net<Listener = TcpListener, Stream = TcpStream>>(
         &mut self,
         rt: &R,
         settings: &MasterSettings,
@@ -157,7 +163,7 @@ impl Teller {
     }
 
     // Tells server i that server j has failed. It answers whether that was written.
-    fn notify<R: Net<Listener = TcpListener, Stream = TcpStream>>(
+    fn notify<R: Clock + Net<Listener = TcpListener, Stream = TcpStream>>(
         &mut self,
         rt: &R,
         settings: &MasterSettings,
@@ -172,30 +178,37 @@ impl Teller {
             return Ok(false);
         };
         let port = port_of(settings.numbers.peer_port, i);
-        channel.open(rt, self.alloc, host.as_str(), port)?;
-        channel.put(self.alloc, j)
+        let identity = Identity {
+            id: MASTER,
+            servers: settings.numbers.servers,
+            start: 0,
+            chain: settings.chain.clone()?,
+        };
+        channel.open(rt, self.alloc, host.as_str(), port, &identity)?;
+        channel.put(rt, self.alloc, j)
     }
 }
 
 impl Channel {
     // Opens the connection, unless that was done.
-    fn open<R: Net<Listener = TcpListener, Stream = TcpStream>>(
+    fn open<R: Clock + Net<Listener = TcpListener, Stream = TcpStream>>(
         &mut self,
         rt: &R,
         alloc: Global,
         host: &str,
         port: u16,
+        identity: &Identity,
     ) -> Result<(), TellFault> {
         if let Channel::Unopened = self {
-            if let Greeted::Sink(sink) = greet(rt, alloc, host, port, MASTER)? {
-                *self = Channel::Open(sink);
+            if let Greeted::Accepted(channel) = greet(rt, alloc, host, port, identity)? {
+                *self = Channel::Open(channel.sink);
             }
         }
         Ok(())
     }
 
     // Puts the notice that server j has failed. It answers whether it was written: no chain has a server beyond 15.
-    fn put(&mut self, alloc: Global, j: u8) -> Result<bool, TellFault> {
+    fn put<R: Clock>(&mut self, rt: &R, alloc: Global, j: u8) -> Result<bool, TellFault> {
         let Channel::Open(sink) = self else {
             return Ok(false);
         };
@@ -204,7 +217,7 @@ impl Channel {
             return Ok(false);
         }
         match put_frame(alloc, sink, &notice) {
-            Ok(()) => Ok(true),
+            Ok(()) => Ok(next_small_frame(rt, alloc, &sink.inner, 5)?.is_some()),
             Err(LinkFault::Memory) => Err(TellFault::Memory),
             Err(_) => {
                 *self = Channel::Failed;

@@ -7,4 +7,4 @@ use Rattle.command_line.proofs.file_words.draw_parser.Goals as goal
 pub returns : goal.returns
 returns c =
     let named : ReadsAs (new_app (codes "draw")) c.about.result = search rules in
-    with_option _ _ _ _ _ named c.file_argument.ensures c.in_ok-draw.ensures
+    with_option _ _ _ _ _ named c.file_argument.ensures c.in_ok-command.ensures
