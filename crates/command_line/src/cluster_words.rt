@@ -26,6 +26,7 @@ pub fn numbers_given<'a>(matches: &ArgMatches<'a>) -> Option<Numbers>
         port,
         seats,
         serves,
+        quiet: true,
     })
 }
 

@@ -14,5 +14,5 @@ mod words;
 pub use commands::{Command, Print, Serve, Telling, UsageFault};
 pub use numbers::Numbers;
 pub use processes::{Hosts, MasterNumbers, ServerNumbers};
-pub use statuses::{DONE, FAILED, MEMORY, USAGE};
+pub use statuses::{DONE, FAILED, GONE, MEMORY, USAGE};
 pub use words::read_command;

@@ -34,6 +34,7 @@ pub fn server_numbers<'a>(matches: &ArgMatches<'a>) -> Option<ServerNumbers>
         port,
         peer_port,
         seats,
+        quiet: true,
     })
 }
 
@@ -66,7 +67,12 @@ pub fn hosts_given<'a>(
         return Ok(None);
     };
     let peers = text_given(alloc, given, "peers")?;
-    Ok(Some(Hosts { address, peers }))
+    let chain = String::from_str(alloc, "craq")?;
+    Ok(Some(Hosts {
+        address,
+        peers,
+        chain,
+    }))
 }
 
 /// The parser of the words of `server`.

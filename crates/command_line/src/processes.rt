@@ -13,6 +13,8 @@ pub struct ServerNumbers {
     pub peer_port: u16,
     /// How many connections it serves at a time: 1 to 16.
     pub seats: u8,
+    /// Whether it says nothing of itself at the start.
+    pub quiet: bool,
 }
 
 /// The numbers of a master.
@@ -31,4 +33,6 @@ pub struct Hosts {
     pub address: String,
     /// The host of each, in the order of their ids, with commas between them.
     pub peers: Option<String>,
+    /// The chain's name.
+    pub chain: String,
 }

@@ -11,3 +11,6 @@ pub const USAGE: u8 = 2;
 
 /// No memory was left.
 pub const MEMORY: u8 = 3;
+
+/// The server was called gone.
+pub const GONE: u8 = 4;

@@ -1,9 +1,9 @@
--- Who may still greet a server.
-use Rattle.std.specs.Prelude.{ℕ, List, Option, if◌then◌else◌, nat_eq}
+-- Which servers may still greet a server.
+use Rattle.std.specs.Prelude.{ℕ, List, Option}
 use Rattle.rail.specs.declared.events.Event.{Event}
 use Rattle.links.specs.declared.places.Places.{Places}
 use Rattle.links.specs.Waiting.{at_place}
 
--- the inlet that waits for who greets with this id, as what it has brought: the master's is 16
+-- the inlet that waits for the server of this id, as what it has brought
 abbrev pub waiting : Places → ℕ → Option (List Event)
-waiting places id = if nat_eq id 16 then places.master else at_place places.servers.items id
+waiting places id = at_place places.servers.items id

@@ -1,45 +1,60 @@
 //! One who speaks at a server's peer port.
 ghost use Rattle.std.specs.Prelude.{◌≡◌, ◌+◌, ◌++◌, ◌∷◌, [], OnOk, OnErr, MatchResult};
 ghost use Rattle.peers.specs.Links.{MayCome};
+ghost use Rattle.links.specs.Notices.{notice_in, noted};
 ghost use Rattle.links.specs.Speakers.{Hears};
 
 use crate::histories::History;
 use crate::lobbies::{Cuts, Lobby};
 use crate::speakers::Speaker;
-use ends::Failures;
-use peers::{TakeFault, Taker};
+use ends::{Failures, Sink};
+use node::View;
+use peers::{TakeFault, Taker, put_frame};
 use std::alloc::Global;
 use std::snapshot::Snapshot;
 use std::sync::{Arc, Wait};
 use wire::Frame;
 
-/// One who speaks there. Its frames are brought to the server as long as it keeps the rules (`Speaker::hear`).
+/// One who was accepted there. Its frames are brought to the server as long as it keeps the rules (`Speaker::hear`), and
+/// each notice is answered as soon as it was brought. If a notice or a message calls the server itself gone, the server
+/// is ended.
 #[derive(Drop)]
-pub struct Guest<C> {
+pub struct Guest<C, W> {
+    alloc: Global,
     lobby: Arc<Lobby<C>, Global>,
     speaker: Speaker,
+    // Where it is answered.
+    sink: W,
+    // Whom its messages have called gone.
+    view: View,
     taken: History<Frame>,
     failures: Failures,
 }
 
-impl<C: Cuts + Drop> Guest<C> {
-    /// One who hasn't spoken.
-    pub fn new(alloc: Global, lobby: Arc<Lobby<C>, Global>) -> Guest<C> {
+impl<C: Cuts + Drop, W: Sink + Drop> Guest<C, W> {
+    /// One who was accepted as this speaker, and is answered there.
+    pub fn new(
+        alloc: Global,
+        lobby: Arc<Lobby<C>, Global>,
+        speaker: Speaker,
+        sink: W,
+    ) -> Guest<C, W>
+        ensures speaker { result.speaker ≡ speaker }
+        ensures sink { result.sink ≡ sink }
+    {
         Guest {
+            alloc,
             lobby,
-            speaker: Speaker::Unknown,
+            speaker,
+            sink,
+            view: View::empty(),
             taken: History::new(alloc),
             failures: Failures::new(),
         }
     }
-
-    /// Stops the server if the guest has greeted, since what it still sends is lost.
-    pub fn stop<R: Wait>(&mut self, rt: &R) {
-        self.speaker.stop(rt);
-    }
 }
 
-impl<C: Cuts + Drop> Taker for Guest<C> {
+impl<C: Cuts + Drop, W: Sink + Drop> Taker for Guest<C, W> {
     ghost taken = { λ g. g.taken };
 
     ghost failures = { λ g. g.failures };
@@ -53,12 +68,95 @@ impl<C: Cuts + Drop> Taker for Guest<C> {
             (λ _. self.new.failures ≡ self.old.failures + 1) }
         // What it has taken was heard.
         ensures heard { OnOk result (Hears self.old.speaker frame self.new.speaker) }
+        // If that is a notice it was answered, and nothing else was.
+        ensures answered { OnOk result
+            (W.written self.new.sink ≡ W.written self.old.sink ++ noted (notice_in frame)) }
     {
         let snapshot = Snapshot::of(&frame);
-        if self.speaker.hear(rt, &self.lobby, frame).is_ok() && self.taken.add(snapshot).is_ok() {
-            return Ok(());
+        let notice = notice_in(&frame);
+        let heard = hear(rt, &self.lobby, &mut self.view, &mut self.speaker, frame);
+        if heard.is_ok() {
+            let answered = answer(self.alloc, &mut self.sink, notice);
+            end_if_named(rt, &self.lobby, notice);
+            if answered.is_ok() && self.taken.add(snapshot).is_ok() {
+                return Ok(());
+            }
         }
         self.failures.rise();
         Err(TakeFault)
+    }
+}
+
+// The server of whose failure a frame tells, if it is a notice.
+fn notice_in(frame: &Frame) -> Option<u8>
+    ensures { result ≡ notice_in frame.now }
+{
+    match frame {
+        Frame::Gone(j) => Some(*j),
+        _ => None,
+    }
+}
+
+// Whom a message's sender calls gone.
+fn view_in(frame: &Frame) -> View {
+    match frame {
+        Frame::Peer(peer) => peer.view,
+        _ => View::empty(),
+    }
+}
+
+// Does what a frame asks for (`Speaker::hear`), unless it calls the server itself gone, which ends the server then.
+fn hear<R: Wait, C: Cuts>(
+    rt: &R,
+    lobby: &Lobby<C>,
+    view: &mut View,
+    speaker: &mut Speaker,
+    frame: Frame,
+) -> Result<(), TakeFault>
+    requires { MayCome frame }
+    ensures heard { OnOk result (Hears speaker.old frame speaker.new) }
+{
+    if learn(rt, lobby, view, view_in(&frame)) {
+        speaker.hear(rt, lobby, frame)
+    } else {
+        Err(TakeFault)
+    }
+}
+
+// Learns whom a message calls gone, beside those of earlier messages. If the server itself is among them it is ended.
+// It tells whether it isn't.
+fn learn<R: Wait, C: Cuts>(rt: &R, lobby: &Lobby<C>, before: &mut View, view: View) -> bool {
+    if !before.adds(view) {
+        return true;
+    }
+    *before = before.union(view);
+    if lobby.learn(rt, view) {
+        return true;
+    }
+    lobby.end(rt);
+    false
+}
+
+// Ends the server if the notice names it.
+fn end_if_named<R: Wait, C: Cuts>(rt: &R, lobby: &Lobby<C>, notice: Option<u8>) {
+    if notice == Some(lobby.host().id) {
+        lobby.end(rt);
+    }
+}
+
+// Answers a notice, if it is one.
+fn answer<W: Sink>(alloc: Global, sink: &mut W, notice: Option<u8>) -> Result<(), TakeFault>
+    ensures { OnOk result (W.written sink.new ≡ W.written sink.old ++ noted notice) }
+{
+    let Some(j) = notice else {
+        return Ok(());
+    };
+    let frame = Frame::Noted(j);
+    if !frame.is_in_range() {
+        return Err(TakeFault);
+    }
+    match put_frame(alloc, sink, &frame) {
+        Ok(()) => Ok(()),
+        Err(_) => Err(TakeFault),
     }
 }

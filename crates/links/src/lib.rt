@@ -2,14 +2,19 @@
 //! it. The ends are of any kind: this crate opens no socket and starts no thread.
 #![tactic(auto)]
 
+mod desks;
 mod guests;
 mod histories;
+mod identities;
 mod lobbies;
 mod peer_links;
 mod places;
 mod speakers;
 
+pub use desks::Desk;
 pub use guests::Guest;
+pub use histories::History;
+pub use identities::Identity;
 pub use lobbies::{Cuts, Lobby};
 pub use peer_links::{PeerLink, PeerLinks};
 pub use places::Places;

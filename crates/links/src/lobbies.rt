@@ -1,51 +1,121 @@
 //! What all who speak at a server's peer port share.
-ghost use Rattle.std.specs.Prelude.{IfOk};
+ghost use Rattle.std.specs.Prelude.{◌≡◌, IfOk};
 ghost use Rattle.links.specs.Speakers.{Greets};
 
+use crate::desks::Desk;
+use crate::identities::Identity;
 use crate::places::Places;
 use crate::speakers::Speaker;
-use peers::TakeFault;
+use node::{SERVERS, View};
+use rail::Inlet;
+use std::alloc::Global;
 use std::sync::{Mutex, Wait};
-use wire::MASTER;
+use wire::{Acceptance, Introduction, Reason};
 
-/// What ends the connections to other servers.
+/// What ends connections.
 pub trait Cuts {
-    /// Ends the connection to server `j`: a write that waits there fails, and so do all later ones. So a machine that
-    /// is silent and takes no bytes can't hold up a server that was told of its failure.
-    fn cut(&self, j: u8);
+    /// Server `j` was called gone. The connection to it is ended: a write that waits there fails, and so do all later
+    /// ones. So a machine that is silent and takes no bytes can't hold up a server that was told of its failure. If it
+    /// is this server itself, it answers no call any more, and all its connections to other servers are ended. It may
+    /// wait for others who do this.
+    fn cut<R: Wait>(&self, rt: &R, j: u8);
+
+    /// This server itself was called gone, and who said so has its answer: the server is to end.
+    fn end(&self);
 }
 
 /// What all who speak at a server's peer port share.
 #[derive(Drop)]
 pub struct Lobby<C> {
-    places: Mutex<Places>,
+    host: Identity,
+    desk: Mutex<Desk>,
+    // Brings what masters tell.
+    notices: Mutex<Inlet>,
     cuts: C,
 }
 
 impl<C: Cuts> Lobby<C> {
-    /// With these places, before anyone has greeted.
-    pub fn new(places: Places, cuts: C) -> Lobby<C> {
+    /// The lobby of a server, before anyone has greeted: with the places of the other servers, and the inlet of all
+    /// masters.
+    pub fn new(host: Identity, places: Places, notices: Inlet, cuts: C) -> Lobby<C>
+        ensures { result.host ≡ host }
+    {
         Lobby {
-            places: Mutex::new(places),
+            host,
+            desk: Mutex::new(Desk::new(places)),
+            notices: Mutex::new(notices),
             cuts,
         }
     }
 
-    /// What ends the connections to other servers.
+    /// What ends connections.
     pub fn cuts(&self) -> &C {
         &self.cuts
     }
 
-    /// The speaker who greets with this id: refused if the id has no place, or has none any more. It may wait for
-    /// others who greet.
-    pub fn speaker<R: Wait>(&self, rt: &R, id: u8) -> Result<Speaker, TakeFault>
-        ensures { IfOk result (λ speaker. Greets id speaker) }
+    /// What the server tells of itself.
+    pub fn host(&self) -> &Identity
+        ensures { result.now ≡ self.now.host }
     {
-        let mut places = self.places.lock(rt);
-        match places.take(id) {
-            Some(inlet) if id == MASTER => Ok(Speaker::Master(inlet)),
-            Some(inlet) => Ok(Speaker::Server(id, inlet)),
-            None => Err(TakeFault),
+        &self.host
+    }
+
+    /// The inlet that all masters share.
+    pub(crate) fn notices(&self) -> &Mutex<Inlet> {
+        &self.notices
+    }
+
+    /// The speaker who greets so, and what it is answered; or why it isn't accepted (`Desk::admit`). It may wait for
+    /// others who greet.
+    pub fn greet<R: Wait>(
+        &self,
+        rt: &R,
+        alloc: Global,
+        id: u8,
+        opener: &Introduction,
+    ) -> Result<(Speaker, Acceptance), Reason>
+        ensures greets { IfOk result (λ accepted. Greets id accepted.0) }
+        ensures start { IfOk result (λ accepted. accepted.1.start ≡ self.now.host.start) }
+    {
+        let mut desk = self.desk.lock(rt);
+        let gone = desk.gone().bits();
+        let speaker = desk.admit(alloc, &self.host, id, opener)?;
+        let start = self.host.start;
+        Ok((speaker, Acceptance { start, gone }))
+    }
+
+    /// These servers were called gone: each is cut of which this is news. Of a server that the chain hasn't nothing is
+    /// noted. It tells whether this server itself isn't among them. It may wait.
+    pub fn learn<R: Wait>(&self, rt: &R, view: View) -> bool {
+        if !self.note(rt, view) {
+            return true;
         }
+        for j in 0..SERVERS {
+            if view.has(j) {
+                self.cuts.cut(rt, j);
+            }
+        }
+        self.host.id >= SERVERS || !view.has(self.host.id)
+    }
+
+    /// Stops the server. It may wait, also for masters.
+    pub fn stop<R: Wait>(&self, rt: &R) {
+        let mut inlet = self.notices.lock(rt);
+        let _ = inlet.stop(rt);
+    }
+
+    /// Ends the server, since it was called gone.
+    pub(crate) fn end<R: Wait>(&self, rt: &R) {
+        self.cuts.end();
+        self.stop(rt);
+    }
+
+    // Notes that these have failed. It tells whether that is news.
+    fn note<R: Wait>(&self, rt: &R, view: View) -> bool {
+        if self.host.servers > SERVERS || !view.is_below(self.host.servers) {
+            return false;
+        }
+        let mut desk = self.desk.lock(rt);
+        desk.note(view)
     }
 }

@@ -1,36 +1,51 @@
-//! Who may still greet a server.
-ghost use Rattle.std.specs.Prelude.{◌≡◌, ◌≢◌, ℕ, None};
+//! Which servers may still greet a server.
+ghost use Rattle.std.specs.Prelude.{◌≡◌, ◌≢◌, ℕ, None, is_some};
 ghost use Rattle.links.specs.Waiting.{at_place};
 
 use rail::Inlet;
-use wire::MASTER;
 
-/// The inlets for those who may greet: one for each other server, and one for the master. Each is given once.
+/// The inlets for the servers that may greet: one for each other server. Each is given once.
 #[derive(Drop)]
 pub struct Places {
     servers: Vec<Option<Inlet>>,
-    master: Option<Inlet>,
 }
 
 impl Places {
     ghost use Rattle.links.specs.Places.{waiting};
 
-    /// An inlet for each server by its id, none for the server itself, and one for the master.
-    pub fn new(servers: Vec<Option<Inlet>>, master: Option<Inlet>) -> Places {
-        Places { servers, master }
+    /// An inlet for each server by its id, and none for the server itself.
+    pub fn new(servers: Vec<Option<Inlet>>) -> Places {
+        Places { servers }
     }
 
-    /// The inlet for who greets with this id: none for the server itself, for an id that has greeted before, and for
-    /// an id that is neither the master's nor of the chain.
+    /// Whether an inlet waits for the server of this id.
+    pub fn is_free(&self, id: u8) -> bool
+        ensures { result ≡ is_some (waiting self.now id) }
+    {
+        is_free_at(self.servers.as_slice(), id)
+    }
+
+    /// The inlet for the server that greets with this id: none for the server itself, for one that has greeted before,
+    /// and for one that the chain hasn't.
     pub fn take(&mut self, id: u8) -> Option<Inlet>
         ensures given { result ≡ waiting self.old id }
         ensures once { waiting self.new id ≡ None }
         ensures others { (j : ℕ) → j ≢ id → waiting self.new j ≡ waiting self.old j }
     {
-        if id == MASTER {
-            return self.master.take();
-        }
         take_at(&mut self.servers, id)
+    }
+}
+
+// Whether something stands at a place.
+#[tactic(auto, using(crate::proofs::Waiting::stands_at, crate::proofs::Waiting::none_beyond))]
+fn is_free_at(servers: &[Option<Inlet>], id: u8) -> bool
+    ensures { result ≡ is_some (at_place servers.now id) }
+{
+    let place = usize::from(id);
+    if place < servers.len() {
+        servers[place].is_some()
+    } else {
+        false
     }
 }
 

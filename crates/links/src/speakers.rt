@@ -1,32 +1,34 @@
 //! Who speaks at a server's peer port, and what the server hears of it.
-ghost use Rattle.std.specs.Prelude.{◌≡◌, OnOk, OnErr};
+ghost use Rattle.std.specs.Prelude.{◌≡◌, ◌++◌, ◌∷◌, [], OnOk, OnErr};
 ghost use Rattle.peers.specs.Links.{MayCome};
 ghost use Rattle.node.specs.Lawful.{IsBody};
-ghost use Rattle.links.specs.Speakers.{Greets, Hears};
+ghost use Rattle.node.specs.declared.messages.Input.TheVariants as inputs;
+ghost use Rattle.rail.specs.declared.events.Event.TheVariants.{Took};
+ghost use Rattle.links.specs.Speakers.{Hears};
 
+use crate::histories::History;
 use crate::lobbies::{Cuts, Lobby};
-use node::Peer;
+use node::{Peer, SERVERS, View};
 use peers::TakeFault;
 use rail::Inlet;
+use std::snapshot::Snapshot;
 use std::sync::Wait;
 use wire::Frame;
 
-/// Who speaks on an accepted connection, with the inlet by which the server hears it.
+/// Who speaks on an accepted connection.
 #[derive(Drop)]
 pub enum Speaker {
-    /// It hasn't greeted.
-    Unknown,
-    /// The server of this id.
+    /// The server of this id, with the inlet by which the server hears it.
     Server(u8, Inlet),
-    /// The master.
-    Master(Inlet),
+    /// A master, with the servers of which it has brought a notice, by the inlet that all masters share.
+    Master(History<u8>),
 }
 
 impl Speaker {
-    /// Does what a frame asks for, if the frame keeps the rules: the first is a Hello with an id that still has a
-    /// place, and no other is a Hello; a server sends messages, the master sends notices of failures, and each is
-    /// brought to the server as it is. Any other frame is refused, and so is one that can't be brought; then nothing
-    /// was brought. Before a notice is brought, the connection to the server that has failed is ended. It may wait.
+    /// Does what a frame asks for, if the frame keeps the rules: a server sends messages, a master sends notices of
+    /// failures, and each is brought to the server as it is. Any other frame is refused, and so is one that can't be
+    /// brought; then nothing was brought. Before a notice is brought, the connection to the server that has failed is
+    /// ended. It may wait, also for other masters.
     pub fn hear<R: Wait, C: Cuts>(
         &mut self,
         rt: &R,
@@ -38,27 +40,13 @@ impl Speaker {
         ensures refused { OnErr result (self.new ≡ self.old) }
     {
         match frame {
-            Frame::Hello(id) => self.greet(rt, lobby, id),
             Frame::Peer(peer) => self.bring(rt, peer),
-            Frame::Gone(j) => self.tell(rt, lobby.cuts(), j),
-            // Greetings don't go on after a Hello yet.
-            Frame::Introduction(_) | Frame::Accepted(_) | Frame::Refused(_) | Frame::Noted(_) => {
-                Err(TakeFault)
-            }
-        }
-    }
-
-    // Takes the place of this id, if it hasn't greeted.
-    fn greet<R: Wait, C: Cuts>(&mut self, rt: &R, lobby: &Lobby<C>, id: u8) -> Result<(), TakeFault>
-        ensures heard { OnOk result (Hears self.old (Frame.Hello id) self.new) }
-        ensures refused { OnErr result (self.new ≡ self.old) }
-    {
-        match self {
-            Speaker::Unknown => {
-                *self = lobby.speaker(rt, id)?;
-                Ok(())
-            }
-            Speaker::Server(..) | Speaker::Master(_) => Err(TakeFault),
+            Frame::Gone(j) => self.tell(rt, lobby, j),
+            Frame::Hello(_)
+            | Frame::Introduction(_)
+            | Frame::Accepted(_)
+            | Frame::Refused(_)
+            | Frame::Noted(_) => Err(TakeFault),
         }
     }
 
@@ -73,34 +61,42 @@ impl Speaker {
                 Ok(()) => Ok(()),
                 Err(_) => Err(TakeFault),
             },
-            Speaker::Unknown | Speaker::Master(_) => Err(TakeFault),
+            Speaker::Master(_) => Err(TakeFault),
         }
     }
 
-    // Brings a notice that server `j` has failed, if the master speaks. The link to that server is cut first.
-    fn tell<R: Wait, C: Cuts>(&mut self, rt: &R, cuts: &C, j: u8) -> Result<(), TakeFault>
+    // Brings a notice that server `j` has failed, if a master speaks. The link to that server is cut first.
+    fn tell<R: Wait, C: Cuts>(&mut self, rt: &R, lobby: &Lobby<C>, j: u8) -> Result<(), TakeFault>
         ensures heard { OnOk result (Hears self.old (Frame.Gone j) self.new) }
         ensures refused { OnErr result (self.new ≡ self.old) }
     {
         match self {
-            Speaker::Master(inlet) => {
-                cuts.cut(j);
-                match inlet.gone(rt, j) {
-                    Ok(()) => Ok(()),
-                    Err(_) => Err(TakeFault),
+            Speaker::Master(told) => {
+                if j < SERVERS {
+                    lobby.learn(rt, View::single(j));
                 }
+                let mut inlet = lobby.notices().lock(rt);
+                bring_notice(rt, &mut inlet, told, j)
             }
-            Speaker::Unknown | Speaker::Server(..) => Err(TakeFault),
+            Speaker::Server(..) => Err(TakeFault),
         }
     }
+}
 
-    /// Stops the server, if the speaker has greeted.
-    pub fn stop<R: Wait>(&mut self, rt: &R) {
-        match self {
-            Speaker::Server(_, inlet) | Speaker::Master(inlet) => {
-                let _ = inlet.stop(rt);
-            }
-            Speaker::Unknown => {}
-        }
+// Brings the notice that server `j` has failed by the inlet that all masters share, and adds it to what this master has
+// told.
+fn bring_notice<R: Wait>(
+    rt: &R,
+    inlet: &mut Inlet,
+    told: &mut History<u8>,
+    j: u8,
+) -> Result<(), TakeFault>
+    ensures brought { OnOk result (inlet.new ≡ inlet.old ++ Took (inputs.Gone j) ∷ []) }
+    ensures told { OnOk result (told.new ≡ told.old ++ j ∷ []) }
+    ensures refused { OnErr result (told.new ≡ told.old) }
+{
+    if inlet.gone(rt, j).is_ok() && told.add(Snapshot::of(&j)).is_ok() {
+        return Ok(());
     }
+    Err(TakeFault)
 }

@@ -5,12 +5,12 @@ use crate::keepalive::keep_alive;
 use crate::short_frames::{Deadline, Heard, next_frame};
 use bytes::BytesMut;
 use ends::TrackedWriter;
+pub(crate) use links::Identity;
 use peers::put_all;
 use std::alloc::{AllocError, Global};
 use std::net::{Net, TcpListener, TcpStream, ToSocketAddrs};
 use std::thread;
 use std::time::{Clock, Duration, Instant};
-use table::Key;
 use wire::{Acceptance, Frame, Introduction, Reason, encode_onto};
 
 /// How often a server tries to connect to a peer, if that doesn't take longer.
@@ -33,19 +33,6 @@ const SMALL: usize = 12;
 
 /// Where frames for a peer go.
 pub(crate) type PeerSink = TrackedWriter<TcpStream>;
-
-/// Who opens connections, and what it tells of its chain.
-#[derive(Drop)]
-pub(crate) struct Identity {
-    /// A server's id, or the master's.
-    pub(crate) id: u8,
-    /// How many servers its chain has.
-    pub(crate) servers: u8,
-    /// The number of this start of the process.
-    pub(crate) start: u64,
-    /// The chain's name.
-    pub(crate) chain: Key,
-}
 
 /// A connection that a server has accepted.
 #[derive(Drop)]

@@ -1,21 +1,23 @@
 //! The peer port of a server: a thread that accepts connections, and one for each of them.
 
+use crate::arrivals::Arrivals;
 use crate::cuts::Connections;
+use crate::greeters::Greeter;
 use crate::keepalive::keep_alive;
 use crate::link_lines::{tell_from, tell_master, tell_old};
 use crate::refusals::Refusals;
-use crate::strangers::{Opening, Strangers, read_opening};
+use crate::strangers::{Greeting, Strangers, read_greeting};
 use crate::told_guests::{Name, ToldGuest};
-use ends::TrackedReader;
-use links::{Guest, Lobby};
+use ends::{TrackedReader, TrackedWriter};
+use links::{Guest, Lobby, Speaker};
 use peers::{LinkFault, serve_peer};
 use std::alloc::{AllocError, Global};
-use std::io::Read;
 use std::net::{TcpListener, TcpStream};
 use std::sync::{Arc, Wait};
 use std::thread;
 use std::thread::{JoinHandle, Threads};
 use std::time::{Clock, Duration};
+use wire::{Introduction, Reason};
 
 /// The pause after a connection that can't be accepted, in milliseconds.
 const PAUSE: u64 = 50;
@@ -26,7 +28,10 @@ struct PeerDoor {
     id: u8,
     alloc: Global,
     lobby: Arc<Lobby<Connections>, Global>,
+    arrivals: Arc<Arrivals, Global>,
     strangers: Strangers,
+    masters: Strangers,
+    greeter: Greeter,
 }
 
 /// Starts the thread that accepts connections at the peer port of server `id` and brings what they send to the server.
@@ -35,14 +40,18 @@ pub(crate) fn open_peer_door<R: Wait + Threads + Clock + Eprint + Copy + Drop + 
     rt: R,
     alloc: Global,
     listener: TcpListener,
-    lobby: Lobby<Connections>,
-    id: u8,
+    lobby: &Arc<Lobby<Connections>, Global>,
+    arrivals: &Arc<Arrivals, Global>,
 ) -> Result<JoinHandle<()>, AllocError> {
+    let id = lobby.host().id;
     let door = PeerDoor {
         id,
         alloc,
-        lobby: Arc::new(alloc, lobby)?,
+        lobby: Arc::try_clone(lobby)?,
+        arrivals: Arc::try_clone(arrivals)?,
         strangers: Strangers::new(alloc),
+        masters: Strangers::new(alloc),
+        greeter: Greeter::new(id),
     };
     let door = Arc::new(alloc, door)?;
     match thread::spawn(&rt, move || accept_all(rt, listener, &door)) {
@@ -83,6 +92,7 @@ fn receive<R: Wait + Threads + Clock + Eprint + Copy + Drop + Send + 'static>(
     stream: TcpStream,
 ) -> Result<(), AllocError> {
     keep_alive(&stream);
+    let _ = stream.set_nodelay(true);
     let stream = Arc::new(door.alloc, stream)?;
     let shared = Arc::try_clone(door)?;
     door.strangers.admit(&rt, number, &stream)?;
@@ -95,41 +105,92 @@ fn receive<R: Wait + Threads + Clock + Eprint + Copy + Drop + Send + 'static>(
 }
 
 impl PeerDoor {
-    // Waits for a Hello, and then serves the connection as long as it keeps the rules.
-    fn attend<R: Wait + Clock + Eprint>(&self, rt: &R, number: u64, stream: &TcpStream) {
-        let opened = read_opening(rt, stream);
-        let is_there = self.strangers.release(rt, number);
-        match opened {
-            Opening::Hello(hello) if is_there => self.serve(rt, hello, stream),
-            Opening::Old => tell_old(rt, self.id),
-            Opening::Hello(_) | Opening::Nothing => {}
+    // Waits for a greeting and answers it. Who is accepted is served as long as it keeps the rules.
+    fn attend<R: Wait + Clock + Eprint>(
+        &self,
+        rt: &R,
+        number: u64,
+        stream: &Arc<TcpStream, Global>,
+    ) {
+        let greeting = read_greeting(rt, self.alloc, stream);
+        if !self.strangers.release(rt, number) {
+            return;
+        }
+        match greeting {
+            Greeting::Whole(id, opener) => self.answer(rt, number, id, &opener, stream),
+            Greeting::Short(id) => {
+                let _ = stream.set_read_timeout(None);
+                self.greeter
+                    .refuse(rt, self.alloc, id, Reason::Format, stream);
+            }
+            Greeting::Old => tell_old(rt, self.id),
+            Greeting::Nothing => {}
         }
     }
 
-    // Serves a connection that begins with these bytes. If memory runs out after it has greeted, the server is stopped.
-    fn serve<R: Wait + Eprint>(&self, rt: &R, hello: [u8; 3], stream: &TcpStream) {
+    // Answers who greets with this id.
+    fn answer<R: Wait + Clock + Eprint>(
+        &self,
+        rt: &R,
+        number: u64,
+        id: u8,
+        opener: &Introduction,
+        stream: &Arc<TcpStream, Global>,
+    ) {
+        match self.lobby.greet(rt, self.alloc, id, opener) {
+            Ok((speaker, acceptance)) => {
+                let name = Name::new(id);
+                if !self.greeter.accept(self.alloc, acceptance, stream) {
+                    self.tell(rt, name, "broke");
+                    return;
+                }
+                match name {
+                    Name::Server(id) => {
+                        self.arrivals.here(rt, id, opener.start);
+                        self.serve(rt, name, speaker, stream);
+                    }
+                    Name::Master => {
+                        if self.masters.admit(rt, number, stream).is_ok() {
+                            self.serve(rt, name, speaker, stream);
+                            self.masters.release(rt, number);
+                        }
+                    }
+                }
+            }
+            Err(reason) => self.greeter.refuse(rt, self.alloc, id, reason, stream),
+        }
+    }
+
+    // Serves a connection that was accepted. If memory runs out for a server's, this server is stopped, since what the
+    // other one still sends is lost.
+    fn serve<R: Wait + Eprint>(&self, rt: &R, name: Name, speaker: Speaker, stream: &TcpStream) {
         let Ok(lobby) = Arc::try_clone(&self.lobby) else {
             return;
         };
-        let mut source = TrackedReader::new(hello.as_slice().chain(stream));
-        let mut guest = ToldGuest::new(Guest::new(self.alloc, lobby));
+        let mut source = TrackedReader::new(stream);
+        let sink = TrackedWriter::new(stream);
+        let guest = Guest::new(self.alloc, lobby, speaker, sink);
+        let mut guest = ToldGuest::new(name, guest);
         let end = serve_peer(rt, self.alloc, &mut source, &mut guest);
-        if let Err(LinkFault::Memory) = end {
-            guest.taker.stop(rt);
+        if let (Name::Server(_), Err(LinkFault::Memory)) = (name, end) {
+            self.lobby.stop(rt);
         }
         if let Some(reason) = guest.reason(end) {
-            self.tell(rt, guest.name(), reason);
+            self.tell(rt, name, reason);
         }
     }
 
-    // Tells why a connection isn't heard any more. Of a server that was called gone nothing is told.
-    fn tell<R: Eprint>(&self, rt: &R, name: Name, reason: &str) {
+    // Tells why a connection isn't heard any more. Of a server that was called gone nothing is told, and before this one
+    // is ready another thread tells.
+    fn tell<R: Wait + Eprint>(&self, rt: &R, name: Name, reason: &'static str) {
         match name {
-            Name::Server(from) if !self.lobby.cuts().is_gone(from) => {
-                tell_from(rt, self.id, from, reason);
+            Name::Server(from) => {
+                let is_early = self.arrivals.lost(rt, from, reason);
+                if !is_early && !self.lobby.cuts().is_gone(from) {
+                    tell_from(rt, self.id, from, reason);
+                }
             }
             Name::Master => tell_master(rt, self.id, reason),
-            Name::Server(_) | Name::Unknown => {}
         }
     }
 }

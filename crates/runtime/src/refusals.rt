@@ -1,7 +1,8 @@
 //! Connections that a port can't take.
 
+use crate::paces::Pace;
 use std::io::Error;
-use std::time::{Clock, Instant};
+use std::time::Clock;
 
 /// How many seconds pass at least between two lines.
 const QUIET: u64 = 60;
@@ -20,18 +21,21 @@ const NO_FILES: &str = "has as many open files as it may";
 #[derive(Drop)]
 pub(crate) struct Refusals {
     id: u8,
-    last: Option<Instant>,
+    pace: Pace,
 }
 
 impl Refusals {
     /// Before the first line of server `id`.
     pub(crate) fn new(id: u8) -> Refusals {
-        Refusals { id, last: None }
+        Refusals {
+            id,
+            pace: Pace::new(QUIET),
+        }
     }
 
     /// A connection couldn't be accepted.
     pub(crate) fn tell<R: Clock + Eprint>(&mut self, rt: &R, fault: &Error) {
-        if !self.is_time(rt) {
+        if !self.pace.is_time(rt) {
             return;
         }
         let id = self.id;
@@ -50,23 +54,9 @@ impl Refusals {
 
     /// There was no memory or no thread for a connection.
     pub(crate) fn tell_no_thread<R: Clock + Eprint>(&mut self, rt: &R) {
-        if self.is_time(rt) {
+        if self.pace.is_time(rt) {
             let id = self.id;
             let _ = eprintln!(rt; "craq: server {id}: {NO_ACCEPT}: memory or threads ran out");
         }
-    }
-
-    // Whether a line may be written now.
-    fn is_time<R: Clock>(&mut self, rt: &R) -> bool {
-        let Ok(now) = Instant::now(rt) else {
-            return false;
-        };
-        if let Some(last) = self.last {
-            if now.duration_since(last).as_secs() < QUIET {
-                return false;
-            }
-        }
-        self.last = Some(now);
-        true
     }
 }

@@ -1,26 +1,31 @@
 //! The command `server`: one server of a chain in a process of its own.
 
+use crate::arrivals::Arrivals;
+use crate::banners::tell_server;
+use crate::cuts::Connections;
 use crate::doors::serve_seats;
 use crate::outgoing::{LinkSink, Outgoing};
 use crate::peer_doors::open_peer_door;
 use crate::server_faults::{ServerFault, tell};
 use crate::settings::{ServerSettings, port_of};
 use crate::sides::{all_callers, idle_node};
-use command_line::{FAILED, MEMORY};
+use crate::starts::start_number;
+use command_line::ServerNumbers;
 use ends::{Sink, write_all};
-use links::{Lobby, PeerLinks, Places};
+use links::{Identity, Lobby, PeerLinks, Places};
 use node::SERVERS;
-use rail::{Inlet, RailFault, Server, Turn, Worker, open};
+use rail::{Inlet, RailFault, Server, Stand, Turn, Worker, open};
 use seats::Mark;
 use std::alloc::Global;
 use std::net::{Net, SocketAddr, TcpListener, TcpStream};
-use std::sync::Wait;
+use std::sync::{Arc, Wait};
 use std::thread::Threads;
 use std::time::Clock;
 
-/// Runs one server of a chain, until a fault ends it. It connects to each other server, and says `ready` when these
-/// links stand. It answers the exit status, after a line on `errors`: 1 if a port is taken, a peer can't be reached or
-/// the output can't be written, or 3 if memory is out. Its other threads go on until the process ends.
+/// Runs one server of a chain, until a fault ends it, or it is called gone. It connects to each other server, waits until
+/// each has connected to it, says `ready`, and serves clients from then on. It answers the exit status, after a line on
+/// `errors`: 1 if a port is taken, a peer can't be reached or refuses it, a link breaks before it is ready, or the output
+/// can't be written; 3 if memory is out; 4 if it was called gone. Its other threads go on until the process ends.
 pub fn server<
     R: Wait
         + Threads
@@ -35,20 +40,20 @@ pub fn server<
     X: Sink,
 >(rt: R, alloc: Global, settings: &ServerSettings, output: &mut W, errors: &mut X) -> u8 {
     let fault = match Running::open(rt, alloc, settings, errors) {
-        Ok(running) => running.work(&rt, output),
+        Ok(running) => running.work(rt, alloc, output),
         Err(fault) => fault,
     };
     tell(fault, settings, errors);
-    match fault {
-        ServerFault::Memory => MEMORY,
-        _ => FAILED,
-    }
+    fault.status()
 }
 
-// A server whose doors are open.
+// A server whose links stand.
 struct Running<R: Wait + Eprint + Drop> {
     worker: Worker<R>,
     links: PeerLinks<LinkSink<R>>,
+    lobby: Arc<Lobby<Connections>, Global>,
+    clients: TcpListener,
+    stands: Vec<Stand>,
     failed: Mark,
 }
 
@@ -60,7 +65,8 @@ struct Ports {
 }
 
 impl<R: Wait + Eprint + Copy + Drop + Send + 'static> Running<R> {
-    // Opens the ports, connects to the other servers, and starts the threads that serve clients and peers.
+    // Opens the ports, starts the threads that serve peers, connects to the other servers, and waits until they have
+    // connected too.
     fn open<X: Sink>(
         rt: R,
         alloc: Global,
@@ -70,53 +76,127 @@ impl<R: Wait + Eprint + Copy + Drop + Send + 'static> Running<R> {
     where
         R: Threads + Clock + Net<Listener = TcpListener, Stream = TcpStream>,
     {
-        let ports = Ports::open(&rt, settings)?;
-        warn(&ports.peers, errors);
-        let Outgoing { links, connections } = Outgoing::open(rt, alloc, settings)?;
+        let Ports { clients, peers } = Ports::open(&rt, settings)?;
+        warn(&peers, errors);
+        tell_server(settings, errors);
         let Server {
             worker,
             stands,
             inlets,
         } = idle_server(rt, alloc, settings)?;
-        let places = all_places(alloc, settings, inlets)?;
         let failed = Mark::new(alloc)?;
-        let callers = all_callers(alloc, stands, &failed)?;
-        let lobby = Lobby::new(places, connections);
-        let _ = open_peer_door(rt, alloc, ports.peers, lobby, settings.numbers.id)?;
-        let _ = serve_seats(rt, alloc, &ports.clients, callers, 0, &failed)?;
-        let links = PeerLinks::new(alloc, links);
+        let lobby = new_lobby(&rt, alloc, settings, inlets, &failed)?;
+        let links = connected(rt, alloc, settings, &lobby, peers)?;
         Ok(Running {
             worker,
             links,
+            lobby,
+            clients,
+            stands,
             failed,
         })
     }
 
-    // Says that it is ready, and takes the worker's turns until it stops. It answers why.
-    fn work<W: Sink>(self, rt: &R, output: &mut W) -> ServerFault {
+    // Says that it is ready, serves clients, and takes the worker's turns until it stops. It answers why.
+    fn work<W: Sink>(self, rt: R, alloc: Global, output: &mut W) -> ServerFault
+    where
+        R: Threads,
+    {
         let Running {
             worker,
             mut links,
+            lobby,
+            clients,
+            stands,
             failed,
         } = self;
-        let fault = match write_all(output, b"ready\n") {
-            Ok(()) => take_turns(rt, worker, &mut links),
-            Err(_) => ServerFault::Run,
+        let fault = match serve_clients(rt, alloc, &clients, stands, &failed, output) {
+            Ok(()) => take_turns(&rt, worker, &mut links, lobby.cuts()),
+            Err(fault) => fault,
         };
         failed.set();
         fault
     }
 }
 
-// Takes turns until the worker stops, and answers why it does.
+// Says that the server is ready, and starts the threads that serve clients.
+fn serve_clients<R: Wait + Threads + Copy + Drop + Send + 'static, W: Sink>(
+    rt: R,
+    alloc: Global,
+    clients: &TcpListener,
+    stands: Vec<Stand>,
+    failed: &Mark,
+    output: &mut W,
+) -> Result<(), ServerFault> {
+    let callers = all_callers(alloc, stands, failed)?;
+    if write_all(output, b"ready\n").is_err() {
+        return Err(ServerFault::Run);
+    }
+    let _ = serve_seats(rt, alloc, clients, callers, 0, failed)?;
+    Ok(())
+}
+
+// The lobby of a server, which other servers and masters enter.
+fn new_lobby<R: Clock>(
+    rt: &R,
+    alloc: Global,
+    settings: &ServerSettings,
+    inlets: Vec<Inlet>,
+    failed: &Mark,
+) -> Result<Arc<Lobby<Connections>, Global>, ServerFault> {
+    let ServerNumbers { id, servers, .. } = settings.numbers;
+    let host = Identity {
+        id,
+        servers,
+        start: start_number(rt),
+        chain: settings.chain.clone()?,
+    };
+    let (places, notices) = all_places(alloc, settings, inlets)?;
+    let connections = Connections::new(alloc, id, servers, failed.share()?)?;
+    let lobby = Lobby::new(host, places, notices, connections);
+    Ok(Arc::new(alloc, lobby)?)
+}
+
+// Starts the threads that serve peers, and connects to the other servers. It gives the links once they have connected
+// too.
+fn connected<
+    R: Wait
+        + Threads
+        + Clock
+        + Eprint
+        + Net<Listener = TcpListener, Stream = TcpStream>
+        + Copy
+        + Drop
+        + Send
+        + 'static,
+>(
+    rt: R,
+    alloc: Global,
+    settings: &ServerSettings,
+    lobby: &Arc<Lobby<Connections>, Global>,
+    peers: TcpListener,
+) -> Result<PeerLinks<LinkSink<R>>, ServerFault> {
+    let arrivals = Arc::new(alloc, Arrivals::new(alloc, settings.numbers.servers)?)?;
+    let _ = open_peer_door(rt, alloc, peers, lobby, &arrivals)?;
+    let Outgoing { links, starts } = Outgoing::open(rt, alloc, settings, lobby)?;
+    arrivals.wait_for_all(&rt, starts.as_slice(), lobby.cuts())?;
+    Ok(PeerLinks::new(alloc, links))
+}
+
+// Takes turns until the worker stops or the server was called gone, and answers why.
 fn take_turns<R: Wait + Eprint + Drop>(
     rt: &R,
     worker: Worker<R>,
     links: &mut PeerLinks<LinkSink<R>>,
+    connections: &Connections,
 ) -> ServerFault {
     let mut worker = worker;
     for _ in rt.forever() {
-        match worker.turn(links) {
+        let turn = worker.turn(links);
+        if connections.has_ended() {
+            return ServerFault::Gone;
+        }
+        match turn {
             Ok(Turn::Went) => {}
             Ok(Turn::Stopped) | Err(RailFault::Memory) => return ServerFault::Memory,
             Ok(Turn::End) | Err(_) => return ServerFault::Run,
@@ -192,12 +272,12 @@ fn idle_server<R: Wait + Copy + Drop>(
     }
 }
 
-// The places of the other servers and of the master.
+// The places of the other servers, and the inlet of all masters.
 fn all_places(
     alloc: Global,
     settings: &ServerSettings,
     inlets: Vec<Inlet>,
-) -> Result<Places, ServerFault> {
+) -> Result<(Places, Inlet), ServerFault> {
     let mut inlets = inlets;
     let mut places = Vec::new(alloc);
     for j in 0..settings.numbers.servers {
@@ -208,5 +288,8 @@ fn all_places(
         };
         places.push(inlet)?;
     }
-    Ok(Places::new(places, inlets.pop()))
+    match inlets.pop() {
+        Some(notices) => Ok((Places::new(places), notices)),
+        None => Err(ServerFault::Run),
+    }
 }

@@ -1,8 +1,9 @@
 //! What a server, or the master, of a chain in several processes is told.
-ghost use Rattle.std.specs.Prelude.{◌≡◌, ◌<◌, length, IfOk};
+ghost use Rattle.std.specs.Prelude.{◌≡◌, ◌<◌, length, IfOk, string_bytes};
 
 use command_line::{Hosts, MasterNumbers, ServerNumbers, UsageFault};
 use std::alloc::{AllocError, Global};
+use table::Key;
 
 /// What is printed if the id is that of no server of the chain.
 const NO_SERVER: &str = "error: the id is not below the number of servers\n";
@@ -13,6 +14,9 @@ const NO_HOSTS: &str = "error: --peers names not one host for each server\n";
 /// What is printed if a server is to listen nowhere.
 const NO_ADDRESS: &str = "error: --address names no host\n";
 
+/// What is printed if the chain's name isn't one.
+const NO_CHAIN: &str = "error: --chain names no chain: 1 to 250 bytes, none of them blank\n";
+
 /// Which server of a chain runs, where it listens, and where the others are.
 #[derive(Debug, Drop)]
 pub struct ServerSettings {
@@ -22,6 +26,8 @@ pub struct ServerSettings {
     pub address: String,
     /// The host of each server, by its id.
     pub hosts: Vec<String>,
+    /// The chain's name.
+    pub chain: Key,
 }
 
 /// Whom a master tells.
@@ -31,10 +37,13 @@ pub struct MasterSettings {
     pub numbers: MasterNumbers,
     /// The host of each server, by its id.
     pub hosts: Vec<String>,
+    /// The chain's name.
+    pub chain: Key,
 }
 
 impl ServerSettings {
-    /// What these words tell a server. It is refused if the id is that of no server, or there isn't one host for each.
+    /// What these words tell a server. It is refused if the id is that of no server, there isn't one host for each, or the
+    /// chain's name isn't one.
     pub fn new(
         alloc: Global,
         numbers: ServerNumbers,
@@ -44,21 +53,25 @@ impl ServerSettings {
         ensures address { IfOk result (λ settings. settings.address ≡ hosts.address) }
         ensures id { IfOk result (λ settings. settings.numbers.id < settings.numbers.servers) }
         ensures hosts { IfOk result (λ settings. length settings.hosts.items ≡ settings.numbers.servers) }
+        ensures chain { IfOk result (λ settings. settings.chain ≡ string_bytes hosts.chain) }
     {
         if numbers.id >= numbers.servers {
             return Err(usage(alloc, NO_SERVER));
         }
         let all = hosts_of(alloc, &hosts, numbers.servers)?;
+        let chain = chain_of(alloc, &hosts)?;
         Ok(ServerSettings {
             numbers,
             address: hosts.address,
             hosts: all,
+            chain,
         })
     }
 }
 
 impl MasterSettings {
-    /// What these words tell a master. It is refused if there isn't one host for each server.
+    /// What these words tell a master. It is refused if there isn't one host for each server, or the chain's name isn't
+    /// one.
     pub fn new(
         alloc: Global,
         numbers: MasterNumbers,
@@ -66,15 +79,31 @@ impl MasterSettings {
     ) -> Result<MasterSettings, UsageFault>
         ensures numbers { IfOk result (λ settings. settings.numbers ≡ numbers) }
         ensures hosts { IfOk result (λ settings. length settings.hosts.items ≡ settings.numbers.servers) }
+        ensures chain { IfOk result (λ settings. settings.chain ≡ string_bytes hosts.chain) }
     {
-        let hosts = hosts_of(alloc, &hosts, numbers.servers)?;
-        Ok(MasterSettings { numbers, hosts })
+        let all = hosts_of(alloc, &hosts, numbers.servers)?;
+        let chain = chain_of(alloc, &hosts)?;
+        Ok(MasterSettings {
+            numbers,
+            hosts: all,
+            chain,
+        })
     }
 }
 
 /// The port of server i, if this is the port of server 0.
 pub(crate) fn port_of(first: u16, i: u8) -> u16 {
     first.wrapping_add(u16::from(i))
+}
+
+// The chain's name.
+fn chain_of(alloc: Global, hosts: &Hosts) -> Result<Key, UsageFault>
+    ensures { IfOk result (λ chain. chain ≡ string_bytes hosts.now.chain) }
+{
+    match Key::new(alloc, hosts.chain.as_bytes())? {
+        Some(chain) => Ok(chain),
+        None => Err(usage(alloc, NO_CHAIN)),
+    }
 }
 
 // The host of each server: those of the list, else the address for each.

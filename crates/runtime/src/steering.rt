@@ -1,6 +1,7 @@
 //! The command `cluster`: runs a chain, and fails the servers that its input names.
 
 use crate::answers::Answers;
+use crate::banners::tell_cluster;
 use crate::cluster_faults::ClusterFault;
 use crate::clusters::Cluster;
 use crate::homes::StopFault;
@@ -69,6 +70,7 @@ fn steer<
     let mut line = empty_line(alloc)?;
     let mut answers = Answers::new(alloc)?;
     let cluster = Cluster::open(rt, alloc, numbers)?;
+    tell_cluster(numbers, errors);
     if write_all(output, b"ready\n").is_err() {
         return Err(ClusterFault::Run);
     }

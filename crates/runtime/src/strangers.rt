@@ -1,74 +1,88 @@
 //! Connections to the peer port that haven't greeted: how long they may take, and how many there are.
 
+use crate::short_frames::{Deadline, Heard, next_frame};
 use std::alloc::{AllocError, Global};
-use std::io::Read;
 use std::net::{Shutdown, TcpStream};
 use std::sync::{Arc, Mutex, Wait};
-use std::time::{Clock, Duration, Instant};
+use std::time::Clock;
+use wire::{Frame, Introduction};
 
 /// How many there are at a time. If one more comes, the oldest is closed.
 const MOST: usize = 64;
 
-/// How many seconds one may take for its Hello.
+/// How many seconds one may take for its greeting.
 const PATIENCE: u64 = 5;
 
-/// The first byte of each frame, that of the older format, and the second byte of a Hello (docs/FORMATS.md, "Peer
-/// messages").
-const FORMAT: u8 = 2;
+/// The most bytes of a Hello, and of an introduction.
+const HELLO: usize = 3;
 
-const OLD_FORMAT: u8 = 1;
-
-const HELLO: u8 = 0;
+const INTRODUCTION: usize = 262;
 
 /// How a connection begins.
-#[derive(Clone, Copy, Debug, PartialEq, Eq)]
-pub(crate) enum Opening {
-    /// These are the bytes of a Hello.
-    Hello([u8; 3]),
+#[derive(Drop)]
+pub(crate) enum Greeting {
+    /// Who greets, and how it introduces itself.
+    Whole(u8, Introduction),
+    /// Who greets, without an introduction, or not in time.
+    Short(u8),
     /// Something older speaks there.
     Old,
     /// It has no Hello, or not in time.
     Nothing,
 }
 
-/// How a connection begins. It reads no more than a Hello, waits at most five seconds for it, and leaves a connection
-/// with a Hello without limit.
-pub(crate) fn read_opening<R: Clock>(rt: &R, stream: &TcpStream) -> Opening {
-    let Ok(begun) = Instant::now(rt) else {
-        return Opening::Nothing;
+/// How a connection begins. It reads no more than a greeting, and waits at most five seconds for it.
+pub(crate) fn read_greeting<R: Clock>(rt: &R, alloc: Global, stream: &TcpStream) -> Greeting {
+    let Some(deadline) = Deadline::after(rt, PATIENCE) else {
+        return Greeting::Nothing;
     };
-    match next_byte(rt, stream, begun) {
-        Some(FORMAT) => {}
-        Some(OLD_FORMAT) => return Opening::Old,
-        _ => return Opening::Nothing,
+    match read_hello(rt, alloc, stream, deadline) {
+        Opening::Hello(id) => match next_frame(rt, alloc, stream, deadline, INTRODUCTION) {
+            Ok(Heard::Frame(frame)) => greeting_of(id, frame),
+            Ok(Heard::Old | Heard::Nothing) => Greeting::Short(id),
+            Err(AllocError) => Greeting::Nothing,
+        },
+        Opening::Old => Greeting::Old,
+        Opening::Nothing => Greeting::Nothing,
     }
-    if next_byte(rt, stream, begun) != Some(HELLO) {
-        return Opening::Nothing;
+}
+
+// What stands first.
+#[derive(Clone, Copy, Debug, PartialEq, Eq)]
+enum Opening {
+    // A Hello with this id.
+    Hello(u8),
+    // A byte of an older format.
+    Old,
+    // Anything else.
+    Nothing,
+}
+
+fn read_hello<R: Clock>(rt: &R, alloc: Global, stream: &TcpStream, deadline: Deadline) -> Opening {
+    match next_frame(rt, alloc, stream, deadline, HELLO) {
+        Ok(Heard::Frame(frame)) => opening_of(&frame),
+        Ok(Heard::Old) => Opening::Old,
+        Ok(Heard::Nothing) => Opening::Nothing,
+        Err(AllocError) => Opening::Nothing,
     }
-    match next_byte(rt, stream, begun) {
-        Some(id) if stream.set_read_timeout(None).is_ok() => Opening::Hello([FORMAT, HELLO, id]),
+}
+
+fn opening_of(frame: &Frame) -> Opening {
+    match frame {
+        Frame::Hello(id) => Opening::Hello(*id),
         _ => Opening::Nothing,
     }
 }
 
-// The next byte, if it comes within five seconds from then.
-fn next_byte<R: Clock>(rt: &R, stream: &TcpStream, begun: Instant) -> Option<u8> {
-    let Ok(passed) = begun.elapsed(rt) else {
-        return None;
-    };
-    let left = Duration::from_secs(PATIENCE).checked_sub(passed)?;
-    if left < Duration::from_millis(1) || stream.set_read_timeout(Some(left)).is_err() {
-        return None;
-    }
-    let mut byte = [0u8];
-    let mut source = stream;
-    match source.read(byte.as_mut_slice()) {
-        Ok(1) => Some(byte[0]),
-        _ => None,
+// The greeting of who has said Hello with this id, and then this.
+fn greeting_of(id: u8, frame: Frame) -> Greeting {
+    match frame {
+        Frame::Introduction(opener) => Greeting::Whole(id, opener),
+        _ => Greeting::Short(id),
     }
 }
 
-/// The connections that haven't greeted.
+/// Connections of one kind: those that haven't greeted, or those of masters.
 #[derive(Drop)]
 pub(crate) struct Strangers {
     // The oldest first.

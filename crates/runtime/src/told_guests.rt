@@ -4,27 +4,36 @@ use peers::{LinkFault, PeerEnd, TakeFault, Taker};
 use std::sync::Wait;
 use wire::{Frame, MASTER};
 
-/// Who speaks on a connection, as far as it has greeted.
+/// Who speaks on a connection.
 #[derive(Clone, Copy, Debug, PartialEq, Eq)]
 pub(crate) enum Name {
-    /// It hasn't greeted, or its greeting was refused.
-    Unknown,
     /// The server of this id.
     Server(u8),
-    /// The master.
+    /// A master.
     Master,
+}
+
+impl Name {
+    /// Who greets with this id.
+    pub(crate) fn new(id: u8) -> Name {
+        if id == MASTER {
+            Name::Master
+        } else {
+            Name::Server(id)
+        }
+    }
 }
 
 /// What a frame is for.
 #[derive(Clone, Copy, Debug, PartialEq, Eq)]
 pub(crate) enum Kind {
-    /// It greets, with this id.
-    Hello(u8),
+    /// It greets.
+    Hello,
     /// It tells that a server has failed.
     Notice,
     /// It is a message between servers.
     Message,
-    /// It belongs to a greeting that isn't in use.
+    /// It introduces, or answers.
     Greeting,
 }
 
@@ -38,18 +47,13 @@ pub(crate) struct ToldGuest<T> {
 }
 
 impl<T: Taker> ToldGuest<T> {
-    /// One who hasn't greeted.
-    pub(crate) fn new(taker: T) -> ToldGuest<T> {
+    /// One who has this name, and has said nothing yet.
+    pub(crate) fn new(name: Name, taker: T) -> ToldGuest<T> {
         ToldGuest {
             taker,
-            name: Name::Unknown,
+            name,
             refused: None,
         }
-    }
-
-    /// Who it is.
-    pub(crate) fn name(&self) -> Name {
-        self.name
     }
 
     /// Why it isn't heard any more, in words that go on from "the link from server I" or "the connection of the
@@ -76,10 +80,7 @@ impl<T: Taker> Taker for ToldGuest<T> {
     fn take<R: Wait>(&mut self, rt: &R, frame: Frame) -> Result<(), TakeFault> {
         let kind = kind_of(&frame);
         match self.taker.take(rt, frame) {
-            Ok(()) => {
-                self.name = name_after(self.name, kind);
-                Ok(())
-            }
+            Ok(()) => Ok(()),
             Err(fault) => {
                 self.refused = Some(kind);
                 Err(fault)
@@ -90,7 +91,7 @@ impl<T: Taker> Taker for ToldGuest<T> {
 
 fn kind_of(frame: &Frame) -> Kind {
     match frame {
-        Frame::Hello(id) => Kind::Hello(*id),
+        Frame::Hello(_) => Kind::Hello,
         Frame::Gone(_) => Kind::Notice,
         Frame::Peer(_) => Kind::Message,
         Frame::Introduction(_) | Frame::Accepted(_) | Frame::Refused(_) | Frame::Noted(_) => {
@@ -99,29 +100,16 @@ fn kind_of(frame: &Frame) -> Kind {
     }
 }
 
-// Who speaks, after a frame of this kind was taken.
-fn name_after(name: Name, kind: Kind) -> Name {
-    match kind {
-        Kind::Hello(MASTER) => Name::Master,
-        Kind::Hello(id) => Name::Server(id),
-        Kind::Notice | Kind::Message | Kind::Greeting => name,
-    }
-}
-
 // Which rule a frame that was refused has broken.
 fn reason_of(name: Name, refused: Option<Kind>) -> Option<&'static str> {
     match (name, refused) {
-        (Name::Server(_) | Name::Master, Some(Kind::Hello(_))) => {
-            Some("was closed after a second Hello")
-        }
+        (_, Some(Kind::Hello)) => Some("was closed after a second Hello"),
+        (_, Some(Kind::Greeting)) => Some("was closed after a frame that belongs to greetings"),
         (Name::Server(_), Some(Kind::Notice)) => {
             Some("was closed after a notice of a failure, which only the master may send")
         }
         (Name::Master, Some(Kind::Message)) => {
             Some("was closed after a message that only servers may send")
-        }
-        (Name::Server(_) | Name::Master, Some(Kind::Greeting)) => {
-            Some("was closed after a frame of a greeting that isn't in use")
         }
         _ => None,
     }

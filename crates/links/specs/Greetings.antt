@@ -1,0 +1,37 @@
+-- Who is accepted at a server's peer port, and why others aren't (this project's rule).
+use Rattle.std.specs.Prelude.{ℕ, Bool, not, ◌&&◌, ◌||◌, if◌then◌else◌, nat_eq, nat_lt, is_some, Option, Some, None}
+use Rattle.std.specs.Prelude.{◌≡◌, []}
+use Rattle.std.specs.Cmp.Lexicographic.{pointwise}
+use Rattle.node.specs.Views.{has}
+use Rattle.wire.specs.declared.greetings.Introduction.{Introduction}
+use Rattle.wire.specs.declared.greetings.Reason.{Reason}
+use Rattle.wire.specs.declared.greetings.Reason.TheVariants.{Servers, Chain, Taken, Gone}
+use Rattle.links.specs.declared.desks.Desk.{Desk}
+use Rattle.links.specs.declared.identities.Identity.{Identity}
+use Rattle.links.specs.declared.speakers.Speaker.{Speaker}
+use Rattle.links.specs.declared.speakers.Speaker.TheVariants.{Server, Master}
+use Rattle.links.specs.Places.{waiting}
+
+-- the opener's chain has the host's name
+abbrev pub is_same_chain : Identity → Introduction → Bool
+is_same_chain host opener = pointwise nat_eq host.chain opener.chain
+
+-- the opener's chain has so many servers, and this is the id of one of them or the master's, which is 16
+abbrev pub is_same_size : ℕ → ℕ → ℕ → Bool
+is_same_size servers id others = nat_eq others servers && (nat_eq id 16 || (nat_lt id servers && nat_lt id 16))
+
+-- why who greets with this id isn't accepted, if it isn't: the first of these that holds. A master always is
+abbrev pub refusal : Identity → Desk → ℕ → Introduction → Option Reason
+refusal host desk id opener =
+    if not (is_same_chain host opener) then Some Chain
+    else if not (is_same_size host.servers id opener.servers) then Some Servers
+    else if nat_eq id 16 then None
+    else if nat_eq id host.id then Some Taken
+    else if has desk.gone id then Some Gone
+    else if is_some (waiting desk.places id) then None
+    else Some Taken
+
+-- who is accepted has the inlet that waited for it; a master has brought nothing
+abbrev pub HasPlace : Desk → ℕ → Speaker → Type 0
+HasPlace desk id (Server j brought) = waiting desk.places id ≡ Some brought
+HasPlace desk id (Master told) = told ≡ []

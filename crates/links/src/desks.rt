@@ -1,0 +1,118 @@
+//! What a server knows of those who greet it, and whom it accepts.
+ghost use Rattle.std.specs.Prelude.{◌≡◌, ◌≢◌, ◌&&◌, ◌||◌, ℕ, None, Some, OnOk, OnErr, IfOk, IfErr};
+ghost use Rattle.node.specs.Views.{union};
+ghost use Rattle.links.specs.Greetings.{HasPlace, is_same_size, refusal};
+ghost use Rattle.links.specs.Places.{waiting};
+ghost use Rattle.links.specs.Speakers.{Greets};
+
+use crate::histories::History;
+use crate::identities::Identity;
+use crate::places::Places;
+use crate::speakers::Speaker;
+use node::{SERVERS, View};
+use std::alloc::Global;
+use wire::{Introduction, MASTER, Reason};
+
+/// Who may still greet, and which servers have failed.
+#[derive(Drop)]
+pub struct Desk {
+    places: Places,
+    gone: View,
+}
+
+impl Desk {
+    /// With these places, before anyone has greeted or failed.
+    pub fn new(places: Places) -> Desk
+        ensures places { result.places ≡ places }
+        ensures gone { result.gone ≡ 0 }
+    {
+        Desk {
+            places,
+            gone: View::empty(),
+        }
+    }
+
+    /// The servers that have failed, as far as is known here.
+    pub fn gone(&self) -> View
+        ensures { result ≡ self.now.gone }
+    {
+        self.gone
+    }
+
+    /// These have failed too. It tells whether that is news of one of them.
+    pub fn note(&mut self, view: View) -> bool
+        ensures gone { self.new.gone ≡ union self.old.gone view }
+        ensures places { self.new.places ≡ self.old.places }
+    {
+        let is_news = self.gone.adds(view);
+        self.gone = self.gone.union(view);
+        is_news
+    }
+
+    /// Why who greets a host with this id and this introduction isn't accepted, if it isn't: the chain has another
+    /// name, or another number of servers, or not this server; it is the host's own id; this server has failed; or one
+    /// of this id has greeted before. The first of these that holds is the reason. A master of the same chain is
+    /// accepted, whoever greeted before.
+    pub fn refusal(&self, host: &Identity, id: u8, opener: &Introduction) -> Option<Reason>
+        ensures { result ≡ refusal host.now self.now id opener.now }
+    {
+        let is_same_chain = host.chain == opener.chain;
+        if !is_same_chain {
+            return Some(Reason::Chain);
+        }
+        if !is_same_size(host.servers, id, opener.servers) {
+            return Some(Reason::Servers);
+        }
+        if id == MASTER {
+            return None;
+        }
+        if id == host.id {
+            return Some(Reason::Taken);
+        }
+        if self.gone.has(id) {
+            return Some(Reason::Gone);
+        }
+        if self.places.is_free(id) {
+            None
+        } else {
+            Some(Reason::Taken)
+        }
+    }
+
+    /// The speaker who greets so, if it is accepted. A server's place is given once: nobody else is accepted with its
+    /// id from then on. Who is refused changes nothing.
+    pub fn admit(
+        &mut self,
+        alloc: Global,
+        host: &Identity,
+        id: u8,
+        opener: &Introduction,
+    ) -> Result<Speaker, Reason>
+        ensures accepted { OnOk result (refusal host.now self.old id opener.now ≡ None) }
+        ensures refused { IfErr result (λ reason. refusal host.now self.old id opener.now ≡ Some reason) }
+        ensures greets { IfOk result (Greets id) }
+        ensures place { IfOk result (HasPlace self.old id) }
+        ensures once { OnOk result (id ≢ 16 → waiting self.new.places id ≡ None) }
+        ensures others { (j : ℕ) → j ≢ id → waiting self.new.places j ≡ waiting self.old.places j }
+        ensures gone { self.new.gone ≡ self.old.gone }
+        ensures stays { OnErr result (self.new ≡ self.old) }
+    {
+        if let Some(reason) = self.refusal(host, id, opener) {
+            return Err(reason);
+        }
+        if id == MASTER {
+            return Ok(Speaker::Master(History::new(alloc)));
+        }
+        match self.places.take(id) {
+            Some(inlet) => Ok(Speaker::Server(id, inlet)),
+            None => unreachable!(),
+        }
+    }
+}
+
+// Whether a chain of so many servers has the other's number, and this is the id of one of them or the master's.
+fn is_same_size(servers: u8, id: u8, others: u8) -> bool
+    ensures { result ≡ is_same_size servers id others }
+{
+    others == servers && (id == MASTER || (id < servers && id < SERVERS))
+}
