@@ -1,8 +1,9 @@
 //! What a master has to do with one server: the connection, and what is asked there.
 
-use crate::greetings::{Channel, Greeted, Identity, PeerSink, greet, next_small_frame};
+use crate::greetings::{Channel, Greeted, Identity, greet, next_small_frame};
 use crate::notices::Answer;
 use crate::settings::{MasterSettings, port_of};
+use ends::TrackedWriter;
 use peers::{LinkFault, put_frame};
 use std::alloc::{AllocError, Global};
 use std::net::{Net, TcpListener, TcpStream};
@@ -34,7 +35,8 @@ pub(crate) struct Contact {
     // The number of its start, once it has accepted the master.
     start: Option<u64>,
     gone: u16,
-    sink: Option<PeerSink>,
+    // The connection, if it stands.
+    stream: Option<TcpStream>,
     errand: Errand,
     // Whether the notice of the errand was written to the connection.
     is_put: bool,
@@ -68,7 +70,7 @@ impl Contact {
             id,
             start: None,
             gone: 0,
-            sink: None,
+            stream: None,
             errand: Errand::Nothing,
             is_put: false,
         }
@@ -135,7 +137,7 @@ impl Contact {
         }
         let answer = self.open(rt, settings, identity)?;
         if answer != Answer::Done && self.id != j {
-            self.sink = None;
+            self.stream = None;
             return Ok(answer);
         }
         self.put(j)?;
@@ -152,7 +154,7 @@ impl Contact {
         settings: &MasterSettings,
         identity: &Identity,
     ) -> Result<Answer, AllocError> {
-        self.sink = None;
+        self.stream = None;
         let Some(host) = settings.hosts.get(usize::from(self.id)) else {
             return Ok(Answer::Silent);
         };
@@ -168,7 +170,8 @@ impl Contact {
     // Takes a connection that the server has accepted.
     fn enter(&mut self, channel: Channel) -> Answer {
         let Channel { sink, start, gone } = channel;
-        self.sink = Some(sink);
+        let TrackedWriter { inner, .. } = sink;
+        self.stream = Some(inner);
         match self.start {
             Some(known) if known != start => Answer::Anew,
             _ => {
@@ -181,37 +184,38 @@ impl Contact {
 
     // Writes the notice that server j has failed, if the connection stands. It is closed if that fails.
     fn put(&mut self, j: u8) -> Result<(), AllocError> {
-        self.is_put = match &mut self.sink {
-            Some(sink) => put_notice(self.alloc, sink, j)?,
+        self.is_put = match &self.stream {
+            Some(stream) => put_notice(self.alloc, stream, j)?,
             None => false,
         };
         if !self.is_put {
-            self.sink = None;
+            self.stream = None;
         }
         Ok(())
     }
 
     // Waits for the answer to the notice that was written. The connection is closed if it is broken.
     fn hear<R: Clock>(&mut self, rt: &R, j: u8, seconds: u64) -> Result<Heard, AllocError> {
-        let heard = match &self.sink {
-            Some(sink) if self.is_put => heard_on(rt, self.alloc, &sink.inner, j, seconds)?,
+        let heard = match &self.stream {
+            Some(stream) if self.is_put => heard_on(rt, self.alloc, stream, j, seconds)?,
             _ => Heard::Broken,
         };
         self.is_put = false;
         if heard == Heard::Broken {
-            self.sink = None;
+            self.stream = None;
         }
         Ok(heard)
     }
 }
 
 // Writes the notice that server j has failed. It answers whether it was written: no chain has a server beyond 15.
-fn put_notice(alloc: Global, sink: &mut PeerSink, j: u8) -> Result<bool, AllocError> {
+fn put_notice(alloc: Global, stream: &TcpStream, j: u8) -> Result<bool, AllocError> {
     let notice = Frame::Gone(j);
     if !notice.is_in_range() {
         return Ok(false);
     }
-    match put_frame(alloc, sink, &notice) {
+    let mut sink = TrackedWriter::new(stream);
+    match put_frame(alloc, &mut sink, &notice) {
         Ok(()) => Ok(true),
         Err(LinkFault::Memory) => Err(AllocError),
         Err(_) => Ok(false),
