@@ -1,5 +1,7 @@
 -- What clap found, as the command that was named and what it was given.
-use Rattle.std.proofs.Common.{◌≡◌, ◌∙◌, ◌↔◌, ◌<◌, ◌≤◌, ◌^◌, ℕ, List, true, false, Option, None, Some, IfSome, IsSome, is_some, codes, option_map, refl, ap, sym, subst, arith, []}
+use Rattle.std.proofs.Common.{◌≡◌, ◌∙◌, ◌↔◌, ◌<◌, ◌≤◌, ◌^◌, ℕ, List, Bool, true, false, Option, None, Some, IfSome, IsSome, is_some, codes, option_map, refl, ap, sym, subst, arith, []}
+use Rattle.std.proofs.lemmas.Slice.Eq.{bytes_eq-Decides}
+use Rattle.std.specs.Str.{bytes_eq}
 use Rattle.std.specs.Str.Parse.{IsNumeral, digits_value, without_leading_plus}
 use Rattle.clap.proofs.WalkLemmas.{first_value-rows, one_text-rows}
 use Rattle.clap.specs.Words.{HasMatchesOf, Row, Text, app_of, fault_of, first_of, first_value, is_simple, one_text, rows_of, subcommand_name_of, subcommand_of, subcommand_rows, subcommand_rows_of}
@@ -131,6 +133,25 @@ none_given r now f o name id rows text e given none named first =
     let nothing : option_map now r ≡ None = rw none refl in
     let bad : Some text ≡ None = sym here ∙ (sym (first_value-rows f id) ∙ (sym given ∙ nothing)) in
     cc
+
+-- a flag without a text isn't set
+pub unset : {X : Type 0} (o : Option X) {x : X}
+    → o ≡ None
+    → (false ≡ true) ↔ (o ≡ Some x)
+unset o none = (
+  λ yes. absurd (let no : true ≡ false = sym yes in cc),
+  λ some. let bad : None ≡ Some _ = sym none ∙ some in cc,
+)
+
+-- a flag with a text is set if it is this one
+pub set_if : (o : Option Text) (text word : Text) (same : Bool)
+    → o ≡ Some text
+    → same ≡ bytes_eq text word
+    → (same ≡ true) ↔ (o ≡ Some word)
+set_if o text word same some eq = (
+  λ yes. some ∙ ap (λ t. Some t) ((bytes_eq-Decides text word).0 (sym eq ∙ yes)),
+  λ is. eq ∙ (bytes_eq-Decides text word).1 (some_same _ _ (sym some ∙ is)),
+)
 
 -- a decimal number of this many bits
 abbrev IsNumber : ℕ → List ℕ → Type 0

@@ -1,8 +1,8 @@
 -- The arguments of commands, by what clap reads of them, and the numbers that they give.
-use Rattle.std.specs.Prelude.{◌≡◌, ◌≤◌, ℕ, List, [], ◌∷◌, Some, true, false, codes}
+use Rattle.std.specs.Prelude.{◌≡◌, ◌↔◌, ◌≤◌, ℕ, List, [], ◌∷◌, Bool, Some, true, false, codes}
 use Rattle.std.specs.Str.Parse.{IsNumeral, digits_value, without_leading_plus}
-use Rattle.clap.specs.Words.{App, Row, Rule, app_of, new_rule, one_of, rule_of}
-use Rattle.clap.specs.declared.builder.ArgAction.TheVariants.{Set}
+use Rattle.clap.specs.Words.{App, Row, Rule, app_of, first_of, new_rule, one_of, rule_of}
+use Rattle.clap.specs.declared.builder.ArgAction.TheVariants.{Set, SetTrue}
 use Rattle.clap.specs.declared.builder.arg.Arg.{Arg}
 use Rattle.clap.specs.declared.builder.command.Command.{Command}
 use Rattle.clap.specs.declared.builder.command.Command.TheViews.{out-Command}
@@ -15,6 +15,10 @@ file_rule = record (new_rule (codes "FILE")) { required = true; action = Some Se
 -- an option with a text
 abbrev pub text_rule : List ℕ → Rule
 text_rule name = record (new_rule name) { long = Some name; value_names = 1 }
+
+-- an option without a value, for which clap finds the text `true` if it is given, and else `false`
+abbrev pub flag_rule : List ℕ → Rule
+flag_rule name = record (new_rule name) { long = Some name; action = Some SetTrue }
 
 -- an option with one of these numbers
 abbrev pub number_rule : List ℕ → ValueParser → Rule
@@ -41,3 +45,7 @@ abbrev pub GivesNumber : ℕ → ℕ → List ℕ → List Row → ℕ → Type 
 GivesNumber least greatest name rows n =
     (text : List ℕ) × (one_of name rows ≡ Some text) × IsNumeral 10 (without_leading_plus text) ×
     (n ≡ digits_value 10 (without_leading_plus text)) × (least ≤ n) × (n ≤ greatest)
+
+-- the option of this name was given, or this is false
+abbrev pub GivesFlag : List ℕ → List Row → Bool → Type 0
+GivesFlag name rows flag = (flag ≡ true) ↔ (first_of name rows ≡ Some (codes "true"))

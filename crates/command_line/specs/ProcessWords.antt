@@ -3,8 +3,8 @@ use Rattle.std.specs.Prelude.{◌≡◌, ℕ, List, [], ◌∷◌, codes, Option
 use Rattle.clap.specs.Words.{App, Row, Rule, Text, first_of, new_app, with_rule}
 use Rattle.clap.specs.declared.builder.command.Command.{Command}
 use Rattle.clap.specs.declared.builder.value_parser.ValueParser.TheVariants.{Signed}
-use Rattle.command_line.specs.ClusterWords.{port_rule, seats_rule, servers_rule}
-use Rattle.command_line.specs.Options.{GivesNumber, ReadsAs, required_rule, text_rule}
+use Rattle.command_line.specs.ClusterWords.{port_rule, quiet_rule, seats_rule, servers_rule}
+use Rattle.command_line.specs.Options.{GivesFlag, GivesNumber, ReadsAs, required_rule, text_rule}
 use Rattle.command_line.specs.declared.processes.Hosts.{Hosts}
 use Rattle.command_line.specs.declared.processes.MasterNumbers.{MasterNumbers}
 use Rattle.command_line.specs.declared.processes.ServerNumbers.{ServerNumbers}
@@ -16,18 +16,21 @@ id_rule = required_rule (codes "id") (Signed (pos 0) (pos 15))
 abbrev pub peer_port_rule : Rule
 peer_port_rule = required_rule (codes "peer-port") (Signed (pos 1) (pos 65520))
 
--- `--address A` and `--peers A0,A1,..`
+-- `--address A`, `--peers A0,A1,..` and `--chain NAME`
 abbrev pub address_rule : Rule
 address_rule = record (text_rule (codes "address")) { defaults = codes "127.0.0.1" ∷ [] }
 
 abbrev pub peers_rule : Rule
 peers_rule = text_rule (codes "peers")
 
--- a command with these two options
-abbrev pub with_hosts : App → App
-with_hosts app = with_rule (with_rule app address_rule) peers_rule
+abbrev pub chain_rule : Rule
+chain_rule = record (text_rule (codes "chain")) { defaults = codes "craq" ∷ [] }
 
--- clap reads the second parser as the first one with these two options
+-- a command with these options
+abbrev pub with_hosts : App → App
+with_hosts app = with_rule (with_rule (with_rule app address_rule) peers_rule) chain_rule
+
+-- clap reads the second parser as the first one with these options
 abbrev pub AddsHosts : Command → Command → Type 0
 AddsHosts before after = (app : App) → ReadsAs app before → ReadsAs (with_hosts app) after
 
@@ -36,7 +39,7 @@ abbrev pub server_app : App
 server_app =
     let chain = with_rule (with_rule (new_app (codes "server")) id_rule) servers_rule in
     let listening = with_rule (with_rule chain port_rule) peer_port_rule in
-    with_hosts (with_rule listening seats_rule)
+    with_hosts (with_rule (with_rule listening seats_rule) quiet_rule)
 
 -- `master` with its options
 abbrev pub master_app : App
@@ -53,6 +56,7 @@ pub record NamesServer (found : Option (Text × List Row)) (numbers : ServerNumb
   pub port : GivesNumber 1 65520 (codes "port") rows numbers.port
   pub peer_port : GivesNumber 1 65520 (codes "peer-port") rows numbers.peer_port
   pub seats : GivesNumber 1 16 (codes "seats") rows numbers.seats
+  pub quiet : GivesFlag (codes "quiet") rows numbers.quiet
 
 -- the command that was found is `master`, with these numbers
 pub record NamesMaster (found : Option (Text × List Row)) (numbers : MasterNumbers) : Type 0 where
@@ -61,9 +65,10 @@ pub record NamesMaster (found : Option (Text × List Row)) (numbers : MasterNumb
   pub servers : GivesNumber 1 16 (codes "servers") rows numbers.servers
   pub peer_port : GivesNumber 1 65520 (codes "peer-port") rows numbers.peer_port
 
--- the command that was found has this name, and these hosts
+-- the command that was found has this name, and these hosts with the chain's name
 pub record NamesHosts (name : List ℕ) (found : Option (Text × List Row)) (hosts : Hosts) : Type 0 where
   pub rows : List Row
   pub named : found ≡ Some (name, rows)
   pub address : first_of (codes "address") rows ≡ Some (string_bytes hosts.address)
   pub peers : first_of (codes "peers") rows ≡ option_map string_bytes hosts.peers
+  pub chain : first_of (codes "chain") rows ≡ Some (string_bytes hosts.chain)

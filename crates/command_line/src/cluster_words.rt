@@ -1,13 +1,14 @@
 //! The words of the command `cluster`, and the numbers that they give.
 ghost use Rattle.std.specs.Prelude.{◌≡◌, IfOk, IfSome, None};
 ghost use Rattle.clap.specs.Words.{subcommand_rows_of};
-ghost use Rattle.command_line.specs.ClusterWords.{NamesNumbers, cluster_app, port_rule, seats_rule, servers_rule, serves_rule};
+ghost use Rattle.command_line.specs.ClusterWords.{NamesNumbers, cluster_app};
+ghost use Rattle.command_line.specs.ClusterWords.{port_rule, quiet_rule, seats_rule, servers_rule, serves_rule};
 ghost use Rattle.command_line.specs.Options.{HasRule, ReadsAs};
 ghost use Rattle.command_line.specs.declared.numbers.Numbers.{Numbers};
 
-use crate::given::{given_to, large_number, port_number, small_number};
+use crate::given::{flag_given, given_to, large_number, port_number, small_number};
 use crate::numbers::Numbers;
-use crate::options::number_option;
+use crate::options::{flag_option, number_option};
 use clap::{Arg, ArgMatches, Command as Parser, value_parser};
 use std::alloc::{AllocError, Global};
 
@@ -21,12 +22,13 @@ pub fn numbers_given<'a>(matches: &ArgMatches<'a>) -> Option<Numbers>
     let port = port_number(given, "port", 65520)?;
     let seats = small_number(given, "seats", 1, 16)?;
     let serves = large_number(given, "serves", 1_000_000)?;
+    let quiet = flag_given(given, "quiet");
     Some(Numbers {
         servers,
         port,
         seats,
         serves,
-        quiet: true,
+        quiet,
     })
 }
 
@@ -39,7 +41,8 @@ pub fn cluster_parser<'a>(alloc: Global) -> Result<Parser<'a>, AllocError>
         .arg(servers_option(alloc))?
         .arg(port_option(alloc))?
         .arg(seats_option(alloc))?
-        .arg(serves_option(alloc))?;
+        .arg(serves_option(alloc))?
+        .arg(quiet_option(alloc))?;
     Ok(cluster)
 }
 
@@ -67,6 +70,14 @@ pub fn seats_option<'a>(alloc: Global) -> Arg<'a>
     let help = "How many connections each server serves at a time";
     let numbers = value_parser!(u8).range(1..=16);
     number_option(alloc, "seats", "S", help, numbers).default_value("4")
+}
+
+/// The option `--quiet`.
+pub fn quiet_option<'a>(alloc: Global) -> Arg<'a>
+    ensures { HasRule quiet_rule result }
+{
+    let help = "Leaves out the line at the start";
+    flag_option(alloc, "quiet", help)
 }
 
 fn serves_option<'a>(alloc: Global) -> Arg<'a>

@@ -1,7 +1,7 @@
 //! What was given to a command, of what the parser found in words.
 ghost use Rattle.std.specs.Prelude.{◌≡◌, ℕ, List, IfOk, IfSome, None, Some, option_map, string_bytes};
 ghost use Rattle.clap.specs.Words.{Row, first_value, found_of, rows_of, subcommand_rows_of};
-ghost use Rattle.command_line.specs.Options.{GivesNumber};
+ghost use Rattle.command_line.specs.Options.{GivesFlag, GivesNumber};
 
 use clap::ArgMatches;
 use std::alloc::{AllocError, Global};
@@ -56,6 +56,16 @@ pub fn large_number<'a>(given: &ArgMatches<'a>, id: &str, greatest: u64) -> Opti
         return None;
     }
     Some(number)
+}
+
+/// Whether this option was given, which has no value.
+pub fn flag_given<'a>(given: &ArgMatches<'a>, id: &str) -> bool
+    ensures { GivesFlag id.now (rows_of (found_of given.now)) result }
+{
+    match given.get_str(id) {
+        Some(text) => text == "true",
+        None => false,
+    }
 }
 
 /// The text of this option, if it was given.

@@ -9,10 +9,12 @@ mod options;
 mod process_words;
 mod processes;
 mod statuses;
+mod version;
 mod words;
 
 pub use commands::{Command, Print, Serve, Telling, UsageFault};
 pub use numbers::Numbers;
 pub use processes::{Hosts, MasterNumbers, ServerNumbers};
 pub use statuses::{DONE, FAILED, GONE, MEMORY, USAGE};
+pub use version::VERSION;
 pub use words::read_command;

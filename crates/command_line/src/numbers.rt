@@ -11,6 +11,6 @@ pub struct Numbers {
     pub seats: u8,
     /// How many connections each of them serves one after another, or 0 for no end.
     pub serves: u64,
-    /// Whether it says nothing of itself at the start.
+    /// Whether the line at the start is left out.
     pub quiet: bool,
 }

@@ -1,5 +1,5 @@
-//! The arguments of commands: one file, or options with one value each.
-ghost use Rattle.command_line.specs.Options.{HasRule, file_rule, number_rule, text_rule};
+//! The arguments of commands: one file, or options with one value or none.
+ghost use Rattle.command_line.specs.Options.{HasRule, file_rule, flag_rule, number_rule, text_rule};
 
 use clap::builder::ValueParser;
 use clap::{Arg, ArgAction};
@@ -23,6 +23,16 @@ pub fn text_option<'a>(alloc: Global, name: &'a str, value: &'a str, help: &'a s
         .long(name)
         .value_name(value)
         .help(help)
+}
+
+/// An option without a value, which is given or not.
+pub fn flag_option<'a>(alloc: Global, name: &'a str, help: &'a str) -> Arg<'a>
+    ensures { HasRule (flag_rule name.entry.now) result }
+{
+    Arg::new(alloc, name)
+        .long(name)
+        .help(help)
+        .action(ArgAction::SetTrue)
 }
 
 /// An option with one of these numbers.

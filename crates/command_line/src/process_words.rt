@@ -3,14 +3,14 @@ ghost use Rattle.std.specs.Prelude.{◌≡◌, IfOk, IfSome, None};
 ghost use Rattle.clap.specs.Words.{subcommand_rows_of};
 ghost use Rattle.command_line.specs.Options.{HasRule, ReadsAs};
 ghost use Rattle.command_line.specs.ProcessWords.{AddsHosts, NamesHosts, NamesMaster, NamesServer};
-ghost use Rattle.command_line.specs.ProcessWords.{address_rule, id_rule, peer_port_rule, peers_rule};
+ghost use Rattle.command_line.specs.ProcessWords.{address_rule, chain_rule, id_rule, peer_port_rule, peers_rule};
 ghost use Rattle.command_line.specs.ProcessWords.{master_app, server_app};
 ghost use Rattle.command_line.specs.declared.processes.Hosts.{Hosts};
 ghost use Rattle.command_line.specs.declared.processes.MasterNumbers.{MasterNumbers};
 ghost use Rattle.command_line.specs.declared.processes.ServerNumbers.{ServerNumbers};
 
-use crate::cluster_words::{port_option, seats_option, servers_option};
-use crate::given::{given_to, port_number, small_number, text_given};
+use crate::cluster_words::{port_option, quiet_option, seats_option, servers_option};
+use crate::given::{flag_given, given_to, port_number, small_number, text_given};
 use crate::options::{number_option, text_option};
 use crate::processes::{Hosts, MasterNumbers, ServerNumbers};
 use clap::{Arg, ArgMatches, Command as Parser, value_parser};
@@ -28,13 +28,14 @@ pub fn server_numbers<'a>(matches: &ArgMatches<'a>) -> Option<ServerNumbers>
     let port = port_number(given, "port", 65520)?;
     let peer_port = port_number(given, "peer-port", 65520)?;
     let seats = small_number(given, "seats", 1, 16)?;
+    let quiet = flag_given(given, "quiet");
     Some(ServerNumbers {
         id,
         servers,
         port,
         peer_port,
         seats,
-        quiet: true,
+        quiet,
     })
 }
 
@@ -66,8 +67,10 @@ pub fn hosts_given<'a>(
     let Some(address) = text_given(alloc, given, "address")? else {
         return Ok(None);
     };
+    let Some(chain) = text_given(alloc, given, "chain")? else {
+        return Ok(None);
+    };
     let peers = text_given(alloc, given, "peers")?;
-    let chain = String::from_str(alloc, "craq")?;
     Ok(Some(Hosts {
         address,
         peers,
@@ -85,7 +88,8 @@ pub fn server_parser<'a>(alloc: Global) -> Result<Parser<'a>, AllocError>
         .arg(servers_option(alloc))?
         .arg(port_option(alloc))?
         .arg(peer_port_option(alloc))?
-        .arg(seats_option(alloc))?;
+        .arg(seats_option(alloc))?
+        .arg(quiet_option(alloc))?;
     with_hosts(alloc, server)
 }
 
@@ -102,11 +106,14 @@ pub fn master_parser<'a>(alloc: Global) -> Result<Parser<'a>, AllocError>
     with_hosts(alloc, master)
 }
 
-// The parser with the options that say where servers are.
+// The parser with the options that say where servers are, and of which chain.
 fn with_hosts<'a>(alloc: Global, parser: Parser<'a>) -> Result<Parser<'a>, AllocError>
     ensures { IfOk result (AddsHosts parser.entry) }
 {
-    let parser = parser.arg(address_option(alloc))?.arg(peers_option(alloc))?;
+    let parser = parser
+        .arg(address_option(alloc))?
+        .arg(peers_option(alloc))?
+        .arg(chain_option(alloc))?;
     Ok(parser)
 }
 
@@ -139,4 +146,11 @@ fn peers_option<'a>(alloc: Global) -> Arg<'a>
 {
     let help = "The host of each server, in the order of their ids";
     text_option(alloc, "peers", "A0,A1,..", help)
+}
+
+fn chain_option<'a>(alloc: Global) -> Arg<'a>
+    ensures { HasRule chain_rule result }
+{
+    let help = "The chain's name: servers and masters of another one are refused";
+    text_option(alloc, "chain", "NAME", help).default_value("craq")
 }

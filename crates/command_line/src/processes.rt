@@ -13,7 +13,7 @@ pub struct ServerNumbers {
     pub peer_port: u16,
     /// How many connections it serves at a time: 1 to 16.
     pub seats: u8,
-    /// Whether it says nothing of itself at the start.
+    /// Whether the line at the start is left out.
     pub quiet: bool,
 }
 
@@ -26,13 +26,13 @@ pub struct MasterNumbers {
     pub peer_port: u16,
 }
 
-/// Where the servers of a chain are.
+/// Where the servers of a chain are, and its name.
 #[derive(Debug, Drop)]
 pub struct Hosts {
     /// Where a server listens, and where each is if there is no list.
     pub address: String,
     /// The host of each, in the order of their ids, with commas between them.
     pub peers: Option<String>,
-    /// The chain's name.
+    /// The chain's name: servers and masters of another one are refused.
     pub chain: String,
 }

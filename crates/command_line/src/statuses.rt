@@ -12,5 +12,5 @@ pub const USAGE: u8 = 2;
 /// No memory was left.
 pub const MEMORY: u8 = 3;
 
-/// The server was called gone.
+/// A server that was called gone.
 pub const GONE: u8 = 4;

@@ -17,6 +17,7 @@ use crate::options::file_argument;
 use crate::process_words::{
     hosts_given, master_numbers, master_parser, server_numbers, server_parser,
 };
+use crate::version::VERSION;
 use clap::error::ErrorKind;
 use clap::{ArgMatches, Command as Parser, Error};
 use std::alloc::{AllocError, Global};
@@ -159,7 +160,7 @@ fn program_parser<'a>(alloc: Global) -> Parser<'a>
 {
     Parser::new(alloc, "craq")
         .about("A replicated object cache (CRAQ) that speaks memcached's text protocol")
-        .version("0.1.0")
+        .version(VERSION)
         .subcommand_required(true)
 }
 

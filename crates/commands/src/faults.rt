@@ -65,7 +65,8 @@ impl ScenarioFault {
     }
 }
 
-fn write_parts<X: Sink>(
+/// Writes three pieces, one after another.
+pub(crate) fn write_parts<X: Sink>(
     errors: &mut X,
     start: &[u8],
     middle: &[u8],

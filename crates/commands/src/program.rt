@@ -9,9 +9,9 @@ ghost use Rattle.command_line.specs.declared.commands.Print.TheVariants.{Scenari
 ghost use Rattle.commands.specs.declared.faults.ScenarioFault.{ScenarioFault};
 ghost use Rattle.commands.specs.declared.faults.ScenarioFault.TheVariants.{Run};
 
-use crate::faults::ScenarioFault;
+use crate::faults::{ScenarioFault, write_parts};
 use crate::scenarios::scenario;
-use command_line::{Command, DONE, MEMORY, Print, USAGE, UsageFault, read_command};
+use command_line::{Command, DONE, MEMORY, Print, USAGE, UsageFault, VERSION, read_command};
 use ends::{Sink, TrackedReader, WriteFault, write_all};
 use std::io::ErrorKind;
 use std::rt::{Env, Files};
@@ -130,7 +130,7 @@ fn print_version<W: Sink, X: Sink>(output: &mut W, errors: &mut X) -> u8
     ensures begun { W.failures output.old < W.failures output.new →
         WritesBeginning (W.written output.old) (W.written output.new) version_line }
 {
-    match write_all(output, b"craq 0.1.0\n") {
+    match write_parts(output, b"craq ", VERSION.as_bytes(), b"\n") {
         Ok(()) => DONE,
         Err(WriteFault) => {
             let _ = ScenarioFault::Run.tell("", errors);

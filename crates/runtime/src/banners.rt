@@ -1,12 +1,9 @@
 //! What a server and a cluster say of themselves at the start.
 
 use crate::settings::{ServerSettings, port_of};
-use command_line::Numbers;
+use command_line::{Numbers, VERSION};
 use ends::{Sink, write_all};
 use itoa::Buffer;
-
-/// The program's name and version.
-const VERSION: &str = "craq 0.1.0";
 
 /// Which server of which chain runs, and where it listens, in one line.
 pub(crate) fn tell_server<X: Sink>(settings: &ServerSettings, errors: &mut X) {
@@ -15,6 +12,7 @@ pub(crate) fn tell_server<X: Sink>(settings: &ServerSettings, errors: &mut X) {
         return;
     }
     let address = settings.address.as_str();
+    write(errors, "craq ");
     write(errors, VERSION);
     write(errors, ": server ");
     write_number(errors, u16::from(numbers.id));
@@ -38,6 +36,7 @@ pub(crate) fn tell_cluster<X: Sink>(numbers: Numbers, errors: &mut X) {
     if numbers.quiet {
         return;
     }
+    write(errors, "craq ");
     write(errors, VERSION);
     write(errors, ": a cluster of ");
     write_number(errors, u16::from(numbers.servers));

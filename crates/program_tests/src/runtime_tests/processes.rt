@@ -6,30 +6,24 @@ use command_line::{Hosts, MasterNumbers, ServerNumbers};
 use ends::{TrackedReader, TrackedWriter};
 use runtime::{MasterSettings, ServerSettings, master, server, warn_of};
 use std::alloc::{AllocError, Global};
-use std::io::{PipeReader, Read, Write, pipe};
+use std::io::{PipeReader, Write, pipe};
 use std::net::{Ipv4Addr, Net, SocketAddr, SocketAddrV4, TcpListener, TcpStream};
 use std::rt::Files;
 use std::sync::Wait;
 use std::test::Fail;
 use std::thread;
 use std::thread::Threads;
-use std::time::{Clock, Duration};
+use std::time::Clock;
 
 // How many servers the chain has.
 const SERVERS: u8 = 3;
 
-// The bytes that the test sends as server 1: its Hello, and the introduction to a chain of three that is called craq.
-const GREETING: &[u8] = b"\x02\x00\x01\x02\x07\x03\x00\x00\x00\x00\x00\x00\x00\x09\x04craq";
-
-// The bytes by which it accepts, at the same start.
-const ACCEPTED: &[u8] = b"\x02\x08\x00\x00\x00\x00\x00\x00\x00\x09\x00\x00";
-
-// Servers 0 and 2 of three, and the connections of the test, which is server 1.
+// Servers 0 and 2 of three, and the place of server 1, where the test listens.
 #[derive(Drop)]
 struct Broken {
     port: u16,
     peer_port: u16,
-    links: Vec<TcpStream>,
+    middle: TcpListener,
 }
 
 // A set that waits for a silent server is committed once the others were told that it has failed. Servers 0 and 2 go on
@@ -38,18 +32,20 @@ struct Broken {
 fn set_waits_for_the_master(rt: HostRuntime) -> Result<(), Fail> {
     let alloc = rt.alloc();
     let broken = ready(rt, alloc).ok_or("two servers")?;
+    let (head, _) = broken.middle.accept()?;
+    let (tail, _) = broken.middle.accept()?;
     let mut first = client(&rt, broken.port)?;
     first.write_all(b"set a 0 0 1\r\n1\r\n")?;
     let mut second = client(&rt, broken.port.wrapping_add(2))?;
     assert!(rt; answers(&mut second, b"get a\r\n", b"END\r\n"));
     assert!(rt; tells(&rt, alloc, broken.peer_port)?);
     assert!(rt; says(&mut first, b"STORED\r\n"));
-    drop(broken);
+    drop((head, tail));
     Ok(())
 }
 
 // Whether a master that reads `gone 1` tells both others.
-fn tells<R: Wait + Clock + Net<Listener = TcpListener, Stream = TcpStream> + Files>(
+fn tells<R: Wait + Net<Listener = TcpListener, Stream = TcpStream> + Files>(
     rt: &R,
     alloc: Global,
     peer_port: u16,
@@ -74,7 +70,6 @@ fn here(alloc: Global) -> Result<Hosts, AllocError> {
     Ok(Hosts {
         address: String::from_str(alloc, "127.0.0.1")?,
         peers: None,
-        chain: String::from_str(alloc, "craq")?,
     })
 }
 
@@ -100,60 +95,15 @@ fn ready<
         };
         let mut head = start(rt, alloc, 0, port, peer_port)?;
         let mut tail = start(rt, alloc, 2, port, peer_port)?;
-        let Some(links) = linked(&rt, alloc, peer_port, &middle) else {
-            continue;
-        };
         if says(&mut head, b"ready\n") && says(&mut tail, b"ready\n") {
             return Some(Broken {
                 port,
                 peer_port,
-                links,
+                middle,
             });
         }
     }
     None
-}
-
-// The links of the test to both servers and from them, once each is accepted.
-fn linked<R: Clock + Net<Listener = TcpListener, Stream = TcpStream>>(
-    rt: &R,
-    alloc: Global,
-    peer_port: u16,
-    middle: &TcpListener,
-) -> Option<Vec<TcpStream>> {
-    let mut links = Vec::new(alloc);
-    links.push(greeted(rt, peer_port)?).ok()?;
-    links.push(greeted(rt, peer_port.wrapping_add(2))?).ok()?;
-    for _ in 0..2 {
-        let (stream, _) = middle.accept().ok()?;
-        links.push(accepted(stream)?).ok()?;
-    }
-    Some(links)
-}
-
-// A link to the server at this port, which has accepted it.
-fn greeted<R: Clock + Net<Listener = TcpListener, Stream = TcpStream>>(
-    rt: &R,
-    port: u16,
-) -> Option<TcpStream> {
-    for _ in 0..100 {
-        if let Ok(mut stream) = client(rt, port) {
-            if answers(&mut stream, GREETING, b"\x02\x08") {
-                return Some(stream);
-            }
-        }
-        thread::sleep(rt, Duration::from_millis(20));
-    }
-    None
-}
-
-// The same connection, after its greeting was read and accepted.
-fn accepted(stream: TcpStream) -> Option<TcpStream> {
-    let mut stream = stream;
-    let mut greeting = [0u8; 19];
-    stream.read_exact(greeting.as_mut_slice()).ok()?;
-    stream.write_all(ACCEPTED).ok()?;
-    Some(stream)
 }
 
 // Starts a server on a thread of its own, and gives the other end of its output.
@@ -175,7 +125,6 @@ fn start<
         port,
         peer_port,
         seats: 1,
-        quiet: true,
     };
     let settings = ServerSettings::new(alloc, numbers, here(alloc).ok()?).ok()?;
     let (output, ours) = pipe(&rt).ok()?;

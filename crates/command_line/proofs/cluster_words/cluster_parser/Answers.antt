@@ -10,4 +10,5 @@ returns c =
     let servers = with_option _ _ _ _ _ named c.servers_option.ensures c.in_ok-arg.ensures in
     let port = with_option _ _ _ _ _ servers c.port_option.ensures c.in_ok-arg-2.ensures in
     let seats = with_option _ _ _ _ _ port c.seats_option.ensures c.in_ok-arg-3.ensures in
-    with_option _ _ _ _ _ seats c.serves_option.ensures c.in_ok-cluster.ensures
+    let serves = with_option _ _ _ _ _ seats c.serves_option.ensures c.in_ok-arg-4.ensures in
+    with_option _ _ _ _ _ serves c.quiet_option.ensures c.in_ok-cluster.ensures

@@ -12,5 +12,6 @@ returns c =
     let servers = with_option _ _ _ _ _ id c.servers_option.ensures c.in_ok-arg-2.ensures in
     let port = with_option _ _ _ _ _ servers c.port_option.ensures c.in_ok-arg-3.ensures in
     let peer_port = with_option _ _ _ _ _ port c.peer_port_option.ensures c.in_ok-arg-4.ensures in
-    let seats = with_option _ _ _ _ _ peer_port c.seats_option.ensures c.in_ok-server.ensures in
-    IfOk-weaker c.with_hosts.result _ _ (λ parser adds. adds _ seats) c.with_hosts.ensures
+    let seats = with_option _ _ _ _ _ peer_port c.seats_option.ensures c.in_ok-arg-5.ensures in
+    let quiet = with_option _ _ _ _ _ seats c.quiet_option.ensures c.in_ok-server.ensures in
+    IfOk-weaker c.with_hosts.result _ _ (λ parser adds. adds _ quiet) c.with_hosts.ensures
