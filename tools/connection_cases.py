@@ -137,7 +137,7 @@ def taken_port(program, first):
         other.setsockopt(socket.SOL_SOCKET, socket.SO_REUSEADDR, 1)
         other.bind(("127.0.0.1", first + 1))
         other.listen()
-        words = [program, "cluster", "--servers", "3", "--port", str(first)]
+        words = [program, "cluster", "--quiet", "--servers", "3", "--port", str(first)]
         run = subprocess.run(words, input=b"", capture_output=True, timeout=LIMIT * 2, check=False)
     faults = differs("the status", str(run.returncode), "1") + differs("the output", run.stdout, b"")
     return faults + differs("the fault", run.stderr, b"craq: cannot listen on 127.0.0.1 port %d\n" % (first + 1))

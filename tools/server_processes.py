@@ -61,14 +61,17 @@ class Process:
         line, found, self.unread = self.unread.partition(b"\n")
         return (line + found).decode()
 
+    def has_line(self):
+        """Whether it has written something that wasn't read yet, or its output has ended."""
+        return bool(self.unread or select.select([self.process.stdout], [], [], 0)[0])
+
     def say(self, text):
         self.process.stdin.write(text.encode())
         self.process.stdin.flush()
 
     def told(self):
         """What it has written to its standard error."""
-        self.errors.seek(0)
-        return self.errors.read().decode()
+        return os.pread(self.errors.fileno(), 1024 * 1024, 0).decode()
 
     def status(self):
         """Its exit status, once it has ended by itself."""
@@ -115,17 +118,33 @@ class Chain:
     """Server processes of a chain, and a master. The clients of chain_clients run over it."""
 
     def __init__(self, servers=3, seats=10, words=()):
+        """`words` are added to those of each server and of the master."""
         self.count, self.seats = servers, seats
         self.settled = {}  # what each counter of an earlier phase came to
         first, self.peer_port = free_ports(servers), free_ports(servers)
         self.ports, self.failed = [first + i for i in range(servers)], set()
-        chain = ("--servers", str(servers), "--peer-port", str(self.peer_port), *words)
-        clients = ("--port", str(first), "--seats", str(seats))
-        self.servers = [Process(("server", "--id", str(i), *clients, *chain)) for i in range(servers)]
-        self.master = Process(("master", *chain))
+        self.words = ("--servers", str(servers), "--peer-port", str(self.peer_port), *words)
+        self.clients = ("--port", str(first), "--seats", str(seats), "--quiet")
+        self.servers = [self.started(i) for i in range(servers)]
+        self.judge_ready()
+        self.master = self.another_master()
+
+    def judge_ready(self):
         for i, server in enumerate(self.servers):
             if server.line() != "ready\n":
                 raise Wrong(f"server {i} isn't ready: {server.told()!r}")
+
+    def started(self, server, *words):
+        """A process of a server of the chain, with these words too."""
+        return Process(("server", "--id", str(server), *self.clients, *self.words, *words))
+
+    def another_master(self, *words):
+        """A master that has asked each server once."""
+        master = Process(("master", *self.words, *words))
+        master.say("\n")
+        if master.line() != "bad line\n":
+            raise Wrong(f"a master ends: {master.told()!r}")
+        return master
 
     def kill(self, server):
         """Ends a server's process, and tells nobody."""

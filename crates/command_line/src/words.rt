@@ -1,6 +1,6 @@
 //! The words of a command line, and the command that they spell.
 ghost use Rattle.std.specs.Prelude.{◌≡◌, ℕ, codes, List, [], IfOk, IfErr, IfSome, OnOk, None, map};
-ghost use Rattle.clap.specs.Words.{app_of, fault_of, kind_of, new_app, subcommand_of, subcommand_rows_of};
+ghost use Rattle.clap.specs.Words.{app_of, fault_of, kind_of, subcommand_of, subcommand_rows_of};
 ghost use Rattle.command_line.specs.Words.{IsNamed, IsRefusedFor, IsTaken, NamesFile, file_app, named_app, program_app};
 ghost use Rattle.command_line.specs.declared.commands.Command.{Command as Shown};
 ghost use Rattle.command_line.specs.Options.{ReadsAs};
@@ -127,21 +127,9 @@ fn file_given<'a>(matches: &ArgMatches<'a>, name: &str) -> Option<&'a str>
 fn parser<'a>(alloc: Global) -> Result<Parser<'a>, AllocError>
     ensures { IfOk result (λ parser. app_of parser ≡ program_app) }
 {
-    let scenario = file_parser(
-        alloc,
-        "scenario",
-        "Replays a schedule over a chain of servers and prints the transcript",
-    )?;
-    let trace = file_parser(
-        alloc,
-        "trace",
-        "Replays a schedule and prints what each of its events did, and the transcript",
-    )?;
-    let draw = file_parser(
-        alloc,
-        "draw",
-        "Replays a schedule and prints a picture of it, SVG 1.1",
-    )?;
+    let scenario = scenario_parser(alloc)?;
+    let trace = trace_parser(alloc)?;
+    let draw = draw_parser(alloc)?;
     let cluster = cluster_parser(alloc)?;
     let server = server_parser(alloc)?;
     let master = master_parser(alloc)?;
@@ -164,19 +152,31 @@ fn program_parser<'a>(alloc: Global) -> Parser<'a>
         .subcommand_required(true)
 }
 
-// The parser of a command that takes a FILE.
-fn file_parser<'a>(alloc: Global, name: &'a str, about: &'a str) -> Result<Parser<'a>, AllocError>
-    ensures { IfOk result (ReadsAs (file_app name.entry.now)) }
+fn scenario_parser<'a>(alloc: Global) -> Result<Parser<'a>, AllocError>
+    ensures { IfOk result (ReadsAs (file_app (codes "scenario"))) }
 {
-    let command = bare_parser(alloc, name, about).arg(file_argument(alloc))?;
+    let command = Parser::new(alloc, "scenario")
+        .about("Replays a schedule over a chain of servers and prints the transcript")
+        .arg(file_argument(alloc))?;
     Ok(command)
 }
 
-// The parser of a command without arguments.
-fn bare_parser<'a>(alloc: Global, name: &'a str, about: &'a str) -> Parser<'a>
-    ensures { ReadsAs (new_app name.entry.now) result }
+fn trace_parser<'a>(alloc: Global) -> Result<Parser<'a>, AllocError>
+    ensures { IfOk result (ReadsAs (file_app (codes "trace"))) }
 {
-    Parser::new(alloc, name).about(about)
+    let command = Parser::new(alloc, "trace")
+        .about("Replays a schedule and prints what each of its events did, and the transcript")
+        .arg(file_argument(alloc))?;
+    Ok(command)
+}
+
+fn draw_parser<'a>(alloc: Global) -> Result<Parser<'a>, AllocError>
+    ensures { IfOk result (ReadsAs (file_app (codes "draw"))) }
+{
+    let command = Parser::new(alloc, "draw")
+        .about("Replays a schedule and prints a picture of it, SVG 1.1")
+        .arg(file_argument(alloc))?;
+    Ok(command)
 }
 
 fn usage_fault(alloc: Global, error: Error) -> UsageFault

@@ -12,8 +12,8 @@ abbrev pub Greets : ℕ → Speaker → Type 0
 Greets id (Server j brought) = (j ≡ id) × (id ≢ 16)
 Greets id (Master told) = id ≡ 16
 
--- what a frame makes of who speaks, if it is heard: a server sends messages and a master notices, and what is brought to
--- the server are these, in order. Nobody greets twice, and who has opened the connection answers nothing
+-- what a frame makes of who speaks, if it is heard: a server sends messages and a master notices, and what is brought
+-- to the server are these, in order. Nobody greets twice, and who has opened the connection answers nothing
 abbrev pub Hears : Speaker → Frame → Speaker → Type 0
 Hears (Server i brought) (Hello id) now = ⊥
 Hears (Server i brought) (Peer peer) now = now ≡ Server i (brought ++ Took (inputs.From i peer) ∷ [])

@@ -37,7 +37,7 @@ fn words_ask_for_the_version(rt: HostRuntime) -> Result<(), Fail> {
 
 #[test]
 fn other_words_are_refused(rt: HostRuntime) -> Result<(), Fail> {
-    let rows: [&[&str]; 11] = [
+    let rows: [&[&str]; 13] = [
         &["craq"],
         &["craq", "--help"],
         &["craq", "help"],
@@ -49,6 +49,8 @@ fn other_words_are_refused(rt: HostRuntime) -> Result<(), Fail> {
         &["craq", "cluster", "--servers", "3"],
         &["craq", "cluster", "--port", "4000"],
         &["craq", "master", "--servers", "3"],
+        &["craq", "cluster", "--servers=3", "--port=4000", "--chain=a"],
+        &["craq", "master", "--servers=3", "--peer-port=4000", "--quiet"],
     ];
     for words in rows {
         match read_command(rt.alloc(), words) {
@@ -93,6 +95,7 @@ fn words_give_the_numbers_of_a_chain(rt: HostRuntime) -> Result<(), Fail> {
         port: 4000,
         seats: 4,
         serves: 9,
+        quiet: false,
     };
     match read_command(rt.alloc(), words.as_slice()) {
         Ok(Command::Serve(Serve::Cluster(given))) => assert_eq!(rt; given, numbers),
@@ -113,6 +116,7 @@ fn words_tell_a_server(rt: HostRuntime) -> Result<(), Fail> {
         "5000",
         "--peers",
         "a,b,c",
+        "--quiet",
     ];
     let numbers = ServerNumbers {
         id: 2,
@@ -120,11 +124,12 @@ fn words_tell_a_server(rt: HostRuntime) -> Result<(), Fail> {
         port: 4000,
         peer_port: 5000,
         seats: 4,
+        quiet: true,
     };
     match read_command(rt.alloc(), words.as_slice()) {
         Ok(Command::Serve(Serve::Server(given, hosts))) => {
             assert_eq!(rt; given, numbers);
-            assert!(rt; has_hosts(hosts, "127.0.0.1", "a,b,c"));
+            assert!(rt; has_hosts(hosts, "127.0.0.1", "a,b,c", "craq"));
         }
         _ => return Err("a server was told".into()),
     }
@@ -139,6 +144,8 @@ fn words_tell_a_master(rt: HostRuntime) -> Result<(), Fail> {
         "--peer-port=5000",
         "--address",
         "a",
+        "--chain",
+        "b",
         "--servers",
         "3",
     ];
@@ -149,19 +156,23 @@ fn words_tell_a_master(rt: HostRuntime) -> Result<(), Fail> {
     match read_command(rt.alloc(), words.as_slice()) {
         Ok(Command::Serve(Serve::Master(given, hosts))) => {
             assert_eq!(rt; given, numbers);
-            assert!(rt; has_hosts(hosts, "a", ""));
+            assert!(rt; has_hosts(hosts, "a", "", "b"));
         }
         _ => return Err("a master was told".into()),
     }
     Ok(())
 }
 
-// Whether these hosts are the address and the list of hosts, or no list if it is empty.
-fn has_hosts(hosts: Hosts, wanted: &str, list: &str) -> bool {
-    let Hosts { address, peers } = hosts;
+// Whether these hosts are the address, the list of hosts, or no list if it is empty, and the chain's name.
+fn has_hosts(hosts: Hosts, wanted: &str, list: &str, name: &str) -> bool {
+    let Hosts {
+        address,
+        peers,
+        chain,
+    } = hosts;
     let is_listed = match peers {
         Some(peers) => peers.as_str() == list,
         None => list.is_empty(),
     };
-    is_listed && address.as_str() == wanted
+    is_listed && address.as_str() == wanted && chain.as_str() == name
 }

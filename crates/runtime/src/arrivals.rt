@@ -85,8 +85,8 @@ impl Arrivals {
     }
 
     /// Waits until the link from each other server stands, at the same start as the link to it, which these are. The
-    /// server is ready then. Refused if one of them breaks, if a server was started again meanwhile, if one doesn't come
-    /// within 30 seconds, or if this server is called gone.
+    /// server is ready then. Refused if one of them breaks, if a server was started again meanwhile, if one doesn't
+    /// come within 30 seconds, or if this server is called gone.
     pub(crate) fn wait_for_all<R: Wait + Clock>(
         &self,
         rt: &R,

@@ -21,6 +21,7 @@ mod keepalive;
 mod link_lines;
 mod master_lines;
 mod masters;
+mod meetings;
 mod notices;
 mod offices;
 mod outgoing;

@@ -180,8 +180,8 @@ impl PeerDoor {
         }
     }
 
-    // Tells why a connection isn't heard any more. Of a server that was called gone nothing is told, and before this one
-    // is ready another thread tells.
+    // Tells why a connection isn't heard any more. Of a server that was called gone nothing is told, and before this
+    // one is ready another thread tells.
     fn tell<R: Wait + Eprint>(&self, rt: &R, name: Name, reason: &'static str) {
         match name {
             Name::Server(from) => {

@@ -1,20 +1,17 @@
 //! The command `server`: one server of a chain in a process of its own.
 
-use crate::arrivals::Arrivals;
 use crate::banners::tell_server;
 use crate::cuts::Connections;
 use crate::doors::serve_seats;
-use crate::outgoing::{LinkSink, Outgoing};
-use crate::peer_doors::open_peer_door;
+use crate::meetings::{connected, new_lobby};
+use crate::outgoing::LinkSink;
 use crate::server_faults::{ServerFault, tell};
 use crate::settings::{ServerSettings, port_of};
 use crate::sides::{all_callers, idle_node};
-use crate::starts::start_number;
-use command_line::ServerNumbers;
 use ends::{Sink, write_all};
-use links::{Identity, Lobby, PeerLinks, Places};
+use links::{Lobby, PeerLinks};
 use node::SERVERS;
-use rail::{Inlet, RailFault, Server, Stand, Turn, Worker, open};
+use rail::{RailFault, Server, Stand, Turn, Worker, open};
 use seats::Mark;
 use std::alloc::Global;
 use std::net::{Net, SocketAddr, TcpListener, TcpStream};
@@ -22,10 +19,11 @@ use std::sync::{Arc, Wait};
 use std::thread::Threads;
 use std::time::Clock;
 
-/// Runs one server of a chain, until a fault ends it, or it is called gone. It connects to each other server, waits until
-/// each has connected to it, says `ready`, and serves clients from then on. It answers the exit status, after a line on
-/// `errors`: 1 if a port is taken, a peer can't be reached or refuses it, a link breaks before it is ready, or the output
-/// can't be written; 3 if memory is out; 4 if it was called gone. Its other threads go on until the process ends.
+/// Runs one server of a chain, until a fault ends it, or it is called gone. It connects to each other server, waits
+/// until each has connected to it, says `ready`, and serves clients from then on. It answers the exit status, after a
+/// line on `errors`: 1 if a port is taken, a peer can't be reached or refuses it, a link breaks before it is ready, or
+/// the output can't be written; 3 if memory is out; 4 if it was called gone. Its other threads go on until the process
+/// ends.
 pub fn server<
     R: Wait
         + Threads
@@ -136,53 +134,6 @@ fn serve_clients<R: Wait + Threads + Copy + Drop + Send + 'static, W: Sink>(
     Ok(())
 }
 
-// The lobby of a server, which other servers and masters enter.
-fn new_lobby<R: Clock>(
-    rt: &R,
-    alloc: Global,
-    settings: &ServerSettings,
-    inlets: Vec<Inlet>,
-    failed: &Mark,
-) -> Result<Arc<Lobby<Connections>, Global>, ServerFault> {
-    let ServerNumbers { id, servers, .. } = settings.numbers;
-    let host = Identity {
-        id,
-        servers,
-        start: start_number(rt),
-        chain: settings.chain.clone()?,
-    };
-    let (places, notices) = all_places(alloc, settings, inlets)?;
-    let connections = Connections::new(alloc, id, servers, failed.share()?)?;
-    let lobby = Lobby::new(host, places, notices, connections);
-    Ok(Arc::new(alloc, lobby)?)
-}
-
-// Starts the threads that serve peers, and connects to the other servers. It gives the links once they have connected
-// too.
-fn connected<
-    R: Wait
-        + Threads
-        + Clock
-        + Eprint
-        + Net<Listener = TcpListener, Stream = TcpStream>
-        + Copy
-        + Drop
-        + Send
-        + 'static,
->(
-    rt: R,
-    alloc: Global,
-    settings: &ServerSettings,
-    lobby: &Arc<Lobby<Connections>, Global>,
-    peers: TcpListener,
-) -> Result<PeerLinks<LinkSink<R>>, ServerFault> {
-    let arrivals = Arc::new(alloc, Arrivals::new(alloc, settings.numbers.servers)?)?;
-    let _ = open_peer_door(rt, alloc, peers, lobby, &arrivals)?;
-    let Outgoing { links, starts } = Outgoing::open(rt, alloc, settings, lobby)?;
-    arrivals.wait_for_all(&rt, starts.as_slice(), lobby.cuts())?;
-    Ok(PeerLinks::new(alloc, links))
-}
-
 // Takes turns until the worker stops or the server was called gone, and answers why.
 fn take_turns<R: Wait + Eprint + Drop>(
     rt: &R,
@@ -269,27 +220,5 @@ fn idle_server<R: Wait + Copy + Drop>(
     match open(rt, alloc, node, usize::from(seats), usize::from(servers)) {
         Ok(server) => Ok(server),
         Err(_) => Err(ServerFault::Memory),
-    }
-}
-
-// The places of the other servers, and the inlet of all masters.
-fn all_places(
-    alloc: Global,
-    settings: &ServerSettings,
-    inlets: Vec<Inlet>,
-) -> Result<(Places, Inlet), ServerFault> {
-    let mut inlets = inlets;
-    let mut places = Vec::new(alloc);
-    for j in 0..settings.numbers.servers {
-        let inlet = if j == settings.numbers.id {
-            None
-        } else {
-            inlets.pop()
-        };
-        places.push(inlet)?;
-    }
-    match inlets.pop() {
-        Some(notices) => Ok((Places::new(places), notices)),
-        None => Err(ServerFault::Run),
     }
 }

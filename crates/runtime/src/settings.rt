@@ -42,8 +42,8 @@ pub struct MasterSettings {
 }
 
 impl ServerSettings {
-    /// What these words tell a server. It is refused if the id is that of no server, there isn't one host for each, or the
-    /// chain's name isn't one.
+    /// What these words tell a server. It is refused if the id is that of no server, there isn't one host for each, or
+    /// the chain's name isn't one.
     pub fn new(
         alloc: Global,
         numbers: ServerNumbers,
@@ -81,11 +81,11 @@ impl MasterSettings {
         ensures hosts { IfOk result (λ settings. length settings.hosts.items ≡ settings.numbers.servers) }
         ensures chain { IfOk result (λ settings. settings.chain ≡ string_bytes hosts.chain) }
     {
-        let all = hosts_of(alloc, &hosts, numbers.servers)?;
         let chain = chain_of(alloc, &hosts)?;
+        let hosts = hosts_of(alloc, &hosts, numbers.servers)?;
         Ok(MasterSettings {
             numbers,
-            hosts: all,
+            hosts,
             chain,
         })
     }

@@ -166,6 +166,7 @@ fn held_chain<
         port: 0,
         seats: 2,
         serves: 1,
+        quiet: true,
     };
     let mut servers = all_servers(rt, alloc, numbers).ok()?;
     let links = all_links(rt, alloc, 2, &mut servers).ok()?.pop()?;

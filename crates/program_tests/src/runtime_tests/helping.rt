@@ -62,6 +62,7 @@ fn helped_chain<
         port: 0,
         seats: 1,
         serves: 1,
+        quiet: true,
     };
     let mut servers = all_servers(rt, alloc, numbers).ok()?;
     let links = all_links(rt, alloc, 3, &mut servers).ok()?;

@@ -6,7 +6,7 @@ use command_line::{Hosts, MasterNumbers, ServerNumbers};
 use ends::{TrackedReader, TrackedWriter};
 use runtime::{MasterSettings, ServerSettings, master, server, warn_of};
 use std::alloc::{AllocError, Global};
-use std::io::{PipeReader, Write, pipe};
+use std::io::{PipeReader, Read, Write, pipe};
 use std::net::{Ipv4Addr, Net, SocketAddr, SocketAddrV4, TcpListener, TcpStream};
 use std::rt::Files;
 use std::sync::Wait;
@@ -18,12 +18,26 @@ use std::time::Clock;
 // How many servers the chain has.
 const SERVERS: u8 = 3;
 
-// Servers 0 and 2 of three, and the place of server 1, where the test listens.
+// How server 1 greets: a Hello, and an introduction to the chain `craq` of three servers (docs/FORMATS.md, "Peer
+// messages").
+const GREETING: &[u8] = b"\x02\x00\x01\x02\x07\x03\x00\x00\x00\x00\x00\x00\x00\x01\x04craq";
+
+// How it accepts a greeting.
+const ACCEPTED: &[u8] = b"\x02\x08\x00\x00\x00\x00\x00\x00\x00\x01\x00\x00";
+
+// Servers 0 and 2 of three, and the connections of server 1, which the test is.
 #[derive(Drop)]
 struct Broken {
     port: u16,
     peer_port: u16,
-    middle: TcpListener,
+    middle: Middle,
+}
+
+// The connections from two others, and those to them.
+#[derive(Drop)]
+struct Middle {
+    inlets: (TcpStream, TcpStream),
+    outlets: (TcpStream, TcpStream),
 }
 
 // A set that waits for a silent server is committed once the others were told that it has failed. Servers 0 and 2 go on
@@ -32,15 +46,13 @@ struct Broken {
 fn set_waits_for_the_master(rt: HostRuntime) -> Result<(), Fail> {
     let alloc = rt.alloc();
     let broken = ready(rt, alloc).ok_or("two servers")?;
-    let (head, _) = broken.middle.accept()?;
-    let (tail, _) = broken.middle.accept()?;
     let mut first = client(&rt, broken.port)?;
     first.write_all(b"set a 0 0 1\r\n1\r\n")?;
     let mut second = client(&rt, broken.port.wrapping_add(2))?;
     assert!(rt; answers(&mut second, b"get a\r\n", b"END\r\n"));
     assert!(rt; tells(&rt, alloc, broken.peer_port)?);
     assert!(rt; says(&mut first, b"STORED\r\n"));
-    drop((head, tail));
+    drop(broken);
     Ok(())
 }
 
@@ -70,6 +82,7 @@ fn here(alloc: Global) -> Result<Hosts, AllocError> {
     Ok(Hosts {
         address: String::from_str(alloc, "127.0.0.1")?,
         peers: None,
+        chain: String::from_str(alloc, "craq")?,
     })
 }
 
@@ -95,15 +108,49 @@ fn ready<
         };
         let mut head = start(rt, alloc, 0, port, peer_port)?;
         let mut tail = start(rt, alloc, 2, port, peer_port)?;
+        let played = thread::spawn(&rt, move || play(&rt, &middle, peer_port)).ok()?;
         if says(&mut head, b"ready\n") && says(&mut tail, b"ready\n") {
             return Some(Broken {
                 port,
                 peer_port,
-                middle,
+                middle: played.join(&rt)?,
             });
         }
     }
     None
+}
+
+// Accepts both others, and is accepted by them.
+fn play<R: Net<Listener = TcpListener, Stream = TcpStream>>(
+    rt: &R,
+    listener: &TcpListener,
+    peer_port: u16,
+) -> Option<Middle> {
+    let inlets = (met(listener)?, met(listener)?);
+    let outlets = (
+        linked(rt, peer_port)?,
+        linked(rt, peer_port.wrapping_add(2))?,
+    );
+    Some(Middle { inlets, outlets })
+}
+
+// The next connection, whose greeting is accepted.
+fn met(listener: &TcpListener) -> Option<TcpStream> {
+    let (mut stream, _) = listener.accept().ok()?;
+    let mut greeting = [0u8; 19];
+    stream.read_exact(greeting.as_mut_slice()).ok()?;
+    stream.write_all(ACCEPTED).ok()?;
+    Some(stream)
+}
+
+// A connection to a server that accepts it.
+fn linked<R: Net<Listener = TcpListener, Stream = TcpStream>>(
+    rt: &R,
+    port: u16,
+) -> Option<TcpStream> {
+    let mut stream = client(rt, port).ok()?;
+    stream.write_all(GREETING).ok()?;
+    says(&mut stream, b"\x02\x08").then_some(stream)
 }
 
 // Starts a server on a thread of its own, and gives the other end of its output.
@@ -125,6 +172,7 @@ fn start<
         port,
         peer_port,
         seats: 1,
+        quiet: true,
     };
     let settings = ServerSettings::new(alloc, numbers, here(alloc).ok()?).ok()?;
     let (output, ours) = pipe(&rt).ok()?;

@@ -41,6 +41,7 @@ pub fn ready<
             port,
             seats,
             serves: 1,
+            quiet: true,
         };
         let mut running = start(rt, alloc, numbers).ok()?;
         if says(&mut running.output, b"ready\n") {

@@ -1,0 +1,103 @@
+"""What the cases of tools/test_servers share: comparing, waiting for a line, and a server whose peers the test is."""
+import socket
+import struct
+import time
+
+from chain_clients import LIMIT, Wrong
+from peer_sockets import Peer, opened, rest
+from ports import free_ports
+from server_processes import Process
+
+
+def differing(what, seen, wanted):
+    """What is wrong if these differ, in words."""
+    return [] if seen == wanted else [f"{what}: {seen!r}, not {wanted!r}"]
+
+
+def call_line(other):
+    """What the user is to do about a link that is broken."""
+    return f"unless server {other} or this one is being stopped, one of the two must be called gone"
+
+
+def link_line(server, other, reason):
+    """A server's line on the link from another."""
+    return f"craq: server {server}: the link from server {other} {reason}; {call_line(other)}"
+
+
+def unwritten_line(server, other):
+    """A server's line on the link to another that can't be written."""
+    return f"craq: server {server}: the link to server {other} can't be written; {call_line(other)}"
+
+
+def untold(process, line):
+    """Waits until a process has written this line to its standard error. What is wrong if it doesn't."""
+    end = time.monotonic() + LIMIT
+    while line not in process.told().splitlines():
+        if time.monotonic() > end:
+            return [f"standard error hasn't {line!r}, but {process.told()!r}"]
+        time.sleep(0.02)
+    return []
+
+
+def answered(peer_port, rows):
+    """Which of these connections, each with its bytes, gets another answer than this one and an end, in words."""
+    faults = []
+    for name, bytes_, answer in rows:
+        seen = rest(opened(peer_port, bytes_))
+        if seen is None:
+            faults.append(f"{name}: it isn't closed")
+        else:
+            faults += differing(name, seen, answer)
+    return faults
+
+
+def is_closed(connection):
+    """Whether the server closes the connection, without a byte, within the limit."""
+    return rest(connection) == b""
+
+
+def is_silent(connection):
+    """Whether nothing has come on a connection after half a second; so a server that is slow may pass."""
+    connection.settimeout(0.5)
+    try:
+        return connection.recv(1) is None
+    except socket.timeout:
+        return True
+    except OSError:
+        return False
+    finally:
+        connection.settimeout(LIMIT)
+
+
+def reset(connection):
+    """Ends a connection so that the other side's read fails."""
+    connection.setsockopt(socket.SOL_SOCKET, socket.SO_LINGER, struct.pack("ii", 1, 0))
+    connection.close()
+
+
+class Starting:
+    """Server `server` of so many, which has been started, and of which the test is the others. It isn't ready."""
+
+    def __init__(self, servers, server=0, *words):
+        self.count, self.server_id = servers, server
+        first, self.peer_port = free_ports(servers), free_ports(servers)
+        self.port = first + server
+        self.peers = {i: Peer(i, servers, self.peer_port) for i in range(servers) if i != server}
+        numbers = ("--servers", str(servers), "--port", str(first), "--peer-port", str(self.peer_port))
+        self.server = Process(("server", "--id", str(server), *numbers, "--quiet", *words))
+
+    def end(self):
+        for it in [self.server, *self.peers.values()]:
+            it.end()
+
+
+class Alone(Starting):
+    """The same server once it is ready; `speakers` are the links of the others to it."""
+
+    def __init__(self, servers, server=0, *words):
+        super().__init__(servers, server, *words)
+        for peer in self.peers.values():
+            peer.accept()
+        self.speakers = {i: peer.link(server) for i, peer in self.peers.items()}
+        if self.server.line() != "ready\n":
+            raise Wrong(f"server {server} isn't ready: {self.server.told()!r}")
