@@ -2,6 +2,7 @@
 //! the master that tells servers of failures.
 #![tactic(auto)]
 
+mod acknowledgements;
 mod alarms;
 mod answers;
 mod arrivals;

@@ -38,7 +38,11 @@ pub(crate) fn tell_unmet<X: Sink>(
     if !answers.contains(&Answer::Done) {
         say(
             errors,
-            "craq: no server answers; if the chain runs, look at --peers, --peer-port and its servers; the master goes on\n",
+            "craq: no server answers; if the chain runs, look at ",
+        );
+        say(
+            errors,
+            "--peers, --peer-port and its servers; the master goes on\n",
         );
         return;
     }

@@ -42,12 +42,7 @@ pub(crate) fn notices(
 }
 
 // A notice (i, j) for each of so many servers that isn't among these.
-fn notices_beside(
-    alloc: Global,
-    gone: View,
-    j: u8,
-    count: u8,
-) -> Result<Vec<(u8, u8)>, AllocError>
+fn notices_beside(alloc: Global, gone: View, j: u8, count: u8) -> Result<Vec<(u8, u8)>, AllocError>
     requires chain { count ≤ 16 }
     ensures { IfOk result (λ given. given.items ≡ notices_from gone j 0 count) }
 {

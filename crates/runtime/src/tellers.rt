@@ -10,11 +10,10 @@ use crate::starts::start_number;
 use ends::Sink;
 use node::{SERVERS, View};
 use std::alloc::{AllocError, Global};
-use std::mem;
 use std::net::{Net, TcpListener, TcpStream};
-use std::thread;
 use std::thread::Threads;
 use std::time::Clock;
+use std::{mem, thread};
 use wire::MASTER;
 
 /// How many seconds a server may take to note that another has failed.
@@ -119,9 +118,11 @@ impl Teller {
     ) -> Result<Vec<Answer>, TellFault> {
         let contacts = mem::replace(&mut self.contacts, Vec::new(self.alloc));
         let identity = &self.identity;
-        let visits = thread::map_vec(rt, contacts, &|contact: Contact| {
-            contact.visit(rt, settings, identity)
-        })?;
+        let visits = thread::map_vec(
+            rt,
+            contacts,
+            &|contact: Contact| { contact.visit(rt, settings, identity) },
+        )?;
         let mut answers = Vec::new(self.alloc);
         for visit in visits {
             let Visit { contact, answer } = visit;
