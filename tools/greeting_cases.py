@@ -2,7 +2,7 @@
 from chain_clients import Connection
 from peer_sockets import ACK, MASTER, accepted, gone, hello, opened, refused, rest
 from ports import free_ports
-from server_checks import Starting, answered, differing, is_silent, untold
+from server_checks import Alone, Starting, answered, differing, is_silent, untold
 from server_processes import Chain, Process
 
 # Why a server or a master is refused, by the number of the reason.
@@ -130,7 +130,7 @@ def taken_id_case(_rounds):
 
 def older_case(_rounds):
     """A peer that only says Hello, as older ones did, is refused, whether it goes on or falls silent."""
-    chain = Starting(2)
+    chain = Alone(2)
     try:
         silent = opened(chain.peer_port, hello(1))
         faults = answered(chain.peer_port, [
@@ -147,11 +147,13 @@ def ready_case(_rounds):
     """A server is ready, and serves its first client, once each of its links is accepted in both directions."""
     chain = Starting(3)
     try:
+        first, second = chain.peers[1], chain.peers[2]
+        first.meet()
         client = Connection(chain.port)
         client.send(b"get a\r\n")
         faults = []
-        first, second = chain.peers[1], chain.peers[2]
-        for step in (first.meet, lambda: first.inlet.sendall(accepted()), second.accept, lambda: first.link(0)):
+        steps = (lambda: None, lambda: first.inlet.sendall(accepted()), second.accept, lambda: first.link(0))
+        for step in steps:
             step()
             if not is_silent(client.socket) or chain.server.has_line():
                 faults.append("it is ready too early")

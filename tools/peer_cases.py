@@ -109,6 +109,8 @@ def broken_case(_rounds):
         faults += untold(chain.server, link_line(0, 3, "was closed after a malformed frame"))
         speakers[4].sendall(OLD_HELLO)
         faults += untold(chain.server, link_line(0, 4, "was closed after a frame of format 1"))
+        speakers[5].sendall(introduction(6))
+        faults += untold(chain.server, link_line(0, 5, "was closed after a frame that belongs to greetings"))
         master, _failed = admitted(chain.peer_port, MASTER, 6)
         master.sendall(b"\x02\x0b")
         told = "craq: server 0: the connection of the master was closed after a malformed frame"
@@ -120,7 +122,7 @@ def broken_case(_rounds):
         client.send(b"set a 0 0 1 noreply\r\n1\r\n" * 1000)
         faults += untold(chain.server, unwritten_line(0, 1))
         lines = chain.server.told().splitlines()
-        return faults + differing("the number of lines", len(lines), 6)
+        return faults + differing("the number of lines", len(lines), 7)
     finally:
         chain.end()
 

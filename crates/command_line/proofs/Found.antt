@@ -12,7 +12,8 @@ use Rattle.clap.specs.declared.parser.matches.Found.{Found}
 use Rattle.command_line.specs.ClusterWords.{NamesNumbers}
 use Rattle.command_line.specs.Options.{GivesNumber}
 use Rattle.command_line.specs.Commands.{IsAskedFor}
-use Rattle.command_line.specs.Words.{IsNamed, NamesFile, program_app}
+use Rattle.command_line.specs.FileWords.{NamesFile}
+use Rattle.command_line.specs.Words.{IsNamed, program_app}
 use Rattle.command_line.specs.ProcessWords.{NamesHosts, NamesMaster, NamesServer}
 use Rattle.command_line.specs.declared.numbers.Numbers.{Numbers}
 use Rattle.command_line.specs.declared.processes.Hosts.{Hosts}

@@ -1,4 +1,5 @@
 pub mod Options
+pub mod FileWords
 pub mod ClusterWords
 pub mod ProcessWords
 pub mod Words

@@ -1,11 +1,11 @@
 -- The command line, by clap's own account of what a parser finds in words.
 use Rattle.std.specs.Prelude.{◌≡◌, ◌⊎◌, ℕ, List, [], codes, Option, Some, true, string_bytes}
-use Rattle.clap.specs.Words.{App, Row, Text, first_of, new_app, subcommand_of, takes, with_rule, with_subcommand}
+use Rattle.clap.specs.Words.{App, Row, Text, new_app, subcommand_of, takes, with_subcommand}
 use Rattle.clap.specs.Kinds.{IsAmong}
 use Rattle.clap.specs.declared.error.kind.ErrorKind.{ErrorKind}
 use Rattle.clap.specs.declared.error.kind.ErrorKind.TheVariants.{MissingSubcommand, OutOfMemory}
 use Rattle.command_line.specs.ClusterWords.{NamesNumbers, cluster_app}
-use Rattle.command_line.specs.Options.{file_rule}
+use Rattle.command_line.specs.FileWords.{NamesFile, file_app}
 use Rattle.command_line.specs.ProcessWords.{NamesHosts, NamesMaster, NamesServer, master_app, server_app}
 use Rattle.command_line.specs.declared.commands.Command.{Command}
 use Rattle.command_line.specs.declared.commands.Command.TheVariants.{Print, Tell, Serve}
@@ -13,10 +13,6 @@ use Rattle.command_line.specs.declared.commands.Print.TheVariants.{Scenario, Ver
 use Rattle.command_line.specs.declared.commands.Serve.TheVariants.{Cluster, Server, Master}
 use Rattle.command_line.specs.declared.commands.Telling.{Telling}
 use Rattle.command_line.specs.declared.commands.Telling.TheVariants.{Trace, Draw}
-
--- a command of this name with a FILE
-abbrev pub file_app : List ℕ → App
-file_app name = with_rule (new_app name) file_rule
 
 -- the program, which has a version, and of which a command has to be named
 abbrev pub named_app : App
@@ -33,12 +29,6 @@ program_app =
     let cluster = with_subcommand draw cluster_app.top in
     let server = with_subcommand cluster server_app.top in
     with_subcommand server master_app.top
-
--- the command that was found has this name and this FILE
-pub record NamesFile (name : List ℕ) (found : Option (Text × List Row)) (file : List ℕ) : Type 0 where
-  pub rows : List Row
-  pub named : found ≡ Some (name, rows)
-  pub given : first_of (codes "FILE") rows ≡ Some file
 
 -- the name of a command that tells what a schedule does
 abbrev pub telling_name : Telling → List ℕ

@@ -3,6 +3,7 @@
 
 mod cluster_words;
 mod commands;
+mod file_words;
 mod given;
 mod numbers;
 mod options;

@@ -1,7 +1,7 @@
 //! The words of a command line, and the command that they spell.
 ghost use Rattle.std.specs.Prelude.{◌≡◌, ℕ, codes, List, [], IfOk, IfErr, IfSome, OnOk, None, map};
 ghost use Rattle.clap.specs.Words.{app_of, fault_of, kind_of, subcommand_of, subcommand_rows_of};
-ghost use Rattle.command_line.specs.Words.{IsNamed, IsRefusedFor, IsTaken, NamesFile, file_app, named_app, program_app};
+ghost use Rattle.command_line.specs.Words.{IsNamed, IsRefusedFor, IsTaken, named_app, program_app};
 ghost use Rattle.command_line.specs.declared.commands.Command.{Command as Shown};
 ghost use Rattle.command_line.specs.Options.{ReadsAs};
 ghost use Rattle.command_line.specs.ProcessWords.{NamesHosts, NamesMaster, NamesServer};
@@ -12,8 +12,7 @@ ghost use Rattle.command_line.specs.Commands.{AskForVersion, IsAskedFor};
 
 use crate::cluster_words::{cluster_parser, numbers_given};
 use crate::commands::{Command, Print, Serve, Telling, UsageFault};
-use crate::given::given_to;
-use crate::options::file_argument;
+use crate::file_words::{draw_parser, file_given, scenario_parser, trace_parser};
 use crate::process_words::{
     hosts_given, master_numbers, master_parser, server_numbers, server_parser,
 };
@@ -115,15 +114,6 @@ fn process_given<'a>(alloc: Global, matches: &ArgMatches<'a>) -> Result<Option<S
     Ok(None)
 }
 
-// The FILE that was given to the command of this name, if that is the command.
-fn file_given<'a>(matches: &ArgMatches<'a>, name: &str) -> Option<&'a str>
-    ensures given { IfSome result (λ file. NamesFile name.now (subcommand_rows_of matches.now) file.now) }
-    ensures none { result ≡ None → (file : List ℕ) → NamesFile name.now (subcommand_rows_of matches.now) file → ⊥ }
-{
-    let given = given_to(matches, name)?;
-    given.get_str("FILE")
-}
-
 fn parser<'a>(alloc: Global) -> Result<Parser<'a>, AllocError>
     ensures { IfOk result (λ parser. app_of parser ≡ program_app) }
 {
@@ -150,33 +140,6 @@ fn program_parser<'a>(alloc: Global) -> Parser<'a>
         .about("A replicated object cache (CRAQ) that speaks memcached's text protocol")
         .version(VERSION)
         .subcommand_required(true)
-}
-
-fn scenario_parser<'a>(alloc: Global) -> Result<Parser<'a>, AllocError>
-    ensures { IfOk result (ReadsAs (file_app (codes "scenario"))) }
-{
-    let command = Parser::new(alloc, "scenario")
-        .about("Replays a schedule over a chain of servers and prints the transcript")
-        .arg(file_argument(alloc))?;
-    Ok(command)
-}
-
-fn trace_parser<'a>(alloc: Global) -> Result<Parser<'a>, AllocError>
-    ensures { IfOk result (ReadsAs (file_app (codes "trace"))) }
-{
-    let command = Parser::new(alloc, "trace")
-        .about("Replays a schedule and prints what each of its events did, and the transcript")
-        .arg(file_argument(alloc))?;
-    Ok(command)
-}
-
-fn draw_parser<'a>(alloc: Global) -> Result<Parser<'a>, AllocError>
-    ensures { IfOk result (ReadsAs (file_app (codes "draw"))) }
-{
-    let command = Parser::new(alloc, "draw")
-        .about("Replays a schedule and prints a picture of it, SVG 1.1")
-        .arg(file_argument(alloc))?;
-    Ok(command)
 }
 
 fn usage_fault(alloc: Global, error: Error) -> UsageFault

@@ -57,7 +57,9 @@ fn set_waits_for_the_master(rt: HostRuntime) -> Result<(), Fail> {
 }
 
 // Whether a master that reads `gone 1` tells both others.
-fn tells<R: Wait + Net<Listener = TcpListener, Stream = TcpStream> + Files>(
+fn tells<
+    R: Wait + Threads + Clock + Net<Listener = TcpListener, Stream = TcpStream> + Files + Sync,
+>(
     rt: &R,
     alloc: Global,
     peer_port: u16,

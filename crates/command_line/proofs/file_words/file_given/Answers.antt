@@ -1,6 +1,6 @@
 use Rattle.clap.specs.Words.{found_of}
 use Rattle.command_line.proofs.Found.{names_file, names_no_file}
-use Rattle.command_line.proofs.words.file_given.Goals as goal
+use Rattle.command_line.proofs.file_words.file_given.Goals as goal
 
 pub returns-clause-given : goal.returns-clause-given
 returns-clause-given c =

@@ -2,7 +2,7 @@ use Rattle.std.proofs.Common.{codes, rules}
 use Rattle.clap.specs.Words.{new_app}
 use Rattle.command_line.proofs.Parsers.{with_option}
 use Rattle.command_line.specs.Options.{ReadsAs}
-use Rattle.command_line.proofs.words.draw_parser.Goals as goal
+use Rattle.command_line.proofs.file_words.draw_parser.Goals as goal
 
 pub returns : goal.returns
 returns c =
