@@ -49,6 +49,7 @@ fn serve<
         + Copy
         + Drop
         + Send
+        + Sync
         + 'static,
     S: Source,
     W: Sink,

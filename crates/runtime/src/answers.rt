@@ -74,7 +74,7 @@ impl Answers {
         errors: &mut X,
         who: &str,
         j: u8,
-        told: u8,
+        told: usize,
     ) {
         self.line.clear();
         self.add(b"gone ");

@@ -2,12 +2,14 @@
 //! the master that tells servers of failures.
 #![tactic(auto)]
 
+mod acknowledgements;
 mod alarms;
 mod answers;
 mod arrivals;
 mod banners;
 mod cluster_faults;
 mod clusters;
+mod contacts;
 mod cuts;
 mod doors;
 mod greeters;
@@ -18,8 +20,10 @@ mod homes;
 mod input_lines;
 mod keepalive;
 mod link_lines;
+mod master_lines;
 mod masters;
 mod meetings;
+mod notices;
 mod offices;
 mod outgoing;
 mod paces;
@@ -33,6 +37,7 @@ mod sides;
 mod starts;
 mod steering;
 mod strangers;
+mod tellers;
 mod told_guests;
 mod told_sinks;
 mod working;
