@@ -37,15 +37,11 @@ def mismatched(reason, words):
             faults += differing(f"the status of server {i}", server.status(), 1)
             other = 1 - i
             away = f"craq: cannot connect to server {other} at 127.0.0.1 port {peer_port + other}"
-            told += server.told().splitlines()
-            last = told[-1]
-            if last not in (refused_line(i, other, reason), away):
-                faults.append(f"server {i} ends with {last!r}")
-        if not any("was refused by" in line for line in told):
-            faults.append("none was refused")
-        if not any(line == refusing_line(i, f"server {1 - i}", reason) for line in told for i in range(2)):
-            faults.append(f"none tells that it has refused the other: {told!r}")
-        return faults
+            lines = server.told().splitlines()
+            if lines[-1:] not in ([refused_line(i, other, reason)], [away]):
+                faults.append(f"server {i} says {lines!r}")
+            told += lines
+        return faults if any("was refused by" in line for line in told) else [*faults, "none was refused"]
     finally:
         for server in servers:
             server.end()

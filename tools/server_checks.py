@@ -57,16 +57,17 @@ def is_closed(connection):
 
 
 def is_silent(connection):
-    """Whether nothing has come on a connection after half a second; so a server that is slow may pass."""
+    """Whether nothing comes on a connection for half a second, and it stays open."""
     connection.settimeout(0.5)
     try:
-        return connection.recv(1) is None
+        connection.recv(1)
     except socket.timeout:
         return True
     except OSError:
-        return False
+        pass
     finally:
         connection.settimeout(LIMIT)
+    return False
 
 
 def reset(connection):
@@ -76,15 +77,13 @@ def reset(connection):
 
 
 class Starting:
-    """Server `server` of so many, which has been started, and of which the test is the others. It isn't ready."""
+    """Server 0 of so many, which has been started, and of which the test is the others. It isn't ready."""
 
-    def __init__(self, servers, server=0, *words):
-        self.count, self.server_id = servers, server
-        first, self.peer_port = free_ports(servers), free_ports(servers)
-        self.port = first + server
-        self.peers = {i: Peer(i, servers, self.peer_port) for i in range(servers) if i != server}
-        numbers = ("--servers", str(servers), "--port", str(first), "--peer-port", str(self.peer_port))
-        self.server = Process(("server", "--id", str(server), *numbers, "--quiet", *words))
+    def __init__(self, servers):
+        self.port, self.peer_port = free_ports(servers), free_ports(servers)
+        self.peers = {i: Peer(i, servers, self.peer_port) for i in range(1, servers)}
+        numbers = ("--servers", str(servers), "--port", str(self.port), "--peer-port", str(self.peer_port))
+        self.server = Process(("server", "--id", "0", *numbers, "--quiet"))
 
     def end(self):
         for it in [self.server, *self.peers.values()]:
@@ -94,10 +93,10 @@ class Starting:
 class Alone(Starting):
     """The same server once it is ready; `speakers` are the links of the others to it."""
 
-    def __init__(self, servers, server=0, *words):
-        super().__init__(servers, server, *words)
+    def __init__(self, servers):
+        super().__init__(servers)
         for peer in self.peers.values():
             peer.accept()
-        self.speakers = {i: peer.link(server) for i, peer in self.peers.items()}
+        self.speakers = {i: peer.link(0) for i, peer in self.peers.items()}
         if self.server.line() != "ready\n":
-            raise Wrong(f"server {server} isn't ready: {self.server.told()!r}")
+            raise Wrong(f"server 0 isn't ready: {self.server.told()!r}")

@@ -50,7 +50,13 @@ fn other_words_are_refused(rt: HostRuntime) -> Result<(), Fail> {
         &["craq", "cluster", "--port", "4000"],
         &["craq", "master", "--servers", "3"],
         &["craq", "cluster", "--servers=3", "--port=4000", "--chain=a"],
-        &["craq", "master", "--servers=3", "--peer-port=4000", "--quiet"],
+        &[
+            "craq",
+            "master",
+            "--servers=3",
+            "--peer-port=4000",
+            "--quiet",
+        ],
     ];
     for words in rows {
         match read_command(rt.alloc(), words) {

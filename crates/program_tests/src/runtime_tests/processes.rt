@@ -59,11 +59,7 @@ fn set_waits_for_the_master(rt: HostRuntime) -> Result<(), Fail> {
 // Whether a master that reads `gone 1` tells both others.
 fn tells<
     R: Wait + Threads + Clock + Net<Listener = TcpListener, Stream = TcpStream> + Files + Sync,
->(
-    rt: &R,
-    alloc: Global,
-    peer_port: u16,
-) -> Result<bool, Fail> {
+>(rt: &R, alloc: Global, peer_port: u16) -> Result<bool, Fail> {
     let numbers = MasterNumbers {
         servers: SERVERS,
         peer_port,
