@@ -11,7 +11,7 @@ import outputs
 import tree
 
 import kit
-from lanes import in_lanes, read_costs
+from lanes import Plan, in_lanes, read_costs
 
 HERE = os.path.dirname(os.path.realpath(__file__))
 COSTS = f"{tree.GATE_PARTS}/costs.txt"
@@ -96,7 +96,7 @@ class Work:
         number = os.environ.get("RT_JOBS", "")
         lanes = int(number) if number.isdigit() and int(number) else kit.rt.processors()
         try:
-            return in_lanes(self.tasks, read_costs(COSTS), lanes, 0.85 * kit.rt.free(), told)
+            return in_lanes(Plan(self.tasks, read_costs(COSTS), lanes, 0.85 * kit.rt.free()), told)
         finally:
             for it in held:
                 os.close(it)
