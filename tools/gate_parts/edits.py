@@ -200,7 +200,9 @@ class Reading:
         void = list(self.void)
         edited = set(self.by_name)
         for (kind, name), said in self.now.items():
-            if said in ("proved", "assumed") or kind == "fn" and (name in edited or self.is_closure(name, edited)):
+            if said == "assumed" or self.is_as_before(kind, name):
+                continue
+            if kind == "fn" and (name in edited or self.is_closure(name, edited)):
                 continue
             if not self.only_stands(said):
                 void.append(f"{kind} {name}: {said}")
@@ -209,7 +211,7 @@ class Reading:
             void += [f"{kind} {it}: has no line" for it in gone if not self.is_closure(it, edited)]
         for it in self.no_ops:
             said = self.now.get(("fn", it.name), "no line")
-            if said != "proved" and not self.only_stands(said):
+            if not self.is_as_before("fn", it.name) and not self.only_stands(said):
                 void.append(f"the edit that changes nothing, in {it.name}: {said}")
         return f"is void: {void[0][:200]} ({len(void)} such lines)" if void else None
 
@@ -218,8 +220,13 @@ class Reading:
         for has no path."""
         on = [it for it in re.findall(r"`([^`]+)`", said) if "::" in it]
         return bool(STANDS.fullmatch(said)) and not any(
-            self.now.get((kind, it)) == "proved" for it in on for kind in ("fn", "impl")
+            self.is_as_before(kind, it) for it in on for kind in ("fn", "impl")
         )
+
+    def is_as_before(self, kind, name):
+        """Whether this is proved, as in the crate without an edit: the check says the same of it."""
+        before = self.trial.kept.proved[kind].get(name)
+        return before is not None and before == self.now.get((kind, name))
 
     def is_refused(self, edit):
         """Whether the edit's own function is refused at a goal of its own."""

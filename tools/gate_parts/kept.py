@@ -13,11 +13,12 @@ SUBJECT = re.compile(r"(fn|impl|struct|enum|trait|union) (\S+): (.*)")
 
 
 def proved_in(said):
-    """The names that a check's output says are proved, by their kind."""
-    found = collections.defaultdict(set)
+    """The names that a check's output says are proved, by their kind, each with what it says of it: `proved`, which may go
+    on, as in `proved, may wait`."""
+    found = collections.defaultdict(dict)
     for it in map(SUBJECT.fullmatch, said.split("\n")):
-        if it and it[3] == "proved":
-            found[it[1]].add(it[2])
+        if it and re.match(r"proved\b", it[3]):
+            found[it[1]][it[2]] = it[3]
     return found
 
 

@@ -199,6 +199,7 @@ def run_gate(case):
 # --- the reading of a batch alone
 
 PROVED = ["fn small::f: proved", "fn small::g: proved", "fn small::h: proved", "fn small::free: proved", "struct small::S: proved"]
+PROVED += ["fn small::w: proved, may wait"]
 GOAL = "note: src/lib.rt:12:5: it is not proved that what the function ensures holds when it returns (`returns`)"
 REFUSED = "fn small::f: no proof: expected answers in ./proofs/f/Answers.antt; `search` did not prove `returns`"
 
@@ -258,6 +259,9 @@ READINGS = {
         [REFUSED, "fn small::h: no proof: `search` did not prove `returns`"]
     ).why_void(),
     "a function without a line makes it void": lambda: lost("small::free").why_void(),
+    "a function that is proved, and waits only with the edit, makes it void": lambda: reading(
+        [REFUSED, "fn small::free: proved, may wait"]
+    ).why_void(),
     "a struct that is not proved makes it void": lambda: reading([REFUSED, "struct small::S: not proved"]).why_void(),
 }
 
