@@ -1,6 +1,6 @@
--- Sessions at which no bytes wait: one gives the call of the one request that comes, and no bytes wait there afterwards.
-use Rattle.std.proofs.Common.{◌≡◌, ℕ, false, List, [], ◌∷◌, ◌++◌, length, drop, cond, Option, None, Some, refl, arith, ap}
-use Rattle.std.proofs.Common.{sym, ◌∙◌, subst, append-nil}
+-- Sessions at which no bytes wait: one gives the call of the one request that comes, and none wait there afterwards.
+use Rattle.std.proofs.Common.{◌≡◌, ℕ, false, List, [], ◌∷◌, ◌++◌, length, drop, cond, Option, None, Some, refl, arith}
+use Rattle.std.proofs.Common.{ap, sym, ◌∙◌, subst, append-nil}
 use Rattle.std.proofs.lemmas.List.{drop_all}
 use Rattle.table.specs.declared.operations.Call.{Call}
 use Rattle.table.specs.declared.operations.Reply.{Reply}
