@@ -40,7 +40,8 @@ clean_by s key item e = elim (cases_Bool (is_clean s.store key)) [
 pub clean_step : (s : ServerState) (c : ℕ) (key : List ℕ) (item : Option Item)
     → IsLawful s
     → peeked s key ≡ Clean item
-    → step s (Called c (record { target = One key; op = Read })) ≡ record { state = s; outputs = Replied c (Value item) ∷ [] }
+    → step s (Called c (record { target = One key; op = Read }))
+    ≡ record { state = s; outputs = Replied c (Value item) ∷ [] }
 clean_step s c key item l e =
     let f = clean_by s key item e in
     let answer : Outcome = putting s (reply_at c (Value (value_at s.store key (last_number s.store)))) in

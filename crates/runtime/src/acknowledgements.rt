@@ -39,8 +39,8 @@ pub(crate) fn put_notice(alloc: Global, stream: &TcpStream, j: u8) -> Result<boo
     }
 }
 
-/// Waits so many seconds for the answer to the notice of server `j`. Answers to earlier ones are passed over. Fails only
-/// if memory runs out.
+/// Waits so many seconds for the answer to the notice of server `j`. Answers to earlier ones are passed over. Fails
+/// only if memory runs out.
 pub(crate) fn wait_for_noted<R: Clock>(
     rt: &R,
     alloc: Global,
