@@ -210,11 +210,13 @@ def memory_runs_out(cluster):
 
 
 def filled(cluster, number):
-    """Stores items with long keys, numbered from this one on, until a connection ends. Gives the next number."""
+    """Stores items with long keys, numbered from this one on, until a connection ends. Gives the next number. By turns
+    it sends a hundred at a time, ten, and one: what is left may be too little to read a hundred, and enough for one."""
+    at_a_time = (100, 10, 1)[number % 3]
     try:
-        client = Connection(cluster.ports[number % len(cluster.ports)])
-        for _ in range(20):
-            keys = [b"%0200d" % (number + i) for i in range(100)]
+        client = Connection(cluster.ports[number // 3 % len(cluster.ports)])
+        for _ in range(20 * 100 // at_a_time):
+            keys = [b"%0200d" % (number + i) for i in range(at_a_time)]
             number += len(keys)
             client.send(b"".join(b"set %s 0 0 1\r\nx\r\n" % key for key in keys))
             for _ in keys:

@@ -117,14 +117,15 @@ def ended(*words):
 class Chain:
     """Server processes of a chain, and a master. The clients of chain_clients run over it."""
 
-    def __init__(self, servers=3, seats=10, words=()):
-        """`words` are added to those of each server and of the master."""
+    def __init__(self, servers=3, seats=10, words=(), memory=None):
+        """`words` are added to those of each server and of the master; `memory` is the servers' limit."""
         self.count, self.seats = servers, seats
         self.settled = {}  # what each counter of an earlier phase came to
         first, self.peer_port = free_ports(servers), free_ports(servers)
         self.ports, self.failed = [first + i for i in range(servers)], set()
         self.words = ("--servers", str(servers), "--peer-port", str(self.peer_port), *words)
         self.clients = ("--port", str(first), "--seats", str(seats), "--quiet")
+        self.clients += ("--memory", str(memory)) if memory else ()
         self.servers = [self.started(i) for i in range(servers)]
         self.judge_ready()
         self.master = self.another_master()

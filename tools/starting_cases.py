@@ -4,22 +4,26 @@ from server_checks import differing
 from server_processes import Process
 
 SERVER = ("craq 0.1.0: server 0 of 1 of the chain {chain}; clients at 127.0.0.1 port {port}, servers and masters at "
-          "127.0.0.1 port {peer_port}; 2 connections at a time at each server\n")
+          "127.0.0.1 port {peer_port}; 2 connections at a time at each server; memory limit: {limit} (the machine has "
+          "{machine} MiB)\n")
 CLUSTER = ("craq 0.1.0: a cluster of 2 servers; clients at 127.0.0.1 ports {port} to {last}; 2 connections at a time "
-           "at each server\n")
+           "at each server; memory limit: {limit} (the machine has {machine} MiB)\n")
 
 
 def start_case(_rounds):
     """A server and a cluster say one line at the start, before they are ready, and nothing if they are to be quiet."""
     faults = []
-    for quiet in ((), ("--quiet",)):
+    with open("/proc/meminfo", encoding="ascii") as memory:
+        machine = int(memory.readline().split()[1]) // 1024
+    for quiet, limited, limit in (((), (), "none"), ((), ("--memory", "64"), "64 MiB"), (("--quiet",), (), "")):
         port, peer_port = free_ports(2), free_ports(2)
-        numbers = ("--port", str(port), "--seats", "2", *quiet)
+        numbers = ("--port", str(port), "--seats", "2", *limited, *quiet)
+        shown = {"port": port, "limit": limit, "machine": machine}
         server = ("server", "--id", "0", "--servers", "1", "--peer-port", str(peer_port), *numbers)
         for chain, named in (("craq", ()), ("sessions", ("--chain", "sessions"))):
-            line = SERVER.format(chain=chain, port=port, peer_port=peer_port)
+            line = SERVER.format(chain=chain, peer_port=peer_port, **shown)
             faults += said((*server, *named), "" if quiet else line)
-        line = CLUSTER.format(port=port, last=port + 1)
+        line = CLUSTER.format(last=port + 1, **shown)
         faults += said(("cluster", "--servers", "2", *numbers), "" if quiet else line)
     return faults
 

@@ -10,7 +10,7 @@ use Rattle.clap.specs.declared.parser.matches.ArgMatches.{ArgMatches}
 use Rattle.clap.specs.declared.parser.matches.ArgMatches.TheViews.{out-ArgMatches}
 use Rattle.clap.specs.declared.parser.matches.Found.{Found}
 use Rattle.command_line.specs.ClusterWords.{NamesNumbers}
-use Rattle.command_line.specs.Options.{GivesNumber}
+use Rattle.command_line.specs.Options.{GivesNumber, GivesNumberIfAny}
 use Rattle.command_line.specs.Commands.{IsAskedFor}
 use Rattle.command_line.specs.FileWords.{NamesFile}
 use Rattle.command_line.specs.Words.{IsNamed, program_app}
@@ -73,14 +73,23 @@ pub same_rows : {X Y : Type 0} (o : Option (X × Y)) (x : X) (y z : Y)
     → y ≡ z
 same_rows o x y z p q = ap (λ p. p.1) (some_same _ _ (sym p ∙ q))
 
+-- what is given by no rows that were found is given by no rows of the command
+pub rows_none : {N : Type 0} (Gives : List Row → N → Type 0) (o : Option (Text × List Row)) (name : Text)
+    (here rows : List Row)
+    → o ≡ Some (name, here)
+    → o ≡ Some (name, rows)
+    → ((n : N) → Gives here n → ⊥)
+    → (n : N) → Gives rows n → ⊥
+rows_none Gives o name here rows p q none n given =
+    none n (subst (λ (all : List Row). Gives all n) (sym (same_rows o name here rows p q)) given)
+
 -- if no number is found in the rows of a command, none is given to it
 pub given_none : (o : Option (Text × List Row)) (name : Text) (here rows : List Row) (least greatest : ℕ) (id : Text)
     → o ≡ Some (name, here)
     → o ≡ Some (name, rows)
     → ((n : ℕ) → GivesNumber least greatest id here n → ⊥)
     → (n : ℕ) → GivesNumber least greatest id rows n → ⊥
-given_none o name here rows least greatest id p q none n given =
-    none n (subst (λ (all : List Row). GivesNumber least greatest id all n) (sym (same_rows o name here rows p q)) given)
+given_none o name here rows least greatest id = rows_none (λ all n. GivesNumber least greatest id all n) o name here rows
 
 -- what is no value is none
 pub none_if : {X : Type 0} (o : Option X) → ((x : X) → o ≡ Some x → ⊥) → o ≡ None
@@ -134,6 +143,25 @@ none_given r now f o name id rows text e given none named first =
     let nothing : option_map now r ≡ None = rw none refl in
     let bad : Some text ≡ None = sym here ∙ (sym (first_value-rows f id) ∙ (sym given ∙ nothing)) in
     cc
+
+-- an option that wasn't read has no first value
+pub not_given : {X : Type 0} (r : Option X) (now : X → Text) (f : Found) (id : Text)
+    → option_map now r ≡ first_value f id
+    → r ≡ None
+    → first_of id (rows_of f) ≡ None
+not_given r now f id given none = first_given r now f id given ∙ ap (λ o. option_map now o) none
+
+-- an option that was read and has no such number gives neither one nor none
+pub no_number_if_any : {X : Type 0} (r : Option X) (x : X) (now : X → Text) (f : Found) (least greatest : ℕ) (id : Text)
+    → option_map now r ≡ first_value f id
+    → r ≡ Some x
+    → ((n : ℕ) → GivesNumber least greatest id (rows_of f) n → ⊥)
+    → (number : Option ℕ) → GivesNumberIfAny least greatest id (rows_of f) number → ⊥
+no_number_if_any r x now f least greatest id given some none None absent =
+    let here = first_given r now f id given ∙ ap (λ o. option_map now o) some in
+    let bad : None ≡ Some (now x) = sym absent ∙ here in
+    cc
+no_number_if_any r x now f least greatest id given some none (Some n) is = none n is
 
 -- a flag without a text isn't set
 pub unset : {X : Type 0} (o : Option X) {x : X}

@@ -2,10 +2,12 @@
 use Rattle.std.specs.Prelude.{◌≡◌, List, codes, Option, Some, pos}
 use Rattle.clap.specs.Words.{App, Row, Rule, Text, new_app, with_rule}
 use Rattle.clap.specs.declared.builder.value_parser.ValueParser.TheVariants.{Signed, Unsigned}
-use Rattle.command_line.specs.Options.{GivesFlag, GivesNumber, flag_rule, number_or_rule, required_rule}
+use Rattle.command_line.specs.Options.{GivesFlag, GivesNumber, GivesNumberIfAny}
+use Rattle.command_line.specs.Options.{flag_rule, number_or_rule, number_rule, required_rule}
 use Rattle.command_line.specs.declared.numbers.Numbers.{Numbers}
 
--- `--servers N`, `--port P`, `--seats S` and `--serves K`, with their least and their greatest numbers; `--quiet`
+-- `--servers N`, `--port P`, `--seats S`, `--serves K` and `--memory MIB`, with their least and their greatest numbers;
+-- `--quiet`
 abbrev pub servers_rule : Rule
 servers_rule = required_rule (codes "servers") (Signed (pos 1) (pos 16))
 
@@ -18,6 +20,9 @@ seats_rule = number_or_rule (codes "seats") (Signed (pos 1) (pos 16)) (codes "4"
 abbrev pub serves_rule : Rule
 serves_rule = number_or_rule (codes "serves") (Unsigned 0 1000000) (codes "0")
 
+abbrev pub memory_rule : Rule
+memory_rule = number_rule (codes "memory") (Signed (pos 1) (pos 1048576))
+
 abbrev pub quiet_rule : Rule
 quiet_rule = flag_rule (codes "quiet")
 
@@ -25,7 +30,8 @@ quiet_rule = flag_rule (codes "quiet")
 abbrev pub cluster_app : App
 cluster_app =
     let listening = with_rule (with_rule (new_app (codes "cluster")) servers_rule) port_rule in
-    with_rule (with_rule (with_rule listening seats_rule) serves_rule) quiet_rule
+    let serving = with_rule (with_rule listening seats_rule) serves_rule in
+    with_rule (with_rule serving memory_rule) quiet_rule
 
 -- the command that was found is `cluster`, with these numbers
 pub record NamesNumbers (found : Option (Text × List Row)) (numbers : Numbers) : Type 0 where
@@ -35,4 +41,5 @@ pub record NamesNumbers (found : Option (Text × List Row)) (numbers : Numbers) 
   pub port : GivesNumber 1 65520 (codes "port") rows numbers.port
   pub seats : GivesNumber 1 16 (codes "seats") rows numbers.seats
   pub serves : GivesNumber 0 1000000 (codes "serves") rows numbers.serves
+  pub memory : GivesNumberIfAny 1 1048576 (codes "memory") rows numbers.memory
   pub quiet : GivesFlag (codes "quiet") rows numbers.quiet

@@ -1,5 +1,5 @@
 -- The arguments of commands, by what clap reads of them, and the numbers that they give.
-use Rattle.std.specs.Prelude.{◌≡◌, ◌↔◌, ◌≤◌, ℕ, List, [], ◌∷◌, Bool, Some, true, false, codes}
+use Rattle.std.specs.Prelude.{◌≡◌, ◌↔◌, ◌≤◌, ℕ, List, [], ◌∷◌, Bool, Option, None, Some, true, false, codes}
 use Rattle.std.specs.Str.Parse.{IsNumeral, digits_value, without_leading_plus}
 use Rattle.clap.specs.Words.{App, Row, Rule, app_of, first_of, new_rule, one_of, rule_of}
 use Rattle.clap.specs.declared.builder.ArgAction.TheVariants.{Set, SetTrue}
@@ -45,6 +45,11 @@ abbrev pub GivesNumber : ℕ → ℕ → List ℕ → List Row → ℕ → Type 
 GivesNumber least greatest name rows n =
     (text : List ℕ) × (one_of name rows ≡ Some text) × IsNumeral 10 (without_leading_plus text) ×
     (n ≡ digits_value 10 (without_leading_plus text)) × (least ≤ n) × (n ≤ greatest)
+
+-- the option of this name has such a number, or it wasn't given and there is none
+abbrev pub GivesNumberIfAny : ℕ → ℕ → List ℕ → List Row → Option ℕ → Type 0
+GivesNumberIfAny least greatest name rows None = first_of name rows ≡ None
+GivesNumberIfAny least greatest name rows (Some n) = GivesNumber least greatest name rows n
 
 -- the option of this name was given, or this is false
 abbrev pub GivesFlag : List ℕ → List Row → Bool → Type 0

@@ -2,11 +2,12 @@
 ghost use Rattle.std.specs.Prelude.{◌≡◌, IfOk, IfSome, None};
 ghost use Rattle.clap.specs.Words.{subcommand_rows_of};
 ghost use Rattle.command_line.specs.ClusterWords.{NamesNumbers, cluster_app};
-ghost use Rattle.command_line.specs.ClusterWords.{port_rule, quiet_rule, seats_rule, servers_rule, serves_rule};
+ghost use Rattle.command_line.specs.ClusterWords.{memory_rule, port_rule, quiet_rule, seats_rule, servers_rule};
+ghost use Rattle.command_line.specs.ClusterWords.{serves_rule};
 ghost use Rattle.command_line.specs.Options.{HasRule, ReadsAs};
 ghost use Rattle.command_line.specs.declared.numbers.Numbers.{Numbers};
 
-use crate::given::{flag_given, given_to, large_number, port_number, small_number};
+use crate::given::{flag_given, given_to, large_number, number_if_any, port_number, small_number};
 use crate::numbers::Numbers;
 use crate::options::{flag_option, number_option};
 use clap::{Arg, ArgMatches, Command as Parser, value_parser};
@@ -22,12 +23,14 @@ pub fn numbers_given<'a>(matches: &ArgMatches<'a>) -> Option<Numbers>
     let port = port_number(given, "port", 65520)?;
     let seats = small_number(given, "seats", 1, 16)?;
     let serves = large_number(given, "serves", 1_000_000)?;
+    let memory = number_if_any(given, "memory", 1, 1_048_576)?;
     let quiet = flag_given(given, "quiet");
     Some(Numbers {
         servers,
         port,
         seats,
         serves,
+        memory,
         quiet,
     })
 }
@@ -42,6 +45,7 @@ pub fn cluster_parser<'a>(alloc: Global) -> Result<Parser<'a>, AllocError>
         .arg(port_option(alloc))?
         .arg(seats_option(alloc))?
         .arg(serves_option(alloc))?
+        .arg(memory_option(alloc))?
         .arg(quiet_option(alloc))?;
     Ok(cluster)
 }
@@ -70,6 +74,16 @@ pub fn seats_option<'a>(alloc: Global) -> Arg<'a>
     let help = "How many connections each server serves at a time";
     let numbers = value_parser!(u8).range(1..=16);
     number_option(alloc, "seats", "S", help, numbers).default_value("4")
+}
+
+/// The option `--memory`.
+pub fn memory_option<'a>(alloc: Global) -> Arg<'a>
+    ensures { HasRule memory_rule result }
+{
+    let help =
+        "From how many MiB of items on commands that store are refused; without it no limit is kept";
+    let numbers = value_parser!(u32).range(1..=1_048_576);
+    number_option(alloc, "memory", "MIB", help, numbers)
 }
 
 /// The option `--quiet`.

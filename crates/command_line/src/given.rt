@@ -1,7 +1,7 @@
 //! What was given to a command, of what the parser found in words.
-ghost use Rattle.std.specs.Prelude.{◌≡◌, ℕ, List, IfOk, IfSome, None, Some, option_map, string_bytes};
+ghost use Rattle.std.specs.Prelude.{◌≡◌, ℕ, List, IfOk, IfSome, Option, None, Some, option_map, string_bytes};
 ghost use Rattle.clap.specs.Words.{Row, first_value, found_of, rows_of, subcommand_rows_of};
-ghost use Rattle.command_line.specs.Options.{GivesFlag, GivesNumber};
+ghost use Rattle.command_line.specs.Options.{GivesFlag, GivesNumber, GivesNumberIfAny};
 
 use clap::ArgMatches;
 use std::alloc::{AllocError, Global};
@@ -56,6 +56,42 @@ pub fn large_number<'a>(given: &ArgMatches<'a>, id: &str, greatest: u64) -> Opti
         return None;
     }
     Some(number)
+}
+
+/// The number of this option, if it is one from `least` to `greatest`.
+pub fn middle_number<'a>(given: &ArgMatches<'a>, id: &str, least: u32, greatest: u32) -> Option<u32>
+    ensures given { IfSome result (GivesNumber least greatest id.now (rows_of (found_of given.now))) }
+    ensures none { result ≡ None →
+        (n : ℕ) → GivesNumber least greatest id.now (rows_of (found_of given.now)) n → ⊥ }
+{
+    let number = given.get_one::<u32>(id)?;
+    if number < least {
+        return None;
+    }
+    if greatest < number {
+        return None;
+    }
+    Some(number)
+}
+
+/// The number of this option, or that it wasn't given. None if it was given, and isn't one from `least` to `greatest`.
+pub fn number_if_any<'a>(
+    given: &ArgMatches<'a>,
+    id: &str,
+    least: u32,
+    greatest: u32,
+) -> Option<Option<u32>>
+    ensures given { IfSome result (GivesNumberIfAny least greatest id.now (rows_of (found_of given.now))) }
+    ensures none { result ≡ None →
+        (number : Option ℕ) → GivesNumberIfAny least greatest id.now (rows_of (found_of given.now)) number → ⊥ }
+{
+    match given.get_str(id) {
+        Some(_) => {
+            let number = middle_number(given, id, least, greatest)?;
+            Some(Some(number))
+        }
+        None => Some(None),
+    }
 }
 
 /// Whether this option was given, which has no value.

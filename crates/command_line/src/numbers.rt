@@ -11,6 +11,8 @@ pub struct Numbers {
     pub seats: u8,
     /// How many connections each of them serves one after another, or 0 for no end.
     pub serves: u64,
+    /// How many MiB its items may take, by the estimate of each server: 1 to 1,048,576; None: no limit.
+    pub memory: Option<u32>,
     /// Whether the line at the start is left out.
     pub quiet: bool,
 }

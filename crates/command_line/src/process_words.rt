@@ -9,8 +9,10 @@ ghost use Rattle.command_line.specs.declared.processes.Hosts.{Hosts};
 ghost use Rattle.command_line.specs.declared.processes.MasterNumbers.{MasterNumbers};
 ghost use Rattle.command_line.specs.declared.processes.ServerNumbers.{ServerNumbers};
 
-use crate::cluster_words::{port_option, quiet_option, seats_option, servers_option};
-use crate::given::{flag_given, given_to, port_number, small_number, text_given};
+use crate::cluster_words::{
+    memory_option, port_option, quiet_option, seats_option, servers_option,
+};
+use crate::given::{flag_given, given_to, number_if_any, port_number, small_number, text_given};
 use crate::options::{number_option, text_option};
 use crate::processes::{Hosts, MasterNumbers, ServerNumbers};
 use clap::{Arg, ArgMatches, Command as Parser, value_parser};
@@ -28,6 +30,7 @@ pub fn server_numbers<'a>(matches: &ArgMatches<'a>) -> Option<ServerNumbers>
     let port = port_number(given, "port", 65520)?;
     let peer_port = port_number(given, "peer-port", 65520)?;
     let seats = small_number(given, "seats", 1, 16)?;
+    let memory = number_if_any(given, "memory", 1, 1_048_576)?;
     let quiet = flag_given(given, "quiet");
     Some(ServerNumbers {
         id,
@@ -35,6 +38,7 @@ pub fn server_numbers<'a>(matches: &ArgMatches<'a>) -> Option<ServerNumbers>
         port,
         peer_port,
         seats,
+        memory,
         quiet,
     })
 }
@@ -89,6 +93,7 @@ pub fn server_parser<'a>(alloc: Global) -> Result<Parser<'a>, AllocError>
         .arg(port_option(alloc))?
         .arg(peer_port_option(alloc))?
         .arg(seats_option(alloc))?
+        .arg(memory_option(alloc))?
         .arg(quiet_option(alloc))?;
     with_hosts(alloc, server)
 }

@@ -13,6 +13,8 @@ pub struct ServerNumbers {
     pub peer_port: u16,
     /// How many connections it serves at a time: 1 to 16.
     pub seats: u8,
+    /// How many MiB its items may take, by its own estimate: 1 to 1,048,576; None: no limit.
+    pub memory: Option<u32>,
     /// Whether the line at the start is left out.
     pub quiet: bool,
 }

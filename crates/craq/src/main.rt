@@ -4,10 +4,12 @@
 use command_line::{Command, Serve, UsageFault};
 use commands::{read_arguments, run, tell_file};
 use ends::{Sink, Source, TrackedReader, TrackedWriter};
-use runtime::{MasterSettings, ServerSettings, cluster, master, server};
+use masters::{MasterSettings, ServerSettings, master};
+use runtime::{cluster, server};
 use std::alloc::Global;
 use std::net::{Net, TcpListener, TcpStream};
 use std::process::ExitCode;
+use std::rt::Files;
 use std::sync::Wait;
 use std::thread::Threads;
 use std::time::Clock;
@@ -45,6 +47,7 @@ fn serve<
         + Threads
         + Clock
         + Eprint
+        + Files
         + Net<Listener = TcpListener, Stream = TcpStream>
         + Copy
         + Drop

@@ -1,5 +1,6 @@
 pub mod Beginnings
 pub mod Adding
 pub mod Waiting
+pub mod Weighing
 pub mod Posting
 pub mod Stepping

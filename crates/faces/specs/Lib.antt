@@ -3,6 +3,7 @@ pub mod Courses
 pub mod Outputs
 pub mod Tombstones
 pub mod Versions
+pub mod Weights
 pub mod Shown
 pub mod Boards
 pub mod Showing

@@ -1,18 +1,11 @@
 -- What a face shows, and of which inputs.
 use Rattle.std.specs.Prelude.{ℕ, List, [], ◌∷◌, ◌++◌, map}
-use Rattle.std.specs.FinMap as maps
-use Rattle.std.specs.Coded.{Coded, coded_ℕ, coded_list}
 use Rattle.node.specs.declared.faces.FaceStep.{FaceStep}
 use Rattle.node.specs.declared.faces.FaceStep.TheVariants as steps
-use Rattle.node.specs.Faces.{Versions, FaceState, face_after, face_at, face_changed, no_face}
+use Rattle.node.specs.Faces.{FaceState, face_after, face_at, face_changed, no_face}
 use Rattle.faces.specs.declared.acts.Act.{Act}
 use Rattle.faces.specs.declared.acts.Act.TheVariants.{Set, Clear, Reach}
 use Rattle.faces.specs.Courses.{Course}
-use Rattle.faces.specs.Versions.{coded_version}
-
--- versions are stored as their entries
-abbrev pub coded_versions : Coded Versions
-coded_versions = maps.code (coded_list coded_ℕ) coded_version
 
 -- a face, and the course that it is said to follow
 pub record Shown : Type 0 where

@@ -138,7 +138,7 @@ fn show<R: Wait>(rt: &R, writer: FaceWriter) -> (FaceWriter, Result<Published, A
     let (writer, shown) = writer.publish_as::<Takes, R>(rt);
     match shown {
         Ok(()) => {
-            let published = Published::shown(writer.published().front().again());
+            let published = Published::shown(&writer);
             (writer, Ok(published))
         }
         Err(_) => (writer, Err(AllocError)),

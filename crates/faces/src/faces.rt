@@ -3,30 +3,29 @@ ghost use Rattle.std.specs.Prelude.{◌≡◌, fold, IfOk, OnOk, OnErr, MatchRes
 ghost use Rattle.std.specs.FinMap as maps;
 ghost use Rattle.node.specs.Faces.{look_at, no_face};
 ghost use Rattle.faces.specs.Shown.{Shown, applied, shown_first};
+ghost use Rattle.faces.specs.Weights.{weight_of};
 ghost use Rattle.faces.specs.declared.acts.Act.TheVariants.{Clear, Reach};
 
 use crate::acts::{Act, acts_of};
 use crate::fronts::Front;
-use crate::shared_versions::SharedVersion;
-use crate::tombstones::{set, take_away, version_of};
+use crate::tombstones::{set, take_away};
+use crate::version_trees::VersionTree;
+use crate::weights::Weight;
 use left_right::Absorb;
 use node::{FaceChange, Look, Tombstone};
 use std::alloc::{AllocError, Global};
-use std::collections::{BTreeMap, VecDeque};
+use std::collections::VecDeque;
 use std::marker::Model;
-use table::{Item, Key, Place};
-use versions::Litter;
+use table::{Item, Key};
 
 /// A server's face, with the inputs that it is said to follow. Contracts see both (`Shown`).
 #[derive(Drop)]
 pub struct Face {
-    versions: BTreeMap<Place, SharedVersion>,
+    versions: VersionTree,
     tombstones: VecDeque<Tombstone>,
     cleared: u64,
     acked: u64,
     front: Front,
-    // What clears took away.
-    litter: Litter<SharedVersion>,
 }
 
 impl Model for Face {
@@ -34,19 +33,19 @@ impl Model for Face {
     ghost use Rattle.logbook.specs.Pages.{book_coded};
     ghost use Rattle.versions.specs.Stores.{coded_items};
     ghost use Rattle.node.specs.Faces.{IsQueued};
-    ghost use Rattle.faces.specs.Tombstones.{map_of};
-    ghost use Rattle.faces.specs.Shown.{Shown, coded_versions};
+    ghost use Rattle.faces.specs.Versions.{coded_versions};
+    ghost use Rattle.faces.specs.Shown.{Shown};
 
     ghost Value = { Shown };
 
     ghost coded = { Prim.hlevel (codes, coded_items, coded_versions, book_coded) };
 
     ghost view = { λ f. record {
-      face = record { versions = map_of f.versions.entries; cleared = f.cleared; acked = f.acked };
+      face = record { versions = f.versions; cleared = f.cleared; acked = f.acked };
       course = f.front;
     } };
 
-    ghost invariant = { λ f. IsQueued (map_of f.versions.entries) f.tombstones.items };
+    ghost invariant = { λ f. IsQueued f.versions f.tombstones.items };
 }
 
 impl Face {
@@ -55,12 +54,11 @@ impl Face {
         ensures { result ≡ record { face = no_face; course = front } }
     {
         Face {
-            versions: BTreeMap::new(alloc),
+            versions: VersionTree::new(alloc),
             tombstones: VecDeque::new(alloc),
             cleared: 0,
             acked: 0,
             front,
-            litter: Litter::new(alloc),
         }
     }
 
@@ -106,11 +104,18 @@ impl Face {
         &self.front
     }
 
+    /// How much its versions weigh, in constant time.
+    pub fn weight(&self) -> Weight
+        ensures { result ≡ weight_of self.now.face.versions }
+    {
+        self.versions.weight()
+    }
+
     /// A look at a key. Its item shares the data. Time is logarithmic in the number of keys.
     pub fn look(&self, key: &Key) -> Result<Look<Item>, AllocError>
         ensures { IfOk result (λ look. look ≡ look_at self.now.face key.now) }
     {
-        match version_of(&self.versions, key) {
+        match self.versions.get(key) {
             Some(version) => {
                 if version.number() <= self.acked {
                     Ok(Look::Clean(version.item()?))
@@ -148,7 +153,7 @@ impl Face {
     fn clear(&mut self, number: u64)
         ensures { self.new ≡ applied self.old (Clear number) }
     {
-        self.litter.take(&mut self.versions);
+        self.versions.clear();
         self.tombstones.clear();
         self.cleared = number;
     }
@@ -162,7 +167,7 @@ impl Face {
         }
         self.acked = acked;
         self.front = front.again();
-        self.litter.sweep();
+        self.versions.sweep();
     }
 }
 

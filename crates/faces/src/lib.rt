@@ -12,6 +12,8 @@ mod publishers;
 mod readers;
 mod shared_versions;
 mod tombstones;
+mod version_trees;
+mod weights;
 
 pub use boards::Name;
 pub use faults::FaceFault;
@@ -19,3 +21,4 @@ pub use fronts::Front;
 pub use published::{Published, Told};
 pub use publishers::Publisher;
 pub use readers::Reader;
+pub use weights::Weight;

@@ -1,7 +1,11 @@
 //! Notes of what a server has published.
 ghost use Rattle.std.specs.Prelude.{◌≡◌, MatchBool};
-ghost use Rattle.faces.specs.Courses.{IsLater};
+ghost use Rattle.faces.specs.Courses.{IsLater, shown_after};
+ghost use Rattle.faces.specs.Showing.{Shows};
+ghost use Rattle.faces.specs.Weights.{weight_of};
 
+use crate::Weight;
+use crate::boards::FaceWriter;
 use crate::fronts::Front;
 use std::marker::Model;
 
@@ -10,19 +14,27 @@ use std::marker::Model;
 #[derive(Drop)]
 pub struct Published {
     front: Front,
+    // Of that face.
+    weight: Weight,
 }
 
 impl Model for Published {
+    ghost use Rattle.std.specs.Prelude.{◌≡◌};
+    ghost use Rattle.std.specs.FinMap as maps;
     ghost use Rattle.std.specs.Coded.{codes};
     ghost use Rattle.logbook.specs.Pages.{book_coded};
     ghost use Rattle.versions.specs.Stores.{coded_items};
-    ghost use Rattle.faces.specs.Courses.{Course};
+    ghost use Rattle.faces.specs.Courses.{Course, shown_after};
+    ghost use Rattle.faces.specs.Weights.{weight_of};
 
     ghost Value = { Course };
 
     ghost coded = { Prim.hlevel (codes, coded_items, book_coded) };
 
     ghost view = { λ p. p.front };
+
+    ghost invariant = { λ p. (p.weight.items ≡ (weight_of (shown_after p.front).versions).items)
+        × (p.weight.bytes ≡ (weight_of (shown_after p.front).versions).bytes) };
 }
 
 /// A note of what a server has published, for one of its readers. Contracts see the inputs (`Course`).
@@ -45,11 +57,23 @@ impl Model for Told {
 }
 
 impl Published {
-    /// For the publish alone: the face after these inputs is shown.
-    pub(crate) fn shown(front: Front) -> Published
-        ensures { result ≡ front }
+    /// For the publish alone: the writer shows the server's face after these inputs.
+    pub(crate) fn shown(writer: &FaceWriter) -> Published
+        requires { Shows writer.now writer.now.desk.shown.value.course }
+        ensures { result ≡ writer.now.desk.shown.value.course }
     {
-        Published { front }
+        let face = writer.published();
+        Published {
+            front: face.front().again(),
+            weight: face.weight(),
+        }
+    }
+
+    /// How much that face weighs. In constant time.
+    pub fn weight(&self) -> Weight
+        ensures { result ≡ weight_of (shown_after self.now).versions }
+    {
+        self.weight
     }
 
     pub(crate) fn front(&self) -> &Front
@@ -64,6 +88,7 @@ impl Published {
     {
         Published {
             front: self.front.again(),
+            weight: self.weight,
         }
     }
 

@@ -1,16 +1,17 @@
 //! A server that shows its face: the node, the log of what it took, and the writer of its face.
 ghost use Rattle.std.specs.Prelude.{◌≡◌, ◌<◌, ◌^◌, [], false, IfOk, OnOk, OnErr};
 ghost use Rattle.node.specs.Lawful.{IsInput, AreFit};
-ghost use Rattle.faces.specs.Courses.{with_next};
+ghost use Rattle.faces.specs.Courses.{shown_after, with_next};
 ghost use Rattle.faces.specs.Outputs.{last_outputs};
+ghost use Rattle.faces.specs.Weights.{weight_of};
 
-use crate::FaceFault;
 use crate::boards::{FaceWriter, begin, place, publish};
 use crate::faces::Face;
 use crate::fronts::Front;
 use crate::logs::Log;
 use crate::published::Published;
 use crate::readers::Reader;
+use crate::{FaceFault, Weight};
 use node::{Input, Node, Output};
 use std::alloc::Global;
 use std::marker::Model;
@@ -80,6 +81,14 @@ impl Publisher {
         ensures { result.now ≡ self.now }
     {
         &self.published
+    }
+
+    /// How much the face weighs that was published last: how many keys have a version there, and the bytes of these
+    /// keys and of their data. In constant time.
+    pub fn weight(&self) -> Weight
+        ensures { result ≡ weight_of (shown_after self.now).versions }
+    {
+        self.published.weight()
     }
 
     /// One more reader, which has seen what is published. Refused if memory is out, if there is no room for it, or with

@@ -1,6 +1,7 @@
 //! Versions that the copies of a face share.
 ghost use Rattle.std.specs.Prelude.{◌≡◌, is_some, IfOk};
 ghost use Rattle.faces.specs.Versions.{version_of_block};
+ghost use Rattle.faces.specs.Weights.{data_in};
 
 use bytes::Bytes;
 use node::Version;
@@ -68,6 +69,13 @@ impl SharedVersion {
         self.block.item()
     }
 
+    /// How many bytes its data has: none if it has no item.
+    pub fn data_len(&self) -> usize
+        ensures { result ≡ data_in self.now.item }
+    {
+        self.block.data_len()
+    }
+
     /// A copy, which shares the block: it allocates nothing.
     pub fn again(&self) -> Result<SharedVersion, AllocError>
         ensures { IfOk result (λ copy. copy ≡ self.now) }
@@ -105,6 +113,12 @@ impl Block {
                 has_item: false,
             },
         }
+    }
+
+    fn data_len(&self) -> usize
+        ensures { result ≡ data_in (version_of_block self.now).item }
+    {
+        if self.has_item { self.bytes.len() } else { 0 }
     }
 
     fn item(&self) -> Result<Option<Item>, AllocError>

@@ -4,7 +4,7 @@ use proto::{ProtoFault, Session, Step};
 use std::alloc::Global;
 use std::process::Abort;
 use std::test::Fail;
-use table::Table;
+use table::{Reply, Table};
 
 // The next turn of a connection over a plain table: whether there was one.
 fn turn(session: &mut Session, table: &mut Table) -> Result<bool, Fail>
@@ -45,6 +45,25 @@ fn settle(session: &mut Session, table: &mut Table) -> Result<(), Fail>
             Step::Emit => {}
             Step::Wait | Step::Close => return Ok(()),
         }
+    }
+}
+
+// The next turn of a connection that refuses each update, and finds no item: whether there was one.
+fn turn_without_room(session: &mut Session) -> Result<bool, Fail>
+    requires { session.old.asked ≡ None }
+    ensures { OnOk result (session.new.asked ≡ None) }
+{
+    match session.next()? {
+        Step::Call(_, op) => {
+            if op.is_update() {
+                session.refuse()?;
+            } else {
+                session.answer(&Reply::Value(None))?;
+            }
+            Ok(true)
+        }
+        Step::Emit => Ok(true),
+        Step::Wait | Step::Close => Ok(false),
     }
 }
 
@@ -93,6 +112,20 @@ fn set_then_gets(rt: HostRuntime) -> Result<(), Fail> {
         b"set a 5 0 3\r\nxyz\r\ngets a\r\nget b a\r\n",
         b"STORED\r\nVALUE a 5 3 1\r\nxyz\r\nEND\r\nVALUE a 5 3\r\nxyz\r\nEND\r\n",
     )
+}
+
+// A refusal writes a line, and nothing if its line said `noreply`; the next request follows.
+#[test]
+fn refusals(rt: HostRuntime) -> Result<(), Fail> {
+    let mut session = Session::new(rt.alloc());
+    session.feed(b"set a 0 0 1\r\n1\r\nset a 0 0 1 noreply\r\n2\r\nget a\r\n")?;
+    assert!(rt; turn_without_room(&mut session)?);
+    assert!(rt; turn_without_room(&mut session)?);
+    assert!(rt; turn_without_room(&mut session)?);
+    assert!(rt; !turn_without_room(&mut session)?);
+    let wanted = b"SERVER_ERROR out of memory storing object\r\nEND\r\n".as_slice();
+    assert_eq!(rt; session.out(), wanted);
+    Ok(())
 }
 
 #[test]

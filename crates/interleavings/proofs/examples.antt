@@ -11,3 +11,4 @@ pub mod QuietRuns
 pub mod QuietLoss
 pub mod CutInput
 pub mod OldReplies
+pub mod RefusedSet

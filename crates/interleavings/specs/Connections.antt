@@ -6,24 +6,26 @@ use Rattle.table.specs.Operations.{is_value}
 use Rattle.table.specs.declared.operations.Call.{Call}
 use Rattle.table.specs.declared.operations.Reply.{Reply}
 use Rattle.proto.specs.declared.texts.Form.{Form}
-use Rattle.proto.specs.Turns.{call_of}
-use Rattle.proto.specs.Sessions.{Held, fresh, fed, next_of, answered_by, shows}
+use Rattle.proto.specs.Turns.{Outcome, Replied, Refused, call_of}
+use Rattle.proto.specs.Sessions.{Held, fresh, fed, next_of, answered_by, refused_by, shows}
 use Rattle.proto.specs.Runs.{taken_from}
 
 -- A connection: the bytes that were read of it; what its session holds; the call that its session has given and that
--- isn't made yet; its calls that were made, and the replies that they got, the oldest first; the bytes that were
--- written to it.
+-- isn't made yet; its calls that were made, and the replies that they got, the oldest first; what each call that its
+-- session has given came to, a reply or a refusal; the bytes that were written to it.
 pub record Connection : Type 0 where
   pub read : List ℕ
   pub session : Held
   pub due : Option Call
   pub calls : List Call
   pub replies : List Reply
+  pub outcomes : List Outcome
   pub written : List ℕ
 
 -- of which nothing was read
 abbrev pub opening_connection : Connection
-opening_connection = record { read = []; session = fresh; due = None; calls = []; replies = []; written = [] }
+opening_connection =
+    record { read = []; session = fresh; due = None; calls = []; replies = []; outcomes = []; written = [] }
 
 -- these bytes are read: they come behind those before, at whatever place the input was cut
 abbrev pub heard : List ℕ → Connection → Connection
@@ -43,7 +45,20 @@ made call k = record k { due = None; calls = k.calls ++ call ∷ [] }
 -- the open call gets this reply, and its text is output
 abbrev pub answered : Reply → Connection → Connection
 answered reply k =
-    record k { session = answered_by k.session.asked k.session reply; replies = k.replies ++ reply ∷ [] }
+    record k {
+      session = answered_by k.session.asked k.session reply;
+      replies = k.replies ++ reply ∷ [];
+      outcomes = k.outcomes ++ Replied reply ∷ [];
+    }
+
+-- the call that was to be made is refused: it is never made, and its line is output, or nothing if it is silent
+abbrev pub refused : Connection → Connection
+refused k =
+    record k {
+      session = refused_by k.session.asked k.session;
+      due = None;
+      outcomes = k.outcomes ++ Refused ∷ [];
+    }
 
 -- the first n bytes of the output are written, or all if there are fewer
 abbrev pub wrote : ℕ → Connection → Connection

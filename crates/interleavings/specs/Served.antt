@@ -1,36 +1,68 @@
 -- What clients get: the one order of their calls, and the bytes that each of them is written.
-use Rattle.std.specs.Prelude.{◌≡◌, ℕ, ◌+◌, ◌<◌, ◌≤◌, true, List, [], ◌++◌, length, take, map, Option, None, Some}
-use Rattle.std.specs.Prelude.{slice_get, IsSome}
+use Rattle.std.specs.Prelude.{◌≡◌, ℕ, ◌+◌, ◌<◌, ◌≤◌, true, false, List, [], ◌∷◌, ◌++◌, length, take, map, Option, None}
+use Rattle.std.specs.Prelude.{Some, slice_get, IsSome}
 use Rattle.table.specs.Histories.{IsLegal}
 use Rattle.table.specs.declared.operations.Call.{Call}
 use Rattle.table.specs.declared.operations.Reply.{Reply}
-use Rattle.proto.specs.Turns.{calls_of}
+use Rattle.proto.specs.Turns.{Outcome, Replied, Refused, is_store, calls_of}
 use Rattle.proto.specs.Sessions.{next_of}
-use Rattle.proto.specs.Streams.{turns, texts}
+use Rattle.proto.specs.Streams.{turns, outcome_texts}
 use Rattle.interleavings.specs.OtherMoves.{Doing}
 use Rattle.interleavings.specs.Quiet.{goes_on}
 use Rattle.interleavings.specs.Connections.{Connection, gives_none}
-use Rattle.interleavings.specs.ServingMoves.{ServingChain, ServingMove, served}
+use Rattle.interleavings.specs.ServingMoves.{ServingChain, ServingMove, is_refusal, served}
+
+-- ---- what calls came to
+
+-- the replies among outcomes
+abbrev pub replies_of : List Outcome → List Reply
+replies_of [] = []
+replies_of (Replied reply ∷ os) = reply ∷ replies_of os
+replies_of (Refused ∷ os) = replies_of os
+
+-- the calls that weren't refused: the outcomes are those of the first of these calls
+abbrev pub unrefused : List Call → List Outcome → List Call
+unrefused [] os = []
+unrefused (call ∷ calls) [] = call ∷ calls
+unrefused (call ∷ calls) (Replied reply ∷ os) = call ∷ unrefused calls os
+unrefused (call ∷ calls) (Refused ∷ os) = unrefused calls os
+
+-- the first of these calls can have come to this: there are no more outcomes than calls, and a call that was refused is
+-- a store
+abbrev pub AreOutcomes : List Call → List Outcome → Type 0
+AreOutcomes [] [] = Unit {0}
+AreOutcomes [] (o ∷ os) = ⊥
+AreOutcomes (call ∷ calls) [] = Unit {0}
+AreOutcomes (call ∷ calls) (Replied reply ∷ os) = AreOutcomes calls os
+AreOutcomes (call ∷ calls) (Refused ∷ os) = (is_store call.op ≡ true) × AreOutcomes calls os
+
+-- no move of these is a refusal
+abbrev pub NoneRefused : List ServingMove → Type 0
+NoneRefused [] = Unit {0}
+NoneRefused (m ∷ ms) = (is_refusal m ≡ false) × NoneRefused ms
 
 -- ---- of one connection
 
 -- A connection got what its bytes ask for, and nothing else:
 pub record IsServed (k : Connection) : Type 0 where
-  -- its calls are the first of those that its bytes spell, in turn, wherever they were cut;
-  pub calls : k.calls ≡ take (length k.calls) (calls_of (turns k.read))
-  -- each has its reply, but for the last one at most;
+  -- its outcomes are those of the first calls that its bytes spell, in turn, wherever these were cut;
+  pub outcomes : AreOutcomes (calls_of (turns k.read)) k.outcomes
+  -- the calls that it made are the first of those that weren't refused,
+  pub calls : k.calls ≡ take (length k.calls) (unrefused (calls_of (turns k.read)) k.outcomes)
+  -- and have the replies among the outcomes: each has one, but for the last call at most;
+  pub got : k.replies ≡ replies_of k.outcomes
   pub replies : length k.replies ≤ length k.calls
   pub one_open : length k.calls ≤ length k.replies + 1
-  -- what was written to it begins the texts of its turns, each call's with its reply, up to the first call without one;
-  pub written : (rest : List ℕ) × (texts (turns k.read) k.replies ≡ k.written ++ rest)
+  -- what was written to it begins the texts of its turns, each call's with its outcome, up to the first without one;
+  pub written : (rest : List ℕ) × (outcome_texts (turns k.read) k.outcomes ≡ k.written ++ rest)
   -- and is all of them, if no output is left and the session has no turn to give;
   pub all_written : k.session.out ≡ []
       → gives_none k.session ≡ true
-      → k.written ≡ texts (turns k.read) k.replies
-  -- and if no call is open and none can begin, each call that its bytes spell has a reply.
+      → k.written ≡ outcome_texts (turns k.read) k.outcomes
+  -- and if no call is open and none can begin, each call that its bytes spell has its outcome.
   pub all_answered : k.session.asked ≡ None
       → (next_of k.session).0 ≡ None
-      → length k.replies ≡ length (calls_of (turns k.read))
+      → length k.outcomes ≡ length (calls_of (turns k.read))
 
 -- nothing is left to do at the connection: no call is to be made, no turn can begin, and no output is left
 pub record IsRested (k : Connection) : Type 0 where
@@ -38,10 +70,10 @@ pub record IsRested (k : Connection) : Type 0 where
   pub turns : (next_of k.session).0 ≡ None
   pub out : k.session.out ≡ []
 
--- each call that its bytes spell has a reply, and all that is due was written to it
+-- each call that its bytes spell has a reply or was refused, and all that is due was written to it
 pub record HasAll (k : Connection) : Type 0 where
-  pub answered : length k.replies ≡ length (calls_of (turns k.read))
-  pub written : k.written ≡ texts (turns k.read) k.replies
+  pub answered : length k.outcomes ≡ length (calls_of (turns k.read))
+  pub written : k.written ≡ outcome_texts (turns k.read) k.outcomes
 
 -- ---- the order of all calls, in the words of `Orders.antt`
 

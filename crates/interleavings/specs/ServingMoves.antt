@@ -11,12 +11,13 @@ use Rattle.table.specs.declared.operations.Reply.TheVariants.{Value}
 use Rattle.node.specs.declared.looks.Look.{Look}
 use Rattle.node.specs.declared.looks.Look.TheVariants.{Clean, Dirty}
 use Rattle.node.specs.Faces.{face_of, look_at}
+use Rattle.proto.specs.Turns.{is_store}
 use Rattle.interleavings.specs.Chains.{Chain, with_at, opening_chain}
 use Rattle.interleavings.specs.Moves.{Move, Sends, Takes, Publishes, Puts, Arrives, Replies, Receives, Looks, Stops}
 use Rattle.interleavings.specs.Moves.{Notices, is_free, read_of}
 use Rattle.interleavings.specs.OtherMoves.{Doing}
 use Rattle.interleavings.specs.Connections.{Connection, opening_connection, heard, begun, made, answered, wrote, waits}
-use Rattle.interleavings.specs.Connections.{may_have}
+use Rattle.interleavings.specs.Connections.{refused, may_have}
 
 -- A chain that serves: the running chain; for each seat, how many of its connections have ended; and the connections,
 -- by their seat and their number there. A seat serves one at a time, the one after those that have ended.
@@ -35,6 +36,8 @@ pub data ServingMove : Type 0 where
   Asks : (c : ℕ) → ServingMove
   -- the call that is to be made is a read, and seat c answers it by a look
   Peeks : (c : ℕ) → ServingMove
+  -- the call that is to be made is a store, and is refused: nothing is sent, and it is never made
+  Refuses : (c : ℕ) → ServingMove
   -- seat c takes the oldest reply of its queue, for the call that its connection waits for
   Answers : (c : ℕ) → ServingMove
   -- the first n bytes of the output are written to the connection
@@ -51,6 +54,25 @@ served_at s c = s.connections c (s.ended c)
 -- this is it from now on
 abbrev pub with_served : ServingChain → ℕ → Connection → ServingChain
 with_served s c k = record s { connections = with_at s.connections c (with_at (s.connections c) (s.ended c) k) }
+
+-- ---- refusals
+
+-- this call is to be made: it is refused, if it is a store
+abbrev pub refusing : ServingChain → ℕ → Option Call → ServingChain
+refusing s c None = s
+refusing s c (Some call) = if is_store call.op then with_served s c (refused (served_at s c)) else s
+
+-- the move is a refusal
+abbrev pub is_refusal : ServingMove → Bool
+is_refusal (Reads c piece) = false
+is_refusal (Begins c) = false
+is_refusal (Asks c) = false
+is_refusal (Peeks c) = false
+is_refusal (Refuses c) = true
+is_refusal (Answers c) = false
+is_refusal (Writes c n) = false
+is_refusal (Ends c) = false
+is_refusal (Runs move) = false
 
 -- ---- looks
 
@@ -137,6 +159,7 @@ module _ (does : Doing) where
   served_by s (Begins c) = with_served s c (begun (served_at s c))
   served_by s (Asks c) = asking s c (served_at s c).due
   served_by s (Peeks c) = peeking s c (key_due (served_at s c).due)
+  served_by s (Refuses c) = refusing s c (served_at s c).due
   served_by s (Answers c) = answering s c (s.chain.seats c).mail
   served_by s (Writes c n) = with_served s c (wrote n (served_at s c))
   served_by s (Ends c) = record s { ended = with_at s.ended c (suc (s.ended c)) }

@@ -1,4 +1,4 @@
--- A worked run of a chain that serves: its moves.
+-- Worked runs of a chain that serves: their moves.
 use Rattle.std.specs.Prelude.{ℕ, List, [], ◌∷◌, ◌++◌, codes}
 use Rattle.table.specs.declared.operations.Call.{Call}
 use Rattle.table.specs.declared.operations.Op.TheVariants.{Delete}
@@ -6,7 +6,7 @@ use Rattle.table.specs.declared.operations.Target.TheVariants.{One}
 use Rattle.interleavings.specs.Chains.{OfSeat, OfServer}
 use Rattle.interleavings.specs.Moves.{Takes, Publishes, Puts, Arrives, Replies}
 use Rattle.interleavings.specs.WorkedRuns.{key}
-use Rattle.interleavings.specs.ServingMoves.{ServingMove, Reads, Begins, Asks, Answers, Writes, Ends, Runs}
+use Rattle.interleavings.specs.ServingMoves.{ServingMove, Reads, Begins, Asks, Refuses, Answers, Writes, Ends, Runs}
 
 -- ---- Two servers, a client of the head. A set and a get come in two pieces, cut within the set's data block. Of the
 -- ---- set's answer three bytes are written at first.
@@ -48,3 +48,11 @@ unfoldable pub lost_moves : List ServingMove
 lost_moves =
     Reads 0 (codes "set a 0 0 1\r\np\r\n") ∷ Begins 0 ∷ Asks 0 ∷ Ends 0
     ∷ (down_and_back ++ Reads 0 (codes "delete a\r\n") ∷ Begins 0 ∷ Asks 0 ∷ Answers 0 ∷ Writes 0 40 ∷ [])
+
+-- ---- The same two servers. A set is refused, and then one that is silent; a get after them finds nothing.
+
+-- the moves
+unfoldable pub refused_moves : List ServingMove
+refused_moves =
+    Reads 0 (codes "set a 0 0 1\r\np\r\nset a 0 0 1 noreply\r\nq\r\nget a\r\n") ∷ Begins 0 ∷ Refuses 0 ∷ Begins 0
+    ∷ Refuses 0 ∷ Begins 0 ∷ Asks 0 ∷ (at_the_head ++ Answers 0 ∷ Writes 0 60 ∷ [])

@@ -1,21 +1,24 @@
 //! Laws: whatever order the threads' moves come in, there is one order of calls, no call is forgotten, and clients are
 //! written what their bytes ask for; and ports are names.
-ghost use Rattle.std.specs.Prelude.{◌≡◌, ℕ, ◌^◌, ◌≤◌, ◌<◌, List, ◌∷◌, length, Some, slice_get, true};
+ghost use Rattle.std.specs.Prelude.{◌≡◌, ℕ, ◌^◌, ◌≤◌, ◌<◌, List, ◌∷◌, length, map, Some, slice_get, true};
 ghost use Rattle.table.specs.declared.operations.Call.{Call};
 ghost use Rattle.table.specs.declared.operations.Reply.{Reply};
 ghost use Rattle.node.specs.Servers.{ServerState};
 ghost use Rattle.node.specs.Steps.{step};
 ghost use Rattle.node.specs.declared.messages.Input.{Input};
+ghost use Rattle.proto.specs.Turns.{Replied, Turn};
+ghost use Rattle.proto.specs.Streams.{outcome_texts, texts};
 ghost use Rattle.interleavings.specs.Moves.{Move, moved, done};
 ghost use Rattle.interleavings.specs.Asked.{AreAsked, IsAsked, IsSpelled};
 ghost use Rattle.interleavings.specs.Orders.{IsLinearization};
 ghost use Rattle.interleavings.specs.Quiet.{IsQuiet, NoneForgotten};
-ghost use Rattle.interleavings.specs.OtherMoves.{IsLinearizationBy};
+ghost use Rattle.interleavings.specs.OtherMoves.{Doing, IsLinearizationBy};
 ghost use Rattle.interleavings.specs.OwnPorts.{seats_at, port_at, with_own_ports};
 ghost use Rattle.interleavings.specs.Ports.{input_at, renamed, renamed_outcome};
 ghost use Rattle.interleavings.specs.Connections.{waits, may_have};
 ghost use Rattle.interleavings.specs.ServingMoves.{ServingMove, served_at, served};
-ghost use Rattle.interleavings.specs.Served.{IsServed, ServedEntry, IsOneOrder, NoneUnanswered, AllHaveAll};
+ghost use Rattle.interleavings.specs.Served.{unrefused, NoneRefused, IsServed, ServedEntry, IsOneOrder};
+ghost use Rattle.interleavings.specs.Served.{NoneUnanswered, AllHaveAll};
 ghost use Rattle.world.specs.Orders.{Entry};
 
 /// Every run of moves of a chain of up to 16 servers, with servers that stop at any move, has an order of its calls in
@@ -70,7 +73,8 @@ pub fn served_seats_may_have_own_ports()
     ensures order { (count : ℕ) (homes : List ℕ) (moves : List ServingMove)
         → count ≤ 16
         → (h : List ServedEntry) × IsOneOrder (with_own_ports homes) count homes moves h }
-    // Each connection makes the calls that its bytes spell, and is written the texts of its turns.
+    // Each connection makes the calls that its bytes spell, but for stores that are refused, and is written the texts
+    // of its turns.
     ensures bytes { (count : ℕ) (homes : List ℕ) (moves : List ServingMove) (c n : ℕ)
         → IsServed ((served (with_own_ports homes) count homes moves).connections c n) }
 {}
@@ -80,8 +84,22 @@ pub fn asked_calls_are_spelled()
     ensures { (call : Call) → IsAsked call → IsSpelled call }
 {}
 
-/// From bytes of clients to bytes of clients: every run of a chain that serves connections, with servers that stop and
-/// connections that end at any move.
+/// In a run in which no call is refused, each call comes to its reply: so `IsServed` says that a connection's calls are
+/// the first of those that its bytes spell, and that it is written the texts of its turns, each call's with its reply.
+pub fn without_refusals_all_is_replied()
+    ensures outcomes { (does : Doing) (count : ℕ) (homes : List ℕ) (moves : List ServingMove) (c n : ℕ)
+        → NoneRefused moves
+        → ((served does count homes moves).connections c n).outcomes
+        ≡ map Replied ((served does count homes moves).connections c n).replies }
+    // If all is replied, no call is left out,
+    ensures calls { (calls : List Call) (replies : List Reply) → unrefused calls (map Replied replies) ≡ calls }
+    // and the texts are those of the replies.
+    ensures texts { (ts : List Turn) (replies : List Reply)
+        → outcome_texts ts (map Replied replies) ≡ texts ts replies }
+{}
+
+/// From bytes of clients to bytes of clients: every run of a chain that serves connections, with servers that stop,
+/// connections that end and stores that are refused at any move.
 pub fn clients_see_one_table()
     // Its servers, wires and queues make a run of moves, with calls that clients can ask: so all that is proved of
     // these holds.
@@ -91,8 +109,9 @@ pub fn clients_see_one_table()
     ensures order { (count : ℕ) (homes : List ℕ) (moves : List ServingMove)
         → count ≤ 16
         → (h : List ServedEntry) × IsOneOrder done count homes moves h }
-    // Each connection makes the calls that its bytes spell, in turn, and is written the texts of its turns, each call's
-    // with its reply: a beginning of them, and all of them once no output is left and no turn can begin.
+    // Each connection makes the calls that its bytes spell, in turn, but for stores that are refused. It is written the
+    // texts of its turns, each call's with its reply or the line of a refusal: a beginning of them, and all of them
+    // once no output is left and no turn can begin.
     ensures bytes { (count : ℕ) (homes : List ℕ) (moves : List ServingMove) (c n : ℕ)
         → IsServed ((served done count homes moves).connections c n) }
     // What stands first in a seat's queue is an item, or none, exactly if the call that its connection waits for is a
@@ -108,7 +127,7 @@ pub fn clients_see_one_table()
         → length moves < 2 ^ 62
         → IsQuiet (served done count homes moves).chain
         → NoneUnanswered (served done count homes moves) }
-    // and if nothing is left to do at a connection either, all its calls are answered, and all is written.
+    // and if nothing is left to do at a connection either, all its calls are answered or refused, and all is written.
     ensures all { (count : ℕ) (homes : List ℕ) (moves : List ServingMove)
         → count ≤ 16
         → length moves < 2 ^ 62

@@ -1,11 +1,12 @@
 //! Worked runs: what they come to; and runs that have no order, or forget a call, if a move lacks its rule.
 ghost use Rattle.std.specs.Prelude.{◌≡◌, ℕ, false, List, [], ◌∷◌, ◌++◌, None, Some, codes};
 ghost use Rattle.table.specs.declared.operations.Reply.TheVariants.{Stored, Value};
+ghost use Rattle.proto.specs.Turns.{Replied, Refused};
 ghost use Rattle.node.specs.declared.messages.Body.TheVariants.{Ack};
 ghost use Rattle.world.specs.Orders.{Entry};
 ghost use Rattle.world.specs.WorkedSchedules.{name};
 ghost use Rattle.interleavings.specs.Chains.{messages_to};
-ghost use Rattle.interleavings.specs.Moves.{Move, Looks, moved, done};
+ghost use Rattle.interleavings.specs.Moves.{Move, Looks, read_of, moved, done};
 ghost use Rattle.interleavings.specs.Asked.{AreAsked};
 ghost use Rattle.interleavings.specs.Orders.{begun_call, reply_to, IsLinearization};
 ghost use Rattle.interleavings.specs.Quiet.{IsQuiet};
@@ -19,6 +20,7 @@ ghost use Rattle.interleavings.specs.WorkedRuns.{before_unpublished_look, told_h
 ghost use Rattle.interleavings.specs.WorkedRuns.{cut_moves, lossy_moves};
 ghost use Rattle.interleavings.specs.ServingMoves.{served};
 ghost use Rattle.interleavings.specs.WorkedServing.{talk_homes, talk_moves, last_moves, lost_moves, delete};
+ghost use Rattle.interleavings.specs.WorkedServing.{refused_moves};
 
 /// A set passes down a chain of two and back, and its client has the reply.
 pub fn set_is_answered()
@@ -66,6 +68,16 @@ pub fn next_connection_gets_no_old_reply()
     ensures due { ((served done 2 talk_homes lost_moves).connections 0 1).due ≡ Some delete }
     ensures calls { ((served done 2 talk_homes lost_moves).connections 0 1).calls ≡ [] }
     ensures written { ((served done 2 talk_homes lost_moves).connections 0 1).written ≡ [] }
+{}
+
+/// A set is refused, and one that is silent too. Neither is ever made, so a get after them finds nothing; of the two
+/// the client is written one line.
+pub fn refused_set_is_never_made()
+    ensures outcomes { ((served done 2 talk_homes refused_moves).connections 0 0).outcomes
+        ≡ Refused ∷ Refused ∷ Replied (Value None) ∷ [] }
+    ensures calls { ((served done 2 talk_homes refused_moves).connections 0 0).calls ≡ read_of key ∷ [] }
+    ensures written { ((served done 2 talk_homes refused_moves).connections 0 0).written
+        ≡ codes "SERVER_ERROR out of memory storing object\r\nEND\r\n" }
 {}
 
 /// If a look may show an older face than the one that stands, a run has no order.

@@ -7,7 +7,7 @@ use Rattle.wire.specs.declared.greetings.Introduction.{Introduction}
 use Rattle.wire.specs.declared.greetings.Reason.{Reason}
 use Rattle.wire.specs.declared.greetings.Reason.TheVariants.{Servers, Chain, Taken, Gone}
 use Rattle.links.specs.declared.desks.Desk.{Desk}
-use Rattle.links.specs.declared.identities.Identity.{Identity}
+use Rattle.peers.specs.declared.identities.Identity.{Identity}
 use Rattle.links.specs.declared.speakers.Speaker.{Speaker}
 use Rattle.links.specs.declared.speakers.Speaker.TheVariants.{Server, Master}
 use Rattle.links.specs.Places.{waiting}

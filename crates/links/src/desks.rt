@@ -6,10 +6,10 @@ ghost use Rattle.links.specs.Places.{waiting};
 ghost use Rattle.links.specs.Speakers.{Greets};
 
 use crate::histories::History;
-use crate::identities::Identity;
 use crate::places::Places;
 use crate::speakers::Speaker;
 use node::{SERVERS, View};
+use peers::Identity;
 use std::alloc::Global;
 use wire::{Introduction, MASTER, Reason};
 

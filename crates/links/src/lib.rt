@@ -5,7 +5,6 @@
 mod desks;
 mod guests;
 mod histories;
-mod identities;
 mod lobbies;
 mod peer_links;
 mod places;
@@ -14,7 +13,6 @@ mod speakers;
 pub use desks::Desk;
 pub use guests::Guest;
 pub use histories::History;
-pub use identities::Identity;
 pub use lobbies::{Cuts, Lobby};
 pub use peer_links::{PeerLink, PeerLinks};
 pub use places::Places;

@@ -3,10 +3,10 @@ ghost use Rattle.std.specs.Prelude.{◌≡◌, IfOk};
 ghost use Rattle.links.specs.Speakers.{Greets};
 
 use crate::desks::Desk;
-use crate::identities::Identity;
 use crate::places::Places;
 use crate::speakers::Speaker;
 use node::{SERVERS, View};
+use peers::Identity;
 use rail::Inlet;
 use std::alloc::Global;
 use std::sync::{Mutex, Wait};

@@ -1,14 +1,16 @@
-//! Links between servers: frames are put to a peer, and the frames that a peer sends are handed on.
+//! Links between servers: who greets whom, frames that are put to a peer, and those of a peer, which are handed on.
 #![tactic(auto)]
 
 mod faults;
 mod histories;
+mod identities;
 mod putting;
 mod serving;
 mod takers;
 
 pub use faults::LinkFault;
 pub use histories::Taken;
+pub use identities::Identity;
 pub use putting::{put_all, put_frame};
 pub use serving::serve_peer;
 pub use takers::{TakeFault, Taker};

@@ -69,10 +69,24 @@ fn other_words_are_refused(rt: HostRuntime) -> Result<(), Fail> {
 
 #[test]
 fn numbers_out_of_range_are_refused(rt: HostRuntime) -> Result<(), Fail> {
-    let rows: [&[&str]; 3] = [
+    let rows: [&[&str]; 5] = [
         &["craq", "cluster", "--servers", "17", "--port", "4000"],
         &["craq", "cluster", "--servers", "3", "--port", "65521"],
         &["craq", "cluster", "--servers=3", "--port=4000", "--seats=0"],
+        &[
+            "craq",
+            "cluster",
+            "--servers=3",
+            "--port=4000",
+            "--memory=0",
+        ],
+        &[
+            "craq",
+            "cluster",
+            "--servers=3",
+            "--port=4000",
+            "--memory=1048577",
+        ],
     ];
     for words in rows {
         match read_command(rt.alloc(), words) {
@@ -95,12 +109,15 @@ fn words_give_the_numbers_of_a_chain(rt: HostRuntime) -> Result<(), Fail> {
         "--port=4000",
         "--serves",
         "9",
+        "--memory",
+        "64",
     ];
     let numbers = Numbers {
         servers: 3,
         port: 4000,
         seats: 4,
         serves: 9,
+        memory: Some(64),
         quiet: false,
     };
     match read_command(rt.alloc(), words.as_slice()) {
@@ -130,6 +147,7 @@ fn words_tell_a_server(rt: HostRuntime) -> Result<(), Fail> {
         port: 4000,
         peer_port: 5000,
         seats: 4,
+        memory: None,
         quiet: true,
     };
     match read_command(rt.alloc(), words.as_slice()) {

@@ -24,7 +24,8 @@ use Rattle.proto.specs.Words.{line_limit, first_lf}
 use Rattle.proto.specs.Requests.{asked_at, by_end, fate_of}
 use Rattle.proto.specs.Fronts.{Front, front, refused_at, refused_by, found_of}
 use Rattle.proto.specs.Sessions.{Held, Given, fed, by_found, by_passing, by_later, next_of, answered_by}
-use Rattle.proto.specs.Runs.{Action, Feed, Next, Answer, Take, Run, IsRun, Opens, Acts, acted}
+use Rattle.proto.specs.Sessions.{refused_by as refusal_by}
+use Rattle.proto.specs.Runs.{Action, Feed, Next, Answer, Refuse as RefuseCall, Take, Run, IsRun, Opens, Acts, acted}
 use Rattle.proto.proofs.GrammarLaws.{asks_at}
 use Rattle.proto.proofs.RequestLaws.{takes}
 
@@ -206,12 +207,19 @@ answered_passed : (h : Held) (asked : Option Form) (reply : Reply)
 answered_passed h None reply is = is
 answered_passed h (Some form) reply is = is
 
+refused_passed : (h : Held) (asked : Option Form)
+    → IsPassed h.passing h.unread
+    → IsPassed (refusal_by asked h).passing (refusal_by asked h).unread
+refused_passed h None is = is
+refused_passed h (Some form) is = is
+
 acted_passed : (run : Run) (action : Action)
     → IsPassed run.held.passing run.held.unread
     → IsPassed (acted run action).held.passing (acted run action).held.unread
 acted_passed run (Feed piece) is = fed_passed run.held piece is
 acted_passed run Next is = (next_leaves run.held is).passed
 acted_passed run (Answer reply) is = answered_passed run.held run.held.asked reply is
+acted_passed run RefuseCall is = refused_passed run.held run.held.asked is
 acted_passed run (Take n) is = is
 
 passed_along : (run : Run) → IsRun run → IsPassed run.held.passing run.held.unread

@@ -12,7 +12,7 @@ use Rattle.proto.specs.Fronts.{front, found_at, refused_at, found_of}
 use Rattle.proto.specs.Grammar.{Spells}
 use Rattle.proto.specs.Turns.{Turn, Calls, Faulty, turns_of}
 use Rattle.proto.specs.Sessions.{Held, Given, answered_by, fed, kept, passed, next_of, by_request, by_found, by_passing}
-use Rattle.proto.specs.Sessions.{by_later}
+use Rattle.proto.specs.Sessions.{by_later, refused_by}
 use Rattle.proto.proofs.GrammarLaws.{spelled_is_found}
 
 -- a session that no bytes wait at
@@ -28,6 +28,12 @@ pub rested_answered : (asked : Option Form) (s : Held) (reply : Reply)
     → IsRested (answered_by asked s reply)
 rested_answered None s reply r = r
 rested_answered (Some form) s reply r =
+    record { unread = r.unread; passing = r.passing; later = r.later; closed = r.closed }
+
+-- and so does one whose call is refused
+pub rested_refused : (asked : Option Form) (s : Held) → IsRested s → IsRested (refused_by asked s)
+rested_refused None s r = r
+rested_refused (Some form) s r =
     record { unread = r.unread; passing = r.passing; later = r.later; closed = r.closed }
 
 -- a turn that a session gave, which left it with no bytes waiting

@@ -4,10 +4,10 @@ use Rattle.std.proofs.Common.{append-nil}
 use Rattle.proto.specs.Turns.{Turn}
 use Rattle.proto.specs.Sessions.{fed, next_of}
 use Rattle.proto.specs.Streams.{turns, ends, to_come, will_close, with_turn}
-use Rattle.proto.specs.Runs.{Action, Feed, Next, Answer, Take, Run, IsRun, Opens, Acts, acted, turn_given}
+use Rattle.proto.specs.Runs.{Action, Feed, Next, Answer, Refuse, Take, Run, IsRun, Opens, Acts, acted, turn_given}
 use Rattle.proto.proofs.StreamLaws.{next_gives_first, fed_none, fed_twice}
 use Rattle.proto.proofs.EndLaws.{keeps_end}
-use Rattle.proto.proofs.SameLaws.{answer_keeps_turns, taken_keeps_turns}
+use Rattle.proto.proofs.SameLaws.{answer_keeps_turns, refusal_keeps_turns, taken_keeps_turns}
 
 -- The run tells its whole stream, whatever bytes may follow: its turns, and whether they come to an end.
 record TellsAll (run : Run) : Type 0 where
@@ -34,6 +34,10 @@ acted_tells run Next all = record {
 acted_tells run (Answer reply) all = record {
   turns = λ more. ap (λ ts. run.given ++ ts) ((answer_keeps_turns run.held reply).turns more) ∙ all.turns more;
   end = λ more. (answer_keeps_turns run.held reply).end more ∙ all.end more;
+}
+acted_tells run Refuse all = record {
+  turns = λ more. ap (λ ts. run.given ++ ts) ((refusal_keeps_turns run.held).turns more) ∙ all.turns more;
+  end = λ more. (refusal_keeps_turns run.held).end more ∙ all.end more;
 }
 acted_tells run (Take n) all = record {
   turns = λ more. ap (λ ts. run.given ++ ts) ((taken_keeps_turns run.held n).turns more) ∙ all.turns more;

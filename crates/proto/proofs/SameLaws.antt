@@ -1,10 +1,10 @@
--- An answer, and output that is taken, keep what is to come.
+-- An answer, a refusal, and output that is taken, keep what is to come.
 use Rattle.std.proofs.Common.{ℕ, Bool, true, false, List, ◌++◌, Option, None, Some, refl, drop}
 use Rattle.table.specs.declared.operations.Reply.{Reply}
 use Rattle.proto.specs.declared.passing.Passing.{Passing}
 use Rattle.proto.specs.declared.texts.Form.{Form}
-use Rattle.proto.specs.Turns.{text}
-use Rattle.proto.specs.Sessions.{Held, answered_by}
+use Rattle.proto.specs.Turns.{text, refusal_text}
+use Rattle.proto.specs.Sessions.{Held, answered_by, refused_by}
 use Rattle.proto.specs.Streams.{SameToCome}
 use Rattle.proto.specs.Runs.{taken_from}
 
@@ -35,6 +35,13 @@ answered_same h (Some form) reply = same_to_come h None (h.out ++ text form repl
 
 pub answer_keeps_turns : (h : Held) (reply : Reply) → SameToCome h (answered_by h.asked h reply)
 answer_keeps_turns h reply = answered_same h h.asked reply
+
+refused_same : (h : Held) (asked : Option Form) → SameToCome h (refused_by asked h)
+refused_same h None = record { turns = λ more. refl; end = λ more. refl; most = refl }
+refused_same h (Some form) = same_to_come h None (h.out ++ refusal_text form)
+
+pub refusal_keeps_turns : (h : Held) → SameToCome h (refused_by h.asked h)
+refusal_keeps_turns h = refused_same h h.asked
 
 pub taken_keeps_turns : (h : Held) (n : ℕ) → SameToCome h (taken_from h n)
 taken_keeps_turns h n = same_to_come h h.asked (drop n h.out)

@@ -1,5 +1,5 @@
--- What a session's step and an answer write, and the texts of turns with their replies.
-use Rattle.std.proofs.Common.{◌≡◌, ℕ, ◌==◌, Bool, true, false, cond, List, [], ◌∷◌, ◌++◌, length, drop, Option, None}
+-- What a session's step, an answer and a refusal write, and the texts of turns with what their calls came to.
+use Rattle.std.proofs.Common.{◌≡◌, ℕ, ◌==◌, Bool, true, false, cond, List, [], ◌∷◌, ◌++◌, length, drop, map, Option, None}
 use Rattle.std.proofs.Common.{Some, refl, sym, ap, ◌∙◌, arith, append_assoc, append-nil}
 use Rattle.table.specs.declared.operations.Call.{Call}
 use Rattle.table.specs.declared.operations.Reply.{Reply}
@@ -11,10 +11,12 @@ use Rattle.proto.specs.declared.front.Found.{Found}
 use Rattle.proto.specs.declared.front.Found.TheVariants.{Request as Requested, Refused, Nothing}
 use Rattle.proto.specs.declared.texts.Form.{Form}
 use Rattle.proto.specs.Fronts.{found_at}
-use Rattle.proto.specs.Turns.{Turn, Faulty, Calls, calls_of, fault_text, text}
+use Rattle.proto.specs.declared.texts.Form.TheVariants.{Silent}
+use Rattle.proto.specs.Turns.{Turn, Faulty, Calls, calls_of, fault_text, text, Outcome, Replied}
+use Rattle.proto.specs.Turns.{Refused as RefusedCall, outcome_text, refusal_text}
 use Rattle.proto.specs.Sessions.{Held, Given, Writes, by_keys, by_request, by_found, by_passing, by_later, next_of}
-use Rattle.proto.specs.Sessions.{answered_by}
-use Rattle.proto.specs.Streams.{texts}
+use Rattle.proto.specs.Sessions.{answered_by, refused_by}
+use Rattle.proto.specs.Streams.{texts, outcome_texts}
 
 keys_write : (keys : List (List ℕ)) (unique : Bool) (h : Held) → Writes h (by_keys keys unique h)
 keys_write [] unique h = (refl, refl)
@@ -74,20 +76,49 @@ answer_idle h reply = by_asked h.asked refl
     by_asked None e = e
     by_asked (Some form) e = refl
 
--- more turns and more replies have more text
-pub fewer_replies_begin : (ts us : List Turn) (rs ss : List Reply)
-    → (rest : List ℕ) × (texts (ts ++ us) (rs ++ ss) ≡ texts ts rs ++ rest)
-fewer_replies_begin [] us rs ss = (texts us (rs ++ ss), refl)
-fewer_replies_begin (Faulty fault ∷ ts) us rs ss =
-    let more = fewer_replies_begin ts us rs ss in (
+-- what a refusal writes
+pub refusal_writes : (h : Held) (form : Form)
+    → h.asked ≡ Some form
+    → (refused_by h.asked h).out ≡ h.out ++ refusal_text form
+refusal_writes h form e = rw e refl
+
+pub refusal_idle : (h : Held) → (refused_by h.asked h).asked ≡ None
+refusal_idle h = by_asked h.asked refl
+  where
+    by_asked : (asked : Option Form) → h.asked ≡ asked → (refused_by asked h).asked ≡ None
+    by_asked None e = e
+    by_asked (Some form) e = refl
+
+-- a silent call writes nothing
+pub silent_writes_nothing : (outcome : Outcome) → outcome_text Silent outcome ≡ []
+silent_writes_nothing (Replied reply) = refl
+silent_writes_nothing RefusedCall = refl
+
+-- if no call was refused, the texts are those of the replies
+pub replies_are_outcomes : (ts : List Turn) (rs : List Reply) → outcome_texts ts (map Replied rs) ≡ texts ts rs
+replies_are_outcomes [] rs = refl
+replies_are_outcomes (Faulty fault ∷ ts) rs = ap (λ bytes. fault_text fault ++ bytes) (replies_are_outcomes ts rs)
+replies_are_outcomes (Calls call form ∷ ts) [] = refl
+replies_are_outcomes (Calls call form ∷ ts) (reply ∷ rs) =
+    ap (λ bytes. text form reply ++ bytes) (replies_are_outcomes ts rs)
+
+-- more turns, of whose calls more is known, have more text
+pub fewer_outcomes_begin : (ts us : List Turn) (os ps : List Outcome)
+    → (rest : List ℕ) × (outcome_texts (ts ++ us) (os ++ ps) ≡ outcome_texts ts os ++ rest)
+fewer_outcomes_begin [] us os ps = (outcome_texts us (os ++ ps), refl)
+fewer_outcomes_begin (Faulty fault ∷ ts) us os ps =
+    let more = fewer_outcomes_begin ts us os ps in (
       more.0,
       ap (λ bytes. fault_text fault ++ bytes) more.1
-          ∙ sym (append_assoc (fault_text fault) (texts ts rs) more.0),
+          ∙ sym (append_assoc (fault_text fault) (outcome_texts ts os) more.0),
     )
-fewer_replies_begin (Calls call form ∷ ts) us [] ss = (texts (Calls call form ∷ ts ++ us) ss, refl)
-fewer_replies_begin (Calls call form ∷ ts) us (r ∷ rs) ss =
-    let more = fewer_replies_begin ts us rs ss in
-    (more.0, ap (λ bytes. text form r ++ bytes) more.1 ∙ sym (append_assoc (text form r) (texts ts rs) more.0))
+fewer_outcomes_begin (Calls call form ∷ ts) us [] ps = (outcome_texts (Calls call form ∷ ts ++ us) ps, refl)
+fewer_outcomes_begin (Calls call form ∷ ts) us (o ∷ os) ps =
+    let more = fewer_outcomes_begin ts us os ps in (
+      more.0,
+      ap (λ bytes. outcome_text form o ++ bytes) more.1
+          ∙ sym (append_assoc (outcome_text form o) (outcome_texts ts os) more.0),
+    )
 
 -- the calls among turns, with more of them after
 pub calls_of_more : (ts us : List Turn) → calls_of (ts ++ us) ≡ calls_of ts ++ calls_of us
@@ -95,37 +126,39 @@ calls_of_more [] us = refl
 calls_of_more (Faulty fault ∷ ts) us = calls_of_more ts us
 calls_of_more (Calls call form ∷ ts) us = ap (λ calls. call ∷ calls) (calls_of_more ts us)
 
--- a fault after turns whose calls are answered
-pub texts_fault : (fault : Fault) (ts : List Turn) (rs : List Reply)
-    → length rs ≡ length (calls_of ts)
-    → texts (ts ++ Faulty fault ∷ []) rs ≡ texts ts rs ++ fault_text fault
-texts_fault fault [] rs h = append-nil (fault_text fault)
-texts_fault fault (Faulty g ∷ ts) rs h =
-    rw (texts_fault fault ts rs h) (sym (append_assoc (fault_text g) (texts ts rs) (fault_text fault)))
+-- a fault after turns of whose calls all is known
+pub texts_fault : (fault : Fault) (ts : List Turn) (os : List Outcome)
+    → length os ≡ length (calls_of ts)
+    → outcome_texts (ts ++ Faulty fault ∷ []) os ≡ outcome_texts ts os ++ fault_text fault
+texts_fault fault [] os h = append-nil (fault_text fault)
+texts_fault fault (Faulty g ∷ ts) os h =
+    rw (texts_fault fault ts os h) (sym (append_assoc (fault_text g) (outcome_texts ts os) (fault_text fault)))
 texts_fault fault (Calls call form ∷ ts) [] h = absurd (omega (arith, h))
-texts_fault fault (Calls call form ∷ ts) (r ∷ rs) h =
-    rw (texts_fault fault ts rs (omega (arith, h))) (sym (append_assoc (text form r) (texts ts rs) (fault_text fault)))
+texts_fault fault (Calls call form ∷ ts) (o ∷ os) h =
+    rw (texts_fault fault ts os (omega (arith, h)))
+    (sym (append_assoc (outcome_text form o) (outcome_texts ts os) (fault_text fault)))
 
--- a call without a reply after them
-pub texts_open : (call : Call) (form : Form) (ts : List Turn) (rs : List Reply)
-    → length rs ≡ length (calls_of ts)
-    → texts (ts ++ Calls call form ∷ []) rs ≡ texts ts rs
+-- an open call after them
+pub texts_open : (call : Call) (form : Form) (ts : List Turn) (os : List Outcome)
+    → length os ≡ length (calls_of ts)
+    → outcome_texts (ts ++ Calls call form ∷ []) os ≡ outcome_texts ts os
 texts_open call form [] [] h = refl
-texts_open call form [] (r ∷ rs) h = absurd (omega (arith, h))
-texts_open call form (Faulty g ∷ ts) rs h = ap (λ bytes. fault_text g ++ bytes) (texts_open call form ts rs h)
+texts_open call form [] (o ∷ os) h = absurd (omega (arith, h))
+texts_open call form (Faulty g ∷ ts) os h = ap (λ bytes. fault_text g ++ bytes) (texts_open call form ts os h)
 texts_open call form (Calls other shape ∷ ts) [] h = absurd (omega (arith, h))
-texts_open call form (Calls other shape ∷ ts) (r ∷ rs) h =
-    ap (λ bytes. text shape r ++ bytes) (texts_open call form ts rs (omega (arith, h)))
+texts_open call form (Calls other shape ∷ ts) (o ∷ os) h =
+    ap (λ bytes. outcome_text shape o ++ bytes) (texts_open call form ts os (omega (arith, h)))
 
--- an answered call after them
-pub texts_call : (call : Call) (form : Form) (reply : Reply) (ts : List Turn) (rs : List Reply)
-    → length rs ≡ length (calls_of ts)
-    → texts (ts ++ Calls call form ∷ []) (rs ++ reply ∷ []) ≡ texts ts rs ++ text form reply
-texts_call call form reply [] [] h = append-nil (text form reply)
-texts_call call form reply [] (r ∷ rs) h = absurd (omega (arith, h))
-texts_call call form reply (Faulty g ∷ ts) rs h =
-    rw (texts_call call form reply ts rs h) (sym (append_assoc (fault_text g) (texts ts rs) (text form reply)))
-texts_call call form reply (Calls other shape ∷ ts) [] h = absurd (omega (arith, h))
-texts_call call form reply (Calls other shape ∷ ts) (r ∷ rs) h =
-    rw (texts_call call form reply ts rs (omega (arith, h)))
-    (sym (append_assoc (text shape r) (texts ts rs) (text form reply)))
+-- a call that came to this, after them
+pub texts_call : (call : Call) (form : Form) (outcome : Outcome) (ts : List Turn) (os : List Outcome)
+    → length os ≡ length (calls_of ts)
+    → outcome_texts (ts ++ Calls call form ∷ []) (os ++ outcome ∷ []) ≡ outcome_texts ts os ++ outcome_text form outcome
+texts_call call form outcome [] [] h = append-nil (outcome_text form outcome)
+texts_call call form outcome [] (o ∷ os) h = absurd (omega (arith, h))
+texts_call call form outcome (Faulty g ∷ ts) os h =
+    rw (texts_call call form outcome ts os h)
+    (sym (append_assoc (fault_text g) (outcome_texts ts os) (outcome_text form outcome)))
+texts_call call form outcome (Calls other shape ∷ ts) [] h = absurd (omega (arith, h))
+texts_call call form outcome (Calls other shape ∷ ts) (o ∷ os) h =
+    rw (texts_call call form outcome ts os (omega (arith, h)))
+    (sym (append_assoc (outcome_text shape o) (outcome_texts ts os) (outcome_text form outcome)))

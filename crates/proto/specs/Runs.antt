@@ -2,29 +2,30 @@
 use Rattle.std.specs.Prelude.{◌≡◌, ℕ, ◌≤◌, List, [], ◌∷◌, ◌++◌, length, take, drop, Option, None, Some}
 use Rattle.table.specs.declared.operations.Reply.{Reply}
 use Rattle.proto.specs.declared.texts.Form.{Form}
-use Rattle.proto.specs.Turns.{Turn}
-use Rattle.proto.specs.Sessions.{Held, fresh, fed, next_of, answered_by, CanAnswer}
+use Rattle.proto.specs.Turns.{Turn, Outcome, Replied, Refused}
+use Rattle.proto.specs.Sessions.{Held, fresh, fed, next_of, answered_by, refused_by, CanAnswer, CanRefuse}
 
 -- What may be done with a session: it is fed with a piece, or asked for its next turn, its open call is answered,
--- or the first n bytes of its output are taken.
+-- or refused, or the first n bytes of its output are taken.
 pub data Action : Type 0 where
   Feed : (piece : List ℕ) → Action
   Next : Action
   Answer : (reply : Reply) → Action
+  Refuse : Action
   Take : (n : ℕ) → Action
 
 -- What has come of a run: all the bytes that were fed, as one stream, the turns that were given,
--- the replies of their calls, all the bytes of the output that were taken, and what the session holds.
+-- what their calls came to, all the bytes of the output that were taken, and what the session holds.
 pub record Run : Type 0 where
   pub stream : List ℕ
   pub given : List Turn
-  pub replies : List Reply
+  pub outcomes : List Outcome
   pub taken : List ℕ
   pub held : Held
 
 -- before any action
 abbrev pub opening_run : Run
-opening_run = record { stream = []; given = []; replies = []; taken = []; held = fresh }
+opening_run = record { stream = []; given = []; outcomes = []; taken = []; held = fresh }
 
 -- a turn that was given, as a list
 abbrev pub turn_given : Option Turn → List Turn
@@ -40,14 +41,17 @@ abbrev pub acted : Run → Action → Run
 acted run (Feed piece) = record run { stream = run.stream ++ piece; held = fed run.held piece }
 acted run Next = record run { given = run.given ++ turn_given (next_of run.held).0; held = (next_of run.held).1 }
 acted run (Answer reply) =
-    record run { replies = run.replies ++ reply ∷ []; held = answered_by run.held.asked run.held reply }
+    record run { outcomes = run.outcomes ++ Replied reply ∷ []; held = answered_by run.held.asked run.held reply }
+acted run Refuse = record run { outcomes = run.outcomes ++ Refused ∷ []; held = refused_by run.held.asked run.held }
 acted run (Take n) = record run { taken = run.taken ++ take n run.held.out; held = taken_from run.held n }
 
--- a session is asked while no call is open, a call is answered by a reply that it can have, and what is taken is there
+-- a session is asked while no call is open, a call is answered by a reply that it can have, one that is refused is an
+-- update, and what is taken is there
 abbrev pub IsAllowed : Held → Action → Type 0
 IsAllowed h (Feed piece) = Unit {0}
 IsAllowed h Next = h.asked ≡ None
 IsAllowed h (Answer reply) = CanAnswer h.asked reply
+IsAllowed h Refuse = CanRefuse h.asked
 IsAllowed h (Take n) = n ≤ length h.out
 
 -- This has come of a run from a new session, each action of which was allowed when it was its turn.

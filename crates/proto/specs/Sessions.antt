@@ -18,7 +18,7 @@ use Rattle.proto.specs.declared.texts.Form.TheVariants.{Status, Silent, Show}
 use Rattle.proto.specs.declared.sessions.Step.{Step}
 use Rattle.proto.specs.declared.sessions.Step.TheVariants.{Call, Emit, Wait, Close}
 use Rattle.proto.specs.Fronts.{found_at, is_last}
-use Rattle.proto.specs.Turns.{Turn, Faulty, Calls, look, none_left, form_of, fault_text, text}
+use Rattle.proto.specs.Turns.{Turn, Faulty, Calls, look, none_left, form_of, fault_text, text, refusal_text}
 
 -- What a session holds: the bytes that no request has taken yet, the refused block that it passes over, the keys that
 -- the get at hand has still to read and whether it shows uniques, the form of the open call's answer, the output that
@@ -142,6 +142,16 @@ shows (Show look) = true
 abbrev pub CanAnswer : Option Form → Reply → Type 0
 CanAnswer None reply = ⊥
 CanAnswer (Some form) reply = is_value reply ≡ shows form
+
+-- the open call is refused: the line that says so is written, or nothing if it is silent
+abbrev pub refused_by : Option Form → Held → Held
+refused_by None h = h
+refused_by (Some form) h = record h { asked = None; out = h.out ++ refusal_text form }
+
+-- a call is open, and it is an update
+abbrev pub CanRefuse : Option Form → Type 0
+CanRefuse None = ⊥
+CanRefuse (Some form) = shows form ≡ false
 
 -- the answer's form is that of the operation
 abbrev pub IsFormOf : Op → Option Form → Type 0

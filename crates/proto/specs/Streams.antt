@@ -9,7 +9,7 @@ use Rattle.proto.specs.declared.requests.Request.TheVariants.{Bad}
 use Rattle.proto.specs.declared.sessions.Step.{Step}
 use Rattle.proto.specs.declared.sessions.Step.TheVariants.{Call, Emit, Wait, Close}
 use Rattle.proto.specs.Fronts.{Front, front, is_last}
-use Rattle.proto.specs.Turns.{Turn, Faulty, Calls, looks, turns_of, fault_text, text}
+use Rattle.proto.specs.Turns.{Turn, Faulty, Calls, Outcome, looks, turns_of, fault_text, text, outcome_text}
 use Rattle.proto.specs.Sessions.{Held, fed}
 
 -- a request at the front, and those after it
@@ -44,6 +44,13 @@ texts [] replies = []
 texts (Faulty fault ∷ ts) replies = fault_text fault ++ texts ts replies
 texts (Calls call form ∷ ts) [] = []
 texts (Calls call form ∷ ts) (reply ∷ replies) = text form reply ++ texts ts replies
+
+-- what is written for turns, each call's text with what it came to, up to the first call of which that isn't known
+abbrev pub outcome_texts : List Turn → List Outcome → List ℕ
+outcome_texts [] outcomes = []
+outcome_texts (Faulty fault ∷ ts) outcomes = fault_text fault ++ outcome_texts ts outcomes
+outcome_texts (Calls call form ∷ ts) [] = []
+outcome_texts (Calls call form ∷ ts) (outcome ∷ outcomes) = outcome_text form outcome ++ outcome_texts ts outcomes
 
 -- the requests that a session's bytes have still to give: if a refused block is being passed over, none before its end
 abbrev pub unread_requests : Option Passing → List ℕ → List Request

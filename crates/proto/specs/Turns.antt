@@ -6,6 +6,7 @@ use Rattle.table.specs.declared.operations.Call.{Call}
 use Rattle.table.specs.declared.operations.Target.TheVariants.{One, All}
 use Rattle.table.specs.declared.operations.Op.{Op}
 use Rattle.table.specs.declared.operations.Op.TheVariants.{Read, Delete as DeleteOp, Flush as FlushOp}
+use Rattle.table.specs.declared.operations.Op.TheVariants.{Set, Add, Replace, Append, Prepend, Cas}
 use Rattle.table.specs.declared.operations.Reply.{Reply}
 use Rattle.table.specs.declared.operations.Reply.TheVariants.{Stored, NotStored, Exists, NotFound, Deleted, Number}
 use Rattle.table.specs.declared.operations.Reply.TheVariants.{Value, TooLarge as TooLargeReply, NotNumber, Flushed}
@@ -134,3 +135,32 @@ abbrev pub text : Form → Reply → List ℕ
 text Status reply = status_text reply
 text Silent reply = []
 text (Show look) reply = look_text look reply
+
+-- an operation that stores the data that comes with it (protocol.txt, "Storage commands"). It is refused if the
+-- server's memory is used up, and no other is (this project's rule).
+abbrev pub is_store : Op → Bool
+is_store (Set flags bytes) = true
+is_store (Add flags bytes) = true
+is_store (Replace flags bytes) = true
+is_store (Append bytes) = true
+is_store (Prepend bytes) = true
+is_store (Cas flags bytes unique) = true
+is_store op = false
+
+-- What a call of a connection came to: its reply; or it was refused before it was sent, since the server's memory is
+-- used up.
+pub data Outcome : Type 0 where
+  Replied : (reply : Reply) → Outcome
+  Refused : Outcome
+
+-- what is written for a call that was refused, by the form of the answer (memcached's text; protocol.txt,
+-- "Error strings", has the first word)
+abbrev pub refusal_text : Form → List ℕ
+refusal_text Status = codes "SERVER_ERROR out of memory storing object\r\n"
+refusal_text Silent = []
+refusal_text (Show look) = []
+
+-- what is written for what a call came to
+abbrev pub outcome_text : Form → Outcome → List ℕ
+outcome_text form (Replied reply) = text form reply
+outcome_text form Refused = refusal_text form

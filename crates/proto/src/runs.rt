@@ -4,7 +4,7 @@ ghost use Rattle.table.specs.Items.{limit};
 ghost use Rattle.proto.specs.Words.{line_limit};
 ghost use Rattle.proto.specs.Turns.{calls_of};
 ghost use Rattle.proto.specs.Sessions.{next_of};
-ghost use Rattle.proto.specs.Streams.{ends, texts, to_come, turns};
+ghost use Rattle.proto.specs.Streams.{ends, outcome_texts, to_come, turns};
 ghost use Rattle.proto.specs.Runs.{IsRun, Run, open_calls};
 
 /// The turns that a session gave, and those that it has still to give, are those of all its bytes as one stream:
@@ -23,15 +23,15 @@ pub fn closes_at_last()
 {}
 
 /// The output that was taken, followed by the output that is left, is the texts of the turns that were given,
-/// each call's with its reply.
+/// each call's with what it came to: its reply's, or the one that says that it was refused.
 pub fn output_is_texts()
-    ensures { (run : Run) → IsRun run → run.taken ++ run.held.out ≡ texts run.given run.replies }
+    ensures { (run : Run) → IsRun run → run.taken ++ run.held.out ≡ outcome_texts run.given run.outcomes }
 {}
 
-/// Each call that was given has its reply, save the one that is open.
-pub fn calls_have_replies()
+/// Each call that was given has its reply or was refused, save the one that is open.
+pub fn calls_have_outcomes()
     ensures { (run : Run) → IsRun run
-        → length run.replies + open_calls run.held.asked ≡ length (calls_of run.given) }
+        → length run.outcomes + open_calls run.held.asked ≡ length (calls_of run.given) }
 {}
 
 /// An open session that has no turn to give holds less than a line and a block of the largest size, with its two bytes

@@ -2,10 +2,10 @@
 
 use crate::front::Pending;
 use crate::passing::{Passing, kept, passed};
-use crate::texts::write_reply;
+use crate::texts::{write_refusal, write_reply};
 use crate::{Form, Keys, ProtoFault};
 use bytes::BytesMut;
-use std::alloc::Global;
+use std::alloc::{AllocError, Global};
 use std::marker::Model;
 use table::{Op, Reply, Target};
 
@@ -61,7 +61,7 @@ impl Session {
     ghost use Rattle.std.specs.Prelude.{◌≡◌, ◌↔◌, ◌≤◌, drop, length, true, None, IsOk, IfOk, OnOk, OnErr, IsErrOf};
     ghost use Rattle.std.specs.Prelude.{IsOkUnless};
     ghost use Rattle.proto.specs.Sessions.{fresh, fed, next_of, step_of, answered_by, CanAnswer, IsInside, IsOpen};
-    ghost use Rattle.proto.specs.Sessions.{Tells};
+    ghost use Rattle.proto.specs.Sessions.{Tells, refused_by, CanRefuse};
     ghost use Rattle.proto.specs.Streams.{LeavesFewer, most_turns};
 
     /// A session that was fed with nothing. It allocates nothing.
@@ -141,6 +141,22 @@ impl Session {
     {
         if let Some(form) = &self.asked {
             write_reply(&mut self.out, form, reply)?;
+            self.asked = None;
+        }
+        Ok(())
+    }
+
+    /// Refuses the open call, an update, which is not to be made: the line that says so is written, or nothing if the
+    /// call is silent. It fails only if there is no memory for the line; the call then stays open.
+    pub fn refuse(&mut self) -> Result<(), AllocError>
+        requires { CanRefuse self.old.asked }
+        ensures ok { OnOk result (self.new ≡ refused_by self.old.asked self.old) }
+        ensures idle { OnOk result (self.new.asked ≡ None) }
+        ensures as_many { OnOk result (most_turns self.new ≡ most_turns self.old) }
+        ensures err { OnErr result (self.new ≡ self.old) }
+    {
+        if let Some(form) = &self.asked {
+            write_refusal(&mut self.out, form)?;
             self.asked = None;
         }
         Ok(())

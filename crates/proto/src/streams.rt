@@ -3,7 +3,7 @@ ghost use Rattle.std.specs.Prelude.{◌≡◌, ◌<◌, ℕ, Some};
 ghost use Rattle.table.specs.declared.operations.Reply.{Reply};
 ghost use Rattle.proto.specs.declared.requests.Fault.{Fault};
 ghost use Rattle.proto.specs.Turns.{Faulty};
-ghost use Rattle.proto.specs.Sessions.{Held, answered_by, next_of};
+ghost use Rattle.proto.specs.Sessions.{Held, answered_by, next_of, refused_by};
 ghost use Rattle.proto.specs.Streams.{GivesFirst, KeepsEnd, SameToCome, most_faults};
 ghost use Rattle.proto.specs.Runs.{taken_from};
 
@@ -28,6 +28,11 @@ pub fn faults_take_bytes()
 /// An answer keeps what is to come.
 pub fn answer_keeps_turns()
     ensures { (h : Held) (reply : Reply) → SameToCome h (answered_by h.asked h reply) }
+{}
+
+/// So does a refusal.
+pub fn refusal_keeps_turns()
+    ensures { (h : Held) → SameToCome h (refused_by h.asked h) }
 {}
 
 /// And so does taking output away.

@@ -2,7 +2,7 @@
 ghost use Rattle.std.specs.Prelude.{◌≡◌, ◌+◌, ◌≤◌, ◌++◌, false, decimal, length, OnOk, OnErr};
 ghost use Rattle.proto.specs.Words.{crlf};
 ghost use Rattle.proto.specs.Turns.{fault_text, is_number, status_text, text, end_text, value_text, value_line};
-ghost use Rattle.proto.specs.Turns.{unique_text, number_text};
+ghost use Rattle.proto.specs.Turns.{unique_text, number_text, refusal_text};
 
 use crate::Fault;
 use bytes::BytesMut;
@@ -77,6 +77,18 @@ pub fn write_reply(out: &mut BytesMut, form: &Form, reply: &Reply) -> Result<(),
         (Form::Show(look), Reply::Value(Some(item))) => write_value(out, look, item),
         (Form::Show(look), Reply::Value(None)) => out.extend_from_slice(end_line(look.last)),
         (Form::Show(_), _) => Ok(()),
+    }
+}
+
+/// Writes that a call was refused, since the server's memory is used up: a line, in memcached's words, for an update
+/// that isn't silent.
+pub fn write_refusal(out: &mut BytesMut, form: &Form) -> Result<(), AllocError>
+    ensures ok { OnOk result (out.new.items ≡ out.old.items ++ refusal_text form.now) }
+    ensures err { OnErr result (out.new.items ≡ out.old.items) }
+{
+    match form {
+        Form::Status => out.extend_from_slice(b"SERVER_ERROR out of memory storing object\r\n"),
+        Form::Silent | Form::Show(_) => Ok(()),
     }
 }
 

@@ -5,3 +5,4 @@ pub mod Replying
 pub mod Ports
 pub mod Turning
 pub mod Opening
+pub mod PortBits

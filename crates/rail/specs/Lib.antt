@@ -2,6 +2,7 @@ pub mod Events
 pub mod Inbox
 pub mod Letters
 pub mod Mails
+pub mod Ports
 pub mod Seats
 pub mod Takes
 pub mod Turns

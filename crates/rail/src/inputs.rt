@@ -6,6 +6,7 @@ ghost use Rattle.faces.specs.Courses.{server_after, with_next};
 ghost use Rattle.rail.specs.Turns.{ArePosts, HasPut, HasReplied, IsCut, messages_of, outputs_after};
 
 use crate::links::Links;
+use crate::port_sets::PortSet;
 use crate::posts::Post;
 use crate::turns::{put_messages, put_replies};
 use faces::{Publisher, Told};
@@ -14,12 +15,14 @@ use std::alloc::AllocError;
 use std::sync::Wait;
 
 /// The node makes its step, the face after it is published, and only then its messages are put, and its replies.
-/// Refused for want of memory; the publisher is to be ended then.
+/// Refused for want of memory; the publisher is to be ended then. It adds the replies' ports to those that were replied
+/// to.
 pub fn advance<R: Wait, L: Links>(
     rt: &R,
     publisher: &mut Publisher,
     told: &mut Told,
     posts: &mut Vec<Post>,
+    replied: &mut PortSet,
     links: &mut L,
     input: Input,
 ) -> Result<(), AllocError>
@@ -46,6 +49,6 @@ pub fn advance<R: Wait, L: Links>(
     if put_messages(links, publisher.published(), outputs.as_slice()).is_err() {
         return Err(AllocError);
     }
-    put_replies(rt, posts, publisher.published(), outputs);
+    put_replies(rt, posts, replied, publisher.published(), outputs);
     Ok(())
 }

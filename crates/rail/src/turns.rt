@@ -11,6 +11,7 @@ ghost use Rattle.rail.specs.Turns.{AreClosed, ArePosts, HasPut, HasPutFirst, Has
 use crate::RailFault;
 use crate::links::Links;
 use crate::mails::Mail;
+use crate::port_sets::PortSet;
 use crate::posts::Post;
 use faces::Published;
 use node::{Output, Peer};
@@ -61,10 +62,12 @@ fn put_message<L: Links>(
     }
 }
 
-/// Puts the replies among these to their seats, in order, save those that a seat's queue hands back.
+/// Puts the replies among these to their seats, in order, save those that a seat's queue hands back. It adds their
+/// ports to those that were replied to.
 pub fn put_replies<R: Wait>(
     rt: &R,
     posts: &mut Vec<Post>,
+    replied: &mut PortSet,
     published: &Published,
     outputs: Vec<Output>,
 )
@@ -75,12 +78,18 @@ pub fn put_replies<R: Wait>(
     ensures put { HasReplied published.now 0 posts.old.items posts.new.items outputs.items }
 {
     for output in outputs {
-        put_if_reply(rt, posts, published, output);
+        put_if_reply(rt, posts, replied, published, output);
     }
 }
 
 // Puts an output to its seat, if it is a reply.
-fn put_if_reply<R: Wait>(rt: &R, posts: &mut Vec<Post>, published: &Published, output: Output)
+fn put_if_reply<R: Wait>(
+    rt: &R,
+    posts: &mut Vec<Post>,
+    replied: &mut PortSet,
+    published: &Published,
+    output: Output,
+)
     requires step { PutsOut published.now output }
     requires port { AreRepliesBelow (length posts.old.items) (output ∷ []) }
     requires posts { ArePosts published.now.origin 0 posts.old.items }
@@ -88,7 +97,10 @@ fn put_if_reply<R: Wait>(rt: &R, posts: &mut Vec<Post>, published: &Published, o
     ensures put { HasReplied published.now 0 posts.old.items posts.new.items (output ∷ []) }
 {
     match output {
-        Output::Reply(port, reply) => put_reply(rt, posts, published, port, reply),
+        Output::Reply(port, reply) => {
+            replied.add(port);
+            put_reply(rt, posts, published, port, reply)
+        }
         Output::To(_, peer) => drop(peer),
     }
 }
@@ -111,12 +123,14 @@ fn put_reply<R: Wait>(
     posts[port].put(rt, mail);
 }
 
-/// Nothing is put to these seats from now on, and each that waits is told so.
-pub fn close_all(posts: &mut Vec<Post>)
+/// Nothing is put to these seats from now on, and each that waits is told so. It adds their ports to those that were
+/// replied to.
+pub fn close_all(posts: &mut Vec<Post>, replied: &mut PortSet)
     ensures replies { (c : Course) → HasReplied c 0 posts.old.items posts.new.items [] }
     ensures closed { AreClosed posts.new.items }
 {
     for k in 0..posts.len() {
         posts[k].close();
+        replied.add(k);
     }
 }

@@ -1,9 +1,10 @@
 //! The worker of a server: it takes one input after another.
-ghost use Rattle.std.specs.Prelude.{◌≡◌, [], ◌∷◌, true, length};
+ghost use Rattle.std.specs.Prelude.{◌≡◌, [], ◌∷◌, true, false, length};
 ghost use Rattle.crossbeam_channel.specs.Claims.{view};
 ghost use Rattle.node.specs.Lawful.{IsLawful};
 ghost use Rattle.node.specs.Replies.{AreCallsBelow, AreOpenBelow};
-ghost use Rattle.faces.specs.Courses.{server_after};
+ghost use Rattle.faces.specs.Courses.{server_after, shown_after};
+ghost use Rattle.faces.specs.Weights.{weight_of};
 ghost use Rattle.rail.specs.Events.{IsBelow};
 ghost use Rattle.rail.specs.Turns.{ArePosts};
 ghost use Rattle.rail.specs.Workers.{Advanced, Did, IsStopped, IsTurn, MayBeTurn};
@@ -13,9 +14,10 @@ use crate::events::{Event, FitInput, Message};
 use crate::inbox::Inbox;
 use crate::inputs::advance;
 use crate::links::Links;
+use crate::port_sets::PortSet;
 use crate::posts::Post;
 use crate::turns::close_all;
-use faces::{Publisher, Told};
+use faces::{Publisher, Told, Weight};
 use std::marker::Model;
 use std::sync::Wait;
 
@@ -40,6 +42,8 @@ pub struct Worker<R: Wait + Drop> {
     // What it has published.
     told: Told,
     posts: Vec<Post>,
+    // The ports whose seats have something new since it was last asked.
+    replied: PortSet,
 }
 
 impl<R: Wait + Drop> Model for Worker<R> {
@@ -73,6 +77,7 @@ impl<R: Wait + Drop> Drop for Worker<R> {
             publisher,
             told: _told,
             posts: _posts,
+            replied: _replied,
         } = self;
         if let Some(publisher) = publisher {
             publisher.end(&rt);
@@ -97,7 +102,30 @@ impl<R: Wait + Drop> Worker<R> {
             publisher: Some(publisher),
             told,
             posts,
+            replied: PortSet::new(),
         }
+    }
+
+    /// How much the face weighs that it published last: how many keys have a version there, and the bytes of these keys
+    /// and of their data. Nothing once the server is stopped, since its face is taken away. In constant time.
+    pub fn weight(&self) -> Weight
+        ensures going { self.now.goes ≡ true → result ≡ weight_of (shown_after self.now.published).versions }
+        ensures stopped { self.now.goes ≡ false → result ≡ record { items = 0; bytes = 0 } }
+    {
+        match &self.publisher {
+            Some(publisher) => publisher.weight(),
+            None => Weight { items: 0, bytes: 0 },
+        }
+    }
+
+    /// The ports whose seats may have something new since this was last asked: a reply was put for them, or they were
+    /// told that none comes any more. Which ones they are no clause says.
+    pub fn take_replied(&mut self) -> PortSet
+        ensures { self.new ≡ self.old }
+    {
+        let replied = self.replied;
+        self.replied = PortSet::new();
+        replied
     }
 
     /// Takes the first message of the inbox that wasn't taken, and waits until there is one. An input is given to the
@@ -167,6 +195,7 @@ impl<R: Wait + Drop> Worker<R> {
             publisher,
             &mut self.told,
             &mut self.posts,
+            &mut self.replied,
             links,
             input,
         );
@@ -176,7 +205,7 @@ impl<R: Wait + Drop> Worker<R> {
         if let Some(publisher) = self.publisher.take() {
             publisher.end(&self.rt);
         }
-        close_all(&mut self.posts);
+        close_all(&mut self.posts, &mut self.replied);
         Err(RailFault::Memory)
     }
 
@@ -188,6 +217,6 @@ impl<R: Wait + Drop> Worker<R> {
         if let Some(publisher) = self.publisher.take() {
             publisher.end(&self.rt);
         }
-        close_all(&mut self.posts);
+        close_all(&mut self.posts, &mut self.replied);
     }
 }

@@ -1,12 +1,14 @@
 //! What a server and a cluster say of themselves at the start.
 
-use crate::settings::{ServerSettings, port_of};
+use crate::machines::machine_memory;
 use command_line::{Numbers, VERSION};
 use ends::{Sink, write_all};
 use itoa::Buffer;
+use masters::{ServerSettings, port_of};
+use std::rt::Files;
 
-/// Which server of which chain runs, and where it listens, in one line.
-pub(crate) fn tell_server<X: Sink>(settings: &ServerSettings, errors: &mut X) {
+/// Which server of which chain runs, where it listens, and its limits, in one line.
+pub(crate) fn tell_server<R: Files, X: Sink>(rt: &R, settings: &ServerSettings, errors: &mut X) {
     let numbers = settings.numbers;
     if numbers.quiet {
         return;
@@ -29,10 +31,11 @@ pub(crate) fn tell_server<X: Sink>(settings: &ServerSettings, errors: &mut X) {
     write(errors, " port ");
     write_number(errors, port_of(numbers.peer_port, numbers.id));
     write_seats(errors, numbers.seats);
+    write_memory(errors, numbers.memory, machine_memory(rt));
 }
 
-/// How many servers run in one process, and where they listen, in one line.
-pub(crate) fn tell_cluster<X: Sink>(numbers: Numbers, errors: &mut X) {
+/// How many servers run in one process, where they listen, and their limits, in one line.
+pub(crate) fn tell_cluster<R: Files, X: Sink>(rt: &R, numbers: Numbers, errors: &mut X) {
     if numbers.quiet {
         return;
     }
@@ -46,13 +49,28 @@ pub(crate) fn tell_cluster<X: Sink>(numbers: Numbers, errors: &mut X) {
     let last = numbers.servers.saturating_sub(1);
     write_number(errors, port_of(numbers.port, last));
     write_seats(errors, numbers.seats);
+    write_memory(errors, numbers.memory, machine_memory(rt));
 }
 
-// The end of the line.
 fn write_seats<X: Sink>(errors: &mut X, seats: u8) {
     write(errors, "; ");
     write_number(errors, u16::from(seats));
-    write(errors, " connections at a time at each server\n");
+    write(errors, " connections at a time at each server");
+}
+
+// The end of the line: the limit of memory, and how much the machine has, in MiB.
+fn write_memory<X: Sink>(errors: &mut X, limit: Option<u32>, machine: Option<u64>) {
+    write(errors, "; memory limit: ");
+    match limit {
+        Some(limit) => write_mebibytes(errors, u64::from(limit)),
+        None => write(errors, "none"),
+    }
+    if let Some(machine) = machine {
+        write(errors, " (the machine has ");
+        write_mebibytes(errors, machine);
+        write(errors, ")");
+    }
+    write(errors, "\n");
 }
 
 fn write<X: Sink>(errors: &mut X, text: &str) {
@@ -62,4 +80,10 @@ fn write<X: Sink>(errors: &mut X, text: &str) {
 fn write_number<X: Sink>(errors: &mut X, number: u16) {
     let mut digits = Buffer::new();
     write(errors, digits.format(number));
+}
+
+fn write_mebibytes<X: Sink>(errors: &mut X, number: u64) {
+    let mut digits = Buffer::new();
+    write(errors, digits.format(number));
+    write(errors, " MiB");
 }

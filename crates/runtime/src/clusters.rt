@@ -8,6 +8,7 @@ use crate::offices::{Office, start_watching};
 use crate::sides::{Side, all_links, all_servers, all_sides, helping_callers};
 use command_line::Numbers;
 use node::{Master, SERVERS};
+use seats::Allowance;
 use std::alloc::Global;
 use std::net::{Ipv4Addr, Net, TcpListener, TcpStream};
 use std::sync::{Arc, Wait};
@@ -45,7 +46,8 @@ impl<R: Wait + Copy + Drop + Send + 'static> Cluster<R> {
         let listeners = all_listeners(&rt, alloc, numbers)?;
         let mut servers = all_servers(rt, alloc, numbers)?;
         let links = all_links(rt, alloc, count, &mut servers)?;
-        let (hall, sides) = all_sides(alloc, servers, links)?;
+        let allowance = Allowance::new(numbers.memory, count);
+        let (hall, sides) = all_sides(alloc, allowance, servers, links)?;
         let hall = Arc::new(alloc, hall)?;
         let mut crew = Crew::new(alloc);
         let homes = crew.start_all(rt, &hall, listeners, sides, numbers.serves)?;
@@ -135,9 +137,13 @@ impl Crew {
         side: Side,
         serves: u64,
     ) -> Result<Home, ClusterFault> {
-        let Side { stands, home } = side;
+        let Side {
+            stands,
+            home,
+            gauge,
+        } = side;
         self.workers.push(start_attendant(rt, hall, id)?)?;
-        let callers = helping_callers(self.alloc, stands, &home.failed, hall, id)?;
+        let callers = helping_callers(self.alloc, stands, &home.failed, &gauge, hall, id)?;
         for seat in serve_seats(rt, self.alloc, listener, callers, serves, &home.failed)? {
             self.seats.push(seat)?;
         }

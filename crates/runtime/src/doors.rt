@@ -1,7 +1,7 @@
 //! Doors: threads that accept connections, and serve each whole before the next.
 
-use crate::keepalive::keep_alive;
 use ends::{TrackedReader, TrackedWriter};
+use masters::keep_alive;
 use seats::Mark;
 use serving::{Caller, ServeFault, serve_stream};
 use std::alloc::Global;

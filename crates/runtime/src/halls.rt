@@ -3,7 +3,7 @@
 
 use crate::alarms::Alarm;
 use rail::{RailFault, Turn, Worker};
-use seats::{InProcessLinks, Mark, ServerSet};
+use seats::{Gauge, InProcessLinks, Mark, ServerSet};
 use std::alloc::{AllocError, Global};
 use std::sync::atomic::{AtomicBool, Ordering};
 use std::sync::{Mutex, Wait};
@@ -26,6 +26,8 @@ struct Station<R: Wait + Drop> {
     // Whether no more turns are taken.
     ended: AtomicBool,
     stopped: Mark,
+    // Whether its items may take more memory.
+    gauge: Gauge,
     // Where the worker's own thread sleeps.
     bell: Parker,
 }
@@ -55,6 +57,7 @@ impl<R: Wait + Drop> Station<R> {
         if self.turn(&mut *bench, alarm) {
             self.due.store(true, Ordering::SeqCst);
         }
+        self.gauge.note(bench.worker.weight());
         Some(bench.links.take_reached())
     }
 
@@ -104,18 +107,20 @@ impl<R: Wait + Drop> Hall<R> {
     }
 
     /// Adds the worker of the next server, with its links. The mark is set as soon as the server is stopped, or out of
-    /// memory, or nobody is left who could send it anything.
+    /// memory, or nobody is left who could send it anything. After each turn the gauge is told what the server holds.
     pub(crate) fn add(
         &mut self,
         worker: Worker<R>,
         links: InProcessLinks<R>,
         stopped: Mark,
+        gauge: Gauge,
     ) -> Result<(), AllocError> {
         let station = Station {
             bench: Mutex::new(Bench { worker, links }),
             due: AtomicBool::new(false),
             ended: AtomicBool::new(false),
             stopped,
+            gauge,
             bell: Parker::new(),
         };
         match self.stations.push(station) {

@@ -1,11 +1,10 @@
 //! The connections that a server opens to the others of its chain.
 
 use crate::cuts::Connections;
-use crate::greetings::{Channel, Greeted, PeerSink, reach};
 use crate::server_faults::ServerFault;
-use crate::settings::{ServerSettings, port_of};
 use crate::told_sinks::ToldSink;
 use links::{Lobby, PeerLink};
+use masters::{Channel, Greeted, PeerSink, ServerSettings, port_of, reach};
 use std::alloc::Global;
 use std::net::{Net, TcpListener, TcpStream};
 use std::sync::Wait;

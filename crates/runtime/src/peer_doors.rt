@@ -3,13 +3,13 @@
 use crate::arrivals::Arrivals;
 use crate::cuts::Connections;
 use crate::greeters::Greeter;
-use crate::keepalive::keep_alive;
 use crate::link_lines::{tell_from, tell_master, tell_old};
 use crate::refusals::Refusals;
 use crate::strangers::{Greeting, Strangers, read_greeting};
 use crate::told_guests::{Name, ToldGuest};
 use ends::{TrackedReader, TrackedWriter};
 use links::{Guest, Lobby, Speaker};
+use masters::keep_alive;
 use peers::{LinkFault, serve_peer};
 use std::alloc::{AllocError, Global};
 use std::net::{TcpListener, TcpStream};

@@ -2,10 +2,10 @@
 
 use crate::cluster_faults::ClusterFault;
 use crate::link_lines::words_of;
-use crate::settings::{ServerSettings, port_of};
 use command_line::{FAILED, GONE, MEMORY};
 use ends::{Sink, write_all};
 use itoa::Buffer;
+use masters::{ServerSettings, port_of};
 use serving::ServeFault;
 use std::alloc::{AllocError, AllocFailed};
 use thiserror::Error;

@@ -6,15 +6,16 @@ use crate::doors::serve_seats;
 use crate::meetings::{connected, new_lobby};
 use crate::outgoing::LinkSink;
 use crate::server_faults::{ServerFault, tell};
-use crate::settings::{ServerSettings, port_of};
 use crate::sides::{all_callers, idle_node};
 use ends::{Sink, write_all};
 use links::{Lobby, PeerLinks};
+use masters::{ServerSettings, port_of};
 use node::SERVERS;
 use rail::{RailFault, Server, Stand, Turn, Worker, open};
-use seats::Mark;
+use seats::{Allowance, Gauge, Mark};
 use std::alloc::Global;
 use std::net::{Net, SocketAddr, TcpListener, TcpStream};
+use std::rt::Files;
 use std::sync::{Arc, Wait};
 use std::thread::Threads;
 use std::time::Clock;
@@ -29,6 +30,7 @@ pub fn server<
         + Threads
         + Clock
         + Eprint
+        + Files
         + Net<Listener = TcpListener, Stream = TcpStream>
         + Copy
         + Drop
@@ -53,6 +55,7 @@ struct Running<R: Wait + Eprint + Drop> {
     clients: TcpListener,
     stands: Vec<Stand>,
     failed: Mark,
+    gauge: Gauge,
 }
 
 // The ports of a server.
@@ -72,17 +75,18 @@ impl<R: Wait + Eprint + Copy + Drop + Send + 'static> Running<R> {
         errors: &mut X,
     ) -> Result<Running<R>, ServerFault>
     where
-        R: Threads + Clock + Net<Listener = TcpListener, Stream = TcpStream>,
+        R: Threads + Clock + Files + Net<Listener = TcpListener, Stream = TcpStream>,
     {
         let Ports { clients, peers } = Ports::open(&rt, settings)?;
         warn(&peers, errors);
-        tell_server(settings, errors);
+        tell_server(&rt, settings, errors);
         let Server {
             worker,
             stands,
             inlets,
         } = idle_server(rt, alloc, settings)?;
         let failed = Mark::new(alloc)?;
+        let gauge = Gauge::new(alloc, Allowance::new(settings.numbers.memory, 1))?;
         let lobby = new_lobby(&rt, alloc, settings, inlets, &failed)?;
         let links = connected(rt, alloc, settings, &lobby, peers)?;
         Ok(Running {
@@ -92,6 +96,7 @@ impl<R: Wait + Eprint + Copy + Drop + Send + 'static> Running<R> {
             clients,
             stands,
             failed,
+            gauge,
         })
     }
 
@@ -107,9 +112,10 @@ impl<R: Wait + Eprint + Copy + Drop + Send + 'static> Running<R> {
             clients,
             stands,
             failed,
+            gauge,
         } = self;
-        let fault = match serve_clients(rt, alloc, &clients, stands, &failed, output) {
-            Ok(()) => take_turns(&rt, worker, &mut links, lobby.cuts()),
+        let fault = match serve_clients(rt, alloc, &clients, stands, &failed, &gauge, output) {
+            Ok(()) => take_turns(&rt, worker, &mut links, lobby.cuts(), &gauge),
             Err(fault) => fault,
         };
         failed.set();
@@ -124,9 +130,10 @@ fn serve_clients<R: Wait + Threads + Copy + Drop + Send + 'static, W: Sink>(
     clients: &TcpListener,
     stands: Vec<Stand>,
     failed: &Mark,
+    gauge: &Gauge,
     output: &mut W,
 ) -> Result<(), ServerFault> {
-    let callers = all_callers(alloc, stands, failed)?;
+    let callers = all_callers(alloc, stands, failed, gauge)?;
     if write_all(output, b"ready\n").is_err() {
         return Err(ServerFault::Run);
     }
@@ -134,16 +141,19 @@ fn serve_clients<R: Wait + Threads + Copy + Drop + Send + 'static, W: Sink>(
     Ok(())
 }
 
-// Takes turns until the worker stops or the server was called gone, and answers why.
+// Takes turns until the worker stops or the server was called gone, and answers why. After each the gauge is told what
+// the server holds.
 fn take_turns<R: Wait + Eprint + Drop>(
     rt: &R,
     worker: Worker<R>,
     links: &mut PeerLinks<LinkSink<R>>,
     connections: &Connections,
+    gauge: &Gauge,
 ) -> ServerFault {
     let mut worker = worker;
     for _ in rt.forever() {
         let turn = worker.turn(links);
+        gauge.note(worker.weight());
         if connections.has_ended() {
             return ServerFault::Gone;
         }

@@ -10,7 +10,7 @@ use crate::working::work;
 use command_line::Numbers;
 use node::Node;
 use rail::{Server, Stand, Worker, open};
-use seats::{Alone, InProcessLinks, Link, Mark, SeatCaller};
+use seats::{Allowance, Alone, Gauge, InProcessLinks, Link, Mark, SeatCaller};
 use std::alloc::Global;
 use std::sync::{Arc, Wait};
 use std::thread;
@@ -23,6 +23,8 @@ pub struct Side {
     pub stands: Vec<Stand>,
     /// What the program's own thread sees of it.
     pub home: Home,
+    /// Whether its items may take more memory.
+    pub gauge: Gauge,
 }
 
 /// The servers, with a stand for each seat, and an inlet for each other server and for the program's own thread.
@@ -79,9 +81,10 @@ pub fn all_links<R: Wait + Copy + Drop>(
     Ok(all)
 }
 
-/// The hall of all workers, and what each server has beside its own.
+/// The hall of all workers, and what each server has beside its own. The items of each may take as much memory.
 pub fn all_sides<R: Wait + Drop>(
     alloc: Global,
+    allowance: Allowance,
     servers: Vec<Server<R>>,
     links: Vec<InProcessLinks<R>>,
 ) -> Result<(Hall<R>, Vec<Side>), ClusterFault> {
@@ -99,9 +102,14 @@ pub fn all_sides<R: Wait + Drop>(
         };
         let failed = Mark::new(alloc)?;
         let stopped = Mark::new(alloc)?;
-        hall.add(worker, links, stopped.share()?)?;
+        let gauge = Gauge::new(alloc, allowance)?;
+        hall.add(worker, links, stopped.share()?, gauge.share()?)?;
         let home = Home::new(inlet, failed, stopped);
-        sides.push(Side { stands, home })?;
+        sides.push(Side {
+            stands,
+            home,
+            gauge,
+        })?;
     }
     Ok((hall, sides))
 }
@@ -129,13 +137,14 @@ pub fn helping_callers<R: Wait + Drop>(
     alloc: Global,
     stands: Vec<Stand>,
     failed: &Mark,
+    gauge: &Gauge,
     hall: &Arc<Hall<R>, Global>,
     id: u8,
 ) -> Result<Vec<SeatCaller<Hand<R>>>, ClusterFault> {
     let mut callers = Vec::new(alloc);
     for stand in stands {
         let hand = Hand::new(hall, id)?;
-        callers.push(SeatCaller::new(stand, failed.share()?, hand))?;
+        callers.push(SeatCaller::new(stand, failed.share()?, hand, gauge.share()?))?;
     }
     Ok(callers)
 }
@@ -145,10 +154,11 @@ pub fn all_callers(
     alloc: Global,
     stands: Vec<Stand>,
     failed: &Mark,
+    gauge: &Gauge,
 ) -> Result<Vec<SeatCaller<Alone>>, ClusterFault> {
     let mut callers = Vec::new(alloc);
     for stand in stands {
-        callers.push(SeatCaller::new(stand, failed.share()?, Alone))?;
+        callers.push(SeatCaller::new(stand, failed.share()?, Alone, gauge.share()?))?;
     }
     Ok(callers)
 }

@@ -1,15 +1,15 @@
 //! The command `cluster`: runs a chain, and fails the servers that its input names.
 
-use crate::answers::Answers;
 use crate::banners::tell_cluster;
 use crate::cluster_faults::ClusterFault;
 use crate::clusters::Cluster;
 use crate::homes::StopFault;
-use crate::input_lines::{empty_line, next_line, server_named};
 use command_line::{DONE, Numbers};
 use ends::{Sink, Source, write_all};
+use masters::{Answers, empty_line, next_line, server_named};
 use std::alloc::Global;
 use std::net::{Net, TcpListener, TcpStream};
+use std::rt::Files;
 use std::sync::Wait;
 use std::thread::Threads;
 use std::time::Clock;
@@ -27,6 +27,7 @@ pub fn cluster<
         + Threads
         + Clock
         + Eprint
+        + Files
         + Net<Listener = TcpListener, Stream = TcpStream>
         + Copy
         + Drop
@@ -51,6 +52,7 @@ fn steer<
         + Threads
         + Clock
         + Eprint
+        + Files
         + Net<Listener = TcpListener, Stream = TcpStream>
         + Copy
         + Drop
@@ -70,7 +72,7 @@ fn steer<
     let mut line = empty_line(alloc)?;
     let mut answers = Answers::new(alloc)?;
     let cluster = Cluster::open(rt, alloc, numbers)?;
-    tell_cluster(numbers, errors);
+    tell_cluster(&rt, numbers, errors);
     if write_all(output, b"ready\n").is_err() {
         return Err(ClusterFault::Run);
     }

@@ -1,6 +1,6 @@
 //! Connections to the peer port that haven't greeted: how long they may take, and how many there are.
 
-use crate::short_frames::{Deadline, Heard, next_frame};
+use masters::{Deadline, Heard, next_frame};
 use std::alloc::{AllocError, Global};
 use std::net::{Shutdown, TcpStream};
 use std::sync::{Arc, Mutex, Wait};

@@ -12,6 +12,7 @@ ghost use Rattle.faces.specs.Outputs.{PutsOut};
 ghost use Rattle.rail.specs.Seats.{with_reply};
 ghost use Rattle.seats.specs.SeatCallers.{IsSeen, IsSubmitted, ShowsClean};
 
+use crate::gauges::Gauge;
 use crate::helpers::Helper;
 use crate::marks::Mark;
 use ends::Failures;
@@ -38,13 +39,15 @@ pub struct SeatCaller<H> {
     pub failures: Failures,
     // Set as soon as the server fails.
     mark: Mark,
+    // Whether the server's items may take more memory.
+    gauge: Gauge,
     helper: H,
     ghost together: { seat.origin ≡ reader.origin } by { Prim.hlevel (codes, coded_items, book_coded) },
 }
 
 impl<H: Helper> SeatCaller<H> {
-    /// A caller at this stand, whose server has this mark, with one who helps its workers.
-    pub fn new(stand: Stand, mark: Mark, helper: H) -> SeatCaller<H>
+    /// A caller at this stand, whose server has this mark and this gauge, with one who helps its workers.
+    pub fn new(stand: Stand, mark: Mark, helper: H, gauge: Gauge) -> SeatCaller<H>
         ensures reader { result.reader ≡ stand.reader }
         ensures seat { result.seat ≡ stand.seat }
         ensures fresh { (result.lost ≡ false) × (result.failures ≡ 0) }
@@ -56,6 +59,7 @@ impl<H: Helper> SeatCaller<H> {
             lost: false,
             failures: Failures::new(),
             mark,
+            gauge,
             helper,
         }
     }
@@ -68,6 +72,10 @@ impl<H: Helper> Caller for SeatCaller<H> {
         IsSubmitted before.reader after.reader before.seat after.seat call reply) };
 
     ghost failures = { λ caller. caller.failures };
+
+    fn has_room(&self) -> bool {
+        self.gauge.has_room()
+    }
 
     fn call<R: Wait>(&mut self, rt: &R, target: Target, op: Op) -> Result<Reply, CallFault> {
         let call = Call { target, op };

@@ -3,11 +3,12 @@ use Rattle.std.proofs.Common.{◌≡◌, ℕ, List, [], ◌∷◌, ◌++◌, ref
 use Rattle.std.proofs.Common.{append_assoc, append-nil, Result, Ok, Err, IfErr}
 use Rattle.table.specs.declared.operations.Call.{Call}
 use Rattle.table.specs.declared.operations.Reply.{Reply}
-use Rattle.proto.specs.Streams.{texts, turns}
+use Rattle.proto.specs.Turns.{Outcome}
+use Rattle.proto.specs.Streams.{outcome_texts, turns}
 use Rattle.ends.specs.Ends.{WritesBeginning}
 use Rattle.serving.specs.declared.serving.End.{End}
-use Rattle.serving.specs.Serving.{AreAnswered, IsCut, IsServed, is_closed}
-use Rattle.serving.specs.Connections.{Connected, IsBegun, IsAnswered, HasReply, unused}
+use Rattle.serving.specs.Serving.{AreAnswered, CameTo, IsCut, IsServed, is_closed}
+use Rattle.serving.specs.Connections.{Connected, IsBegun, IsAnswered, HasOutcome, unused}
 
 -- what a source gave, with one piece more
 pub given_on : (before read piece now then : List ℕ) → now ≡ before ++ read → then ≡ now ++ piece
@@ -24,10 +25,10 @@ abbrev others : List Call → List Call
 others [] = []
 others (c ∷ cs) = cs
 
--- after the reply to the one call that waits none waits
-pub has_idle : (c d : Connected) (call : Call) (reply : Reply) → c.waiting ≡ call ∷ [] → HasReply reply c d
+-- once the one call that waits has come to something none waits
+pub has_idle : (c d : Connected) (call : Call) (outcome : Outcome) → c.waiting ≡ call ∷ [] → HasOutcome outcome c d
     → d.waiting ≡ []
-has_idle c d call reply waits has = ap (λ x. x.waiting) has.4 ∙ ap others (sym has.3 ∙ waits)
+has_idle c d call outcome waits has = ap (λ x. x.waiting) has.4 ∙ ap others (sym has.3 ∙ waits)
 
 -- what holds anyway holds of a fault
 pub by_fault : {T E Q : Type 0} (r : Result T E) → Q → IfErr r (λ _. Q)
@@ -35,19 +36,20 @@ by_fault (Ok value) q = tt
 by_fault (Err fault) q = q
 
 module _ {V : Type 0} (answers : V → Call → Reply → V → Type 0) where
-  -- one more call was answered
-  answered_more : (v u w : V) (cs : List Call) (rs : List Reply) (c : Call) (r : Reply) → AreAnswered answers v cs rs u
-      → answers u c r w
-      → AreAnswered answers v (cs ++ c ∷ []) (rs ++ r ∷ []) w
-  answered_more v u w [] [] c r so by = (w, subst (λ x. answers x c r w) so by, refl)
-  answered_more v u w [] (s ∷ rs) c r so by = absurd so
-  answered_more v u w (d ∷ cs) [] c r so by = absurd so
-  answered_more v u w (d ∷ cs) (s ∷ rs) c r so by = (so.0, so.1, answered_more so.0 u w cs rs c r so.2 by)
+  -- one more call came to this
+  answered_more : (v u w : V) (cs : List Call) (os : List Outcome) (c : Call) (o : Outcome)
+      → AreAnswered answers v cs os u
+      → CameTo answers u c o w
+      → AreAnswered answers v (cs ++ c ∷ []) (os ++ o ∷ []) w
+  answered_more v u w [] [] c o so by = (w, subst (λ x. CameTo answers x c o w) so by, refl)
+  answered_more v u w [] (p ∷ os) c o so by = absurd so
+  answered_more v u w (d ∷ cs) [] c o so by = absurd so
+  answered_more v u w (d ∷ cs) (p ∷ os) c o so by = (so.0, so.1, answered_more so.0 u w cs os c o so.2 by)
 
   module _ (first : V) (base : List ℕ) where
-    -- Of a connection: its calls were answered, and what it says was written was written.
+    -- Of a connection: its calls came to what it says, and what it says was written was written.
     pub record Stands (c : Connected) (sent : List ℕ) (now : V) : Type 0 where
-      pub calls : AreAnswered answers first c.calls c.replies now
+      pub calls : AreAnswered answers first c.calls c.outcomes now
       pub written : sent ≡ base ++ c.written
 
     -- nothing was read
@@ -55,25 +57,25 @@ module _ {V : Type 0} (answers : V → Call → Reply → V → Type 0) where
     stands_first c e =
         subst (λ d. Stands d base first) (sym e) (record { calls = refl; written = sym (append-nil base) })
 
-    -- its calls, replies and written bytes are the same
-    pub stands_same : (c d : Connected) (sent : List ℕ) (now : V) → d.calls ≡ c.calls → d.replies ≡ c.replies
+    -- its calls, what they came to and the written bytes are the same
+    pub stands_same : (c d : Connected) (sent : List ℕ) (now : V) → d.calls ≡ c.calls → d.outcomes ≡ c.outcomes
         → d.written ≡ c.written → Stands c sent now → Stands d sent now
-    stands_same c d sent now calls replies written s =
+    stands_same c d sent now calls outcomes written s =
         record {
-          calls = subst (λ cs. AreAnswered answers first cs d.replies now) (sym calls)
-              (subst (λ rs. AreAnswered answers first c.calls rs now) (sym replies) s.calls);
+          calls = subst (λ cs. AreAnswered answers first cs d.outcomes now) (sym calls)
+              (subst (λ os. AreAnswered answers first c.calls os now) (sym outcomes) s.calls);
           written = s.written ∙ ap (λ bytes. base ++ bytes) (sym written);
         }
 
-    -- a call was answered
-    pub stands_answered : (c d : Connected) (call : Call) (reply : Reply) (sent : List ℕ) (before now : V)
-        → c.waiting ≡ call ∷ [] → HasReply reply c d → answers before call reply now → Stands c sent before
+    -- a call came to this
+    pub stands_answered : (c d : Connected) (call : Call) (outcome : Outcome) (sent : List ℕ) (before now : V)
+        → c.waiting ≡ call ∷ [] → HasOutcome outcome c d → CameTo answers before call outcome now → Stands c sent before
         → Stands d sent now
-    stands_answered c d call reply sent before now waits has by s =
+    stands_answered c d call outcome sent before now waits has by s =
         let same : has.0 ≡ call = ap (λ cs. first_or call cs) (sym has.3 ∙ waits) in
         subst (λ x. Stands x sent now) (sym has.4) (record {
-          calls = answered_more first before now c.calls c.replies has.0 reply s.calls
-              (subst (λ x. answers before x reply now) (sym same) by);
+          calls = answered_more first before now c.calls c.outcomes has.0 outcome s.calls
+              (subst (λ x. CameTo answers before x outcome now) (sym same) by);
           written = s.written;
         })
 
@@ -92,11 +94,11 @@ module _ {V : Type 0} (answers : V → Call → Reply → V → Type 0) where
         → WritesBeginning sent after c.due → IsCut answers bytes base after first
     cut c bytes sent after now s b (front, rest, split, e) =
         record {
-          replies = c.replies;
+          outcomes = c.outcomes;
           last = now;
           front = c.written ++ front;
           rest = rest ++ b.rest;
-          calls = subst (λ cs. AreAnswered answers first cs c.replies now) b.calls s.calls;
+          calls = subst (λ cs. AreAnswered answers first cs c.outcomes now) b.calls s.calls;
           written = e ∙ (ap (λ out. out ++ front) s.written ∙ append_assoc base c.written front);
           due = sym b.output
               ∙ (ap (λ out. (c.written ++ out) ++ b.rest) split
@@ -123,22 +125,22 @@ module _ {V : Type 0} (answers : V → Call → Reply → V → Type 0) where
     -- nothing was read, and nothing is done
     pub cut_at_first : IsCut answers [] base base first
     cut_at_first = record {
-      replies = [];
+      outcomes = [];
       last = first;
       front = [];
-      rest = texts (turns []) [];
+      rest = outcome_texts (turns []) [];
       calls = refl;
       written = sym (append-nil base);
       due = refl;
     }
 
-    -- all is answered and written: all is served
+    -- all is answered or refused, and written: all is served
     pub served : (end : End) (c : Connected) (sent : List ℕ) (now : V) → Stands c sent now
         → IsAnswered (is_closed end) c → c.due ≡ [] → IsServed answers end c.read base sent first now
     served end c sent now s a out =
         record {
-          replies = c.replies;
-          calls = subst (λ cs. AreAnswered answers first cs c.replies now) a.calls s.calls;
+          outcomes = c.outcomes;
+          calls = subst (λ cs. AreAnswered answers first cs c.outcomes now) a.calls s.calls;
           written = s.written ∙ ap (λ bytes. base ++ bytes)
               (sym (append-nil c.written) ∙ (ap (λ bytes. c.written ++ bytes) (sym out) ∙ a.output));
           closed = sym a.ends;

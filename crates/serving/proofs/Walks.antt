@@ -1,4 +1,4 @@
--- A step that the walks of `src/replies.rt` share: a struct without fields is made. Assumes `Logic`.
+-- A step that the walks of `src/outcomes.rt` share: a struct without fields is made. Assumes `Logic`.
 use Rattle.std.proofs.Common.{List, [], ◌∷◌, refl}
 use seplogic.Ra.Ura.{Ura}
 use mir.Val.{Val, vstruct, vnil}

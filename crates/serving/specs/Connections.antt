@@ -1,21 +1,21 @@
 -- Connections: what has come of a client's connection, as those who drive it see it.
-use Rattle.std.specs.Prelude.{◌≡◌, ℕ, Bool, false, not, List, [], ◌∷◌, ◌++◌, length, take, drop, Option, None}
+use Rattle.std.specs.Prelude.{◌≡◌, ℕ, Bool, true, false, not, List, [], ◌∷◌, ◌++◌, length, take, drop, Option, None}
 use Rattle.table.specs.Operations.{is_update, is_value}
 use Rattle.table.specs.declared.operations.Call.{Call}
 use Rattle.table.specs.declared.operations.Reply.{Reply}
 use Rattle.proto.specs.declared.texts.Form.{Form}
-use Rattle.proto.specs.Turns.{Turn, calls_of}
+use Rattle.proto.specs.Turns.{Turn, Outcome, calls_of, is_store}
 use Rattle.proto.specs.Sessions.{Held, IsFormOf}
-use Rattle.proto.specs.Streams.{ends, texts, turns}
+use Rattle.proto.specs.Streams.{ends, outcome_texts, turns}
 use Rattle.proto.specs.Runs.{IsRun, open_calls}
 
--- What has come of a connection: the bytes that were read; the calls that have their replies, and these, in order; the
--- calls that wait for theirs; the output that is due, and what was written before it; whether the client has closed it,
--- whether its input has ended, and whether memory was refused to it.
+-- What has come of a connection: the bytes that were read; the calls that have their replies or were refused, and
+-- what each came to, in order; the calls that wait; the output that is due, and what was written before it; whether the
+-- client has closed it, whether its input has ended, and whether memory was refused to it.
 pub record Connected : Type 0 where
   pub read : List ℕ
   pub calls : List Call
-  pub replies : List Reply
+  pub outcomes : List Outcome
   pub waiting : List Call
   pub due : List ℕ
   pub written : List ℕ
@@ -29,7 +29,7 @@ unused =
     record {
       read = [];
       calls = [];
-      replies = [];
+      outcomes = [];
       waiting = [];
       due = [];
       written = [];
@@ -38,30 +38,31 @@ unused =
       failed = false;
     }
 
--- The calls are the first ones of these bytes, each with its reply, and those that wait are the next. What was written,
--- and then what is due, is a beginning of the texts of their turns.
+-- The calls are the first ones of these bytes, each with what it came to, and those that wait are the next. What was
+-- written, and then what is due, is a beginning of the texts of their turns.
 pub record IsBegun (c : Connected) (bytes : List ℕ) : Type 0 where
   pub rest : List ℕ
-  pub answered : length c.calls ≡ length c.replies
-  pub calls : c.calls ≡ take (length c.replies) (calls_of (turns bytes))
-  pub waiting : c.waiting ≡ take (length c.waiting) (drop (length c.replies) (calls_of (turns bytes)))
-  pub output : (c.written ++ c.due) ++ rest ≡ texts (turns bytes) c.replies
+  pub answered : length c.calls ≡ length c.outcomes
+  pub calls : c.calls ≡ take (length c.outcomes) (calls_of (turns bytes))
+  pub waiting : c.waiting ≡ take (length c.waiting) (drop (length c.outcomes) (calls_of (turns bytes)))
+  pub output : (c.written ++ c.due) ++ rest ≡ outcome_texts (turns bytes) c.outcomes
 
--- All calls of the bytes that were read have their replies, and all of their texts is written or due; the client has
--- closed the connection, or not, and so these bytes say.
+-- All calls of the bytes that were read have their replies or were refused, and all of their texts is written or due;
+-- the client has closed the connection, or not, and so these bytes say.
 pub record IsAnswered (shut : Bool) (c : Connected) : Type 0 where
   pub waiting : c.waiting ≡ []
   pub calls : c.calls ≡ calls_of (turns c.read)
-  pub output : c.written ++ c.due ≡ texts (turns c.read) c.replies
+  pub output : c.written ++ c.due ≡ outcome_texts (turns c.read) c.outcomes
   pub closed : c.closed ≡ shut
   pub ends : ends c.read ≡ shut
 
--- It was asked what it wants: nothing was read or written, no call got a reply, and lines may have become due.
+-- It was asked what it wants: nothing was read or written, no call got a reply or was refused, and lines may have
+-- become due.
 pub record IsLooked (c d : Connected) : Type 0 where
   pub lines : List ℕ
   pub read : d.read ≡ c.read
   pub calls : d.calls ≡ c.calls
-  pub replies : d.replies ≡ c.replies
+  pub outcomes : d.outcomes ≡ c.outcomes
   pub due : d.due ≡ c.due ++ lines
   pub written : d.written ≡ c.written
   pub ended : d.ended ≡ c.ended
@@ -71,25 +72,30 @@ abbrev pub MayHave : List Call → Reply → Type 0
 MayHave [] reply = ⊥
 MayHave (call ∷ later) reply = is_value reply ≡ not (is_update call.op)
 
--- The call that waits longest has this reply, and its text is due.
-abbrev pub HasReply : Reply → Connected → Connected → Type 0
-HasReply reply c d =
+-- the call that waits longest may be refused: it stores
+abbrev pub MayRefuse : List Call → Type 0
+MayRefuse [] = ⊥
+MayRefuse (call ∷ later) = is_store call.op ≡ true
+
+-- The call that waits longest came to this, and its text is due.
+abbrev pub HasOutcome : Outcome → Connected → Connected → Type 0
+HasOutcome outcome c d =
     (call : Call) × (later : List Call) × (text : List ℕ) × (c.waiting ≡ call ∷ later)
     × (d ≡ record c {
       calls = c.calls ++ call ∷ [];
-      replies = c.replies ++ reply ∷ [];
+      outcomes = c.outcomes ++ outcome ∷ [];
       waiting = later;
       due = c.due ++ text;
     })
 
--- what a session, with the bytes that were read, the replies and what was written, comes to
-abbrev pub reached : List ℕ → List Reply → List ℕ → Held → Bool → Bool → Connected
-reached read replies written held ended failed =
+-- what a session comes to, with the bytes that were read, what its calls came to and what was written
+abbrev pub reached : List ℕ → List Outcome → List ℕ → Held → Bool → Bool → Connected
+reached read outcomes written held ended failed =
     record {
       read = read;
-      calls = take (length replies) (calls_of (turns read));
-      replies = replies;
-      waiting = take (open_calls held.asked) (drop (length replies) (calls_of (turns read)));
+      calls = take (length outcomes) (calls_of (turns read));
+      outcomes = outcomes;
+      waiting = take (open_calls held.asked) (drop (length outcomes) (calls_of (turns read)));
       due = held.out;
       written = written;
       closed = held.closed;
@@ -103,7 +109,7 @@ IsAsked [] asked = asked ≡ None
 IsAsked (call ∷ later) asked = IsFormOf call.op asked
 
 -- A run of the session has come to this.
-pub record IsReached (read : List ℕ) (replies : List Reply) (written : List ℕ) (held : Held) : Type 0 where
+pub record IsReached (read : List ℕ) (outcomes : List Outcome) (written : List ℕ) (held : Held) : Type 0 where
   pub given : List Turn
-  pub is_run : IsRun (record { stream = read; given = given; replies = replies; taken = written; held = held })
-  pub asked : IsAsked (take (open_calls held.asked) (drop (length replies) (calls_of (turns read)))) held.asked
+  pub is_run : IsRun (record { stream = read; given = given; outcomes = outcomes; taken = written; held = held })
+  pub asked : IsAsked (take (open_calls held.asked) (drop (length outcomes) (calls_of (turns read)))) held.asked

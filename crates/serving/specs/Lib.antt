@@ -1,4 +1,4 @@
 pub mod Serving
-pub mod Replied
+pub mod Codes
 pub mod Connections
 pub mod Wanted

@@ -1,6 +1,7 @@
 //! Who answers calls.
 ghost use Rattle.std.specs.Prelude.{◌≡◌, ℕ, ◌+◌, not, IfOk, MatchResult};
 ghost use Rattle.table.specs.Operations.{Fits, Suits, is_update, is_value};
+ghost use Rattle.proto.specs.Turns.{is_store};
 
 use std::sync::Wait;
 use table::{Op, Reply, Target};
@@ -32,4 +33,18 @@ pub trait Caller {
         ensures counted { MatchResult result
             (λ _. failures self.new ≡ failures self.old)
             (λ _. failures self.new ≡ failures self.old + 1) };
+
+    /// Whether a call that stores may be made. If not, it is refused, and nothing is called.
+    fn has_room(&self) -> bool;
+}
+
+/// Whether an operation stores the data that comes with it. Only such a call is refused if its caller has no room.
+pub fn stores(op: &Op) -> bool
+    ensures { result ≡ is_store op.now }
+{
+    match op {
+        Op::Set(_, _) | Op::Add(_, _) | Op::Replace(_, _) => true,
+        Op::Append(_) | Op::Prepend(_) | Op::Cas(_, _, _) => true,
+        Op::Read | Op::Incr(_) | Op::Decr(_) | Op::Delete | Op::Flush => false,
+    }
 }

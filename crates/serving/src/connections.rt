@@ -2,7 +2,7 @@
 ghost use Rattle.std.specs.Prelude.{◌≡◌, ◌∷◌, [], length};
 ghost use Rattle.table.specs.declared.operations.Reply.{Reply};
 
-use crate::replies::Replies;
+use crate::outcomes::Outcomes;
 use crate::serving::End;
 use ends::Passed;
 use proto::{Session, Step};
@@ -27,14 +27,15 @@ pub enum Wants {
 pub const OUTPUT: usize = 65_536;
 
 /// One client's connection. It is fed with what was read, says what it wants next, is handed the replies to its calls
-/// and told how much of its output was written. It reads, writes, calls and waits for nothing by itself. After a
-/// refusal for memory it makes no further call, and takes no further input; what is due may still be written.
+/// or told to refuse one, and told how much of its output was written. It reads, writes, calls and waits for nothing
+/// by itself. After a refusal for memory it makes no further call, and takes no further input; what is due may still be
+/// written.
 #[derive(Drop)]
 pub struct Connection {
     session: Session,
-    // What was read, the replies, and what was written, for contracts alone.
+    // What was read, what the calls came to, and what was written, for contracts alone.
     read: Passed,
-    replies: Replies,
+    outcomes: Outcomes,
     written: Passed,
     ended: bool,
     failed: bool,
@@ -45,17 +46,19 @@ impl Model for Connection {
 
     ghost Value = { Connected };
 
-    ghost view = { λ c. reached c.read c.replies.all c.written c.session c.ended c.failed };
+    ghost view = { λ c. reached c.read c.outcomes.all c.written c.session c.ended c.failed };
 
-    ghost invariant = { λ c. IsReached c.read c.replies.all c.written c.session };
+    ghost invariant = { λ c. IsReached c.read c.outcomes.all c.written c.session };
 }
 
 impl Connection {
     ghost use Rattle.std.specs.Prelude.{◌≡◌, ◌≤◌, ◌++◌, ℕ, List, [], false, true, take, drop, length};
     ghost use Rattle.std.specs.Prelude.{IsOk, IsErr, IfOk, OnOk, OnErr, MatchResult};
-    ghost use Rattle.serving.specs.Connections.{unused, IsAnswered, IsBegun, IsLooked, HasReply, MayHave};
+    ghost use Rattle.serving.specs.Connections.{unused, IsAnswered, IsBegun, IsLooked, HasOutcome, MayHave};
+    ghost use Rattle.serving.specs.Connections.{MayRefuse};
     ghost use Rattle.serving.specs.Wanted.{IsWanted, HasStepped};
     ghost use Rattle.serving.specs.Serving.{is_closed};
+    ghost use Rattle.proto.specs.Turns.{Refused, Replied};
 
     /// A connection of which nothing was read. It allocates nothing.
     pub fn new(alloc: Global) -> Connection
@@ -64,15 +67,16 @@ impl Connection {
         Connection {
             session: Session::new(alloc),
             read: Passed::new(),
-            replies: Replies::new(),
+            outcomes: Outcomes::new(),
             written: Passed::new(),
             ended: false,
             failed: false,
         }
     }
 
-    /// Whatever was done: the calls are the first ones of the bytes that were read, each with its reply, and what was
-    /// written, with what is due, is a beginning of what is due for them; and so it stays, whatever bytes may follow.
+    /// Whatever was done: the calls are the first ones of the bytes that were read, each with what it came to, and what
+    /// was written, with what is due, is a beginning of what is due for them; and so it stays, whatever bytes may
+    /// follow.
     pub fn so_far(&self)
         ensures begun { (more : List ℕ) → IsBegun self.now (self.now.read ++ more) }
     {
@@ -113,8 +117,8 @@ impl Connection {
         self.ended = true;
     }
 
-    /// What it wants next: the call that it hands out waits from now on, until it is answered. Refused if memory is
-    /// out, and from then on always.
+    /// What it wants next: the call that it hands out waits from now on, until it is answered or refused. An error if
+    /// memory is out, and from then on always.
     pub fn next(&mut self) -> Result<Wants, AllocError>
         requires idle { self.old.waiting ≡ [] }
         ensures looked { IsLooked self.old self.new }
@@ -140,16 +144,35 @@ impl Connection {
         }
     }
 
-    /// Answers the call that waits longest, by an item, or none, exactly if it is a read. Its text is due then. Refused
-    /// if memory is out; the call still waits then.
+    /// Answers the call that waits longest, by an item, or none, exactly if it is a read. Its text is due then. An
+    /// error if memory is out; the call still waits then.
     pub fn answer(&mut self, reply: &Reply) -> Result<(), AllocError>
         requires may_have { MayHave self.old.waiting reply.now }
-        ensures ok { OnOk result (HasReply reply.now self.old self.new) }
+        ensures ok { OnOk result (HasOutcome (Replied reply.now) self.old self.new) }
         ensures err { OnErr result (self.new ≡ record self.old { failed = true }) }
     {
         match self.session.answer(reply) {
             Ok(()) => {
-                self.replies = self.replies.then(reply);
+                self.outcomes = self.outcomes.then(reply);
+                Ok(())
+            }
+            Err(_) => {
+                self.failed = true;
+                Err(AllocError)
+            }
+        }
+    }
+
+    /// Refuses the call that waits longest, one that stores: it is not to be made. The line that says so is due then,
+    /// or nothing if it is silent. An error if memory is out; the call still waits then.
+    pub fn refuse(&mut self) -> Result<(), AllocError>
+        requires may_refuse { MayRefuse self.old.waiting }
+        ensures ok { OnOk result (HasOutcome Refused self.old self.new) }
+        ensures err { OnErr result (self.new ≡ record self.old { failed = true }) }
+    {
+        match self.session.refuse() {
+            Ok(()) => {
+                self.outcomes = self.outcomes.then_refused();
                 Ok(())
             }
             Err(_) => {

@@ -3,10 +3,10 @@
 
 mod callers;
 mod connections;
-mod replies;
+mod outcomes;
 mod serving;
 mod talks;
 
-pub use callers::{CallFault, Caller};
+pub use callers::{CallFault, Caller, stores};
 pub use connections::{Connection, OUTPUT, Wants};
 pub use serving::{End, ServeFault, serve_stream};

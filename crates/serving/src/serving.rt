@@ -52,7 +52,8 @@ impl From<AllocError> for ServeFault {
 const PIECE: usize = 65_536;
 
 /// Serves a connection until its input ends, or it closes: reads, makes the calls of what was read, one after another,
-/// and writes what is due. Each read of up to 64 KiB is answered by one write, or by one for each 64 KiB of output.
+/// and writes what is due. A call that stores is refused while the caller has no room, and isn't made then. Each read
+/// of up to 64 KiB is answered by one write, or by one for each 64 KiB of output.
 /// It never waits for input while output stands. After a fault a beginning of what is due was written.
 /// It may wait: for input, for its output to be taken, and in a call.
 pub fn serve_stream<R: Wait, S: Source, W: Sink, C: Caller>(
@@ -62,12 +63,12 @@ pub fn serve_stream<R: Wait, S: Source, W: Sink, C: Caller>(
     sink: &mut W,
     caller: &mut C,
 ) -> Result<End, ServeFault>
-    // All that was read is answered, however it was cut, and the end is that of these bytes.
+    // All that was read is answered, or refused, however it was cut, and the end is that of these bytes.
     ensures served { IfOk result (λ end. (read : List ℕ) × (S.given source.new ≡ S.given source.old ++ read) ×
         IsServed C.answers end read (W.written sink.old) (W.written sink.new) caller.old caller.new) }
     // The input has ended, if that is the answer.
     ensures ended { IfOk result (λ end. end ≡ End.Input → S.has_ended source.new ≡ true) }
-    // After a fault: a beginning of the text of what was read and answered.
+    // After a fault: a beginning of the text of what was read, and answered or refused.
     ensures cut { IfErr result (λ _. (read : List ℕ) × (S.given source.new ≡ S.given source.old ++ read) ×
         IsCut C.answers read (W.written sink.old) (W.written sink.new) caller.old) }
     // Each side's fault comes exactly if that side failed.

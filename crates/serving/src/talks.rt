@@ -1,20 +1,20 @@
 //! What a connection wants, done: its calls are made, its output is written, and its input is read.
 ghost use Rattle.std.specs.Prelude.{◌≡◌, ◌+◌, ◌++◌, ◌<◌, List, ℕ, [], false, true, length};
 ghost use Rattle.std.specs.Prelude.{OnOk, OnErr, IfErr};
-ghost use Rattle.table.specs.declared.operations.Reply.{Reply};
+ghost use Rattle.proto.specs.Turns.{Outcome};
 ghost use Rattle.ends.specs.Ends.{WritesBeginning};
-ghost use Rattle.serving.specs.Connections.{HasReply};
+ghost use Rattle.serving.specs.Connections.{HasOutcome};
 ghost use Rattle.serving.specs.Wanted.{IsAsking};
-ghost use Rattle.serving.specs.Serving.{failed_reads, failed_writes, failed_calls};
+ghost use Rattle.serving.specs.Serving.{CameTo, failed_reads, failed_writes, failed_calls};
 
-use crate::callers::Caller;
+use crate::callers::{Caller, stores};
 use crate::connections::Connection;
 use crate::serving::ServeFault;
 use ends::{Sink, Source, write_all};
 use std::sync::Wait;
 use table::{Op, Target};
 
-/// Has a call answered.
+/// Has a call answered; or refuses it, if it stores and the caller has no room: then nothing is called.
 pub fn ask<R: Wait, C: Caller>(
     rt: &R,
     connection: &mut Connection,
@@ -23,13 +23,17 @@ pub fn ask<R: Wait, C: Caller>(
     op: Op,
 ) -> Result<(), ServeFault>
     requires asking { IsAsking target op connection.old }
-    ensures answered { OnOk result ((reply : Reply) ×
-        C.answers caller.old (record { target = target; op = op }) reply caller.new ×
-        HasReply reply connection.old connection.new) }
+    ensures answered { OnOk result ((outcome : Outcome) ×
+        CameTo C.answers caller.old (record { target = target; op = op }) outcome caller.new ×
+        HasOutcome outcome connection.old connection.new) }
     ensures reads { failed_reads result ≡ 0 }
     ensures writes { failed_writes result ≡ 0 }
     ensures calls { C.failures caller.new ≡ C.failures caller.old + failed_calls result }
 {
+    if stores(&op) && !caller.has_room() {
+        connection.refuse()?;
+        return Ok(());
+    }
     match caller.call(rt, target, op) {
         Ok(reply) => {
             connection.answer(&reply)?;
@@ -72,7 +76,7 @@ pub fn read<S: Source>(
     ensures given { (bytes : List ℕ) × (S.given source.new ≡ S.given source.old ++ bytes) ×
         OnOk result ((connection.new.read ≡ connection.old.read ++ bytes) ×
         (connection.new.calls ≡ connection.old.calls) ×
-        (connection.new.replies ≡ connection.old.replies) ×
+        (connection.new.outcomes ≡ connection.old.outcomes) ×
         (connection.new.waiting ≡ []) ×
         (connection.new.written ≡ connection.old.written)) }
     ensures ended { OnOk result (connection.new.ended ≡ true → S.has_ended source.new ≡ true) }

@@ -3,7 +3,7 @@ ghost use Rattle.std.specs.Prelude.{◌≡◌, [], OnOk, IfOk};
 ghost use Rattle.std.specs.Option.{ForNone};
 ghost use Rattle.serving.specs.Wanted.{IsAsking};
 
-use serving::{Connection, End, Wants};
+use serving::{Connection, End, Wants, stores};
 use std::alloc::{AllocError, Global};
 use std::test::Fail;
 use table::{Op, Table, Target};
@@ -14,7 +14,7 @@ const REPLIES: &[u8] =
     b"STORED\r\nVALUE a 5 3 1\r\nxyz\r\nEND\r\nERROR\r\nVALUE a 5 3\r\nxyz\r\nEND\r\n";
 
 // What is beside a connection: its input, of which so many bytes are read at once, its output, of which so many are
-// written at once, and a table.
+// written at once, and a table, which has room for what stores, or not.
 #[derive(Drop)]
 struct Beside<'a> {
     input: &'a [u8],
@@ -22,19 +22,36 @@ struct Beside<'a> {
     output: Vec<u8>,
     writes: usize,
     table: Table,
+    has_room: bool,
 }
 
-// Has a call answered.
+impl Beside<'_> {
+    fn new(alloc: Global, input: &[u8], reads: usize, writes: usize) -> Beside<'_> {
+        Beside {
+            input,
+            reads,
+            output: Vec::new(alloc),
+            writes,
+            table: Table::new(alloc),
+            has_room: true,
+        }
+    }
+}
+
+// Has a call answered, or refuses it.
 fn answer(
     connection: &mut Connection,
-    table: &mut Table,
+    beside: &mut Beside<'_>,
     target: &Target,
     op: &Op,
 ) -> Result<(), AllocError>
     requires asking { IsAsking target.now op.now connection.old }
     ensures idle { OnOk result (connection.new.waiting ≡ []) }
 {
-    match table.call(target, op) {
+    if stores(op) && !beside.has_room {
+        return connection.refuse();
+    }
+    match beside.table.call(target, op) {
         Ok(reply) => connection.answer(&reply),
         Err(_) => Err(AllocError),
     }
@@ -47,7 +64,7 @@ fn go(connection: &mut Connection, beside: &mut Beside<'_>) -> Result<Option<End
 {
     match connection.next()? {
         Wants::Call(target, op) => {
-            answer(connection, &mut beside.table, &target, &op)?;
+            answer(connection, beside, &target, &op)?;
         }
         Wants::Write => {
             let n = connection.output().len().min(beside.writes);
@@ -68,23 +85,14 @@ fn go(connection: &mut Connection, beside: &mut Beside<'_>) -> Result<Option<End
     Ok(None)
 }
 
-// How a connection with this input comes to its end, if it does in so many steps, and what was written.
-fn driven(
-    alloc: Global,
-    input: &[u8],
-    reads: usize,
-    writes: usize,
-    steps: usize,
-) -> Result<(Option<End>, Vec<u8>), AllocError> {
+// How many steps a connection has to come to its end.
+const STEPS: usize = 1000;
+
+// How a connection comes to its end, if it does, and what was written.
+fn driven(alloc: Global, beside: Beside<'_>) -> Result<(Option<End>, Vec<u8>), AllocError> {
     let mut connection = Connection::new(alloc);
-    let mut beside = Beside {
-        input,
-        reads,
-        output: Vec::new(alloc),
-        writes,
-        table: Table::new(alloc),
-    };
-    for _ in 0..steps {
+    let mut beside = beside;
+    for _ in 0..STEPS {
         if let Some(end) = go(&mut connection, &mut beside)? {
             return Ok((Some(end), beside.output));
         }
@@ -102,7 +110,8 @@ fn comes_to(came: &(Option<End>, Vec<u8>), end: End, output: &[u8]) -> bool {
 fn any_pace_writes_the_same(rt: HostRuntime) -> Result<(), Fail> {
     for reads in 1..9usize {
         for writes in 1..9usize {
-            let came = driven(rt.alloc(), REQUESTS, reads, writes, 1000)?;
+            let beside = Beside::new(rt.alloc(), REQUESTS, reads, writes);
+            let came = driven(rt.alloc(), beside)?;
             assert!(rt;
                 comes_to(&came, End::Closed, REPLIES),
                 "{reads} and {writes}"
@@ -114,7 +123,21 @@ fn any_pace_writes_the_same(rt: HostRuntime) -> Result<(), Fail> {
 
 #[test]
 fn an_input_that_ends_in_a_request(rt: HostRuntime) -> Result<(), Fail> {
-    let came = driven(rt.alloc(), b"get a\r\nget b", 64, 64, 1000)?;
+    let beside = Beside::new(rt.alloc(), b"get a\r\nget b", 64, 64);
+    let came = driven(rt.alloc(), beside)?;
     assert!(rt; comes_to(&came, End::Input, b"END\r\n"));
+    Ok(())
+}
+
+// Without room a set is refused, and isn't made; silently, if it is silent.
+#[test]
+fn a_refused_set_is_not_made(rt: HostRuntime) -> Result<(), Fail> {
+    let requests =
+        b"set a 5 0 3\r\nxyz\r\nset a 5 0 3 noreply\r\nxyz\r\nget a\r\nincr a 1\r\nquit\r\n";
+    let replies = b"SERVER_ERROR out of memory storing object\r\nEND\r\nNOT_FOUND\r\n";
+    let mut beside = Beside::new(rt.alloc(), requests, 7, 5);
+    beside.has_room = false;
+    let came = driven(rt.alloc(), beside)?;
+    assert!(rt; comes_to(&came, End::Closed, replies));
     Ok(())
 }

@@ -3,7 +3,7 @@ ghost use Rattle.node.specs.Lawful.{IsInput};
 ghost use Rattle.std.specs.Prelude.{◌≡◌, false, IfOk};
 
 use bytes::Bytes;
-use faces::{FaceFault, Publisher, Reader};
+use faces::{FaceFault, Publisher, Reader, Weight};
 use node::{Body, Input, Look, Node, Peer, View};
 use std::alloc::{AllocError, Global};
 use std::sync::Wait;
@@ -316,5 +316,127 @@ fn many<R: Wait>(rt: &R, alloc: Global, count: u32) -> Result<bool, Fail> {
 #[test]
 fn many_keys_some_of_them_deleted(rt: HostRuntime) -> Result<(), Fail> {
     assert!(rt; many(&rt, rt.alloc(), 100_000)?);
+    Ok(())
+}
+
+// An input, and how much the face weighs after it.
+#[derive(Drop)]
+struct Weighing {
+    input: Input,
+    weight: Weight,
+}
+
+fn to_weigh(input: Input, items: u64, bytes: u64) -> Weighing {
+    let weight = Weight { items, bytes };
+    Weighing { input, weight }
+}
+
+// A set of so many bytes.
+fn set_of(alloc: Global, key: &Key, size: usize) -> Result<Input, FaceFault> {
+    match b"0123456789".as_slice().get(..size) {
+        Some(data) => on(key, Op::Set(0, Bytes::copy_from_slice(alloc, data)?)),
+        None => Err(FaceFault::Closed),
+    }
+}
+
+fn flush() -> Input {
+    let call = Call {
+        target: Target::All,
+        op: Op::Flush,
+    };
+    Input::Call(0, call)
+}
+
+// New keys, and keys that are set again, to more and to fewer bytes.
+fn sets_to_weigh(alloc: Global, a: &Key, bcd: &Key) -> Result<Vec<Weighing>, FaceFault> {
+    let mut steps = Vec::new(alloc);
+    add(&mut steps, to_weigh(set_of(alloc, a, 1)?, 1, 2))?;
+    add(&mut steps, to_weigh(set_of(alloc, bcd, 5)?, 2, 10))?;
+    add(&mut steps, to_weigh(set_of(alloc, a, 7)?, 2, 16))?;
+    add(&mut steps, to_weigh(set_of(alloc, a, 0)?, 2, 9))?;
+    Ok(steps)
+}
+
+// A key without item counts until that is acknowledged, also if it is set again before, and nothing after a flush.
+fn deletes_to_weigh(alloc: Global, a: &Key, bcd: &Key) -> Result<Vec<Weighing>, FaceFault> {
+    let mut steps = Vec::new(alloc);
+    add(&mut steps, to_weigh(on(bcd, Op::Delete)?, 2, 4))?;
+    add(&mut steps, to_weigh(acknowledged(5), 1, 1))?;
+    add(&mut steps, to_weigh(on(a, Op::Delete)?, 1, 1))?;
+    add(&mut steps, to_weigh(set_of(alloc, a, 3)?, 1, 4))?;
+    add(&mut steps, to_weigh(acknowledged(7), 1, 4))?;
+    add(&mut steps, to_weigh(flush(), 0, 0))?;
+    add(&mut steps, to_weigh(set_of(alloc, bcd, 2)?, 1, 5))?;
+    add(&mut steps, to_weigh(acknowledged(9), 1, 5))?;
+    Ok(steps)
+}
+
+// Whether the face weighs so much after an input, and the other copy as much after one that changes nothing.
+fn weighs<R: Wait>(rt: &R, publisher: &mut Publisher, step: Weighing) -> Result<bool, FaceFault> {
+    let Weighing { input, weight } = step;
+    feed(rt, publisher, input)?;
+    let first = publisher.weight() == weight;
+    feed(rt, publisher, acknowledged(0))?;
+    Ok(first && publisher.weight() == weight)
+}
+
+// The same for each of these.
+fn all_weigh<R: Wait>(
+    rt: &R,
+    publisher: &mut Publisher,
+    steps: Vec<Weighing>,
+) -> Result<bool, FaceFault> {
+    let mut right = true;
+    for step in steps {
+        right &= weighs(rt, publisher, step)?;
+    }
+    Ok(right)
+}
+
+// The same for each of these, at a server that isn't the last one.
+fn weigh_at_first<R: Wait>(
+    rt: &R,
+    alloc: Global,
+    sets: Vec<Weighing>,
+    deletes: Vec<Weighing>,
+) -> Result<bool, FaceFault> {
+    let mut publisher = Publisher::open(rt, alloc, first(alloc, 2)?, 1)?;
+    let empty = publisher.weight() == Weight { items: 0, bytes: 0 };
+    let set = all_weigh(rt, &mut publisher, sets);
+    let deleted = all_weigh(rt, &mut publisher, deletes);
+    publisher.end(rt);
+    Ok(empty && set? && deleted?)
+}
+
+#[test]
+fn a_face_weighs_its_keys_and_data(rt: HostRuntime) -> Result<(), Fail> {
+    let a = key(rt.alloc(), b"a")?;
+    let bcd = key(rt.alloc(), b"bcd")?;
+    let sets = sets_to_weigh(rt.alloc(), &a, &bcd)?;
+    let deletes = deletes_to_weigh(rt.alloc(), &a, &bcd)?;
+    assert!(rt; weigh_at_first(&rt, rt.alloc(), sets, deletes)?);
+    Ok(())
+}
+
+// Whether a node that has taken an input opens with a face that weighs so much.
+fn opens_weighing<R: Wait>(
+    rt: &R,
+    alloc: Global,
+    input: Input,
+    weight: Weight,
+) -> Result<bool, FaceFault> {
+    let node = after(first(alloc, 1)?, input)?;
+    let publisher = Publisher::open(rt, alloc, node, 1)?;
+    let right = publisher.weight() == weight;
+    publisher.end(rt);
+    Ok(right)
+}
+
+#[test]
+fn a_node_opens_with_the_weight_of_what_it_holds(rt: HostRuntime) -> Result<(), Fail> {
+    let key = key(rt.alloc(), b"a")?;
+    let input = set(rt.alloc(), &key)?;
+    let weight = Weight { items: 1, bytes: 2 };
+    assert!(rt; opens_weighing(&rt, rt.alloc(), input, weight)?);
     Ok(())
 }

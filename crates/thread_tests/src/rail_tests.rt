@@ -6,7 +6,9 @@ ghost use Rattle.node.specs.Nodes.{is_idle};
 use bytes::Bytes;
 use faces::FaceFault;
 use node::{Body, Look, Node, Peer, View};
-use rail::{Inlet, Links, Published, RailFault, Reader, Server, Stand, Turn, Worker, open};
+use rail::{
+    Inlet, Links, PortSet, Published, RailFault, Reader, Server, Stand, Turn, Weight, Worker, open,
+};
 use std::alloc::{AllocError, Global};
 use std::sync::Wait;
 use std::sync::atomic::{AtomicU64, Ordering};
@@ -168,6 +170,71 @@ fn reader_sees_its_own_write(rt: HostRuntime) -> Result<(), Fail> {
     Ok(())
 }
 
+// Whether of two ports a set has the second alone.
+fn has_second(ports: PortSet) -> bool {
+    !ports.is_empty() && !ports.has(0) && ports.has(1)
+}
+
+// Whether a worker names the port of a call that it replied to, once, and weighs what it set.
+fn names_its_port<R: Wait + Drop>(
+    rt: &R,
+    alloc: Global,
+    worker: &mut Worker<R>,
+    stand: &mut Stand,
+) -> Result<bool, RailFault> {
+    let none = worker.take_replied().is_empty();
+    let sent = submits(rt, alloc, stand)?;
+    let went = turn(worker)? == Turn::Went;
+    let named = has_second(worker.take_replied());
+    let weight = worker.weight() == Weight { items: 1, bytes: 2 };
+    Ok(none && sent && went && named && weight && worker.take_replied().is_empty())
+}
+
+#[test]
+fn worker_names_whom_it_replied_to(rt: HostRuntime) -> Result<(), Fail> {
+    let mut server = first_of(rt, rt.alloc(), 1, 2)?;
+    let mut second = last(&mut server.stands)?;
+    assert!(rt; names_its_port(&rt, rt.alloc(), &mut server.worker, &mut second)?);
+    Ok(())
+}
+
+// Whether a worker that stops names each port, and weighs nothing.
+fn stops_for_all<R: Wait + Drop>(
+    rt: &R,
+    worker: &mut Worker<R>,
+    inlet: &mut Inlet,
+) -> Result<bool, RailFault> {
+    inlet.stop(rt)?;
+    let stopped = turn(worker)? == Turn::Stopped;
+    let ports = worker.take_replied();
+    let nothing = worker.weight() == Weight { items: 0, bytes: 0 };
+    Ok(stopped && nothing && ports.has(0) && ports.has(1) && !ports.has(2))
+}
+
+#[test]
+fn worker_that_stops_names_all_ports(rt: HostRuntime) -> Result<(), Fail> {
+    let mut server = first_of(rt, rt.alloc(), 1, 2)?;
+    let mut inlet = last(&mut server.inlets)?;
+    assert!(rt; stops_for_all(&rt, &mut server.worker, &mut inlet)?);
+    Ok(())
+}
+
+// Whether two sets of ports make one that has the ports of both.
+fn merges() -> bool {
+    let mut ports = PortSet::new();
+    ports.add(0);
+    let mut others = PortSet::new();
+    others.add(15);
+    others.add(63);
+    ports.merge(others);
+    ports.has(0) && ports.has(15) && ports.has(63) && !ports.has(1) && !ports.has(62)
+}
+
+#[test]
+fn sets_of_ports(rt: HostRuntime) {
+    assert!(rt; merges());
+}
+
 // Waits until a flag is set, for ten seconds at most.
 fn is_set_soon<R: Clock>(clock: &R, flag: &AtomicU64) -> bool {
     for _ in 0..10_000 {
@@ -264,6 +331,91 @@ fn reader_beside_a_waiting_worker(rt: HostRuntime) -> Result<(), Fail> {
     let mut first = last(&mut server.stands)?;
     assert!(rt; submits(&rt, rt.alloc(), &mut first)?);
     assert!(rt; looks_while_held(&rt, &mut server.worker, &mut second, &b)?);
+    Ok(())
+}
+
+// More calls than a seat has room for replies.
+const CALLS: u64 = 70;
+
+// Sends so many calls, and takes no reply.
+fn submits_all<R: Wait>(rt: &R, alloc: Global, stand: &mut Stand) -> Result<bool, RailFault> {
+    let mut sent = true;
+    for _ in 0..CALLS {
+        sent &= submits(rt, alloc, stand)?;
+    }
+    Ok(sent)
+}
+
+// Takes as many turns, and counts them.
+fn turns_for_all<R: Wait + Drop>(worker: &mut Worker<R>, turns: &AtomicU64) -> bool {
+    for _ in 0..CALLS {
+        if turn(worker) != Ok(Turn::Went) {
+            return false;
+        }
+        turns.fetch_add(1, Ordering::SeqCst);
+    }
+    true
+}
+
+// Takes a reply, for which it waits ten seconds at most.
+fn has_reply_soon<R: Wait + Clock>(rt: &R, stand: &mut Stand) -> bool {
+    for _ in 0..10_000 {
+        match stand.seat.reply_if_any(rt) {
+            Ok(Some(_)) => return true,
+            Ok(None) => thread::sleep(rt, Duration::from_millis(1)),
+            Err(_) => return false,
+        }
+    }
+    false
+}
+
+// Waits until the worker stands still, since the seat has no room for its next reply, and then takes them all. Whether
+// the worker stood still before its last turn.
+fn takes_all_late<R: Wait + Clock>(rt: &R, stand: &mut Stand, turns: &AtomicU64) -> bool {
+    let before = turns_when_still(rt, turns);
+    let mut taken = true;
+    for _ in 0..CALLS {
+        taken &= has_reply_soon(rt, stand);
+    }
+    taken && before < CALLS
+}
+
+// Waits until the worker has taken a turn, and then none for a while; for ten seconds at most. How many it has taken.
+fn turns_when_still<R: Clock>(clock: &R, turns: &AtomicU64) -> u64 {
+    let mut before = 0;
+    for _ in 0..100 {
+        thread::sleep(clock, Duration::from_millis(100));
+        let now = turns.load(Ordering::SeqCst);
+        if now == before && now > 0 {
+            return now;
+        }
+        before = now;
+    }
+    before
+}
+
+// Whether a worker waits with a reply for which the seat has no room, and drops none.
+fn waits_for_room<R: Wait + Threads + Clock + Drop + Send + Sync>(
+    rt: &R,
+    worker: &mut Worker<R>,
+    stand: &mut Stand,
+) -> (bool, bool) {
+    let turns = AtomicU64::new(0);
+    thread::join(
+        rt,
+        || turns_for_all(worker, &turns),
+        || takes_all_late(rt, stand, &turns),
+    )
+}
+
+#[test]
+fn replies_without_room_wait(rt: HostRuntime) -> Result<(), Fail> {
+    let mut server = first_of(rt, rt.alloc(), 1, 1)?;
+    let mut stand = last(&mut server.stands)?;
+    assert!(rt; submits_all(&rt, rt.alloc(), &mut stand)?);
+    let (went, taken) = waits_for_room(&rt, &mut server.worker, &mut stand);
+    assert!(rt; went);
+    assert!(rt; taken);
     Ok(())
 }
 

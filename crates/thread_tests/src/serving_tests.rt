@@ -13,6 +13,9 @@ const REQUESTS: &[u8] = b"set a 5 0 3\r\nxyz\r\ngets a\r\nbad\r\nget a b\r\nquit
 const REPLIES: &[u8] =
     b"STORED\r\nVALUE a 5 3 1\r\nxyz\r\nEND\r\nERROR\r\nVALUE a 5 3\r\nxyz\r\nEND\r\n";
 
+// What a writer has room for.
+const MOST_OUTPUT: usize = 4096;
+
 // A reader that gives this many bytes in all, a few at a time, and then fails.
 #[derive(Drop)]
 struct FailingReader<'a> {
@@ -56,11 +59,33 @@ impl io::Write for FailingWriter {
     }
 }
 
-// A plain table as a caller.
+// A plain table as a caller. It has room for a call that stores while it has fewer than this many items.
 #[derive(Drop)]
 struct TableCaller {
     table: Table,
+    items: usize,
+    most_items: usize,
     failures: Failures,
+}
+
+impl TableCaller {
+    fn new(alloc: Global, most_items: usize) -> TableCaller {
+        TableCaller {
+            table: Table::new(alloc),
+            items: 0,
+            most_items,
+            failures: Failures::new(),
+        }
+    }
+}
+
+// How many items there are after a reply to a call on a new key.
+fn items_after(items: usize, reply: &Reply) -> usize {
+    match reply {
+        Reply::Stored => items.saturating_add(1),
+        Reply::Deleted => items.saturating_sub(1),
+        _ => items,
+    }
 }
 
 impl Caller for TableCaller {
@@ -74,12 +99,19 @@ impl Caller for TableCaller {
 
     fn call<R: Wait>(&mut self, _rt: &R, target: Target, op: Op) -> Result<Reply, CallFault> {
         match self.table.call(&target, &op) {
-            Ok(reply) => Ok(reply),
+            Ok(reply) => {
+                self.items = items_after(self.items, &reply);
+                Ok(reply)
+            }
             Err(_) => {
                 self.failures.rise();
                 Err(CallFault)
             }
         }
+    }
+
+    fn has_room(&self) -> bool {
+        self.items < self.most_items
     }
 }
 
@@ -99,13 +131,22 @@ fn served(
     reads: usize,
     writes: usize,
 ) -> Result<Left, AllocError> {
-    let held = Vec::with_capacity(alloc, REPLIES.len())?;
+    served_within(rt, alloc, bytes, reads, writes, usize::MAX)
+}
+
+// The same of a table that has room for so many items.
+fn served_within(
+    rt: &impl Wait,
+    alloc: Global,
+    bytes: &[u8],
+    reads: usize,
+    writes: usize,
+    most_items: usize,
+) -> Result<Left, AllocError> {
+    let held = Vec::with_capacity(alloc, MOST_OUTPUT)?;
     let mut source = TrackedReader::new(FailingReader { bytes, left: reads });
     let mut sink = TrackedWriter::new(FailingWriter { held, left: writes });
-    let mut caller = TableCaller {
-        table: Table::new(alloc),
-        failures: Failures::new(),
-    };
+    let mut caller = TableCaller::new(alloc, most_items);
     let end = serve_stream(rt, alloc, &mut source, &mut sink, &mut caller);
     let output = sink.inner.held;
     match end {
@@ -176,5 +217,18 @@ fn a_write_fails_anywhere(rt: HostRuntime) -> Result<(), Fail> {
     }
     let whole = served(&rt, rt.alloc(), REQUESTS, 4096, REPLIES.len())?;
     assert!(rt; came_to(&whole, Ok(End::Closed), REPLIES));
+    Ok(())
+}
+
+// A table with room for one item: until that is deleted, what would store is refused, silently if it is silent, and
+// changes nothing. All else goes on.
+#[test]
+fn without_room_what_stores_is_refused(rt: HostRuntime) -> Result<(), Fail> {
+    let requests =
+        b"set a 0 0 1\r\n1\r\nset b 0 0 1\r\n2\r\nset a 0 0 1 noreply\r\n3\r\nappend a 0 0 1\r\n4\r\nincr a 1\r\ngets a b\r\ndelete a\r\nadd b 0 0 1\r\n5\r\nget a b\r\nreplace b 0 0 1\r\n6\r\nprepend b 0 0 1\r\n7\r\ncas b 0 0 1 4\r\n8\r\nquit\r\n";
+    let replies =
+        b"STORED\r\nSERVER_ERROR out of memory storing object\r\nSERVER_ERROR out of memory storing object\r\n2\r\nVALUE a 0 1 2\r\n2\r\nEND\r\nDELETED\r\nSTORED\r\nVALUE b 0 1\r\n5\r\nEND\r\nSERVER_ERROR out of memory storing object\r\nSERVER_ERROR out of memory storing object\r\nSERVER_ERROR out of memory storing object\r\n";
+    let left = served_within(&rt, rt.alloc(), requests, 4096, 4096, 1)?;
+    assert!(rt; came_to(&left, Ok(End::Closed), replies));
     Ok(())
 }

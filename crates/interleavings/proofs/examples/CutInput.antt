@@ -14,7 +14,7 @@ use Rattle.node.specs.Steps.{trimmed}
 use Rattle.node.specs.Views.{has, union, single, is_below, adds, next_from, predecessor}
 use Rattle.proto.specs.Words.{space, crlf, line_limit}
 use Rattle.proto.specs.Sessions.{fresh}
-use Rattle.proto.specs.Turns.{item_text}
+use Rattle.proto.specs.Turns.{Replied, item_text}
 use Rattle.interleavings.specs.Chains.{Chain, with_at}
 use Rattle.interleavings.specs.Moves.{read_of, done}
 use Rattle.interleavings.specs.Connections.{Connection, opening_connection}
@@ -34,6 +34,7 @@ talked_with found = record {
   due = None;
   calls = set ∷ read_of key ∷ [];
   replies = Stored ∷ Value found ∷ [];
+  outcomes = Replied Stored ∷ Replied (Value found) ∷ [];
   written = codes "STO";
 }
 

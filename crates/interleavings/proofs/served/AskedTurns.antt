@@ -24,12 +24,13 @@ use Rattle.proto.specs.declared.words.Storing.TheVariants as storing
 use Rattle.proto.specs.Verbs.{op_of}
 use Rattle.proto.specs.Grammar.{IsVerb, AreStorage, Spells}
 use Rattle.proto.specs.Fronts.{Front, front, is_last}
-use Rattle.proto.specs.Turns.{calls_of, looks, turns_of}
+use Rattle.proto.specs.Turns.{Outcome, Replied, Refused, calls_of, looks, turns_of}
 use Rattle.proto.specs.Streams.{and_later, requests_upto, turns, to_come}
 use Rattle.proto.proofs.GrammarLaws.{found_is_spelled}
 use Rattle.proto.proofs.WriteLaws.{calls_of_more}
 use Rattle.interleavings.specs.Asked.{IsAsked}
 use Rattle.interleavings.specs.Connections.{Connection}
+use Rattle.interleavings.specs.Served.{unrefused}
 use Rattle.interleavings.proofs.served.Connected.{as_list, IsConnected, calls_spelled}
 
 -- clients can ask each of these
@@ -44,6 +45,13 @@ both_asked (call ∷ cs) ds a b = (a.0, both_asked cs ds a.1 b)
 one_asked : (cs ds : List Call) (call : Call) → AllAsked (cs ++ call ∷ ds) → IsAsked call
 one_asked [] ds call a = a.0
 one_asked (c ∷ cs) ds call a = one_asked cs ds call a.1
+
+-- also of those that weren't refused
+unrefused_asked : (cs : List Call) (os : List Outcome) → AllAsked cs → AllAsked (unrefused cs os)
+unrefused_asked [] os a = tt
+unrefused_asked (c ∷ cs) [] a = a
+unrefused_asked (c ∷ cs) (Replied reply ∷ os) a = (a.0, unrefused_asked cs os a.1)
+unrefused_asked (c ∷ cs) (Refused ∷ os) a = unrefused_asked cs os a.1
 
 at_place : (cs ds : List Call) (q : ℕ) (call : Call)
     → AllAsked (cs ++ ds)
@@ -176,12 +184,16 @@ upto_asked (suc k) bytes = by_front (front bytes) refl (λ n. upto_asked k (drop
 stream_asked : (bytes : List ℕ) → AllAsked (calls_of (turns bytes))
 stream_asked bytes = upto_asked (length bytes) bytes
 
+-- also of those calls that weren't refused
+made_or_later : (k : Connection) → AllAsked (unrefused (calls_of (turns k.read)) k.outcomes)
+made_or_later k = unrefused_asked (calls_of (turns k.read)) k.outcomes (stream_asked k.read)
+
 -- so they can ask the call that is to be made
 pub due_asked : (k : Connection) (t : IsConnected k) (call : Call) → k.due ≡ Some call → IsAsked call
 due_asked k t call e =
     one_asked k.calls (calls_of (to_come k.session)) call
     (subst AllAsked (calls_spelled k t ∙ ap (λ d. k.calls ++ (as_list d ++ calls_of (to_come k.session))) e)
-    (stream_asked k.read))
+    (made_or_later k))
 
 -- and each that was made
 pub made_asked : (k : Connection) (t : IsConnected k) (q : ℕ) (call : Call)
@@ -189,4 +201,4 @@ pub made_asked : (k : Connection) (t : IsConnected k) (q : ℕ) (call : Call)
     → IsAsked call
 made_asked k t q call e =
     at_place k.calls (as_list k.due ++ calls_of (to_come k.session)) q call
-    (subst AllAsked (calls_spelled k t) (stream_asked k.read)) e
+    (subst AllAsked (calls_spelled k t) (made_or_later k)) e

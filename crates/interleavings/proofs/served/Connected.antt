@@ -12,17 +12,19 @@ use Rattle.table.specs.Operations.{is_value}
 use Rattle.table.specs.declared.operations.Call.{Call}
 use Rattle.table.specs.declared.operations.Reply.{Reply}
 use Rattle.proto.specs.declared.texts.Form.{Form}
-use Rattle.proto.specs.Turns.{Turn, Faulty, Calls, call_of, calls_of, fault_text, text}
+use Rattle.proto.specs.Turns.{Turn, Faulty, Calls, Outcome, call_of, calls_of, fault_text, outcome_text}
 use Rattle.proto.specs.Sessions.{next_of, shows, CanAnswer}
-use Rattle.proto.specs.Streams.{turns, texts, to_come}
+use Rattle.proto.specs.Streams.{turns, outcome_texts, to_come}
 use Rattle.proto.specs.Runs.{Feed, Next, Answer, Take, Run, IsRun, Opens, Acts, turn_given, open_calls}
 use Rattle.proto.proofs.RunLaws.{any_cutting, gives_all}
-use Rattle.proto.proofs.RunTexts.{output_is_texts, calls_have_replies}
-use Rattle.proto.proofs.WriteLaws.{calls_of_more, fewer_replies_begin}
+use Rattle.proto.proofs.RunTexts.{output_is_texts, calls_have_outcomes}
+use Rattle.proto.proofs.WriteLaws.{calls_of_more, fewer_outcomes_begin}
 use Rattle.interleavings.specs.Connections.{Connection, opening_connection, heard, begun, made, answered, wrote, waits}
 use Rattle.interleavings.specs.Connections.{may_have}
-use Rattle.interleavings.specs.Served.{IsServed, IsRested, HasAll}
+use Rattle.interleavings.specs.Served.{unrefused, replies_of, AreOutcomes, IsServed, IsRested, HasAll}
 use Rattle.interleavings.proofs.relation.Transfer.{take_front}
+use Rattle.interleavings.proofs.served.Outcomes.{replies_more, unrefused_more, unrefused_replied, unrefused_length}
+use Rattle.interleavings.proofs.served.Outcomes.{outcomes_more, outcomes_replied}
 
 -- the call that is to be made, as a list
 abbrev pub as_list : Option Call → List Call
@@ -32,20 +34,23 @@ as_list (Some call) = call ∷ []
 -- the run of a connection whose session gave these turns
 abbrev pub run_with : Connection → List Turn → Run
 run_with k given =
-    record { stream = k.read; given = given; replies = k.replies; taken = k.written; held = k.session }
+    record { stream = k.read; given = given; outcomes = k.outcomes; taken = k.written; held = k.session }
 
--- What was done with the connection is a run, whose calls are those that were made and the one that is to be made.
+-- What was done with the connection is a run, whose calls are those that were made, the one that is to be made, and
+-- stores that were refused.
 pub record IsConnected (k : Connection) : Type 0 where
   pub given : List Turn
   pub is : IsRun (run_with k given)
-  pub calls : calls_of given ≡ k.calls ++ as_list k.due
+  pub calls : unrefused (calls_of given) k.outcomes ≡ k.calls ++ as_list k.due
+  pub got : k.replies ≡ replies_of k.outcomes
+  pub outcomes : AreOutcomes (calls_of given) k.outcomes
   pub few : length k.replies ≤ length k.calls
 
 -- ---- what each move keeps
 
 -- nothing was done
 pub connected_opening : IsConnected opening_connection
-connected_opening = record { given = []; is = Opens; calls = refl; few = omega arith }
+connected_opening = record { given = []; is = Opens; calls = refl; got = refl; outcomes = tt; few = omega arith }
 
 -- a piece was read
 pub connected_heard : (piece : List ℕ) (k : Connection) → IsConnected k → IsConnected (heard piece k)
@@ -53,14 +58,28 @@ connected_heard piece k t = record {
   given = t.given;
   is = Acts (run_with k t.given) (Feed piece) t.is tt;
   calls = t.calls;
+  got = t.got;
+  outcomes = t.outcomes;
   few = t.few;
 }
+
+-- each call that was given has its outcome, save the open one
+pub given_counted : (k : Connection) (t : IsConnected k)
+    → length k.outcomes + open_calls k.session.asked ≡ length (calls_of t.given)
+given_counted k t = calls_have_outcomes (run_with k t.given) t.is
+
+pub outcomes_within : (k : Connection) (t : IsConnected k) → length k.outcomes ≤ length (calls_of t.given)
+outcomes_within k t = let g = given_counted k t in omega (arith, g)
 
 -- how many calls are made, answered, open
 pub counted : (k : Connection) (t : IsConnected k)
     → length k.replies + open_calls k.session.asked ≡ length k.calls + length (as_list k.due)
 counted k t =
-    calls_have_replies (run_with k t.given) t.is ∙ ap length t.calls ∙ length-append k.calls (as_list k.due)
+    let g = given_counted k t in
+    let n = unrefused_length (calls_of t.given) k.outcomes (outcomes_within k t) in
+    let c = ap length t.calls ∙ length-append k.calls (as_list k.due) in
+    let r = ap length t.got in
+    omega (arith, g, n, c, r)
 
 none_due : (due : Option Call) (r c : ℕ) → r + 0 ≡ c + length (as_list due) → r ≤ c → due ≡ None
 none_due None r c e few = refl
@@ -92,10 +111,16 @@ connected_begun k t = by_asked k.session.asked refl
       given = t.given ++ turn_given (next_of k.session).0;
       is = Acts (run_with k t.given) Next t.is e;
       calls =
-          calls_of_more t.given (turn_given (next_of k.session).0)
+          ap (λ cs. unrefused cs k.outcomes) (calls_of_more t.given (turn_given (next_of k.session).0))
+          ∙ unrefused_more (calls_of t.given) (calls_of (turn_given (next_of k.session).0)) k.outcomes
+          (outcomes_within k t)
           ∙ ap (λ cs. cs ++ calls_of (turn_given (next_of k.session).0))
           (t.calls ∙ ap (λ d. k.calls ++ as_list d) (nothing_due k t e) ∙ append-nil k.calls)
           ∙ ap (λ cs. k.calls ++ cs) (one_call (next_of k.session).0);
+      got = t.got;
+      outcomes = subst (λ cs. AreOutcomes cs k.outcomes)
+          (sym (calls_of_more t.given (turn_given (next_of k.session).0)))
+          (outcomes_more (calls_of t.given) (calls_of (turn_given (next_of k.session).0)) k.outcomes t.outcomes);
       few = t.few;
     }
 
@@ -105,6 +130,8 @@ connected_made call k e t = record {
   given = t.given;
   is = t.is;
   calls = t.calls ∙ ap (λ d. k.calls ++ as_list d) e ∙ sym (append-nil (k.calls ++ call ∷ []));
+  got = t.got;
+  outcomes = t.outcomes;
   few = let n = length-append k.calls (call ∷ []) in let f = t.few in omega (arith, n, f);
 }
 
@@ -127,18 +154,32 @@ pub connected_answered : (reply : Reply) (k : Connection)
 connected_answered reply k wait may t = record {
   given = t.given;
   is = Acts (run_with k t.given) (Answer reply) t.is (can_answer k.session.asked reply may);
-  calls = t.calls;
+  calls = unrefused_replied (calls_of t.given) k.outcomes reply ∙ t.calls;
+  got = ap (λ rs. rs ++ reply ∷ []) t.got ∙ sym (replies_more k.outcomes reply);
+  outcomes = outcomes_replied (calls_of t.given) k.outcomes reply one_open t.outcomes;
   few =
       let n = length-append k.replies (reply ∷ []) in
-      let less = ltb-true (length k.replies) (length k.calls) wait in
-      omega (arith, n, less);
+      let l = less in
+      omega (arith, n, l);
 }
+  where
+    less : length k.replies < length k.calls
+    less = ltb-true (length k.replies) (length k.calls) wait
+
+    one_open : length k.outcomes < length (calls_of t.given)
+    one_open =
+        let l = less in
+        let c = counted k t in
+        let g = given_counted k t in
+        omega (arith, l, c, g)
 
 wrote_within : (n : ℕ) (k : Connection) → n ≤ length k.session.out → IsConnected k → IsConnected (wrote n k)
 wrote_within n k within t = record {
   given = t.given;
   is = Acts (run_with k t.given) (Take n) t.is within;
   calls = t.calls;
+  got = t.got;
+  outcomes = t.outcomes;
   few = t.few;
 }
 
@@ -172,15 +213,15 @@ some_within (x ∷ xs) (suc p) h = some_within xs p (omega (arith, h))
 
 -- ---- what it comes to
 
--- the texts stop at the first call without a reply
-texts_stop : (ts us : List Turn) (rs : List Reply)
-    → length rs < length (calls_of ts)
-    → texts (ts ++ us) rs ≡ texts ts rs
-texts_stop [] us rs h = absurd (omega (arith, h))
-texts_stop (Faulty fault ∷ ts) us rs h = ap (λ bytes. fault_text fault ++ bytes) (texts_stop ts us rs h)
+-- the texts stop at the first call without an outcome
+texts_stop : (ts us : List Turn) (os : List Outcome)
+    → length os < length (calls_of ts)
+    → outcome_texts (ts ++ us) os ≡ outcome_texts ts os
+texts_stop [] us os h = absurd (omega (arith, h))
+texts_stop (Faulty fault ∷ ts) us os h = ap (λ bytes. fault_text fault ++ bytes) (texts_stop ts us os h)
 texts_stop (Calls call form ∷ ts) us [] h = refl
-texts_stop (Calls call form ∷ ts) us (r ∷ rs) h =
-    ap (λ bytes. text form r ++ bytes) (texts_stop ts us rs (omega (arith, h)))
+texts_stop (Calls call form ∷ ts) us (o ∷ os) h =
+    ap (λ bytes. outcome_text form o ++ bytes) (texts_stop ts us os (omega (arith, h)))
 
 module _ (k : Connection) (t : IsConnected k) where
   run : Run
@@ -190,15 +231,25 @@ module _ (k : Connection) (t : IsConnected k) where
   all_turns : t.given ++ to_come k.session ≡ turns k.read
   all_turns = any_cutting (run_with k t.given) t.is
 
-  -- their calls begin with those that were made
-  pub calls_spelled : calls_of (turns k.read) ≡ k.calls ++ (as_list k.due ++ calls_of (to_come k.session))
+  -- their calls, and what they came to: those of which it is known, and then those that are to come
+  all_calls : calls_of t.given ++ calls_of (to_come k.session) ≡ calls_of (turns k.read)
+  all_calls = sym (calls_of_more t.given (to_come k.session)) ∙ ap calls_of all_turns
+
+  of_first : AreOutcomes (calls_of (turns k.read)) k.outcomes
+  of_first = subst (λ cs. AreOutcomes cs k.outcomes) all_calls
+      (outcomes_more (calls_of t.given) (calls_of (to_come k.session)) k.outcomes t.outcomes)
+
+  -- those that weren't refused begin with those that were made
+  pub calls_spelled : unrefused (calls_of (turns k.read)) k.outcomes
+      ≡ k.calls ++ (as_list k.due ++ calls_of (to_come k.session))
   calls_spelled =
-      ap calls_of (sym all_turns) ∙ calls_of_more t.given (to_come k.session)
+      ap (λ cs. unrefused cs k.outcomes) (sym all_calls)
+      ∙ unrefused_more (calls_of t.given) (calls_of (to_come k.session)) k.outcomes (outcomes_within k t)
       ∙ ap (λ cs. cs ++ calls_of (to_come k.session)) t.calls
       ∙ append_assoc k.calls (as_list k.due) (calls_of (to_come k.session))
 
   -- the calls that were made are the first of them
-  pub first_calls : k.calls ≡ take (length k.calls) (calls_of (turns k.read))
+  pub first_calls : k.calls ≡ take (length k.calls) (unrefused (calls_of (turns k.read)) k.outcomes)
   first_calls =
       sym (take_front k.calls (as_list k.due ++ calls_of (to_come k.session)))
       ∙ ap (take (length k.calls)) (sym calls_spelled)
@@ -207,33 +258,33 @@ module _ (k : Connection) (t : IsConnected k) where
   one_at_most None r c d e = omega (arith, e)
   one_at_most (Some form) r c d e = omega (arith, e)
 
-  out_is : k.written ++ k.session.out ≡ texts t.given k.replies
+  out_is : k.written ++ k.session.out ≡ outcome_texts t.given k.outcomes
   out_is = output_is_texts (run_with k t.given) t.is
 
-  begins : (rest : List ℕ) × (texts (turns k.read) k.replies ≡ k.written ++ rest)
+  begins : (rest : List ℕ) × (outcome_texts (turns k.read) k.outcomes ≡ k.written ++ rest)
   begins =
-      let f = fewer_replies_begin t.given (to_come k.session) k.replies [] in (
+      let f = fewer_outcomes_begin t.given (to_come k.session) k.outcomes [] in (
         k.session.out ++ f.0,
-        ap (λ ts. texts ts k.replies) (sym all_turns)
-            ∙ ap (λ rs. texts (t.given ++ to_come k.session) rs) (sym (append-nil k.replies))
+        ap (λ ts. outcome_texts ts k.outcomes) (sym all_turns)
+            ∙ ap (λ os. outcome_texts (t.given ++ to_come k.session) os) (sym (append-nil k.outcomes))
             ∙ f.1
             ∙ ap (λ bytes. bytes ++ f.0) (sym out_is)
             ∙ append_assoc k.written k.session.out f.0,
       )
 
-  all_out : k.session.out ≡ [] → k.written ≡ texts t.given k.replies
+  all_out : k.session.out ≡ [] → k.written ≡ outcome_texts t.given k.outcomes
   all_out none = sym (append-nil k.written) ∙ ap (λ bytes. k.written ++ bytes) (sym none) ∙ out_is
 
   stops_there : (asked : Option Form)
       → k.session.asked ≡ asked
       → is_some asked ≡ true
-      → texts (turns k.read) k.replies ≡ texts t.given k.replies
+      → outcome_texts (turns k.read) k.outcomes ≡ outcome_texts t.given k.outcomes
   stops_there None e h = absurd (let no : false ≡ true = h in cc)
   stops_there (Some form) e h =
-      let c = calls_have_replies (run_with k t.given) t.is in
-      let d : length k.replies + 1 ≡ length (calls_of t.given) =
-      subst (λ a. length k.replies + open_calls a ≡ length (calls_of t.given)) e c in
-      ap (λ ts. texts ts k.replies) (sym all_turns) ∙ texts_stop t.given (to_come k.session) k.replies
+      let c = given_counted k t in
+      let d : length k.outcomes + 1 ≡ length (calls_of t.given) =
+      subst (λ a. length k.outcomes + open_calls a ≡ length (calls_of t.given)) e c in
+      ap (λ ts. outcome_texts ts k.outcomes) (sym all_turns) ∙ texts_stop t.given (to_come k.session) k.outcomes
       (omega (arith, d))
 
   none_next : (turn : Option Turn) → not (is_some turn) ≡ true → turn ≡ None
@@ -243,25 +294,28 @@ module _ (k : Connection) (t : IsConnected k) where
   texts_given : (b : Bool)
       → is_some k.session.asked ≡ b
       → (b || not (is_some (next_of k.session).0)) ≡ true
-      → texts (turns k.read) k.replies ≡ texts t.given k.replies
+      → outcome_texts (turns k.read) k.outcomes ≡ outcome_texts t.given k.outcomes
   texts_given true e h = stops_there k.session.asked refl e
   texts_given false e h =
-      ap (λ ts. texts ts k.replies) (sym (gives_all (run_with k t.given) t.is (none_next (next_of k.session).0 h)))
+      ap (λ ts. outcome_texts ts k.outcomes)
+      (sym (gives_all (run_with k t.given) t.is (none_next (next_of k.session).0 h)))
 
   answered_all : k.session.asked ≡ None
       → (next_of k.session).0 ≡ None
-      → length k.replies ≡ length (calls_of (turns k.read))
+      → length k.outcomes ≡ length (calls_of (turns k.read))
   answered_all idle none =
-      let c = calls_have_replies (run_with k t.given) t.is in
-      let d : length k.replies + 0 ≡ length (calls_of t.given) =
-      subst (λ a. length k.replies + open_calls a ≡ length (calls_of t.given)) idle c in
-      let e : length k.replies ≡ length (calls_of t.given) = omega (arith, d) in
+      let c = given_counted k t in
+      let d : length k.outcomes + 0 ≡ length (calls_of t.given) =
+      subst (λ a. length k.outcomes + open_calls a ≡ length (calls_of t.given)) idle c in
+      let e : length k.outcomes ≡ length (calls_of t.given) = omega (arith, d) in
       e ∙ ap (λ ts. length (calls_of ts)) (gives_all (run_with k t.given) t.is none)
 
   -- so it got what its bytes ask for
   pub is_served : IsServed k
   is_served = record {
+    outcomes = of_first;
     calls = first_calls;
+    got = t.got;
     replies = t.few;
     one_open = one_at_most k.session.asked (length k.replies) (length k.calls) (length (as_list k.due)) (counted k t);
     written = begins;
@@ -285,7 +339,8 @@ module _ (k : Connection) (t : IsConnected k) where
       record {
         answered = answered_all idle rested.turns;
         written =
-            all_out rested.out ∙ ap (λ ts. texts ts k.replies) (gives_all (run_with k t.given) t.is rested.turns);
+            all_out rested.out
+            ∙ ap (λ ts. outcome_texts ts k.outcomes) (gives_all (run_with k t.given) t.is rested.turns);
       }
     where
       no_open : length k.replies ≡ length k.calls

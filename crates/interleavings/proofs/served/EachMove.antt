@@ -14,22 +14,25 @@ use Rattle.table.specs.declared.operations.Target.TheVariants.{One, All}
 use Rattle.table.specs.declared.operations.Reply.{Reply}
 use Rattle.node.proofs.Lists.{get_front}
 use Rattle.proto.specs.declared.texts.Form.{Form}
-use Rattle.proto.specs.Turns.{call_of}
+use Rattle.proto.specs.Turns.{is_store, call_of}
 use Rattle.proto.specs.Sessions.{next_of, shows}
 use Rattle.proto.specs.Runs.{open_calls}
 use Rattle.interleavings.specs.Chains.{with_at}
 use Rattle.interleavings.specs.Moves.{Move, Sends, Takes, Publishes, Puts, Arrives, Replies, Receives, Looks, Stops}
 use Rattle.interleavings.specs.Moves.{Notices, is_free, read_of, done}
 use Rattle.interleavings.specs.Asked.{IsAskedBy}
-use Rattle.interleavings.specs.Connections.{Connection, heard, begun, made, answered, wrote, waits, may_have}
-use Rattle.interleavings.specs.ServingMoves.{ServingChain, ServingMove, Reads, Begins, Asks, Peeks, Answers, Writes, Ends}
-use Rattle.interleavings.specs.ServingMoves.{Runs, served_at, with_move, asking, key_read, key_due, look_reply}
-use Rattle.interleavings.specs.ServingMoves.{peeked, peeking, answering, is_of_seat, served_by}
+use Rattle.interleavings.specs.Connections.{Connection, heard, begun, made, answered, refused, wrote, waits}
+use Rattle.interleavings.specs.Connections.{may_have}
+use Rattle.interleavings.specs.ServingMoves.{ServingChain, ServingMove, Reads, Begins, Asks, Peeks, Refuses, Answers}
+use Rattle.interleavings.specs.ServingMoves.{Writes, Ends, Runs, served_at, with_served, with_move, refusing, asking}
+use Rattle.interleavings.specs.ServingMoves.{key_read, key_due, look_reply, peeked, peeking, answering, is_of_seat}
+use Rattle.interleavings.specs.ServingMoves.{served_by}
 use Rattle.interleavings.proofs.lists.Places.{at_same, at_other, at_self}
 use Rattle.interleavings.proofs.served.Connected.{as_list, IsConnected, connected_heard, connected_begun, connected_made}
 use Rattle.interleavings.proofs.served.Connected.{connected_answered, connected_wrote, counted, is_served}
 use Rattle.interleavings.proofs.served.AskedTurns.{due_asked}
 use Rattle.interleavings.proofs.served.Forms.{due_form}
+use Rattle.interleavings.proofs.served.Refusing.{connected_refused}
 use Rattle.interleavings.proofs.served.InTurn.{InTurn, turn_asked, turn_peeked, turn_answered, turn_ended}
 use Rattle.interleavings.proofs.served.ChainMoves.{sends_seats, looks_seats, receives_seats, look_shows_value, others_same}
 use Rattle.interleavings.proofs.served.Steps.{calls_at, replies_at, IsInOrder, IsStep, stays, session_step}
@@ -220,7 +223,7 @@ peeks_step s c h = by_key (key_due (served_at s c).due) refl
         seat_step s c (answered reply k) (Looks c key)
         (record seat { calls = seat.calls ++ read_of key ∷ []; got = seat.got ++ reply ∷ [] }) h
         (connected_answered reply k (lt-ltb (length k.replies) (length k.calls) (omega (arith, n, same)))
-        (shown_may (served_at s c).session.asked f.0 reply f.1 f.2 (look_shows_value s.chain c key reply r))
+        (shown_may (served_at s c).session.asked f.form reply f.asked f.fits (look_shows_value s.chain c key reply r))
         (connected_made (read_of key) (served_at s c) e t)) (due_asked (served_at s c) t (read_of key) e) l.1
         (λ q other g. get_front (served_at s c).calls (read_of key ∷ []) q other g)
         (turn_peeked seat.calls seat.got (calls_at s c) (replies_at s c) (s.ended c) (h.seats c) (read_of key) reply
@@ -229,6 +232,22 @@ peeks_step s c h = by_key (key_due (served_at s c).due) refl
     by_key : (o : Option (List ℕ)) → key_due (served_at s c).due ≡ o → IsStep s (peeking done s c o)
     by_key None e = stays s h
     by_key (Some key) e = by_reply key (look_reply s.chain c key) (due_read (served_at s c).due key e) refl
+
+refuses_step : (s : ServingChain) (c : ℕ) → IsInOrder s → IsStep s (served_by done s (Refuses c))
+refuses_step s c h = by_due (served_at s c).due refl
+  where
+    by_store : (call : Call) (b : Bool)
+        → (served_at s c).due ≡ Some call
+        → is_store call.op ≡ b
+        → IsStep s (cond b (with_served s c (refused (served_at s c))) s)
+    by_store call false e store = stays s h
+    by_store call true e store =
+        session_step s c (refused (served_at s c)) h
+        (connected_refused call (served_at s c) e store (h.connected c (s.ended c))) refl refl
+
+    by_due : (due : Option Call) → (served_at s c).due ≡ due → IsStep s (refusing s c due)
+    by_due None e = stays s h
+    by_due (Some call) e = by_store call (is_store call.op) e refl
 
 answers_step : (s : ServingChain) (c : ℕ) → IsInOrder s → IsStep s (served_by done s (Answers c))
 answers_step s c h = by_mail (s.chain.seats c).mail refl
@@ -265,6 +284,7 @@ step s (Reads c piece) h = reads_step s c piece h
 step s (Begins c) h = begins_step s c h
 step s (Asks c) h = asks_step s c h
 step s (Peeks c) h = peeks_step s c h
+step s (Refuses c) h = refuses_step s c h
 step s (Answers c) h = answers_step s c h
 step s (Writes c n) h = writes_step s c n h
 step s (Ends c) h = ends_step s c h

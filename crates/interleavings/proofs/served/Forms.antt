@@ -19,14 +19,17 @@ use Rattle.proto.specs.Verbs.{op_of}
 use Rattle.proto.specs.Grammar.{Spells}
 use Rattle.proto.specs.Fronts.{Front, front, is_last}
 use Rattle.proto.specs.Turns.{Turn, Faulty, Calls, calls_of, looks, turns_of, form_of}
-use Rattle.proto.specs.Sessions.{Held, Given, Writes, fed, next_of, answered_by, shows}
+use Rattle.proto.specs.Sessions.{Held, Given, Writes, fed, next_of, answered_by, refused_by, shows}
 use Rattle.proto.specs.Streams.{and_later, requests_upto, to_come}
-use Rattle.proto.specs.Runs.{Feed, Next, Answer, Take, Run, IsRun, Opens, Acts, turn_given, open_calls}
+use Rattle.proto.specs.Runs.{Feed, Next, Answer, Refuse, Take, Run, IsRun, Opens, Acts, turn_given, open_calls}
 use Rattle.proto.proofs.GrammarLaws.{found_is_spelled}
 use Rattle.proto.proofs.RunLaws.{any_cutting}
 use Rattle.proto.proofs.WriteLaws.{calls_of_more, next_writes}
 use Rattle.interleavings.specs.Connections.{Connection}
-use Rattle.interleavings.proofs.served.Connected.{as_list, IsConnected, run_with, counted}
+use Rattle.interleavings.specs.Served.{unrefused}
+use Rattle.interleavings.proofs.relation.Transfer.{take_front}
+use Rattle.interleavings.proofs.served.Outcomes.{unrefused_more}
+use Rattle.interleavings.proofs.served.Connected.{as_list, IsConnected, run_with, given_counted, counted}
 
 -- ---- the forms of turns
 
@@ -142,6 +145,12 @@ answered_last : (h : Held) (asked : Option Form) (reply : Reply)
 answered_last h None reply ts e = rw e tt
 answered_last h (Some form) reply ts e = tt
 
+refused_last : (h : Held) (asked : Option Form) (ts : List Turn)
+    → h.asked ≡ asked
+    → IsLastTurn (refused_by asked h).asked ts
+refused_last h None ts e = rw e tt
+refused_last h (Some form) ts e = tt
+
 last_turn : (run : Run) → IsRun run → IsLastTurn run.held.asked run.given
 last_turn run Opens = tt
 last_turn run (Acts earlier (Feed piece) is allowed) = fed_last earlier.held piece earlier.given (last_turn earlier is)
@@ -149,6 +158,8 @@ last_turn run (Acts earlier Next is allowed) =
     next_last earlier.held (next_of earlier.held) earlier.given allowed (next_writes earlier.held)
 last_turn run (Acts earlier (Answer reply) is allowed) =
     answered_last earlier.held earlier.held.asked reply earlier.given refl
+last_turn run (Acts earlier Refuse is allowed) =
+    refused_last earlier.held earlier.held.asked earlier.given refl
 last_turn run (Acts earlier (Take n) is allowed) = last_turn earlier is
 
 given_fit : (k : Connection) (t : IsConnected k) (before : List Turn) (call : Call) (form : Form)
@@ -158,6 +169,60 @@ given_fit k t before call form e =
     subst FitForms e
     (first_fit t.given (to_come k.session)
     (subst FitForms (sym (any_cutting (run_with k t.given) t.is)) (upto_fit (length k.read) k.read)))
+
+-- ---- the call that is open, as the connection has it
+
+last_same : {X : Type 0} (xs ys : List X) (x y : X) → xs ++ x ∷ [] ≡ ys ++ y ∷ [] → (xs ≡ ys) × (x ≡ y)
+last_same xs ys x y e =
+    let n = length-append xs (x ∷ []) in
+    let m = length-append ys (y ∷ []) in
+    let s = ap length e in
+    let l : length xs ≡ length ys = omega (arith, n, m, s) in (
+      sym (take_front xs (x ∷ [])) ∙ ap (take (length xs)) e
+          ∙ ap (λ p. take p (ys ++ y ∷ [])) l ∙ take_front ys (y ∷ []),
+      same_Some x y
+          (sym (get_last xs x) ∙ ap (λ zs. slice_get zs (length xs)) e ∙ ap (slice_get (ys ++ y ∷ [])) l
+          ∙ get_last ys y),
+    )
+
+-- An open call is that of the last turn. The calls before it have their outcomes, and those of them that weren't
+-- refused were made; it was made itself, or is to be made.
+pub record IsLastCall (k : Connection) (given : List Turn) (form : Form) : Type 0 where
+  pub before : List Turn
+  pub call : Call
+  pub given_is : given ≡ before ++ Calls call form ∷ []
+  pub known : length k.outcomes ≡ length (calls_of before)
+  pub calls : k.calls ++ as_list k.due ≡ unrefused (calls_of before) k.outcomes ++ call ∷ []
+  pub fits : shows form ≡ not (is_update call.op)
+
+-- so it is
+pub open_call : (k : Connection) (t : IsConnected k) (form : Form)
+    → k.session.asked ≡ Some form
+    → IsLastCall k t.given form
+open_call k t form e = record {
+  before = l.0;
+  call = l.1;
+  given_is = l.2;
+  known = known;
+  calls =
+      sym t.calls
+      ∙ ap (λ cs. unrefused cs k.outcomes) calls
+      ∙ unrefused_more (calls_of l.0) (l.1 ∷ []) k.outcomes (let n = known in omega (arith, n));
+  fits = last_fits l.0 l.1 form (given_fit k t l.0 l.1 form l.2);
+}
+  where
+    l : IsLastTurn (Some form) t.given
+    l = subst (λ a. IsLastTurn a t.given) e (last_turn (run_with k t.given) t.is)
+
+    calls : calls_of t.given ≡ calls_of l.0 ++ l.1 ∷ []
+    calls = ap calls_of l.2 ∙ calls_of_more l.0 (Calls l.1 form ∷ [])
+
+    known : length k.outcomes ≡ length (calls_of l.0)
+    known =
+        let n : length k.outcomes + 1 ≡ length (calls_of t.given) =
+        subst (λ a. length k.outcomes + open_calls a ≡ length (calls_of t.given)) e (given_counted k t) in
+        let c = ap length calls ∙ length-append (calls_of l.0) (l.1 ∷ []) in
+        omega (arith, n, c)
 
 -- The call that a connection waits for is the last that it made, and the form of its answer is its operation's.
 pub record IsWaiting (k : Connection) : Type 0 where
@@ -180,27 +245,26 @@ waiting k t less = by_asked k.session.asked refl
         subst (λ a. length k.replies + open_calls a ≡ length k.calls + 1) e n in
         absurd (omega (arith, m, less))
     by_due form None e d =
-        let l : IsLastTurn (Some form) t.given =
-        subst (λ a. IsLastTurn a t.given) e (last_turn (run_with k t.given) t.is) in
-        let calls : k.calls ≡ calls_of l.0 ++ l.1 ∷ [] =
-        sym (t.calls ∙ ap (λ x. k.calls ++ as_list x) d ∙ append-nil k.calls) ∙ ap calls_of l.2
-        ∙ calls_of_more l.0 (Calls l.1 form ∷ []) in
+        let o = open_call k t form e in
+        let first = unrefused (calls_of o.before) k.outcomes in
+        let calls : k.calls ≡ first ++ o.call ∷ [] =
+        sym (append-nil k.calls) ∙ ap (λ x. k.calls ++ as_list x) (sym d) ∙ o.calls in
         let n : length k.replies + open_calls k.session.asked ≡ length k.calls + 0 =
         subst (λ x. length k.replies + open_calls k.session.asked ≡ length k.calls + length (as_list x)) d (counted k t)
         in
         let m : length k.replies + 1 ≡ length k.calls + 0 =
         subst (λ a. length k.replies + open_calls a ≡ length k.calls + 0) e n in
-        let c = ap length calls ∙ length-append (calls_of l.0) (l.1 ∷ []) in
-        let there : length k.replies ≡ length (calls_of l.0) = omega (arith, m, c) in
+        let c = ap length calls ∙ length-append first (o.call ∷ []) in
+        let there : length k.replies ≡ length first = omega (arith, m, c) in
         record {
           form = form;
-          call = l.1;
+          call = o.call;
           asked = e;
           made =
               ap (λ cs. slice_get cs (length k.replies)) calls
-              ∙ ap (slice_get (calls_of l.0 ++ l.1 ∷ [])) there
-              ∙ get_last (calls_of l.0) l.1;
-          fits = last_fits l.0 l.1 form (given_fit k t l.0 l.1 form l.2);
+              ∙ ap (slice_get (first ++ o.call ∷ [])) there
+              ∙ get_last first o.call;
+          fits = o.fits;
         }
 
     by_asked : (asked : Option Form) → k.session.asked ≡ asked → IsWaiting k
@@ -210,24 +274,22 @@ waiting k t less = by_asked k.session.asked refl
         absurd (omega (arith, n, less))
     by_asked (Some form) e = by_due form k.due e refl
 
-last_same : {X : Type 0} (xs ys : List X) (x y : X) → xs ++ x ∷ [] ≡ ys ++ y ∷ [] → x ≡ y
-last_same xs ys x y e =
-    let n = length-append xs (x ∷ []) in
-    let m = length-append ys (y ∷ []) in
-    let s = ap length e in
-    let l : length xs ≡ length ys = omega (arith, n, m, s) in
-    same_Some x y
-    (sym (get_last xs x) ∙ ap (λ zs. slice_get zs (length xs)) e ∙ ap (slice_get (ys ++ y ∷ [])) l ∙ get_last ys y)
+-- The call that is to be made is open, after calls that were made or refused, and the form of its answer is its
+-- operation's.
+pub record IsDue (k : Connection) (given : List Turn) (call : Call) : Type 0 where
+  pub form : Form
+  pub asked : k.session.asked ≡ Some form
+  pub before : List Turn
+  pub given_is : given ≡ before ++ Calls call form ∷ []
+  pub known : length k.outcomes ≡ length (calls_of before)
+  pub calls : k.calls ≡ unrefused (calls_of before) k.outcomes
+  pub fits : shows form ≡ not (is_update call.op)
 
--- The form of a call that is to be made is its operation's.
-pub due_form : (k : Connection) (t : IsConnected k) (call : Call)
-    → k.due ≡ Some call
-    → (form : Form) × (k.session.asked ≡ Some form) × (shows form ≡ not (is_update call.op))
+-- so it is
+pub due_form : (k : Connection) (t : IsConnected k) (call : Call) → k.due ≡ Some call → IsDue k t.given call
 due_form k t call d = by_asked k.session.asked refl
   where
-    by_asked : (asked : Option Form)
-        → k.session.asked ≡ asked
-        → (form : Form) × (k.session.asked ≡ Some form) × (shows form ≡ not (is_update call.op))
+    by_asked : (asked : Option Form) → k.session.asked ≡ asked → IsDue k t.given call
     by_asked None e =
         let n : length k.replies + open_calls k.session.asked ≡ length k.calls + 1 =
         subst (λ x. length k.replies + open_calls k.session.asked ≡ length k.calls + length (as_list x)) d (counted k t)
@@ -237,12 +299,15 @@ due_form k t call d = by_asked k.session.asked refl
         let f = t.few in
         absurd (omega (arith, m, f))
     by_asked (Some form) e =
-        let l : IsLastTurn (Some form) t.given =
-        subst (λ a. IsLastTurn a t.given) e (last_turn (run_with k t.given) t.is) in
-        let calls : k.calls ++ call ∷ [] ≡ calls_of l.0 ++ l.1 ∷ [] =
-        sym (t.calls ∙ ap (λ x. k.calls ++ as_list x) d) ∙ ap calls_of l.2 ∙ calls_of_more l.0 (Calls l.1 form ∷ []) in (
-          form,
-          e,
-          last_fits l.0 l.1 form (given_fit k t l.0 l.1 form l.2)
-              ∙ ap (λ (c : Call). not (is_update c.op)) (sym (last_same k.calls (calls_of l.0) call l.1 calls)),
-        )
+        let o = open_call k t form e in
+        let same = last_same k.calls (unrefused (calls_of o.before) k.outcomes) call o.call
+        (ap (λ x. k.calls ++ as_list x) (sym d) ∙ o.calls) in
+        record {
+          form = form;
+          asked = e;
+          before = o.before;
+          given_is = o.given_is ∙ ap (λ (c : Call). o.before ++ Calls c form ∷ []) (sym same.1);
+          known = o.known;
+          calls = same.0;
+          fits = o.fits ∙ ap (λ (c : Call). not (is_update c.op)) (sym same.1);
+        }

@@ -8,14 +8,16 @@ use Rattle.std.proofs.lemmas.List.{take-map}
 use Rattle.table.specs.declared.operations.Call.{Call}
 use Rattle.table.specs.declared.operations.Reply.{Reply}
 use Rattle.node.specs.Faces.{face_of, look_at}
+use Rattle.proto.specs.Turns.{is_store}
 use Rattle.interleavings.specs.Chains.{RunningServer, Seat, Chain, OfNotices}
 use Rattle.interleavings.specs.Moves.{Move, Sends, Takes, Publishes, Puts, Arrives, Replies, Receives, Looks, Stops}
 use Rattle.interleavings.specs.Moves.{Notices, is_free, done}
 use Rattle.interleavings.specs.OwnPorts.{with_own_ports}
-use Rattle.interleavings.specs.Connections.{Connection, made, answered, waits, may_have}
-use Rattle.interleavings.specs.ServingMoves.{ServingChain, ServingMove, Reads, Begins, Asks, Peeks, Answers, Writes, Ends}
-use Rattle.interleavings.specs.ServingMoves.{Runs, served_at, key_due, reply_by, look_reply, is_of_seat, opening_serving}
-use Rattle.interleavings.specs.ServingMoves.{with_move, asking, peeked, peeking, answering, served_by, served_from, served}
+use Rattle.interleavings.specs.Connections.{Connection, made, answered, refused, waits, may_have}
+use Rattle.interleavings.specs.ServingMoves.{ServingChain, ServingMove, Reads, Begins, Asks, Peeks, Refuses, Answers}
+use Rattle.interleavings.specs.ServingMoves.{Writes, Ends, Runs, served_at, with_served, refusing, key_due, reply_by}
+use Rattle.interleavings.specs.ServingMoves.{look_reply, is_of_seat, opening_serving, with_move, asking, peeked}
+use Rattle.interleavings.specs.ServingMoves.{peeking, answering, served_by, served_from, served}
 use Rattle.interleavings.specs.Served.{IsServed, CallName, call_made, reply_got, ServedEntry, ComesBefore, IsOneOrder}
 use Rattle.interleavings.proofs.ports.OwnPortMoves.{named, sends_same, receives_same, looks_same}
 use Rattle.interleavings.proofs.ports.OwnPortRuns.{moves_same}
@@ -110,6 +112,14 @@ module _ (n : ℕ) (homes : List ℕ) where
         subst (λ r. SameServing (peeked own s c key (look_reply s.chain c key)) (peeked done other c key r))
         (sym (look_alike c key)) (peeked_alike c key (look_reply s.chain c key))
 
+    refuses_alike : (c : ℕ) (due : Option Call) → SameServing (refusing s c due) (refusing other c due)
+    refuses_alike c None = record { chains = h; ended = refl; connections = refl }
+    refuses_alike c (Some call) =
+        let k = refused (served_at s c) in
+        either (is_store call.op) (with_served s c k) s (with_served other c k) other
+        (record { chains = h; ended = refl; connections = refl })
+        (record { chains = h; ended = refl; connections = refl })
+
     answers_alike : (c : ℕ) (mail : List Reply) → SameServing (answering own s c mail) (answering done other c mail)
     answers_alike c [] = record { chains = h; ended = refl; connections = refl }
     answers_alike c (reply ∷ more) =
@@ -133,6 +143,7 @@ module _ (n : ℕ) (homes : List ℕ) where
     move_alike (Begins c) = record { chains = h; ended = refl; connections = refl }
     move_alike (Asks c) = asks_alike c (served_at s c).due
     move_alike (Peeks c) = peeks_alike c (key_due (served_at s c).due)
+    move_alike (Refuses c) = refuses_alike c (served_at s c).due
     move_alike (Answers c) =
         subst (λ (ss : ℕ → Seat).
         SameServing (answering own s c (s.chain.seats c).mail) (answering done other c (ss c).mail)) (sym h.seats)

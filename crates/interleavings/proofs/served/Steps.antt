@@ -80,7 +80,7 @@ stays s h = record {
 -- ---- one connection changes
 
 -- what is said of each connection is said of all, if it is said of the changed one
-for_each : (P : ℕ → ℕ → Connection → Type 0) (s : ServingChain) (c : ℕ) (k : Connection)
+pub for_each : (P : ℕ → ℕ → Connection → Type 0) (s : ServingChain) (c : ℕ) (k : Connection)
     → ((d n : ℕ) → P d n (s.connections d n))
     → P c (s.ended c) k
     → (d n : ℕ)

@@ -8,7 +8,7 @@ use ends::Failures;
 use node::Peer;
 use rail::{Inlet, Links, Published, RailFault, Server, Worker};
 use runtime::{all_callers, all_links, all_servers, serve_seats, start_worker, work};
-use seats::{InProcessLinks, Mark};
+use seats::{Allowance, Gauge, InProcessLinks, Mark};
 use serving::{CallFault, Caller};
 use std::alloc::{AllocError, Global};
 use std::io::Write;
@@ -166,6 +166,7 @@ fn held_chain<
         port: 0,
         seats: 2,
         serves: 1,
+        memory: None,
         quiet: true,
     };
     let mut servers = all_servers(rt, alloc, numbers).ok()?;
@@ -196,7 +197,8 @@ fn start_chain<
     let mark = Mark::new(alloc).ok()?;
     let listener = TcpListener::bind(&rt, (Ipv4Addr::LOCALHOST, 0)).ok()?;
     let port = listener.local_addr().ok()?.port();
-    let callers = all_callers(alloc, head.stands, &mark).ok()?;
+    let gauge = Gauge::new(alloc, Allowance::new(None, 1)).ok()?;
+    let callers = all_callers(alloc, head.stands, &mark, &gauge).ok()?;
     let seats = serve_seats(rt, alloc, &listener, callers, 1, &mark).ok()?;
     let (sender, gate) = unbounded(alloc).ok()?;
     let mut workers = Vec::new(alloc);
@@ -276,6 +278,10 @@ impl<R: Clock> Caller for Meeting<R> {
                 Err(CallFault)
             }
         }
+    }
+
+    fn has_room(&self) -> bool {
+        true
     }
 }
 

@@ -3,6 +3,7 @@
 use super::clients::{answers, client};
 use command_line::Numbers;
 use runtime::{Hall, Side, all_links, all_servers, all_sides, helping_callers, serve_seats};
+use seats::Allowance;
 use std::alloc::Global;
 use std::net::{Ipv4Addr, Net, TcpListener, TcpStream};
 use std::sync::{Arc, Wait};
@@ -62,11 +63,12 @@ fn helped_chain<
         port: 0,
         seats: 1,
         serves: 1,
+        memory: None,
         quiet: true,
     };
     let mut servers = all_servers(rt, alloc, numbers).ok()?;
     let links = all_links(rt, alloc, 3, &mut servers).ok()?;
-    let (hall, sides) = all_sides(alloc, servers, links).ok()?;
+    let (hall, sides) = all_sides(alloc, Allowance::new(None, 3), servers, links).ok()?;
     let hall = Arc::new(alloc, hall).ok()?;
     open_middle(rt, alloc, &hall, sides)
 }
@@ -83,10 +85,14 @@ fn open_middle<
 >(rt: R, alloc: Global, hall: &Arc<Hall<R>, Global>, sides: Vec<Side>) -> Option<HelpedChain> {
     let mut sides = sides;
     let _tail = sides.pop()?;
-    let Side { stands, home } = sides.pop()?;
+    let Side {
+        stands,
+        home,
+        gauge,
+    } = sides.pop()?;
     let listener = TcpListener::bind(&rt, (Ipv4Addr::LOCALHOST, 0)).ok()?;
     let port = listener.local_addr().ok()?.port();
-    let callers = helping_callers(alloc, stands, &home.failed, hall, 1).ok()?;
+    let callers = helping_callers(alloc, stands, &home.failed, &gauge, hall, 1).ok()?;
     let seats = serve_seats(rt, alloc, &listener, callers, 1, &home.failed).ok()?;
     Some(HelpedChain { port, seats })
 }

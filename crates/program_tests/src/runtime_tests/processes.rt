@@ -4,7 +4,8 @@ use super::clients::{answers, client, says};
 use super::running::some_port;
 use command_line::{Hosts, MasterNumbers, ServerNumbers};
 use ends::{TrackedReader, TrackedWriter};
-use runtime::{MasterSettings, ServerSettings, master, server, warn_of};
+use masters::{MasterSettings, ServerSettings, master};
+use runtime::{server, warn_of};
 use std::alloc::{AllocError, Global};
 use std::io::{PipeReader, Read, Write, pipe};
 use std::net::{Ipv4Addr, Net, SocketAddr, SocketAddrV4, TcpListener, TcpStream};
@@ -170,6 +171,7 @@ fn start<
         port,
         peer_port,
         seats: 1,
+        memory: None,
         quiet: true,
     };
     let settings = ServerSettings::new(alloc, numbers, here(alloc).ok()?).ok()?;

@@ -41,6 +41,7 @@ pub fn ready<
             port,
             seats,
             serves: 1,
+            memory: None,
             quiet: true,
         };
         let mut running = start(rt, alloc, numbers).ok()?;
@@ -89,6 +90,7 @@ fn program<
         + Threads
         + Clock
         + Eprint
+        + Files
         + Net<Listener = TcpListener, Stream = TcpStream>
         + Copy
         + Drop

@@ -11,4 +11,5 @@ returns c =
     let port = with_option _ _ _ _ _ servers c.port_option.ensures c.in_ok-arg-2.ensures in
     let seats = with_option _ _ _ _ _ port c.seats_option.ensures c.in_ok-arg-3.ensures in
     let serves = with_option _ _ _ _ _ seats c.serves_option.ensures c.in_ok-arg-4.ensures in
-    with_option _ _ _ _ _ serves c.quiet_option.ensures c.in_ok-cluster.ensures
+    let memory = with_option _ _ _ _ _ serves c.memory_option.ensures c.in_ok-arg-5.ensures in
+    with_option _ _ _ _ _ memory c.quiet_option.ensures c.in_ok-cluster.ensures

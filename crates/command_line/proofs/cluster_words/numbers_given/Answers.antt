@@ -1,5 +1,6 @@
-use Rattle.std.proofs.Common.{refl}
-use Rattle.command_line.proofs.Found.{given_none}
+use Rattle.std.proofs.Common.{codes, refl}
+use Rattle.command_line.specs.Options.{GivesNumberIfAny}
+use Rattle.command_line.proofs.Found.{given_none, rows_none}
 use Rattle.command_line.proofs.cluster_words.numbers_given.Goals as goal
 
 pub returns-in_err-servers-clause-none : goal.returns-in_err-servers-clause-none
@@ -17,3 +18,8 @@ returns-in_err-seats-clause-none c = λ none numbers n.
 pub returns-in_err-serves-clause-none : goal.returns-in_err-serves-clause-none
 returns-in_err-serves-clause-none c = λ none numbers n.
     given_none _ _ _ _ _ _ _ c.in_ok-given.ensures.given n.named (c.in_err-serves.ensures.none refl) _ n.serves
+
+pub returns-in_err-memory-clause-none : goal.returns-in_err-memory-clause-none
+returns-in_err-memory-clause-none c = λ none numbers n.
+    rows_none (GivesNumberIfAny 1 1048576 (codes "memory")) _ _ _ _ c.in_ok-given.ensures.given n.named
+    (c.in_err-memory.ensures.none refl) _ n.memory

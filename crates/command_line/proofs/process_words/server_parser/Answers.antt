@@ -13,5 +13,6 @@ returns c =
     let port = with_option _ _ _ _ _ servers c.port_option.ensures c.in_ok-arg-3.ensures in
     let peer_port = with_option _ _ _ _ _ port c.peer_port_option.ensures c.in_ok-arg-4.ensures in
     let seats = with_option _ _ _ _ _ peer_port c.seats_option.ensures c.in_ok-arg-5.ensures in
-    let quiet = with_option _ _ _ _ _ seats c.quiet_option.ensures c.in_ok-server.ensures in
+    let memory = with_option _ _ _ _ _ seats c.memory_option.ensures c.in_ok-arg-6.ensures in
+    let quiet = with_option _ _ _ _ _ memory c.quiet_option.ensures c.in_ok-server.ensures in
     IfOk-weaker c.with_hosts.result _ _ (λ parser adds. adds _ quiet) c.with_hosts.ensures

@@ -1,5 +1,4 @@
 use Rattle.std.proofs.Common.{◌∙◌, sym}
-use Rattle.faces.specs.Tombstones.{map_of}
 use Rattle.faces.proofs.Waiting.{first_taken, ends_above, ends_empty, none_by}
 use Rattle.faces.proofs.tombstones.take_away.Goals as goal
 
@@ -14,14 +13,14 @@ returns-clause-versions c =
 
 pub loop-first-preserved : goal.loop-first-preserved
 loop-first-preserved c =
-    let kept = first_taken c.args.acked (map_of c.args.versions.now.entries) (map_of c.loop-first.versions.entries) _ _
+    let kept = first_taken c.args.acked c.args.versions.now c.loop-first.versions _ _
     _ _ c.in-Some.first.now c.in-Some-pop_front.ensures.items c.in-Some.ensures.lookup c.if-first-acked.false
     c.take_away_at.ensures c.loop-first.invariant.queued c.loop-first.invariant.between in
     record { queued = kept.0; between = kept.1 }
 
 pub loop-first-preserved-in-Some-pop_front : goal.loop-first-preserved-in-Some-pop_front
 loop-first-preserved-in-Some-pop_front c =
-    let kept = first_taken c.args.acked (map_of c.args.versions.now.entries) (map_of c.loop-first.versions.entries) _ _
+    let kept = first_taken c.args.acked c.args.versions.now c.loop-first.versions _ _
     _ _ c.in-Some.first.now c.in-Some-pop_front.ensures.items c.in-Some.ensures.lookup c.if-first-acked.false
     c.take_away_at.ensures c.loop-first.invariant.queued c.loop-first.invariant.between in
     record { queued = kept.0; between = kept.1 }

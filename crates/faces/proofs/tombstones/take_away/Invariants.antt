@@ -1,13 +1,12 @@
 use Rattle.std.proofs.Common.{length}
 use Rattle.node.specs.Faces.{IsQueued}
-use Rattle.faces.specs.Tombstones.{map_of}
 use Rattle.faces.proofs.Waiting.{IsBetween}
 use Rattle.faces.proofs.tombstones.take_away.Given as goal
 
 abbrev pub invariant-loop-first : goal.invariant-loop-first
 invariant-loop-first l = record {
-  queued : IsQueued (map_of l.versions.entries) l.tombstones.items;
-  between : IsBetween l.acked (map_of l.initial.versions.entries) (map_of l.versions.entries);
+  queued : IsQueued l.versions l.tombstones.items;
+  between : IsBetween l.acked l.initial.versions l.versions;
 }
 
 abbrev pub decreases-loop-first : goal.decreases-loop-first

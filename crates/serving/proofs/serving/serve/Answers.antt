@@ -32,7 +32,7 @@ loop-preserved-in-Continue-branch-2 g c =
           ∙ ap (λ bytes. g.S.Source.given c.args.source.now ++ bytes) (sym (ap (λ x. x.read) a.2.4 ∙ looked.read));
       stands = stands_answered answers first base wants c.ask.new.connection _ a.0 sent c.loop.caller c.ask.new.caller
           asking.waiting a.2 a.1
-          (stands_same answers first base c.loop.connection wants sent c.loop.caller looked.calls looked.replies
+          (stands_same answers first base c.loop.connection wants sent c.loop.caller looked.calls looked.outcomes
           looked.written c.loop.invariant.stands);
       ended = λ e. c.loop.invariant.ended (sym (ap (λ x. x.ended) a.2.4 ∙ looked.ended) ∙ e);
       reads = c.loop.invariant.reads;
@@ -64,6 +64,6 @@ returns-in_err-write-in-Write-clause-cut g c =
       wants.read,
       c.loop.invariant.given ∙ ap (λ bytes. g.S.Source.given c.args.source.now ++ bytes) (sym looked.read),
       cut_now answers first base wants sent (g.W.Sink.written c.write.new.sink) c.loop.caller
-          (stands_same answers first base c.loop.connection wants sent c.loop.caller looked.calls looked.replies
+          (stands_same answers first base c.loop.connection wants sent c.loop.caller looked.calls looked.outcomes
           looked.written c.loop.invariant.stands) c.so_far-in-loop.ensures.begun c.in_err-write-in-Write.ensures.begun,
     )

@@ -6,16 +6,16 @@ use Rattle.serving.proofs.connections.Connection.feed.Goals as goal
 pub invariant_of-self : goal.invariant_of-self
 invariant_of-self c =
     let s = c.self.inside in
-    subst (λ bytes. IsReached bytes s.replies.all s.written c.feed.new.self) (sym c.add.ensures)
-    (reached_fed s.read c.args.piece.now s.replies.all s.written s.session c.feed.new.self c.self.invariant
+    subst (λ bytes. IsReached bytes s.outcomes.all s.written c.feed.new.self) (sym c.add.ensures)
+    (reached_fed s.read c.args.piece.now s.outcomes.all s.written s.session c.feed.new.self c.self.invariant
     (ap (λ v. v.waiting) c.self.view_is ∙ c.requires.idle) (ap (λ v. v.closed) c.self.view_is ∙ c.requires.open)
     c.in-Ok.ensures.ok)
 
 pub returns-in-Ok-clause-ok : goal.returns-in-Ok-clause-ok
 returns-in-Ok-clause-ok c =
     let s = c.self.inside in
-    ap (λ bytes. reached bytes s.replies.all s.written c.feed.new.self s.ended s.failed) c.add.ensures
-    ∙ (seen_fed s.read c.args.piece.now s.replies.all s.written s.session c.feed.new.self s.ended s.failed
+    ap (λ bytes. reached bytes s.outcomes.all s.written c.feed.new.self s.ended s.failed) c.add.ensures
+    ∙ (seen_fed s.read c.args.piece.now s.outcomes.all s.written s.session c.feed.new.self s.ended s.failed
     c.self.invariant (ap (λ v. v.waiting) c.self.view_is ∙ c.requires.idle)
     (ap (λ v. v.closed) c.self.view_is ∙ c.requires.open) c.in-Ok.ensures.ok
     ∙ ap {A = Connected} (λ v. record v { read = v.read ++ c.args.piece.now }) c.self.view_is)

@@ -6,6 +6,6 @@ use Rattle.serving.proofs.connections.Connection.new.Goals as goal
 pub invariant_of-result : goal.invariant_of-result
 invariant_of-result c =
     subst (λ read. IsReached read c.new-3.result.all c.new-4.result c.new.result) (sym c.new-2.ensures)
-    (subst (λ replies. IsReached [] replies c.new-4.result c.new.result) (sym c.new-3.ensures)
+    (subst (λ outcomes. IsReached [] outcomes c.new-4.result c.new.result) (sym c.new-3.ensures)
     (subst (λ written. IsReached [] [] written c.new.result) (sym c.new-4.ensures)
     (reached_first c.new.result c.new.ensures)))

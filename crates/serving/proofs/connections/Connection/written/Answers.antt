@@ -7,8 +7,8 @@ use Rattle.serving.proofs.connections.Connection.written.Goals as goal
 pub invariant_of-self : goal.invariant_of-self
 invariant_of-self c =
     let s = c.self.inside in
-    subst (λ held. IsReached s.read s.replies.all c.add.new.self held) (sym c.taken.ensures)
-    (subst (λ written. IsReached s.read s.replies.all written (taken_from s.session c.args.n))
+    subst (λ held. IsReached s.read s.outcomes.all c.add.new.self held) (sym c.taken.ensures)
+    (subst (λ written. IsReached s.read s.outcomes.all written (taken_from s.session c.args.n))
     (sym (c.add.ensures ∙ ap (λ out. s.written ++ take c.args.n out) c.out.ensures))
-    (reached_written s.read s.replies.all s.written s.session c.args.n c.self.invariant
+    (reached_written s.read s.outcomes.all s.written s.session c.args.n c.self.invariant
     (subst (λ v. c.args.n ≤ length v.due) (sym c.self.view_is) c.requires)))

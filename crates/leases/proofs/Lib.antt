@@ -1,0 +1,4 @@
+pub mod Looks
+pub mod Holders
+pub mod Tellings
+pub mod Late

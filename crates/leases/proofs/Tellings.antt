@@ -1,0 +1,163 @@
+-- A watch tells the others by the rule.
+use Rattle.std.proofs.Common.{◌≡◌, ◌≢◌, ℕ, ◌+◌, ◌-◌, ◌*◌, ◌/◌, ◌≤◌, inl, inr, nat_le, Bool, true, false}
+use Rattle.std.proofs.Common.{List, [], ◌∷◌, Option, None, Some, if◌then◌else◌, refl, arith}
+use Rattle.std.proofs.lemmas.Bool.{cases_Bool, leb-true}
+use Rattle.leases.specs.declared.terms.TheConstants.{GRAIN}
+use Rattle.leases.specs.declared.watches.Standing.{Standing}
+use Rattle.leases.specs.declared.watches.Standing.TheVariants.{Watched, Told, Gone}
+use Rattle.leases.specs.declared.watches.Deed.{Deed}
+use Rattle.leases.specs.declared.watches.Deed.TheVariants.{Wait, Beat, TellServer, TellOthers}
+use Rattle.leases.specs.Clocks.{IsSurelyOver, wait_for}
+use Rattle.leases.specs.Watching.{WatchState, due, done, watched_due, told_due, standing_due, is_silent, brought}
+use Rattle.leases.specs.Watching.{heard_at, happen, happens, Happening, Answers, Refuses, Asks}
+
+-- who waits so long has waited long enough
+pub over_after : (term silence : ℕ) → wait_for term ≤ silence → IsSurelyOver term silence
+over_after term silence waited = tenth (term + GRAIN) silence waited
+  where
+    tenth : (n m : ℕ) → n + n / 10 + 1 ≤ m → 11 * n ≤ 10 * m
+    tenth n m waited = omega arith
+
+-- a server that is watched isn't called gone to others
+watched_others : (w : WatchState) (whole : Bool) (silence pause : ℕ)
+    → watched_due w whole silence pause ≡ TellOthers → ⊥
+watched_others w whole silence pause =
+    elim (is_silent w.term w.after silence) as
+    (λ v. (if v then TellServer
+    else (if nat_le w.beat pause then Beat (brought whole w.stamp) else Wait (w.beat - pause))) ≡ TellOthers → ⊥) [
+      | true ↦ (λ says. let no : ⊥ = cc in no)
+      | false ↦ beats_or_waits (nat_le w.beat pause) (brought whole w.stamp) (w.beat - pause)
+    ]
+  where
+    beats_or_waits : (beats : Bool) (stamp : Option ℕ) (span : ℕ)
+        → (if beats then Beat stamp else Wait span) ≡ TellOthers → ⊥
+    beats_or_waits true stamp span says = cc
+    beats_or_waits false stamp span says = cc
+
+-- one that was told is called gone to others once it has a lease that is over
+told_others : (term : Option ℕ) (beat silence : ℕ)
+    → told_due term beat silence ≡ TellOthers
+    → (t : ℕ) × ((term ≡ Some t) × IsSurelyOver t silence)
+told_others None beat silence says = absurd (let no : ⊥ = cc in no)
+told_others (Some t) beat silence says =
+    elim (cases_Bool (nat_le (wait_for t) silence)) [
+      | inl waited ↦ (t, (refl, over_after t silence (leb-true (wait_for t) silence waited)))
+      | inr early ↦ absurd (let wrong = rw early at says in let no : ⊥ = cc in no)
+    ]
+
+-- others are told after a refusal, or by the rule
+pub tells_by_rule : (w : WatchState) (whole : Bool) (now : ℕ)
+    → w.standing ≢ Gone
+    → due w whole now ≡ TellOthers
+    → (t : ℕ) × ((w.term ≡ Some t) × IsSurelyOver t (now - w.heard))
+tells_by_rule w whole now = by_standing w.standing w whole now
+  where
+    by_standing : (standing : Standing) (w : WatchState) (whole : Bool) (now : ℕ)
+        → standing ≢ Gone
+        → standing_due standing w whole now ≡ TellOthers
+        → (t : ℕ) × ((w.term ≡ Some t) × IsSurelyOver t (now - w.heard))
+    by_standing Watched w whole now going says =
+        absurd (watched_others w whole (now - w.heard) (now - w.sent) says)
+    by_standing Told w whole now going says = told_others w.term w.beat (now - w.heard) says
+    by_standing Gone w whole now going says = absurd (going refl)
+
+-- what was heard later isn't before what was heard
+heard-done : (w : WatchState) (now : ℕ) (deed : Deed) → (done w now deed).heard ≡ w.heard
+heard-done w now (Wait span) = refl
+heard-done w now (Beat stamp) = refl
+heard-done w now TellServer = refl
+heard-done w now TellOthers = refl
+
+heard_grows : (w : WatchState) (x : Happening) → w.heard ≤ (happen w x).heard
+heard_grows w (Answers stamp now) = by_standing w.standing w stamp now
+  where
+    by_standing : (standing : Standing) (w : WatchState) (stamp now : ℕ)
+        → w.heard ≤ (heard_at standing w stamp now).heard
+    by_standing Watched w stamp now = omega arith
+    by_standing Told w stamp now = omega arith
+    by_standing Gone w stamp now = omega arith
+heard_grows w Refuses = omega arith
+heard_grows w (Asks whole now) =
+    let same : (done w now (due w whole now)).heard ≡ w.heard = heard-done w now (due w whole now) in omega arith
+
+pub heard_rises : (w : WatchState) (xs : List Happening) → w.heard ≤ (happens w xs).heard
+heard_rises w [] = omega arith
+heard_rises w (x ∷ xs) =
+    let first : w.heard ≤ (happen w x).heard = heard_grows w x in
+    let rest : (happen w x).heard ≤ (happens (happen w x) xs).heard = heard_rises (happen w x) xs in
+    omega arith
+
+-- who isn't watched any more is never watched again
+stays_done : (w : WatchState) (now : ℕ) (deed : Deed) → w.standing ≢ Watched → (done w now deed).standing ≢ Watched
+stays_done w now (Wait span) left = left
+stays_done w now (Beat stamp) left = left
+stays_done w now TellServer left = λ same. let no : ⊥ = cc in no
+stays_done w now TellOthers left = λ same. let no : ⊥ = cc in no
+
+stays_once : (w : WatchState) (x : Happening) → w.standing ≢ Watched → (happen w x).standing ≢ Watched
+stays_once w (Answers stamp now) left = by_standing w.standing w stamp now left
+  where
+    by_standing : (standing : Standing) (w : WatchState) (stamp now : ℕ)
+        → w.standing ≢ Watched → (heard_at standing w stamp now).standing ≢ Watched
+    by_standing Watched w stamp now left = left
+    by_standing Told w stamp now left = left
+    by_standing Gone w stamp now left = left
+stays_once w Refuses left = λ same. let no : ⊥ = cc in no
+stays_once w (Asks whole now) left = stays_done w now (due w whole now) left
+
+stays_left : (w : WatchState) (xs : List Happening) → w.standing ≢ Watched → (happens w xs).standing ≢ Watched
+stays_left w [] left = left
+stays_left w (x ∷ xs) left = stays_left (happen w x) xs (stays_once w x left)
+
+-- and gets no beat any more
+no_beat : (standing : Standing) (w : WatchState) (whole : Bool) (now : ℕ) (stamp : Option ℕ)
+    → standing ≢ Watched
+    → standing_due standing w whole now ≡ Beat stamp
+    → ⊥
+no_beat Watched w whole now stamp left says = left refl
+no_beat Told w whole now stamp left says = no_beat_told w.term w.beat (now - w.heard) stamp says
+  where
+    no_beat_told : (term : Option ℕ) (beat silence : ℕ) (stamp : Option ℕ)
+        → told_due term beat silence ≡ Beat stamp → ⊥
+    no_beat_told None beat silence stamp says = cc
+    no_beat_told (Some t) beat silence stamp says =
+        elim (cases_Bool (nat_le (wait_for t) silence)) [
+          | inl waited ↦ (let wrong = rw waited at says in let no : ⊥ = cc in no)
+          | inr early ↦ (let wrong = rw early at says in let no : ⊥ = cc in no)
+        ]
+no_beat Gone w whole now stamp left says = cc
+
+pub no_beat_later : (w : WatchState) (xs : List Happening) (whole : Bool) (now : ℕ) (stamp : Option ℕ)
+    → w.standing ≢ Watched
+    → due (happens w xs) whole now ≢ Beat stamp
+no_beat_later w xs whole now stamp left says =
+    no_beat (happens w xs).standing (happens w xs) whole now stamp (stays_left w xs left) says
+
+-- a beat brings back the stamp that was heard last, and that only in a whole reign
+pub brings_last : (w : WatchState) (whole : Bool) (now stamp : ℕ)
+    → due w whole now ≡ Beat (Some stamp)
+    → (whole ≡ true) × (stamp ≡ w.stamp)
+brings_last w whole now stamp = by_standing w.standing w whole now stamp
+  where
+    by_whole : (whole : Bool) (last stamp : ℕ)
+        → brought whole last ≡ Some stamp → (whole ≡ true) × (stamp ≡ last)
+    by_whole true last stamp same = (refl, let is : stamp ≡ last = cc in is)
+    by_whole false last stamp same = absurd (let no : ⊥ = cc in no)
+
+    by_tests : (silent beats whole : Bool) (last stamp span : ℕ)
+        → (if silent then TellServer else (if beats then Beat (brought whole last) else Wait span)) ≡ Beat (Some stamp)
+        → (whole ≡ true) × (stamp ≡ last)
+    by_tests true beats whole last stamp span says = absurd (let no : ⊥ = cc in no)
+    by_tests false true whole last stamp span says =
+        by_whole whole last stamp (let same : brought whole last ≡ Some stamp = cc in same)
+    by_tests false false whole last stamp span says = absurd (let no : ⊥ = cc in no)
+
+    by_standing : (standing : Standing) (w : WatchState) (whole : Bool) (now stamp : ℕ)
+        → standing_due standing w whole now ≡ Beat (Some stamp)
+        → (whole ≡ true) × (stamp ≡ w.stamp)
+    by_standing Watched w whole now stamp says =
+        by_tests (is_silent w.term w.after (now - w.heard)) (nat_le w.beat (now - w.sent)) whole w.stamp stamp
+        (w.beat - (now - w.sent)) says
+    by_standing Told w whole now stamp says =
+        absurd (no_beat Told w whole now (Some stamp) (λ same. let no : ⊥ = cc in no) says)
+    by_standing Gone w whole now stamp says = absurd (let no : ⊥ = cc in no)

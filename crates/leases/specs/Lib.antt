@@ -1,0 +1,5 @@
+pub mod Clocks
+pub mod Leases
+pub mod Holding
+pub mod Watching
+pub mod WrongRules

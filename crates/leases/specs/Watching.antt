@@ -1,0 +1,91 @@
+-- The master's side: what it knows of one server, and what is due.
+use Rattle.std.specs.Prelude.{ℕ, ◌-◌, max, nat_le, Bool, true, false, List, [], ◌∷◌}
+use Rattle.std.specs.Prelude.{Option, None, Some, if◌then◌else◌}
+use Rattle.leases.specs.declared.watches.Standing.{Standing}
+use Rattle.leases.specs.declared.watches.Standing.TheVariants.{Watched, Told, Gone}
+use Rattle.leases.specs.declared.watches.Deed.{Deed}
+use Rattle.leases.specs.declared.watches.Deed.TheVariants.{Wait, Beat, TellServer, TellOthers}
+use Rattle.leases.specs.Clocks.{wait_for}
+
+-- What a master knows of a server that is in its reign. Times are what the master's clock shows.
+pub record WatchState : Type 0 where
+  -- the term of the server's lease, or none
+  pub term : Option ℕ
+  -- so much lies between two beats
+  pub beat : ℕ
+  -- a server that wasn't heard for so long is told that it is gone
+  pub after : ℕ
+  -- when it was heard for the last time
+  pub heard : ℕ
+  -- the stamp that it answered then
+  pub stamp : ℕ
+  -- when the last beat was sent
+  pub sent : ℕ
+  pub standing : Standing
+
+-- it wasn't heard for too long; without a lease that says nothing
+abbrev pub is_silent : Option ℕ → ℕ → ℕ → Bool
+is_silent None after silence = false
+is_silent (Some term) after silence = nat_le after silence
+
+-- the stamp that a beat brings back, if the reign is whole: if each other server that isn't gone has entered it
+abbrev pub brought : Bool → ℕ → Option ℕ
+brought true stamp = Some stamp
+brought false stamp = None
+
+-- what is due for a server that is watched, if so much has passed since it was heard and since the last beat
+abbrev pub watched_due : WatchState → Bool → ℕ → ℕ → Deed
+watched_due w whole silence pause =
+    if is_silent w.term w.after silence then TellServer
+    else (if nat_le w.beat pause then Beat (brought whole w.stamp) else Wait (w.beat - pause))
+
+-- what is due for a server that was told
+abbrev pub told_due : Option ℕ → ℕ → ℕ → Deed
+told_due None beat silence = Wait beat
+told_due (Some term) beat silence =
+    if nat_le (wait_for term) silence then TellOthers else Wait (wait_for term - silence)
+
+abbrev pub standing_due : Standing → WatchState → Bool → ℕ → Deed
+standing_due Watched w whole now = watched_due w whole (now - w.heard) (now - w.sent)
+standing_due Told w whole now = told_due w.term w.beat (now - w.heard)
+standing_due Gone w whole now = TellOthers
+
+-- what is due when the master's clock shows this
+abbrev pub due : WatchState → Bool → ℕ → Deed
+due w whole now = standing_due w.standing w whole now
+
+-- what it knows once that was done
+abbrev pub done : WatchState → ℕ → Deed → WatchState
+done w now (Wait span) = w
+done w now (Beat stamp) = record w { sent = now }
+done w now TellServer = record w { standing = Told }
+done w now TellOthers = record w { standing = Gone }
+
+-- an answer counts as long as the server is watched
+abbrev pub heard_at : Standing → WatchState → ℕ → ℕ → WatchState
+heard_at Watched w stamp now = record w { heard = max w.heard now; stamp = stamp }
+heard_at Told w stamp now = w
+heard_at Gone w stamp now = w
+
+abbrev pub answered : WatchState → ℕ → ℕ → WatchState
+answered w stamp now = heard_at w.standing w stamp now
+
+-- What a watch is told and asked.
+pub data Happening : Type 0 where
+  -- an answer with this stamp; then the clock shows this
+  Answers : ℕ → ℕ → Happening
+  -- a new connection was refused
+  Refuses : Happening
+  -- what is due is asked for, and done
+  Asks : Bool → ℕ → Happening
+
+-- what one of them does
+abbrev pub happen : WatchState → Happening → WatchState
+happen w (Answers stamp now) = answered w stamp now
+happen w Refuses = record w { standing = Gone }
+happen w (Asks whole now) = done w now (due w whole now)
+
+-- what all of them do, in order
+abbrev pub happens : WatchState → List Happening → WatchState
+happens w [] = w
+happens w (x ∷ xs) = happens (happen w x) xs

@@ -1,0 +1,176 @@
+//! The master's side: a watch over one server.
+ghost use Rattle.std.specs.Prelude.{◌≡◌, ℕ};
+ghost use Rattle.leases.specs.Watching.{due, done, answered, watched_due, told_due, is_silent};
+
+use crate::paces::Paces;
+use crate::terms::Term;
+use std::marker::Model;
+
+/// How a watched server stands with its master.
+#[derive(Clone, Copy, Debug, PartialEq, Eq)]
+pub enum Standing {
+    /// It gets beats.
+    Watched,
+    /// It was told that it is gone, and gets no beat any more.
+    Told,
+    /// It is gone.
+    Gone,
+}
+
+/// What is due.
+#[derive(Clone, Copy, Debug, PartialEq, Eq)]
+pub enum Deed {
+    /// Nothing, for so many nanoseconds at most.
+    Wait(u64),
+    /// A beat, which brings back this stamp. A beat without a stamp is answered, and prolongs nothing.
+    Beat(Option<u64>),
+    /// The server is told that it is gone.
+    TellServer,
+    /// The others are told that it is gone.
+    TellOthers,
+}
+
+/// What a master knows of one server that has entered its reign. Times are nanoseconds of the master's own clock, which
+/// never goes back.
+#[derive(Debug, Drop)]
+pub struct Watch {
+    term: Option<Term>,
+    beat: u64,
+    after: u64,
+    heard: u64,
+    stamp: u64,
+    sent: u64,
+    standing: Standing,
+}
+
+impl Model for Watch {
+    ghost use Rattle.leases.specs.Watching.{WatchState};
+
+    ghost Value = { WatchState };
+
+    ghost view = { λ w. record {
+      term = w.term;
+      beat = w.beat;
+      after = w.after;
+      heard = w.heard;
+      stamp = w.stamp;
+      sent = w.sent;
+      standing = w.standing;
+    } };
+}
+
+impl Watch {
+    ghost use Rattle.leases.specs.Watching.{WatchState};
+    ghost use Rattle.leases.specs.declared.watches.Standing.TheVariants.{Watched, Gone};
+
+    /// A watch over a server with a lease of this term, or with none, which has entered the master's reign and answered
+    /// that with this stamp. Then the clock showed `now`.
+    pub fn new(term: Option<Term>, paces: Paces, stamp: u64, now: u64) -> Watch
+        ensures { result ≡ record {
+          term = term;
+          beat = paces.beat;
+          after = paces.after;
+          heard = now;
+          stamp = stamp;
+          sent = now;
+          standing = Watched;
+        } }
+    {
+        Watch {
+            term,
+            beat: paces.beat,
+            after: paces.after,
+            heard: now,
+            stamp,
+            sent: now,
+            standing: Standing::Watched,
+        }
+    }
+
+    /// The server answered a beat with this stamp, and then the clock showed `now`. Once it was told that it is gone,
+    /// that does nothing.
+    pub fn answered(&mut self, stamp: u64, now: u64)
+        ensures { self.new ≡ answered self.old stamp now }
+    {
+        if self.standing == Standing::Watched {
+            self.heard = self.heard.max(now);
+            self.stamp = stamp;
+        }
+    }
+
+    /// Its host refused a new connection at once: its process has ended. So no lease has to run out.
+    pub fn refused(&mut self)
+        ensures { self.new ≡ record self.old { standing = Gone } }
+    {
+        self.standing = Standing::Gone;
+    }
+
+    /// What is due when the clock shows `now`. It counts as done. `whole` says whether each other server that isn't
+    /// gone has entered the master's reign, and didn't know then that this one is gone: only then may a beat prolong
+    /// its lease. Silence is noticed whenever this is called.
+    pub fn next(&mut self, whole: bool, now: u64) -> Deed
+        ensures deed { result ≡ due self.old whole now }
+        ensures state { self.new ≡ done self.old now result }
+    {
+        let deed = self.due(whole, now);
+        match deed {
+            Deed::Wait(_) => {}
+            Deed::Beat(_) => self.sent = now,
+            Deed::TellServer => self.standing = Standing::Told,
+            Deed::TellOthers => self.standing = Standing::Gone,
+        }
+        deed
+    }
+
+    // What is due.
+    fn due(&self, whole: bool, now: u64) -> Deed
+        ensures { result ≡ due self.now whole now }
+    {
+        let silence = now.saturating_sub(self.heard);
+        match self.standing {
+            Standing::Watched => self.watched_due(whole, silence, now.saturating_sub(self.sent)),
+            Standing::Told => self.told_due(silence),
+            Standing::Gone => Deed::TellOthers,
+        }
+    }
+
+    // What is due for a server that is watched, if so much has passed since it was heard and since the last beat.
+    fn watched_due(&self, whole: bool, silence: u64, pause: u64) -> Deed
+        ensures { result ≡ watched_due self.now whole silence pause }
+    {
+        if self.is_silent(silence) {
+            Deed::TellServer
+        } else if self.beat <= pause {
+            Deed::Beat(if whole { Some(self.stamp) } else { None })
+        } else {
+            Deed::Wait(self.beat - pause)
+        }
+    }
+
+    // What is due for a server that was told.
+    fn told_due(&self, silence: u64) -> Deed
+        ensures { result ≡ told_due self.now.term self.now.beat silence }
+    {
+        match self.term {
+            None => Deed::Wait(self.beat),
+            Some(term) => {
+                let wait = term.wait();
+                if wait <= silence {
+                    Deed::TellOthers
+                } else {
+                    Deed::Wait(wait - silence)
+                }
+            }
+        }
+    }
+
+    // Whether it wasn't heard for too long. Without a lease that says nothing.
+    fn is_silent(&self, silence: u64) -> bool
+        ensures { result ≡ is_silent self.now.term self.now.after silence }
+    {
+        match self.term {
+            None => false,
+            Some(_) => self.after <= silence,
+        }
+    }
+}

@@ -1,0 +1,98 @@
+//! The answers to the lines of the input. Standard output may stop taking them, and then the command goes on.
+
+use ends::{Sink, write_all};
+use itoa::Buffer;
+use std::alloc::{AllocError, Global};
+
+/// Room for the longest answer.
+const ROOM: usize = 32;
+
+/// Where answers are put together. Its room is made at first, so that no memory is needed when a failure is told.
+#[derive(Drop)]
+pub struct Answers {
+    line: Vec<u8>,
+    // Whether an answer was lost.
+    has_lost: bool,
+}
+
+impl Answers {
+    /// Before the first answer. Refused only if memory runs out.
+    pub fn new(alloc: Global) -> Result<Answers, AllocError> {
+        Ok(Answers {
+            line: Vec::with_capacity(alloc, ROOM)?,
+            has_lost: false,
+        })
+    }
+
+    /// Writes `bad line`. Who it is goes on is told if it can't be written.
+    pub fn bad_line<W: Sink, X: Sink>(&mut self, output: &mut W, errors: &mut X, who: &str) {
+        self.line.clear();
+        self.add(b"bad line");
+        self.give(output, errors, who);
+    }
+
+    /// Writes `gone J`.
+    pub fn gone<W: Sink, X: Sink>(&mut self, output: &mut W, errors: &mut X, who: &str, j: u8) {
+        self.line.clear();
+        self.add(b"gone ");
+        self.add(Buffer::new().format(j).as_bytes());
+        self.give(output, errors, who);
+    }
+
+    /// Writes `not gone J`, and tells on the other output why.
+    pub fn not_gone<W: Sink, X: Sink>(&mut self, output: &mut W, errors: &mut X, who: &str, j: u8) {
+        let mut digits = Buffer::new();
+        let number = digits.format(j).as_bytes();
+        let _ = write_all(errors, b"craq: server ");
+        let _ = write_all(errors, number);
+        let _ = write_all(
+            errors,
+            b" can't be stopped, so nobody is told that it is gone\n",
+        );
+        self.line.clear();
+        self.add(b"not gone ");
+        self.add(number);
+        self.give(output, errors, who);
+    }
+
+    /// Writes `gone J told K`.
+    pub(crate) fn told<W: Sink, X: Sink>(
+        &mut self,
+        output: &mut W,
+        errors: &mut X,
+        who: &str,
+        j: u8,
+        told: usize,
+    ) {
+        self.line.clear();
+        self.add(b"gone ");
+        self.add(Buffer::new().format(j).as_bytes());
+        self.add(b" told ");
+        self.add(Buffer::new().format(told).as_bytes());
+        self.give(output, errors, who);
+    }
+
+    // There is room.
+    fn add(&mut self, text: &[u8]) {
+        let _ = self.line.extend_from_slice(text);
+    }
+
+    // Writes the line. The first one that can't be written is told on the other output, with who goes on.
+    fn give<W: Sink, X: Sink>(&mut self, output: &mut W, errors: &mut X, who: &str) {
+        let answer = self.line.len();
+        self.add(b"\n");
+        if write_all(output, self.line.as_slice()).is_ok() || self.has_lost {
+            return;
+        }
+        self.has_lost = true;
+        self.line.truncate(answer);
+        let _ = write_all(
+            errors,
+            b"craq: standard output cannot be written; this and maybe later answers are lost: ",
+        );
+        let _ = write_all(errors, self.line.as_slice());
+        let _ = write_all(errors, b"; ");
+        let _ = write_all(errors, who.as_bytes());
+        let _ = write_all(errors, b" goes on\n");
+    }
+}

@@ -1,0 +1,196 @@
+//! What a master has to do with one server: the connection, and what is asked there.
+
+use crate::acknowledgements::{Heard, put_notice, wait_for_noted};
+use crate::greetings::{Channel, Greeted, greet};
+use crate::notices::Answer;
+use crate::settings::{MasterSettings, port_of};
+use ends::TrackedWriter;
+use peers::Identity;
+use std::alloc::{AllocError, Global};
+use std::net::{Net, TcpListener, TcpStream};
+use std::time::Clock;
+
+/// What a master wants of a server.
+#[derive(Clone, Copy, Debug, PartialEq, Eq)]
+pub(crate) enum Errand {
+    /// Nothing.
+    Nothing,
+    /// That it accepts the master.
+    Greet,
+    /// That it notes that this server has failed, within so many seconds.
+    Tell(u8, u64),
+}
+
+/// One server, as a master knows it.
+#[derive(Drop)]
+pub(crate) struct Contact {
+    alloc: Global,
+    id: u8,
+    // The number of its start, once it has accepted the master.
+    start: Option<u64>,
+    gone: u16,
+    // The connection, if it stands.
+    stream: Option<TcpStream>,
+    errand: Errand,
+    // Whether the notice of the errand was written to the connection.
+    is_put: bool,
+}
+
+/// A server, and what came of its errand.
+#[derive(Drop)]
+pub(crate) struct Visit {
+    /// The server.
+    pub(crate) contact: Contact,
+    /// What came of it. Fails only if memory runs out.
+    pub(crate) answer: Result<Answer, AllocError>,
+}
+
+impl Contact {
+    /// The server of this id. It wasn't spoken to.
+    pub(crate) fn new(alloc: Global, id: u8) -> Contact {
+        Contact {
+            alloc,
+            id,
+            start: None,
+            gone: 0,
+            stream: None,
+            errand: Errand::Nothing,
+            is_put: false,
+        }
+    }
+
+    /// The servers that have failed, as far as it told: server i is the bit of value 2^i.
+    pub(crate) fn gone(&self) -> u16 {
+        self.gone
+    }
+
+    /// Gives it an errand. If that is a notice and the connection stands, the notice is written: this waits for nobody.
+    pub(crate) fn ask(&mut self, errand: Errand) -> Result<(), AllocError> {
+        self.errand = errand;
+        match errand {
+            Errand::Tell(j, _) => self.put(j),
+            Errand::Nothing | Errand::Greet => Ok(()),
+        }
+    }
+
+    /// Does what the errand asks for. It may wait.
+    pub(crate) fn visit<R: Clock + Net<Listener = TcpListener, Stream = TcpStream>>(
+        self,
+        rt: &R,
+        settings: &MasterSettings,
+        identity: &Identity,
+    ) -> Visit {
+        let mut contact = self;
+        let answer = contact.answer(rt, settings, identity);
+        Visit { contact, answer }
+    }
+
+    fn answer<R: Clock + Net<Listener = TcpListener, Stream = TcpStream>>(
+        &mut self,
+        rt: &R,
+        settings: &MasterSettings,
+        identity: &Identity,
+    ) -> Result<Answer, AllocError> {
+        let errand = self.errand;
+        self.errand = Errand::Nothing;
+        match errand {
+            Errand::Nothing => Ok(Answer::Unasked),
+            Errand::Greet => self.open(rt, settings, identity),
+            Errand::Tell(j, seconds) => {
+                let answer = self.tell(rt, settings, identity, j, seconds)?;
+                Ok(if self.id == j {
+                    Answer::Unasked
+                } else {
+                    answer
+                })
+            }
+        }
+    }
+
+    // Waits for the answer to a notice. If the connection doesn't stand, or breaks before the answer, it is opened anew
+    // once, and the notice is written there. Another start of the server is told only of itself.
+    fn tell<R: Clock + Net<Listener = TcpListener, Stream = TcpStream>>(
+        &mut self,
+        rt: &R,
+        settings: &MasterSettings,
+        identity: &Identity,
+        j: u8,
+        seconds: u64,
+    ) -> Result<Answer, AllocError> {
+        match self.hear(rt, j, seconds)? {
+            Heard::Noted => return Ok(Answer::Done),
+            Heard::Late => return Ok(Answer::Silent),
+            Heard::Broken => {}
+        }
+        let answer = self.open(rt, settings, identity)?;
+        if answer != Answer::Done && self.id != j {
+            self.stream = None;
+            return Ok(answer);
+        }
+        self.put(j)?;
+        match self.hear(rt, j, seconds)? {
+            Heard::Noted => Ok(Answer::Done),
+            Heard::Late | Heard::Broken => Ok(Answer::Silent),
+        }
+    }
+
+    // Opens the connection anew.
+    fn open<R: Clock + Net<Listener = TcpListener, Stream = TcpStream>>(
+        &mut self,
+        rt: &R,
+        settings: &MasterSettings,
+        identity: &Identity,
+    ) -> Result<Answer, AllocError> {
+        self.stream = None;
+        let Some(host) = settings.hosts.get(usize::from(self.id)) else {
+            return Ok(Answer::Silent);
+        };
+        let port = port_of(settings.numbers.peer_port, self.id);
+        match greet(rt, self.alloc, host.as_str(), port, identity)? {
+            Greeted::Accepted(channel) => Ok(self.enter(channel)),
+            Greeted::Refused(reason) => Ok(Answer::Refused(reason)),
+            Greeted::NoHost => Ok(Answer::NoHost),
+            Greeted::NoAnswer => Ok(Answer::Silent),
+        }
+    }
+
+    // Takes a connection that the server has accepted.
+    fn enter(&mut self, channel: Channel) -> Answer {
+        let Channel { sink, start, gone } = channel;
+        let TrackedWriter { inner, .. } = sink;
+        self.stream = Some(inner);
+        match self.start {
+            Some(known) if known != start => Answer::Anew,
+            _ => {
+                self.start = Some(start);
+                self.gone |= gone;
+                Answer::Done
+            }
+        }
+    }
+
+    // Writes the notice that server j has failed, if the connection stands. It is closed if that fails.
+    fn put(&mut self, j: u8) -> Result<(), AllocError> {
+        self.is_put = match &self.stream {
+            Some(stream) => put_notice(self.alloc, stream, j)?,
+            None => false,
+        };
+        if !self.is_put {
+            self.stream = None;
+        }
+        Ok(())
+    }
+
+    // Waits for the answer to the notice that was written. The connection is closed if it is broken.
+    fn hear<R: Clock>(&mut self, rt: &R, j: u8, seconds: u64) -> Result<Heard, AllocError> {
+        let heard = match &self.stream {
+            Some(stream) if self.is_put => wait_for_noted(rt, self.alloc, stream, j, seconds)?,
+            _ => Heard::Broken,
+        };
+        self.is_put = false;
+        if heard == Heard::Broken {
+            self.stream = None;
+        }
+        Ok(heard)
+    }
+}

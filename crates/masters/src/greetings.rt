@@ -1,0 +1,226 @@
+//! Connections to the servers of a chain, each of which begins with a greeting and its answer.
+ghost use Rattle.wire.specs.Spellings.{IsInRange};
+
+use crate::keepalive::keep_alive;
+use crate::short_frames::{Deadline, Heard, next_frame};
+use bytes::BytesMut;
+use ends::TrackedWriter;
+use peers::{Identity, put_all};
+use std::alloc::{AllocError, Global};
+use std::net::{Net, TcpListener, TcpStream, ToSocketAddrs};
+use std::thread;
+use std::time::{Clock, Duration, Instant};
+use wire::{Acceptance, Frame, Introduction, Reason, encode_onto};
+
+/// How often a server tries to connect to a peer, if that doesn't take longer.
+const TRIES: u32 = 200;
+
+/// How many milliseconds it pauses between two tries.
+const PAUSE: u64 = 50;
+
+/// After how many seconds it doesn't try again.
+const ENOUGH: u64 = 30;
+
+/// How many seconds one address may take to answer.
+const PATIENCE: u64 = 5;
+
+/// How many seconds the answer to a greeting may take.
+const ANSWER: u64 = 10;
+
+/// The most bytes of an answer.
+const SMALL: usize = 12;
+
+/// Where frames for a peer go.
+pub type PeerSink = TrackedWriter<TcpStream>;
+
+/// A connection that a server has accepted.
+#[derive(Drop)]
+pub struct Channel {
+    /// Where frames for it go.
+    pub sink: PeerSink,
+    /// The number of this start of the server's process.
+    pub start: u64,
+    /// The servers that have failed, as far as it knows: server i is the bit of value 2^i.
+    pub gone: u16,
+}
+
+/// What came of trying to connect.
+#[derive(Drop)]
+pub enum Greeted {
+    /// The server takes the connection.
+    Accepted(Channel),
+    /// It doesn't, for this reason.
+    Refused(Reason),
+    /// The host has no address.
+    NoHost,
+    /// Nobody answered there.
+    NoAnswer,
+}
+
+/// Connects to a port of a host and greets: up to 200 tries, with pauses of 50 milliseconds, and none after 30 seconds.
+/// A greeting that is refused is the last one. It answers `NoHost` if no try found an address. Fails only if memory
+/// runs out.
+pub fn reach<R: Clock + Net<Listener = TcpListener, Stream = TcpStream>>(
+    rt: &R,
+    alloc: Global,
+    host: &str,
+    port: u16,
+    identity: &Identity,
+) -> Result<Greeted, AllocError> {
+    let begun = Instant::now(rt).ok();
+    let mut is_known = false;
+    for tried in 0..TRIES {
+        if tried > 0 {
+            thread::sleep(rt, Duration::from_millis(PAUSE));
+        }
+        match greet(rt, alloc, host, port, identity)? {
+            Greeted::Accepted(channel) => return Ok(Greeted::Accepted(channel)),
+            Greeted::Refused(reason) => return Ok(Greeted::Refused(reason)),
+            Greeted::NoAnswer => is_known = true,
+            Greeted::NoHost => {}
+        }
+        if is_over(rt, begun) {
+            break;
+        }
+    }
+    if is_known {
+        Ok(Greeted::NoAnswer)
+    } else {
+        Ok(Greeted::NoHost)
+    }
+}
+
+// Whether 30 seconds have passed since then.
+fn is_over<R: Clock>(rt: &R, begun: Option<Instant>) -> bool {
+    match begun {
+        Some(begun) => match begun.elapsed(rt) {
+            Ok(passed) => passed.as_secs() >= ENOUGH,
+            Err(_) => true,
+        },
+        None => true,
+    }
+}
+
+/// The same with one try. It waits at most ten seconds for the answer.
+pub(crate) fn greet<R: Clock + Net<Listener = TcpListener, Stream = TcpStream>>(
+    rt: &R,
+    alloc: Global,
+    host: &str,
+    port: u16,
+    identity: &Identity,
+) -> Result<Greeted, AllocError> {
+    let stream = match connect(rt, host, port) {
+        Some(Some(stream)) => stream,
+        Some(None) => return Ok(Greeted::NoAnswer),
+        None => return Ok(Greeted::NoHost),
+    };
+    let mut sink = TrackedWriter::new(stream);
+    if !introduce(alloc, &mut sink, identity)? {
+        return Ok(Greeted::NoAnswer);
+    }
+    match answer(rt, alloc, &sink.inner)? {
+        Some(Ok(Acceptance { start, gone })) => {
+            Ok(Greeted::Accepted(Channel { sink, start, gone }))
+        }
+        Some(Err(reason)) => Ok(Greeted::Refused(reason)),
+        None => Ok(Greeted::NoAnswer),
+    }
+}
+
+// Writes the Hello and the introduction. It answers whether they were written.
+fn introduce(alloc: Global, sink: &mut PeerSink, identity: &Identity) -> Result<bool, AllocError> {
+    let mut out = BytesMut::new(alloc);
+    let introduction = Introduction {
+        servers: identity.servers,
+        start: identity.start,
+        chain: identity.chain.clone()?,
+    };
+    let is_put = add(&mut out, Frame::Hello(identity.id))?
+        && add(&mut out, Frame::Introduction(introduction))?;
+    Ok(is_put && put_all(sink, &mut out).is_ok())
+}
+
+// Adds a frame to a buffer, if its fields are in their ranges. It tells whether they are.
+fn add(out: &mut BytesMut, frame: Frame) -> Result<bool, AllocError> {
+    if frame.is_in_range() {
+        add_fit(out, &frame)
+    } else {
+        Ok(false)
+    }
+}
+
+fn add_fit(out: &mut BytesMut, frame: &Frame) -> Result<bool, AllocError>
+    requires { IsInRange frame.now }
+{
+    match encode_onto(out, frame) {
+        Ok(()) => Ok(true),
+        Err(_) => Err(AllocError),
+    }
+}
+
+// What the other side answers: that it takes the connection, or why it doesn't. None if it doesn't answer.
+fn answer<R: Clock>(
+    rt: &R,
+    alloc: Global,
+    stream: &TcpStream,
+) -> Result<Option<Result<Acceptance, Reason>>, AllocError> {
+    match next_small_frame(rt, alloc, stream, ANSWER)? {
+        Some(frame) => Ok(answer_of(&frame)),
+        None => Ok(None),
+    }
+}
+
+fn answer_of(frame: &Frame) -> Option<Result<Acceptance, Reason>> {
+    match frame {
+        Frame::Accepted(acceptance) => Some(Ok(*acceptance)),
+        Frame::Refused(reason) => Some(Err(*reason)),
+        _ => None,
+    }
+}
+
+// Connects to the first address of the host that answers, if one does. None if the host has no address.
+fn connect<R: Net<Listener = TcpListener, Stream = TcpStream>>(
+    rt: &R,
+    host: &str,
+    port: u16,
+) -> Option<Option<TcpStream>> {
+    let Ok(addresses) = (host, port).to_socket_addrs(rt) else {
+        return None;
+    };
+    for address in addresses {
+        let patience = Duration::from_secs(PATIENCE);
+        if let Ok(stream) = TcpStream::connect_timeout(rt, &address, patience) {
+            if !is_to_itself(&stream) {
+                let _ = stream.set_nodelay(true);
+                keep_alive(&stream);
+                return Some(Some(stream));
+            }
+        }
+    }
+    Some(None)
+}
+
+// A socket that tries a free port of its own machine may be given that very port, and is then connected to itself.
+fn is_to_itself(stream: &TcpStream) -> bool {
+    match (stream.local_addr(), stream.peer_addr()) {
+        (Ok(local), Ok(peer)) => local == peer,
+        _ => false,
+    }
+}
+
+/// The next frame on a connection, if it has at most 12 bytes, as an answer to a greeting or to a notice has, and
+/// comes within so many seconds; none otherwise. It reads nothing beyond it. Fails only if memory runs out.
+pub(crate) fn next_small_frame<R: Clock>(
+    rt: &R,
+    alloc: Global,
+    stream: &TcpStream,
+    seconds: u64,
+) -> Result<Option<Frame>, AllocError> {
+    let Some(deadline) = Deadline::after(rt, seconds) else {
+        return Ok(None);
+    };
+    match next_frame(rt, alloc, stream, deadline, SMALL)? {
+        Heard::Frame(frame) => Ok(Some(frame)),
+        Heard::Old | Heard::Nothing => Ok(None),
+    }
+}

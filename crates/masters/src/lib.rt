@@ -1,0 +1,26 @@
+//! The master of a chain, which tells its servers of failures; and what it shares with them: settings, greetings, lines
+//! of input and their answers. It opens connections.
+#![tactic(auto)]
+
+mod acknowledgements;
+mod answers;
+mod command;
+mod contacts;
+mod greetings;
+mod input_lines;
+mod keepalive;
+mod master_lines;
+mod notices;
+mod settings;
+mod short_frames;
+mod starts;
+mod tellers;
+
+pub use answers::Answers;
+pub use command::master;
+pub use greetings::{Channel, Greeted, PeerSink, reach};
+pub use input_lines::{empty_line, next_line, server_named};
+pub use keepalive::keep_alive;
+pub use settings::{MasterSettings, ServerSettings, port_of};
+pub use short_frames::{Deadline, Heard, next_frame};
+pub use starts::start_number;

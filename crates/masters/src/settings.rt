@@ -1,0 +1,150 @@
+//! What a server, or the master, of a chain in several processes is told.
+ghost use Rattle.std.specs.Prelude.{◌≡◌, ◌<◌, length, IfOk, string_bytes};
+
+use command_line::{Hosts, MasterNumbers, ServerNumbers, UsageFault};
+use std::alloc::{AllocError, Global};
+use table::Key;
+
+/// What is printed if the id is that of no server of the chain.
+const NO_SERVER: &str = "error: the id is not below the number of servers\n";
+
+/// What is printed if the hosts aren't those of the servers.
+const NO_HOSTS: &str = "error: --peers names not one host for each server\n";
+
+/// What is printed if a server is to listen nowhere.
+const NO_ADDRESS: &str = "error: --address names no host\n";
+
+/// What is printed if the chain's name isn't one.
+const NO_CHAIN: &str = "error: --chain names no chain: 1 to 250 bytes, none of them blank\n";
+
+/// Which server of a chain runs, where it listens, and where the others are.
+#[derive(Debug, Drop)]
+pub struct ServerSettings {
+    /// Its id, which is below the number of servers, and its numbers.
+    pub numbers: ServerNumbers,
+    /// The host at which it listens.
+    pub address: String,
+    /// The host of each server, by its id.
+    pub hosts: Vec<String>,
+    /// The chain's name.
+    pub chain: Key,
+}
+
+/// Whom a master tells.
+#[derive(Debug, Drop)]
+pub struct MasterSettings {
+    /// How many servers there are, and where they listen.
+    pub numbers: MasterNumbers,
+    /// The host of each server, by its id.
+    pub hosts: Vec<String>,
+    /// The chain's name.
+    pub chain: Key,
+}
+
+impl ServerSettings {
+    /// What these words tell a server. It is refused if the id is that of no server, there isn't one host for each, or
+    /// the chain's name isn't one.
+    pub fn new(
+        alloc: Global,
+        numbers: ServerNumbers,
+        hosts: Hosts,
+    ) -> Result<ServerSettings, UsageFault>
+        ensures numbers { IfOk result (λ settings. settings.numbers ≡ numbers) }
+        ensures address { IfOk result (λ settings. settings.address ≡ hosts.address) }
+        ensures id { IfOk result (λ settings. settings.numbers.id < settings.numbers.servers) }
+        ensures hosts { IfOk result (λ settings. length settings.hosts.items ≡ settings.numbers.servers) }
+        ensures chain { IfOk result (λ settings. settings.chain ≡ string_bytes hosts.chain) }
+    {
+        if numbers.id >= numbers.servers {
+            return Err(usage(alloc, NO_SERVER));
+        }
+        let all = hosts_of(alloc, &hosts, numbers.servers)?;
+        let chain = chain_of(alloc, &hosts)?;
+        Ok(ServerSettings {
+            numbers,
+            address: hosts.address,
+            hosts: all,
+            chain,
+        })
+    }
+}
+
+impl MasterSettings {
+    /// What these words tell a master. It is refused if there isn't one host for each server, or the chain's name isn't
+    /// one.
+    pub fn new(
+        alloc: Global,
+        numbers: MasterNumbers,
+        hosts: Hosts,
+    ) -> Result<MasterSettings, UsageFault>
+        ensures numbers { IfOk result (λ settings. settings.numbers ≡ numbers) }
+        ensures hosts { IfOk result (λ settings. length settings.hosts.items ≡ settings.numbers.servers) }
+        ensures chain { IfOk result (λ settings. settings.chain ≡ string_bytes hosts.chain) }
+    {
+        let chain = chain_of(alloc, &hosts)?;
+        let hosts = hosts_of(alloc, &hosts, numbers.servers)?;
+        Ok(MasterSettings {
+            numbers,
+            hosts,
+            chain,
+        })
+    }
+}
+
+/// The port of server i, if this is the port of server 0.
+pub fn port_of(first: u16, i: u8) -> u16 {
+    first.wrapping_add(u16::from(i))
+}
+
+// The chain's name.
+fn chain_of(alloc: Global, hosts: &Hosts) -> Result<Key, UsageFault>
+    ensures { IfOk result (λ chain. chain ≡ string_bytes hosts.now.chain) }
+{
+    match Key::new(alloc, hosts.chain.as_bytes())? {
+        Some(chain) => Ok(chain),
+        None => Err(usage(alloc, NO_CHAIN)),
+    }
+}
+
+// The host of each server: those of the list, else the address for each.
+fn hosts_of(alloc: Global, hosts: &Hosts, servers: u8) -> Result<Vec<String>, UsageFault>
+    ensures { IfOk result (λ all. length all.items ≡ servers) }
+{
+    if hosts.address.is_empty() {
+        return Err(usage(alloc, NO_ADDRESS));
+    }
+    let all = match &hosts.peers {
+        Some(peers) => listed(alloc, peers.as_str())?,
+        None => repeated(alloc, hosts.address.as_str(), servers)?,
+    };
+    if all.len() == usize::from(servers) && all.iter().all(|host| !host.is_empty()) {
+        Ok(all)
+    } else {
+        Err(usage(alloc, NO_HOSTS))
+    }
+}
+
+// The hosts of a list with commas between them.
+fn listed(alloc: Global, peers: &str) -> Result<Vec<String>, AllocError> {
+    let mut hosts = Vec::new(alloc);
+    for host in peers.split(',') {
+        hosts.push(String::from_str(alloc, host)?)?;
+    }
+    Ok(hosts)
+}
+
+// The same host for each server.
+fn repeated(alloc: Global, address: &str, servers: u8) -> Result<Vec<String>, AllocError> {
+    let mut hosts = Vec::new(alloc);
+    for _ in 0..servers {
+        hosts.push(String::from_str(alloc, address)?)?;
+    }
+    Ok(hosts)
+}
+
+fn usage(alloc: Global, text: &str) -> UsageFault {
+    match String::from_str(alloc, text) {
+        Ok(text) => UsageFault::Usage(text),
+        Err(_) => UsageFault::Memory,
+    }
+}

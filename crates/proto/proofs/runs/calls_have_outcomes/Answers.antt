@@ -1,0 +1,5 @@
+use Rattle.proto.proofs.RunTexts.{calls_have_outcomes}
+use Rattle.proto.proofs.runs.calls_have_outcomes.Goals as goal
+
+pub returns : goal.returns
+returns c = calls_have_outcomes

@@ -1,0 +1,5 @@
+use Rattle.proto.proofs.WriteLaws.{replies_are_outcomes}
+use Rattle.proto.proofs.writes.replies_are_outcomes.Goals as goal
+
+pub returns : goal.returns
+returns c = replies_are_outcomes

@@ -1,0 +1,5 @@
+use Rattle.proto.proofs.WriteLaws.{silent_writes_nothing}
+use Rattle.proto.proofs.writes.silent_writes_nothing.Goals as goal
+
+pub returns : goal.returns
+returns c = silent_writes_nothing
