@@ -5,6 +5,7 @@ killed.
 """
 import ctypes
 import os
+import resource
 import select
 import signal
 import subprocess
@@ -35,12 +36,18 @@ def end_all():
 class Process:
     """A run of the program, with its standard output as lines and its standard error in a file."""
 
-    def __init__(self, words):
+    def __init__(self, words, files=None):
+        """With `files`, so many may be open in it at once."""
         self.words, self.unread = words, b""
         self.errors = tempfile.TemporaryFile()
+
+        def prepare():
+            end_with_the_tool()
+            if files is not None:
+                resource.setrlimit(resource.RLIMIT_NOFILE, (files, files))
+
         self.process = subprocess.Popen(
-            [PROGRAM, *words], stdin=subprocess.PIPE, stdout=subprocess.PIPE, stderr=self.errors,
-            preexec_fn=end_with_the_tool)
+            [PROGRAM, *words], stdin=subprocess.PIPE, stdout=subprocess.PIPE, stderr=self.errors, preexec_fn=prepare)
         running.append(self)
 
     @property
@@ -89,6 +96,10 @@ class Process:
             if line.startswith(name + ":"):
                 return int(line.split()[1])
         raise Wrong(f"no {name} of process {self.id}")
+
+    def files(self):
+        """How many files it has open."""
+        return len(os.listdir(f"/proc/{self.id}/fd"))
 
     def end(self):
         """Kills it, if it still runs."""

@@ -4,10 +4,10 @@ from server_checks import differing
 from server_processes import Process
 
 SERVER = ("craq 0.1.0: server 0 of 1 of the chain {chain}; clients at 127.0.0.1 port {port}, servers and masters at "
-          "127.0.0.1 port {peer_port}; 2 connections at a time at each server; memory limit: {limit} (the machine has "
-          "{machine} MiB)\n")
-CLUSTER = ("craq 0.1.0: a cluster of 2 servers; clients at 127.0.0.1 ports {port} to {last}; 2 connections at a time "
-           "at each server; memory limit: {limit} (the machine has {machine} MiB)\n")
+          "127.0.0.1 port {peer_port}; at most 9 connections at each server, by 2 threads and 3 seats; memory limit: {limit} "
+          "(the machine has {machine} MiB)\n")
+CLUSTER = ("craq 0.1.0: a cluster of 2 servers; clients at 127.0.0.1 ports {port} to {last}; at most 9 connections "
+           "at each server, by 2 threads and 3 seats; memory limit: {limit} (the machine has {machine} MiB)\n")
 
 
 def start_case(_rounds):
@@ -17,7 +17,7 @@ def start_case(_rounds):
         machine = int(memory.readline().split()[1]) // 1024
     for quiet, limited, limit in (((), (), "none"), ((), ("--memory", "64"), "64 MiB"), (("--quiet",), (), "")):
         port, peer_port = free_ports(2), free_ports(2)
-        numbers = ("--port", str(port), "--seats", "2", *limited, *quiet)
+        numbers = ("--port", str(port), "--seats", "3", "--threads", "2", "--connections", "9", *limited, *quiet)
         shown = {"port": port, "limit": limit, "machine": machine}
         server = ("server", "--id", "0", "--servers", "1", "--peer-port", str(peer_port), *numbers)
         for chain, named in (("craq", ()), ("sessions", ("--chain", "sessions"))):

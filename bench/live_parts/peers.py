@@ -108,7 +108,8 @@ class Echo(Peer):
 class Memcached(Peer):
     def open(self, _folder):
         self.first = free_ports(1)
-        self.start(["memcached", "-u", "root", "-l", "127.0.0.1", "-p", str(self.first), "-U", "0", "-m", "4096"])
+        self.start(["memcached", "-u", "root", "-l", "127.0.0.1", "-p", str(self.first), "-U", "0", "-m", "4096",
+                    "-c", "2048"])
         self.wait_for_port(self.first)
 
 
@@ -161,7 +162,7 @@ class Craq(Peer):
 
     def open(self, _folder):
         self.first = free_ports(self.servers)
-        numbers = ["--servers", self.servers, "--port", self.first, "--seats", SEATS]
+        numbers = ["--servers", self.servers, "--port", self.first, "--seats", SEATS, "--connections", 2048]
         words = [*self.program, "cluster", *map(str, numbers)]
         process = self.start(words, stdin=subprocess.PIPE, stdout=subprocess.PIPE, text=True)
         if process.stdout.readline() != "ready\n":

@@ -11,8 +11,11 @@ MIXES = {"get": 0, "set": 1, "1 write in 10": .1}
 CONNECTIONS = [1, 4, 16]
 DEPTHS = [1, 16]
 KEYS = 10_000
+# Many connections, as web services hold them: these runs are four times as long.
+MANY = [100, 1000]
 CASES = [Case(mix, size, connections, depth)
          for mix in MIXES for size in SIZES for depth in DEPTHS for connections in CONNECTIONS]
+CASES += [Case("1 write in 10", 100, connections, 1) for connections in MANY]
 
 
 class Samples:
@@ -64,5 +67,6 @@ def measure(generator, peers, cases, rounds, seconds, limit):
 
 
 def one_run(generator, peer, case, seconds):
+    seconds *= 4 if case.connections in MANY else 1
     words = ["--sets", MIXES[case.mix], "--connections", case.connections, "--depth", case.depth, "--keys", KEYS]
     return generator.run(peer, case.size, *words, "--seconds", seconds, "--warm-up", max(.01, seconds / 8))

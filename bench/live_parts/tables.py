@@ -66,6 +66,14 @@ def of_mix(mix, depth=None):
     return lambda case: case.mix == mix and depth in (None, case.depth)
 
 
+def is_many(case):
+    return case.connections >= 100
+
+
+def is_few(case):
+    return case.mix == "1 write in 10" and case.depth == 1 and not is_many(case)
+
+
 def is_fast_get(case):
     return case.mix == "get" and case.depth == 16 and case.size == 100 and case.connections >= 4
 
@@ -83,7 +91,9 @@ TARGETS = [
     ("set, 16 in flight", "craq, 1 server", "memcached", of_mix("set", 16), .3),
     ("set, one in flight", "craq, 3 servers", "memcached", of_mix("set", 1), .4),
     ("set", "craq, 3 servers", "redis", of_mix("set"), 1.3),
-    ("1 write in 10, one in flight", "craq, 3 servers", "memcached", of_mix("1 write in 10", 1), .75),
+    ("1 write in 10, one in flight", "craq, 3 servers", "memcached", is_few, .75),
+    ("1 write in 10, 100 and 1,000 connections", "craq, 1 server", "memcached", is_many, .95),
+    ("1 write in 10, 100 and 1,000 connections", "craq, 3 servers", "memcached", is_many, .9),
 ]
 
 

@@ -1,13 +1,19 @@
 -- The program's parser, and the kinds of its errors.
 use Rattle.std.proofs.Common.{◌≡◌, ◌||◌, ◌≢◌, ◌⊎◌, ◌∙◌, ℕ, List, [], ◌∷◌, true, ap, ap₂, inl, inr, refl, sym, subst}
-use Rattle.clap.specs.Kinds.{IsAmong, Kinds}
-use Rattle.clap.specs.Words.{AddsArg, AddsSubcommand, App, Rule, app_of, fault_of, is_simple_and_free, shape_of, with_rule, with_subcommand}
+use Rattle.std.proofs.Common.{Result, Ok, Err, IfOk, IfErr, OnOk}
+use Rattle.std.specs.declared.alloc.AllocError.{AllocError}
+use Rattle.clap.specs.Kinds.{FailsBy, IsAmong, Kinds}
+use Rattle.clap.specs.Words.{AddsArg, AddsSubcommand, App, HasMatchesOf, Rule, app_of, fault_of, is_simple_and_free}
+use Rattle.clap.specs.Words.{kind_of, shape_of, subcommand_of, subcommand_rows_of, takes, with_rule, with_subcommand}
 use Rattle.clap.specs.declared.builder.arg.Arg.{Arg}
 use Rattle.clap.specs.declared.builder.command.Command.{Command}
+use Rattle.clap.specs.declared.error.Error.{Error}
 use Rattle.clap.specs.declared.error.kind.ErrorKind.{ErrorKind}
 use Rattle.clap.specs.declared.error.kind.ErrorKind.TheVariants.{DisplayVersion, MissingSubcommand, OutOfMemory}
+use Rattle.clap.specs.declared.parser.matches.ArgMatches.{ArgMatches}
+use Rattle.command_line.proofs.Found.{found_as}
 use Rattle.command_line.specs.Options.{HasRule, ReadsAs}
-use Rattle.command_line.specs.Words.{IsRefusedFor, program_app}
+use Rattle.command_line.specs.Words.{AddsCommand, IsRefusedFor, program_app}
 
 -- a program and its command, by what clap reads of each
 pub with_command : (old sub new : Command) (program command : App)
@@ -17,6 +23,24 @@ pub with_command : (old sub new : Command) (program command : App)
     → app_of new ≡ with_subcommand program command.top
 with_command old sub new program command p (q, local) adds =
     adds.shape local ∙ ap (λ a. with_subcommand a (shape_of sub)) p ∙ ap (λ (a : App). with_subcommand program a.top) q
+
+-- a program with a command that was made
+pub adds_command : (old sub : Command) (made r : Result Command AllocError)
+    → made ≡ Ok sub
+    → IfOk r (AddsSubcommand old sub)
+    → IfOk r (AddsCommand old made)
+adds_command old sub made (Ok new) is adds = λ program app same reads.
+    with_command old sub new program app same (subst (λ m. IfOk m (ReadsAs app)) is reads) adds
+adds_command old sub made (Err e) is adds = tt
+
+-- and what clap reads of it, if there is one
+pub command_added : (old : Command) (made r : Result Command AllocError) (program command : App)
+    → IfOk r (AddsCommand old made)
+    → app_of old ≡ program
+    → IfOk made (ReadsAs command)
+    → IfOk r (λ new. app_of new ≡ with_subcommand program command.top)
+command_added old made (Ok new) program command adds same reads = adds program command same reads
+command_added old made (Err e) program command adds same reads = tt
 
 -- a command with one more argument, by what clap reads of each
 pub with_option : (old new : Command) (option : Arg) (command : App) (rule : Rule)
@@ -56,6 +80,38 @@ pub none-by : (parser : Command) (words : List (List ℕ))
     → fault_of program_app words ≡ []
 none-by parser words same kinds =
     sym (ap (λ (a : App). fault_of a words) same) ∙ kinds (ap is_simple_and_free same ∙ program_is_free)
+
+-- Of a parse by a parser that the account reads as the program.
+module _ (parser : Command) (words : List (List ℕ)) (same : app_of parser ≡ program_app) where
+  -- if it takes the words, they have no fault
+  pub parse_taken : (r : Result ArgMatches Error)
+      → (is_simple_and_free (app_of parser) ≡ true → FailsBy (fault_of (app_of parser) words) r)
+      → OnOk r (fault_of program_app words ≡ [])
+  parse_taken (Ok matches) kinds = none-by parser words same kinds
+  parse_taken (Err e) kinds = tt
+
+  -- it finds what the account finds
+  pub parse_found : (r : Result ArgMatches Error)
+      → IfOk r (HasMatchesOf (app_of parser) words)
+      → IfOk r (λ matches. subcommand_rows_of matches ≡ subcommand_of program_app words)
+  parse_found (Ok matches) has = found_as parser matches words same has
+  parse_found (Err e) has = tt
+
+  -- words that the account takes are refused only if memory is out
+  pub parse_served : (r : Result ArgMatches Error)
+      → IfErr r (λ e. takes (app_of parser) words ≡ true → kind_of e ≡ OutOfMemory)
+      → takes program_app words ≡ true
+      → IfErr r (λ e. kind_of e ≡ OutOfMemory)
+  parse_served (Ok matches) passes taken = tt
+  parse_served (Err e) passes taken = passes (ap (λ (a : App). takes a words) same ∙ taken)
+
+  -- it refuses for what the account finds
+  pub parse_refused : (r : Result ArgMatches Error)
+      → (is_simple_and_free (app_of parser) ≡ true → FailsBy (fault_of (app_of parser) words) r)
+      → IfErr r (λ e. IsRefusedFor (fault_of program_app words) (kind_of e))
+  parse_refused (Ok matches) kinds = tt
+  parse_refused (Err e) kinds =
+      refused-by parser words (kind_of e) same (kinds (ap is_simple_and_free same ∙ program_is_free))
 
 -- an error of the kind for a version comes where the account finds it
 pub version_asked : (kinds : List ErrorKind) (kind : ErrorKind)

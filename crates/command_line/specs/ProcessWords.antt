@@ -3,7 +3,7 @@ use Rattle.std.specs.Prelude.{◌≡◌, ℕ, List, [], ◌∷◌, codes, Option
 use Rattle.clap.specs.Words.{App, Row, Rule, Text, first_of, new_app, with_rule}
 use Rattle.clap.specs.declared.builder.command.Command.{Command}
 use Rattle.clap.specs.declared.builder.value_parser.ValueParser.TheVariants.{Signed}
-use Rattle.command_line.specs.ClusterWords.{memory_rule, port_rule, quiet_rule, seats_rule, servers_rule}
+use Rattle.command_line.specs.ClusterWords.{port_rule, servers_rule, with_serving}
 use Rattle.command_line.specs.Options.{GivesFlag, GivesNumber, GivesNumberIfAny, ReadsAs, required_rule, text_rule}
 use Rattle.command_line.specs.declared.processes.Hosts.{Hosts}
 use Rattle.command_line.specs.declared.processes.MasterNumbers.{MasterNumbers}
@@ -39,7 +39,7 @@ abbrev pub server_app : App
 server_app =
     let chain = with_rule (with_rule (new_app (codes "server")) id_rule) servers_rule in
     let listening = with_rule (with_rule chain port_rule) peer_port_rule in
-    with_hosts (with_rule (with_rule (with_rule listening seats_rule) memory_rule) quiet_rule)
+    with_hosts (with_serving listening)
 
 -- `master` with its options
 abbrev pub master_app : App
@@ -56,6 +56,8 @@ pub record NamesServer (found : Option (Text × List Row)) (numbers : ServerNumb
   pub port : GivesNumber 1 65520 (codes "port") rows numbers.port
   pub peer_port : GivesNumber 1 65520 (codes "peer-port") rows numbers.peer_port
   pub seats : GivesNumber 1 16 (codes "seats") rows numbers.seats
+  pub threads : GivesNumberIfAny 1 16 (codes "threads") rows numbers.threads
+  pub connections : GivesNumber 1 65536 (codes "connections") rows numbers.connections
   pub memory : GivesNumberIfAny 1 1048576 (codes "memory") rows numbers.memory
   pub quiet : GivesFlag (codes "quiet") rows numbers.quiet
 

@@ -1,11 +1,14 @@
 -- The command line, by clap's own account of what a parser finds in words.
-use Rattle.std.specs.Prelude.{◌≡◌, ◌⊎◌, ℕ, List, [], codes, Option, Some, true, string_bytes}
-use Rattle.clap.specs.Words.{App, Row, Text, new_app, subcommand_of, takes, with_subcommand}
+use Rattle.std.specs.Prelude.{◌≡◌, ◌⊎◌, ℕ, List, [], codes, IfOk, Option, Result, Some, true, string_bytes}
+use Rattle.std.specs.declared.alloc.AllocError.{AllocError}
+use Rattle.clap.specs.Words.{App, Row, Text, app_of, new_app, subcommand_of, takes, with_subcommand}
 use Rattle.clap.specs.Kinds.{IsAmong}
+use Rattle.clap.specs.declared.builder.command.Command.{Command as Parser}
 use Rattle.clap.specs.declared.error.kind.ErrorKind.{ErrorKind}
 use Rattle.clap.specs.declared.error.kind.ErrorKind.TheVariants.{MissingSubcommand, OutOfMemory}
 use Rattle.command_line.specs.ClusterWords.{NamesNumbers, cluster_app}
 use Rattle.command_line.specs.FileWords.{NamesFile, file_app}
+use Rattle.command_line.specs.Options.{ReadsAs}
 use Rattle.command_line.specs.ProcessWords.{NamesHosts, NamesMaster, NamesServer, master_app, server_app}
 use Rattle.command_line.specs.declared.commands.Command.{Command}
 use Rattle.command_line.specs.declared.commands.Command.TheVariants.{Print, Tell, Serve}
@@ -29,6 +32,11 @@ program_app =
     let cluster = with_subcommand draw cluster_app.top in
     let server = with_subcommand cluster server_app.top in
     with_subcommand server master_app.top
+
+-- the second parser is the first one with this command, if that was made, by what clap reads of each
+abbrev pub AddsCommand : Parser → Result Parser AllocError → Parser → Type 0
+AddsCommand before command after = (program app : App) → app_of before ≡ program → IfOk command (ReadsAs app) →
+    app_of after ≡ with_subcommand program app.top
 
 -- the name of a command that tells what a schedule does
 abbrev pub telling_name : Telling → List ℕ

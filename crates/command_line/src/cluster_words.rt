@@ -1,13 +1,15 @@
 //! The words of the command `cluster`, and the numbers that they give.
 ghost use Rattle.std.specs.Prelude.{◌≡◌, IfOk, IfSome, None};
 ghost use Rattle.clap.specs.Words.{subcommand_rows_of};
-ghost use Rattle.command_line.specs.ClusterWords.{NamesNumbers, cluster_app};
+ghost use Rattle.command_line.specs.ClusterWords.{AddsServing, NamesNumbers, cluster_app, connections_rule};
 ghost use Rattle.command_line.specs.ClusterWords.{memory_rule, port_rule, quiet_rule, seats_rule, servers_rule};
-ghost use Rattle.command_line.specs.ClusterWords.{serves_rule};
+ghost use Rattle.command_line.specs.ClusterWords.{serves_rule, threads_rule};
 ghost use Rattle.command_line.specs.Options.{HasRule, ReadsAs};
 ghost use Rattle.command_line.specs.declared.numbers.Numbers.{Numbers};
 
-use crate::given::{flag_given, given_to, large_number, number_if_any, port_number, small_number};
+use crate::given::{
+    flag_given, given_to, large_number, middle_number, number_if_any, port_number, small_number,
+};
 use crate::numbers::Numbers;
 use crate::options::{flag_option, number_option};
 use clap::{Arg, ArgMatches, Command as Parser, value_parser};
@@ -22,6 +24,8 @@ pub fn numbers_given<'a>(matches: &ArgMatches<'a>) -> Option<Numbers>
     let servers = small_number(given, "servers", 1, 16)?;
     let port = port_number(given, "port", 65520)?;
     let seats = small_number(given, "seats", 1, 16)?;
+    let threads = number_if_any(given, "threads", 1, 16)?;
+    let connections = middle_number(given, "connections", 1, 65_536)?;
     let serves = large_number(given, "serves", 1_000_000)?;
     let memory = number_if_any(given, "memory", 1, 1_048_576)?;
     let quiet = flag_given(given, "quiet");
@@ -29,6 +33,8 @@ pub fn numbers_given<'a>(matches: &ArgMatches<'a>) -> Option<Numbers>
         servers,
         port,
         seats,
+        threads,
+        connections,
         serves,
         memory,
         quiet,
@@ -43,11 +49,21 @@ pub fn cluster_parser<'a>(alloc: Global) -> Result<Parser<'a>, AllocError>
         .about("Runs a chain of servers in one process, which serve memcached clients")
         .arg(servers_option(alloc))?
         .arg(port_option(alloc))?
+        .arg(serves_option(alloc))?;
+    with_serving(alloc, cluster)
+}
+
+/// The parser with the options that say how clients are served.
+pub fn with_serving<'a>(alloc: Global, parser: Parser<'a>) -> Result<Parser<'a>, AllocError>
+    ensures { IfOk result (AddsServing parser.entry) }
+{
+    let parser = parser
         .arg(seats_option(alloc))?
-        .arg(serves_option(alloc))?
+        .arg(threads_option(alloc))?
+        .arg(connections_option(alloc))?
         .arg(memory_option(alloc))?
         .arg(quiet_option(alloc))?;
-    Ok(cluster)
+    Ok(parser)
 }
 
 /// The option `--servers`.
@@ -67,17 +83,32 @@ pub fn port_option<'a>(alloc: Global) -> Arg<'a>
     number_option(alloc, "port", "P", help, numbers).required(true)
 }
 
-/// The option `--seats`.
-pub fn seats_option<'a>(alloc: Global) -> Arg<'a>
+fn seats_option<'a>(alloc: Global) -> Arg<'a>
     ensures { HasRule seats_rule result }
 {
-    let help = "How many connections each server serves at a time";
+    let help = "How many calls each server works on at a time";
     let numbers = value_parser!(u8).range(1..=16);
-    number_option(alloc, "seats", "S", help, numbers).default_value("4")
+    number_option(alloc, "seats", "S", help, numbers).default_value("16")
 }
 
-/// The option `--memory`.
-pub fn memory_option<'a>(alloc: Global) -> Arg<'a>
+fn threads_option<'a>(alloc: Global) -> Arg<'a>
+    ensures { HasRule threads_rule result }
+{
+    let help =
+        "How many threads serve connections; without it as many as there are processors, at most 4";
+    let numbers = value_parser!(u32).range(1..=16);
+    number_option(alloc, "threads", "T", help, numbers)
+}
+
+fn connections_option<'a>(alloc: Global) -> Arg<'a>
+    ensures { HasRule connections_rule result }
+{
+    let help = "How many connections each server has at most at a time";
+    let numbers = value_parser!(u32).range(1..=65_536);
+    number_option(alloc, "connections", "C", help, numbers).default_value("1024")
+}
+
+fn memory_option<'a>(alloc: Global) -> Arg<'a>
     ensures { HasRule memory_rule result }
 {
     let help =
@@ -86,8 +117,7 @@ pub fn memory_option<'a>(alloc: Global) -> Arg<'a>
     number_option(alloc, "memory", "MIB", help, numbers)
 }
 
-/// The option `--quiet`.
-pub fn quiet_option<'a>(alloc: Global) -> Arg<'a>
+fn quiet_option<'a>(alloc: Global) -> Arg<'a>
     ensures { HasRule quiet_rule result }
 {
     let help = "Leaves out the line at the start";
@@ -97,7 +127,8 @@ pub fn quiet_option<'a>(alloc: Global) -> Arg<'a>
 fn serves_option<'a>(alloc: Global) -> Arg<'a>
     ensures { HasRule serves_rule result }
 {
-    let help = "How many connections each seat serves, one after another; 0: without end";
+    let help =
+        "Ends once each server has served K connections for each of its seats; 0: without end";
     let numbers = value_parser!(u64).range(0..=1_000_000);
     number_option(alloc, "serves", "K", help, numbers).default_value("0")
 }

@@ -9,10 +9,10 @@ ghost use Rattle.command_line.specs.declared.processes.Hosts.{Hosts};
 ghost use Rattle.command_line.specs.declared.processes.MasterNumbers.{MasterNumbers};
 ghost use Rattle.command_line.specs.declared.processes.ServerNumbers.{ServerNumbers};
 
-use crate::cluster_words::{
-    memory_option, port_option, quiet_option, seats_option, servers_option,
+use crate::cluster_words::{port_option, servers_option, with_serving};
+use crate::given::{
+    flag_given, given_to, middle_number, number_if_any, port_number, small_number, text_given,
 };
-use crate::given::{flag_given, given_to, number_if_any, port_number, small_number, text_given};
 use crate::options::{number_option, text_option};
 use crate::processes::{Hosts, MasterNumbers, ServerNumbers};
 use clap::{Arg, ArgMatches, Command as Parser, value_parser};
@@ -30,6 +30,8 @@ pub fn server_numbers<'a>(matches: &ArgMatches<'a>) -> Option<ServerNumbers>
     let port = port_number(given, "port", 65520)?;
     let peer_port = port_number(given, "peer-port", 65520)?;
     let seats = small_number(given, "seats", 1, 16)?;
+    let threads = number_if_any(given, "threads", 1, 16)?;
+    let connections = middle_number(given, "connections", 1, 65_536)?;
     let memory = number_if_any(given, "memory", 1, 1_048_576)?;
     let quiet = flag_given(given, "quiet");
     Some(ServerNumbers {
@@ -38,6 +40,8 @@ pub fn server_numbers<'a>(matches: &ArgMatches<'a>) -> Option<ServerNumbers>
         port,
         peer_port,
         seats,
+        threads,
+        connections,
         memory,
         quiet,
     })
@@ -86,16 +90,14 @@ pub fn hosts_given<'a>(
 pub fn server_parser<'a>(alloc: Global) -> Result<Parser<'a>, AllocError>
     ensures { IfOk result (ReadsAs server_app) }
 {
-    let server = Parser::new(alloc, "server")
+    let listening = Parser::new(alloc, "server")
         .about("Runs one server of a chain, which serves memcached clients")
         .arg(id_option(alloc))?
         .arg(servers_option(alloc))?
         .arg(port_option(alloc))?
-        .arg(peer_port_option(alloc))?
-        .arg(seats_option(alloc))?
-        .arg(memory_option(alloc))?
-        .arg(quiet_option(alloc))?;
-    with_hosts(alloc, server)
+        .arg(peer_port_option(alloc))?;
+    let serving = with_serving(alloc, listening)?;
+    with_hosts(alloc, serving)
 }
 
 /// The parser of the words of `master`.

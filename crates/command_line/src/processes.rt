@@ -11,8 +11,12 @@ pub struct ServerNumbers {
     pub port: u16,
     /// The port of server 0 for other servers and the master, likewise.
     pub peer_port: u16,
-    /// How many connections it serves at a time: 1 to 16.
+    /// How many calls it works on at a time: 1 to 16.
     pub seats: u8,
+    /// How many threads serve its connections: 1 to 16; None: as many as processors, at most 4.
+    pub threads: Option<u32>,
+    /// How many connections it has at most at a time: 1 to 65,536.
+    pub connections: u32,
     /// How many MiB its items may take, by its own estimate: 1 to 1,048,576; None: no limit.
     pub memory: Option<u32>,
     /// Whether the line at the start is left out.

@@ -1,7 +1,7 @@
 //! The words of a command line, and the command that they spell.
-ghost use Rattle.std.specs.Prelude.{◌≡◌, ℕ, codes, List, [], IfOk, IfErr, IfSome, OnOk, None, map};
-ghost use Rattle.clap.specs.Words.{app_of, fault_of, kind_of, subcommand_of, subcommand_rows_of};
-ghost use Rattle.command_line.specs.Words.{IsNamed, IsRefusedFor, IsTaken, named_app, program_app};
+ghost use Rattle.std.specs.Prelude.{◌≡◌, ℕ, codes, List, [], IfOk, IfErr, IfSome, OnOk, None, map, true};
+ghost use Rattle.clap.specs.Words.{app_of, fault_of, kind_of, subcommand_of, subcommand_rows_of, takes};
+ghost use Rattle.command_line.specs.Words.{AddsCommand, IsNamed, IsRefusedFor, IsTaken, named_app, program_app};
 ghost use Rattle.command_line.specs.declared.commands.Command.{Command as Shown};
 ghost use Rattle.command_line.specs.Options.{ReadsAs};
 ghost use Rattle.command_line.specs.ProcessWords.{NamesHosts, NamesMaster, NamesServer};
@@ -51,11 +51,31 @@ fn named<'a>(alloc: Global, words: &'a [&'a str]) -> Result<Command, Error>
     ensures refused { IfErr result (λ e.
         IsRefusedFor (fault_of program_app (map (λ w. w.now) words.entry.now)) (kind_of e)) }
 {
-    let matches = parser(alloc)?.try_get_matches_from(words)?;
+    let matches = parsed(alloc, words)?;
     match command_given(alloc, &matches)? {
         Some(command) => Ok(command),
-        None => Err(parser(alloc)?.error(ErrorKind::MissingSubcommand, "no such command")?),
+        None => Err(no_command(alloc)?),
     }
+}
+
+// What the parser finds in the words.
+fn parsed<'a>(alloc: Global, words: &'a [&'a str]) -> Result<ArgMatches<'a>, Error>
+    ensures taken { OnOk result (fault_of program_app (map (λ w. w.now) words.entry.now) ≡ []) }
+    ensures found { IfOk result (λ matches.
+        subcommand_rows_of matches ≡ subcommand_of program_app (map (λ w. w.now) words.entry.now)) }
+    ensures served { takes program_app (map (λ w. w.now) words.entry.now) ≡ true →
+        IfErr result (λ e. kind_of e ≡ ErrorKind.OutOfMemory) }
+    ensures refused { IfErr result (λ e.
+        IsRefusedFor (fault_of program_app (map (λ w. w.now) words.entry.now)) (kind_of e)) }
+{
+    parser(alloc)?.try_get_matches_from(words)
+}
+
+// The error of words in which no command is found.
+fn no_command(alloc: Global) -> Result<Error, AllocError>
+    ensures { IfOk result (λ e. kind_of e ≡ ErrorKind.MissingSubcommand) }
+{
+    parser(alloc)?.error(ErrorKind::MissingSubcommand, "no such command")
 }
 
 // The command that was found, with what was given to it.
@@ -117,20 +137,22 @@ fn process_given<'a>(alloc: Global, matches: &ArgMatches<'a>) -> Result<Option<S
 fn parser<'a>(alloc: Global) -> Result<Parser<'a>, AllocError>
     ensures { IfOk result (λ parser. app_of parser ≡ program_app) }
 {
-    let scenario = scenario_parser(alloc)?;
-    let trace = trace_parser(alloc)?;
-    let draw = draw_parser(alloc)?;
-    let cluster = cluster_parser(alloc)?;
-    let server = server_parser(alloc)?;
-    let master = master_parser(alloc)?;
-    let program = program_parser(alloc)
-        .subcommand(scenario)?
-        .subcommand(trace)?
-        .subcommand(draw)?
-        .subcommand(cluster)?
-        .subcommand(server)?
-        .subcommand(master)?;
-    Ok(program)
+    let program = with_command(program_parser(alloc), scenario_parser(alloc))?;
+    let program = with_command(program, trace_parser(alloc))?;
+    let program = with_command(program, draw_parser(alloc))?;
+    let program = with_command(program, cluster_parser(alloc))?;
+    let program = with_command(program, server_parser(alloc))?;
+    with_command(program, master_parser(alloc))
+}
+
+// The program's parser with one more command, if that was made.
+fn with_command<'a>(
+    program: Parser<'a>,
+    command: Result<Parser<'a>, AllocError>,
+) -> Result<Parser<'a>, AllocError>
+    ensures { IfOk result (AddsCommand program.entry command.entry) }
+{
+    program.subcommand(command?)
 }
 
 fn program_parser<'a>(alloc: Global) -> Parser<'a>

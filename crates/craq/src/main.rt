@@ -5,7 +5,7 @@ use command_line::{Command, Serve, UsageFault};
 use commands::{read_arguments, run, tell_file};
 use ends::{Sink, Source, TrackedReader, TrackedWriter};
 use masters::{MasterSettings, ServerSettings, master};
-use runtime::{cluster, server};
+use runtime::{cluster, machine_memory, server};
 use std::alloc::Global;
 use std::net::{Net, TcpListener, TcpStream};
 use std::process::ExitCode;
@@ -66,10 +66,14 @@ fn serve<
     errors: &mut X,
 ) -> Result<u8, UsageFault> {
     match command {
-        Serve::Cluster(numbers) => Ok(cluster(rt, alloc, numbers, input, output, errors)),
+        Serve::Cluster(numbers) => {
+            let machine = machine_memory(&rt);
+            Ok(cluster(rt, alloc, numbers, machine, input, output, errors))
+        }
         Serve::Server(numbers, hosts) => {
             let settings = ServerSettings::new(alloc, numbers, hosts)?;
-            Ok(server(rt, alloc, &settings, output, errors))
+            let machine = machine_memory(&rt);
+            Ok(server(rt, alloc, &settings, machine, output, errors))
         }
         Serve::Master(numbers, hosts) => {
             let settings = MasterSettings::new(alloc, numbers, hosts)?;

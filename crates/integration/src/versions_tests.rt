@@ -238,13 +238,21 @@ fn one_key(pair: &mut Pair, key: &Key, count: u64) -> Result<bool, Fail> {
     Ok(agreed)
 }
 
+// Whether a key that was set so often is clean in the end, and all of its entries are forgotten.
+fn settled_key(alloc: Global, count: u64) -> Result<bool, Fail> {
+    let key = key(alloc, b"a")?;
+    let mut pair = Pair::new(alloc);
+    settles(&mut pair, &key, count)
+}
+
+fn settles(pair: &mut Pair, key: &Key, count: u64) -> Result<bool, Fail> {
+    let agreed = one_key(pair, key, count)?;
+    Ok(agreed && pair.store.is_clean(key) && pair.store.floor() == count)
+}
+
 #[test]
 fn many_versions_of_one_key(rt: HostRuntime) -> Result<(), Fail> {
-    let mut pair = Pair::new(rt.alloc());
-    let key = key(rt.alloc(), b"a")?;
-    assert!(rt; one_key(&mut pair, &key, 10_000)?);
-    assert!(rt; pair.store.is_clean(&key));
-    assert_eq!(rt; pair.store.floor(), 10_000);
+    assert!(rt; settled_key(rt.alloc(), 10_000)?);
     Ok(())
 }
 
@@ -304,56 +312,132 @@ fn many_keys(pair: &mut Pair, keys: &[Key], rounds: u64) -> Result<bool, Fail> {
     Ok(agreed)
 }
 
+fn many_keys_agree(alloc: Global, count: u32, rounds: u64) -> Result<bool, Fail> {
+    let keys = keys(alloc, count)?;
+    let mut pair = Pair::new(alloc);
+    many_keys(&mut pair, keys.as_slice(), rounds)
+}
+
 #[test]
 fn many_keys_and_clears(rt: HostRuntime) -> Result<(), Fail> {
-    let mut pair = Pair::new(rt.alloc());
-    let keys = keys(rt.alloc(), 1_000)?;
-    assert!(rt; many_keys(&mut pair, keys.as_slice(), 12)?);
+    assert!(rt; many_keys_agree(rt.alloc(), 1_000, 12)?);
     Ok(())
+}
+
+// Whether a key is clean once its first version is acknowledged.
+fn is_clean_once_acked(pair: &mut Pair, key: &Key) -> Result<bool, Fail> {
+    pair.put(key)?;
+    pair.ack(1)?;
+    Ok(pair.store.is_clean(key))
+}
+
+// Whether the newest version of a key is no item, and the key is clean or isn't.
+fn shows_none(store: &Store, key: &Key, clean: bool) -> bool {
+    store.is_clean(key) == clean && store.newest(key).is_none()
+}
+
+// Whether a clear takes both keys' items, and leaves neither key clean.
+fn clears_both(pair: &mut Pair, a: &Key, b: &Key) -> Result<bool, Fail> {
+    pair.clear()?;
+    Ok(shows_none(&pair.store, a, false) && shows_none(&pair.store, b, false))
+}
+
+// Whether a key without an item is clean once the clear is acknowledged and forgotten.
+fn is_clean_behind_the_clear(pair: &mut Pair, key: &Key) -> Result<bool, Fail> {
+    pair.ack(2)?;
+    pair.drop_to(2)?;
+    Ok(shows_none(&pair.store, key, true))
+}
+
+fn a_clear_is_shown(pair: &mut Pair, a: &Key, b: &Key) -> Result<bool, Fail> {
+    Ok(
+        is_clean_once_acked(pair, a)?
+            && clears_both(pair, a, b)?
+            && is_clean_behind_the_clear(pair, a)?,
+    )
+}
+
+fn a_clear_over_two_keys(alloc: Global) -> Result<bool, Fail> {
+    let a = key(alloc, b"a")?;
+    let b = key(alloc, b"b")?;
+    let mut pair = Pair::new(alloc);
+    a_clear_is_shown(&mut pair, &a, &b)
 }
 
 #[test]
 fn a_clear_is_a_version_of_every_key(rt: HostRuntime) -> Result<(), Fail> {
-    let mut pair = Pair::new(rt.alloc());
-    let (a, b) = (key(rt.alloc(), b"a")?, key(rt.alloc(), b"b")?);
-    pair.put(&a)?;
-    pair.ack(1)?;
-    assert!(rt; pair.store.is_clean(&a));
-    pair.clear()?;
-    for key in [&a, &b] {
-        assert!(rt; !pair.store.is_clean(key));
-        assert!(rt; pair.store.newest(key).is_none());
-    }
-    pair.ack(2)?;
-    pair.drop_to(2)?;
-    assert!(rt; pair.store.is_clean(&a));
-    assert!(rt; pair.store.newest(&a).is_none());
+    assert!(rt; a_clear_over_two_keys(rt.alloc())?);
     Ok(())
+}
+
+// A set, a refused update and a delete of one key.
+fn update_three_times(pair: &mut Pair, key: &Key) -> Result<(), Fail> {
+    pair.put(key)?;
+    pair.refuse(key)?;
+    pair.delete(key)
+}
+
+// The first of three updates is acknowledged and forgotten; two stay open.
+fn leave_two_open(pair: &mut Pair, key: &Key) -> Result<(), Fail> {
+    update_three_times(pair, key)?;
+    pair.ack(1)?;
+    pair.drop_to(1)
+}
+
+// Whether an entry has this number, stands for the call 1 of server 3, and is of this key.
+fn is_of(entry: &Entry, number: u64, key: &Key) -> bool {
+    entry.number() == number
+        && entry.origin() == 3
+        && entry.id() == 1
+        && matches!(entry.target(), Target::One(found) if found == key)
+}
+
+fn is_refused(entry: &Entry) -> bool {
+    matches!(entry.reply(), Reply::NotStored) && matches!(entry.change(), Change::Keep)
+}
+
+fn is_delete(entry: &Entry) -> bool {
+    matches!(entry.reply(), Reply::Deleted) && matches!(entry.change(), Change::Drop)
+}
+
+fn are_refused_and_delete(entries: &[Entry], key: &Key) -> bool {
+    match entries {
+        [refused, delete] => {
+            is_of(refused, 2, key)
+                && is_refused(refused)
+                && is_of(delete, 3, key)
+                && is_delete(delete)
+        }
+        _ => false,
+    }
+}
+
+fn two_are_shown(pair: &mut Pair, key: &Key) -> Result<bool, Fail> {
+    leave_two_open(pair, key)?;
+    let entries = open_entries(pair.alloc, &pair.store, 1)?;
+    Ok(are_refused_and_delete(entries.as_slice(), key))
+}
+
+fn two_of_three_are_shown(alloc: Global) -> Result<bool, Fail> {
+    let key = key(alloc, b"a")?;
+    let mut pair = Pair::new(alloc);
+    two_are_shown(&mut pair, &key)
 }
 
 #[test]
 fn open_entries_are_shown_in_order(rt: HostRuntime) -> Result<(), Fail> {
-    let mut pair = Pair::new(rt.alloc());
-    let key = key(rt.alloc(), b"a")?;
-    pair.put(&key)?;
-    pair.refuse(&key)?;
-    pair.delete(&key)?;
-    pair.ack(1)?;
-    pair.drop_to(1)?;
-    let target = Target::One(key);
-    let rows = [
-        (2, Reply::NotStored, Change::Keep),
-        (3, Reply::Deleted, Change::Drop),
-    ];
-    let entries = open_entries(rt.alloc(), &pair.store, 1)?;
-    assert_eq!(rt; entries.len(), 2);
-    for (entry, (number, reply, change)) in entries.iter().zip(rows.iter()) {
-        assert_eq!(rt; entry.number(), *number);
-        assert_eq!(rt; (entry.origin(), entry.id()), (3, 1));
-        assert!(rt; *entry.target() == target);
-        assert!(rt; entry.reply() == reply && entry.change() == change);
-    }
+    assert!(rt; two_of_three_are_shown(rt.alloc())?);
     Ok(())
+}
+
+// An equal copy.
+fn copy_of(entry: &Entry) -> Result<Entry, Fail> {
+    let copy = entry.clone()?;
+    if copy == *entry {
+        Ok(copy)
+    } else {
+        Err("an equal copy".into())
+    }
 }
 
 // Copies of the entries above a number.
@@ -363,11 +447,7 @@ fn open_entries(alloc: Global, store: &Store, n: u64) -> Result<Vec<Entry>, Fail
     }
     let mut copies = Vec::new(alloc);
     for entry in store.entries_after(n) {
-        let copy = entry.clone()?;
-        if copy != *entry {
-            return Err("an equal copy".into());
-        }
-        copies.push(copy)?;
+        copies.push(copy_of(entry)?)?;
     }
     Ok(copies)
 }

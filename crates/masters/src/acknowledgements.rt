@@ -28,11 +28,16 @@ pub(crate) enum Heard {
 /// Writes the notice that server `j` has failed. It answers whether it was written: no chain has a server beyond 15.
 pub(crate) fn put_notice(alloc: Global, stream: &TcpStream, j: u8) -> Result<bool, AllocError> {
     let notice = Frame::Gone(j);
+    put_if_in_range(alloc, stream, &notice)
+}
+
+// Writes a frame, if it is in its range.
+fn put_if_in_range(alloc: Global, stream: &TcpStream, notice: &Frame) -> Result<bool, AllocError> {
     if !notice.is_in_range() {
         return Ok(false);
     }
     let mut sink = TrackedWriter::new(stream);
-    match put_frame(alloc, &mut sink, &notice) {
+    match put_frame(alloc, &mut sink, notice) {
         Ok(()) => Ok(true),
         Err(LinkFault::Memory) => Err(AllocError),
         Err(_) => Ok(false),

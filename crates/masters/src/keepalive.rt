@@ -1,6 +1,5 @@
 //! TCP's own watch over quiet connections.
 use libc::net;
-use std::net::TcpStream;
 use std::os::fd::AsRawFd;
 
 /// After how many quiet seconds the other side is asked whether it is still there.
@@ -13,9 +12,9 @@ const PAUSE: i32 = 10;
 const QUESTIONS: i32 = 5;
 
 /// Has the system ask the other side of a quiet connection whether it is still there, and break the connection if it
-/// doesn't answer. It is left as it is where the system refuses.
-pub fn keep_alive(stream: &TcpStream) {
-    let socket = stream.as_raw_fd();
+/// doesn't answer. It is left as it is where the system refuses. What a listener accepts is watched as the listener is.
+pub fn keep_alive<S: AsRawFd>(socket: &S) {
+    let socket = socket.as_raw_fd();
     let (on, idle, pause, questions) = (value(1), value(IDLE), value(PAUSE), value(QUESTIONS));
     unsafe {
         net::setsockopt(socket, net::SOL_SOCKET, net::SO_KEEPALIVE, &on, 4);

@@ -69,10 +69,24 @@ fn other_words_are_refused(rt: HostRuntime) -> Result<(), Fail> {
 
 #[test]
 fn numbers_out_of_range_are_refused(rt: HostRuntime) -> Result<(), Fail> {
-    let rows: [&[&str]; 5] = [
+    let rows: [&[&str]; 7] = [
         &["craq", "cluster", "--servers", "17", "--port", "4000"],
         &["craq", "cluster", "--servers", "3", "--port", "65521"],
         &["craq", "cluster", "--servers=3", "--port=4000", "--seats=0"],
+        &[
+            "craq",
+            "cluster",
+            "--servers=3",
+            "--port=4000",
+            "--threads=17",
+        ],
+        &[
+            "craq",
+            "cluster",
+            "--servers=3",
+            "--port=4000",
+            "--connections=65537",
+        ],
         &[
             "craq",
             "cluster",
@@ -111,11 +125,15 @@ fn words_give_the_numbers_of_a_chain(rt: HostRuntime) -> Result<(), Fail> {
         "9",
         "--memory",
         "64",
+        "--threads",
+        "2",
     ];
     let numbers = Numbers {
         servers: 3,
         port: 4000,
-        seats: 4,
+        seats: 16,
+        threads: Some(2),
+        connections: 1024,
         serves: 9,
         memory: Some(64),
         quiet: false,
@@ -139,6 +157,7 @@ fn words_tell_a_server(rt: HostRuntime) -> Result<(), Fail> {
         "5000",
         "--peers",
         "a,b,c",
+        "--connections=9000",
         "--quiet",
     ];
     let numbers = ServerNumbers {
@@ -146,7 +165,9 @@ fn words_tell_a_server(rt: HostRuntime) -> Result<(), Fail> {
         servers: 3,
         port: 4000,
         peer_port: 5000,
-        seats: 4,
+        seats: 16,
+        threads: None,
+        connections: 9000,
         memory: None,
         quiet: true,
     };

@@ -97,7 +97,7 @@ impl Arrivals {
             return Err(ServerFault::Run);
         };
         for _ in rt.forever() {
-            if connections.has_ended() {
+            if connections.ended().is_set() {
                 return Err(ServerFault::Gone);
             }
             match self.look(rt, starts) {

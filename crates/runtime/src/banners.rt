@@ -1,14 +1,18 @@
 //! What a server and a cluster say of themselves at the start.
 
-use crate::machines::machine_memory;
+use crate::shapes::Shape;
 use command_line::{Numbers, VERSION};
 use ends::{Sink, write_all};
 use itoa::Buffer;
 use masters::{ServerSettings, port_of};
-use std::rt::Files;
 
 /// Which server of which chain runs, where it listens, and its limits, in one line.
-pub(crate) fn tell_server<R: Files, X: Sink>(rt: &R, settings: &ServerSettings, errors: &mut X) {
+pub(crate) fn tell_server<X: Sink>(
+    settings: &ServerSettings,
+    shape: Shape,
+    machine: Option<u64>,
+    errors: &mut X,
+) {
     let numbers = settings.numbers;
     if numbers.quiet {
         return;
@@ -30,12 +34,17 @@ pub(crate) fn tell_server<R: Files, X: Sink>(rt: &R, settings: &ServerSettings, 
     write(errors, address);
     write(errors, " port ");
     write_number(errors, port_of(numbers.peer_port, numbers.id));
-    write_seats(errors, numbers.seats);
-    write_memory(errors, numbers.memory, machine_memory(rt));
+    write_connections(errors, numbers.connections, shape);
+    write_memory(errors, numbers.memory, machine);
 }
 
 /// How many servers run in one process, where they listen, and their limits, in one line.
-pub(crate) fn tell_cluster<R: Files, X: Sink>(rt: &R, numbers: Numbers, errors: &mut X) {
+pub(crate) fn tell_cluster<X: Sink>(
+    numbers: Numbers,
+    shape: Shape,
+    machine: Option<u64>,
+    errors: &mut X,
+) {
     if numbers.quiet {
         return;
     }
@@ -48,14 +57,18 @@ pub(crate) fn tell_cluster<R: Files, X: Sink>(rt: &R, numbers: Numbers, errors: 
     write(errors, " to ");
     let last = numbers.servers.saturating_sub(1);
     write_number(errors, port_of(numbers.port, last));
-    write_seats(errors, numbers.seats);
-    write_memory(errors, numbers.memory, machine_memory(rt));
+    write_connections(errors, numbers.connections, shape);
+    write_memory(errors, numbers.memory, machine);
 }
 
-fn write_seats<X: Sink>(errors: &mut X, seats: u8) {
-    write(errors, "; ");
-    write_number(errors, u16::from(seats));
-    write(errors, " connections at a time at each server");
+fn write_connections<X: Sink>(errors: &mut X, connections: u32, shape: Shape) {
+    write(errors, "; at most ");
+    write_long(errors, u64::from(connections));
+    write(errors, " connections at each server, by ");
+    write_count(errors, shape.threads);
+    write(errors, " threads and ");
+    write_count(errors, shape.seats);
+    write(errors, " seats");
 }
 
 // The end of the line: the limit of memory, and how much the machine has, in MiB.
@@ -82,8 +95,17 @@ fn write_number<X: Sink>(errors: &mut X, number: u16) {
     write(errors, digits.format(number));
 }
 
-fn write_mebibytes<X: Sink>(errors: &mut X, number: u64) {
+fn write_long<X: Sink>(errors: &mut X, number: u64) {
     let mut digits = Buffer::new();
     write(errors, digits.format(number));
+}
+
+fn write_count<X: Sink>(errors: &mut X, number: usize) {
+    let mut digits = Buffer::new();
+    write(errors, digits.format(number));
+}
+
+fn write_mebibytes<X: Sink>(errors: &mut X, number: u64) {
+    write_long(errors, number);
     write(errors, " MiB");
 }

@@ -1,8 +1,8 @@
 //! Why a chain of servers in one process can't be run.
 use command_line::{FAILED, MEMORY};
 use ends::{Sink, write_all};
+use io_threads::FrontFault;
 use itoa::Buffer;
-use serving::ServeFault;
 use std::alloc::{AllocError, AllocFailed};
 use thiserror::Error;
 
@@ -59,9 +59,12 @@ impl From<AllocError> for ClusterFault {
     }
 }
 
-impl From<ServeFault> for ClusterFault {
-    fn from(_e: ServeFault) -> ClusterFault {
-        ClusterFault::Memory
+impl From<FrontFault> for ClusterFault {
+    fn from(e: FrontFault) -> ClusterFault {
+        match e {
+            FrontFault::Memory => ClusterFault::Memory,
+            FrontFault::Numbers => ClusterFault::Run,
+        }
     }
 }
 

@@ -1,12 +1,17 @@
 //! A chain of servers in one process, which serves clients over TCP.
 
+ghost use Rattle.std.specs.Prelude.{◌≤◌};
+
 use crate::cluster_faults::ClusterFault;
-use crate::doors::serve_seats;
 use crate::halls::Hall;
 use crate::homes::{Home, Homes, StopFault};
 use crate::offices::{Office, start_watching};
-use crate::sides::{Side, all_links, all_servers, all_sides, helping_callers};
+use crate::shapes::Shape;
+use crate::sides::{Side, all_links, all_servers, all_sides};
 use command_line::Numbers;
+use io_threads::{Desks, Front, FrontSettings, Gate, open_desks, open_front};
+use masters::keep_alive;
+use mio::Poll;
 use node::{Master, SERVERS};
 use seats::Allowance;
 use std::alloc::Global;
@@ -20,43 +25,63 @@ use std::time::Clock;
 #[derive(Drop)]
 pub(crate) struct Cluster<R: Wait + Drop> {
     office: Arc<Office<R>, Global>,
-    crew: Crew,
+    front: Front,
+    workers: Vec<JoinHandle<()>>,
     watcher: JoinHandle<()>,
 }
 
-// The threads of the servers.
+// The servers, before their clients are served.
 #[derive(Drop)]
-struct Crew {
-    alloc: Global,
-    seats: Vec<JoinHandle<()>>,
-    workers: Vec<JoinHandle<()>>,
+struct Chain<R: Wait + Drop> {
+    hall: Arc<Hall<R>, Global>,
+    sides: Vec<Side>,
+    desks: Arc<Desks, Global>,
+    polls: Vec<Poll>,
 }
 
 impl<R: Wait + Copy + Drop + Send + 'static> Cluster<R> {
     /// Opens a chain: all its ports, its servers and their threads. Refused with Port if nobody can listen there, else
     /// with Memory if memory or threads run out, and with Run if no chain has such numbers.
-    pub(crate) fn open(rt: R, alloc: Global, numbers: Numbers) -> Result<Cluster<R>, ClusterFault>
+    pub(crate) fn open(
+        rt: R,
+        alloc: Global,
+        numbers: Numbers,
+        shape: Shape,
+    ) -> Result<Cluster<R>, ClusterFault>
     where
         R: Threads + Eprint + Net<Listener = TcpListener, Stream = TcpStream>,
     {
         let count = numbers.servers;
-        if count == 0 || count > SERVERS || numbers.seats == 0 || numbers.seats > 16 {
+        if count == 0 || count > SERVERS {
             return Err(ClusterFault::Run);
         }
         let listeners = all_listeners(&rt, alloc, numbers)?;
-        let mut servers = all_servers(rt, alloc, numbers)?;
-        let links = all_links(rt, alloc, count, &mut servers)?;
-        let allowance = Allowance::new(numbers.memory, count);
-        let (hall, sides) = all_sides(alloc, allowance, servers, links)?;
-        let hall = Arc::new(alloc, hall)?;
-        let mut crew = Crew::new(alloc);
-        let homes = crew.start_all(rt, &hall, listeners, sides, numbers.serves)?;
+        let Chain {
+            hall,
+            sides,
+            desks,
+            polls,
+        } = open_chain(
+            rt,
+            alloc,
+            count,
+            shape,
+            Allowance::new(numbers.memory, count),
+        )?;
+        let workers = start_attendants(rt, alloc, &hall, count)?;
+        let (homes, gates) = all_gates(alloc, listeners, sides)?;
+        let settings = FrontSettings {
+            connections: u64::from(numbers.connections),
+            serves: numbers.serves.saturating_mul(u64::from(numbers.seats)),
+        };
+        let front = open_front(rt, alloc, settings, &hall, &desks, polls, gates)?;
         let homes = Homes::new(alloc, homes, Master::new(count));
         let office = Arc::new(alloc, Office::new(hall, homes))?;
         let watcher = start_watching(rt, &office)?;
         Ok(Cluster {
             office,
-            crew,
+            front,
+            workers,
             watcher,
         })
     }
@@ -69,24 +94,18 @@ impl<R: Wait + Copy + Drop + Send + 'static> Cluster<R> {
         self.office.fail(rt, j)
     }
 
-    /// Waits until every seat's thread has ended, and then ends the other threads.
+    /// Waits until the threads that serve clients have ended, and then ends the other threads.
     pub(crate) fn end(self, rt: &R)
     where
         R: Threads,
     {
         let Cluster {
             office,
-            crew,
+            front,
+            workers,
             watcher,
         } = self;
-        let Crew {
-            alloc: _,
-            seats,
-            workers,
-        } = crew;
-        for seat in seats {
-            seat.join(rt);
-        }
+        front.end(rt);
         office.end(rt);
         for worker in workers {
             worker.join(rt);
@@ -95,60 +114,52 @@ impl<R: Wait + Copy + Drop + Send + 'static> Cluster<R> {
     }
 }
 
-impl Crew {
-    // No threads.
-    fn new(alloc: Global) -> Crew {
-        Crew {
-            alloc,
-            seats: Vec::new(alloc),
-            workers: Vec::new(alloc),
-        }
-    }
+// The servers of a chain with their links, and what the threads that will serve their clients wait at.
+fn open_chain<R: Wait + Copy + Drop + Net>(
+    rt: R,
+    alloc: Global,
+    count: u8,
+    shape: Shape,
+    allowance: Allowance,
+) -> Result<Chain<R>, ClusterFault>
+    requires chain { (1 ≤ count) × (count ≤ 16) }
+{
+    let mut servers = all_servers(rt, alloc, count, shape, allowance)?;
+    let links = all_links(rt, alloc, count, &mut servers)?;
+    let (desks, polls) = open_desks(&rt, alloc, shape.threads)?;
+    let desks = Arc::new(alloc, desks)?;
+    let (hall, sides) = all_sides(alloc, &desks, servers, links)?;
+    Ok(Chain {
+        hall: Arc::new(alloc, hall)?,
+        sides,
+        desks,
+        polls,
+    })
+}
 
-    // Starts the threads of all servers, each of which has a listener.
-    fn start_all<R: Wait + Threads + Copy + Drop + Send + 'static>(
-        &mut self,
-        rt: R,
-        hall: &Arc<Hall<R>, Global>,
-        listeners: Vec<TcpListener>,
-        sides: Vec<Side>,
-        serves: u64,
-    ) -> Result<Vec<Home>, ClusterFault> {
-        let mut homes = Vec::new(self.alloc);
-        let mut listeners = listeners.into_iter();
-        let mut id = 0u8;
-        for side in sides {
-            let Some(listener) = listeners.next() else {
-                return Err(ClusterFault::Run);
-            };
-            homes.push(self.start(rt, hall, id, &listener, side, serves)?)?;
-            id = id.wrapping_add(1);
-        }
-        Ok(homes)
+// What the program's own thread sees of each server, and where its clients come in.
+fn all_gates(
+    alloc: Global,
+    listeners: Vec<TcpListener>,
+    sides: Vec<Side>,
+) -> Result<(Vec<Home>, Vec<Gate>), ClusterFault> {
+    let mut homes = Vec::new(alloc);
+    let mut gates = Vec::new(alloc);
+    let mut listeners = listeners.into_iter();
+    for side in sides {
+        let Some(listener) = listeners.next() else {
+            return Err(ClusterFault::Run);
+        };
+        let Side { pools, home } = side;
+        let mark = home.failed.share()?;
+        homes.push(home)?;
+        gates.push(Gate {
+            listener,
+            pools,
+            mark,
+        })?;
     }
-
-    // Starts a server's threads.
-    fn start<R: Wait + Threads + Copy + Drop + Send + 'static>(
-        &mut self,
-        rt: R,
-        hall: &Arc<Hall<R>, Global>,
-        id: u8,
-        listener: &TcpListener,
-        side: Side,
-        serves: u64,
-    ) -> Result<Home, ClusterFault> {
-        let Side {
-            stands,
-            home,
-            gauge,
-        } = side;
-        self.workers.push(start_attendant(rt, hall, id)?)?;
-        let callers = helping_callers(self.alloc, stands, &home.failed, &gauge, hall, id)?;
-        for seat in serve_seats(rt, self.alloc, listener, callers, serves, &home.failed)? {
-            self.seats.push(seat)?;
-        }
-        Ok(home)
-    }
+    Ok((homes, gates))
 }
 
 // The listeners of all servers.
@@ -163,9 +174,24 @@ fn all_listeners<R: Net<Listener = TcpListener, Stream = TcpStream>>(
         let Ok(listener) = TcpListener::bind(rt, (Ipv4Addr::LOCALHOST, port)) else {
             return Err(ClusterFault::Port(port));
         };
+        keep_alive(&listener);
         listeners.push(listener)?;
     }
     Ok(listeners)
+}
+
+// Starts the threads of all workers, whom others help.
+fn start_attendants<R: Wait + Threads + Copy + Drop + Send + 'static>(
+    rt: R,
+    alloc: Global,
+    hall: &Arc<Hall<R>, Global>,
+    count: u8,
+) -> Result<Vec<JoinHandle<()>>, ClusterFault> {
+    let mut workers = Vec::new(alloc);
+    for id in 0..count {
+        workers.push(start_attendant(rt, hall, id)?)?;
+    }
+    Ok(workers)
 }
 
 // Starts the thread of a worker that others help.

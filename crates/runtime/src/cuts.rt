@@ -71,9 +71,9 @@ impl Connections {
         }
     }
 
-    /// Whether this server was called gone, and is to end.
-    pub(crate) fn has_ended(&self) -> bool {
-        self.ended.is_set()
+    /// What is set if this server was called gone, and is to end.
+    pub(crate) fn ended(&self) -> &Mark {
+        &self.ended
     }
 
     // Marks server `j` as gone, and ends the connection to it.

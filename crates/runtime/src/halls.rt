@@ -2,12 +2,16 @@
 //! thread is at that worker.
 
 use crate::alarms::Alarm;
-use rail::{RailFault, Turn, Worker};
+use io_threads::{Desks, Stations, Visit};
+use rail::{PortSet, RailFault, Turn, Worker};
 use seats::{Gauge, InProcessLinks, Mark, ServerSet};
 use std::alloc::{AllocError, Global};
 use std::sync::atomic::{AtomicBool, Ordering};
-use std::sync::{Mutex, Wait};
+use std::sync::{Arc, Mutex, Wait};
 use std::thread::Parker;
+
+/// How many turns a worker's own thread takes under one lock.
+const TURNS: usize = 64;
 
 /// One server's worker with its links.
 #[derive(Drop)]
@@ -44,45 +48,78 @@ pub struct Hall<R: Wait + Drop> {
     stations: Vec<Station<R>>,
     // Rung when a server has stopped since memory was refused.
     alarm: Alarm,
+    // The threads that serve the servers' clients.
+    desks: Arc<Desks, Global>,
+}
+
+// What some turns of one server have done.
+#[derive(Clone, Copy, Debug)]
+struct Taken {
+    turns: usize,
+    // The servers that were sent something.
+    reached: ServerSet,
+    // The ports to which replies were put.
+    replied: PortSet,
+}
+
+// What there was to do at a worker.
+#[derive(Clone, Copy, Debug, PartialEq, Eq)]
+enum Found {
+    // A message, and a turn was taken for it.
+    Message,
+    // Nothing.
+    Nothing,
+    // The last message of all: no more turns are taken.
+    End,
 }
 
 impl<R: Wait + Drop> Station<R> {
-    // Takes a turn if no other thread is at the worker, and answers which servers were sent something by it.
-    fn try_turn(&self, alarm: &Alarm) -> Option<ServerSet> {
+    // Takes up to so many turns if no other thread is at the worker.
+    fn try_turns(&self, most: usize, alarm: &Alarm) -> Option<Taken> {
         let mut bench = self.bench.try_lock()?;
         if self.ended.load(Ordering::SeqCst) {
             return None;
         }
         self.due.store(false, Ordering::SeqCst);
-        if self.turn(&mut *bench, alarm) {
+        let mut turns = 0usize;
+        for _ in 0..most {
+            match self.turn(&mut *bench, alarm) {
+                Found::Message => turns = turns.wrapping_add(1),
+                Found::Nothing | Found::End => break,
+            }
+        }
+        if turns == most {
             self.due.store(true, Ordering::SeqCst);
         }
         self.gauge.note(bench.worker.weight());
-        Some(bench.links.take_reached())
+        Some(Taken {
+            turns,
+            reached: bench.links.take_reached(),
+            replied: bench.worker.take_replied(),
+        })
     }
 
-    // Takes a turn, if there is a message. Whether there may be more. If memory is refused the server is stopped, and
-    // the alarm is rung.
-    fn turn(&self, bench: &mut Bench<R>, alarm: &Alarm) -> bool {
+    // Takes a turn, if there is a message. If memory is refused the server is stopped, and the alarm is rung.
+    fn turn(&self, bench: &mut Bench<R>, alarm: &Alarm) -> Found {
         match bench.worker.turn_if_any(&mut bench.links) {
-            Ok(None) => return false,
+            Ok(None) => return Found::Nothing,
             Ok(Some(Turn::Went)) => {}
             Ok(Some(Turn::Stopped)) => self.stopped.set(),
             Ok(Some(Turn::End)) => {
                 self.end();
-                return false;
+                return Found::End;
             }
             Err(RailFault::Closed) => {
                 self.stopped.set();
                 self.end();
-                return false;
+                return Found::End;
             }
             Err(_) => {
                 self.stopped.set();
                 alarm.ring();
             }
         }
-        true
+        Found::Message
     }
 
     // No more turns are taken, and the worker's thread ends.
@@ -98,11 +135,12 @@ impl<R: Wait + Drop> Station<R> {
 }
 
 impl<R: Wait + Drop> Hall<R> {
-    /// A hall without servers.
-    pub(crate) fn new(alloc: Global) -> Hall<R> {
+    /// A hall without servers, whose clients the threads of these desks serve.
+    pub(crate) fn new(alloc: Global, desks: Arc<Desks, Global>) -> Hall<R> {
         Hall {
             stations: Vec::new(alloc),
             alarm: Alarm::new(),
+            desks,
         }
     }
 
@@ -134,6 +172,11 @@ impl<R: Wait + Drop> Hall<R> {
         &self.alarm
     }
 
+    /// Wakes the threads that serve clients: a server answers no more calls.
+    pub(crate) fn wake_all(&self) {
+        self.desks.wake_all();
+    }
+
     fn station(&self, id: u8) -> Option<&Station<R>> {
         self.stations.get(usize::from(id))
     }
@@ -145,45 +188,15 @@ impl<R: Wait + Drop> Hall<R> {
         }
     }
 
-    /// Says that something was put into the inboxes of these servers, and that they will be tried.
-    pub(crate) fn note(&self, servers: ServerSet) {
+    // Says that something was put into the inboxes of these servers, and that they will be tried.
+    fn note(&self, servers: ServerSet) {
         let mut left = servers;
         for _ in 0..self.stations.len() {
             let Some(id) = left.take_after(0) else {
                 return;
             };
-            if let Some(station) = self.station(id) {
-                station.due.store(true, Ordering::SeqCst);
-            }
+            self.expect(id);
         }
-    }
-
-    /// Leaves it to these servers' threads to take turns there.
-    pub(crate) fn ring_all(&self, servers: ServerSet) {
-        let mut left = servers;
-        for _ in 0..self.stations.len() {
-            let Some(id) = left.take_after(0) else {
-                return;
-            };
-            self.ring(id);
-        }
-    }
-
-    /// Takes a turn of a server, if no other thread is at it. Answers the servers that are to be tried then.
-    pub(crate) fn visit(&self, id: u8) -> ServerSet {
-        let mut due = ServerSet::new();
-        let Some(station) = self.station(id) else {
-            return due;
-        };
-        let Some(reached) = station.try_turn(&self.alarm) else {
-            return due;
-        };
-        self.note(reached);
-        due.merge(reached);
-        if station.due.swap(false, Ordering::SeqCst) {
-            due.add(id);
-        }
-        due
     }
 
     /// The thread of a server's worker: whenever it is rung it takes turns, there and at the servers that these reach,
@@ -202,6 +215,15 @@ impl<R: Wait + Drop> Hall<R> {
         unreachable!()
     }
 
+    // Takes turns of a server, and wakes those who serve the clients that have replies. Answers where turns are due.
+    fn visit(&self, id: u8) -> ServerSet {
+        let visit = self.take_turns(id, TURNS);
+        if !visit.replied.is_empty() {
+            self.desks.wake(id, visit.replied);
+        }
+        visit.due
+    }
+
     // Takes turns as long as one is due.
     fn carry(&self, rt: &R, id: u8) {
         let mut due = ServerSet::new();
@@ -217,5 +239,54 @@ impl<R: Wait + Drop> Hall<R> {
             }
         }
         unreachable!()
+    }
+}
+
+impl<R: Wait + Drop> Stations for Hall<R> {
+    fn expect(&self, id: u8) {
+        if let Some(station) = self.station(id) {
+            station.due.store(true, Ordering::SeqCst);
+        }
+    }
+
+    fn take_turns(&self, id: u8, most: usize) -> Visit {
+        let Some(station) = self.station(id) else {
+            return Visit::nothing();
+        };
+        let Some(taken) = station.try_turns(most, &self.alarm) else {
+            return Visit::nothing();
+        };
+        self.note(taken.reached);
+        let mut due = taken.reached;
+        if station.due.swap(false, Ordering::SeqCst) {
+            due.add(id);
+        }
+        Visit {
+            turns: taken.turns,
+            due,
+            replied: taken.replied,
+        }
+    }
+
+    fn all_due(&self) -> ServerSet {
+        let mut due = ServerSet::new();
+        let mut id = 0u8;
+        for station in self.stations.iter() {
+            if station.due.load(Ordering::SeqCst) {
+                due.add(id);
+            }
+            id = id.wrapping_add(1);
+        }
+        due
+    }
+
+    fn leave(&self, servers: ServerSet) {
+        let mut left = servers;
+        for _ in 0..self.stations.len() {
+            let Some(id) = left.take_after(0) else {
+                return;
+            };
+            self.ring(id);
+        }
     }
 }

@@ -88,8 +88,8 @@ impl Homes {
         }
     }
 
-    /// Has the callers of server `j` answer no more calls, and its worker stop. Refused if the worker hasn't stopped and
-    /// can't be told to, or there is no such server.
+    /// Has the connections of server `j` closed, and its worker stop. Refused if the worker hasn't stopped and can't be
+    /// told to, or there is no such server.
     pub(crate) fn stop<R: Wait + Drop>(
         &mut self,
         rt: &R,
@@ -101,6 +101,7 @@ impl Homes {
         };
         let stopping = home.stop(rt)?;
         hall.ring(j);
+        hall.wake_all();
         Ok(stopping)
     }
 
@@ -112,12 +113,13 @@ impl Homes {
         }
     }
 
-    /// A server that has stopped by itself since this was last asked. Its callers answer no more calls.
-    pub(crate) fn next_fallen(&mut self) -> Option<u8> {
+    /// A server that has stopped by itself since this was last asked. Its clients' connections are closed.
+    pub(crate) fn next_fallen<R: Wait + Drop>(&mut self, hall: &Hall<R>) -> Option<u8> {
         let mut id = 0u8;
         for home in self.homes.iter() {
             if home.has_fallen() {
                 home.failed.set();
+                hall.wake_all();
                 return Some(id);
             }
             id = id.wrapping_add(1);

@@ -7,10 +7,9 @@ mod banners;
 mod cluster_faults;
 mod clusters;
 mod cuts;
-mod doors;
+mod file_limits;
 mod greeters;
 mod halls;
-mod hands;
 mod homes;
 mod link_lines;
 mod machines;
@@ -22,6 +21,7 @@ mod peer_doors;
 mod refusals;
 mod server_faults;
 mod servers;
+mod shapes;
 mod sides;
 mod steering;
 mod strangers;
@@ -30,13 +30,11 @@ mod told_sinks;
 mod working;
 
 pub use cluster_faults::ClusterFault;
-pub use doors::serve_seats;
 pub use halls::Hall;
-pub use hands::Hand;
 pub use homes::Home;
+pub use machines::machine_memory;
 pub use servers::{server, warn_of};
-pub use sides::{
-    Side, all_callers, all_links, all_servers, all_sides, helping_callers, start_worker,
-};
+pub use shapes::Shape;
+pub use sides::{Opened, Side, all_links, all_servers, all_sides};
 pub use steering::cluster;
-pub use working::work;
+pub use working::{Rest, Surroundings, work};

@@ -5,7 +5,7 @@ use std::io::Read;
 use std::rt::Files;
 
 /// The memory of this machine in MiB, by the first line of the system's file /proc/meminfo. None if it can't be read.
-pub(crate) fn machine_memory<R: Files>(rt: &R) -> Option<u64> {
+pub fn machine_memory<R: Files>(rt: &R) -> Option<u64> {
     let mut file = fs::open(rt, "/proc/meminfo").ok()?;
     let mut beginning = [0u8; 64];
     let count = file.read(beginning.as_mut_slice()).ok()?;

@@ -122,7 +122,7 @@ impl<R: Wait + Copy + Drop + Send + 'static> Office<R> {
 
     fn look(&self, rt: &R) -> Found {
         let mut homes = self.homes.lock(rt);
-        let fallen = homes.next_fallen();
+        let fallen = homes.next_fallen(&self.hall);
         if let Some(j) = fallen {
             homes.note(j);
         }

@@ -4,9 +4,9 @@ use crate::cluster_faults::ClusterFault;
 use crate::link_lines::words_of;
 use command_line::{FAILED, GONE, MEMORY};
 use ends::{Sink, write_all};
+use io_threads::FrontFault;
 use itoa::Buffer;
 use masters::{ServerSettings, port_of};
-use serving::ServeFault;
 use std::alloc::{AllocError, AllocFailed};
 use thiserror::Error;
 use wire::Reason;
@@ -72,9 +72,12 @@ impl<T: Drop> From<AllocFailed<T>> for ServerFault {
     }
 }
 
-impl From<ServeFault> for ServerFault {
-    fn from(_e: ServeFault) -> ServerFault {
-        ServerFault::Memory
+impl From<FrontFault> for ServerFault {
+    fn from(e: FrontFault) -> ServerFault {
+        match e {
+            FrontFault::Memory => ServerFault::Memory,
+            FrontFault::Numbers => ServerFault::Run,
+        }
     }
 }
 

@@ -1,36 +1,39 @@
 //! The command `server`: one server of a chain in a process of its own.
 
 use crate::banners::tell_server;
-use crate::cuts::Connections;
-use crate::doors::serve_seats;
+use crate::file_limits::warn_of_files;
 use crate::meetings::{connected, new_lobby};
 use crate::outgoing::LinkSink;
 use crate::server_faults::{ServerFault, tell};
-use crate::sides::{all_callers, idle_node};
+use crate::shapes::Shape;
+use crate::sides::{Opened, idle_node, open_server};
+use crate::working::{Rest, Surroundings, work};
 use ends::{Sink, write_all};
-use links::{Lobby, PeerLinks};
-use masters::{ServerSettings, port_of};
+use io_threads::{Desks, Elsewhere, FrontSettings, Gate, Pooled, open_desks, open_front};
+use links::PeerLinks;
+use masters::{ServerSettings, keep_alive, port_of};
 use node::SERVERS;
-use rail::{RailFault, Server, Stand, Turn, Worker, open};
-use seats::{Allowance, Gauge, Mark};
+use rail::Worker;
+use seats::{Allowance, Gauge, Mark, SeatPool};
 use std::alloc::Global;
 use std::net::{Net, SocketAddr, TcpListener, TcpStream};
-use std::rt::Files;
 use std::sync::{Arc, Wait};
 use std::thread::Threads;
 use std::time::Clock;
+
+/// The place of the server among those of its process, which has one.
+const HERE: u8 = 0;
 
 /// Runs one server of a chain, until a fault ends it, or it is called gone. It connects to each other server, waits
 /// until each has connected to it, says `ready`, and serves clients from then on. It answers the exit status, after a
 /// line on `errors`: 1 if a port is taken, a peer can't be reached or refuses it, a link breaks before it is ready, or
 /// the output can't be written; 3 if memory is out; 4 if it was called gone. Its other threads go on until the process
-/// ends.
+/// ends. `machine` is how many MiB of memory the machine has, which the line at the start tells.
 pub fn server<
     R: Wait
         + Threads
         + Clock
         + Eprint
-        + Files
         + Net<Listener = TcpListener, Stream = TcpStream>
         + Copy
         + Drop
@@ -38,8 +41,15 @@ pub fn server<
         + 'static,
     W: Sink,
     X: Sink,
->(rt: R, alloc: Global, settings: &ServerSettings, output: &mut W, errors: &mut X) -> u8 {
-    let fault = match Running::open(rt, alloc, settings, errors) {
+>(
+    rt: R,
+    alloc: Global,
+    settings: &ServerSettings,
+    machine: Option<u64>,
+    output: &mut W,
+    errors: &mut X,
+) -> u8 {
+    let fault = match Running::open(rt, alloc, settings, machine, errors) {
         Ok(running) => running.work(rt, alloc, output),
         Err(fault) => fault,
     };
@@ -51,11 +61,20 @@ pub fn server<
 struct Running<R: Wait + Eprint + Drop> {
     worker: Worker<R>,
     links: PeerLinks<LinkSink<R>>,
-    lobby: Arc<Lobby<Connections>, Global>,
-    clients: TcpListener,
-    stands: Vec<Stand>,
+    front: Front,
     failed: Mark,
+    // Set if the server is called gone.
+    ended: Mark,
     gauge: Gauge,
+}
+
+// What will serve the clients of a server.
+#[derive(Drop)]
+struct Front {
+    listener: TcpListener,
+    pools: Vec<SeatPool>,
+    shape: Shape,
+    connections: u32,
 }
 
 // The ports of a server.
@@ -72,29 +91,40 @@ impl<R: Wait + Eprint + Copy + Drop + Send + 'static> Running<R> {
         rt: R,
         alloc: Global,
         settings: &ServerSettings,
+        machine: Option<u64>,
         errors: &mut X,
     ) -> Result<Running<R>, ServerFault>
     where
-        R: Threads + Clock + Files + Net<Listener = TcpListener, Stream = TcpStream>,
+        R: Threads + Clock + Net<Listener = TcpListener, Stream = TcpStream>,
     {
         let Ports { clients, peers } = Ports::open(&rt, settings)?;
         warn(&peers, errors);
-        tell_server(&rt, settings, errors);
-        let Server {
+        let shape = Shape::new(&rt, settings.numbers.threads, settings.numbers.seats);
+        tell_server(settings, shape, machine, errors);
+        let connections = settings.numbers.connections;
+        warn_of_files(1, connections, shape, errors);
+        let Opened {
+            pooled,
+            failed,
+            gauge,
+        } = idle_server(rt, alloc, settings, shape)?;
+        let Pooled {
             worker,
-            stands,
+            pools,
             inlets,
-        } = idle_server(rt, alloc, settings)?;
-        let failed = Mark::new(alloc)?;
-        let gauge = Gauge::new(alloc, Allowance::new(settings.numbers.memory, 1))?;
+        } = pooled;
         let lobby = new_lobby(&rt, alloc, settings, inlets, &failed)?;
         let links = connected(rt, alloc, settings, &lobby, peers)?;
         Ok(Running {
             worker,
             links,
-            lobby,
-            clients,
-            stands,
+            ended: lobby.cuts().ended().share()?,
+            front: Front {
+                listener: clients,
+                pools,
+                shape,
+                connections,
+            },
             failed,
             gauge,
         })
@@ -103,67 +133,77 @@ impl<R: Wait + Eprint + Copy + Drop + Send + 'static> Running<R> {
     // Says that it is ready, serves clients, and takes the worker's turns until it stops. It answers why.
     fn work<W: Sink>(self, rt: R, alloc: Global, output: &mut W) -> ServerFault
     where
-        R: Threads,
+        R: Threads + Net,
     {
         let Running {
             worker,
             mut links,
-            lobby,
-            clients,
-            stands,
+            front,
             failed,
+            ended,
             gauge,
         } = self;
-        let fault = match serve_clients(rt, alloc, &clients, stands, &failed, &gauge, output) {
-            Ok(()) => take_turns(&rt, worker, &mut links, lobby.cuts(), &gauge),
-            Err(fault) => fault,
-        };
-        failed.set();
-        fault
+        match serve_clients(rt, alloc, front, &failed, output) {
+            Ok(desks) => {
+                let around = Surroundings {
+                    id: HERE,
+                    desks,
+                    gauge,
+                    failed,
+                    ended,
+                };
+                fault_of(work(&rt, worker, &mut links, &around))
+            }
+            Err(fault) => {
+                failed.set();
+                fault
+            }
+        }
     }
 }
 
 // Says that the server is ready, and starts the threads that serve clients.
-fn serve_clients<R: Wait + Threads + Copy + Drop + Send + 'static, W: Sink>(
+fn serve_clients<R: Wait + Threads + Net + Copy + Drop + Send + 'static, W: Sink>(
     rt: R,
     alloc: Global,
-    clients: &TcpListener,
-    stands: Vec<Stand>,
+    front: Front,
     failed: &Mark,
-    gauge: &Gauge,
     output: &mut W,
-) -> Result<(), ServerFault> {
-    let callers = all_callers(alloc, stands, failed, gauge)?;
+) -> Result<Arc<Desks, Global>, ServerFault> {
+    let Front {
+        listener,
+        pools,
+        shape,
+        connections,
+    } = front;
+    let (desks, polls) = open_desks(&rt, alloc, shape.threads)?;
+    let desks = Arc::new(alloc, desks)?;
+    let stations = Arc::new(alloc, Elsewhere)?;
+    let mark = failed.share()?;
+    let mut gates = Vec::new(alloc);
+    gates.push(Gate {
+        listener,
+        pools,
+        mark,
+    })?;
     if write_all(output, b"ready\n").is_err() {
         return Err(ServerFault::Run);
     }
-    let _ = serve_seats(rt, alloc, clients, callers, 0, failed)?;
-    Ok(())
+    let settings = FrontSettings {
+        connections: u64::from(connections),
+        serves: 0,
+    };
+    let _ = open_front(rt, alloc, settings, &stations, &desks, polls, gates)?;
+    Ok(desks)
 }
 
-// Takes turns until the worker stops or the server was called gone, and answers why. After each the gauge is told what
-// the server holds.
-fn take_turns<R: Wait + Eprint + Drop>(
-    rt: &R,
-    worker: Worker<R>,
-    links: &mut PeerLinks<LinkSink<R>>,
-    connections: &Connections,
-    gauge: &Gauge,
-) -> ServerFault {
-    let mut worker = worker;
-    for _ in rt.forever() {
-        let turn = worker.turn(links);
-        gauge.note(worker.weight());
-        if connections.has_ended() {
-            return ServerFault::Gone;
-        }
-        match turn {
-            Ok(Turn::Went) => {}
-            Ok(Turn::Stopped) | Err(RailFault::Memory) => return ServerFault::Memory,
-            Ok(Turn::End) | Err(_) => return ServerFault::Run,
-        }
+// Why a server ends whose worker rests.
+fn fault_of(rest: Rest) -> ServerFault {
+    match rest {
+        Rest::Told => ServerFault::Run,
+        Rest::Stopped => ServerFault::Memory,
+        Rest::Ended => ServerFault::Gone,
     }
-    unreachable!()
 }
 
 impl Ports {
@@ -193,7 +233,10 @@ fn listener<R: Net<Listener = TcpListener, Stream = TcpStream>>(
     port: u16,
 ) -> Result<TcpListener, ServerFault> {
     match TcpListener::bind(rt, (address, port)) {
-        Ok(listener) => Ok(listener),
+        Ok(listener) => {
+            keep_alive(&listener);
+            Ok(listener)
+        }
         Err(_) => Err(ServerFault::Port(port)),
     }
 }
@@ -220,15 +263,13 @@ fn idle_server<R: Wait + Copy + Drop>(
     rt: R,
     alloc: Global,
     settings: &ServerSettings,
-) -> Result<Server<R>, ServerFault> {
-    let seats = settings.numbers.seats;
+    shape: Shape,
+) -> Result<Opened<R>, ServerFault> {
     let servers = settings.numbers.servers;
-    if seats == 0 || seats > 16 || servers == 0 || servers > SERVERS {
+    if servers == 0 || servers > SERVERS {
         return Err(ServerFault::Run);
     }
     let node = idle_node(alloc, settings.numbers.id, servers)?;
-    match open(rt, alloc, node, usize::from(seats), usize::from(servers)) {
-        Ok(server) => Ok(server),
-        Err(_) => Err(ServerFault::Memory),
-    }
+    let allowance = Allowance::new(settings.numbers.memory, 1);
+    Ok(open_server(rt, alloc, node, servers, shape, allowance)?)
 }

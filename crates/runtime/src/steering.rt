@@ -3,13 +3,14 @@
 use crate::banners::tell_cluster;
 use crate::cluster_faults::ClusterFault;
 use crate::clusters::Cluster;
+use crate::file_limits::warn_of_files;
 use crate::homes::StopFault;
+use crate::shapes::Shape;
 use command_line::{DONE, Numbers};
 use ends::{Sink, Source, write_all};
 use masters::{Answers, empty_line, next_line, server_named};
 use std::alloc::Global;
 use std::net::{Net, TcpListener, TcpStream};
-use std::rt::Files;
 use std::sync::Wait;
 use std::thread::Threads;
 use std::time::Clock;
@@ -17,17 +18,17 @@ use std::time::Clock;
 /// Who goes on if standard output can't be written.
 const WHO: &str = "the cluster";
 
-/// Runs a chain of servers that serve clients over TCP, until the input and every seat's thread have ended. It says
+/// Runs a chain of servers that serve clients over TCP, until the input and the threads that serve have ended. It says
 /// `ready` when all listen. For each line `fail J` of the input server J is failed, and `gone J` printed, or `not gone J`
 /// if it can't be stopped; any other line prints `bad line`. Of a server that is refused memory the others are told at
-/// once, and so is the user, by a line on standard error. It answers the exit status: 0, or, after a line on `errors`, 1 if a port is taken or `ready`
-/// can't be written, or 3 if memory is out at the start. An answer that can't be written is told there once.
+/// once, and so is the user, by a line on standard error. It answers the exit status: 0, or, after a line on `errors`, 1
+/// if a port is taken or `ready` can't be written, or 3 if memory is out at the start. An answer that can't be written
+/// is told there once. `machine` is how many MiB of memory the machine has, which the line at the start tells.
 pub fn cluster<
     R: Wait
         + Threads
         + Clock
         + Eprint
-        + Files
         + Net<Listener = TcpListener, Stream = TcpStream>
         + Copy
         + Drop
@@ -36,8 +37,16 @@ pub fn cluster<
     S: Source,
     W: Sink,
     X: Sink,
->(rt: R, alloc: Global, numbers: Numbers, input: &mut S, output: &mut W, errors: &mut X) -> u8 {
-    match steer(rt, alloc, numbers, input, output, errors) {
+>(
+    rt: R,
+    alloc: Global,
+    numbers: Numbers,
+    machine: Option<u64>,
+    input: &mut S,
+    output: &mut W,
+    errors: &mut X,
+) -> u8 {
+    match steer(rt, alloc, numbers, machine, input, output, errors) {
         Ok(()) => DONE,
         Err(fault) => {
             fault.tell(errors);
@@ -52,7 +61,6 @@ fn steer<
         + Threads
         + Clock
         + Eprint
-        + Files
         + Net<Listener = TcpListener, Stream = TcpStream>
         + Copy
         + Drop
@@ -65,14 +73,17 @@ fn steer<
     rt: R,
     alloc: Global,
     numbers: Numbers,
+    machine: Option<u64>,
     input: &mut S,
     output: &mut W,
     errors: &mut X,
 ) -> Result<(), ClusterFault> {
     let mut line = empty_line(alloc)?;
     let mut answers = Answers::new(alloc)?;
-    let cluster = Cluster::open(rt, alloc, numbers)?;
-    tell_cluster(&rt, numbers, errors);
+    let shape = Shape::new(&rt, numbers.threads, numbers.seats);
+    let cluster = Cluster::open(rt, alloc, numbers, shape)?;
+    tell_cluster(numbers, shape, machine, errors);
+    warn_of_files(numbers.servers, numbers.connections, shape, errors);
     if write_all(output, b"ready\n").is_err() {
         return Err(ClusterFault::Run);
     }

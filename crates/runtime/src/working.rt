@@ -1,23 +1,69 @@
 //! The thread of a worker that nobody helps.
 
+use io_threads::Desks;
 use rail::{Links, RailFault, Turn, Worker};
-use seats::Mark;
-use std::sync::Wait;
+use seats::{Gauge, Mark};
+use std::alloc::Global;
+use std::sync::{Arc, Wait};
 
-/// Takes the worker's turns until it is told to end. It sets the mark as soon as the server is stopped, or out of
-/// memory, or nobody is left who could send it anything.
-pub fn work<R: Wait + Drop, L: Links>(rt: &R, worker: Worker<R>, links: &mut L, mark: &Mark) {
+/// What the thread of a worker shares with others of its process.
+#[derive(Drop)]
+pub struct Surroundings {
+    /// The place of its server among those of the process.
+    pub id: u8,
+    /// The threads that serve clients.
+    pub desks: Arc<Desks, Global>,
+    /// Whether the server's items may take more memory.
+    pub gauge: Gauge,
+    /// Set as soon as the server answers no more calls.
+    pub failed: Mark,
+    /// Set if the worker is to take no more turns.
+    pub ended: Mark,
+}
+
+/// Why a worker takes no more turns.
+#[derive(Clone, Copy, Debug, PartialEq, Eq)]
+pub enum Rest {
+    /// It was told to end, or nobody is left who could send it anything.
+    Told,
+    /// Memory was refused to it, or it was stopped.
+    Stopped,
+    /// Its mark was set.
+    Ended,
+}
+
+/// Takes the worker's turns until it rests, and answers why. After each turn the gauge is told what the server holds,
+/// and the threads are woken whose clients have replies. At the end the server answers no more calls.
+pub fn work<R: Wait + Drop, L: Links>(
+    rt: &R,
+    worker: Worker<R>,
+    links: &mut L,
+    around: &Surroundings,
+) -> Rest {
+    let rest = take_turns(rt, worker, links, around);
+    around.failed.set();
+    around.desks.wake_all();
+    rest
+}
+
+fn take_turns<R: Wait + Drop, L: Links>(
+    rt: &R,
+    worker: Worker<R>,
+    links: &mut L,
+    around: &Surroundings,
+) -> Rest {
     let mut worker = worker;
     for _ in rt.forever() {
-        match worker.turn(links) {
+        let turn = worker.turn(links);
+        around.gauge.note(worker.weight());
+        around.desks.wake(around.id, worker.take_replied());
+        if around.ended.is_set() {
+            return Rest::Ended;
+        }
+        match turn {
             Ok(Turn::Went) => {}
-            Ok(Turn::Stopped) => mark.set(),
-            Ok(Turn::End) => return,
-            Err(RailFault::Closed) => {
-                mark.set();
-                return;
-            }
-            Err(_) => mark.set(),
+            Ok(Turn::Stopped) | Err(RailFault::Memory) => return Rest::Stopped,
+            Ok(Turn::End) | Err(_) => return Rest::Told,
         }
     }
     unreachable!()

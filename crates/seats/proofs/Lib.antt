@@ -1,3 +1,6 @@
 pub mod Limits
 pub mod Seated
 pub mod Linked
+pub mod Pooled
+pub mod Submitted
+pub mod TalkLaws

@@ -1,5 +1,5 @@
 -- What is put on the links between the servers of one process.
-use Rattle.std.proofs.Common.{◌≡◌, ℕ, zero, suc, ◌+◌, ◌<◌, ◌≤◌, Bool, true, false, if◌then◌else◌, List, [], ◌∷◌, ◌++◌}
+use Rattle.std.proofs.Common.{◌≡◌, ℕ, zero, suc, ◌<◌, ◌≤◌, Bool, true, false, if◌then◌else◌, List, [], ◌∷◌, ◌++◌}
 use Rattle.std.proofs.Common.{length, slice_index_or, slice_set, nat_lt, refl, ap, sym, arith}
 use Rattle.node.specs.declared.messages.Peer.{Peer}
 use Rattle.node.specs.declared.messages.Input.TheVariants.{From}
@@ -15,7 +15,7 @@ last_of to i peer [] = refl
 last_of to i peer (e ∷ []) = refl
 last_of to i peer (e ∷ (f ∷ es)) = last_of to i peer (f ∷ es)
 
-without : (e : Event) (es : List Event) → without_last (es ++ e ∷ []) ≡ es
+pub without : (e : Event) (es : List Event) → without_last (es ++ e ∷ []) ≡ es
 without e [] = refl
 without e (f ∷ []) = refl
 without e (f ∷ (h ∷ es)) = ap (λ w. f ∷ w) (without e (h ∷ es))

@@ -1,39 +1,27 @@
 -- Calls at a seat, one step after another.
-use Rattle.std.proofs.Common.{◌≡◌, ◌∙◌, ◌∷◌, ◌++◌, [], Bool, true, false, Result, Ok, Err, is_err, MatchResult, ap, sym}
-use Rattle.std.proofs.Common.{subst}
+use Rattle.std.proofs.Common.{◌≡◌, ◌∙◌, ◌⊎◌, Bool, true, false, inr, not, Some, Result, Ok, Err, IfOk, OnOk, is_err}
+use Rattle.std.proofs.Common.{ap, refl, subst, sym}
+use Rattle.table.specs.Operations.{is_update, is_value}
 use Rattle.table.specs.declared.operations.Call.{Call}
 use Rattle.table.specs.declared.operations.Reply.{Reply}
-use Rattle.node.specs.declared.messages.Input.TheVariants.{Call as Called}
-use Rattle.node.specs.declared.messages.Output.TheVariants.{Reply as Replied}
 use Rattle.faces.specs.Courses.{Course, IsLater}
-use Rattle.faces.specs.Outputs.{PutsOut}
-use Rattle.faces.proofs.Beginnings.{prefix_trans}
-use Rattle.rail.specs.declared.events.Event.TheVariants.{Took}
+use Rattle.faces.proofs.Beginnings.{prefix_self, prefix_trans}
 use Rattle.rail.specs.Seats.{SeatState}
-use Rattle.seats.specs.SeatCallers.{IsSubmitted}
+use Rattle.serving.specs.declared.callers.CallFault.{CallFault}
+use Rattle.seats.specs.SeatCallers.{IsSeen, IsSubmitted}
+use Rattle.seats.specs.Submitters.{Submitting, IsAnswered}
+use Rattle.seats.proofs.Submitted.{answers_to, same_call}
+
+-- a course is no earlier than itself
+pub later_same : (c : Course) → IsLater c c
+later_same c = record { origin = refl; inputs = prefix_self c.inputs }
 
 -- what is later than a later course is later
-later_then : (first second third : Course) → IsLater first second → IsLater second third → IsLater first third
+pub later_then : (first second third : Course) → IsLater first second → IsLater second third → IsLater first third
 later_then first second third p q =
     record { origin = q.origin ∙ p.origin; inputs = prefix_trans _ _ _ p.inputs q.inputs }
 
--- a call was sent, its reply was taken, and what came with it was learned
-pub submitted : (before after told : Course) (seat mid last : SeatState) (call : Call) (reply : Reply)
-    → mid ≡ record seat { sent = seat.sent ++ Took (Called seat.port call) ∷ [] }
-    → last ≡ record mid { got = mid.got ++ record { port = mid.port; reply = reply; told = told } ∷ [] }
-    → IsLater before after → IsLater told after → PutsOut told (Replied mid.port reply)
-    → IsSubmitted before after seat last call reply
-submitted before after told seat mid last call reply p q later learned put =
-    record {
-      told = told;
-      later = later;
-      learned = learned;
-      put_out = subst (λ (m : SeatState). PutsOut told (Replied m.port reply)) p put;
-      sent = q ∙ ap (λ (m : SeatState).
-          record m { got = m.got ++ record { port = m.port; reply = reply; told = told } ∷ [] }) p;
-    }
-
--- the same after a look
+-- the server has replied, after a look
 pub submitted_then : (before looked after : Course) (seat last : SeatState) (call : Call) (reply : Reply)
     → IsLater before looked
     → IsSubmitted looked after seat last call reply
@@ -47,11 +35,29 @@ submitted_then before looked after seat last call reply p s =
       sent = s.sent;
     }
 
--- what holds of an answer that is no error
-pub sent_if : {T E : Type 0} (P : Type 0) (Q : E → Type 0) (r : Result T E) (b : Bool)
-    → b ≡ is_err r
-    → b ≡ false
-    → MatchResult r (λ _. P) Q
-    → P
-sent_if P Q (Ok x) b is fine holds = holds
-sent_if P Q (Err e) b is fine holds = let bad : true ≡ false = sym is ∙ fine in cc
+-- what answers after a look, if anything does
+pub answered_then : (before looked after : Course) (seat last : SeatState) (call : Call) (r : Result Reply CallFault)
+    → IsLater before looked
+    → IfOk r (λ reply. IsSubmitted looked after seat last call reply)
+    → IfOk r (λ reply. IsSeen before after seat last call reply ⊎ IsSubmitted before after seat last call reply)
+answered_then before looked after seat last call (Ok reply) p s =
+    inr (submitted_then before looked after seat last call reply p s)
+answered_then before looked after seat last call (Err fault) p s = tt
+
+-- a call was submitted, and then its reply was taken
+pub exchanged_by : (before after : Course) (s t u : Submitting) (call : Call) (reply : Reply)
+    → t ≡ record s { waiting = Some call }
+    → IsAnswered before after t u reply
+    → IsSubmitted before after s.seat u.seat call reply × (is_value reply ≡ not (is_update call.op))
+exchanged_by before after s t u call reply sent a =
+    let waits : t.waiting ≡ Some call = ap (λ (x : Submitting). x.waiting) sent in
+    let same : a.call ≡ call = same_call before after t u call reply waits a in (
+      subst (λ (x : Submitting). IsSubmitted before after x.seat u.seat call reply) sent
+          (answers_to before after t u call reply waits a),
+      a.kind ∙ ap (λ (x : Call). not (is_update x.op)) same,
+    )
+
+-- what holds of a success
+pub if_ok : {T E : Type 0} (P : Type 0) (r : Result T E) (b : Bool) → b ≡ is_err r → b ≡ false → OnOk r P → P
+if_ok P (Ok x) b is fine holds = holds
+if_ok P (Err e) b is fine holds = let bad : true ≡ false = sym is ∙ fine in cc

@@ -14,7 +14,6 @@ use Rattle.faces.specs.Courses.{Course, IsLater, shown_after}
 use Rattle.faces.specs.Outputs.{PutsOut}
 use Rattle.rail.specs.declared.events.Event.TheVariants.{Took}
 use Rattle.rail.specs.Seats.{SeatState}
-use Rattle.rail.specs.Letters.{Letter}
 
 -- The call reads a key, and a look at the face after these inputs shows the key clean with this item, or without one.
 pub record ShowsClean (seen : Course) (call : Call) (item : Option Item) : Type 0 where

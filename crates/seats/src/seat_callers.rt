@@ -1,26 +1,24 @@
 //! One who answers calls at a running server: by a look beside it, or by the server.
-ghost use Rattle.std.specs.Prelude.{◌≡◌, ◌⊎◌, ◌+◌, true, false, not, MatchOption, MatchResult, OnOk, OnErr, IfOk};
-ghost use Rattle.std.specs.Prelude.{IfSome};
+ghost use Rattle.std.specs.Prelude.{◌≡◌, ◌⊎◌, ◌+◌, true, false, not, None, MatchOption, OnErr, IfOk, IsSome};
 ghost use Rattle.std.specs.Coded.{codes};
 ghost use Rattle.logbook.specs.Pages.{book_coded};
 ghost use Rattle.versions.specs.Stores.{coded_items};
 ghost use Rattle.table.specs.Operations.{Fits, Suits, is_update, is_value};
 ghost use Rattle.node.specs.Lawful.{IsCall};
-ghost use Rattle.node.specs.declared.messages.Output.TheVariants.{Reply as Replied};
 ghost use Rattle.faces.specs.Courses.{IsLater};
-ghost use Rattle.faces.specs.Outputs.{PutsOut};
-ghost use Rattle.rail.specs.Seats.{with_reply};
-ghost use Rattle.seats.specs.SeatCallers.{IsSeen, IsSubmitted, ShowsClean};
+ghost use Rattle.seats.specs.SeatCallers.{IsSeen, IsSubmitted};
+ghost use Rattle.seats.specs.Submitters.{IsAnswered};
 
 use crate::gauges::Gauge;
 use crate::helpers::Helper;
 use crate::marks::Mark;
+use crate::peeks::peek;
+use crate::submitters::Submitter;
 use ends::Failures;
-use node::Look;
-use rail::{RailFault, Reader, Seat, Stand, Told};
+use rail::{Reader, Stand};
 use serving::{CallFault, Caller};
 use std::sync::Wait;
-use table::{Call, Item, Op, Reply, Target};
+use table::{Call, Op, Reply, Target};
 
 /// How many turns a seat takes at most for one call before it sleeps, so that others' calls don't hold it for long.
 const MOST_TURNS: usize = 1000;
@@ -31,10 +29,9 @@ const MOST_TURNS: usize = 1000;
 pub struct SeatCaller<H> {
     /// Looks, and knows what was seen.
     pub reader: Reader,
-    /// Sends calls to the server, and takes their replies.
-    pub seat: Seat,
-    /// Whether a call that was sent got no reply. From then on every call fails.
-    pub lost: bool,
+    /// Sends calls to the server, and takes their replies. It is lost once a call that was sent got no reply, and from
+    /// then on every call fails.
+    pub submitter: Submitter,
     /// How many calls have failed.
     pub failures: Failures,
     // Set as soon as the server fails.
@@ -42,21 +39,24 @@ pub struct SeatCaller<H> {
     // Whether the server's items may take more memory.
     gauge: Gauge,
     helper: H,
-    ghost together: { seat.origin ≡ reader.origin } by { Prim.hlevel (codes, coded_items, book_coded) },
+    ghost together: { submitter.seat.origin ≡ reader.origin } by { Prim.hlevel (codes, coded_items, book_coded) },
+    ghost free: { submitter.waiting ≡ None } by { Prim.hlevel (codes, coded_items, book_coded) },
 }
 
 impl<H: Helper> SeatCaller<H> {
+    ghost use Rattle.std.specs.Prelude.{◌≡◌};
+    ghost use Rattle.seats.specs.Submitters.{unused};
+
     /// A caller at this stand, whose server has this mark and this gauge, with one who helps its workers.
     pub fn new(stand: Stand, mark: Mark, helper: H, gauge: Gauge) -> SeatCaller<H>
         ensures reader { result.reader ≡ stand.reader }
-        ensures seat { result.seat ≡ stand.seat }
-        ensures fresh { (result.lost ≡ false) × (result.failures ≡ 0) }
+        ensures seat { result.submitter ≡ unused stand.seat }
+        ensures fresh { result.failures ≡ 0 }
     {
         let Stand { reader, seat } = stand;
         SeatCaller {
             reader,
-            seat,
-            lost: false,
+            submitter: Submitter::new(seat),
             failures: Failures::new(),
             mark,
             gauge,
@@ -67,9 +67,9 @@ impl<H: Helper> SeatCaller<H> {
 
 impl<H: Helper> Caller for SeatCaller<H> {
     // After a call that was sent and got no reply, no call is answered.
-    ghost answers = { λ before call reply after. (before.lost ≡ false) ×
-        (IsSeen before.reader after.reader before.seat after.seat call reply ⊎
-        IsSubmitted before.reader after.reader before.seat after.seat call reply) };
+    ghost answers = { λ before call reply after. (before.submitter.lost ≡ false) ×
+        (IsSeen before.reader after.reader before.submitter.seat after.submitter.seat call reply ⊎
+        IsSubmitted before.reader after.reader before.submitter.seat after.submitter.seat call reply) };
 
     ghost failures = { λ caller. caller.failures };
 
@@ -82,8 +82,7 @@ impl<H: Helper> Caller for SeatCaller<H> {
         match answer(
             rt,
             &mut self.reader,
-            &mut self.seat,
-            &mut self.lost,
+            &mut self.submitter,
             &self.mark,
             &mut self.helper,
             call,
@@ -103,129 +102,93 @@ impl<H: Helper> Caller for SeatCaller<H> {
 pub fn answer<R: Wait, H: Helper>(
     rt: &R,
     reader: &mut Reader,
-    seat: &mut Seat,
-    lost: &mut bool,
+    submitter: &mut Submitter,
     mark: &Mark,
     helper: &mut H,
     call: Call,
 ) -> Result<Reply, CallFault>
     requires call { IsCall call }
-    requires together { seat.old.origin ≡ reader.old.origin }
-    ensures together { seat.new.origin ≡ reader.new.origin }
+    requires together { submitter.old.seat.origin ≡ reader.old.origin }
+    requires free { submitter.old.waiting ≡ None }
+    ensures together { submitter.new.seat.origin ≡ reader.new.origin }
+    ensures free { submitter.new.waiting ≡ None }
     ensures answered { IfOk result
-        (λ reply. IsSeen reader.old reader.new seat.old seat.new call reply ⊎ IsSubmitted reader.old reader.new seat.old
-        seat.new call reply) }
-    ensures unlost { IfOk result (λ _. lost.old ≡ false) }
+        (λ reply. IsSeen reader.old reader.new submitter.old.seat submitter.new.seat call reply ⊎ IsSubmitted reader.old
+        reader.new submitter.old.seat submitter.new.seat call reply) }
+    ensures unlost { IfOk result (λ _. submitter.old.lost ≡ false) }
     ensures kind { IfOk result (λ reply. is_value reply ≡ not (is_update call.op)) }
     // Nothing was sent, or nothing is sent from now on.
-    ensures failed { OnErr result ((seat.new ≡ seat.old) ⊎ (lost.new ≡ true)) }
+    ensures failed { OnErr result ((submitter.new ≡ submitter.old) ⊎ (submitter.new.lost ≡ true)) }
     // After a call that was sent and got no reply, nothing is looked at and nothing is sent.
-    ensures silent { lost.old ≡ true → (reader.new ≡ reader.old) × (seat.new ≡ seat.old) × (lost.new ≡ true) }
+    ensures silent { submitter.old.lost ≡ true → (reader.new ≡ reader.old) × (submitter.new ≡ submitter.old) }
 {
-    if *lost {
+    if submitter.is_lost() {
         return Err(CallFault);
     }
-    if let Some(item) = look(reader, &call) {
+    if let Some(reply) = peek(reader, &call) {
         if mark.is_set() {
             return Err(CallFault);
         }
-        return Ok(Reply::Value(item));
+        return Ok(reply);
     }
     if mark.is_set() {
         return Err(CallFault);
     }
-    match exchange(rt, reader, seat, helper, call) {
-        Ok(reply) => Ok(reply),
-        Err(fault) => {
-            *lost = true;
-            Err(fault)
-        }
-    }
-}
-
-// A look at the key that the call reads, if it is a read. None if the key isn't clean, or no face is found.
-fn look(reader: &mut Reader, call: &Call) -> Option<Option<Item>>
-    ensures later { IsLater reader.old reader.new }
-    ensures clean { IfSome result (λ item. ShowsClean reader.new call.now item) }
-{
-    match (&call.target, &call.op) {
-        (Target::One(key), Op::Read) => match reader.look(key) {
-            Ok(Look::Clean(item)) => Some(item),
-            _ => None,
-        },
-        _ => None,
-    }
+    exchange(rt, reader, submitter, helper, call)
 }
 
 // Sends a call and takes its reply, and learns what comes with it.
 fn exchange<R: Wait, H: Helper>(
     rt: &R,
     reader: &mut Reader,
-    seat: &mut Seat,
+    submitter: &mut Submitter,
     helper: &mut H,
     call: Call,
 ) -> Result<Reply, CallFault>
     requires call { IsCall call }
-    requires together { seat.old.origin ≡ reader.old.origin }
-    ensures together { seat.new.origin ≡ reader.new.origin }
-    ensures submitted { IfOk result (λ reply. IsSubmitted reader.old reader.new seat.old seat.new call reply) }
+    requires together { submitter.old.seat.origin ≡ reader.old.origin }
+    requires free { submitter.old.waiting ≡ None }
+    ensures together { submitter.new.seat.origin ≡ reader.new.origin }
+    ensures free { submitter.new.waiting ≡ None }
+    ensures submitted { IfOk result
+        (λ reply. IsSubmitted reader.old reader.new submitter.old.seat submitter.new.seat call reply) }
     ensures kind { IfOk result (λ reply. is_value reply ≡ not (is_update call.op)) }
+    ensures lost { OnErr result (submitter.new.lost ≡ true) }
 {
-    let reads = !call.op.is_update();
-    if seat.submit(rt, call).is_err() {
+    if submitter.submit(rt, call).is_err() {
         return Err(CallFault);
     }
-    match helped_reply(rt, seat, helper) {
-        Ok((reply, told)) => {
-            reader.learn(told);
-            if matches!(reply, Reply::Value(_)) == reads {
-                Ok(reply)
-            } else {
-                Err(CallFault)
-            }
-        }
-        Err(_) => Err(CallFault),
-    }
-}
-
-// The next reply. It helps for a while, and then waits.
-fn helped_reply<R: Wait, H: Helper>(
-    rt: &R,
-    seat: &mut Seat,
-    helper: &mut H,
-) -> Result<(Reply, Told), RailFault>
-    ensures got { MatchResult result (λ r. seat.new ≡ with_reply seat.old r.0 r.1) (λ _. seat.new ≡ seat.old) }
-    ensures server { IfOk result (λ r. r.1.origin ≡ seat.old.origin) }
-    ensures put_out { IfOk result (λ r. PutsOut r.1 (Replied seat.old.port r.0)) }
-{
     helper.begin();
-    let found = reply_while_helping(rt, seat, helper);
+    let found = take_while_helping(rt, reader, submitter, helper);
     helper.end();
     match found {
-        Ok(Some(found)) => Ok(found),
-        Ok(None) => seat.reply(rt),
+        Ok(Some(reply)) => Ok(reply),
+        Ok(None) => submitter.wait(rt, reader),
         Err(fault) => Err(fault),
     }
 }
 
-// The next reply, if it comes while there is something to help with. After each turn it looks for the reply.
-fn reply_while_helping<R: Wait, H: Helper>(
+// The reply to the open call, if it comes while there is something to help with. After each turn it looks for the
+// reply.
+fn take_while_helping<R: Wait, H: Helper>(
     rt: &R,
-    seat: &mut Seat,
+    reader: &mut Reader,
+    submitter: &mut Submitter,
     helper: &mut H,
-) -> Result<Option<(Reply, Told)>, RailFault>
-    ensures got { MatchResult result
-        (λ found. MatchOption found (seat.new ≡ seat.old) (λ r. seat.new ≡ with_reply seat.old r.0 r.1))
-        (λ _. seat.new ≡ seat.old) }
-    ensures server { IfOk result (λ found. IfSome found (λ r. r.1.origin ≡ seat.old.origin)) }
-    ensures put_out { IfOk result (λ found. IfSome found (λ r. PutsOut r.1 (Replied seat.old.port r.0))) }
+) -> Result<Option<Reply>, CallFault>
+    requires together { submitter.old.seat.origin ≡ reader.old.origin }
+    ensures together { submitter.new.seat.origin ≡ reader.new.origin }
+    ensures taken { IfOk result (λ found. MatchOption found
+        ((submitter.new ≡ submitter.old) × (reader.new ≡ reader.old))
+        (λ reply. IsAnswered reader.old reader.new submitter.old submitter.new reply)) }
+    ensures lost { OnErr result ((submitter.new.lost ≡ true) × (submitter.new.waiting ≡ None)) }
 {
     for _ in 0..MOST_TURNS {
         if !helper.help() {
             return Ok(None);
         }
-        if let Some(found) = seat.reply_if_any(rt)? {
-            return Ok(Some(found));
+        if let Some(reply) = submitter.take(rt, reader)? {
+            return Ok(Some(reply));
         }
     }
     Ok(None)

@@ -7,6 +7,8 @@ mod connection_tests;
 #[cfg(test)]
 mod faces_tests;
 #[cfg(test)]
+mod front_tests;
+#[cfg(test)]
 mod peers_tests;
 #[cfg(test)]
 mod rail_tests;

@@ -4,17 +4,24 @@ use node::{Master, Node, NodeFault};
 use std::alloc::Global;
 use std::test::Fail;
 
+// Whether the master sends these, and nothing else, when a server has failed.
+fn tells(
+    alloc: Global,
+    master: &mut Master,
+    failed: u8,
+    wanted: &[(u8, u8)],
+) -> Result<bool, Fail> {
+    let told = master.gone(alloc, failed)?;
+    Ok(told.as_slice() == wanted)
+}
+
 #[test]
 fn a_master_tells_the_others(rt: HostRuntime) -> Result<(), Fail> {
     let mut master = Master::new(3);
-    let first = master.gone(rt.alloc(), 1)?;
-    assert_eq!(rt; first.as_slice(), [(0, 1), (2, 1)].as_slice());
-    let again = master.gone(rt.alloc(), 1)?;
-    assert!(rt; again.is_empty());
-    let last = master.gone(rt.alloc(), 0)?;
-    assert_eq!(rt; last.as_slice(), [(2, 0)].as_slice());
-    let stranger = master.gone(rt.alloc(), 3)?;
-    assert!(rt; stranger.is_empty());
+    assert!(rt; tells(rt.alloc(), &mut master, 1, &[(0, 1), (2, 1)])?);
+    assert!(rt; tells(rt.alloc(), &mut master, 1, &[])?);
+    assert!(rt; tells(rt.alloc(), &mut master, 0, &[(2, 0)])?);
+    assert!(rt; tells(rt.alloc(), &mut master, 3, &[])?);
     Ok(())
 }
 

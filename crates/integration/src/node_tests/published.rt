@@ -65,22 +65,27 @@ fn empty_scene(alloc: Global) -> Result<Scene, Fail> {
 // What an input changes of the face.
 fn changed(node: &mut Node, input: Input) -> Result<FaceChange, Fail> {
     if input.is_fit() {
-        Ok(node.step_face(input)?.1)
+        let (_, change) = node.step_face(input)?;
+        Ok(change)
     } else {
         Err("an input that may be handed in".into())
     }
+}
+
+// Whether readers beside the node see of a key what the node shows.
+fn looks_agree(scene: &Scene, key: &Key) -> bool {
+    look(&scene.face, key) == scene.node.peek(key)
 }
 
 // One step, replayed. Both looks are the same for each key.
 fn change(scene: &mut Scene, input: Input) -> Result<(), Fail> {
     let change = changed(&mut scene.node, input)?;
     replay(&mut scene.face, change)?;
-    for key in [&scene.a, &scene.b] {
-        if look(&scene.face, key) != scene.node.peek(key) {
-            return Err("both looks".into());
-        }
+    if looks_agree(scene, &scene.a) && looks_agree(scene, &scene.b) {
+        Ok(())
+    } else {
+        Err("both looks".into())
     }
-    Ok(())
 }
 
 fn acknowledged(n: u64) -> Input {
@@ -95,34 +100,74 @@ fn on_b(alloc: Global, call: Call) -> Result<Call, Fail> {
     Ok(Call { target, op })
 }
 
+fn put_a(alloc: Global, scene: &mut Scene, data: &[u8]) -> Result<(), Fail> {
+    let call = set(alloc, data)?;
+    change(scene, Input::Call(0, call))
+}
+
+fn put_b(alloc: Global, scene: &mut Scene, data: &[u8]) -> Result<(), Fail> {
+    let call = on_b(alloc, set(alloc, data)?)?;
+    change(scene, Input::Call(0, call))
+}
+
+fn delete_a(alloc: Global, scene: &mut Scene) -> Result<(), Fail> {
+    let call = on(alloc, Op::Delete)?;
+    change(scene, Input::Call(0, call))
+}
+
+fn clear_all(scene: &mut Scene) -> Result<(), Fail> {
+    let flush = Call {
+        target: Target::All,
+        op: Op::Flush,
+    };
+    change(scene, Input::Call(0, flush))
+}
+
 // Items are put and dropped.
 fn put_and_drop(alloc: Global, scene: &mut Scene) -> Result<(), Fail> {
-    change(scene, Input::Call(0, set(alloc, b"p")?))?;
+    put_a(alloc, scene, b"p")?;
     change(scene, acknowledged(1))?;
-    change(scene, Input::Call(0, on(alloc, Op::Delete)?))?;
-    change(scene, Input::Call(0, on_b(alloc, set(alloc, b"q")?)?))?;
+    delete_a(alloc, scene)?;
+    put_b(alloc, scene, b"q")?;
     change(scene, acknowledged(2))
 }
 
 // All keys are cleared, and one is put again.
 fn clear_and_put(alloc: Global, scene: &mut Scene) -> Result<(), Fail> {
-    let flush = Call {
-        target: Target::All,
-        op: Op::Flush,
-    };
-    change(scene, Input::Call(0, flush))?;
-    change(scene, Input::Call(0, set(alloc, b"r")?))?;
+    clear_all(scene)?;
+    put_a(alloc, scene, b"r")?;
     change(scene, acknowledged(4))
+}
+
+// Whether the key that was put last is dirty, and the other has no item.
+fn shows_a_dirty(scene: &Scene) -> bool {
+    matches!(look(&scene.face, &scene.a), Look::Dirty)
+        && matches!(look(&scene.face, &scene.b), Look::Clean(None))
+}
+
+fn leaves_a_dirty(alloc: Global, scene: &mut Scene) -> Result<bool, Fail> {
+    put_and_drop(alloc, scene)?;
+    clear_and_put(alloc, scene)?;
+    Ok(shows_a_dirty(scene))
+}
+
+// Whether the key has an item once the node's only neighbour has failed.
+fn is_clean_alone(scene: &mut Scene) -> Result<bool, Fail> {
+    change(scene, Input::Gone(1))?;
+    Ok(matches!(look(&scene.face, &scene.a), Look::Clean(Some(_))))
+}
+
+fn changes_are_shown(alloc: Global) -> Result<bool, Fail> {
+    let mut scene = empty_scene(alloc)?;
+    changes_are_shown_in(alloc, &mut scene)
+}
+
+fn changes_are_shown_in(alloc: Global, scene: &mut Scene) -> Result<bool, Fail> {
+    Ok(leaves_a_dirty(alloc, scene)? && is_clean_alone(scene)?)
 }
 
 #[test]
 fn changes_replayed_show_what_the_node_shows(rt: HostRuntime) -> Result<(), Fail> {
-    let mut scene = empty_scene(rt.alloc())?;
-    put_and_drop(rt.alloc(), &mut scene)?;
-    clear_and_put(rt.alloc(), &mut scene)?;
-    assert!(rt; matches!(look(&scene.face, &scene.a), Look::Dirty));
-    assert!(rt; matches!(look(&scene.face, &scene.b), Look::Clean(None)));
-    change(&mut scene, Input::Gone(1))?;
-    assert!(rt; matches!(look(&scene.face, &scene.a), Look::Clean(Some(_))));
+    assert!(rt; changes_are_shown(rt.alloc())?);
     Ok(())
 }

@@ -1,34 +1,74 @@
 //! What a chain does while no server fails.
 
 use super::chains::{Chain, chain_of, key, set, step};
-use node::{Input, Look};
+use node::{Input, Look, Node};
 use std::alloc::Global;
 use std::test::Fail;
 use table::{Key, Reply};
 
-#[test]
-fn sixteen_nodes_pass_a_set_through_31_messages(rt: HostRuntime) -> Result<(), Fail> {
-    let mut chain = chain_of(rt.alloc(), 16)?;
-    step(&mut chain, 15, Input::Call(0, set(rt.alloc(), b"p")?))?;
+// A set of the key at node i.
+fn set_at(alloc: Global, chain: &mut Chain, i: u8, port: usize) -> Result<(), Fail> {
+    let call = set(alloc, b"p")?;
+    step(chain, i, Input::Call(port, call))
+}
+
+// The next message comes: whether there was one.
+fn deliver_next(chain: &mut Chain) -> Result<bool, Fail> {
+    match chain.sent.pop_front() {
+        Some((i, j, peer)) => {
+            step(chain, j, Input::From(i, peer))?;
+            Ok(true)
+        }
+        None => Ok(false),
+    }
+}
+
+// How many messages come, up to a hundred. One Op and 15 Forward come before the reply.
+fn deliver_set(chain: &mut Chain) -> Result<usize, Fail> {
     let mut come: usize = 0;
     for _ in 0..100 {
-        let Some((i, j, peer)) = chain.sent.pop_front() else {
+        if !deliver_next(chain)? {
             break;
-        };
-        step(&mut chain, j, Input::From(i, peer))?;
+        }
         come = come.wrapping_add(1);
-        // one Op and 15 Forward come before the reply
-        assert_eq!(rt; chain.replies.is_empty(), come < 16);
+        if chain.replies.is_empty() != (come < 16) {
+            return Err("a reply behind the 16th message".into());
+        }
     }
-    assert_eq!(rt; come, 31);
-    assert_eq!(rt; chain.count, 31);
+    Ok(come)
+}
+
+// Whether a set at the tail of sixteen passes through 31 messages.
+fn passes_through_31(alloc: Global, chain: &mut Chain) -> Result<bool, Fail> {
+    set_at(alloc, chain, 15, 0)?;
+    Ok(deliver_set(chain)? == 31 && chain.count == 31)
+}
+
+// Whether a node shows the item, clean, and has nothing left to do.
+fn shows_item(node: &Node, a: &Key) -> bool {
+    node.is_idle()
+        && matches!(node.peek(a), Look::Clean(Some(item)) if item.bytes.as_slice() == b"p".as_slice())
+}
+
+fn all_show_item(nodes: &[Node], a: &Key) -> bool {
+    for node in nodes {
+        if !shows_item(node, a) {
+            return false;
+        }
+    }
+    true
+}
+
+fn sixteen_nodes_pass_a_set(alloc: Global, a: &Key) -> Result<bool, Fail> {
+    let mut chain = chain_of(alloc, 16)?;
+    let passed = passes_through_31(alloc, &mut chain)?;
+    Ok(passed && chain.nodes.len() == 16 && all_show_item(chain.nodes.as_slice(), a))
+}
+
+#[test]
+fn sixteen_nodes_pass_a_set_through_31_messages(rt: HostRuntime) -> Result<(), Fail> {
     let a = key(rt.alloc(), b"a")?;
-    for node in &chain.nodes {
-        assert!(rt;
-            matches!(node.peek(&a), Look::Clean(Some(item)) if item.bytes.as_slice() == b"p".as_slice())
-        );
-        assert!(rt; node.is_idle());
-    }
+    assert!(rt; sixteen_nodes_pass_a_set(rt.alloc(), &a)?);
     Ok(())
 }
 
@@ -51,7 +91,7 @@ fn expect_dirty(chain: &Chain, a: &Key) -> Result<(), Fail> {
 // So many sets of one key at node 0. Nothing is delivered.
 fn set_many(alloc: Global, chain: &mut Chain, a: &Key, count: usize) -> Result<(), Fail> {
     for port in 0..count {
-        step(chain, 0, Input::Call(port, set(alloc, b"p")?))?;
+        set_at(alloc, chain, 0, port)?;
         expect_dirty(chain, a)?;
     }
     Ok(())
@@ -61,8 +101,9 @@ fn set_many(alloc: Global, chain: &mut Chain, a: &Key, count: usize) -> Result<(
 fn deliver_many(chain: &mut Chain, a: &Key, count: usize) -> Result<(), Fail> {
     for _ in 0..count {
         expect_dirty(chain, a)?;
-        let (i, j, peer) = chain.sent.pop_front().ok_or("a message")?;
-        step(chain, j, Input::From(i, peer))?;
+        if !deliver_next(chain)? {
+            return Err("a message".into());
+        }
     }
     Ok(())
 }
@@ -80,20 +121,36 @@ fn are_stored_in_order(chain: &Chain, count: usize) -> bool {
 }
 
 // The forwards come, and then the acknowledgements.
-fn settled_sets(alloc: Global, a: &Key, count: usize) -> Result<Chain, Fail> {
+fn settle_sets(alloc: Global, chain: &mut Chain, a: &Key, count: usize) -> Result<(), Fail> {
+    set_many(alloc, chain, a, count)?;
+    deliver_many(chain, a, count)?;
+    deliver_many(chain, a, count)
+}
+
+// Whether so many sets are answered in order, the last is shown, and no message is left.
+fn settles_sets(
+    alloc: Global,
+    chain: &mut Chain,
+    a: &Key,
+    count: usize,
+    unique: u64,
+) -> Result<bool, Fail> {
+    settle_sets(alloc, chain, a, count)?;
+    Ok(
+        unique_shown(chain, a)? == Some(unique)
+            && are_stored_in_order(chain, count)
+            && chain.sent.is_empty(),
+    )
+}
+
+fn two_nodes_settle_sets(alloc: Global, count: usize, unique: u64) -> Result<bool, Fail> {
+    let a = key(alloc, b"a")?;
     let mut chain = chain_of(alloc, 2)?;
-    set_many(alloc, &mut chain, a, count)?;
-    deliver_many(&mut chain, a, count)?;
-    deliver_many(&mut chain, a, count)?;
-    Ok(chain)
+    settles_sets(alloc, &mut chain, &a, count, unique)
 }
 
 #[test]
 fn many_sets_at_the_head_of_two(rt: HostRuntime) -> Result<(), Fail> {
-    let a = key(rt.alloc(), b"a")?;
-    let chain = settled_sets(rt.alloc(), &a, 10_000)?;
-    assert_eq!(rt; unique_shown(&chain, &a)?, Some(10_000));
-    assert!(rt; are_stored_in_order(&chain, 10_000));
-    assert!(rt; chain.sent.is_empty());
+    assert!(rt; two_nodes_settle_sets(rt.alloc(), 10_000, 10_000)?);
     Ok(())
 }

@@ -1,33 +1,37 @@
-//! Seats that take turns of the workers.
+//! Threads that serve clients, and take the turns of the workers.
 
 use super::clients::{answers, client};
-use command_line::Numbers;
-use runtime::{Hall, Side, all_links, all_servers, all_sides, helping_callers, serve_seats};
+use io_threads::{Front, FrontSettings, Gate, open_desks, open_front};
+use runtime::{Shape, Side, all_links, all_servers, all_sides};
 use seats::Allowance;
 use std::alloc::Global;
 use std::net::{Ipv4Addr, Net, TcpListener, TcpStream};
 use std::sync::{Arc, Wait};
 use std::test::Fail;
-use std::thread::{JoinHandle, Threads};
+use std::thread::Threads;
 
-// A chain of three whose workers have no threads, with one seat, at the server in the middle.
+// A chain of three whose workers have no threads of their own. One thread serves the clients of all.
 #[derive(Drop)]
 struct HelpedChain {
-    port: u16,
-    seats: Vec<JoinHandle<()>>,
+    ports: Vec<u16>,
+    front: Front,
 }
 
-// The seat at the middle server takes all turns of the chain.
+// The thread that serves takes all turns of the chain.
 #[test]
-fn a_seat_takes_all_turns(rt: HostRuntime) -> Result<(), Fail> {
+fn a_serving_thread_takes_all_turns(rt: HostRuntime) -> Result<(), Fail> {
     let chain = helped_chain(rt, rt.alloc()).ok_or("a chain")?;
-    assert!(rt; passes(&rt, chain.port));
-    chain.end(&rt);
+    assert!(rt; passes(&rt, &chain));
+    chain.front.end(&rt);
     Ok(())
 }
 
-// Whether updates and a read pass down the chain and back.
-fn passes<R: Net<Listener = TcpListener, Stream = TcpStream>>(rt: &R, port: u16) -> bool {
+// Whether updates and reads pass down the chain and back, at each server.
+fn passes<R: Net<Listener = TcpListener, Stream = TcpStream>>(rt: &R, chain: &HelpedChain) -> bool {
+    chain.ports.iter().all(|port| answers_at(rt, *port))
+}
+
+fn answers_at<R: Net<Listener = TcpListener, Stream = TcpStream>>(rt: &R, port: u16) -> bool {
     let Ok(mut stream) = client(rt, port) else {
         return false;
     };
@@ -39,16 +43,6 @@ fn passes<R: Net<Listener = TcpListener, Stream = TcpStream>>(rt: &R, port: u16)
         )
 }
 
-impl HelpedChain {
-    // Waits for the seat, which serves one connection.
-    fn end<R: Threads>(self, rt: &R) {
-        let HelpedChain { port: _, seats } = self;
-        for seat in seats {
-            seat.join(rt);
-        }
-    }
-}
-
 fn helped_chain<
     R: Wait
         + Threads
@@ -58,41 +52,41 @@ fn helped_chain<
         + Send
         + 'static,
 >(rt: R, alloc: Global) -> Option<HelpedChain> {
-    let numbers = Numbers {
-        servers: 3,
-        port: 0,
-        seats: 1,
-        serves: 1,
-        memory: None,
-        quiet: true,
-    };
-    let mut servers = all_servers(rt, alloc, numbers).ok()?;
+    let shape = Shape::new(&rt, Some(1), 1);
+    let mut servers = all_servers(rt, alloc, 3, shape, Allowance::new(None, 3)).ok()?;
     let links = all_links(rt, alloc, 3, &mut servers).ok()?;
-    let (hall, sides) = all_sides(alloc, Allowance::new(None, 3), servers, links).ok()?;
+    let (desks, polls) = open_desks(&rt, alloc, 1).ok()?;
+    let desks = Arc::new(alloc, desks).ok()?;
+    let (hall, sides) = all_sides(alloc, &desks, servers, links).ok()?;
     let hall = Arc::new(alloc, hall).ok()?;
-    open_middle(rt, alloc, &hall, sides)
+    let (ports, gates) = all_gates(&rt, alloc, sides)?;
+    let settings = FrontSettings {
+        connections: 1,
+        serves: 1,
+    };
+    let front = open_front(rt, alloc, settings, &hall, &desks, polls, gates).ok()?;
+    Some(HelpedChain { ports, front })
 }
 
-// Opens the port of the middle server. Its seat helps the workers of the hall.
-fn open_middle<
-    R: Wait
-        + Threads
-        + Net<Listener = TcpListener, Stream = TcpStream>
-        + Copy
-        + Drop
-        + Send
-        + 'static,
->(rt: R, alloc: Global, hall: &Arc<Hall<R>, Global>, sides: Vec<Side>) -> Option<HelpedChain> {
-    let mut sides = sides;
-    let _tail = sides.pop()?;
-    let Side {
-        stands,
-        home,
-        gauge,
-    } = sides.pop()?;
-    let listener = TcpListener::bind(&rt, (Ipv4Addr::LOCALHOST, 0)).ok()?;
-    let port = listener.local_addr().ok()?.port();
-    let callers = helping_callers(alloc, stands, &home.failed, &gauge, hall, 1).ok()?;
-    let seats = serve_seats(rt, alloc, &listener, callers, 1, &home.failed).ok()?;
-    Some(HelpedChain { port, seats })
+// A port of each server.
+fn all_gates<R: Net<Listener = TcpListener, Stream = TcpStream>>(
+    rt: &R,
+    alloc: Global,
+    sides: Vec<Side>,
+) -> Option<(Vec<u16>, Vec<Gate>)> {
+    let mut ports = Vec::new(alloc);
+    let mut gates = Vec::new(alloc);
+    for side in sides {
+        let Side { pools, home } = side;
+        let listener = TcpListener::bind(rt, (Ipv4Addr::LOCALHOST, 0)).ok()?;
+        ports.push(listener.local_addr().ok()?.port()).ok()?;
+        let mark = home.failed.share().ok()?;
+        let gate = Gate {
+            listener,
+            pools,
+            mark,
+        };
+        gates.push(gate).ok()?;
+    }
+    Some((ports, gates))
 }

@@ -171,6 +171,8 @@ fn start<
         port,
         peer_port,
         seats: 1,
+        threads: Some(1),
+        connections: 16,
         memory: None,
         quiet: true,
     };
@@ -179,7 +181,7 @@ fn start<
     let started = thread::spawn(&rt, move || {
         let mut output = TrackedWriter::new(ours);
         let mut errors = TrackedWriter::new(Vec::new(alloc));
-        server(rt, alloc, &settings, &mut output, &mut errors)
+        server(rt, alloc, &settings, None, &mut output, &mut errors)
     });
     started.is_ok().then_some(output)
 }

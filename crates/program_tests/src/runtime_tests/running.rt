@@ -40,6 +40,8 @@ pub fn ready<
             servers,
             port,
             seats,
+            threads: Some(2),
+            connections: 16,
             serves: 1,
             memory: None,
             quiet: true,
@@ -90,7 +92,6 @@ fn program<
         + Threads
         + Clock
         + Eprint
-        + Files
         + Net<Listener = TcpListener, Stream = TcpStream>
         + Copy
         + Drop
@@ -100,7 +101,15 @@ fn program<
     let mut input = TrackedReader::new(input);
     let mut output = TrackedWriter::new(output);
     let mut errors = TrackedWriter::new(Vec::new(alloc));
-    cluster(rt, alloc, numbers, &mut input, &mut output, &mut errors)
+    cluster(
+        rt,
+        alloc,
+        numbers,
+        None,
+        &mut input,
+        &mut output,
+        &mut errors,
+    )
 }
 
 /// Ends the program's input, and gives its exit status.

@@ -15,6 +15,16 @@ pub returns-in_err-seats-clause-none : goal.returns-in_err-seats-clause-none
 returns-in_err-seats-clause-none c = λ none numbers n.
     given_none _ _ _ _ _ _ _ c.in_ok-given.ensures.given n.named (c.in_err-seats.ensures.none refl) _ n.seats
 
+pub returns-in_err-threads-clause-none : goal.returns-in_err-threads-clause-none
+returns-in_err-threads-clause-none c = λ none numbers n.
+    rows_none (GivesNumberIfAny 1 16 (codes "threads")) _ _ _ _ c.in_ok-given.ensures.given n.named
+    (c.in_err-threads.ensures.none refl) _ n.threads
+
+pub returns-in_err-connections-clause-none : goal.returns-in_err-connections-clause-none
+returns-in_err-connections-clause-none c = λ none numbers n.
+    given_none _ _ _ _ _ _ _ c.in_ok-given.ensures.given n.named (c.in_err-connections.ensures.none refl) _
+    n.connections
+
 pub returns-in_err-serves-clause-none : goal.returns-in_err-serves-clause-none
 returns-in_err-serves-clause-none c = λ none numbers n.
     given_none _ _ _ _ _ _ _ c.in_ok-given.ensures.given n.named (c.in_err-serves.ensures.none refl) _ n.serves

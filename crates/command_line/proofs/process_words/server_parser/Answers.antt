@@ -11,8 +11,6 @@ returns c =
     let id = with_option _ _ _ _ _ named c.id_option.ensures c.in_ok-arg.ensures in
     let servers = with_option _ _ _ _ _ id c.servers_option.ensures c.in_ok-arg-2.ensures in
     let port = with_option _ _ _ _ _ servers c.port_option.ensures c.in_ok-arg-3.ensures in
-    let peer_port = with_option _ _ _ _ _ port c.peer_port_option.ensures c.in_ok-arg-4.ensures in
-    let seats = with_option _ _ _ _ _ peer_port c.seats_option.ensures c.in_ok-arg-5.ensures in
-    let memory = with_option _ _ _ _ _ seats c.memory_option.ensures c.in_ok-arg-6.ensures in
-    let quiet = with_option _ _ _ _ _ memory c.quiet_option.ensures c.in_ok-server.ensures in
-    IfOk-weaker c.with_hosts.result _ _ (λ parser adds. adds _ quiet) c.with_hosts.ensures
+    let peer_port = with_option _ _ _ _ _ port c.peer_port_option.ensures c.in_ok-listening.ensures in
+    let serving = c.in_ok-serving.ensures _ peer_port in
+    IfOk-weaker c.with_hosts.result _ _ (λ parser adds. adds _ serving) c.with_hosts.ensures

@@ -1,7 +1,7 @@
-use Rattle.std.proofs.Common.{inr}
-use Rattle.seats.proofs.Seated.{submitted_then}
+use Rattle.seats.proofs.Seated.{answered_then}
 use Rattle.seats.proofs.seat_callers.answer.Goals as goal
 
-pub returns-in-Ok-clause-answered : goal.returns-in-Ok-clause-answered
-returns-in-Ok-clause-answered g c =
-    inr (submitted_then _ _ _ _ _ c.args.call c.in-Ok.reply c.look.ensures.later c.in-Ok.ensures.submitted)
+pub returns-clause-answered : goal.returns-clause-answered
+returns-clause-answered g c =
+    answered_then c.args.reader.now c.peek.new.reader c.exchange.new.reader c.args.submitter.now.seat
+    c.exchange.new.submitter.seat c.args.call c.exchange.result c.peek.ensures.later c.exchange.ensures.submitted

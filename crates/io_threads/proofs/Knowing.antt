@@ -1,0 +1,42 @@
+-- What the reader of a thread's seats knows of the thread's clients.
+use Rattle.std.proofs.Common.{◌≡◌, ◌≢◌, ◌⊎◌, ℕ, List, [], Option, Some, None, inl, inr, subst, sym, slice_index_or}
+use Rattle.std.proofs.lemmas.Bool.{cases_eq}
+use Rattle.faces.specs.Courses.{Course, IsLater}
+use Rattle.slab.specs.Slab.{Slab, get, Updates, ContainsKey, with_value}
+use Rattle.slab.proofs.SlabLemmas.{Updates-with_value}
+use Rattle.io_threads.specs.declared.guests.Guest.{Guest}
+use Rattle.io_threads.specs.Guests.{KnowsAll, IsKnownBy}
+use Rattle.io_threads.proofs.Later.{later_then}
+
+-- a later course knows as much
+known_later : (c d : Course) (o : Option Guest) → IsLater c d → IsKnownBy c o → IsKnownBy d o
+known_later c d None later known = known
+known_later c d (Some g) later known = later_then _ _ _ known later
+
+-- one client was changed, or came
+pub known_updated : (c d : Course) (s t : Slab Guest) (key : ℕ) (o : Option Guest)
+    → IsLater c d → KnowsAll c s → IsKnownBy d o → Updates s t key o → KnowsAll d t
+known_updated c d s t key o later known new updates = λ other.
+    elim (cases_eq other key) [
+      | inl same ↦ subst (λ (k : ℕ). IsKnownBy d (get t k)) (sym same)
+          (subst (IsKnownBy d) (sym updates.changed) new)
+      | inr differs ↦ subst (IsKnownBy d) (sym (updates.others other differs)) (known_later c d _ later (known other))
+    ]
+
+-- the same clients
+pub as_known : (c d : Course) (s t : Slab Guest)
+    → IsLater c d → KnowsAll c s → t.slots ≡ s.slots → KnowsAll d t
+as_known c d s t later known same = λ other.
+    known_later c d _ later
+    (subst (λ (slots : List (Option Guest)). IsKnownBy c (slice_index_or slots other None)) (sym same) (known other))
+
+-- no client
+pub none_known : (c : Course) (s : Slab Guest) → s.slots ≡ [] → KnowsAll c s
+none_known c s none = λ other.
+    subst (λ (slots : List (Option Guest)). IsKnownBy c (slice_index_or slots other None)) (sym none) tt
+
+-- one client was changed where it stands
+pub known_written : (c d : Course) (s : Slab Guest) (key : ℕ) (g : Guest)
+    → IsLater c d → KnowsAll c s → ContainsKey s key → IsLater g.client.talk.seen d → KnowsAll d (with_value s key g)
+known_written c d s key g later known present new =
+    known_updated c d s (with_value s key g) key (Some g) later known new (Updates-with_value s key g present)

@@ -1,0 +1,3 @@
+pub mod Later
+pub mod Knowing
+pub mod Dealt

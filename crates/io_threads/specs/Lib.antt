@@ -1,0 +1,4 @@
+pub mod Wires
+pub mod Clients
+pub mod Guests
+pub mod Pools

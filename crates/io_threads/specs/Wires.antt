@@ -1,0 +1,34 @@
+-- What a read or a write of a socket that waits for nothing has passed on.
+use Rattle.std.specs.Prelude.{ℕ, List, [], take}
+use Rattle.io_threads.specs.declared.wires.Came.{Came}
+use Rattle.io_threads.specs.declared.wires.Came.TheVariants.{Bytes as Read, Nothing as NothingCame, End}
+use Rattle.io_threads.specs.declared.wires.Came.TheVariants.{Fault as ReadFault}
+use Rattle.io_threads.specs.declared.wires.Gone.{Gone}
+use Rattle.io_threads.specs.declared.wires.Gone.TheVariants.{Bytes as Written, Nothing as NothingWent}
+use Rattle.io_threads.specs.declared.wires.Gone.TheVariants.{Fault as WriteFault}
+
+-- how many bytes came
+abbrev pub came : Came → ℕ
+came (Read n) = n
+came NothingCame = 0
+came End = 0
+came ReadFault = 0
+
+-- the bytes that came, at the front of this slice
+abbrev pub came_in : Came → List ℕ → List ℕ
+came_in (Read n) piece = take n piece
+came_in NothingCame piece = []
+came_in End piece = []
+came_in ReadFault piece = []
+
+-- how many bytes went
+abbrev pub went : Gone → ℕ
+went (Written n) = n
+went NothingWent = 0
+went WriteFault = 0
+
+-- the bytes that went, of this slice
+abbrev pub went_out : Gone → List ℕ → List ℕ
+went_out (Written n) bytes = take n bytes
+went_out NothingWent bytes = []
+went_out WriteFault bytes = []

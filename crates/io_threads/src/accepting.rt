@@ -1,0 +1,289 @@
+//! The thread that accepts connections, and hands each to one of the serving threads in turn.
+
+use crate::desks::{Arrival, Desks};
+use crate::entries::Porter;
+use mio::net::{TcpListener, TcpStream};
+use mio::{Events, Interest, Poll, Token};
+use seats::Mark;
+use std::alloc::{AllocError, Global};
+use std::collections::VecDeque;
+use std::io::{ErrorKind, Write};
+use std::net::Net;
+use std::sync::{Arc, Wait};
+use std::time::Duration;
+
+/// The pause after a connection that can't be accepted, in milliseconds.
+const PAUSE: u64 = 50;
+
+/// The pause after a connection that couldn't be handed on, in milliseconds.
+const SHORT: u64 = 1;
+
+/// How many connections of one server are accepted before those of others are.
+const MOST: usize = 64;
+
+/// What is written to a connection beyond those that its server may have.
+const REFUSAL: &[u8] = b"SERVER_ERROR too many connections\r\n";
+
+/// Where connections to one server are accepted.
+#[derive(Drop)]
+pub(crate) struct Entrance {
+    // None once no more are accepted.
+    listener: Option<TcpListener>,
+    porter: Porter,
+    mark: Mark,
+    // How many more are accepted, if that is limited.
+    left: Option<u64>,
+    // Whether one may stand there.
+    is_ready: bool,
+}
+
+// A connection for a thread that took its list when it was to be handed over.
+#[derive(Drop)]
+struct Held {
+    thread: usize,
+    arrival: Arrival,
+}
+
+/// The thread that accepts.
+#[derive(Drop)]
+pub(crate) struct Acceptor<R: Wait + Drop> {
+    rt: R,
+    poll: Poll,
+    events: Events,
+    // By the servers' ids.
+    entrances: Vec<Entrance>,
+    desks: Arc<Desks, Global>,
+    threads: usize,
+    // The thread that gets the next one.
+    next: usize,
+    // Those that are still to be handed on.
+    held: VecDeque<Held>,
+    // Whether the last one that stood there couldn't be accepted.
+    is_refused: bool,
+}
+
+impl Entrance {
+    /// Accepts from this listener, so many connections, or with 0 all, of which so many may be open at once.
+    pub(crate) fn new(
+        alloc: Global,
+        listener: TcpListener,
+        mark: Mark,
+        connections: u64,
+        serves: u64,
+    ) -> Result<Entrance, AllocError> {
+        Ok(Entrance {
+            listener: Some(listener),
+            porter: Porter::new(alloc, connections)?,
+            mark,
+            left: if serves == 0 { None } else { Some(serves) },
+            is_ready: true,
+        })
+    }
+
+    // The next connection, if one stands there. Whether another may.
+    fn accept(&mut self) -> Result<Option<TcpStream>, ()> {
+        let Some(listener) = &self.listener else {
+            return Ok(None);
+        };
+        match listener.accept() {
+            Ok((stream, _)) => {
+                self.count();
+                Ok(Some(stream))
+            }
+            Err(e) => {
+                if e.kind() == ErrorKind::WouldBlock {
+                    self.is_ready = false;
+                    Ok(None)
+                } else {
+                    Err(())
+                }
+            }
+        }
+    }
+
+    // One more was accepted. The last one closes the entrance.
+    fn count(&mut self) {
+        if let Some(left) = self.left {
+            let left = left.saturating_sub(1);
+            self.left = Some(left);
+            if left == 0 {
+                self.listener = None;
+                self.is_ready = false;
+            }
+        }
+    }
+}
+
+impl<R: Wait + Drop> Acceptor<R> {
+    /// Accepts at these entrances, for so many threads. Refused if the system or memory refuses.
+    pub(crate) fn new(
+        rt: R,
+        alloc: Global,
+        entrances: Vec<Entrance>,
+        desks: Arc<Desks, Global>,
+        threads: usize,
+    ) -> Result<Acceptor<R>, AllocError>
+    where
+        R: Net,
+    {
+        let Ok(poll) = Poll::new(&rt) else {
+            return Err(AllocError);
+        };
+        let mut acceptor = Acceptor {
+            rt,
+            poll,
+            events: Events::with_capacity(alloc, 64)?,
+            entrances,
+            desks,
+            threads,
+            next: 0,
+            held: VecDeque::new(alloc),
+            is_refused: false,
+        };
+        acceptor.register()?;
+        Ok(acceptor)
+    }
+
+    fn register(&mut self) -> Result<(), AllocError> {
+        let registry = self.poll.registry();
+        let mut id = 0usize;
+        for entrance in self.entrances.iter_mut() {
+            if let Some(listener) = &mut entrance.listener {
+                if registry
+                    .register(listener, Token(id), Interest::READABLE)
+                    .is_err()
+                {
+                    return Err(AllocError);
+                }
+            }
+            id = id.wrapping_add(1);
+        }
+        Ok(())
+    }
+
+    /// Accepts until every entrance is closed. After a connection that can't be accepted it pauses.
+    pub(crate) fn run(&mut self)
+    where
+        R: Copy,
+    {
+        let rt = self.rt;
+        for _ in rt.forever() {
+            self.wait();
+            self.note_events();
+            self.hand_on_held();
+            self.is_refused = false;
+            for id in 0..self.entrances.len() {
+                self.accept_some(id);
+            }
+            if self.is_done() {
+                self.desks.finish();
+                return;
+            }
+        }
+        unreachable!()
+    }
+
+    fn wait(&mut self) {
+        let limit = if self.is_refused {
+            Some(Duration::from_millis(PAUSE))
+        } else if !self.held.is_empty() {
+            Some(Duration::from_millis(SHORT))
+        } else if self.entrances.iter().any(|entrance| entrance.is_ready) {
+            Some(Duration::ZERO)
+        } else {
+            None
+        };
+        let _ = self.poll.poll(&mut self.events, limit);
+    }
+
+    fn note_events(&mut self) {
+        for event in self.events.iter() {
+            let Token(id) = event.token();
+            if let Some(entrance) = self.entrances.get_mut(id) {
+                entrance.is_ready = true;
+            }
+        }
+    }
+
+    // Accepts what stands at an entrance, up to a limit.
+    fn accept_some(&mut self, id: usize) {
+        for _ in 0..MOST {
+            let Some(entrance) = self.entrances.get_mut(id) else {
+                return;
+            };
+            match entrance.accept() {
+                Ok(Some(stream)) => self.admit(id, stream),
+                Ok(None) => return,
+                Err(()) => {
+                    self.is_refused = true;
+                    return;
+                }
+            }
+        }
+    }
+
+    // Hands a connection to the next thread, unless its server is marked: then it is closed without a byte. One beyond
+    // those that the server may have is told so, and closed.
+    fn admit(&mut self, id: usize, stream: TcpStream) {
+        let (Some(entrance), Ok(server)) = (self.entrances.get(id), u8::try_from(id)) else {
+            return;
+        };
+        if entrance.mark.is_set() {
+            return;
+        }
+        match entrance.porter.admit() {
+            Some(entry) => {
+                let arrival = Arrival {
+                    stream,
+                    server,
+                    entry,
+                };
+                let thread = self.next_thread();
+                self.hand_on(thread, arrival);
+            }
+            None => refuse(stream),
+        }
+    }
+
+    // The thread whose turn it is to get a connection.
+    fn next_thread(&mut self) -> usize {
+        let thread = self.next;
+        self.next = thread.wrapping_add(1);
+        if self.next >= self.threads {
+            self.next = 0;
+        }
+        thread
+    }
+
+    // Hands a connection to a thread, or keeps it for later. If memory is out for that it is closed.
+    fn hand_on(&mut self, thread: usize, arrival: Arrival) {
+        if let Some(arrival) = self.desks.send(thread, arrival) {
+            let _ = self.held.push_back(Held { thread, arrival });
+        }
+    }
+
+    // Tries again to hand on those that were kept.
+    fn hand_on_held(&mut self) {
+        for _ in 0..self.held.len() {
+            let Some(held) = self.held.pop_front() else {
+                return;
+            };
+            let Held { thread, arrival } = held;
+            self.hand_on(thread, arrival);
+        }
+    }
+
+    fn is_done(&self) -> bool {
+        self.held.is_empty()
+            && self
+                .entrances
+                .iter()
+                .all(|entrance| entrance.listener.is_none())
+    }
+}
+
+// Tells a connection that there is no room for it. It is closed then.
+fn refuse(stream: TcpStream) {
+    let mut stream = stream;
+    let _ = stream.write(REFUSAL);
+}

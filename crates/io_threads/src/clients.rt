@@ -1,0 +1,274 @@
+//! A client's connection with its socket, which goes as far as it can without waiting.
+ghost use Rattle.std.specs.Prelude.{◌≡◌, OnSome};
+ghost use Rattle.seats.specs.declared.talks.Standing.TheVariants.{Reading};
+
+use crate::wires::{Came, Gone, Wire};
+use seats::{SeatPool, Talk, Went};
+use std::alloc::Global;
+use std::io::{Read, Write};
+use std::marker::Model;
+use std::sync::Wait;
+
+/// Why a client goes no further.
+#[derive(Clone, Copy, Debug, PartialEq, Eq)]
+pub enum Pause {
+    /// It may go on, once others have had their turn.
+    Turn,
+    /// There is no input now, or its output isn't taken now.
+    Socket,
+    /// Its call is to be sent as soon as a seat is free.
+    Seat,
+    /// Its call was sent.
+    Reply,
+    /// It is at its end, or has failed.
+    Over,
+}
+
+/// What a socket was found ready for.
+#[derive(Clone, Copy, Debug)]
+pub struct Ready {
+    pub reading: bool,
+    pub writing: bool,
+    /// Whether the other side has ended its part, so that what is read ends.
+    pub ended: bool,
+    /// Whether the connection is broken, or both sides have ended it, so that nobody reads what is written.
+    pub gone: bool,
+}
+
+/// How many reads and writes a client makes before others have their turn.
+const PASSES: usize = 4;
+
+/// A client's connection with its socket. Contracts see what has come of the connection, the bytes that the socket gave
+/// and those that it took (`Visiting`). The type keeps that what the socket gave was fed, unless memory was refused,
+/// and that what it took is what the connection counts as written.
+#[derive(Drop)]
+pub struct Client<S: Read + Write> {
+    wire: Wire<S>,
+    talk: Talk,
+    // Whether there may be input, and whether more output may be taken.
+    is_readable: bool,
+    is_writable: bool,
+    // Whether the other side has ended its part, and whether the connection is gone. The system tells either once.
+    has_ended: bool,
+    is_gone: bool,
+    // Whether memory was refused to what was read last.
+    is_refused: bool,
+}
+
+impl<S: Read + Write> Model for Client<S> {
+    ghost use Rattle.std.specs.Coded.{codes};
+    ghost use Rattle.logbook.specs.Pages.{book_coded};
+    ghost use Rattle.table.specs.Items.{coded_item};
+    ghost use Rattle.versions.specs.Stores.{coded_items};
+    ghost use Rattle.io_threads.specs.Clients.{Visiting, IsPassed};
+
+    ghost Value = { Visiting };
+
+    ghost coded = { Prim.hlevel (codes, coded_item, coded_items, book_coded) };
+
+    ghost view = { λ c. record {
+      talk = c.talk;
+      given = c.wire.given;
+      taken = c.wire.taken;
+      refused = c.is_refused;
+    } };
+
+    ghost invariant = { λ c. IsPassed c.wire.given c.wire.taken c.is_refused c.talk.connected };
+}
+
+impl<S: Read + Write> Client<S> {
+    ghost use Rattle.std.specs.Prelude.{◌≡◌, ◌++◌, ℕ, List, [], false};
+    ghost use Rattle.faces.specs.Courses.{IsLater};
+    ghost use Rattle.serving.specs.Connections.{IsBegun};
+    ghost use Rattle.seats.specs.Talks.{begun};
+    ghost use Rattle.seats.specs.declared.talks.Standing.TheVariants.{Reading};
+
+    /// A client that has said nothing. It allocates nothing.
+    pub fn new(alloc: Global, socket: S, pool: &SeatPool) -> Client<S>
+        ensures talk { result.talk ≡ begun pool.now }
+        ensures given { result.given ≡ [] }
+        ensures taken { result.taken ≡ [] }
+        ensures whole { result.refused ≡ false }
+    {
+        Client {
+            wire: Wire::new(socket),
+            talk: Talk::new(alloc, pool),
+            is_readable: false,
+            is_writable: true,
+            has_ended: false,
+            is_gone: false,
+            is_refused: false,
+        }
+    }
+
+    /// Whatever was done, unless memory was refused: what the socket took, and then what is due, is a beginning of what
+    /// is due for the bytes that it gave; and so it stays, whatever bytes may follow.
+    pub fn so_far(&self)
+        ensures begun { self.now.refused ≡ false
+            → (more : List ℕ) → IsBegun self.now.talk.connected (self.now.given ++ more) }
+        ensures taken { self.now.taken ≡ self.now.talk.connected.written }
+    {
+        self.talk.so_far();
+    }
+
+    /// Its socket was found ready for this.
+    pub fn is_ready_for(&mut self, ready: Ready)
+        ensures { self.new ≡ self.old }
+    {
+        self.is_readable |= ready.reading || ready.ended;
+        self.is_writable |= ready.writing;
+        self.has_ended |= ready.ended;
+        self.is_gone |= ready.gone;
+    }
+
+    /// Goes on for a while, and says why it goes no further. The slice is room for what is read.
+    #[tactic(auto, using(crate::proofs::Later::later_same, crate::proofs::Later::later_then))]
+    pub fn go<R: Wait>(&mut self, rt: &R, pool: &mut SeatPool, piece: &mut [u8]) -> Pause
+        requires known { IsLater self.old.talk.seen pool.old }
+        ensures known { IsLater self.new.talk.seen pool.new }
+        ensures later { IsLater pool.old pool.new }
+    {
+        for _ in 0..PASSES {
+            if let Some(pause) = self.step(rt, pool, piece) {
+                return pause;
+            }
+        }
+        Pause::Turn
+    }
+
+    // Goes on until it has to read or write, and does so once.
+    #[tactic(auto, using(crate::proofs::Later::later_same, crate::proofs::Later::later_then))]
+    fn step<R: Wait>(&mut self, rt: &R, pool: &mut SeatPool, piece: &mut [u8]) -> Option<Pause>
+        requires known { IsLater self.old.talk.seen pool.old }
+        ensures known { IsLater self.new.talk.seen pool.new }
+        ensures later { IsLater pool.old pool.new }
+    {
+        if self.is_refused || self.is_gone {
+            return Some(Pause::Over);
+        }
+        match self.talk.go(rt, pool) {
+            Ok(Went::Input) => self.read(piece),
+            Ok(Went::Write) => self.write(),
+            Ok(Went::Seat) => Some(Pause::Seat),
+            Ok(Went::Reply) => Some(Pause::Reply),
+            Ok(Went::More) => Some(Pause::Turn),
+            Ok(Went::End(_)) => Some(Pause::Over),
+            Err(_) => Some(Pause::Over),
+        }
+    }
+
+    // Reads once, if there may be input.
+    fn read(&mut self, piece: &mut [u8]) -> Option<Pause>
+        requires reads { self.old.talk.standing ≡ Reading }
+        requires whole { self.old.refused ≡ false }
+        ensures seen { self.new.talk.seen ≡ self.old.talk.seen }
+    {
+        if !self.is_readable {
+            return Some(Pause::Socket);
+        }
+        match read(&mut self.wire, &mut self.talk, piece) {
+            Some(Came::Bytes(n)) => {
+                self.is_readable = n == piece.len() || self.has_ended;
+                None
+            }
+            Some(Came::Nothing) => {
+                self.is_readable = false;
+                Some(Pause::Socket)
+            }
+            Some(Came::End) => None,
+            Some(Came::Fault) => Some(Pause::Over),
+            None => {
+                self.is_refused = true;
+                Some(Pause::Over)
+            }
+        }
+    }
+
+    // Writes once, if output may be taken.
+    fn write(&mut self) -> Option<Pause>
+        ensures seen { self.new.talk.seen ≡ self.old.talk.seen }
+    {
+        if !self.is_writable {
+            return Some(Pause::Socket);
+        }
+        match write(&mut self.wire, &mut self.talk) {
+            Gone::Bytes(n) => {
+                if n == 0 {
+                    return Some(Pause::Over);
+                }
+                None
+            }
+            Gone::Nothing => {
+                self.is_writable = false;
+                Some(Pause::Socket)
+            }
+            Gone::Fault => Some(Pause::Over),
+        }
+    }
+
+    /// Takes the reply to the call that was sent, if it has come, and says whether it did. Some(false) if not; None if
+    /// it never will.
+    pub fn hear<R: Wait>(&mut self, rt: &R, pool: &mut SeatPool) -> Option<bool>
+        requires known { IsLater self.old.talk.seen pool.old }
+        ensures known { IsLater self.new.talk.seen pool.new }
+        ensures later { IsLater pool.old pool.new }
+    {
+        self.talk.hear(rt, pool).ok()
+    }
+
+    /// Closes its socket, whatever is due. The seat of its open call, if it has one, is free again once the reply to
+    /// that has come, which nobody waits for any more.
+    pub fn leave(self, pool: &mut SeatPool)
+    where
+        S: Drop,
+        requires known { IsLater self.talk.seen pool.old }
+        ensures { pool.new ≡ pool.old }
+    {
+        let Client { wire, talk, .. } = self;
+        drop(wire);
+        talk.leave(pool);
+    }
+}
+
+// Reads once, and feeds what came. None if memory is refused to that.
+fn read<S: Read + Write>(wire: &mut Wire<S>, talk: &mut Talk, piece: &mut [u8]) -> Option<Came>
+    requires reads { talk.old.standing ≡ Reading }
+    requires given { wire.old.given ≡ talk.old.connected.read }
+    requires taken { wire.old.taken ≡ talk.old.connected.written }
+    ensures given { OnSome result (wire.new.given ≡ talk.new.connected.read) }
+    ensures taken { wire.new.taken ≡ talk.new.connected.written }
+    ensures seen { talk.new.seen ≡ talk.old.seen }
+{
+    match wire.read(piece) {
+        Came::Bytes(n) => {
+            if talk.feed(&piece[..n]).is_err() {
+                return None;
+            }
+            Some(Came::Bytes(n))
+        }
+        Came::End => {
+            talk.input_ended();
+            Some(Came::End)
+        }
+        Came::Nothing => Some(Came::Nothing),
+        Came::Fault => Some(Came::Fault),
+    }
+}
+
+// Writes once, and counts what went.
+fn write<S: Read + Write>(wire: &mut Wire<S>, talk: &mut Talk) -> Gone
+    requires taken { wire.old.taken ≡ talk.old.connected.written }
+    ensures given { wire.new.given ≡ wire.old.given }
+    ensures read { talk.new.connected.read ≡ talk.old.connected.read }
+    ensures taken { wire.new.taken ≡ talk.new.connected.written }
+    ensures seen { talk.new.seen ≡ talk.old.seen }
+{
+    match wire.write(talk.output()) {
+        Gone::Bytes(n) => {
+            talk.written(n);
+            Gone::Bytes(n)
+        }
+        Gone::Nothing => Gone::Nothing,
+        Gone::Fault => Gone::Fault,
+    }
+}

@@ -1,0 +1,242 @@
+//! The clients of one thread at one server, with the seats that the thread has there.
+ghost use Rattle.std.specs.Prelude.{◌≡◌};
+ghost use Rattle.io_threads.specs.Guests.{KnowsAll};
+
+use crate::clients::{Client, Pause, Ready};
+use crate::entries::Entry;
+use mio::net::TcpStream;
+use seats::SeatPool;
+use slab::Slab;
+use std::alloc::Global;
+use std::marker::Model;
+use std::sync::Wait;
+
+/// What a client waits for.
+#[derive(Clone, Copy, Debug, PartialEq, Eq)]
+pub(crate) enum Waits {
+    /// For its socket.
+    Socket,
+    /// For its turn.
+    Turn,
+    /// For a seat.
+    Seat,
+    /// For the reply to its call.
+    Reply,
+}
+
+/// A client, with its place among the connections of its server.
+#[derive(Drop)]
+pub(crate) struct Guest {
+    pub(crate) client: Client<TcpStream>,
+    pub(crate) waits: Waits,
+    pub(crate) entry: Entry,
+}
+
+/// The clients of one thread at one server, by keys, and the seats that the thread has there. The type keeps that the
+/// reader of the seats knows all that was told to any client. Contracts see what the reader has seen.
+#[derive(Drop)]
+pub(crate) struct Guests {
+    alloc: Global,
+    pool: SeatPool,
+    clients: Slab<Guest>,
+}
+
+impl Model for Guests {
+    ghost use Rattle.std.specs.Coded.{codes};
+    ghost use Rattle.logbook.specs.Pages.{book_coded};
+    ghost use Rattle.versions.specs.Stores.{coded_items};
+    ghost use Rattle.faces.specs.Courses.{Course};
+    ghost use Rattle.io_threads.specs.Guests.{KnowsAll};
+
+    ghost Value = { Course };
+
+    ghost coded = { Prim.hlevel (codes, coded_items, book_coded) };
+
+    ghost view = { λ g. g.pool };
+
+    ghost invariant = { λ g. KnowsAll g.pool g.clients };
+}
+
+impl Guests {
+    /// None, with these seats.
+    pub(crate) fn new(alloc: Global, pool: SeatPool) -> Guests {
+        Guests {
+            alloc,
+            pool,
+            clients: Slab::new(alloc),
+        }
+    }
+
+    /// Whether there is none.
+    pub(crate) fn is_empty(&self) -> bool {
+        self.clients.is_empty()
+    }
+
+    /// Whether a seat is free.
+    pub(crate) fn has_free_seat(&self) -> bool {
+        self.pool.has_free()
+    }
+
+    /// The key that the next one will have.
+    pub(crate) fn next_key(&self) -> usize {
+        self.clients.vacant_key()
+    }
+
+    /// One more. If memory is out it is closed.
+    pub(crate) fn add(&mut self, stream: TcpStream, entry: Entry) {
+        add(self.alloc, &self.pool, &mut self.clients, stream, entry)
+    }
+
+    /// A client's socket was found ready for this. What it waits for, if there is such a client.
+    pub(crate) fn is_ready_for(&mut self, key: usize, ready: Ready) -> Option<Waits> {
+        is_ready_for(&self.pool, &mut self.clients, key, ready)
+    }
+
+    /// A client that waited for its socket waits for its turn.
+    pub(crate) fn has_turn(&mut self, key: usize) {
+        has_turn(&self.pool, &mut self.clients, key)
+    }
+
+    /// Has a client go on, and says why it goes no further. The slice is room for what is read.
+    pub(crate) fn go<R: Wait>(&mut self, rt: &R, key: usize, piece: &mut [u8]) -> Pause {
+        go(rt, &mut self.pool, &mut self.clients, key, piece)
+    }
+
+    /// Takes the replies for which nobody waits any more: their seats are free then.
+    pub(crate) fn collect<R: Wait>(&mut self, rt: &R) {
+        collect(rt, &mut self.pool, &self.clients)
+    }
+
+    /// Takes the reply to a client's call, if it has come. Some(false) if not; None if it never will.
+    pub(crate) fn hear<R: Wait>(&mut self, rt: &R, key: usize) -> Option<bool> {
+        hear(rt, &mut self.pool, &mut self.clients, key)
+    }
+
+    /// Closes a client at once. The seat of its open call, if it has one, is free once the reply to that was taken.
+    pub(crate) fn close(&mut self, key: usize) {
+        close(&mut self.pool, &mut self.clients, key)
+    }
+
+    /// Closes all.
+    pub(crate) fn close_all(&mut self) {
+        close_all(&self.pool, &mut self.clients);
+    }
+}
+
+// One more.
+#[tactic(auto, using(crate::proofs::Later::later_same, crate::proofs::Knowing::known_updated, crate::proofs::Knowing::known_written, crate::proofs::Knowing::as_known))]
+fn add(alloc: Global, pool: &SeatPool, clients: &mut Slab<Guest>, stream: TcpStream, entry: Entry)
+    requires known { KnowsAll pool.now clients.old }
+    ensures known { KnowsAll pool.now clients.new }
+{
+    let client = Client::new(alloc, stream, pool);
+    let guest = Guest {
+        client,
+        waits: Waits::Socket,
+        entry,
+    };
+    let _ = clients.insert(guest);
+}
+
+// What the client waits for whose socket was found ready.
+#[tactic(auto, using(crate::proofs::Later::later_same, crate::proofs::Knowing::known_updated, crate::proofs::Knowing::known_written, crate::proofs::Knowing::as_known))]
+fn is_ready_for(
+    pool: &SeatPool,
+    clients: &mut Slab<Guest>,
+    key: usize,
+    ready: Ready,
+) -> Option<Waits>
+    requires known { KnowsAll pool.now clients.old }
+    ensures known { KnowsAll pool.now clients.new }
+{
+    match clients.get_mut(key) {
+        Some(guest) => {
+            guest.client.is_ready_for(ready);
+            Some(guest.waits)
+        }
+        None => None,
+    }
+}
+
+// Has a client go on.
+#[tactic(auto, using(crate::proofs::Later::later_same, crate::proofs::Knowing::known_updated, crate::proofs::Knowing::known_written, crate::proofs::Knowing::as_known))]
+fn go<R: Wait>(
+    rt: &R,
+    pool: &mut SeatPool,
+    clients: &mut Slab<Guest>,
+    key: usize,
+    piece: &mut [u8],
+) -> Pause
+    requires known { KnowsAll pool.old clients.old }
+    ensures known { KnowsAll pool.new clients.new }
+{
+    match clients.get_mut(key) {
+        Some(guest) => {
+            let pause = guest.client.go(rt, pool, piece);
+            guest.waits = waits_after(pause);
+            pause
+        }
+        None => Pause::Over,
+    }
+}
+
+// What a client waits for, once it goes no further for this reason.
+fn waits_after(pause: Pause) -> Waits {
+    match pause {
+        Pause::Socket => Waits::Socket,
+        Pause::Seat => Waits::Seat,
+        Pause::Reply => Waits::Reply,
+        Pause::Turn | Pause::Over => Waits::Turn,
+    }
+}
+
+// Takes the replies for which nobody waits any more.
+#[tactic(auto, using(crate::proofs::Later::later_same, crate::proofs::Knowing::known_updated, crate::proofs::Knowing::known_written, crate::proofs::Knowing::as_known))]
+fn collect<R: Wait>(rt: &R, pool: &mut SeatPool, clients: &Slab<Guest>)
+    requires known { KnowsAll pool.old clients.now }
+    ensures known { KnowsAll pool.new clients.now }
+{
+    pool.collect(rt);
+}
+
+// A client that waited for its socket is to have its turn.
+#[tactic(auto, using(crate::proofs::Later::later_same, crate::proofs::Knowing::known_updated, crate::proofs::Knowing::known_written, crate::proofs::Knowing::as_known))]
+fn has_turn(pool: &SeatPool, clients: &mut Slab<Guest>, key: usize)
+    requires known { KnowsAll pool.now clients.old }
+    ensures known { KnowsAll pool.now clients.new }
+{
+    if let Some(guest) = clients.get_mut(key) {
+        guest.waits = Waits::Turn;
+    }
+}
+
+// Takes the reply to a client's call.
+#[tactic(auto, using(crate::proofs::Later::later_same, crate::proofs::Knowing::known_updated, crate::proofs::Knowing::known_written, crate::proofs::Knowing::as_known))]
+fn hear<R: Wait>(rt: &R, pool: &mut SeatPool, clients: &mut Slab<Guest>, key: usize) -> Option<bool>
+    requires known { KnowsAll pool.old clients.old }
+    ensures known { KnowsAll pool.new clients.new }
+{
+    match clients.get_mut(key) {
+        Some(guest) => guest.client.hear(rt, pool),
+        None => Some(false),
+    }
+}
+
+// Closes a client.
+#[tactic(auto, using(crate::proofs::Later::later_same, crate::proofs::Knowing::known_updated, crate::proofs::Knowing::known_written, crate::proofs::Knowing::as_known))]
+fn close(pool: &mut SeatPool, clients: &mut Slab<Guest>, key: usize)
+    requires known { KnowsAll pool.old clients.old }
+    ensures known { KnowsAll pool.new clients.new }
+{
+    if let Some(guest) = clients.try_remove(key) {
+        guest.client.leave(pool);
+    }
+}
+
+// Closes all.
+#[tactic(auto, using(crate::proofs::Knowing::none_known))]
+fn close_all(pool: &SeatPool, clients: &mut Slab<Guest>)
+    ensures known { KnowsAll pool.now clients.new }
+{
+    clients.clear();
+}

@@ -1,0 +1,253 @@
+//! The clients of one thread at one server, and the seats that it has there.
+
+use crate::clients::{Pause, Ready};
+use crate::desks::Arrival;
+use crate::guests::{Guests, Waits};
+use crate::keeping::keep_alive;
+use crate::lines::Line;
+use mio::{Interest, Registry, Token};
+use seats::{Mark, SeatPool};
+use std::alloc::{AllocError, Global};
+use std::sync::Wait;
+
+/// How many servers a process has at most; tokens hold a client's key times this, and the server's id.
+pub(crate) const SERVERS: usize = 16;
+
+/// What a lounge is made of. Unlike the lounge it may be sent to another thread.
+#[derive(Drop)]
+pub(crate) struct Quarters {
+    /// The server.
+    pub(crate) id: u8,
+    pub(crate) pool: SeatPool,
+    /// Set as soon as the server answers no more calls.
+    pub(crate) mark: Mark,
+}
+
+/// The clients of one thread at one server. Each waits for its socket, or its key stands in one of the three lines,
+/// once.
+#[derive(Drop)]
+pub(crate) struct Lounge {
+    id: u8,
+    guests: Guests,
+    // The keys of those that may go on.
+    queue: Line,
+    // Of those whose calls wait for a seat. One is free only while such a call is about to be sent.
+    line: Line,
+    // Of those whose calls were sent.
+    asking: Line,
+    // Whether a call was sent since this was last asked for.
+    has_sent: bool,
+    // Set as soon as the server answers no more calls.
+    mark: Mark,
+    // Whether all clients were closed for that, and none is let in.
+    is_shut: bool,
+}
+
+impl Lounge {
+    /// Without clients. It allocates nothing.
+    pub(crate) fn new(alloc: Global, quarters: Quarters) -> Lounge {
+        let Quarters { id, pool, mark } = quarters;
+        Lounge {
+            id,
+            guests: Guests::new(alloc, pool),
+            queue: Line::new(alloc),
+            line: Line::new(alloc),
+            asking: Line::new(alloc),
+            has_sent: false,
+            mark,
+            is_shut: false,
+        }
+    }
+
+    /// A lounge of each. Refused only if memory is out.
+    pub(crate) fn open_all(alloc: Global, all: Vec<Quarters>) -> Result<Vec<Lounge>, AllocError> {
+        let mut lounges = Vec::new(alloc);
+        for quarters in all {
+            lounges.push(Lounge::new(alloc, quarters))?;
+        }
+        Ok(lounges)
+    }
+
+    /// Its server.
+    pub(crate) fn id(&self) -> u8 {
+        self.id
+    }
+
+    /// Whether it has no client.
+    pub(crate) fn is_empty(&self) -> bool {
+        self.guests.is_empty()
+    }
+
+    /// Whether a client may take steps.
+    pub(crate) fn is_busy(&self) -> bool {
+        !self.queue.is_empty()
+    }
+
+    /// Whether a reply is waited for: that to a client's call, or one that frees a seat for it.
+    pub(crate) fn awaits_reply(&self) -> bool {
+        !self.asking.is_empty() || !self.line.is_empty()
+    }
+
+    /// Whether a call was sent since this was last asked.
+    pub(crate) fn take_sent(&mut self) -> bool {
+        let sent = self.has_sent;
+        self.has_sent = false;
+        sent
+    }
+
+    /// Takes a client in, which is closed at once if the server answers no more calls, or memory is out.
+    pub(crate) fn admit(&mut self, registry: &Registry, arrival: Arrival) {
+        if self.is_shut || self.mark.is_set() {
+            return;
+        }
+        let Arrival {
+            mut stream,
+            entry,
+            ..
+        } = arrival;
+        let _ = stream.set_nodelay(true);
+        keep_alive(&stream);
+        let token = self
+            .guests
+            .next_key()
+            .wrapping_mul(SERVERS)
+            .wrapping_add(usize::from(self.id));
+        let interests = Interest::READABLE | Interest::WRITABLE;
+        if registry
+            .register(&mut stream, Token(token), interests)
+            .is_ok()
+        {
+            self.guests.add(stream, entry);
+        }
+    }
+
+    /// A client's socket was found ready for this. If it is gone while its call waits, it is closed at once.
+    pub(crate) fn is_ready_for(&mut self, key: usize, ready: Ready) {
+        match self.guests.is_ready_for(key, ready) {
+            Some(Waits::Socket) => {
+                self.guests.has_turn(key);
+                self.enqueue(key);
+            }
+            Some(Waits::Seat) => {
+                if ready.gone {
+                    self.line.leave(key);
+                    self.guests.close(key);
+                }
+            }
+            Some(Waits::Reply) => {
+                if ready.gone {
+                    self.asking.leave(key);
+                    self.guests.close(key);
+                }
+            }
+            Some(Waits::Turn) | None => {}
+        }
+    }
+
+    /// Closes all clients, without a further byte, if the server is marked and they weren't closed before.
+    pub(crate) fn mind_mark(&mut self) {
+        if !self.is_shut && self.mark.is_set() {
+            self.shut();
+        }
+    }
+
+    // Closes all clients, for ever.
+    fn shut(&mut self) {
+        self.is_shut = true;
+        self.queue.clear();
+        self.line.clear();
+        self.asking.clear();
+        self.guests.close_all();
+    }
+
+    /// Has each client that may take steps take some.
+    pub(crate) fn serve_queue<R: Wait>(&mut self, rt: &R, piece: &mut [u8]) {
+        for _ in 0..self.queue.len() {
+            let Some(key) = self.queue.next() else {
+                return;
+            };
+            self.go(rt, key, piece);
+        }
+    }
+
+    /// Takes the replies that stand at its seats, and has their clients go on, and those for whom a seat is free.
+    /// Whether there were any.
+    pub(crate) fn collect<R: Wait>(&mut self, rt: &R, piece: &mut [u8]) -> bool {
+        self.mind_mark();
+        self.guests.collect(rt);
+        let mut any = self.serve_line(rt, piece);
+        for _ in 0..self.asking.len() {
+            let Some(key) = self.asking.next() else {
+                return any;
+            };
+            match self.guests.hear(rt, key) {
+                Some(false) => self.await_reply(key),
+                Some(true) => {
+                    any = true;
+                    self.serve_line(rt, piece);
+                    self.go(rt, key, piece);
+                }
+                None => {
+                    self.shut();
+                    return true;
+                }
+            }
+        }
+        any
+    }
+
+    // Has those that stand in line for a seat go on, as long as one is free. Whether there were any.
+    fn serve_line<R: Wait>(&mut self, rt: &R, piece: &mut [u8]) -> bool {
+        let mut any = false;
+        for _ in 0..self.line.len() {
+            if !self.guests.has_free_seat() {
+                return any;
+            }
+            let Some(key) = self.line.next() else {
+                return any;
+            };
+            any = true;
+            self.go(rt, key, piece);
+        }
+        any
+    }
+
+    // Has a client go on for a while, unless the server is marked: then all are closed.
+    fn go<R: Wait>(&mut self, rt: &R, key: usize, piece: &mut [u8]) {
+        if self.mark.is_set() {
+            self.shut();
+            return;
+        }
+        match self.guests.go(rt, key, piece) {
+            Pause::Turn => self.enqueue(key),
+            Pause::Socket => {}
+            Pause::Seat => self.stand_in_line(key),
+            Pause::Reply => {
+                self.has_sent = true;
+                self.await_reply(key);
+            }
+            Pause::Over => self.guests.close(key),
+        }
+    }
+
+    // A client may go on.
+    fn enqueue(&mut self, key: usize) {
+        if self.queue.join(key).is_err() {
+            self.guests.close(key);
+        }
+    }
+
+    // A client's call waits for a seat.
+    fn stand_in_line(&mut self, key: usize) {
+        if self.line.join(key).is_err() {
+            self.guests.close(key);
+        }
+    }
+
+    // A client's call was sent. There is room for as many as there are seats, so memory is never out here.
+    fn await_reply(&mut self, key: usize) {
+        if self.asking.join(key).is_err() {
+            self.shut();
+        }
+    }
+}

@@ -1,0 +1,107 @@
+//! Opens a server whose seats are dealt out to serving threads.
+ghost use Rattle.std.specs.Prelude.{◌≡◌, ◌≤◌, [], true, All, IfOk};
+ghost use Rattle.node.specs.Nodes.{is_idle};
+ghost use Rattle.io_threads.specs.Pools.{AreOfOne};
+
+use node::Node;
+use rail::{Inlet, RailFault, Server, Stand, Worker, open};
+use seats::{Gauge, Mark, SeatPool};
+use std::alloc::{AllocError, Global};
+use std::sync::Wait;
+
+/// A server whose seats were dealt out to threads.
+#[derive(Drop)]
+pub struct Pooled<R: Wait + Drop> {
+    /// The worker.
+    pub worker: Worker<R>,
+    /// The seats of each thread.
+    pub pools: Vec<SeatPool>,
+    /// Inlets of the worker.
+    pub inlets: Vec<Inlet>,
+}
+
+/// Opens a server that begins as this node, with so many seats, which are dealt out to so many threads in turn: that of
+/// port 0 to the first thread, that of port 1 to the second, and so on. Each thread has one reader. The mark is set as
+/// soon as the server answers no more calls, and the gauge tells whether its items may take more memory. Refused for
+/// want of memory, or where no reader could be made.
+pub fn open_pools<R: Wait + Drop>(
+    rt: R,
+    alloc: Global,
+    node: Node,
+    seats: usize,
+    threads: usize,
+    inlets: usize,
+    mark: &Mark,
+    gauge: &Gauge,
+) -> Result<Pooled<R>, RailFault>
+    requires threads { (1 ≤ threads) × (threads ≤ seats) }
+    requires seats { seats ≤ 16 }
+    requires inlets { (1 ≤ inlets) × (inlets ≤ 16) }
+    requires idle { is_idle node ≡ true }
+{
+    let Server {
+        worker,
+        stands,
+        inlets,
+    } = open(rt, alloc, node, seats, inlets)?;
+    let pools = deal(alloc, stands, threads, mark, gauge)?;
+    Ok(Pooled {
+        worker,
+        pools,
+        inlets,
+    })
+}
+
+// Deals the stands of one server out to so many threads, in turn.
+#[tactic(auto, using(crate::proofs::Dealt::may_be_given))]
+fn deal(
+    alloc: Global,
+    stands: Vec<Stand>,
+    threads: usize,
+    mark: &Mark,
+    gauge: &Gauge,
+) -> Result<Vec<SeatPool>, AllocError>
+    requires { AreOfOne stands.items [] }
+{
+    let mut pools = Vec::new(alloc);
+    let mut next = 0usize;
+    for stand in stands {
+        give(alloc, &mut pools, next, stand, mark, gauge)?;
+        next = next.wrapping_add(1);
+        if next >= threads {
+            next = 0;
+        }
+    }
+    Ok(pools)
+}
+
+// Gives a stand to the pool at this place, or makes that pool.
+#[tactic(auto, using(crate::proofs::Dealt::one_more))]
+fn give(
+    alloc: Global,
+    pools: &mut Vec<SeatPool>,
+    place: usize,
+    stand: Stand,
+    mark: &Mark,
+    gauge: &Gauge,
+) -> Result<(), AllocError>
+    requires { All (λ pool. pool.origin ≡ stand.seat.origin) pools.old.items }
+    ensures { All (λ pool. pool.origin ≡ stand.seat.origin) pools.new.items }
+{
+    if let Some(pool) = pools.get_mut(place) {
+        return pool.add(stand.seat);
+    }
+    let pool = pool_of(alloc, stand, mark, gauge)?;
+    pools.push(pool)?;
+    Ok(())
+}
+
+// A pool with this stand's reader and seat.
+fn pool_of(alloc: Global, stand: Stand, mark: &Mark, gauge: &Gauge) -> Result<SeatPool, AllocError>
+    ensures { IfOk result (λ pool. pool.origin ≡ stand.seat.origin) }
+{
+    let Stand { reader, seat } = stand;
+    let mut pool = SeatPool::new(alloc, reader, mark.share()?, gauge.share()?);
+    pool.add(seat)?;
+    Ok(pool)
+}

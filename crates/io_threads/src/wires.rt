@@ -1,0 +1,98 @@
+//! A client's socket, which waits for nothing, with the history of its bytes that contracts see.
+ghost use Rattle.std.specs.Prelude.{◌≡◌, ◌≤◌, ◌<◌, ◌++◌, [], length, take};
+ghost use Rattle.io_threads.specs.Wires.{came_in, came, went_out, went};
+
+use ends::Passed;
+use std::io::{ErrorKind, Read, Write};
+
+/// What came of a read.
+#[derive(Clone, Copy, Debug, PartialEq, Eq)]
+pub enum Came {
+    /// So many bytes.
+    Bytes(usize),
+    /// Nothing: no byte stands there now.
+    Nothing,
+    /// Nothing: the input has ended.
+    End,
+    /// Nothing: the read failed.
+    Fault,
+}
+
+/// What came of a write.
+#[derive(Clone, Copy, Debug, PartialEq, Eq)]
+pub enum Gone {
+    /// So many bytes were taken.
+    Bytes(usize),
+    /// None: the socket takes none now.
+    Nothing,
+    /// None: the write failed.
+    Fault,
+}
+
+/// A socket that waits for nothing.
+#[derive(Drop)]
+pub struct Wire<S: Read + Write> {
+    /// The socket.
+    pub inner: S,
+    /// The bytes that its reads gave.
+    pub given: Passed,
+    /// The bytes that its writes took.
+    pub taken: Passed,
+}
+
+impl<S: Read + Write> Wire<S> {
+    /// A socket that was neither read nor written.
+    pub fn new(inner: S) -> Wire<S>
+        ensures given { result.given ≡ [] }
+        ensures taken { result.taken ≡ [] }
+    {
+        Wire {
+            inner,
+            given: Passed::new(),
+            taken: Passed::new(),
+        }
+    }
+
+    /// Reads once, into the front of the slice.
+    pub fn read(&mut self, piece: &mut [u8]) -> Came
+        ensures bound { came result ≤ length piece.new }
+        ensures given { self.new.given ≡ self.old.given ++ came_in result piece.new }
+        ensures taken { self.new.taken ≡ self.old.taken }
+    {
+        match self.inner.read(piece) {
+            Ok(0) => Came::End,
+            Ok(n) => {
+                self.given.add(&piece[..n]);
+                Came::Bytes(n)
+            }
+            Err(e) => {
+                if e.kind() == ErrorKind::WouldBlock {
+                    Came::Nothing
+                } else {
+                    Came::Fault
+                }
+            }
+        }
+    }
+
+    /// Writes once, from the front of the slice.
+    pub fn write(&mut self, bytes: &[u8]) -> Gone
+        ensures bound { went result ≤ length bytes.now }
+        ensures given { self.new.given ≡ self.old.given }
+        ensures taken { self.new.taken ≡ self.old.taken ++ went_out result bytes.now }
+    {
+        match self.inner.write(bytes) {
+            Ok(n) => {
+                self.taken.add(&bytes[..n]);
+                Gone::Bytes(n)
+            }
+            Err(e) => {
+                if e.kind() == ErrorKind::WouldBlock {
+                    Gone::Nothing
+                } else {
+                    Gone::Fault
+                }
+            }
+        }
+    }
+}

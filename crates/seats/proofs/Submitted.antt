@@ -1,0 +1,261 @@
+-- Calls at a seat, one stage after another.
+use Rattle.std.proofs.Common.{◌≡◌, ◌∙◌, ◌∷◌, ◌++◌, [], List, Bool, true, false, not, if◌then◌else◌, Option, Some, None}
+use Rattle.std.proofs.Common.{IsSome, MatchResult, Ok, Err, Result, is_err, refl, ap, sym, subst}
+use Rattle.table.specs.Operations.{is_update, is_value}
+use Rattle.table.specs.declared.operations.Call.{Call}
+use Rattle.table.specs.declared.operations.Reply.{Reply}
+use Rattle.node.specs.declared.messages.Input.TheVariants.{Call as Called}
+use Rattle.node.specs.declared.messages.Output.TheVariants.{Reply as Replied}
+use Rattle.faces.specs.Courses.{Course, IsLater}
+use Rattle.faces.specs.Outputs.{PutsOut}
+use Rattle.rail.specs.declared.events.Event.{Event}
+use Rattle.rail.specs.declared.events.Event.TheVariants.{Took}
+use Rattle.rail.specs.Seats.{SeatState, with_call, with_reply}
+use Rattle.seats.specs.InProcessLinks.{without_last}
+use Rattle.seats.specs.SeatCallers.{IsSubmitted}
+use Rattle.seats.specs.Submitters.{Submitting, IsAnswered, IsLastCall, IsOpen, IsReplyAt, all_sent, call_of, last_call}
+use Rattle.seats.specs.Submitters.{open_at, stage_of, submitting, unused}
+use Rattle.seats.specs.declared.submitters.Stage.{Stage}
+use Rattle.seats.specs.declared.submitters.Stage.TheVariants.{Free, Read, Update, Lost}
+use Rattle.seats.proofs.Linked.{without}
+
+-- the call of the last event
+last_sent : (e : Event) (es : List Event) → last_call (es ++ e ∷ []) ≡ call_of e
+last_sent e [] = refl
+last_sent e (f ∷ []) = refl
+last_sent e (f ∷ (h ∷ es)) = last_sent e (h ∷ es)
+
+-- a seat with this open call
+abbrev opened : SeatState → List Event → Option Call → Submitting
+opened seat es call = record { seat = record seat { sent = es }; waiting = call; lost = false }
+
+-- a seat whose last event is this call
+pub opened_at : (seat : SeatState) (es : List Event) (call : Call)
+    → seat.sent ≡ es ++ Took (Called seat.port call) ∷ []
+    → open_at seat ≡ record { seat = record seat { sent = es }; waiting = Some call; lost = false }
+opened_at seat es call sent =
+    let before : without_last seat.sent ≡ es = ap without_last sent ∙ without (Took (Called seat.port call)) es in
+    let last : last_call seat.sent ≡ Some call = ap last_call sent ∙ last_sent (Took (Called seat.port call)) es in
+    ap (λ bs. opened seat bs (last_call seat.sent)) before ∙ ap (λ o. opened seat es o) last
+
+-- a call that is open isn't none
+not_none : {P : Type 0} (seat : SeatState) (u : Bool) → IsLastCall seat u → (open_at seat).waiting ≡ None → P
+not_none seat u l e =
+    let is : (open_at seat).waiting ≡ Some l.call = ap (λ s. s.waiting) (opened_at seat l.before l.call l.sent) in
+    let no : Some l.call ≡ None = sym is ∙ e in
+    absurd (cc)
+
+opens_as : (seat : SeatState) (call : Call) (u : Bool) → is_update call.op ≡ u
+    → IsOpen (if u then Update else Read) (with_call seat call)
+opens_as seat call true e = record { before = seat.sent; call = call; sent = refl; kind = e }
+opens_as seat call false e = record { before = seat.sent; call = call; sent = refl; kind = e }
+
+-- a call that was sent is open
+pub opens : (seat : SeatState) (call : Call) → IsOpen (stage_of call) (with_call seat call)
+opens seat call = opens_as seat call (is_update call.op) refl
+
+at_stage : (seat : SeatState) (u : Bool) → submitting (if u then Update else Read) seat ≡ open_at seat
+at_stage seat true = refl
+at_stage seat false = refl
+
+-- and shows so
+pub sent_now : (stage : Stage) (seat : SeatState) (call : Call) → IsOpen stage seat
+    → (submitting stage seat).waiting ≡ None
+    → (submitting stage seat).lost ≡ false
+    → submitting (stage_of call) (with_call seat call) ≡ record (submitting stage seat) { waiting = Some call }
+sent_now Free seat call is free unlost =
+    at_stage (with_call seat call) (is_update call.op) ∙ opened_at (with_call seat call) seat.sent call refl
+sent_now Read seat call is free unlost = not_none seat false is free
+sent_now Update seat call is free unlost = not_none seat true is free
+sent_now Lost seat call is free unlost = let no : true ≡ false = unlost in cc
+
+-- it is lost, and no call was open
+pub lost_now : (stage : Stage) (seat : SeatState) → IsOpen stage seat → (submitting stage seat).waiting ≡ None
+    → submitting Lost seat ≡ record (submitting stage seat) { lost = true }
+lost_now Free seat is free = refl
+lost_now Read seat is free = not_none seat false is free
+lost_now Update seat is free = not_none seat true is free
+lost_now Lost seat is free = refl
+
+-- all that was sent
+pub sent_at : (stage : Stage) (seat : SeatState) → IsOpen stage seat → all_sent (submitting stage seat) ≡ seat.sent
+sent_at Free seat is = refl
+sent_at Read seat is = ap all_sent (opened_at seat is.before is.call is.sent) ∙ sym is.sent
+sent_at Update seat is = ap all_sent (opened_at seat is.before is.call is.sent) ∙ sym is.sent
+sent_at Lost seat is = refl
+
+-- the open call has its reply
+module _ (before after told : Course) (seat : SeatState) (reply : Reply) (later : IsLater before after)
+    (learned : IsLater told after) (put_out : PutsOut told (Replied seat.port reply)) where
+  answered_last : (u : Bool) → IsLastCall seat u → is_value reply ≡ not u
+      → IsAnswered before after (open_at seat) (unused (with_reply seat reply told)) reply
+  answered_last u l kind =
+      subst (λ s. IsAnswered before after s (unused (with_reply seat reply told)) reply)
+      (sym (opened_at seat l.before l.call l.sent))
+      (record {
+        call = l.call;
+        waits = refl;
+        submitted = record {
+          told = told;
+          later = later;
+          learned = learned;
+          put_out = put_out;
+          sent = ap (λ (es : List Event).
+              record seat { sent = es; got = seat.got ++ record { port = seat.port; reply = reply; told = told } ∷ [] })
+              l.sent;
+        };
+        kind = kind ∙ ap not (sym l.kind);
+        free = refl;
+        lost = (refl, refl);
+      })
+
+  pub answered : (stage : Stage) → IsOpen stage seat → IsReplyAt stage reply
+      → IsAnswered before after (submitting stage seat) (submitting Free (with_reply seat reply told)) reply
+  answered Free is kind = let no : false ≡ true = kind in cc
+  answered Read is kind = answered_last false is kind
+  answered Update is kind = answered_last true is (negated (is_value reply) kind)
+    where
+      negated : (b : Bool) → not b ≡ true → b ≡ false
+      negated true e = sym e
+      negated false e = refl
+  answered Lost is kind = let no : false ≡ true = kind in cc
+
+-- The call that was open has its reply.
+abbrev call_or : Call → Option Call → Call
+call_or d None = d
+call_or d (Some c) = c
+
+pub same_call : (before after : Course) (s t : Submitting) (call : Call) (reply : Reply) → s.waiting ≡ Some call
+    → (a : IsAnswered before after s t reply)
+    → a.call ≡ call
+same_call before after s t call reply waits a =
+    let same : Some a.call ≡ Some call = sym a.waits ∙ waits in
+    ap (λ o. call_or call o) same
+
+pub answers_to : (before after : Course) (s t : Submitting) (call : Call) (reply : Reply) → s.waiting ≡ Some call
+    → IsAnswered before after s t reply
+    → IsSubmitted before after s.seat t.seat call reply
+answers_to before after s t call reply waits a =
+    subst (λ c. IsSubmitted before after s.seat t.seat c reply) (same_call before after s t call reply waits a)
+    a.submitted
+
+-- a call that was sent waits
+waits_last : (seat : SeatState) (u : Bool) → IsLastCall seat u → IsSome (open_at seat).waiting
+waits_last seat u l =
+    subst (λ (s : Submitting). IsSome s.waiting) (sym (opened_at seat l.before l.call l.sent)) refl
+
+-- a read waits
+pub read_waits : (stage : Stage) (seat : SeatState) (s : Submitting) → stage ≡ Read → IsOpen stage seat
+    → submitting stage seat ≡ s
+    → IsSome s.waiting
+read_waits stage seat s e is view =
+    subst (λ (t : Submitting). IsSome t.waiting) (ap (λ x. submitting x seat) (sym e) ∙ view)
+    (waits_last seat false (subst (λ x. IsOpen x seat) e is))
+
+-- an update waits
+pub update_waits : (stage : Stage) (seat : SeatState) (s : Submitting) → stage ≡ Update → IsOpen stage seat
+    → submitting stage seat ≡ s
+    → IsSome s.waiting
+update_waits stage seat s e is view =
+    subst (λ (t : Submitting). IsSome t.waiting) (ap (λ x. submitting x seat) (sym e) ∙ view)
+    (waits_last seat true (subst (λ x. IsOpen x seat) e is))
+
+-- what holds of a call that was sent
+pub if_sent : {T E : Type 0} (P : Type 0) (Q : E → Type 0) (r : Result T E) (b : Bool)
+    → b ≡ is_err r
+    → b ≡ false
+    → MatchResult r (λ _. P) Q
+    → P
+if_sent P Q (Ok x) b is fine holds = holds
+if_sent P Q (Err e) b is fine holds = let bad : true ≡ false = sym is ∙ fine in cc
+
+-- what holds of one that wasn't
+pub if_unsent : {T E : Type 0} (P : Type 0) (R : E → Type 0) (Q : Type 0) (r : Result T E) (b : Bool)
+    → b ≡ is_err r
+    → b ≡ true
+    → MatchResult r (λ _. P) (λ e. R e × Q)
+    → Q
+if_unsent P R Q (Ok x) b is bad holds = let no : false ≡ true = sym is ∙ bad in cc
+if_unsent P R Q (Err e) b is bad holds = holds.1
+
+-- a call was sent at a seat with this value
+pub submit_sent : (stage next : Stage) (seat last : SeatState) (s : Submitting) (call : Call)
+    → submitting stage seat ≡ s
+    → IsOpen stage seat
+    → s.waiting ≡ None
+    → (stage ≡ Lost → ⊥)
+    → next ≡ stage_of call
+    → last ≡ with_call seat call
+    → submitting next last ≡ record s { waiting = Some call }
+submit_sent stage next seat last s call view is free unlost e f =
+    ap (λ x. submitting x last) e ∙ (ap (λ l. submitting (stage_of call) l) f
+    ∙ (sent_at_stage stage seat call is (ap (λ (t : Submitting). t.waiting) view ∙ free) unlost
+    ∙ ap (λ (t : Submitting). record t { waiting = Some call }) view))
+  where
+    sent_at_stage : (stage : Stage) (seat : SeatState) (call : Call) → IsOpen stage seat
+        → (submitting stage seat).waiting ≡ None
+        → (stage ≡ Lost → ⊥)
+        → submitting (stage_of call) (with_call seat call) ≡ record (submitting stage seat) { waiting = Some call }
+    sent_at_stage Free seat call is free unlost = sent_now Free seat call is free refl
+    sent_at_stage Read seat call is free unlost = not_none seat false is free
+    sent_at_stage Update seat call is free unlost = not_none seat true is free
+    sent_at_stage Lost seat call is free unlost = absurd (unlost refl)
+
+pub submit_opens : (next : Stage) (seat last : SeatState) (call : Call) → next ≡ stage_of call
+    → last ≡ with_call seat call
+    → IsOpen next last
+submit_opens next seat last call e f =
+    subst (λ x. IsOpen x last) (sym e) (subst (λ l. IsOpen (stage_of call) l) (sym f) (opens seat call))
+
+-- a call wasn't sent
+pub submit_lost : (stage : Stage) (seat last : SeatState) (s : Submitting) → submitting stage seat ≡ s
+    → IsOpen stage seat
+    → s.waiting ≡ None
+    → last ≡ seat
+    → submitting Lost last ≡ record s { lost = true }
+submit_lost stage seat last s view is free e =
+    ap (λ l. submitting Lost l) e
+    ∙ (lost_now stage seat is (ap (λ (t : Submitting). t.waiting) view ∙ free)
+    ∙ ap (λ (t : Submitting). record t { lost = true }) view)
+
+-- a reply was taken
+pub take_answered : (before after told : Course) (stage next : Stage) (seat last : SeatState) (s : Submitting)
+    (reply given : Reply) → submitting stage seat ≡ s → IsOpen stage seat → next ≡ Free
+    → last ≡ with_reply seat reply told
+    → given ≡ reply
+    → IsReplyAt stage reply
+    → IsLater before after
+    → IsLater told after
+    → PutsOut told (Replied seat.port reply)
+    → IsAnswered before after s (submitting next last) given
+take_answered before after told stage next seat last s reply given view is e f same kind later learned put =
+    subst (λ t. IsAnswered before after t (submitting next last) given) view
+    (subst (λ x. IsAnswered before after (submitting stage seat) (submitting x last) given) (sym e)
+    (subst (λ l. IsAnswered before after (submitting stage seat) (submitting Free l) given) (sym f)
+    (subst (λ r. IsAnswered before after (submitting stage seat) (submitting Free (with_reply seat reply told)) r)
+    (sym same)
+    (answered before after told seat reply later learned put stage is kind))))
+
+-- nothing more was sent
+pub take_unsent : (stage next : Stage) (seat last : SeatState) (s : Submitting) → submitting stage seat ≡ s
+    → IsOpen stage seat
+    → IsOpen next last
+    → last.sent ≡ seat.sent
+    → all_sent (submitting next last) ≡ all_sent s
+take_unsent stage next seat last s view is opens same =
+    sent_at next last opens ∙ (same ∙ (sym (sent_at stage seat is) ∙ ap all_sent view))
+
+-- where none is open
+pub free_opens : (next : Stage) (seat : SeatState) → next ≡ Free → IsOpen next seat
+free_opens next seat e = subst (λ x. IsOpen x seat) (sym e) tt
+
+pub lost_opens : (next : Stage) (seat : SeatState) → next ≡ Lost → IsOpen next seat
+lost_opens next seat e = subst (λ x. IsOpen x seat) (sym e) tt
+
+-- a seat that shows so is lost
+pub lost_stage : (stage : Stage) (seat : SeatState) (s : Submitting) → submitting stage seat ≡ s → s.lost ≡ true
+    → stage ≡ Lost
+lost_stage Free seat s view lost = let no : false ≡ true = ap (λ (t : Submitting). t.lost) view ∙ lost in cc
+lost_stage Read seat s view lost = let no : false ≡ true = ap (λ (t : Submitting). t.lost) view ∙ lost in cc
+lost_stage Update seat s view lost = let no : false ≡ true = ap (λ (t : Submitting). t.lost) view ∙ lost in cc
+lost_stage Lost seat s view lost = refl

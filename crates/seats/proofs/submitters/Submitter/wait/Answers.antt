@@ -1,0 +1,29 @@
+use Rattle.std.proofs.Common.{ap}
+use Rattle.rail.specs.Seats.{SeatState}
+use Rattle.seats.specs.declared.submitters.Stage.TheVariants.{Lost}
+use Rattle.seats.proofs.Submitted.{free_opens, lost_opens, take_answered, take_unsent}
+use Rattle.seats.proofs.submitters.Submitter.wait.Goals as goal
+
+pub returns-in_ok-reply-in-Ok-clause-taken : goal.returns-in_ok-reply-in-Ok-clause-taken
+returns-in_ok-reply-in-Ok-clause-taken g c =
+    let heard = c.in_ok-reply-in-Ok in
+    take_answered _ _ c.in-Ok.told c.self.inside.stage c.hear.new.stage c.self.inside.seat c.reply.new.self _
+    c.in-Ok.reply heard.reply c.self.view_is c.self.invariant heard.ensures.stage c.in-Ok.ensures.got
+    heard.ensures.reply heard.ensures.kind heard.ensures.later heard.ensures.told c.in-Ok.ensures.put_out
+
+pub returns-in_ok-reply-in-Ok-clause-sent : goal.returns-in_ok-reply-in-Ok-clause-sent
+returns-in_ok-reply-in-Ok-clause-sent g c =
+    take_unsent c.self.inside.stage c.hear.new.stage c.self.inside.seat c.reply.new.self _ c.self.view_is
+    c.self.invariant (free_opens _ _ c.in_ok-reply-in-Ok.ensures.stage)
+    (ap (λ (s : SeatState). s.sent) c.in-Ok.ensures.got)
+
+pub returns-in_err-reply-in-Ok-clause-sent : goal.returns-in_err-reply-in-Ok-clause-sent
+returns-in_err-reply-in-Ok-clause-sent g c =
+    take_unsent c.self.inside.stage c.hear.new.stage c.self.inside.seat c.reply.new.self _ c.self.view_is
+    c.self.invariant (lost_opens _ _ c.in_err-reply-in-Ok.ensures.stage)
+    (ap (λ (s : SeatState). s.sent) c.in-Ok.ensures.got)
+
+pub returns-in-Err-clause-sent : goal.returns-in-Err-clause-sent
+returns-in-Err-clause-sent g c =
+    take_unsent c.self.inside.stage Lost c.self.inside.seat c.reply.new.self _ c.self.view_is c.self.invariant tt
+    (ap (λ (s : SeatState). s.sent) c.in-Err.ensures.got)

@@ -1,0 +1,20 @@
+use Rattle.std.proofs.Common.{◌∙◌, ap, sym}
+use Rattle.seats.specs.Talks.{Talking}
+use Rattle.seats.proofs.TalkLaws.{further_as, further_same}
+use Rattle.seats.proofs.talks.Talk.go.Goals as goal
+
+pub returns-in-Reading-clause-further : goal.returns-in-Reading-clause-further
+returns-in-Reading-clause-further g c = further_same _
+
+pub returns-else-is_refused-clause-further : goal.returns-else-is_refused-clause-further
+returns-else-is_refused-clause-further g c = further_as _ _ (ap (λ (t : Talking). t.connected) c.send.ensures.same)
+
+pub returns-in-Sent-clause-further : goal.returns-in-Sent-clause-further
+returns-in-Sent-clause-further g c = further_same _
+
+pub returns-in-Sent-clause-went : goal.returns-in-Sent-clause-went
+returns-in-Sent-clause-went g c =
+    (c.in-Sent.field-0, ap (λ (t : Talking). t.standing) (sym c.self.view_is) ∙ c.in-Sent.is)
+
+pub returns-in-Over-clause-further : goal.returns-in-Over-clause-further
+returns-in-Over-clause-further g c = further_same _

@@ -1,0 +1,15 @@
+use Rattle.std.proofs.Common.{◌≡◌}
+use Rattle.faces.specs.Courses.{IsLater}
+use Rattle.seats.specs.Talks.{IsFurther}
+use Rattle.seats.specs.declared.talks.Standing.TheVariants.{Idle}
+use Rattle.seats.proofs.talks.Talk.go_on.Given as goal
+
+abbrev pub invariant-loop : goal.invariant-loop
+invariant-loop g l =
+    record {
+      idle : l.self.standing ≡ Idle;
+      known : IsLater l.self.seen l.pool;
+      later : IsLater l.fn.pool l.pool;
+      first : l.self.first ≡ l.fn.self.first;
+      further : IsFurther l.fn.self.connected l.self.connected;
+    }

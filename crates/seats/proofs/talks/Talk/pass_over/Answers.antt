@@ -1,0 +1,18 @@
+use Rattle.std.proofs.Common.{ap, subst, sym}
+use Rattle.seats.specs.Talks.{HoldsStore, Talking}
+use Rattle.seats.proofs.TalkLaws.{as_shown, further_failed, refused_talk}
+use Rattle.seats.proofs.talks.Talk.pass_over.Goals as goal
+
+pub returns-in_err-refuse-clause-further : goal.returns-in_err-refuse-clause-further
+returns-in_err-refuse-clause-further g c =
+    as_shown c.args.self.now c.self.inside.connection c.refuse.new.connection
+    (ap (λ (t : Talking). t.connected) c.self.view_is)
+    (further_failed c.self.inside.connection c.refuse.new.connection c.refuse.new.connection.failed
+    c.in_err-refuse.ensures.err.1)
+
+pub invariant_of-self-2 : goal.invariant_of-self-2
+invariant_of-self-2 g c =
+    let s = c.self.inside in
+    refused_talk s.connection c.refuse.new.connection s.standing c.refuse.new.standing s.first s.seen c.self.invariant
+    (subst (λ (t : Talking). HoldsStore t.standing) (sym c.self.view_is) c.requires.store) c.in_ok-refuse.ensures.ok.0
+    c.in_ok-refuse.ensures.ok.1

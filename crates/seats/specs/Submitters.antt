@@ -1,0 +1,105 @@
+-- Seats at which a call is sent, and its reply is taken later.
+use Rattle.std.specs.Prelude.{◌≡◌, Bool, true, false, not, if◌then◌else◌, List, [], ◌∷◌, ◌++◌, Option, Some, None}
+use Rattle.table.specs.Operations.{is_update, is_value}
+use Rattle.table.specs.declared.operations.Call.{Call}
+use Rattle.table.specs.declared.operations.Reply.{Reply}
+use Rattle.node.specs.declared.messages.Input.{Input}
+use Rattle.node.specs.declared.messages.Input.TheVariants.{Call as Called, From, Gone}
+use Rattle.faces.specs.Courses.{Course}
+use Rattle.rail.specs.declared.events.Event.{Event}
+use Rattle.rail.specs.declared.events.Event.TheVariants.{Took, Stop, End}
+use Rattle.rail.specs.Seats.{SeatState, with_call}
+use Rattle.seats.specs.InProcessLinks.{without_last}
+use Rattle.seats.specs.SeatCallers.{IsSubmitted}
+use Rattle.seats.specs.declared.submitters.Stage.{Stage}
+use Rattle.seats.specs.declared.submitters.Stage.TheVariants.{Free, Read, Update, Lost}
+
+-- A seat as it was before its open call was sent; that call, whose reply it hasn't taken; and whether it is lost, so
+-- that nothing is sent or answered any more.
+pub record Submitting : Type 0 where
+  pub seat : SeatState
+  pub waiting : Option Call
+  pub lost : Bool
+
+-- a seat at which no call is open
+abbrev pub unused : SeatState → Submitting
+unused seat = record { seat = seat; waiting = None; lost = false }
+
+-- a seat with its open call
+abbrev pub with_open : SeatState → Option Call → SeatState
+with_open seat None = seat
+with_open seat (Some call) = with_call seat call
+
+-- all that it sent, with the open call
+abbrev pub all_sent : Submitting → List Event
+all_sent s = (with_open s.seat s.waiting).sent
+
+-- The reply to the open call was taken: the call was sent, once, and one reply was taken, which the server had put out
+-- for this seat; the reader has seen all that the server had published by then. It is an item, or none, exactly if the
+-- call is a read. No call is open then.
+pub record IsAnswered (before after : Course) (s t : Submitting) (reply : Reply) : Type 0 where
+  pub call : Call
+  pub waits : s.waiting ≡ Some call
+  pub submitted : IsSubmitted before after s.seat t.seat call reply
+  pub kind : is_value reply ≡ not (is_update call.op)
+  pub free : t.waiting ≡ None
+  pub lost : (s.lost ≡ false) × (t.lost ≡ false)
+
+-- the call of an input
+abbrev pub called : Input → Option Call
+called (Called port call) = Some call
+called (From i peer) = None
+called (Gone j) = None
+
+-- the call of an event
+abbrev pub call_of : Event → Option Call
+call_of (Took input) = called input
+call_of Stop = None
+call_of End = None
+
+-- the call of the last event
+abbrev pub last_call : List Event → Option Call
+last_call [] = None
+last_call (e ∷ []) = call_of e
+last_call (e ∷ (f ∷ es)) = last_call (f ∷ es)
+
+-- a seat whose last event is the open call
+abbrev pub open_at : SeatState → Submitting
+open_at seat =
+    record { seat = record seat { sent = without_last seat.sent }; waiting = last_call seat.sent; lost = false }
+
+-- what a seat shows at a stage
+abbrev pub submitting : Stage → SeatState → Submitting
+submitting Free seat = unused seat
+submitting Read seat = open_at seat
+submitting Update seat = open_at seat
+submitting Lost seat = record { seat = seat; waiting = None; lost = true }
+
+-- The last event is a call, which is an update, or not.
+pub record IsLastCall (seat : SeatState) (updates : Bool) : Type 0 where
+  pub before : List Event
+  pub call : Call
+  pub sent : seat.sent ≡ before ++ Took (Called seat.port call) ∷ []
+  pub kind : is_update call.op ≡ updates
+
+-- if a call is open, it is the last event that was sent
+abbrev pub IsOpen : Stage → SeatState → Type 0
+IsOpen Free seat = Unit {0}
+IsOpen Read seat = IsLastCall seat false
+IsOpen Update seat = IsLastCall seat true
+IsOpen Lost seat = Unit {0}
+
+-- the stage once a call is sent
+abbrev pub stage_of : Call → Stage
+stage_of call = if is_update call.op then Update else Read
+
+-- whether a reply is one to such a call
+abbrev pub is_reply_at : Stage → Reply → Bool
+is_reply_at Free reply = false
+is_reply_at Read reply = is_value reply
+is_reply_at Update reply = not (is_value reply)
+is_reply_at Lost reply = false
+
+-- it is one
+abbrev pub IsReplyAt : Stage → Reply → Type 0
+IsReplyAt stage reply = is_reply_at stage reply ≡ true

@@ -1,0 +1,98 @@
+-- Connections at a server's seats: what has come of one, and what it waits for.
+use Rattle.std.specs.Prelude.{◌≡◌, ◌⊎◌, ℕ, true, List, [], ◌∷◌, ◌++◌, Option, Some}
+use Rattle.table.specs.declared.items.Item.{Item}
+use Rattle.table.specs.declared.operations.Call.{Call}
+use Rattle.table.specs.declared.operations.Reply.{Reply}
+use Rattle.table.specs.declared.operations.Reply.TheVariants.{Value}
+use Rattle.node.specs.Lawful.{IsCall}
+use Rattle.proto.specs.Turns.{Outcome, is_store}
+use Rattle.faces.specs.Courses.{Course, IsLater, Origin}
+use Rattle.rail.specs.Seats.{SeatState}
+use Rattle.serving.specs.declared.connections.Wants.TheVariants.{Read, Write, End as Ends}
+use Rattle.serving.specs.Connections.{Connected, unused}
+use Rattle.serving.specs.Serving.{AreAnswered}
+use Rattle.serving.specs.Wanted.{IsWanted}
+use Rattle.seats.specs.declared.talks.Standing.{Standing}
+use Rattle.seats.specs.declared.talks.Standing.TheVariants.{Idle, Reading, Unsent, Sent, Over}
+use Rattle.seats.specs.declared.talks.Went.{Went}
+use Rattle.seats.specs.declared.talks.Went.TheVariants.{Input, Write as Writes, Seat, Reply as Waits, More, End}
+use Rattle.seats.specs.SeatCallers.{IsSubmitted, ShowsClean}
+use Rattle.seats.specs.SeatPools.{IsFreeAt}
+use Rattle.seats.specs.Submitters.{Submitting}
+
+-- What has come of a connection; where it stands; and what its reader had seen at first, and when its last call had its
+-- reply.
+pub record Talking : Type 0 where
+  pub connected : Connected
+  pub standing : Standing
+  pub first : Course
+  pub seen : Course
+
+-- at first
+abbrev pub begun : Course → Talking
+begun seen = record { connected = unused; standing = Idle; first = seen; seen = seen }
+
+-- with a piece of input more
+abbrev pub fed : Talking → List ℕ → Talking
+fed t piece = record t { connected = record t.connected { read = t.connected.read ++ piece }; standing = Idle }
+
+-- A look is the reply: what was looked at begins with all that was seen before.
+pub record IsPeeked (before after : Course) (call : Call) (reply : Reply) : Type 0 where
+  pub item : Option Item
+  pub later : IsLater before after
+  pub shown : ShowsClean after call item
+  pub reply_is : reply ≡ Value item
+
+-- A look is the reply, or it is the server's, at some seat.
+abbrev pub IsReplied : Course → Call → Reply → Course → Type 0
+IsReplied before call reply after =
+    IsPeeked before after call reply
+    ⊎ ((seat : SeatState) × (then : SeatState) × IsSubmitted before after seat then call reply)
+
+-- Its connection waits for no call, and may want input; or for this one, which waits for a seat, or is open at this
+-- seat of its server.
+abbrev pub StandsAt : Standing → Connected → Origin → Type 0
+StandsAt Idle c origin = c.waiting ≡ []
+StandsAt Reading c origin = IsWanted Read c
+StandsAt (Unsent call) c origin = (c.waiting ≡ call ∷ []) × IsCall call
+StandsAt (Sent s) c origin =
+    (call : Call) × (c.waiting ≡ call ∷ []) × (s.waiting ≡ Some call) × (s.seat.origin ≡ origin)
+StandsAt Over c origin = Unit {0}
+
+-- More calls have their replies or were refused, and more output is due.
+pub record IsFurther (c d : Connected) : Type 0 where
+  pub more : List Call
+  pub came : List Outcome
+  pub lines : List ℕ
+  pub read : d.read ≡ c.read
+  pub calls : d.calls ≡ c.calls ++ more
+  pub outcomes : d.outcomes ≡ c.outcomes ++ came
+  pub due : d.due ≡ c.due ++ lines
+  pub written : d.written ≡ c.written
+  pub ended : d.ended ≡ c.ended
+
+-- a call that stores waits for a seat
+abbrev pub HoldsStore : Standing → Type 0
+HoldsStore standing = (call : Call) × (standing ≡ Unsent call) × (is_store call.op ≡ true)
+
+-- it went so far
+abbrev pub HasGone : Went → Talking → Type 0
+HasGone Input t = (t.standing ≡ Reading) × IsWanted Read t.connected
+HasGone Writes t = (t.standing ≡ Idle) × IsWanted Write t.connected
+HasGone Seat t = (call : Call) × (t.standing ≡ Unsent call)
+HasGone Waits t = (s : Submitting) × (t.standing ≡ Sent s)
+HasGone More t = t.standing ≡ Idle
+HasGone (End end) t = (t.standing ≡ Idle) × IsWanted (Ends end) t.connected
+
+-- the seat that it has, if any, is one of this server at which no call is open
+abbrev pub HoldsFree : Origin → Standing → Type 0
+HoldsFree origin Idle = Unit {0}
+HoldsFree origin Reading = Unit {0}
+HoldsFree origin (Unsent call) = Unit {0}
+HoldsFree origin (Sent s) = IsFreeAt origin s
+HoldsFree origin Over = Unit {0}
+
+-- what holds of a talk
+pub record IsTalk (c : Connected) (standing : Standing) (first seen : Course) : Type 0 where
+  pub answered : AreAnswered IsReplied first c.calls c.outcomes seen
+  pub stands : StandsAt standing c seen.origin

@@ -1,0 +1,171 @@
+//! The seats of one thread at one server.
+use crate::gauges::Gauge;
+use crate::marks::Mark;
+use crate::peeks::peek;
+use crate::submitters::Submitter;
+use rail::{Reader, Seat, Told};
+use serving::CallFault;
+use std::alloc::{AllocError, Global};
+use std::collections::VecDeque;
+use std::marker::Model;
+use std::sync::Wait;
+use table::{Call, Reply};
+
+/// What one thread has at one server: a reader, and seats that its connections take in turn. Contracts see what the
+/// reader has seen or was told of (`Course`).
+#[derive(Drop)]
+pub struct SeatPool {
+    reader: Reader,
+    // Set as soon as the server fails.
+    mark: Mark,
+    // Whether the server's items may take more memory.
+    gauge: Gauge,
+    // Seats at which no call is open.
+    free: Vec<Submitter>,
+    // Seats with open calls for whose replies nobody waits any more.
+    left: VecDeque<Submitter>,
+}
+
+impl Model for SeatPool {
+    ghost use Rattle.std.specs.Coded.{codes};
+    ghost use Rattle.logbook.specs.Pages.{book_coded};
+    ghost use Rattle.versions.specs.Stores.{coded_items};
+    ghost use Rattle.std.specs.Prelude.{All};
+    ghost use Rattle.faces.specs.Courses.{Course};
+    ghost use Rattle.seats.specs.SeatPools.{IsAt, IsFreeAt};
+
+    ghost Value = { Course };
+
+    ghost coded = { Prim.hlevel (codes, coded_items, book_coded) };
+
+    ghost view = { λ p. p.reader };
+
+    ghost invariant = { λ p. All (IsFreeAt p.reader.origin) p.free.items × All (IsAt p.reader.origin) p.left.items };
+}
+
+impl SeatPool {
+    ghost use Rattle.std.specs.Prelude.{◌≡◌, None, Option, IfOk, IfSome, MatchOption, OnErr};
+    ghost use Rattle.table.specs.declared.items.Item.{Item};
+    ghost use Rattle.table.specs.declared.operations.Reply.TheVariants.{Value};
+    ghost use Rattle.faces.specs.Courses.{IsLater};
+    ghost use Rattle.seats.specs.SeatCallers.{ShowsClean};
+    ghost use Rattle.seats.specs.SeatPools.{IsAt, IsFreeAt};
+    ghost use Rattle.seats.specs.Submitters.{IsAnswered};
+
+    /// A pool without seats, at the reader's server, which has this mark and this gauge.
+    pub fn new(alloc: Global, reader: Reader, mark: Mark, gauge: Gauge) -> SeatPool
+        ensures { result ≡ reader }
+    {
+        SeatPool {
+            reader,
+            mark,
+            gauge,
+            free: Vec::new(alloc),
+            left: VecDeque::new(alloc),
+        }
+    }
+
+    /// Adds a seat of the same server. If it is refused, memory is out, and the seat is dropped.
+    pub fn add(&mut self, seat: Seat) -> Result<(), AllocError>
+        requires server { seat.origin ≡ self.old.origin }
+        ensures same { self.new ≡ self.old }
+    {
+        self.free.push(Submitter::new(seat))?;
+        Ok(())
+    }
+
+    /// Whether a call that stores may be sent. If not, it is to be refused.
+    pub fn has_room(&self) -> bool {
+        self.gauge.has_room()
+    }
+
+    /// Whether a seat is free.
+    pub fn has_free(&self) -> bool {
+        !self.free.is_empty()
+    }
+
+    /// The reply to a call by a look alone, as `peek` says. Refused if the server is marked.
+    pub fn peek(&mut self, call: &Call) -> Result<Option<Reply>, CallFault>
+        ensures later { IsLater self.old self.new }
+        ensures clean { IfOk result (λ found. IfSome found
+            (λ reply. (item : Option Item) × (reply ≡ Value item) × ShowsClean self.new call.now item)) }
+    {
+        let found = peek(&mut self.reader, call);
+        if self.mark.is_set() {
+            return Err(CallFault);
+        }
+        Ok(found)
+    }
+
+    /// A note of what its reader has seen.
+    pub fn tell(&self) -> Told
+        ensures { result ≡ self.now }
+    {
+        self.reader.tell()
+    }
+
+    /// Takes the replies for which nobody waits any more: their seats are free then.
+    pub fn collect<R: Wait>(&mut self, rt: &R)
+        ensures { IsLater self.old self.new }
+    {
+        for _ in 0..self.left.len() {
+            self.collect_one(rt);
+        }
+    }
+
+    // Takes such a reply, if it has come.
+    fn collect_one<R: Wait>(&mut self, rt: &R)
+        ensures { IsLater self.old self.new }
+    {
+        if let Some(mut submitter) = self.left.pop_front() {
+            drop(submitter.take(rt, &mut self.reader));
+            if submitter.is_free() {
+                drop(self.free.push(submitter));
+            } else {
+                drop(self.left.push_back(submitter));
+            }
+        }
+    }
+
+    /// Takes a free seat out, if there is one.
+    pub(crate) fn take_free(&mut self) -> Option<Submitter>
+        ensures same { self.new ≡ self.old }
+        ensures free { IfSome result (IsFreeAt self.old.origin) }
+    {
+        self.free.pop()
+    }
+
+    /// Takes a seat back at which no call is open.
+    pub(crate) fn put(&mut self, submitter: Submitter)
+        requires { IsFreeAt self.old.origin submitter }
+        ensures { self.new ≡ self.old }
+    {
+        // There is room, since it was there before.
+        drop(self.free.push(submitter));
+    }
+
+    /// Takes a seat back, for whose reply nobody waits any more.
+    pub(crate) fn leave(&mut self, submitter: Submitter)
+        requires { IsAt self.old.origin submitter }
+        ensures { self.new ≡ self.old }
+    {
+        drop(self.left.push_back(submitter));
+    }
+
+    /// The reply to the open call of a seat that was taken out, as `Submitter::take` says.
+    pub(crate) fn take_reply<R: Wait>(
+        &mut self,
+        rt: &R,
+        submitter: &mut Submitter,
+    ) -> Result<Option<Reply>, CallFault>
+        requires server { IsAt self.old.origin submitter.old }
+        ensures server { IsAt self.new.origin submitter.new }
+        ensures later { IsLater self.old self.new }
+        ensures taken { IfOk result (λ found. MatchOption found
+            ((submitter.new ≡ submitter.old) × (self.new ≡ self.old))
+            (λ reply. IsAnswered self.old self.new submitter.old submitter.new reply)) }
+        ensures lost { OnErr result (submitter.new.waiting ≡ None) }
+    {
+        submitter.take(rt, &mut self.reader)
+    }
+}

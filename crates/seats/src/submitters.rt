@@ -1,0 +1,208 @@
+//! Seats at which a call is sent, and its reply is taken later.
+ghost use Rattle.std.specs.Prelude.{◌≡◌, IfOk, OnOk, MatchResult};
+ghost use Rattle.faces.specs.Courses.{IsLater};
+ghost use Rattle.seats.specs.Submitters.{IsReplyAt, is_reply_at, stage_of};
+
+use rail::{Reader, Seat, Told};
+use serving::CallFault;
+use std::marker::Model;
+use std::sync::Wait;
+use table::{Call, Reply};
+
+/// What waits at a seat.
+#[derive(Clone, Copy, Debug, PartialEq, Eq)]
+pub enum Stage {
+    /// No call.
+    Free,
+    /// A read, whose reply is an item, or none.
+    Read,
+    /// An update, whose reply is anything else.
+    Update,
+    /// No call any more, ever.
+    Lost,
+}
+
+/// A seat with at most one open call: `submit` sends it, and `take` takes its reply once that stands there. Contracts
+/// see the seat with the calls that have their replies, the open call, and whether it is lost (`Submitting`). Once it
+/// is lost, nothing is sent or answered any more.
+#[derive(Drop)]
+pub struct Submitter {
+    seat: Seat,
+    stage: Stage,
+}
+
+impl Model for Submitter {
+    ghost use Rattle.std.specs.Coded.{codes};
+    ghost use Rattle.logbook.specs.Pages.{book_coded};
+    ghost use Rattle.versions.specs.Stores.{coded_items};
+    ghost use Rattle.seats.specs.Submitters.{Submitting, IsOpen, submitting};
+
+    ghost Value = { Submitting };
+
+    ghost coded = { Prim.hlevel (codes, coded_items, book_coded) };
+
+    ghost view = { λ s. submitting s.stage s.seat };
+
+    ghost invariant = { λ s. IsOpen s.stage s.seat };
+}
+
+impl Submitter {
+    ghost use Rattle.std.specs.Prelude.{◌≡◌, true, None, Some, Option, IsSome};
+    ghost use Rattle.std.specs.Prelude.{OnOk, OnErr, IfOk, IsErr, MatchBool, MatchOption};
+    ghost use Rattle.node.specs.Lawful.{IsCall};
+    ghost use Rattle.faces.specs.Courses.{IsLater};
+    ghost use Rattle.seats.specs.Submitters.{IsAnswered, all_sent, unused};
+
+    /// A seat at which no call is open.
+    pub fn new(seat: Seat) -> Submitter
+        ensures { result ≡ unused seat }
+    {
+        Submitter {
+            seat,
+            stage: Stage::Free,
+        }
+    }
+
+    /// Whether no call is open, so that one may be submitted.
+    pub fn is_free(&self) -> bool
+        ensures { MatchBool result (self.now.waiting ≡ None) (IsSome self.now.waiting) }
+    {
+        match self.stage {
+            Stage::Free => true,
+            Stage::Read => false,
+            Stage::Update => false,
+            Stage::Lost => true,
+        }
+    }
+
+    /// Whether nothing is sent or answered any more.
+    pub fn is_lost(&self) -> bool
+        ensures { result ≡ self.now.lost }
+    {
+        matches!(self.stage, Stage::Lost)
+    }
+
+    /// Sends a call, which is open from then on. Refused if the worker is gone, or it is lost: nothing was sent then,
+    /// and every later call is refused too. It may wait, if the server's queue is full.
+    pub fn submit<R: Wait>(&mut self, rt: &R, call: Call) -> Result<(), CallFault>
+        requires call { IsCall call }
+        requires free { self.old.waiting ≡ None }
+        ensures sent { OnOk result (self.new ≡ record self.old { waiting = Some call }) }
+        ensures err { OnErr result (self.new ≡ record self.old { lost = true }) }
+        ensures spent { self.old.lost ≡ true → IsErr result }
+    {
+        if let Stage::Lost = self.stage {
+            return Err(CallFault);
+        }
+        let stage = stage_of(&call);
+        if self.seat.submit(rt, call).is_err() {
+            self.stage = Stage::Lost;
+            return Err(CallFault);
+        }
+        self.stage = stage;
+        Ok(())
+    }
+
+    /// The reply to the open call, if it stands there; the reader has then seen all that the server had published by
+    /// then. None if it isn't there yet, or no call is open. Refused if the worker is gone or stopped, if the reply
+    /// isn't one to such a call, or if it is lost. After a refusal it is lost, and no call is open. It waits for
+    /// nobody.
+    pub fn take<R: Wait>(&mut self, rt: &R, reader: &mut Reader) -> Result<Option<Reply>, CallFault>
+        requires together { self.old.seat.origin ≡ reader.old.origin }
+        ensures together { self.new.seat.origin ≡ reader.new.origin }
+        ensures later { IsLater reader.old reader.new }
+        ensures taken { IfOk result (λ found. MatchOption found
+            ((self.new ≡ self.old) × (reader.new ≡ reader.old))
+            (λ reply. IsAnswered reader.old reader.new self.old self.new reply)) }
+        ensures lost { OnErr result ((self.new.lost ≡ true) × (self.new.waiting ≡ None)) }
+        // Nothing more was sent.
+        ensures sent { all_sent self.new ≡ all_sent self.old }
+        ensures spent { self.old.lost ≡ true → IsErr result }
+    {
+        match self.stage {
+            Stage::Free => return Ok(None),
+            Stage::Lost => return Err(CallFault),
+            Stage::Read | Stage::Update => {}
+        }
+        match self.seat.reply_if_any(rt) {
+            Ok(None) => Ok(None),
+            Ok(Some((reply, told))) => {
+                let reply = hear(&mut self.stage, reader, reply, told)?;
+                Ok(Some(reply))
+            }
+            Err(_) => {
+                self.stage = Stage::Lost;
+                Err(CallFault)
+            }
+        }
+    }
+
+    /// The same, but it waits for the reply to the open call.
+    pub fn wait<R: Wait>(&mut self, rt: &R, reader: &mut Reader) -> Result<Reply, CallFault>
+        requires together { self.old.seat.origin ≡ reader.old.origin }
+        requires waits { IsSome self.old.waiting }
+        ensures together { self.new.seat.origin ≡ reader.new.origin }
+        ensures later { IsLater reader.old reader.new }
+        ensures taken { IfOk result (λ reply. IsAnswered reader.old reader.new self.old self.new reply) }
+        ensures lost { OnErr result ((self.new.lost ≡ true) × (self.new.waiting ≡ None)) }
+        ensures sent { all_sent self.new ≡ all_sent self.old }
+    {
+        match self.seat.reply(rt) {
+            Ok((reply, told)) => {
+                let reply = hear(&mut self.stage, reader, reply, told)?;
+                Ok(reply)
+            }
+            Err(_) => {
+                self.stage = Stage::Lost;
+                Err(CallFault)
+            }
+        }
+    }
+}
+
+// What is open once a call is sent.
+fn stage_of(call: &Call) -> Stage
+    ensures { result ≡ stage_of call.now }
+{
+    if call.op.is_update() {
+        Stage::Update
+    } else {
+        Stage::Read
+    }
+}
+
+// Takes a reply to the open call, and learns what comes with it. Refused if it isn't one to such a call.
+fn hear(
+    stage: &mut Stage,
+    reader: &mut Reader,
+    reply: Reply,
+    told: Told,
+) -> Result<Reply, CallFault>
+    requires server { told.origin ≡ reader.old.origin }
+    ensures later { IsLater reader.old reader.new }
+    ensures told { IsLater told reader.new }
+    ensures reply { IfOk result (λ given. given ≡ reply) }
+    ensures kind { OnOk result (IsReplyAt stage.old reply) }
+    ensures stage { MatchResult result (λ _. stage.new ≡ Stage.Free) (λ _. stage.new ≡ Stage.Lost) }
+{
+    reader.learn(told);
+    if is_reply_at(*stage, &reply) {
+        *stage = Stage::Free;
+        Ok(reply)
+    } else {
+        *stage = Stage::Lost;
+        Err(CallFault)
+    }
+}
+
+// Whether a reply is one to such a call.
+fn is_reply_at(stage: Stage, reply: &Reply) -> bool
+    ensures { result ≡ is_reply_at stage reply.now }
+{
+    let shows = matches!(reply, Reply::Value(_));
+    match stage {
+        Stage::Read => shows,
+        Stage::Update => !shows,
+        Stage::Free | Stage::Lost => false,
+    }
+}

@@ -1,0 +1,426 @@
+//! A connection at a server's seats, without a thread: each of its calls is refused or answered by a look at once, or
+//! sent at a seat, whose reply is taken later.
+ghost use Rattle.std.specs.Prelude.{◌≡◌, true, IfOk, IsTrue, MatchOption, OnErr, OnOk};
+ghost use Rattle.proto.specs.Turns.{Outcome, Refused, Replied, is_store};
+ghost use Rattle.faces.specs.Courses.{IsLater};
+ghost use Rattle.serving.specs.Connections.{HasOutcome, MayHave, MayRefuse};
+ghost use Rattle.serving.specs.Serving.{CameTo};
+ghost use Rattle.serving.specs.Wanted.{IsAsking};
+ghost use Rattle.seats.specs.declared.talks.Standing.TheVariants.{Idle, Over, Unsent};
+ghost use Rattle.seats.specs.declared.talks.Went.TheVariants.{Seat};
+ghost use Rattle.seats.specs.Talks.{HoldsFree, IsReplied};
+
+use crate::seat_pools::SeatPool;
+use crate::submitters::Submitter;
+use rail::Told;
+use serving::{Connection, End, ServeFault, Wants, stores};
+use std::alloc::{AllocError, Global};
+use std::marker::Model;
+use std::mem;
+use std::sync::Wait;
+use table::{Call, Reply};
+
+/// How far a talk went.
+#[derive(Clone, Copy, Debug, PartialEq, Eq)]
+pub enum Went {
+    /// All is answered and written: it wants input.
+    Input,
+    /// It wants that output is written.
+    Write,
+    /// Its call waits for a free seat.
+    Seat,
+    /// Its call was sent, and its reply isn't here yet.
+    Reply,
+    /// It made as many calls as it may in one go, and can go on.
+    More,
+    /// All is answered and written, and nothing more is wanted.
+    End(End),
+}
+
+/// Where a talk stands.
+#[derive(Drop)]
+pub enum Standing {
+    /// No call waits.
+    Idle,
+    /// It wants input.
+    Reading,
+    /// This call waits for a seat.
+    Unsent(Call),
+    /// The call that waits is open at this seat.
+    Sent(Submitter),
+    /// A call got no reply, or memory was refused: no further call is made.
+    Over,
+}
+
+/// So many calls are answered by looks or refused at most in one go, so that others' connections aren't held for long.
+pub const MOST_CALLS: usize = 32;
+
+/// A connection at a server's seats: it is fed with input, makes the calls of that, one after another, and says what it
+/// waits for. Contracts see the connection, where it stands, and what its reader had seen at first and when its last
+/// call had its reply (`Talking`).
+#[derive(Drop)]
+pub struct Talk {
+    connection: Connection,
+    standing: Standing,
+    first: Told,
+    seen: Told,
+}
+
+impl Model for Talk {
+    ghost use Rattle.std.specs.Coded.{codes};
+    ghost use Rattle.logbook.specs.Pages.{book_coded};
+    ghost use Rattle.table.specs.Items.{coded_item};
+    ghost use Rattle.versions.specs.Stores.{coded_items};
+    ghost use Rattle.seats.specs.Talks.{Talking, IsTalk};
+
+    ghost Value = { Talking };
+
+    ghost coded = { Prim.hlevel (codes, coded_item, coded_items, book_coded) };
+
+    ghost view = { λ t. record {
+      connected = t.connection;
+      standing = t.standing;
+      first = t.first;
+      seen = t.seen;
+    } };
+
+    ghost invariant = { λ t. IsTalk t.connection t.standing t.first t.seen };
+}
+
+impl Talk {
+    ghost use Rattle.std.specs.Prelude.{◌≡◌, ◌≤◌, ◌↔◌, ◌++◌, ℕ, List, [], true, take, drop, length};
+    ghost use Rattle.std.specs.Prelude.{OnOk, OnErr, IfOk, IsErr, IfSome, IsTrue, MatchBool, MatchOption};
+    ghost use Rattle.faces.specs.Courses.{IsLater};
+    ghost use Rattle.serving.specs.Connections.{IsBegun};
+    ghost use Rattle.serving.specs.Serving.{AreAnswered};
+    ghost use Rattle.seats.specs.Talks.{HasGone, HoldsStore, IsFurther, IsReplied, StandsAt, begun, fed};
+    ghost use Rattle.seats.specs.declared.talks.Standing.TheVariants.{Idle, Reading, Over};
+
+    /// The talk of a connection of which nothing was read. It allocates nothing.
+    pub fn new(alloc: Global, pool: &SeatPool) -> Talk
+        ensures { result ≡ begun pool.now }
+    {
+        Talk {
+            connection: Connection::new(alloc),
+            standing: Standing::Idle,
+            first: pool.tell(),
+            seen: pool.tell(),
+        }
+    }
+
+    /// Whatever was done: the calls are the first ones of the bytes that were read, each with what it came to, and what
+    /// was written, with what is due, is a beginning of what is due for them. Each call came to something, in order: to
+    /// the reply of a clean look, or the server's, and each of these has seen what the one before it had seen; or to a
+    /// refusal, if it stores, which leaves what was seen as it was.
+    pub fn so_far(&self)
+        ensures begun { (more : List ℕ) → IsBegun self.now.connected (self.now.connected.read ++ more) }
+        ensures answered { AreAnswered IsReplied self.now.first self.now.connected.calls self.now.connected.outcomes
+            self.now.seen }
+        ensures stands { StandsAt self.now.standing self.now.connected self.now.seen.origin }
+    {
+        self.connection.so_far();
+    }
+
+    /// Whether it wants input.
+    pub fn wants_input(&self) -> bool
+        ensures { IsTrue result ↔ (self.now.standing ≡ Reading) }
+    {
+        matches!(self.standing, Standing::Reading)
+    }
+
+    /// Takes a piece of input, which is copied once. Refused if memory is out, and then the piece counts as not read.
+    pub fn feed(&mut self, piece: &[u8]) -> Result<(), AllocError>
+        requires reads { self.old.standing ≡ Reading }
+        ensures ok { OnOk result (self.new ≡ fed self.old piece.now) }
+        ensures err { OnErr result (self.new ≡
+            record self.old { connected = record self.old.connected { failed = true } }) }
+    {
+        self.connection.feed(piece)?;
+        self.standing = Standing::Idle;
+        Ok(())
+    }
+
+    /// The input has ended.
+    pub fn input_ended(&mut self)
+        requires reads { self.old.standing ≡ Reading }
+        ensures { self.new ≡
+            record self.old { connected = record self.old.connected { ended = true }; standing = Idle } }
+    {
+        self.connection.input_ended();
+        self.standing = Standing::Idle;
+    }
+
+    /// Goes on as far as it can: it makes the calls of what was read, one after another, each by a look at once, or at
+    /// a free seat of the pool, until it waits for something. A call that stores is refused while the pool has no room,
+    /// and isn't made then. A call gets no reply if the server is marked or gone. After a fault no further call is
+    /// made, and it answers a fault from then on; what is due may still be written.
+    pub fn go<R: Wait>(&mut self, rt: &R, pool: &mut SeatPool) -> Result<Went, ServeFault>
+        requires known { IsLater self.old.seen pool.old }
+        ensures known { IsLater self.new.seen pool.new }
+        ensures later { IsLater pool.old pool.new }
+        ensures first { self.new.first ≡ self.old.first }
+        ensures further { IsFurther self.old.connected self.new.connected }
+        ensures went { IfOk result (λ went. HasGone went self.new) }
+        ensures over { OnErr result (self.new.standing ≡ Over) }
+        ensures spent { self.old.standing ≡ Over → IsErr result × (self.new ≡ self.old) × (pool.new ≡ pool.old) }
+    {
+        match &self.standing {
+            Standing::Idle => self.go_on(rt, pool),
+            Standing::Reading => Ok(Went::Input),
+            Standing::Unsent(call) => {
+                if is_refused(pool, call) {
+                    self.pass_over(rt, pool)
+                } else {
+                    self.send(rt, pool)
+                }
+            }
+            Standing::Sent(_) => Ok(Went::Reply),
+            Standing::Over => Err(ServeFault::Call),
+        }
+    }
+
+    /// Takes the reply to the call that was sent, if it has come, and says whether it did: no call waits then, and its
+    /// seat is free.
+    pub fn hear<R: Wait>(&mut self, rt: &R, pool: &mut SeatPool) -> Result<bool, ServeFault>
+        requires known { IsLater self.old.seen pool.old }
+        ensures known { IsLater self.new.seen pool.new }
+        ensures later { IsLater pool.old pool.new }
+        ensures first { self.new.first ≡ self.old.first }
+        ensures further { IsFurther self.old.connected self.new.connected }
+        ensures heard { IfOk result (λ heard. MatchBool heard (self.new.standing ≡ Idle) (self.new ≡ self.old)) }
+        ensures over { OnErr result (self.new.standing ≡ Over) }
+    {
+        let Standing::Sent(submitter) = &mut self.standing else {
+            return Ok(false);
+        };
+        match pool.take_reply(rt, submitter) {
+            Ok(None) => Ok(false),
+            Ok(Some(reply)) => {
+                give_back(&mut self.standing, pool);
+                hand_on(&mut self.connection, &mut self.seen, pool, reply)?;
+                self.standing = Standing::Idle;
+                Ok(true)
+            }
+            Err(_) => {
+                give_back(&mut self.standing, pool);
+                Err(ServeFault::Call)
+            }
+        }
+    }
+
+    /// The output that is due.
+    pub fn output(&self) -> &[u8]
+        ensures { result.now ≡ self.now.connected.due }
+    {
+        self.connection.output()
+    }
+
+    /// The first n bytes of the output were written.
+    pub fn written(&mut self, n: usize)
+        requires { n ≤ length self.old.connected.due }
+        ensures { self.new ≡ record self.old {
+          connected = record self.old.connected {
+            due = drop n self.old.connected.due;
+            written = self.old.connected.written ++ take n self.old.connected.due;
+          };
+        } }
+    {
+        self.connection.written(n);
+    }
+
+    /// Ends it. Its seat, if it has one, goes back to the pool, which takes the reply that nobody waits for any more.
+    pub fn leave(self, pool: &mut SeatPool)
+        requires known { IsLater self.seen pool.old }
+        ensures { pool.new ≡ pool.old }
+    {
+        let standing = self.standing;
+        if let Standing::Sent(submitter) = standing {
+            pool.leave(submitter);
+        }
+    }
+
+    // Makes calls while no call waits.
+    fn go_on<R: Wait>(&mut self, rt: &R, pool: &mut SeatPool) -> Result<Went, ServeFault>
+        requires idle { self.old.standing ≡ Idle }
+        requires known { IsLater self.old.seen pool.old }
+        ensures known { IsLater self.new.seen pool.new }
+        ensures later { IsLater pool.old pool.new }
+        ensures first { self.new.first ≡ self.old.first }
+        ensures further { IsFurther self.old.connected self.new.connected }
+        ensures went { IfOk result (λ went. HasGone went self.new) }
+        ensures over { OnErr result (self.new.standing ≡ Over) }
+    {
+        for _ in 0..MOST_CALLS {
+            match self.step(pool)? {
+                None => {}
+                Some(Went::Seat) => return self.send(rt, pool),
+                Some(went) => return Ok(went),
+            }
+        }
+        Ok(Went::More)
+    }
+
+    // Refuses the call that waits for a seat, and goes on.
+    fn pass_over<R: Wait>(&mut self, rt: &R, pool: &mut SeatPool) -> Result<Went, ServeFault>
+        requires store { HoldsStore self.old.standing }
+        requires known { IsLater self.old.seen pool.old }
+        ensures known { IsLater self.new.seen pool.new }
+        ensures later { IsLater pool.old pool.new }
+        ensures first { self.new.first ≡ self.old.first }
+        ensures further { IsFurther self.old.connected self.new.connected }
+        ensures went { IfOk result (λ went. HasGone went self.new) }
+        ensures over { OnErr result (self.new.standing ≡ Over) }
+    {
+        refuse(&mut self.connection, &mut self.standing)?;
+        self.go_on(rt, pool)
+    }
+
+    // The connection's next step. None if it was a call that a look answered, or that was refused.
+    fn step(&mut self, pool: &mut SeatPool) -> Result<Option<Went>, ServeFault>
+        requires idle { self.old.standing ≡ Idle }
+        requires known { IsLater self.old.seen pool.old }
+        ensures known { IsLater self.new.seen pool.new }
+        ensures later { IsLater pool.old pool.new }
+        ensures first { self.new.first ≡ self.old.first }
+        ensures further { IsFurther self.old.connected self.new.connected }
+        ensures went { IfOk result
+            (λ found. MatchOption found (self.new.standing ≡ Idle) (λ went. HasGone went self.new)) }
+        ensures over { OnErr result (self.new.standing ≡ Over) }
+    {
+        match self.connection.next() {
+            Ok(Wants::Call(target, op)) => ask(
+                &mut self.connection,
+                &mut self.standing,
+                &mut self.seen,
+                pool,
+                Call { target, op },
+            ),
+            Ok(Wants::Write) => Ok(Some(Went::Write)),
+            Ok(Wants::Read) => {
+                self.standing = Standing::Reading;
+                Ok(Some(Went::Input))
+            }
+            Ok(Wants::End(end)) => Ok(Some(Went::End(end))),
+            Err(_) => {
+                self.standing = Standing::Over;
+                Err(ServeFault::Memory)
+            }
+        }
+    }
+
+    // Sends the call that waits at a free seat, if there is one.
+    fn send<R: Wait>(&mut self, rt: &R, pool: &mut SeatPool) -> Result<Went, ServeFault>
+        requires unsent { HasGone Went.Seat self.old }
+        requires known { IsLater self.old.seen pool.old }
+        ensures same { self.new ≡ record self.old { standing = self.new.standing } }
+        ensures pool { pool.new ≡ pool.old }
+        ensures went { IfOk result (λ went. HasGone went self.new) }
+        ensures over { OnErr result (self.new.standing ≡ Over) }
+    {
+        let Some(submitter) = pool.take_free() else {
+            return Ok(Went::Seat);
+        };
+        match mem::replace(&mut self.standing, Standing::Over) {
+            Standing::Unsent(call) => {
+                let mut submitter = submitter;
+                if submitter.submit(rt, call).is_err() {
+                    pool.put(submitter);
+                    return Err(ServeFault::Call);
+                }
+                self.standing = Standing::Sent(submitter);
+                Ok(Went::Reply)
+            }
+            _ => unreachable!(),
+        }
+    }
+}
+
+// Whether a call is to be refused: it stores, and the pool has no room.
+fn is_refused(pool: &SeatPool, call: &Call) -> bool
+    ensures { IsTrue result → is_store call.now.op ≡ true }
+{
+    stores(&call.op) && !pool.has_room()
+}
+
+// Refuses the call that waits.
+fn refuse(connection: &mut Connection, standing: &mut Standing) -> Result<(), ServeFault>
+    requires may_refuse { MayRefuse connection.old.waiting }
+    ensures ok { OnOk result (HasOutcome Refused connection.old connection.new × (standing.new ≡ Idle)) }
+    ensures err { OnErr result ((standing.new ≡ Over) ×
+        (connection.new ≡ record connection.old { failed = connection.new.failed })) }
+{
+    *standing = Standing::Over;
+    connection.refuse()?;
+    *standing = Standing::Idle;
+    Ok(())
+}
+
+// Has the call that waits answered by a look, or refuses it: then it isn't looked at. If neither comes of it, it waits
+// for a seat.
+fn ask(
+    connection: &mut Connection,
+    standing: &mut Standing,
+    seen: &mut Told,
+    pool: &mut SeatPool,
+    call: Call,
+) -> Result<Option<Went>, ServeFault>
+    requires asking { IsAsking call.target call.op connection.old }
+    requires known { IsLater seen.old pool.old }
+    ensures known { IsLater seen.new pool.new }
+    ensures later { IsLater pool.old pool.new }
+    ensures ok { IfOk result (λ found. MatchOption found
+        ((outcome : Outcome) × CameTo IsReplied seen.old call outcome seen.new ×
+        HasOutcome outcome connection.old connection.new × (standing.new ≡ Idle))
+        (λ went. (went ≡ Seat) × (standing.new ≡ Unsent call) × (connection.new ≡ connection.old) ×
+        (seen.new ≡ seen.old))) }
+    ensures err { OnErr result ((standing.new ≡ Over) × (seen.new ≡ seen.old) ×
+        (connection.new ≡ record connection.old { failed = connection.new.failed })) }
+{
+    if is_refused(pool, &call) {
+        refuse(connection, standing)?;
+        return Ok(None);
+    }
+    match pool.peek(&call) {
+        Ok(Some(reply)) => {
+            *standing = Standing::Over;
+            hand_on(connection, seen, pool, reply)?;
+            *standing = Standing::Idle;
+            Ok(None)
+        }
+        Ok(None) => {
+            *standing = Standing::Unsent(call);
+            Ok(Some(Went::Seat))
+        }
+        Err(_) => {
+            *standing = Standing::Over;
+            Err(ServeFault::Call)
+        }
+    }
+}
+
+// Hands on the reply to the call that waits, which was taken, or found by a look, at this pool.
+fn hand_on(
+    connection: &mut Connection,
+    seen: &mut Told,
+    pool: &SeatPool,
+    reply: Reply,
+) -> Result<(), ServeFault>
+    requires may_have { MayHave connection.old.waiting reply }
+    ensures ok { OnOk result (HasOutcome (Replied reply) connection.old connection.new × (seen.new ≡ pool.now)) }
+    ensures err { OnErr result ((seen.new ≡ seen.old) × (connection.new ≡ record connection.old { failed = true })) }
+{
+    connection.answer(&reply)?;
+    *seen = pool.tell();
+    Ok(())
+}
+
+// Gives the seat back to the pool, if it has one.
+fn give_back(standing: &mut Standing, pool: &mut SeatPool)
+    requires { HoldsFree pool.old.origin standing.old }
+    ensures standing { standing.new ≡ Over }
+    ensures pool { pool.new ≡ pool.old }
+{
+    if let Standing::Sent(submitter) = mem::replace(standing, Standing::Over) {
+        pool.put(submitter);
+    }
+}
