@@ -97,9 +97,9 @@ class Process:
                 return int(line.split()[1])
         raise Wrong(f"no {name} of process {self.id}")
 
-    def files(self):
-        """How many files it has open."""
-        return len(os.listdir(f"/proc/{self.id}/fd"))
+    def highest_file(self):
+        """The greatest number of a file that it has open."""
+        return max(map(int, os.listdir(f"/proc/{self.id}/fd")))
 
     def end(self):
         """Kills it, if it still runs."""
