@@ -16,6 +16,14 @@ fn item(alloc: Global, flags: u32, data: &[u8], unique: u64) -> Result<Item, Fai
     })
 }
 
+// Whether these bytes make a key of the same bytes, or none.
+fn is_key(alloc: Global, bytes: &[u8], wanted: bool) -> Result<bool, Fail> {
+    match Key::new(alloc, bytes)? {
+        Some(key) => Ok(wanted && key.bytes() == bytes),
+        None => Ok(!wanted),
+    }
+}
+
 #[test]
 fn a_key_has_1_to_250_bytes_and_no_blank(rt: HostRuntime) -> Result<(), Fail> {
     let long = vec![in rt.alloc(); b'k'; 251]?;
@@ -30,13 +38,7 @@ fn a_key_has_1_to_250_bytes_and_no_blank(rt: HostRuntime) -> Result<(), Fail> {
         (&[33, 126, 128, 255], true),
     ];
     for (bytes, wanted) in rows {
-        match Key::new(rt.alloc(), bytes)? {
-            Some(key) => {
-                assert!(rt; wanted);
-                assert_eq!(rt; key.bytes(), bytes);
-            }
-            None => assert!(rt; !wanted),
-        }
+        assert!(rt; is_key(rt.alloc(), bytes, wanted)?);
     }
     Ok(())
 }
@@ -47,11 +49,16 @@ fn set_of_size(alloc: Global, size: usize) -> Result<Op, Fail> {
     set(alloc, 0, data.as_slice())
 }
 
+fn fits_at(alloc: Global, size: usize) -> Result<bool, Fail> {
+    let op = set_of_size(alloc, size)?;
+    Ok(op.fits())
+}
+
 #[test]
 fn data_may_have_one_mebibyte(rt: HostRuntime) -> Result<(), Fail> {
     assert!(rt; Op::Read.fits());
-    assert!(rt; set_of_size(rt.alloc(), LIMIT)?.fits());
-    assert!(rt; !set_of_size(rt.alloc(), LIMIT + 1)?.fits());
+    assert!(rt; fits_at(rt.alloc(), LIMIT)?);
+    assert!(rt; !fits_at(rt.alloc(), LIMIT + 1)?);
     Ok(())
 }
 
@@ -81,31 +88,83 @@ fn asked(table: &mut Table, target: &Target, op: &Op) -> Result<Reply, Fail> {
     Ok(table.call(target, op)?)
 }
 
+// What a read shows of a key.
+fn shown_at(
+    alloc: Global,
+    table: &mut Table,
+    key: &[u8],
+) -> Result<Option<(u32, usize, u64)>, Fail> {
+    let reply = call(alloc, table, key, &Op::Read)?;
+    Ok(shown(&reply))
+}
+
+fn has_nothing(alloc: Global, table: &mut Table, key: &[u8]) -> Result<bool, Fail> {
+    let reply = call(alloc, table, key, &Op::Read)?;
+    Ok(matches!(reply, Reply::Value(None)))
+}
+
+fn stores(alloc: Global, table: &mut Table, key: &[u8], op: &Op) -> Result<bool, Fail> {
+    let reply = call(alloc, table, key, op)?;
+    Ok(is_stored(&reply))
+}
+
+// Whether a set with flags 5 and three bytes is stored, and then shown with this unique.
+fn numbers_a_set(
+    alloc: Global,
+    table: &mut Table,
+    key: &[u8],
+    op: &Op,
+    unique: u64,
+) -> Result<bool, Fail> {
+    Ok(stores(alloc, table, key, op)? && shown_at(alloc, table, key)? == Some((5, 3, unique)))
+}
+
+fn numbers_three_sets(alloc: Global, table: &mut Table, op: &Op) -> Result<bool, Fail> {
+    Ok(
+        has_nothing(alloc, table, b"a")?
+            && numbers_a_set(alloc, table, b"a", op, 1)?
+            && numbers_a_set(alloc, table, b"b", op, 2)?
+            && numbers_a_set(alloc, table, b"a", op, 3)?,
+    )
+}
+
+fn new_table_numbers_sets(alloc: Global) -> Result<bool, Fail> {
+    let op = set(alloc, 5, b"xyz")?;
+    let mut table = Table::new(alloc);
+    numbers_three_sets(alloc, &mut table, &op)
+}
+
 #[test]
 fn a_table_numbers_its_updates(rt: HostRuntime) -> Result<(), Fail> {
-    let mut table = Table::new(rt.alloc());
-    let op = set(rt.alloc(), 5, b"xyz")?;
-    let empty = call(rt.alloc(), &mut table, b"a", &Op::Read)?;
-    assert!(rt; matches!(empty, Reply::Value(None)));
-    for (key, unique) in [(b"a", 1), (b"b", 2), (b"a", 3)] {
-        let reply = call(rt.alloc(), &mut table, key, &op)?;
-        assert!(rt; is_stored(&reply));
-        let reply = call(rt.alloc(), &mut table, key, &Op::Read)?;
-        assert_eq!(rt; shown(&reply), Some((5, 3, unique)));
-    }
+    assert!(rt; new_table_numbers_sets(rt.alloc())?);
     Ok(())
+}
+
+// Whether a set of a key without an item is stored, and puts this item as number 7.
+fn puts(alloc: Global, op: &Op, item: &Item) -> Result<bool, Fail> {
+    let (reply, change) = decided(alloc, op, None, 7)?;
+    Ok(is_stored(&reply) && matches!(&change, Change::Put(put) if put == item))
+}
+
+// Whether a read of a key with an item of flags 5, three bytes and unique 7 shows it, and keeps it.
+fn shows(alloc: Global, item: &Item) -> Result<bool, Fail> {
+    let (reply, change) = decided(alloc, &Op::Read, Some(item), 8)?;
+    Ok(shown(&reply) == Some((5, 3, 7)) && matches!(change, Change::Keep))
+}
+
+fn puts_item(alloc: Global, item: &Item) -> Result<bool, Fail> {
+    let op = set(alloc, 5, b"xyz")?;
+    puts(alloc, &op, item)
+}
+
+fn puts_and_shows_item(alloc: Global) -> Result<bool, Fail> {
+    let item = item(alloc, 5, b"xyz", 7)?;
+    Ok(puts_item(alloc, &item)? && shows(alloc, &item)?)
 }
 
 #[test]
 fn a_decision_puts_and_shows_an_item(rt: HostRuntime) -> Result<(), Fail> {
-    let op = set(rt.alloc(), 5, b"xyz")?;
-    let item = item(rt.alloc(), 5, b"xyz", 7)?;
-    let (reply, change) = decided(rt.alloc(), &op, None, 7)?;
-    assert!(rt; is_stored(&reply));
-    assert!(rt; change == Change::Put(item.clone()?));
-    let (reply, change) = decided(rt.alloc(), &Op::Read, Some(&item), 8)?;
-    assert_eq!(rt; shown(&reply), Some((5, 3, 7)));
-    assert!(rt; change == Change::Keep);
+    assert!(rt; puts_and_shows_item(rt.alloc())?);
     Ok(())
 }
 
@@ -125,15 +184,75 @@ fn block(alloc: Global, data: &[u8]) -> Result<Bytes, Fail> {
     Ok(Bytes::copy_from_slice(alloc, data)?)
 }
 
-// A table after these operations on the key `a`, each with the reply that it must have.
-fn after(alloc: Global, rows: Vec<(Op, Reply)>) -> Result<Table, Fail> {
-    let mut table = Table::new(alloc);
-    for (op, wanted) in rows {
-        if call(alloc, &mut table, b"a", &op)? != wanted {
-            return Err("another reply".into());
-        }
+// Which reply comes, without an item.
+#[derive(Clone, Copy, PartialEq, Eq)]
+enum Answer {
+    Stored,
+    NotStored,
+    NotFound,
+    Deleted,
+    TooLarge,
+    Nothing,
+    Other,
+}
+
+fn answer_of(reply: &Reply) -> Answer {
+    match reply {
+        Reply::Stored => Answer::Stored,
+        Reply::NotStored => Answer::NotStored,
+        Reply::NotFound => Answer::NotFound,
+        Reply::Deleted => Answer::Deleted,
+        Reply::TooLarge => Answer::TooLarge,
+        Reply::Value(None) => Answer::Nothing,
+        _ => Answer::Other,
     }
-    Ok(table)
+}
+
+// Whether an operation on the key `a` is answered so.
+fn answers(alloc: Global, table: &mut Table, op: &Op, wanted: Answer) -> Result<bool, Fail> {
+    let reply = call(alloc, table, b"a", op)?;
+    Ok(answer_of(&reply) == wanted)
+}
+
+fn sets(alloc: Global, table: &mut Table, data: &[u8], wanted: Answer) -> Result<bool, Fail> {
+    let op = set(alloc, 0, data)?;
+    answers(alloc, table, &op, wanted)
+}
+
+fn adds(
+    alloc: Global,
+    table: &mut Table,
+    flags: u32,
+    data: &[u8],
+    wanted: Answer,
+) -> Result<bool, Fail> {
+    let op = Op::Add(flags, block(alloc, data)?);
+    answers(alloc, table, &op, wanted)
+}
+
+fn replaces(
+    alloc: Global,
+    table: &mut Table,
+    flags: u32,
+    data: &[u8],
+    wanted: Answer,
+) -> Result<bool, Fail> {
+    let op = Op::Replace(flags, block(alloc, data)?);
+    answers(alloc, table, &op, wanted)
+}
+
+fn appends(alloc: Global, table: &mut Table, data: &[u8], wanted: Answer) -> Result<bool, Fail> {
+    let op = Op::Append(block(alloc, data)?);
+    answers(alloc, table, &op, wanted)
+}
+
+fn prepends(alloc: Global, table: &mut Table, data: &[u8], wanted: Answer) -> Result<bool, Fail> {
+    let op = Op::Prepend(block(alloc, data)?);
+    answers(alloc, table, &op, wanted)
+}
+
+fn deletes(alloc: Global, table: &mut Table, wanted: Answer) -> Result<bool, Fail> {
+    answers(alloc, table, &Op::Delete, wanted)
 }
 
 // What is at a key: flags, data and unique.
@@ -145,51 +264,94 @@ fn holds(
     data: &[u8],
     unique: u64,
 ) -> Result<bool, Fail> {
-    let wanted = item(alloc, flags, data, unique)?;
-    Ok(call(alloc, table, key, &Op::Read)? == Reply::Value(Some(wanted)))
+    let reply = call(alloc, table, key, &Op::Read)?;
+    Ok(is_value(&reply, flags, data, unique))
+}
+
+fn is_value(reply: &Reply, flags: u32, data: &[u8], unique: u64) -> bool {
+    match reply {
+        Reply::Value(Some(item)) => item.flags == flags
+            && item.bytes.as_slice() == data
+            && item.unique == unique,
+        _ => false,
+    }
+}
+
+fn adds_and_replaces(alloc: Global, table: &mut Table) -> Result<bool, Fail> {
+    Ok(
+        replaces(alloc, table, 1, b"1", Answer::NotStored)?
+            && adds(alloc, table, 2, b"2", Answer::Stored)?
+            && adds(alloc, table, 3, b"3", Answer::NotStored)?
+            && replaces(alloc, table, 4, b"4", Answer::Stored)?
+            && holds(alloc, table, b"a", 4, b"4", 4)?,
+    )
+}
+
+fn new_table_adds_and_replaces(alloc: Global) -> Result<bool, Fail> {
+    let mut table = Table::new(alloc);
+    adds_and_replaces(alloc, &mut table)
 }
 
 #[test]
 fn add_and_replace(rt: HostRuntime) -> Result<(), Fail> {
-    let alloc = rt.alloc();
-    let rows = vec![in alloc;
-        (Op::Replace(1, block(alloc, b"1")?), Reply::NotStored),
-        (Op::Add(2, block(alloc, b"2")?), Reply::Stored),
-        (Op::Add(3, block(alloc, b"3")?), Reply::NotStored),
-        (Op::Replace(4, block(alloc, b"4")?), Reply::Stored),
-    ]?;
-    let mut table = after(alloc, rows)?;
-    assert!(rt; holds(alloc, &mut table, b"a", 4, b"4", 4)?);
+    assert!(rt; new_table_adds_and_replaces(rt.alloc())?);
     Ok(())
+}
+
+// Whether a set of so many bytes is stored.
+fn stores_size(alloc: Global, table: &mut Table, size: usize) -> Result<bool, Fail> {
+    let op = set_of_size(alloc, size)?;
+    answers(alloc, table, &op, Answer::Stored)
+}
+
+// Whether a byte fits behind an item of a byte less than the limit, and then no byte more.
+fn holds_the_limit(alloc: Global, table: &mut Table) -> Result<bool, Fail> {
+    Ok(
+        stores_size(alloc, table, LIMIT - 1)?
+            && appends(alloc, table, b"y", Answer::Stored)?
+            && appends(alloc, table, b"y", Answer::TooLarge)?
+            && prepends(alloc, table, b"y", Answer::TooLarge)?
+            && shown_at(alloc, table, b"a")? == Some((0, LIMIT, 2)),
+    )
+}
+
+fn new_table_holds_the_limit(alloc: Global) -> Result<bool, Fail> {
+    let mut table = Table::new(alloc);
+    holds_the_limit(alloc, &mut table)
 }
 
 #[test]
 fn an_item_does_not_outgrow_the_limit(rt: HostRuntime) -> Result<(), Fail> {
-    let alloc = rt.alloc();
-    let rows = vec![in alloc;
-        (set_of_size(alloc, LIMIT - 1)?, Reply::Stored),
-        (Op::Append(block(alloc, b"y")?), Reply::Stored),
-        (Op::Append(block(alloc, b"y")?), Reply::TooLarge),
-        (Op::Prepend(block(alloc, b"y")?), Reply::TooLarge),
-    ]?;
-    let mut table = after(alloc, rows)?;
-    let reply = call(alloc, &mut table, b"a", &Op::Read)?;
-    assert_eq!(rt; shown(&reply), Some((0, LIMIT, 2)));
+    assert!(rt; new_table_holds_the_limit(rt.alloc())?);
     Ok(())
+}
+
+// Whether an item is there once, and gone once it is deleted.
+fn deletes_an_item(alloc: Global, table: &mut Table) -> Result<bool, Fail> {
+    Ok(
+        deletes(alloc, table, Answer::NotFound)?
+            && sets(alloc, table, b"", Answer::Stored)?
+            && deletes(alloc, table, Answer::Deleted)?
+            && answers(alloc, table, &Op::Read, Answer::Nothing)?,
+    )
+}
+
+fn deletes_and_sets(alloc: Global, table: &mut Table) -> Result<bool, Fail> {
+    Ok(
+        deletes_an_item(alloc, table)?
+            && sets(alloc, table, b"x", Answer::Stored)?
+            && holds(alloc, table, b"a", 0, b"x", 4)?,
+    )
+}
+
+fn new_table_deletes_and_sets(alloc: Global) -> Result<bool, Fail> {
+    let mut table = Table::new(alloc);
+    deletes_and_sets(alloc, &mut table)
 }
 
 #[test]
 fn delete(rt: HostRuntime) -> Result<(), Fail> {
-    let alloc = rt.alloc();
-    let rows = vec![in alloc;
-        (Op::Delete, Reply::NotFound),
-        (set(alloc, 0, b"")?, Reply::Stored),
-        (Op::Delete, Reply::Deleted),
-        (Op::Read, Reply::Value(None)),
-        (set(alloc, 0, b"x")?, Reply::Stored),
-    ]?;
-    let mut table = after(alloc, rows)?;
-    assert!(rt; holds(alloc, &mut table, b"a", 0, b"x", 4)?);
+    assert!(rt; new_table_deletes_and_sets(rt.alloc())?);
     Ok(())
 }
 
