@@ -3,7 +3,8 @@ ghost use Rattle.std.specs.Prelude.{◌≡◌, ◌++◌, ◌∷◌, [], OnOk, On
 
 use super::clients::{answers, client, says};
 use crossbeam_channel::{Receiver, Sender, unbounded};
-use io_threads::{Desks, Elsewhere, Front, FrontSettings, Gate, open_desks, open_front};
+use io_threads::{Desks, Elsewhere, Front, FrontSettings, Gate, Pooled, open_desks, open_front};
+use mio::Poll;
 use node::Peer;
 use rail::{Inlet, Links, Published, RailFault, Worker};
 use runtime::{Opened, Rest, Shape, Surroundings, all_links, all_servers, work};
@@ -179,31 +180,88 @@ fn start_chain<
     tail: Opened<R>,
     links: InProcessLinks<R>,
 ) -> Option<HeldChain> {
-    let (mut head, mut tail) = (head, tail);
-    let to_head = head.pooled.inlets.pop()?;
-    let to_tail = tail.pooled.inlets.pop()?;
     let (desks, polls) = open_desks(&rt, alloc, 1).ok()?;
     let desks = Arc::new(alloc, desks).ok()?;
     let (sender, barrier) = unbounded(alloc).ok()?;
-    let mut workers = Vec::new(alloc);
     let held = Barrier {
         rt,
         kept: sender,
         put: Vec::new(alloc),
     };
-    let at_head = surroundings(alloc, 0, &head.failed, head.gauge, &desks)?;
-    workers
-        .push(start_worker(rt, head.pooled.worker, held, at_head)?)
-        .ok()?;
-    let at_tail = surroundings(alloc, 1, &tail.failed, tail.gauge, &desks)?;
-    workers
-        .push(start_worker(rt, tail.pooled.worker, links, at_tail)?)
-        .ok()?;
+    let head = start_server(rt, alloc, 0, head, held, &desks)?;
+    let tail = start_server(rt, alloc, 1, tail, links, &desks)?;
     let listener = TcpListener::bind(&rt, (Ipv4Addr::LOCALHOST, 0)).ok()?;
+    open_head(rt, alloc, listener, &desks, polls, head, tail, barrier)
+}
+
+// A server whose worker's thread was started.
+#[derive(Drop)]
+struct Started {
+    thread: JoinHandle<Rest>,
+    inlet: Inlet,
+    pools: Vec<SeatPool>,
+    failed: Mark,
+}
+
+// Starts the thread of the worker of server `id`.
+fn start_server<R: Wait + Threads + Copy + Drop + Send + 'static, L: Links + Drop + Send + 'static>(
+    rt: R,
+    alloc: Global,
+    id: u8,
+    server: Opened<R>,
+    links: L,
+    desks: &Arc<Desks, Global>,
+) -> Option<Started> {
+    let Opened {
+        pooled,
+        failed,
+        gauge,
+    } = server;
+    let Pooled {
+        worker,
+        pools,
+        mut inlets,
+    } = pooled;
+    let inlet = inlets.pop()?;
+    let around = surroundings(alloc, id, &failed, gauge, desks)?;
+    let thread = start_worker(rt, worker, links, around)?;
+    Some(Started {
+        thread,
+        inlet,
+        pools,
+        failed,
+    })
+}
+
+// Serves the head's clients, who connect here.
+fn open_head<R: Wait + Threads + Net + Copy + Drop + Send + 'static>(
+    rt: R,
+    alloc: Global,
+    listener: TcpListener,
+    desks: &Arc<Desks, Global>,
+    polls: Vec<Poll>,
+    head: Started,
+    tail: Started,
+    barrier: Receiver<Kept>,
+) -> Option<HeldChain> {
+    let Started {
+        thread: at_head,
+        inlet: to_head,
+        pools,
+        failed,
+    } = head;
+    let Started {
+        thread: at_tail,
+        inlet: to_tail,
+        ..
+    } = tail;
+    let mut workers = Vec::new(alloc);
+    workers.push(at_head).ok()?;
+    workers.push(at_tail).ok()?;
     let port = listener.local_addr().ok()?.port();
-    let gates = only_gate(alloc, listener, head.pooled.pools, head.failed)?;
+    let gates = only_gate(alloc, listener, pools, failed)?;
     let stations = Arc::new(alloc, Elsewhere).ok()?;
-    let front = open_front(rt, alloc, two(), &stations, &desks, polls, gates).ok()?;
+    let front = open_front(rt, alloc, two(), &stations, desks, polls, gates).ok()?;
     Some(HeldChain {
         port,
         to_head,
