@@ -4,7 +4,8 @@ use Rattle.clap.specs.Words.{App, Row, Rule, Text, first_of, new_app, with_rule}
 use Rattle.clap.specs.declared.builder.command.Command.{Command}
 use Rattle.clap.specs.declared.builder.value_parser.ValueParser.TheVariants.{Signed}
 use Rattle.command_line.specs.ClusterWords.{port_rule, servers_rule, with_serving}
-use Rattle.command_line.specs.Options.{GivesFlag, GivesNumber, GivesNumberIfAny, ReadsAs, required_rule, text_rule}
+use Rattle.command_line.specs.Options.{GivesFlag, GivesNumber, GivesNumberIfAny, ReadsAs}
+use Rattle.command_line.specs.Options.{flag_rule, number_or_rule, required_rule, text_rule}
 use Rattle.command_line.specs.declared.processes.Hosts.{Hosts}
 use Rattle.command_line.specs.declared.processes.MasterNumbers.{MasterNumbers}
 use Rattle.command_line.specs.declared.processes.ServerNumbers.{ServerNumbers}
@@ -15,6 +16,13 @@ id_rule = required_rule (codes "id") (Signed (pos 0) (pos 15))
 
 abbrev pub peer_port_rule : Rule
 peer_port_rule = required_rule (codes "peer-port") (Signed (pos 1) (pos 65520))
+
+-- `--watch` and `--beat MS`
+abbrev pub watch_rule : Rule
+watch_rule = flag_rule (codes "watch")
+
+abbrev pub beat_rule : Rule
+beat_rule = number_or_rule (codes "beat") (Signed (pos 1) (pos 3600000)) (codes "300")
 
 -- `--address A`, `--peers A0,A1,..` and `--chain NAME`
 abbrev pub address_rule : Rule
@@ -45,7 +53,7 @@ server_app =
 abbrev pub master_app : App
 master_app =
     let chain = with_rule (with_rule (new_app (codes "master")) servers_rule) peer_port_rule in
-    with_hosts chain
+    with_hosts (with_rule (with_rule chain watch_rule) beat_rule)
 
 -- the command that was found is `server`, with these numbers
 pub record NamesServer (found : Option (Text × List Row)) (numbers : ServerNumbers) : Type 0 where
@@ -67,6 +75,8 @@ pub record NamesMaster (found : Option (Text × List Row)) (numbers : MasterNumb
   pub named : found ≡ Some (codes "master", rows)
   pub servers : GivesNumber 1 16 (codes "servers") rows numbers.servers
   pub peer_port : GivesNumber 1 65520 (codes "peer-port") rows numbers.peer_port
+  pub watch : GivesFlag (codes "watch") rows numbers.watch
+  pub beat : GivesNumber 1 3600000 (codes "beat") rows numbers.beat
 
 -- the command that was found has this name, and these hosts with the chain's name
 pub record NamesHosts (name : List ℕ) (found : Option (Text × List Row)) (hosts : Hosts) : Type 0 where

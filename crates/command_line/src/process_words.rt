@@ -3,8 +3,8 @@ ghost use Rattle.std.specs.Prelude.{◌≡◌, IfOk, IfSome, None};
 ghost use Rattle.clap.specs.Words.{subcommand_rows_of};
 ghost use Rattle.command_line.specs.Options.{HasRule, ReadsAs};
 ghost use Rattle.command_line.specs.ProcessWords.{AddsHosts, NamesHosts, NamesMaster, NamesServer};
-ghost use Rattle.command_line.specs.ProcessWords.{address_rule, chain_rule, id_rule, peer_port_rule, peers_rule};
-ghost use Rattle.command_line.specs.ProcessWords.{master_app, server_app};
+ghost use Rattle.command_line.specs.ProcessWords.{address_rule, beat_rule, chain_rule, id_rule, peer_port_rule};
+ghost use Rattle.command_line.specs.ProcessWords.{master_app, peers_rule, server_app, watch_rule};
 ghost use Rattle.command_line.specs.declared.processes.Hosts.{Hosts};
 ghost use Rattle.command_line.specs.declared.processes.MasterNumbers.{MasterNumbers};
 ghost use Rattle.command_line.specs.declared.processes.ServerNumbers.{ServerNumbers};
@@ -13,7 +13,7 @@ use crate::cluster_words::{port_option, servers_option, with_serving};
 use crate::given::{
     flag_given, given_to, middle_number, number_if_any, port_number, small_number, text_given,
 };
-use crate::options::{number_option, text_option};
+use crate::options::{flag_option, number_option, text_option};
 use crate::processes::{Hosts, MasterNumbers, ServerNumbers};
 use clap::{Arg, ArgMatches, Command as Parser, value_parser};
 use std::alloc::{AllocError, Global};
@@ -56,7 +56,14 @@ pub fn master_numbers<'a>(matches: &ArgMatches<'a>) -> Option<MasterNumbers>
     let given = given_to(matches, "master")?;
     let servers = small_number(given, "servers", 1, 16)?;
     let peer_port = port_number(given, "peer-port", 65520)?;
-    Some(MasterNumbers { servers, peer_port })
+    let watch = flag_given(given, "watch");
+    let beat = middle_number(given, "beat", 1, 3_600_000)?;
+    Some(MasterNumbers {
+        servers,
+        peer_port,
+        watch,
+        beat,
+    })
 }
 
 /// The hosts that were given to the command of this name, if that is the command.
@@ -109,7 +116,9 @@ pub fn master_parser<'a>(alloc: Global) -> Result<Parser<'a>, AllocError>
             "Tells servers in other processes which of them failed: one 'gone J' a line of its input",
         )
         .arg(servers_option(alloc))?
-        .arg(peer_port_option(alloc))?;
+        .arg(peer_port_option(alloc))?
+        .arg(watch_option(alloc))?
+        .arg(beat_option(alloc))?;
     with_hosts(alloc, master)
 }
 
@@ -139,6 +148,21 @@ fn peer_port_option<'a>(alloc: Global) -> Arg<'a>
         "The port of server 0 for other servers and the master; server i listens on port Q + i";
     let numbers = value_parser!(u16).range(1..=65520);
     number_option(alloc, "peer-port", "Q", help, numbers).required(true)
+}
+
+fn watch_option<'a>(alloc: Global) -> Arg<'a>
+    ensures { HasRule watch_rule result }
+{
+    let help = "Watches the servers, and tells by itself that one is gone whose process has ended";
+    flag_option(alloc, "watch", help)
+}
+
+fn beat_option<'a>(alloc: Global) -> Arg<'a>
+    ensures { HasRule beat_rule result }
+{
+    let help = "With --watch: how many milliseconds lie between two looks at a server";
+    let numbers = value_parser!(u32).range(1..=3_600_000);
+    number_option(alloc, "beat", "MS", help, numbers).default_value("300")
 }
 
 fn address_option<'a>(alloc: Global) -> Arg<'a>

@@ -30,6 +30,10 @@ pub struct MasterNumbers {
     pub servers: u8,
     /// The port of server 0 for other servers and the master; server i listens on the i-th after it.
     pub peer_port: u16,
+    /// Whether it watches the servers, and tells by itself that one is gone whose process has ended.
+    pub watch: bool,
+    /// How many milliseconds lie between two looks at a server that it watches: 1 to 3,600,000.
+    pub beat: u32,
 }
 
 /// Where the servers of a chain are, and its name.

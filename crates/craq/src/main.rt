@@ -4,9 +4,10 @@
 use command_line::{Command, Serve, UsageFault};
 use commands::{read_arguments, run, tell_file};
 use ends::{Sink, Source, TrackedReader, TrackedWriter};
-use masters::{MasterSettings, ServerSettings, master};
+use masters::{MasterSettings, ServerSettings, master, watch};
 use runtime::{cluster, machine_memory, server};
 use std::alloc::Global;
+use std::io::Stdin;
 use std::net::{Net, TcpListener, TcpStream};
 use std::process::ExitCode;
 use std::rt::Files;
@@ -28,6 +29,7 @@ fn main(rt: HostRuntime) -> ExitCode {
                 rt,
                 rt.alloc(),
                 command,
+                rt.stdin(),
                 &mut input,
                 &mut output,
                 &mut errors,
@@ -61,6 +63,7 @@ fn serve<
     rt: R,
     alloc: Global,
     command: Serve,
+    stdin: Stdin,
     input: &mut S,
     output: &mut W,
     errors: &mut X,
@@ -77,6 +80,9 @@ fn serve<
         }
         Serve::Master(numbers, hosts) => {
             let settings = MasterSettings::new(alloc, numbers, hosts)?;
+            if settings.numbers.watch {
+                return Ok(watch(rt, alloc, &settings, stdin, output, errors));
+            }
             Ok(master(&rt, alloc, &settings, input, output, errors))
         }
     }

@@ -1,5 +1,5 @@
 -- A server that goes on.
-use Rattle.std.specs.Prelude.{◌≡◌, Option, None, Some}
+use Rattle.std.specs.Prelude.{◌≡◌, Bool, Option, None, Some}
 use Rattle.left_right.specs.declared.writer.Writer.{Writer}
 use Rattle.left_right.specs.declared.Absorb.{Ghosts}
 use Rattle.node.specs.Nodes.{NodeState, running}
@@ -9,6 +9,11 @@ use Rattle.faces.specs.declared.acts.Act.{Act}
 use Rattle.faces.specs.declared.boards.Knowledge.{Knowledge}
 use Rattle.faces.specs.Courses.{Course, server_after}
 use Rattle.faces.specs.Showing.{Shows}
+
+-- What a publisher has published, and whether it goes on: the face of the server after that is shown.
+pub record Publishing : Type 0 where
+  pub published : Course
+  pub goes : Bool
 
 -- the node is the server after what was published, and the log is this server's
 abbrev pub IsCurrent : NodeState → Log → Course → Type 0

@@ -1,5 +1,5 @@
 //! A server that shows its face: the node, the log of what it took, and the writer of its face.
-ghost use Rattle.std.specs.Prelude.{◌≡◌, ◌<◌, ◌^◌, [], false, IfOk, OnOk, OnErr};
+ghost use Rattle.std.specs.Prelude.{◌≡◌, ◌↔◌, ◌<◌, ◌^◌, [], true, false, IfOk, IfErr, OnOk, OnErr, IsErrOf};
 ghost use Rattle.node.specs.Lawful.{IsInput, AreFit};
 ghost use Rattle.faces.specs.Courses.{shown_after, with_next};
 ghost use Rattle.faces.specs.Outputs.{last_outputs};
@@ -17,9 +17,9 @@ use std::alloc::Global;
 use std::marker::Model;
 use std::sync::Wait;
 
-/// A server that shows its face, until an input is refused. Contracts see what it has published: the inputs that it
-/// took (`Course`). Its node is the server after them, and what is shown is the face of that server. It isn't `Drop`:
-/// end it by `end`.
+/// A server that shows its face, until an input is refused. Contracts see what it has published, which are the inputs
+/// that it took, and whether it goes on (`Publishing`). While it goes on, its node is the server after them, and what
+/// is shown is the face of that server. It isn't `Drop`: end it by `end`.
 pub struct Publisher {
     alloc: Global,
     node: Node,
@@ -30,17 +30,17 @@ pub struct Publisher {
 }
 
 impl Model for Publisher {
+    ghost use Rattle.std.specs.Prelude.{is_some};
     ghost use Rattle.std.specs.Coded.{codes};
     ghost use Rattle.logbook.specs.Pages.{book_coded};
     ghost use Rattle.versions.specs.Stores.{coded_items};
-    ghost use Rattle.faces.specs.Courses.{Course};
-    ghost use Rattle.faces.specs.Publishers.{IsShowing};
+    ghost use Rattle.faces.specs.Publishers.{Publishing, IsShowing};
 
-    ghost Value = { Course };
+    ghost Value = { Publishing };
 
     ghost coded = { Prim.hlevel (codes, coded_items, book_coded) };
 
-    ghost view = { λ p. p.published };
+    ghost view = { λ p. record { published = p.published; goes = is_some p.writer } };
 
     ghost invariant = { λ p. IsShowing p.writer p.node p.log p.published };
 }
@@ -56,8 +56,10 @@ impl Publisher {
     ) -> Result<Publisher, FaceFault>
         requires readers { (0 < readers) × (readers < 2 ^ 32) }
         requires running { node.stopped ≡ false }
-        ensures start { IfOk result (λ publisher. publisher.origin.start ≡ node.server) }
-        ensures inputs { IfOk result (λ publisher. publisher.inputs ≡ []) }
+        ensures start { IfOk result (λ publisher. publisher.published.origin.start ≡ node.server) }
+        ensures inputs { IfOk result (λ publisher. publisher.published.inputs ≡ []) }
+        ensures going { IfOk result (λ publisher. publisher.goes ≡ true) }
+        ensures memory { IfErr result (λ fault. fault ≡ FaceFault.Memory) }
     {
         let (log, front) = Front::open(&node);
         let (first, second) = Face::copies(alloc, node.face()?, &front)?;
@@ -78,7 +80,7 @@ impl Publisher {
 
     /// What it has published.
     pub fn published(&self) -> &Published
-        ensures { result.now ≡ self.now }
+        ensures { result.now ≡ self.now.published }
     {
         &self.published
     }
@@ -86,15 +88,16 @@ impl Publisher {
     /// How much the face weighs that was published last: how many keys have a version there, and the bytes of these
     /// keys and of their data. In constant time.
     pub fn weight(&self) -> Weight
-        ensures { result ≡ weight_of (shown_after self.now).versions }
+        ensures { result ≡ weight_of (shown_after self.now.published).versions }
     {
         self.published.weight()
     }
 
-    /// One more reader, which has seen what is published. Refused if memory is out, if there is no room for it, or with
-    /// Closed after an input was refused.
+    /// One more reader, which has seen what is published. Refused with Memory if memory is out or there is no room for
+    /// it, and with Closed exactly after an input was refused.
     pub fn reader(&mut self) -> Result<Reader, FaceFault>
-        ensures reader { IfOk result (λ reader. reader ≡ self.old) }
+        ensures reader { IfOk result (λ reader. reader ≡ self.old.published) }
+        ensures closed { IsErrOf result FaceFault.Closed ↔ (self.old.goes ≡ false) }
         ensures unchanged { self.new ≡ self.old }
     {
         let Some(writer) = &mut self.writer else {
@@ -110,11 +113,15 @@ impl Publisher {
     /// and each later input is refused with Closed.
     pub fn take<R: Wait>(&mut self, rt: &R, input: Input) -> Result<Vec<Output>, FaceFault>
         requires { IsInput input }
-        ensures published { OnOk result (self.new ≡ with_next self.old input) }
-        ensures outputs { IfOk result (λ outputs. outputs.items ≡ last_outputs self.new.origin.start self.new.inputs) }
+        ensures goes { OnOk result ((self.old.goes ≡ true) × (self.new.goes ≡ true)) }
+        ensures published { OnOk result (self.new.published ≡ with_next self.old.published input) }
+        ensures outputs { IfOk result
+            (λ outputs. outputs.items ≡ last_outputs self.new.published.origin.start self.new.published.inputs) }
         // Each message may be sent, and handed in where it goes.
         ensures fit { IfOk result (λ outputs. AreFit outputs.items) }
-        ensures unchanged { OnErr result (self.new ≡ self.old) }
+        ensures stops { OnErr result (self.new.goes ≡ false) }
+        ensures unchanged { OnErr result (self.new.published ≡ self.old.published) }
+        ensures closed { self.old.goes ≡ false → IsErrOf result FaceFault.Closed }
     {
         let Some(writer) = self.writer.take() else {
             drop(input);

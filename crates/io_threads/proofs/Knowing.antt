@@ -6,7 +6,7 @@ use Rattle.slab.specs.Slab.{Slab, get, Updates, ContainsKey, with_value}
 use Rattle.slab.proofs.SlabLemmas.{Updates-with_value}
 use Rattle.io_threads.specs.declared.guests.Guest.{Guest}
 use Rattle.io_threads.specs.Guests.{KnowsAll, IsKnownBy}
-use Rattle.io_threads.proofs.Later.{later_then}
+use Rattle.io_threads.proofs.Later.{later_same, later_then}
 
 -- a later course knows as much
 known_later : (c d : Course) (o : Option Guest) → IsLater c d → IsKnownBy c o → IsKnownBy d o
@@ -40,3 +40,6 @@ pub known_written : (c d : Course) (s : Slab Guest) (key : ℕ) (g : Guest)
     → IsLater c d → KnowsAll c s → ContainsKey s key → IsLater g.client.talk.seen d → KnowsAll d (with_value s key g)
 known_written c d s key g later known present new =
     known_updated c d s (with_value s key g) key (Some g) later known new (Updates-with_value s key g present)
+
+-- what a goal of a thread's clients may need
+pub ruleset knowing = (later_same, known_updated, known_written, as_known)

@@ -10,3 +10,6 @@ later_same c = record { origin = refl; inputs = prefix_self c.inputs }
 pub later_then : (first second third : Course) → IsLater first second → IsLater second third → IsLater first third
 later_then first second third p q =
     record { origin = q.origin ∙ p.origin; inputs = prefix_trans _ _ _ p.inputs q.inputs }
+
+-- what a goal on what was seen may need
+pub ruleset seeing = (later_same, later_then)

@@ -1,3 +1,4 @@
 pub mod Later
+pub mod Pausing
 pub mod Knowing
 pub mod Dealt

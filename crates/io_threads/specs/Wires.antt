@@ -1,5 +1,5 @@
--- What a read or a write of a socket that waits for nothing has passed on.
-use Rattle.std.specs.Prelude.{ℕ, List, [], take}
+-- What a read or a write of a socket that waits for nothing has passed on, and whether it has failed.
+use Rattle.std.specs.Prelude.{◌<◌, ℕ, List, [], take}
 use Rattle.io_threads.specs.declared.wires.Came.{Came}
 use Rattle.io_threads.specs.declared.wires.Came.TheVariants.{Bytes as Read, Nothing as NothingCame, End}
 use Rattle.io_threads.specs.declared.wires.Came.TheVariants.{Fault as ReadFault}
@@ -27,8 +27,27 @@ went (Written n) = n
 went NothingWent = 0
 went WriteFault = 0
 
+-- if bytes went, at least one did
+abbrev pub TakesSome : Gone → Type 0
+TakesSome (Written n) = 0 < n
+TakesSome NothingWent = Unit {0}
+TakesSome WriteFault = Unit {0}
+
 -- the bytes that went, of this slice
 abbrev pub went_out : Gone → List ℕ → List ℕ
 went_out (Written n) bytes = take n bytes
 went_out NothingWent bytes = []
 went_out WriteFault bytes = []
+
+-- a read that failed
+abbrev pub read_faults : Came → ℕ
+read_faults (Read n) = 0
+read_faults NothingCame = 0
+read_faults End = 0
+read_faults ReadFault = 1
+
+-- a write that failed
+abbrev pub write_faults : Gone → ℕ
+write_faults (Written n) = 0
+write_faults NothingWent = 0
+write_faults WriteFault = 1

@@ -1,6 +1,8 @@
 //! A client's connection with its socket, which goes as far as it can without waiting.
-ghost use Rattle.std.specs.Prelude.{◌≡◌, OnSome};
+ghost use Rattle.std.specs.Prelude.{◌≡◌, ◌+◌, IfSome, MatchOption, OnSome};
 ghost use Rattle.seats.specs.declared.talks.Standing.TheVariants.{Reading};
+ghost use Rattle.io_threads.specs.Clients.{HasPassed};
+ghost use Rattle.io_threads.specs.Wires.{read_faults, write_faults};
 
 use crate::wires::{Came, Gone, Wire};
 use seats::{SeatPool, Talk, Went};
@@ -20,7 +22,7 @@ pub enum Pause {
     Seat,
     /// Its call was sent.
     Reply,
-    /// It is at its end, or has failed.
+    /// It is at its end, or has failed, or nobody reads.
     Over,
 }
 
@@ -39,8 +41,8 @@ pub struct Ready {
 const PASSES: usize = 4;
 
 /// A client's connection with its socket. Contracts see what has come of the connection, the bytes that the socket gave
-/// and those that it took (`Visiting`). The type keeps that what the socket gave was fed, unless memory was refused,
-/// and that what it took is what the connection counts as written.
+/// and those that it took, and why it may go no further (`Visiting`). The type keeps that what the socket gave was fed,
+/// unless memory was refused, and that what it took is what the connection counts as written.
 #[derive(Drop)]
 pub struct Client<S: Read + Write> {
     wire: Wire<S>,
@@ -71,17 +73,21 @@ impl<S: Read + Write> Model for Client<S> {
       given = c.wire.given;
       taken = c.wire.taken;
       refused = c.is_refused;
+      gone = c.is_gone;
+      faults = c.wire.faults;
     } };
 
     ghost invariant = { λ c. IsPassed c.wire.given c.wire.taken c.is_refused c.talk.connected };
 }
 
 impl<S: Read + Write> Client<S> {
-    ghost use Rattle.std.specs.Prelude.{◌≡◌, ◌++◌, ℕ, List, [], false};
+    ghost use Rattle.std.specs.Prelude.{◌≡◌, ◌≤◌, ◌<◌, ◌++◌, ◌||◌, ℕ, List, [], true, false, length};
+    ghost use Rattle.std.specs.Prelude.{IfNone, IfSome, MatchBool};
     ghost use Rattle.faces.specs.Courses.{IsLater};
     ghost use Rattle.serving.specs.Connections.{IsBegun};
-    ghost use Rattle.seats.specs.Talks.{begun};
-    ghost use Rattle.seats.specs.declared.talks.Standing.TheVariants.{Reading};
+    ghost use Rattle.seats.specs.Talks.{IsFurther, begun};
+    ghost use Rattle.seats.specs.declared.talks.Standing.TheVariants.{Idle, Reading, Over as Spent};
+    ghost use Rattle.io_threads.specs.Clients.{HasPassed, HasPaused};
 
     /// A client that has said nothing. It allocates nothing.
     pub fn new(alloc: Global, socket: S, pool: &SeatPool) -> Client<S>
@@ -89,6 +95,8 @@ impl<S: Read + Write> Client<S> {
         ensures given { result.given ≡ [] }
         ensures taken { result.taken ≡ [] }
         ensures whole { result.refused ≡ false }
+        ensures present { result.gone ≡ false }
+        ensures fresh { result.faults ≡ 0 }
     {
         Client {
             wire: Wire::new(socket),
@@ -111,9 +119,9 @@ impl<S: Read + Write> Client<S> {
         self.talk.so_far();
     }
 
-    /// Its socket was found ready for this.
+    /// Its socket was found ready for this. Once the connection is gone it stays so.
     pub fn is_ready_for(&mut self, ready: Ready)
-        ensures { self.new ≡ self.old }
+        ensures { self.new ≡ record self.old { gone = self.old.gone || ready.gone } }
     {
         self.is_readable |= ready.reading || ready.ended;
         self.is_writable |= ready.writing;
@@ -121,12 +129,43 @@ impl<S: Read + Write> Client<S> {
         self.is_gone |= ready.gone;
     }
 
-    /// Goes on for a while, and says why it goes no further. The slice is room for what is read.
-    #[tactic(auto, using(crate::proofs::Later::later_same, crate::proofs::Later::later_then))]
+    /// Goes on for a while, and says why it goes no further: `HasPaused` tells what each answer means. Once memory was
+    /// refused to what was read, or the connection is gone, nothing is read, written, looked at or sent. The slice is
+    /// room for what is read.
+    #[tactic(auto, using(crate::proofs::Later::seeing, crate::proofs::Pausing::pausing))]
     pub fn go<R: Wait>(&mut self, rt: &R, pool: &mut SeatPool, piece: &mut [u8]) -> Pause
         requires known { IsLater self.old.talk.seen pool.old }
         ensures known { IsLater self.new.talk.seen pool.new }
         ensures later { IsLater pool.old pool.new }
+        ensures first { self.new.talk.first ≡ self.old.talk.first }
+        ensures given { HasPassed self.old.given self.new.given }
+        ensures taken { HasPassed self.old.taken self.new.taken }
+        ensures gone { self.new.gone ≡ self.old.gone }
+        ensures paused { HasPaused result self.old.faults self.new }
+        ensures refused { self.old.refused ≡ true → (result ≡ Pause.Over) × (self.new ≡ self.old) × (pool.new ≡ pool.old) }
+        ensures left { self.old.gone ≡ true → (result ≡ Pause.Over) × (self.new ≡ self.old) × (pool.new ≡ pool.old) }
+    {
+        if self.is_refused {
+            return Pause::Over;
+        }
+        if self.is_gone {
+            return Pause::Over;
+        }
+        self.go_on(rt, pool, piece)
+    }
+
+    // Takes a few steps.
+    #[tactic(auto, using(crate::proofs::Later::seeing, crate::proofs::Pausing::pausing))]
+    fn go_on<R: Wait>(&mut self, rt: &R, pool: &mut SeatPool, piece: &mut [u8]) -> Pause
+        requires known { IsLater self.old.talk.seen pool.old }
+        requires whole { self.old.refused ≡ false }
+        ensures known { IsLater self.new.talk.seen pool.new }
+        ensures later { IsLater pool.old pool.new }
+        ensures first { self.new.talk.first ≡ self.old.talk.first }
+        ensures given { HasPassed self.old.given self.new.given }
+        ensures taken { HasPassed self.old.taken self.new.taken }
+        ensures gone { self.new.gone ≡ self.old.gone }
+        ensures paused { HasPaused result self.old.faults self.new }
     {
         for _ in 0..PASSES {
             if let Some(pause) = self.step(rt, pool, piece) {
@@ -137,15 +176,20 @@ impl<S: Read + Write> Client<S> {
     }
 
     // Goes on until it has to read or write, and does so once.
-    #[tactic(auto, using(crate::proofs::Later::later_same, crate::proofs::Later::later_then))]
+    #[tactic(auto, using(crate::proofs::Later::seeing, crate::proofs::Pausing::pausing))]
     fn step<R: Wait>(&mut self, rt: &R, pool: &mut SeatPool, piece: &mut [u8]) -> Option<Pause>
         requires known { IsLater self.old.talk.seen pool.old }
+        requires whole { self.old.refused ≡ false }
         ensures known { IsLater self.new.talk.seen pool.new }
         ensures later { IsLater pool.old pool.new }
+        ensures first { self.new.talk.first ≡ self.old.talk.first }
+        ensures given { HasPassed self.old.given self.new.given }
+        ensures taken { HasPassed self.old.taken self.new.taken }
+        ensures gone { self.new.gone ≡ self.old.gone }
+        ensures faults { self.old.faults ≤ self.new.faults }
+        ensures whole { IfNone result (self.new.refused ≡ false) }
+        ensures paused { IfSome result (λ pause. HasPaused pause self.old.faults self.new) }
     {
-        if self.is_refused || self.is_gone {
-            return Some(Pause::Over);
-        }
         match self.talk.go(rt, pool) {
             Ok(Went::Input) => self.read(piece),
             Ok(Went::Write) => self.write(),
@@ -158,10 +202,18 @@ impl<S: Read + Write> Client<S> {
     }
 
     // Reads once, if there may be input.
+    #[tactic(auto, using(crate::proofs::Pausing::pausing))]
     fn read(&mut self, piece: &mut [u8]) -> Option<Pause>
         requires reads { self.old.talk.standing ≡ Reading }
         requires whole { self.old.refused ≡ false }
         ensures seen { self.new.talk.seen ≡ self.old.talk.seen }
+        ensures first { self.new.talk.first ≡ self.old.talk.first }
+        ensures given { HasPassed self.old.given self.new.given }
+        ensures taken { self.new.taken ≡ self.old.taken }
+        ensures gone { self.new.gone ≡ self.old.gone }
+        ensures faults { self.old.faults ≤ self.new.faults }
+        ensures whole { IfNone result (self.new.refused ≡ false) }
+        ensures paused { IfSome result (λ pause. HasPaused pause self.old.faults self.new) }
     {
         if !self.is_readable {
             return Some(Pause::Socket);
@@ -185,19 +237,23 @@ impl<S: Read + Write> Client<S> {
     }
 
     // Writes once, if output may be taken.
+    #[tactic(auto, using(crate::proofs::Pausing::pausing))]
     fn write(&mut self) -> Option<Pause>
+        requires writes { 0 < length self.old.talk.connected.due }
         ensures seen { self.new.talk.seen ≡ self.old.talk.seen }
+        ensures first { self.new.talk.first ≡ self.old.talk.first }
+        ensures given { self.new.given ≡ self.old.given }
+        ensures taken { HasPassed self.old.taken self.new.taken }
+        ensures gone { self.new.gone ≡ self.old.gone }
+        ensures faults { self.old.faults ≤ self.new.faults }
+        ensures whole { self.new.refused ≡ self.old.refused }
+        ensures paused { IfSome result (λ pause. HasPaused pause self.old.faults self.new) }
     {
         if !self.is_writable {
             return Some(Pause::Socket);
         }
         match write(&mut self.wire, &mut self.talk) {
-            Gone::Bytes(n) => {
-                if n == 0 {
-                    return Some(Pause::Over);
-                }
-                None
-            }
+            Gone::Bytes(_) => None,
             Gone::Nothing => {
                 self.is_writable = false;
                 Some(Pause::Socket)
@@ -207,13 +263,23 @@ impl<S: Read + Write> Client<S> {
     }
 
     /// Takes the reply to the call that was sent, if it has come, and says whether it did. Some(false) if not; None if
-    /// it never will.
+    /// it never will, or memory is out. Nothing is read or written.
     pub fn hear<R: Wait>(&mut self, rt: &R, pool: &mut SeatPool) -> Option<bool>
         requires known { IsLater self.old.talk.seen pool.old }
         ensures known { IsLater self.new.talk.seen pool.new }
         ensures later { IsLater pool.old pool.new }
+        ensures same { self.new ≡ record self.old { talk = self.new.talk } }
+        ensures first { self.new.talk.first ≡ self.old.talk.first }
+        ensures further { IsFurther self.old.talk.connected self.new.talk.connected }
+        ensures heard { IfSome result
+            (λ heard. MatchBool heard (self.new.talk.standing ≡ Idle) (self.new.talk ≡ self.old.talk)) }
+        ensures over { IfNone result (self.new.talk.standing ≡ Spent) }
     {
-        self.talk.hear(rt, pool).ok()
+        match self.talk.hear(rt, pool) {
+            Ok(true) => Some(true),
+            Ok(false) => Some(false),
+            Err(_) => None,
+        }
     }
 
     /// Closes its socket, whatever is due. The seat of its open call, if it has one, is free again once the reply to
@@ -231,13 +297,20 @@ impl<S: Read + Write> Client<S> {
 }
 
 // Reads once, and feeds what came. None if memory is refused to that.
+#[tactic(auto, using(crate::proofs::Pausing::pausing))]
 fn read<S: Read + Write>(wire: &mut Wire<S>, talk: &mut Talk, piece: &mut [u8]) -> Option<Came>
     requires reads { talk.old.standing ≡ Reading }
     requires given { wire.old.given ≡ talk.old.connected.read }
     requires taken { wire.old.taken ≡ talk.old.connected.written }
     ensures given { OnSome result (wire.new.given ≡ talk.new.connected.read) }
     ensures taken { wire.new.taken ≡ talk.new.connected.written }
+    ensures passed { HasPassed wire.old.given wire.new.given }
+    ensures untaken { wire.new.taken ≡ wire.old.taken }
+    ensures faults { MatchOption result (wire.new.faults ≡ wire.old.faults)
+        (λ came. wire.new.faults ≡ wire.old.faults + read_faults came) }
+    ensures waits { IfSome result (λ came. came ≡ Came.Nothing → talk.new ≡ talk.old) }
     ensures seen { talk.new.seen ≡ talk.old.seen }
+    ensures first { talk.new.first ≡ talk.old.first }
 {
     match wire.read(piece) {
         Came::Bytes(n) => {
@@ -256,12 +329,17 @@ fn read<S: Read + Write>(wire: &mut Wire<S>, talk: &mut Talk, piece: &mut [u8]) 
 }
 
 // Writes once, and counts what went.
+#[tactic(auto, using(crate::proofs::Pausing::pausing))]
 fn write<S: Read + Write>(wire: &mut Wire<S>, talk: &mut Talk) -> Gone
     requires taken { wire.old.taken ≡ talk.old.connected.written }
     ensures given { wire.new.given ≡ wire.old.given }
     ensures read { talk.new.connected.read ≡ talk.old.connected.read }
     ensures taken { wire.new.taken ≡ talk.new.connected.written }
+    ensures passed { HasPassed wire.old.taken wire.new.taken }
+    ensures faults { wire.new.faults ≡ wire.old.faults + write_faults result }
+    ensures waits { result ≡ Gone.Nothing → talk.new ≡ talk.old }
     ensures seen { talk.new.seen ≡ talk.old.seen }
+    ensures first { talk.new.first ≡ talk.old.first }
 {
     match wire.write(talk.output()) {
         Gone::Bytes(n) => {

@@ -2,15 +2,16 @@
 
 use crate::accepting::{Acceptor, Entrance};
 use crate::desks::Desks;
-use crate::keeping::keep_waiting;
 use crate::loops::Beginning;
 use crate::lounges::{Quarters, SERVERS};
 use crate::stations::Stations;
+use libc::net;
 use mio::Poll;
 use mio::net::TcpListener as Listener;
 use seats::{Mark, SeatPool};
 use std::alloc::{AllocError, AllocFailed, Global};
 use std::net::{Net, TcpListener};
+use std::os::fd::AsRawFd;
 use std::sync::{Arc, Wait};
 use std::thread;
 use std::thread::{JoinHandle, Threads};
@@ -210,6 +211,11 @@ fn entrance(
     keep_waiting(&listener);
     let listener = Listener::from_std(listener);
     Ok(Entrance::new(alloc, listener, mark, settings.connections, settings.serves)?)
+}
+
+// Has the system keep as many connections as it may that weren't accepted yet.
+fn keep_waiting(listener: &TcpListener) {
+    net::listen(listener.as_raw_fd(), i32::MAX);
 }
 
 // Starts the serving threads.

@@ -124,7 +124,7 @@ impl Guests {
 }
 
 // One more.
-#[tactic(auto, using(crate::proofs::Later::later_same, crate::proofs::Knowing::known_updated, crate::proofs::Knowing::known_written, crate::proofs::Knowing::as_known))]
+#[tactic(auto, using(crate::proofs::Knowing::knowing))]
 fn add(alloc: Global, pool: &SeatPool, clients: &mut Slab<Guest>, stream: TcpStream, entry: Entry)
     requires known { KnowsAll pool.now clients.old }
     ensures known { KnowsAll pool.now clients.new }
@@ -139,7 +139,7 @@ fn add(alloc: Global, pool: &SeatPool, clients: &mut Slab<Guest>, stream: TcpStr
 }
 
 // What the client waits for whose socket was found ready.
-#[tactic(auto, using(crate::proofs::Later::later_same, crate::proofs::Knowing::known_updated, crate::proofs::Knowing::known_written, crate::proofs::Knowing::as_known))]
+#[tactic(auto, using(crate::proofs::Knowing::knowing))]
 fn is_ready_for(
     pool: &SeatPool,
     clients: &mut Slab<Guest>,
@@ -159,7 +159,7 @@ fn is_ready_for(
 }
 
 // Has a client go on.
-#[tactic(auto, using(crate::proofs::Later::later_same, crate::proofs::Knowing::known_updated, crate::proofs::Knowing::known_written, crate::proofs::Knowing::as_known))]
+#[tactic(auto, using(crate::proofs::Knowing::knowing))]
 fn go<R: Wait>(
     rt: &R,
     pool: &mut SeatPool,
@@ -191,7 +191,7 @@ fn waits_after(pause: Pause) -> Waits {
 }
 
 // Takes the replies for which nobody waits any more.
-#[tactic(auto, using(crate::proofs::Later::later_same, crate::proofs::Knowing::known_updated, crate::proofs::Knowing::known_written, crate::proofs::Knowing::as_known))]
+#[tactic(auto, using(crate::proofs::Knowing::knowing))]
 fn collect<R: Wait>(rt: &R, pool: &mut SeatPool, clients: &Slab<Guest>)
     requires known { KnowsAll pool.old clients.now }
     ensures known { KnowsAll pool.new clients.now }
@@ -200,7 +200,7 @@ fn collect<R: Wait>(rt: &R, pool: &mut SeatPool, clients: &Slab<Guest>)
 }
 
 // A client that waited for its socket is to have its turn.
-#[tactic(auto, using(crate::proofs::Later::later_same, crate::proofs::Knowing::known_updated, crate::proofs::Knowing::known_written, crate::proofs::Knowing::as_known))]
+#[tactic(auto, using(crate::proofs::Knowing::knowing))]
 fn has_turn(pool: &SeatPool, clients: &mut Slab<Guest>, key: usize)
     requires known { KnowsAll pool.now clients.old }
     ensures known { KnowsAll pool.now clients.new }
@@ -211,7 +211,7 @@ fn has_turn(pool: &SeatPool, clients: &mut Slab<Guest>, key: usize)
 }
 
 // Takes the reply to a client's call.
-#[tactic(auto, using(crate::proofs::Later::later_same, crate::proofs::Knowing::known_updated, crate::proofs::Knowing::known_written, crate::proofs::Knowing::as_known))]
+#[tactic(auto, using(crate::proofs::Knowing::knowing))]
 fn hear<R: Wait>(rt: &R, pool: &mut SeatPool, clients: &mut Slab<Guest>, key: usize) -> Option<bool>
     requires known { KnowsAll pool.old clients.old }
     ensures known { KnowsAll pool.new clients.new }
@@ -223,7 +223,7 @@ fn hear<R: Wait>(rt: &R, pool: &mut SeatPool, clients: &mut Slab<Guest>, key: us
 }
 
 // Closes a client.
-#[tactic(auto, using(crate::proofs::Later::later_same, crate::proofs::Knowing::known_updated, crate::proofs::Knowing::known_written, crate::proofs::Knowing::as_known))]
+#[tactic(auto, using(crate::proofs::Knowing::knowing))]
 fn close(pool: &mut SeatPool, clients: &mut Slab<Guest>, key: usize)
     requires known { KnowsAll pool.old clients.old }
     ensures known { KnowsAll pool.new clients.new }

@@ -3,7 +3,6 @@
 use crate::clients::{Pause, Ready};
 use crate::desks::Arrival;
 use crate::guests::{Guests, Waits};
-use crate::keeping::keep_alive;
 use crate::lines::Line;
 use mio::{Interest, Registry, Token};
 use seats::{Mark, SeatPool};
@@ -106,7 +105,6 @@ impl Lounge {
             ..
         } = arrival;
         let _ = stream.set_nodelay(true);
-        keep_alive(&stream);
         let token = self
             .guests
             .next_key()

@@ -1,8 +1,8 @@
 //! A client's socket, which waits for nothing, with the history of its bytes that contracts see.
-ghost use Rattle.std.specs.Prelude.{◌≡◌, ◌≤◌, ◌<◌, ◌++◌, [], length, take};
-ghost use Rattle.io_threads.specs.Wires.{came_in, came, went_out, went};
+ghost use Rattle.std.specs.Prelude.{◌≡◌, ◌≤◌, ◌+◌, ◌++◌, [], length};
+ghost use Rattle.io_threads.specs.Wires.{TakesSome, came, came_in, read_faults, went, went_out, write_faults};
 
-use ends::Passed;
+use ends::{Failures, Passed};
 use std::io::{ErrorKind, Read, Write};
 
 /// What came of a read.
@@ -25,7 +25,7 @@ pub enum Gone {
     Bytes(usize),
     /// None: the socket takes none now.
     Nothing,
-    /// None: the write failed.
+    /// None: the write failed, or took nothing.
     Fault,
 }
 
@@ -38,6 +38,8 @@ pub struct Wire<S: Read + Write> {
     pub given: Passed,
     /// The bytes that its writes took.
     pub taken: Passed,
+    /// How many of its reads and writes have failed.
+    pub faults: Failures,
 }
 
 impl<S: Read + Write> Wire<S> {
@@ -45,11 +47,13 @@ impl<S: Read + Write> Wire<S> {
     pub fn new(inner: S) -> Wire<S>
         ensures given { result.given ≡ [] }
         ensures taken { result.taken ≡ [] }
+        ensures fresh { result.faults ≡ 0 }
     {
         Wire {
             inner,
             given: Passed::new(),
             taken: Passed::new(),
+            faults: Failures::new(),
         }
     }
 
@@ -58,6 +62,7 @@ impl<S: Read + Write> Wire<S> {
         ensures bound { came result ≤ length piece.new }
         ensures given { self.new.given ≡ self.old.given ++ came_in result piece.new }
         ensures taken { self.new.taken ≡ self.old.taken }
+        ensures faults { self.new.faults ≡ self.old.faults + read_faults result }
     {
         match self.inner.read(piece) {
             Ok(0) => Came::End,
@@ -69,19 +74,26 @@ impl<S: Read + Write> Wire<S> {
                 if e.kind() == ErrorKind::WouldBlock {
                     Came::Nothing
                 } else {
+                    self.faults.rise();
                     Came::Fault
                 }
             }
         }
     }
 
-    /// Writes once, from the front of the slice.
+    /// Writes once, from the front of the slice. If the socket takes no byte and names no error, the write has failed.
     pub fn write(&mut self, bytes: &[u8]) -> Gone
         ensures bound { went result ≤ length bytes.now }
+        ensures some { TakesSome result }
         ensures given { self.new.given ≡ self.old.given }
         ensures taken { self.new.taken ≡ self.old.taken ++ went_out result bytes.now }
+        ensures faults { self.new.faults ≡ self.old.faults + write_faults result }
     {
         match self.inner.write(bytes) {
+            Ok(0) => {
+                self.faults.rise();
+                Gone::Fault
+            }
             Ok(n) => {
                 self.taken.add(&bytes[..n]);
                 Gone::Bytes(n)
@@ -90,6 +102,7 @@ impl<S: Read + Write> Wire<S> {
                 if e.kind() == ErrorKind::WouldBlock {
                     Gone::Nothing
                 } else {
+                    self.faults.rise();
                     Gone::Fault
                 }
             }

@@ -1,5 +1,5 @@
 //! One who speaks at a server's peer port.
-ghost use Rattle.std.specs.Prelude.{◌≡◌, ◌+◌, ◌++◌, ◌∷◌, [], OnOk, OnErr, MatchResult};
+ghost use Rattle.std.specs.Prelude.{◌≡◌, ◌⊎◌, ◌+◌, ◌++◌, ◌∷◌, [], OnOk, OnErr, MatchResult};
 ghost use Rattle.peers.specs.Links.{MayCome};
 ghost use Rattle.links.specs.Notices.{notice_in, noted};
 ghost use Rattle.links.specs.Speakers.{Hears};
@@ -55,9 +55,22 @@ impl<C: Cuts + Drop, W: Sink + Drop> Guest<C, W> {
 }
 
 impl<C: Cuts + Drop, W: Sink + Drop> Taker for Guest<C, W> {
+    ghost use Rattle.std.specs.Prelude.{◌≡◌, ◌⊎◌, ◌++◌};
+    ghost use Rattle.links.specs.Notices.{notice_in, noted};
+    ghost use Rattle.links.specs.Speakers.{Hears};
+
     ghost taken = { λ g. g.taken };
 
     ghost failures = { λ g. g.failures };
+
+    // The server was brought it, and if it is a notice it was answered; nothing else was.
+    ghost hears = { λ before frame now.
+        Hears before.speaker frame now.speaker
+        × (W.written now.sink ≡ W.written before.sink ++ noted (notice_in frame)) };
+
+    // The server was brought nothing, or it: then the answer couldn't be written, or memory ran out.
+    ghost misses = { λ before frame now.
+        (now.speaker ≡ before.speaker) ⊎ Hears before.speaker frame now.speaker };
 
     fn take<R: Wait>(&mut self, rt: &R, frame: Frame) -> Result<(), TakeFault>
         requires { MayCome frame }
@@ -71,6 +84,9 @@ impl<C: Cuts + Drop, W: Sink + Drop> Taker for Guest<C, W> {
         // If that is a notice it was answered, and nothing else was.
         ensures answered { OnOk result
             (W.written self.new.sink ≡ W.written self.old.sink ++ noted (notice_in frame)) }
+        // What it hasn't taken was not heard, or heard and not answered.
+        ensures missed { OnErr result
+            ((self.new.speaker ≡ self.old.speaker) ⊎ Hears self.old.speaker frame self.new.speaker) }
     {
         let snapshot = Snapshot::of(&frame);
         let notice = notice_in(&frame);
@@ -115,6 +131,7 @@ fn hear<R: Wait, C: Cuts>(
 ) -> Result<(), TakeFault>
     requires { MayCome frame }
     ensures heard { OnOk result (Hears speaker.old frame speaker.new) }
+    ensures refused { OnErr result (speaker.new ≡ speaker.old) }
 {
     if learn(rt, lobby, view, view_in(&frame)) {
         speaker.hear(rt, lobby, frame)

@@ -34,7 +34,7 @@ pub struct PeerLinks<W> {
 }
 
 impl<W: Sink + Drop> PeerLink<W> {
-    ghost use Rattle.std.specs.Prelude.{◌≡◌, ◌⊎◌, ◌++◌, true, IfErr, OnOk};
+    ghost use Rattle.std.specs.Prelude.{◌≡◌, ◌⊎◌, ◌++◌, true, IfErr, OnOk, OnErr};
     ghost use Rattle.wire.specs.Spellings.{IsInRange, spelling};
     ghost use Rattle.links.specs.PeerLinks.{written_by};
 
@@ -52,6 +52,9 @@ impl<W: Sink + Drop> PeerLink<W> {
             (written_by W.written self.new.sink ≡ written_by W.written self.old.sink ++ spelling frame.now) }
         ensures fault { IfErr result (λ fault. (fault ≡ RailFault.Memory) ⊎
             ((fault ≡ RailFault.LinkDown) × (self.new.has_failed ≡ true))) }
+        // If a part of it was written, the link has failed.
+        ensures unput { OnErr result ((self.new.has_failed ≡ true) ⊎
+            (written_by W.written self.new.sink ≡ written_by W.written self.old.sink)) }
         ensures stays { (self.new.has_failed ≡ self.old.has_failed) ⊎ (self.new.has_failed ≡ true) }
     {
         if let Some(sink) = &mut self.sink {
@@ -61,9 +64,16 @@ impl<W: Sink + Drop> PeerLink<W> {
                 Err(_) => {}
             }
         }
+        self.give_up();
+        Err(RailFault::LinkDown)
+    }
+
+    // The link has failed from now on.
+    fn give_up(&mut self)
+        ensures { self.new.has_failed ≡ true }
+    {
         self.sink = None;
         self.has_failed = true;
-        Err(RailFault::LinkDown)
     }
 }
 
@@ -79,11 +89,19 @@ impl<W: Sink + Drop> PeerLinks<W> {
 }
 
 impl<W: Sink + Drop> Links for PeerLinks<W> {
-    ghost use Rattle.links.specs.PeerLinks.{failures_at};
+    ghost use Rattle.std.specs.Prelude.{ℕ};
+    ghost use Rattle.wire.specs.Spellings.{spelling};
+    ghost use Rattle.wire.specs.declared.frames.Frame.TheVariants as frames;
+    ghost use Rattle.links.specs.PeerLinks.{failures_at, written_at};
 
-    ghost list = { λ s. s.puts };
+    ghost Carried = { ℕ };
 
-    ghost failures = { λ s. failures_at s.links.items };
+    ghost state = { λ s. record {
+      list = s.puts;
+      failures = failures_at s.links.items;
+      wire = written_at W.written s.links.items;
+      spelled = λ peer. spelling (frames.Peer peer);
+    } };
 
     fn failed(&self, to: u8) -> bool {
         has_failed(self.links.as_slice(), to)
@@ -99,6 +117,9 @@ impl<W: Sink + Drop> Links for PeerLinks<W> {
         // What was put was written to that server, and nothing to another.
         ensures written { OnOk result (written_at W.written self.new.links.items to ≡
             written_at W.written self.old.links.items to ++ spelling (frames.Peer peer.now)) }
+        // If a part of it was written, the link has failed.
+        ensures unput { OnErr result ((0 < failures_at self.new.links.items to) ⊎
+            (written_at W.written self.new.links.items to ≡ written_at W.written self.old.links.items to)) }
         ensures elsewhere { (j : ℕ) → j ≢ to →
             written_at W.written self.new.links.items j ≡ written_at W.written self.old.links.items j }
     {
@@ -106,8 +127,13 @@ impl<W: Sink + Drop> Links for PeerLinks<W> {
         let written = put_to(self.alloc, &mut self.links, to, &frame);
         drop(frame);
         written?;
-        self.puts.add(snapshot)?;
-        Ok(())
+        match self.puts.add(snapshot) {
+            Ok(()) => Ok(()),
+            Err(_) => {
+                give_up(&mut self.links, to);
+                Err(RailFault::Memory)
+            }
+        }
     }
 }
 
@@ -146,6 +172,8 @@ fn put_to<W: Sink + Drop>(
     requires range { IsInRange frame.now }
     ensures written { OnOk result
         (written_at W.written links.new.items to ≡ written_at W.written links.old.items to ++ spelling frame.now) }
+    ensures unput { OnErr result ((0 < failures_at links.new.items to) ⊎
+        (written_at W.written links.new.items to ≡ written_at W.written links.old.items to)) }
     ensures elsewhere { (j : ℕ) → j ≢ to →
         written_at W.written links.new.items j ≡ written_at W.written links.old.items j }
     ensures failures { (j : ℕ) → failures_at links.old.items j ≤ failures_at links.new.items j }
@@ -157,5 +185,19 @@ fn put_to<W: Sink + Drop>(
         links[place].put(alloc, frame)
     } else {
         Err(RailFault::LinkDown)
+    }
+}
+
+// The link to a server has failed from now on.
+#[tactic(auto, using(crate::proofs::PeerLinked::failed_at, crate::proofs::PeerLinked::none_fewer, crate::proofs::PeerLinked::beyond, crate::proofs::PeerLinked::written_elsewhere))]
+fn give_up<W: Sink + Drop>(links: &mut Vec<PeerLink<W>>, to: u8)
+    ensures down { 0 < failures_at links.new.items to }
+    ensures elsewhere { (j : ℕ) → j ≢ to →
+        written_at W.written links.new.items j ≡ written_at W.written links.old.items j }
+    ensures failures { (j : ℕ) → failures_at links.old.items j ≤ failures_at links.new.items j }
+{
+    let place = usize::from(to);
+    if place < links.len() {
+        links[place].give_up();
     }
 }

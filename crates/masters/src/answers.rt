@@ -5,7 +5,10 @@ use itoa::Buffer;
 use std::alloc::{AllocError, Global};
 
 /// Room for the longest answer.
-const ROOM: usize = 32;
+const ROOM: usize = 128;
+
+/// How many milliseconds a second has.
+const SECOND: u64 = 1_000;
 
 /// Where answers are put together. Its room is made at first, so that no memory is needed when a failure is told.
 #[derive(Drop)]
@@ -69,6 +72,35 @@ impl Answers {
         self.add(Buffer::new().format(j).as_bytes());
         self.add(b" told ");
         self.add(Buffer::new().format(told).as_bytes());
+        self.give(output, errors, who);
+    }
+
+    /// Writes `+T s server I: ..`, T being the seconds since the start, of which these are the milliseconds.
+    pub(crate) fn step<W: Sink, X: Sink>(
+        &mut self,
+        output: &mut W,
+        errors: &mut X,
+        who: &str,
+        milliseconds: u64,
+        i: u8,
+        what: &[u8],
+    ) {
+        self.line.clear();
+        self.add(b"+");
+        self.add(Buffer::new().format(milliseconds / SECOND).as_bytes());
+        self.add(b".");
+        let rest = milliseconds % SECOND;
+        if rest < 100 {
+            self.add(b"0");
+        }
+        if rest < 10 {
+            self.add(b"0");
+        }
+        self.add(Buffer::new().format(rest).as_bytes());
+        self.add(b" s server ");
+        self.add(Buffer::new().format(i).as_bytes());
+        self.add(b": ");
+        self.add(what);
         self.give(output, errors, who);
     }
 

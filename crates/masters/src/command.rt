@@ -16,7 +16,7 @@ use thiserror::Error;
 use wire::Reason;
 
 /// Who goes on if standard output can't be written.
-const WHO: &str = "the master";
+pub(crate) const WHO: &str = "the master";
 
 /// Why a master ends before its input does.
 #[derive(Clone, Copy, Debug, PartialEq, Eq, Error)]
@@ -30,6 +30,9 @@ pub(crate) enum TellFault {
     /// The number of servers is none of a chain.
     #[error("run failed")]
     Run,
+    /// A master watches, and each server has failed.
+    #[error("no server is left")]
+    NoServer,
 }
 
 impl From<AllocError> for TellFault {
@@ -63,7 +66,17 @@ pub fn master<
     output: &mut W,
     errors: &mut X,
 ) -> u8 {
-    match tell_all(rt, alloc, settings, input, output, errors) {
+    let end = tell_all(rt, alloc, settings, input, output, errors);
+    status_of(errors, settings, end)
+}
+
+/// The exit status of a master that ends so, which is told on `errors`.
+pub(crate) fn status_of<X: Sink>(
+    errors: &mut X,
+    settings: &MasterSettings,
+    end: Result<(), TellFault>,
+) -> u8 {
+    match end {
         Ok(()) => DONE,
         Err(TellFault::Memory) => {
             let _ = write_all(errors, b"craq: out of memory\n");
@@ -75,6 +88,13 @@ pub fn master<
         }
         Err(TellFault::Run) => {
             let _ = write_all(errors, b"craq: run failed\n");
+            FAILED
+        }
+        Err(TellFault::NoServer) => {
+            let _ = write_all(
+                errors,
+                b"craq: no server is left; start the chain anew, and then this master\n",
+            );
             FAILED
         }
     }

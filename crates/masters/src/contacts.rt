@@ -2,9 +2,11 @@
 
 use crate::acknowledgements::{Heard, put_notice, wait_for_noted};
 use crate::greetings::{Channel, Greeted, greet};
-use crate::notices::Answer;
+use crate::notices::{Answer, and_one, is_among};
 use crate::settings::{MasterSettings, port_of};
+use crate::standings::{Sight, seen_as};
 use ends::TrackedWriter;
+use node::View;
 use peers::Identity;
 use std::alloc::{AllocError, Global};
 use std::net::{Net, TcpListener, TcpStream};
@@ -59,9 +61,33 @@ impl Contact {
         }
     }
 
-    /// The servers that have failed, as far as it told: server i is the bit of value 2^i.
+    /// Its id.
+    pub(crate) fn id(&self) -> u8 {
+        self.id
+    }
+
+    /// The servers that have failed, as far as it told or has noted: server i is the bit of value 2^i.
     pub(crate) fn gone(&self) -> u16 {
         self.gone
+    }
+
+    /// The number of its start, if it has accepted the master.
+    pub(crate) fn start(&self) -> Option<u64> {
+        self.start
+    }
+
+    /// Whether it has accepted the master, and neither told that it knows that server `j` has failed nor noted it.
+    pub(crate) fn is_untold(&self, j: u8) -> bool {
+        self.start.is_some() && !is_among(View::from_bits(self.gone), j)
+    }
+
+    /// This start of it has accepted another connection, and told who has failed. Another start than the master knows
+    /// is passed over.
+    pub(crate) fn met(&mut self, start: u64, gone: u16) {
+        if seen_as(self.start, start) == Sight::Accepted {
+            self.start = Some(start);
+            self.gone |= gone;
+        }
     }
 
     /// Gives it an errand. If that is a notice and the connection stands, the notice is written: this waits for nobody.
@@ -98,6 +124,9 @@ impl Contact {
             Errand::Greet => self.open(rt, settings, identity),
             Errand::Tell(j, seconds) => {
                 let answer = self.tell(rt, settings, identity, j, seconds)?;
+                if answer == Answer::Done {
+                    self.gone = and_one(View::from_bits(self.gone), j).bits();
+                }
                 Ok(if self.id == j {
                     Answer::Unasked
                 } else {
@@ -150,7 +179,7 @@ impl Contact {
             Greeted::Accepted(channel) => Ok(self.enter(channel)),
             Greeted::Refused(reason) => Ok(Answer::Refused(reason)),
             Greeted::NoHost => Ok(Answer::NoHost),
-            Greeted::NoAnswer => Ok(Answer::Silent),
+            Greeted::NoAnswer | Greeted::NoListener => Ok(Answer::Silent),
         }
     }
 
@@ -159,13 +188,10 @@ impl Contact {
         let Channel { sink, start, gone } = channel;
         let TrackedWriter { inner, .. } = sink;
         self.stream = Some(inner);
-        match self.start {
-            Some(known) if known != start => Answer::Anew,
-            _ => {
-                self.start = Some(start);
-                self.gone |= gone;
-                Answer::Done
-            }
+        self.met(start, gone);
+        match seen_as(self.start, start) {
+            Sight::Accepted => Answer::Done,
+            _ => Answer::Anew,
         }
     }
 

@@ -7,6 +7,7 @@ use bytes::BytesMut;
 use ends::TrackedWriter;
 use peers::{Identity, put_all};
 use std::alloc::{AllocError, Global};
+use std::io::ErrorKind;
 use std::net::{Net, TcpListener, TcpStream, ToSocketAddrs};
 use std::thread;
 use std::time::{Clock, Duration, Instant};
@@ -53,13 +54,28 @@ pub enum Greeted {
     Refused(Reason),
     /// The host has no address.
     NoHost,
+    /// Each address of the host refuses a connection: nothing listens at the port.
+    NoListener,
     /// Nobody answered there.
     NoAnswer,
 }
 
+// What came of trying the addresses of a host.
+#[derive(Drop)]
+enum Connected {
+    // One of them answers.
+    Stream(TcpStream),
+    // There are none.
+    NoHost,
+    // Each refuses.
+    NoListener,
+    // None answers, and not each refuses.
+    NoAnswer,
+}
+
 /// Connects to a port of a host and greets: up to 200 tries, with pauses of 50 milliseconds, and none after 30 seconds.
-/// A greeting that is refused is the last one. It answers `NoHost` if no try found an address. Fails only if memory
-/// runs out.
+/// A greeting that is refused is the last one. It answers `NoHost` if no try found an address, and else `NoAnswer`. Fails
+/// only if memory runs out.
 pub fn reach<R: Clock + Net<Listener = TcpListener, Stream = TcpStream>>(
     rt: &R,
     alloc: Global,
@@ -76,7 +92,7 @@ pub fn reach<R: Clock + Net<Listener = TcpListener, Stream = TcpStream>>(
         match greet(rt, alloc, host, port, identity)? {
             Greeted::Accepted(channel) => return Ok(Greeted::Accepted(channel)),
             Greeted::Refused(reason) => return Ok(Greeted::Refused(reason)),
-            Greeted::NoAnswer => is_known = true,
+            Greeted::NoAnswer | Greeted::NoListener => is_known = true,
             Greeted::NoHost => {}
         }
         if is_over(rt, begun) {
@@ -101,7 +117,8 @@ fn is_over<R: Clock>(rt: &R, begun: Option<Instant>) -> bool {
     }
 }
 
-/// The same with one try. It waits at most ten seconds for the answer.
+/// The same with one try, of which it tells too that nothing listens at the port. It waits at most ten seconds for the
+/// answer.
 pub(crate) fn greet<R: Clock + Net<Listener = TcpListener, Stream = TcpStream>>(
     rt: &R,
     alloc: Global,
@@ -110,9 +127,10 @@ pub(crate) fn greet<R: Clock + Net<Listener = TcpListener, Stream = TcpStream>>(
     identity: &Identity,
 ) -> Result<Greeted, AllocError> {
     let stream = match connect(rt, host, port) {
-        Some(Some(stream)) => stream,
-        Some(None) => return Ok(Greeted::NoAnswer),
-        None => return Ok(Greeted::NoHost),
+        Connected::Stream(stream) => stream,
+        Connected::NoHost => return Ok(Greeted::NoHost),
+        Connected::NoListener => return Ok(Greeted::NoListener),
+        Connected::NoAnswer => return Ok(Greeted::NoAnswer),
     };
     let mut sink = TrackedWriter::new(stream);
     if !introduce(alloc, &mut sink, identity)? {
@@ -178,26 +196,37 @@ fn answer_of(frame: &Frame) -> Option<Result<Acceptance, Reason>> {
     }
 }
 
-// Connects to the first address of the host that answers, if one does. None if the host has no address.
+// Connects to the first address of the host that answers, if one does.
 fn connect<R: Net<Listener = TcpListener, Stream = TcpStream>>(
     rt: &R,
     host: &str,
     port: u16,
-) -> Option<Option<TcpStream>> {
+) -> Connected {
     let Ok(addresses) = (host, port).to_socket_addrs(rt) else {
-        return None;
+        return Connected::NoHost;
     };
+    let mut refuse = false;
+    let mut others = false;
     for address in addresses {
         let patience = Duration::from_secs(PATIENCE);
-        if let Ok(stream) = TcpStream::connect_timeout(rt, &address, patience) {
-            if !is_to_itself(&stream) {
-                let _ = stream.set_nodelay(true);
-                keep_alive(&stream);
-                return Some(Some(stream));
+        match TcpStream::connect_timeout(rt, &address, patience) {
+            Ok(stream) => {
+                if !is_to_itself(&stream) {
+                    let _ = stream.set_nodelay(true);
+                    keep_alive(&stream);
+                    return Connected::Stream(stream);
+                }
+                others = true;
             }
+            Err(fault) if fault.kind() == ErrorKind::ConnectionRefused => refuse = true,
+            Err(_) => others = true,
         }
     }
-    Some(None)
+    if refuse && !others {
+        Connected::NoListener
+    } else {
+        Connected::NoAnswer
+    }
 }
 
 // A socket that tries a free port of its own machine may be given that very port, and is then connected to itself.

@@ -91,6 +91,20 @@ pub(crate) fn beside(these: View, those: View) -> View {
     View::from_bits(these.bits() & !those.bits())
 }
 
+/// Whether this server is one of these.
+pub(crate) fn is_among(these: View, i: u8) -> bool {
+    i < SERVERS && these.has(i)
+}
+
+/// These servers, and this one, if a chain can have it.
+pub(crate) fn and_one(these: View, i: u8) -> View {
+    if i < SERVERS {
+        these.union(View::single(i))
+    } else {
+        these
+    }
+}
+
 /// The server that these are, if they are one.
 pub(crate) fn only_one(these: View) -> Option<u8> {
     for i in 0..SERVERS {

@@ -3,7 +3,7 @@
 use crate::command::TellFault;
 use crate::contacts::{Contact, Errand, Visit};
 use crate::master_lines::{tell_silent, tell_unmet, tell_untold};
-use crate::notices::{Answer, done_in, notices, refusal_in};
+use crate::notices::{Answer, done_in, is_among, notices, refusal_in};
 use crate::settings::MasterSettings;
 use crate::starts::start_number;
 use ends::Sink;
@@ -46,12 +46,7 @@ impl Teller {
         }
         Ok(Teller {
             alloc,
-            identity: Identity {
-                id: MASTER,
-                servers,
-                start: start_number(rt),
-                chain: settings.chain.clone()?,
-            },
+            identity: identity_of(rt, settings)?,
             gone: View::empty(),
             contacts: strangers(alloc, servers)?,
         })
@@ -86,12 +81,30 @@ impl Teller {
         errors: &mut X,
         j: u8,
     ) -> Result<usize, TellFault> {
+        if j >= self.identity.servers {
+            return Err(TellFault::Run);
+        }
+        self.ask(j, Errand::Tell(j, OWN_PATIENCE))?;
+        self.tell_others(rt, settings, errors, j)
+    }
+
+    /// Tells each other server that isn't known to have failed that server `j` has. It answers how many of these have
+    /// noted it. Who hasn't is told on `errors`.
+    pub(crate) fn tell_others<
+        R: Threads + Clock + Net<Listener = TcpListener, Stream = TcpStream> + Sync,
+        X: Sink,
+    >(
+        &mut self,
+        rt: &R,
+        settings: &MasterSettings,
+        errors: &mut X,
+        j: u8,
+    ) -> Result<usize, TellFault> {
         if j >= self.identity.servers || self.identity.servers > SERVERS {
             return Err(TellFault::Run);
         }
         let given = notices(self.alloc, self.gone, j, self.identity.servers)?;
         self.gone = self.gone.union(View::single(j));
-        self.ask(j, Errand::Tell(j, OWN_PATIENCE))?;
         for notice in given {
             let (i, j) = notice;
             self.ask(i, Errand::Tell(j, PATIENCE))?;
@@ -100,6 +113,48 @@ impl Teller {
         tell_untold(errors, settings, answers.as_slice(), j);
         tell_silent(errors, answers.as_slice(), j);
         Ok(done_in(answers.as_slice()))
+    }
+
+    /// Whether server `i` is known to have failed.
+    pub(crate) fn is_gone(&self, i: u8) -> bool {
+        is_among(self.gone, i)
+    }
+
+    /// Whether a server is left that isn't known to have failed.
+    pub(crate) fn has_living(&self) -> bool {
+        for i in 0..self.identity.servers {
+            if !self.is_gone(i) {
+                return true;
+            }
+        }
+        false
+    }
+
+    /// The number of the start of server `i`, if it has accepted the master.
+    pub(crate) fn start(&self, i: u8) -> Option<u64> {
+        self.contacts.get(usize::from(i))?.start()
+    }
+
+    /// This start of server `i` has accepted another connection, and told who has failed.
+    pub(crate) fn met(&mut self, i: u8, start: u64, gone: u16) {
+        if let Some(contact) = self.contacts.get_mut(usize::from(i)) {
+            contact.met(start, gone);
+            self.gone = self.gone.union(View::from_bits(contact.gone()));
+        }
+    }
+
+    /// Whether server `j` is known to have failed, and a server that was reached and hasn't failed didn't say that it
+    /// knows.
+    pub(crate) fn is_untold(&self, j: u8) -> bool {
+        if !self.is_gone(j) {
+            return false;
+        }
+        for contact in self.contacts.iter() {
+            if !self.is_gone(contact.id()) && contact.is_untold(j) {
+                return true;
+            }
+        }
+        false
     }
 
     // Gives server i an errand.
@@ -132,6 +187,19 @@ impl Teller {
         }
         Ok(answers)
     }
+}
+
+/// How a master introduces itself.
+pub(crate) fn identity_of<R: Clock>(
+    rt: &R,
+    settings: &MasterSettings,
+) -> Result<Identity, AllocError> {
+    Ok(Identity {
+        id: MASTER,
+        servers: settings.numbers.servers,
+        start: start_number(rt),
+        chain: settings.chain.clone()?,
+    })
 }
 
 // All servers of a chain. None was spoken to.

@@ -1,6 +1,6 @@
 -- Links between servers: what a taker is handed, which frames are taken of the bytes that are read, and which side
 -- fails.
-use Rattle.std.specs.Prelude.{◌≡◌, ℕ, List, ◌++◌, Result, Ok, Err}
+use Rattle.std.specs.Prelude.{◌≡◌, ℕ, zero, suc, List, [], ◌∷◌, ◌++◌, Result, Ok, Err}
 use Rattle.node.specs.Lawful.{IsBody}
 use Rattle.wire.specs.declared.ends.PeerEnd.{PeerEnd}
 use Rattle.wire.specs.declared.frames.Frame.{Frame}
@@ -37,6 +37,25 @@ pub record TakesFirst (bytes rest : List ℕ) (before after : List Frame) : Type
   pub handed : List Frame
   pub first : AreFirst handed bytes rest
   pub taken : after ≡ before ++ handed
+
+-- These frames were heard, one after another, and made of a taker's first value its last one.
+abbrev pub AreHeard : {V : Type 0} → (V → Frame → V → Type 0) → V → List Frame → V → Type 0
+AreHeard hears v [] w = w ≡ v
+AreHeard {V} hears v (f ∷ fs) w = (u : V) × hears v f u × AreHeard hears u fs w
+
+-- no frame was refused; or one was, and made of a taker's value another one
+abbrev pub IsRefused : {V : Type 0} → (V → Frame → V → Type 0) → ℕ → V → V → Type 0
+IsRefused misses zero v w = w ≡ v
+IsRefused misses (suc n) v w = (f : Frame) × misses v f w
+
+-- What was taken was heard, in order, and nothing else but the frame that was refused, if one was.
+pub record HasHeard {V : Type 0} (hears misses : V → Frame → V → Type 0) (taken : V → List Frame) (failed : ℕ)
+    (v w : V) : Type 0 where
+  pub frames : List Frame
+  pub last : V
+  pub grown : taken w ≡ taken v ++ frames
+  pub heard : AreHeard hears v frames last
+  pub refused : IsRefused misses failed last w
 
 -- how many reads more have failed, by what is answered
 abbrev pub failed_reads : {X : Type 0} → Result X LinkFault → ℕ

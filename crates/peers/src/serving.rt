@@ -4,7 +4,8 @@ ghost use Rattle.std.specs.Prelude.{IfOk, IfErr, OnOk, OnErr, vec_len};
 ghost use Rattle.wire.specs.declared.ends.PeerEnd.{PeerEnd};
 ghost use Rattle.wire.specs.Ends.{IsEnd};
 ghost use Rattle.wire.specs.Streams.{fed, fresh};
-ghost use Rattle.peers.specs.Links.{TakesAll, TakesBeginning, TakesFirst, failed_reads, failed_takes, failed_writes};
+ghost use Rattle.peers.specs.Links.{HasHeard, TakesAll, TakesBeginning, TakesFirst};
+ghost use Rattle.peers.specs.Links.{failed_reads, failed_takes, failed_writes};
 
 use crate::{LinkFault, Taker};
 use ends::Source;
@@ -33,6 +34,8 @@ pub fn serve_peer<R: Wait, S: Source, T: Taker>(
     // After a fault: the first frames of what was read.
     ensures cut { OnErr result ((read : List ℕ) × (S.given source.new ≡ S.given source.old ++ read) ×
         TakesBeginning read (T.taken taker.old) (T.taken taker.new)) }
+    // What was taken was heard, frame by frame, and nothing else.
+    ensures heard { HasHeard T.hears T.misses T.taken (failed_takes result) taker.old taker.new }
     // Each side's fault comes exactly if that side failed.
     ensures reads { S.failures source.new ≡ S.failures source.old + failed_reads result }
     ensures takes { T.failures taker.new ≡ T.failures taker.old + failed_takes result }
@@ -58,6 +61,7 @@ fn serve<R: Wait, S: Source, T: Taker>(
     ensures ended { IfOk result (λ end. end ≡ PeerEnd.Input → S.has_ended source.new ≡ true) }
     ensures cut { OnErr result ((read : List ℕ) × (S.given source.new ≡ S.given source.old ++ read) ×
         TakesBeginning read (T.taken taker.old) (T.taken taker.new)) }
+    ensures heard { HasHeard T.hears T.misses T.taken (failed_takes result) taker.old taker.new }
     ensures reads { S.failures source.new ≡ S.failures source.old + failed_reads result }
     ensures takes { T.failures taker.new ≡ T.failures taker.old + failed_takes result }
     ensures writes { failed_writes result ≡ 0 }
@@ -112,6 +116,7 @@ fn hand_on<R: Wait, T: Taker>(
     ensures open { IfOk result (λ end. end ≡ PeerEnd.Input → frames.new.closed ≡ false) }
     ensures cut { OnErr result ((rest : List ℕ) ×
         TakesFirst frames.old.unread rest (T.taken taker.old) (T.taken taker.new)) }
+    ensures heard { HasHeard T.hears T.misses T.taken (failed_takes result) taker.old taker.new }
     ensures reads { failed_reads result ≡ 0 }
     ensures takes { T.failures taker.new ≡ T.failures taker.old + failed_takes result }
     ensures writes { failed_writes result ≡ 0 }

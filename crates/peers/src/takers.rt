@@ -19,6 +19,12 @@ pub trait Taker {
     /// The frames that it has taken, in order.
     ghost taken: { Self → List Frame };
 
+    /// What holds of its value before a frame that it takes, the frame, and its value after it.
+    ghost hears: { Self → Frame → Self → Type 0 };
+
+    /// The same of a frame that it doesn't take.
+    ghost misses: { Self → Frame → Self → Type 0 };
+
     /// How often it has failed to take a frame.
     ghost failures: { Self → ℕ };
 
@@ -29,6 +35,8 @@ pub trait Taker {
         requires message { MayCome frame }
         ensures taken { OnOk result (taken self.new ≡ taken self.old ++ frame ∷ []) }
         ensures refused { OnErr result (taken self.new ≡ taken self.old) }
+        ensures heard { OnOk result (hears self.old frame self.new) }
+        ensures missed { OnErr result (misses self.old frame self.new) }
         ensures counted { MatchResult result
             (λ _. failures self.new ≡ failures self.old)
             (λ _. failures self.new ≡ failures self.old + 1) };

@@ -193,10 +193,14 @@ fn words_tell_a_master(rt: HostRuntime) -> Result<(), Fail> {
         "b",
         "--servers",
         "3",
+        "--watch",
+        "--beat=50",
     ];
     let numbers = MasterNumbers {
         servers: 3,
         peer_port: 5000,
+        watch: true,
+        beat: 50,
     };
     match read_command(rt.alloc(), words.as_slice()) {
         Ok(Command::Serve(Serve::Master(given, hosts))) => {

@@ -1,3 +1,4 @@
+pub mod Carrying
 pub mod Delivering
 pub mod Mailing
 pub mod Putting

@@ -12,13 +12,8 @@ use Rattle.rail.specs.Letters.{Letter, PostState}
 use Rattle.faces.specs.Outputs.{IsAmong}
 use Rattle.node.specs.Replies.{AreRepliesBelow}
 use Rattle.rail.specs.Turns.{letters_to, HasPosted, AreClosed, ArePosts, HasReplied}
+use Rattle.rail.proofs.Carrying.{same, other}
 use Rattle.rail.proofs.Putting.{left_more, left_append}
-
-same : (p : ℕ) → (p == p) ≡ true
-same p = grind (arith, nat_tests)
-
-other : (p q : ℕ) → p ≢ q → (p == q) ≡ false
-other p q n = grind (arith, nat_tests, n)
 
 pub address_at : (o : Origin) (k p n : ℕ) (ps : List PostState) (d : PostState)
     → p < length ps

@@ -1,6 +1,7 @@
 pub mod Events
 pub mod Inbox
 pub mod Letters
+pub mod Links
 pub mod Mails
 pub mod Ports
 pub mod Seats

@@ -7,6 +7,7 @@ use Rattle.node.specs.declared.messages.Input.{Input}
 use Rattle.faces.specs.Courses.{Origin, Course, with_next}
 use Rattle.faces.specs.Outputs.{last_outputs}
 use Rattle.rail.specs.Letters.{Letter, PostState}
+use Rattle.rail.specs.Links.{LinksState, messages_to}
 
 -- the messages among these, in order, each with its receiver
 abbrev pub messages_of : List Output → List (ℕ × Peer)
@@ -26,16 +27,21 @@ abbrev pub IsLeft : {X : Type 0} → (X → Type 0) → List X → List X → Ty
 IsLeft may [] ys = ys ≡ []
 IsLeft {X} may (x ∷ xs) ys = (may x × IsLeft may xs ys) ⊎ ((rest : List X) × (ys ≡ x ∷ rest) × IsLeft may xs rest)
 
--- after this list was put, it goes on with these messages, save those on links that have failed
-abbrev pub HasPut : List (ℕ × Peer) → List (ℕ × Peer) → (ℕ → ℕ) → List (ℕ × Peer) → Type 0
-HasPut before after failures messages =
-    (put : List (ℕ × Peer)) × (after ≡ before ++ put) × IsLeft (λ m. 0 < failures m.0) messages put
+module _ {C : Type 0} (l l' : LinksState C) where
+  -- Of these messages, in order, some on failed links are left out, and all others were put: for each server a
+  -- beginning of those to it, all of them if its link hasn't failed, and none if it had failed before.
+  pub record HasPut (messages : List (ℕ × Peer)) : Type 0 where
+    pub put : List (ℕ × Peer)
+    pub list : l'.list ≡ l.list ++ put
+    pub order : IsLeft (λ m. 0 < l'.failures m.0) messages put
+    pub beginning : (j : ℕ) → (rest : List Peer) × (messages_to j messages ≡ messages_to j put ++ rest)
+    pub whole : (j : ℕ) → l'.failures j ≡ 0 → messages_to j put ≡ messages_to j messages
+    pub down : (j : ℕ) → 0 < l.failures j → messages_to j put ≡ []
 
--- some of the first messages of these outputs were put
-abbrev pub HasPutFirst : List (ℕ × Peer) → List (ℕ × Peer) → (ℕ → ℕ) → List Output → Type 0
-HasPutFirst before after failures outputs =
-    (done : List Output) × (rest : List Output) × (outputs ≡ done ++ rest)
-    × HasPut before after failures (messages_of done)
+  -- the same of the messages of some of the first ones of these outputs
+  abbrev pub HasPutFirst : List Output → Type 0
+  HasPutFirst outputs =
+      (done : List Output) × (rest : List Output) × (outputs ≡ done ++ rest) × HasPut (messages_of done)
 
 -- what the last step of a course put out
 abbrev pub outputs_after : Course → List Output
@@ -43,11 +49,10 @@ outputs_after c = last_outputs c.origin.start c.inputs
 
 -- An input was refused: nothing was published or put; or the published list grew by it, and then some of the first
 -- messages of its step were put.
-abbrev pub IsCut : List (ℕ × Peer) → List (ℕ × Peer) → (ℕ → ℕ) → Course → Course → Input → Type 0
-IsCut before after failures c c' input =
-    ((c' ≡ c) × (after ≡ before))
-    ⊎ ((c' ≡ with_next c input)
-    × HasPutFirst before after failures (outputs_after (with_next c input)))
+abbrev pub IsCut : {C : Type 0} → LinksState C → LinksState C → Course → Course → Input → Type 0
+IsCut l l' c c' input =
+    ((c' ≡ c) × (l' ≡ l))
+    ⊎ ((c' ≡ with_next c input) × HasPutFirst l l' (outputs_after (with_next c input)))
 
 -- What was put for a seat goes on with these replies, save those that its queue handed back.
 pub record HasPosted (before after : PostState) (letters : List Letter) : Type 0 where

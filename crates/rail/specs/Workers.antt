@@ -3,10 +3,10 @@ use Rattle.std.specs.Prelude.{◌≡◌, ◌≢◌, ◌⊎◌, ℕ, Bool, true, 
 use Rattle.std.specs.declared.result.Result.{Result}
 use Rattle.std.specs.declared.result.Result.TheVariants.{Ok, Err}
 use Rattle.node.specs.declared.messages.Input.{Input}
-use Rattle.node.specs.declared.messages.Peer.{Peer}
 use Rattle.node.specs.Lawful.{IsLawful}
 use Rattle.node.specs.Replies.{AreOpenBelow, AreRepliesBelow}
 use Rattle.faces.specs.Courses.{Course, server_after, with_next}
+use Rattle.faces.specs.Publishers.{Publishing}
 use Rattle.rail.specs.declared.faults.RailFault.{RailFault}
 use Rattle.rail.specs.declared.faults.RailFault.TheVariants.{Memory, Closed, LinkDown, NoReader}
 use Rattle.rail.specs.declared.events.Event.TheVariants.{Took, Stop, End}
@@ -14,6 +14,7 @@ use Rattle.rail.specs.declared.events.Message.{Message}
 use Rattle.rail.specs.declared.workers.Turn.{Turn}
 use Rattle.rail.specs.declared.workers.Turn.TheVariants.{Went, Stopped, End as Ended}
 use Rattle.rail.specs.Letters.{PostState}
+use Rattle.rail.specs.Links.{LinksState}
 use Rattle.rail.specs.Turns.{messages_of, outputs_after, HasPut, IsCut, ArePosts, AreClosed, HasReplied}
 
 -- what it took, in order; what it has published, and whether it goes on; and what it put for each seat
@@ -23,19 +24,24 @@ pub record WorkerState : Type 0 where
   pub goes : Bool
   pub posts : List PostState
 
--- a server that goes on has published just this, it is lawful, and its open calls have ports below this number
-abbrev pub IsGoing : Option Course → Course → ℕ → Type 0
+-- a server that goes on has published just this, it is lawful, its open calls have ports below this number, and its
+-- publisher goes on
+abbrev pub IsGoing : Option Publishing → Course → ℕ → Type 0
 IsGoing None published ports = Unit {0}
-IsGoing (Some course) published ports =
-    (course ≡ published) × IsLawful (server_after course) × AreOpenBelow ports (server_after course)
+IsGoing (Some publisher) published ports =
+    (publisher.published ≡ published)
+    × IsLawful (server_after publisher.published)
+    × AreOpenBelow ports (server_after publisher.published)
+    × (publisher.goes ≡ true)
 
 -- what a worker keeps: there is a post for each seat, no end of theirs is held once the server has stopped, and what a
 -- server that goes on does
-pub record IsWorker (course : Option Course) (published : Course) (posts : List PostState) (ports : ℕ) : Type 0 where
+pub record IsWorker (publisher : Option Publishing) (published : Course) (posts : List PostState) (ports : ℕ)
+    : Type 0 where
   pub placed : ArePosts published.origin 0 posts
   pub as_many : length posts ≡ ports
-  pub closed : course ≡ None → AreClosed posts
-  pub going : IsGoing course published ports
+  pub closed : publisher ≡ None → AreClosed posts
+  pub going : IsGoing publisher published ports
 
 -- The server is stopped from now on, nothing was replied, and no seat's end is held.
 pub record IsStopped (w w' : WorkerState) : Type 0 where
@@ -44,7 +50,7 @@ pub record IsStopped (w w' : WorkerState) : Type 0 where
   pub replies : HasReplied w.published 0 w.posts w'.posts []
   pub closed : AreClosed w'.posts
 
-module _ (w w' : WorkerState) (before after : List (ℕ × Peer)) (failures : ℕ → ℕ) where
+module _ {C : Type 0} (w w' : WorkerState) (l l' : LinksState C) where
   -- An input was given to a server that goes on: the published list grew by it, and then what its step put out was put:
   -- its messages save those on links that have failed, and its replies, each of which has a seat, save those that are
   -- handed back.
@@ -52,7 +58,7 @@ module _ (w w' : WorkerState) (before after : List (ℕ × Peer)) (failures : �
     pub going : w.goes ≡ true
     pub still : w'.goes ≡ true
     pub published : w'.published ≡ with_next w.published input
-    pub messages : HasPut before after failures (messages_of (outputs_after (with_next w.published input)))
+    pub messages : HasPut l l' (messages_of (outputs_after (with_next w.published input)))
     pub replies : HasReplied (with_next w.published input) 0 w.posts w'.posts
         (outputs_after (with_next w.published input))
     pub seated : AreRepliesBelow (length w.posts) (outputs_after (with_next w.published input))
@@ -60,7 +66,7 @@ module _ (w w' : WorkerState) (before after : List (ℕ × Peer)) (failures : �
   -- The server is stopped from now on, and nothing was put out.
   pub record HasStopped : Type 0 where
     pub stopped : IsStopped w w'
-    pub messages : after ≡ before
+    pub messages : l' ≡ l
 
   -- An input was refused for want of memory, and the server is stopped from now on. Nothing was published or put; or
   -- the published list grew by the input, and then some of the first messages of its step were put. Nothing was
@@ -70,14 +76,14 @@ module _ (w w' : WorkerState) (before after : List (ℕ × Peer)) (failures : �
     pub stopped : w'.goes ≡ false
     pub replies : HasReplied w.published 0 w.posts w'.posts []
     pub closed : AreClosed w'.posts
-    pub cut : IsCut before after failures w.published w'.published input
+    pub cut : IsCut l l' w.published w'.published input
 
   -- Nothing changed.
   pub record IsIdle : Type 0 where
     pub published : w'.published ≡ w.published
     pub goes : w'.goes ≡ w.goes
     pub posts : w'.posts ≡ w.posts
-    pub messages : after ≡ before
+    pub messages : l' ≡ l
 
   -- what came of an input, by the answer
   abbrev pub Advanced : Input → Result Turn RailFault → Type 0
@@ -120,6 +126,6 @@ module _ (w w' : WorkerState) (before after : List (ℕ × Peer)) (failures : �
 
   -- the same of a turn that may have found no message
   abbrev pub MayBeTurn : Result (Option Turn) RailFault → Type 0
-  MayBeTurn (Ok None) = (w' ≡ w) × (after ≡ before)
+  MayBeTurn (Ok None) = (w' ≡ w) × (l' ≡ l)
   MayBeTurn (Ok (Some turn)) = IsTurn (Ok turn)
   MayBeTurn (Err fault) = IsTurn (Err fault)

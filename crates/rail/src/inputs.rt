@@ -1,8 +1,9 @@
 //! What a server that goes on does with an input.
-ghost use Rattle.std.specs.Prelude.{◌≡◌, [], ◌∷◌, length, OnOk, OnErr};
+ghost use Rattle.std.specs.Prelude.{◌≡◌, [], ◌∷◌, length, true, OnOk, OnErr};
 ghost use Rattle.node.specs.Lawful.{IsInput, IsLawful, HoldsEntry};
 ghost use Rattle.node.specs.Replies.{AreCallsBelow, AreOpenBelow};
 ghost use Rattle.faces.specs.Courses.{server_after, with_next};
+ghost use Rattle.rail.specs.Links.{HaveCarried};
 ghost use Rattle.rail.specs.Turns.{ArePosts, HasPut, HasReplied, IsCut, messages_of, outputs_after};
 
 use crate::links::Links;
@@ -17,6 +18,7 @@ use std::sync::Wait;
 /// The node makes its step, the face after it is published, and only then its messages are put, and its replies.
 /// Refused for want of memory; the publisher is to be ended then. It adds the replies' ports to those that were replied
 /// to.
+#[tactic(auto, using(crate::proofs::Carrying::carried_none))]
 pub fn advance<R: Wait, L: Links>(
     rt: &R,
     publisher: &mut Publisher,
@@ -27,19 +29,22 @@ pub fn advance<R: Wait, L: Links>(
     input: Input,
 ) -> Result<(), AllocError>
     requires input { IsInput input × HoldsEntry input }
-    requires told { told.old ≡ publisher.old }
-    requires posts { ArePosts publisher.old.origin 0 posts.old.items }
+    requires told { told.old ≡ publisher.old.published }
+    requires posts { ArePosts publisher.old.published.origin 0 posts.old.items }
     requires calls { AreCallsBelow (length posts.old.items) (input ∷ []) }
-    requires lawful { IsLawful (server_after publisher.old) }
-    requires open { AreOpenBelow (length posts.old.items) (server_after publisher.old) }
-    ensures next { OnOk result ((publisher.new ≡ with_next publisher.old input) × (told.new ≡ publisher.new)) }
+    requires lawful { IsLawful (server_after publisher.old.published) }
+    requires open { AreOpenBelow (length posts.old.items) (server_after publisher.old.published) }
+    ensures goes { OnOk result (publisher.new.goes ≡ true) }
+    ensures next { OnOk result ((publisher.new.published ≡ with_next publisher.old.published input)
+        × (told.new ≡ publisher.new.published)) }
     ensures messages { OnOk result
-        (HasPut (L.list links.old) (L.list links.new) (L.failures links.new)
-        (messages_of (outputs_after publisher.new))) }
+        (HasPut (L.state links.old) (L.state links.new) (messages_of (outputs_after publisher.new.published))) }
     ensures replies { OnOk result
-        (HasReplied publisher.new 0 posts.old.items posts.new.items (outputs_after publisher.new)) }
+        (HasReplied publisher.new.published 0 posts.old.items posts.new.items (outputs_after publisher.new.published)) }
     ensures cut { OnErr result
-        (IsCut (L.list links.old) (L.list links.new) (L.failures links.new) publisher.old told.new input) }
+        (IsCut (L.state links.old) (L.state links.new) publisher.old.published told.new input) }
+    // Whatever the answer.
+    ensures carried { HaveCarried (L.state links.old) (L.state links.new) }
     ensures unreplied { OnErr result (posts.new.items ≡ posts.old.items) }
 {
     let Ok(outputs) = publisher.take(rt, input) else {

@@ -1,5 +1,5 @@
 //! The links from a server to the others.
-ghost use Rattle.std.specs.Prelude.{◌≡◌, ◌⊎◌, ◌≤◌, ◌<◌, ◌++◌, ◌∷◌, [], nat_lt, ℕ, List, OnOk, OnErr, IfErr};
+ghost use Rattle.std.specs.Prelude.{◌≡◌, ◌≢◌, ◌⊎◌, ◌≤◌, ◌<◌, ◌++◌, ◌∷◌, [], nat_lt, ℕ, OnOk, OnErr, IfErr};
 ghost use Rattle.node.specs.declared.messages.Output.TheVariants.{To};
 ghost use Rattle.node.specs.Lawful.{IsFit};
 ghost use Rattle.faces.specs.Outputs.{PutsOut};
@@ -9,30 +9,40 @@ use crate::RailFault;
 use faces::Published;
 use node::Peer;
 
-/// Where a worker puts its messages. What was put, and how often each link failed, contracts alone see.
+/// Where a worker puts its messages. What was put, how often each link failed, and what each wire was given contracts
+/// alone see.
 pub trait Links {
-    ghost use Rattle.node.specs.declared.messages.Peer.{Peer};
+    ghost use Rattle.rail.specs.Links.{LinksState};
 
-    // The messages that were put, in order, each with its receiver.
-    ghost list: { Self → List (ℕ × Peer) };
+    // What a wire carries: bytes, or events.
+    ghost Carried: { Type 0 };
 
-    // How often the link to a server failed.
-    ghost failures: { Self → ℕ → ℕ };
+    // What was put, how often each link failed, and what each wire was given.
+    ghost state: { Self → LinksState Self.Carried };
 
     /// Whether the link to a server has failed.
     fn failed(&self, to: u8) -> bool
-        ensures { result ≡ nat_lt 0 (failures self.now to) };
+        ensures { result ≡ nat_lt 0 ((state self.now).failures to) };
 
     /// Puts a message, after the input that made it was published. It may wait. Refused for want of memory, or because
-    /// the link fails, which then has failed from now on.
+    /// the link fails, which then has failed from now on. Nothing is put on a link that has failed.
     fn put(&mut self, published: &Published, to: u8, peer: &Peer) -> Result<(), RailFault>
         // The step of the last input that was published put it out.
         requires published { PutsOut published.now (To to peer.now) }
         // It may be sent, and handed in where it goes.
         requires fit { IsFit (To to peer.now) }
-        requires up { failures self.old to ≡ 0 }
-        ensures ok { OnOk result (list self.new ≡ list self.old ++ (to, peer.now) ∷ []) }
-        ensures err { OnErr result (list self.new ≡ list self.old) }
-        ensures failures { (j : ℕ) → failures self.old j ≤ failures self.new j }
-        ensures fault { IfErr result (λ f. (f ≡ Memory) ⊎ ((f ≡ LinkDown) × (0 < failures self.new to))) };
+        requires up { (state self.old).failures to ≡ 0 }
+        ensures ok { OnOk result ((state self.new).list ≡ (state self.old).list ++ (to, peer.now) ∷ []) }
+        ensures err { OnErr result ((state self.new).list ≡ (state self.old).list) }
+        // The wire to this server was given the message, and none other was given anything.
+        ensures wire { OnOk result
+            ((state self.new).wire to ≡ (state self.old).wire to ++ (state self.old).spelled peer.now) }
+        // A wire that was given a part of it is the wire of a link that has failed.
+        ensures unput { OnErr result
+            ((0 < (state self.new).failures to) ⊎ ((state self.new).wire to ≡ (state self.old).wire to)) }
+        ensures elsewhere { (j : ℕ) → j ≢ to → (state self.new).wire j ≡ (state self.old).wire j }
+        ensures spelled { (state self.new).spelled ≡ (state self.old).spelled }
+        ensures failures { (j : ℕ) → (state self.old).failures j ≤ (state self.new).failures j }
+        ensures fault { IfErr result
+            (λ f. (f ≡ Memory) ⊎ ((f ≡ LinkDown) × (0 < (state self.new).failures to))) };
 }

@@ -82,11 +82,11 @@ fn beside(
 ) -> Result<(Vec<Stand>, Vec<Post>, Vec<Inlet>), RailFault>
     requires gate { view gate.old.pass ≡ taker 0 0 [] }
     requires few { (readers ≤ 16) × (inlets ≤ 16) }
-    requires first { publisher.old.inputs ≡ [] }
+    requires first { publisher.old.published.inputs ≡ [] }
     ensures publisher { publisher.new ≡ publisher.old }
     ensures gate { IfOk result (λ _. ((view gate.new.pass).ports ≡ readers) × ((view gate.new.pass).got ≡ [])) }
-    ensures stands { IfOk result (λ r. r.0.items ≡ stands_from publisher.old.origin 0 readers) }
-    ensures posts { IfOk result (λ r. r.1.items ≡ posts_from publisher.old.origin 0 readers) }
+    ensures stands { IfOk result (λ r. r.0.items ≡ stands_from publisher.old.published.origin 0 readers) }
+    ensures posts { IfOk result (λ r. r.1.items ≡ posts_from publisher.old.published.origin 0 readers) }
     ensures inlets { IfOk result (λ r. r.2.items ≡ replicate inlets []) }
 {
     let (stands, posts) = all_stands(alloc, publisher, gate, readers)?;
@@ -103,11 +103,11 @@ fn all_stands(
 ) -> Result<(Vec<Stand>, Vec<Post>), RailFault>
     requires gate { view gate.old.pass ≡ taker 0 0 [] }
     requires few { readers ≤ 16 }
-    requires first { publisher.old.inputs ≡ [] }
+    requires first { publisher.old.published.inputs ≡ [] }
     ensures publisher { publisher.new ≡ publisher.old }
     ensures gate { IfOk result (λ _. view gate.new.pass ≡ taker readers readers []) }
-    ensures stands { IfOk result (λ r. r.0.items ≡ stands_from publisher.old.origin 0 readers) }
-    ensures posts { IfOk result (λ r. r.1.items ≡ posts_from publisher.old.origin 0 readers) }
+    ensures stands { IfOk result (λ r. r.0.items ≡ stands_from publisher.old.published.origin 0 readers) }
+    ensures posts { IfOk result (λ r. r.1.items ≡ posts_from publisher.old.published.origin 0 readers) }
 {
     let mut stands = Vec::new(alloc);
     let mut posts = Vec::new(alloc);
@@ -128,11 +128,11 @@ fn one_stand(
 ) -> Result<(Stand, Post), RailFault>
     requires gate { view gate.old.pass ≡ taker port port [] }
     requires few { port < 16 }
-    requires first { publisher.old.inputs ≡ [] }
+    requires first { publisher.old.published.inputs ≡ [] }
     ensures publisher { publisher.new ≡ publisher.old }
     ensures gate { IfOk result (λ _. view gate.new.pass ≡ taker (port + 1) (port + 1) []) }
-    ensures stand { IfOk result (λ r. r.0 ≡ stand_at publisher.old.origin port) }
-    ensures post { IfOk result (λ r. r.1 ≡ post_at publisher.old.origin port) }
+    ensures stand { IfOk result (λ r. r.0 ≡ stand_at publisher.old.published.origin port) }
+    ensures post { IfOk result (λ r. r.1 ≡ post_at publisher.old.published.origin port) }
 {
     let Ok(reader) = publisher.reader() else {
         return Err(RailFault::NoReader);

@@ -1,11 +1,12 @@
 //! What a worker puts out for an input that was published.
-ghost use Rattle.std.specs.Prelude.{◌≡◌, ◌≤◌, ◌<◌, ◌++◌, ◌∷◌, [], ℕ, List, length, OnOk, OnErr};
+ghost use Rattle.std.specs.Prelude.{◌≡◌, ◌<◌, ◌++◌, ◌∷◌, [], length, OnOk, OnErr};
 ghost use Rattle.node.specs.declared.messages.Output.{Output};
 ghost use Rattle.node.specs.declared.messages.Output.TheVariants.{To, Reply as Replied};
 ghost use Rattle.node.specs.Lawful.{IsFit, AreFit};
 ghost use Rattle.faces.specs.Outputs.{PutsOut, last_outputs};
 ghost use Rattle.node.specs.Replies.{AreRepliesBelow};
 ghost use Rattle.faces.specs.Courses.{Course};
+ghost use Rattle.rail.specs.Links.{HaveCarried};
 ghost use Rattle.rail.specs.Turns.{AreClosed, ArePosts, HasPut, HasPutFirst, HasReplied, messages_of};
 
 use crate::RailFault;
@@ -26,10 +27,10 @@ pub fn put_messages<L: Links>(
 ) -> Result<(), RailFault>
     requires step { outputs.now ≡ last_outputs published.now.origin.start published.now.inputs }
     requires fit { AreFit outputs.now }
-    ensures ok { OnOk result
-        (HasPut (L.list links.old) (L.list links.new) (L.failures links.new) (messages_of outputs.now)) }
+    ensures ok { OnOk result (HasPut (L.state links.old) (L.state links.new) (messages_of outputs.now)) }
     // Some of the first ones were put.
-    ensures err { OnErr result (HasPutFirst (L.list links.old) (L.list links.new) (L.failures links.new) outputs.now) }
+    ensures err { OnErr result (HasPutFirst (L.state links.old) (L.state links.new) outputs.now) }
+    ensures carried { HaveCarried (L.state links.old) (L.state links.new) }
 {
     for output in outputs {
         if let Output::To(to, peer) = output {
@@ -48,16 +49,16 @@ fn put_message<L: Links>(
 ) -> Result<(), RailFault>
     requires step { PutsOut published.now (To to peer.now) }
     requires fit { IsFit (To to peer.now) }
-    ensures ok { OnOk result
-        (HasPut (L.list links.old) (L.list links.new) (L.failures links.new) ((to, peer.now) ∷ [])) }
-    ensures err { OnErr result (L.list links.new ≡ L.list links.old) }
-    ensures failures { (j : ℕ) → L.failures links.old j ≤ L.failures links.new j }
+    ensures ok { OnOk result (HasPut (L.state links.old) (L.state links.new) ((to, peer.now) ∷ [])) }
+    ensures err { OnErr result ((L.state links.new).list ≡ (L.state links.old).list) }
+    ensures carried { HaveCarried (L.state links.old) (L.state links.new) }
 {
     if links.failed(to) {
         return Ok(());
     }
     match links.put(published, to, peer) {
-        Ok(()) | Err(RailFault::LinkDown) => Ok(()),
+        Ok(()) => Ok(()),
+        Err(RailFault::LinkDown) => Ok(()),
         Err(fault) => Err(fault),
     }
 }

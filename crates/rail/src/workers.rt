@@ -6,6 +6,7 @@ ghost use Rattle.node.specs.Replies.{AreCallsBelow, AreOpenBelow};
 ghost use Rattle.faces.specs.Courses.{server_after, shown_after};
 ghost use Rattle.faces.specs.Weights.{weight_of};
 ghost use Rattle.rail.specs.Events.{IsBelow};
+ghost use Rattle.rail.specs.Links.{HaveCarried};
 ghost use Rattle.rail.specs.Turns.{ArePosts};
 ghost use Rattle.rail.specs.Workers.{Advanced, Did, IsStopped, IsTurn, MayBeTurn};
 
@@ -90,10 +91,16 @@ impl<R: Wait + Drop> Worker<R> {
     pub(crate) fn new(rt: R, inbox: Inbox, publisher: Publisher, posts: Vec<Post>) -> Worker<R>
         requires first { (view inbox.pass).got ≡ [] }
         requires ports { (view inbox.pass).ports ≡ length posts.items }
-        requires posts { ArePosts publisher.origin 0 posts.items }
-        requires lawful { IsLawful (server_after publisher) }
-        requires open { AreOpenBelow (length posts.items) (server_after publisher) }
-        ensures { result ≡ record { taken = []; published = publisher; goes = true; posts = posts.items } }
+        requires going { publisher.goes ≡ true }
+        requires posts { ArePosts publisher.published.origin 0 posts.items }
+        requires lawful { IsLawful (server_after publisher.published) }
+        requires open { AreOpenBelow (length posts.items) (server_after publisher.published) }
+        ensures { result ≡ record {
+          taken = [];
+          published = publisher.published;
+          goes = true;
+          posts = posts.items;
+        } }
     {
         let told = publisher.published().tell();
         Worker {
@@ -131,8 +138,11 @@ impl<R: Wait + Drop> Worker<R> {
     /// Takes the first message of the inbox that wasn't taken, and waits until there is one. An input is given to the
     /// node, the face after it is published, and only then its messages are put, and its replies. Refused with Closed
     /// where every sender is gone, and with Memory; both stop the server.
+    #[tactic(auto, using(crate::proofs::Carrying::carried_none))]
     pub fn turn<L: Links>(&mut self, links: &mut L) -> Result<Turn, RailFault>
-        ensures { IsTurn self.old self.new (L.list links.old) (L.list links.new) (L.failures links.new) result }
+        ensures turn { IsTurn self.old self.new (L.state links.old) (L.state links.new) result }
+        // What was put is what the wires were given.
+        ensures carried { HaveCarried (L.state links.old) (L.state links.new) }
     {
         match self.inbox.take(&self.rt) {
             Ok(message) => self.act(message, links),
@@ -145,8 +155,11 @@ impl<R: Wait + Drop> Worker<R> {
 
     /// The same, if a message stands there; none otherwise. It doesn't wait for a message. It may answer none although
     /// one stands there, while another thread is sending.
+    #[tactic(auto, using(crate::proofs::Carrying::carried_none))]
     pub fn turn_if_any<L: Links>(&mut self, links: &mut L) -> Result<Option<Turn>, RailFault>
-        ensures { MayBeTurn self.old self.new (L.list links.old) (L.list links.new) (L.failures links.new) result }
+        ensures turn { MayBeTurn self.old self.new (L.state links.old) (L.state links.new) result }
+        // What was put is what the wires were given.
+        ensures carried { HaveCarried (L.state links.old) (L.state links.new) }
     {
         match self.inbox.try_take(&self.rt) {
             Ok(Some(message)) => {
@@ -162,11 +175,12 @@ impl<R: Wait + Drop> Worker<R> {
     }
 
     // What a message that was taken asks for.
+    #[tactic(auto, using(crate::proofs::Carrying::carried_none))]
     fn act<L: Links>(&mut self, message: Message, links: &mut L) -> Result<Turn, RailFault>
         requires port { IsBelow (length self.old.posts) message.event }
         ensures taken { self.new.taken ≡ self.old.taken }
-        ensures did { Did self.old self.new (L.list links.old) (L.list links.new) (L.failures links.new)
-            message result }
+        ensures did { Did self.old self.new (L.state links.old) (L.state links.new) message result }
+        ensures carried { HaveCarried (L.state links.old) (L.state links.new) }
     {
         match message.event {
             Event::End => Ok(Turn::End),
@@ -179,11 +193,12 @@ impl<R: Wait + Drop> Worker<R> {
     }
 
     // Gives an input to the node, unless the server is stopped.
+    #[tactic(auto, using(crate::proofs::Carrying::carried_none))]
     fn advance<L: Links>(&mut self, input: FitInput, links: &mut L) -> Result<Turn, RailFault>
         requires port { AreCallsBelow (length self.old.posts) (input ∷ []) }
         ensures taken { self.new.taken ≡ self.old.taken }
-        ensures did { Advanced self.old self.new (L.list links.old) (L.list links.new) (L.failures links.new)
-            input result }
+        ensures did { Advanced self.old self.new (L.state links.old) (L.state links.new) input result }
+        ensures carried { HaveCarried (L.state links.old) (L.state links.new) }
     {
         let Some(publisher) = &mut self.publisher else {
             drop(input);

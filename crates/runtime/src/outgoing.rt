@@ -63,7 +63,7 @@ fn channel_to<R: Clock + Net<Listener = TcpListener, Stream = TcpStream>>(
     match reach(rt, alloc, host.as_str(), port, lobby.host())? {
         Greeted::Accepted(channel) => Ok(channel),
         Greeted::Refused(reason) => Err(ServerFault::Refused(j, reason)),
-        Greeted::NoAnswer => Err(ServerFault::Away(j)),
+        Greeted::NoAnswer | Greeted::NoListener => Err(ServerFault::Away(j)),
         Greeted::NoHost => Err(ServerFault::NoHost(j)),
     }
 }

@@ -77,6 +77,10 @@ impl<T: Taker> Taker for ToldGuest<T> {
 
     ghost failures = { λ g. T.failures g.taker };
 
+    ghost hears = { λ before frame now. T.hears before.taker frame now.taker };
+
+    ghost misses = { λ before frame now. T.misses before.taker frame now.taker };
+
     fn take<R: Wait>(&mut self, rt: &R, frame: Frame) -> Result<(), TakeFault> {
         let kind = kind_of(&frame);
         match self.taker.take(rt, frame) {

@@ -1,12 +1,13 @@
 -- What is put on the links between the servers of one process.
-use Rattle.std.proofs.Common.{◌≡◌, ℕ, zero, suc, ◌<◌, ◌≤◌, Bool, true, false, if◌then◌else◌, List, [], ◌∷◌, ◌++◌}
+use Rattle.std.proofs.Common.{◌≡◌, ◌≢◌, ℕ, zero, suc, ◌<◌, ◌≤◌, Bool, true, false, if◌then◌else◌, List, [], ◌∷◌, ◌++◌}
 use Rattle.std.proofs.Common.{length, slice_index_or, slice_set, nat_lt, refl, ap, sym, arith}
 use Rattle.node.specs.declared.messages.Peer.{Peer}
 use Rattle.node.specs.declared.messages.Input.TheVariants.{From}
 use Rattle.rail.specs.declared.events.Event.{Event}
 use Rattle.rail.specs.declared.events.Event.TheVariants.{Took}
 use Rattle.seats.specs.declared.in_process_links.Link.{Link}
-use Rattle.seats.specs.InProcessLinks.{before_last, failures_at, last_brought, last_put, sent_by, sent_on, without_last}
+use Rattle.seats.specs.InProcessLinks.{before_last, failures_at, last_brought, last_put, sent_at, sent_by, sent_on}
+use Rattle.seats.specs.InProcessLinks.{without_last}
 
 -- after one event more the last one is that
 last_of : (to : ℕ) (i : ℕ) (peer : Peer) (es : List Event)
@@ -39,6 +40,24 @@ before_at i zero peer (l ∷ ls) d x within more =
     ap (λ es. es ∷ sent_on ls) last
 before_at i (suc place) peer (l ∷ ls) d x within more =
     ap (λ rest. sent_by l.inlet ∷ rest) (before_at i place peer ls d x (omega (arith, within)) more)
+
+-- it was given just this
+pub given_at : (i place : ℕ) (peer : Peer) (ls : List Link) (d x : Link) → place < length ls
+    → sent_by x.inlet ≡ sent_by (slice_index_or ls place d).inlet ++ Took (From i peer) ∷ []
+    → sent_at (sent_on (slice_set ls place x)) place ≡ sent_at (sent_on ls) place ++ Took (From i peer) ∷ []
+given_at i place peer [] d x within more = absurd (omega (arith, within))
+given_at i zero peer (l ∷ ls) d x within more = more
+given_at i (suc place) peer (l ∷ ls) d x within more = given_at i place peer ls d x (omega (arith, within)) more
+
+-- and the others nothing
+pub others_at : (place : ℕ) (ls : List Link) (x : Link) (j : ℕ)
+    → j ≢ place
+    → sent_at (sent_on (slice_set ls place x)) j ≡ sent_at (sent_on ls) j
+others_at place [] x j other = refl
+others_at zero (l ∷ ls) x zero other = absurd (other refl)
+others_at zero (l ∷ ls) x (suc j) other = refl
+others_at (suc place) (l ∷ ls) x zero other = refl
+others_at (suc place) (l ∷ ls) x (suc j) other = others_at place ls x j (λ same. other (ap suc same))
 
 -- the link at a place was given nothing
 pub unsent_at : (place : ℕ) (ls : List Link) (d x : Link) → place < length ls
@@ -102,3 +121,7 @@ tells_failed (suc place) (l ∷ ls) d within = tells_failed place ls d (omega (a
 -- beyond the last link each has
 pub tells_beyond : (place : ℕ) (ls : List Link) → length ls ≤ place → true ≡ nat_lt 0 (failures_at ls place)
 tells_beyond place ls out = rw (beyond place ls out) refl
+
+-- what a message that is put on a link changes
+pub ruleset putting =
+    (put_at, before_at, given_at, others_at, unsent_at, failed_at, more_failed, as_failed, beyond)

@@ -12,7 +12,7 @@ use Rattle.rail.specs.declared.events.Event.{Event}
 use Rattle.rail.specs.declared.events.Event.TheVariants.{Took}
 use Rattle.rail.specs.Seats.{SeatState, with_call, with_reply}
 use Rattle.seats.specs.InProcessLinks.{without_last}
-use Rattle.seats.specs.SeatCallers.{IsSubmitted}
+use Rattle.seats.specs.Replies.{IsSubmitted}
 use Rattle.seats.specs.Submitters.{Submitting, IsAnswered, IsLastCall, IsOpen, IsReplyAt, all_sent, call_of, last_call}
 use Rattle.seats.specs.Submitters.{open_at, stage_of, submitting, unused}
 use Rattle.seats.specs.declared.submitters.Stage.{Stage}

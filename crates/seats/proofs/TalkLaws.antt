@@ -15,7 +15,7 @@ use Rattle.serving.specs.Wanted.{IsAsking}
 use Rattle.serving.specs.declared.serving.ServeFault.{ServeFault}
 use Rattle.serving.proofs.Served.{Stands, has_idle, stands_answered}
 use Rattle.seats.specs.Submitters.{Submitting, IsAnswered}
-use Rattle.seats.specs.SeatCallers.{ShowsClean}
+use Rattle.seats.specs.Replies.{ShowsClean}
 use Rattle.seats.specs.Talks.{HoldsStore, IsFurther, IsPeeked, IsReplied, IsTalk, StandsAt, Talking}
 use Rattle.seats.specs.declared.talks.Standing.{Standing}
 use Rattle.seats.specs.declared.talks.Standing.TheVariants.{Idle, Over, Sent, Unsent}

@@ -23,6 +23,12 @@ abbrev pub sent_on : List Link → List (List Event)
 sent_on [] = []
 sent_on (x ∷ xs) = sent_by x.inlet ∷ sent_on xs
 
+-- what the inlet at a place sent
+abbrev pub sent_at : List (List Event) → ℕ → List Event
+sent_at [] j = []
+sent_at (es ∷ rest) zero = es
+sent_at (es ∷ rest) (suc j) = sent_at rest j
+
 -- these events without the last one
 abbrev pub without_last : List Event → List Event
 without_last [] = []

@@ -1,4 +1,4 @@
-pub mod SeatCallers
+pub mod Replies
 pub mod InProcessLinks
 pub mod Submitters
 pub mod SeatPools

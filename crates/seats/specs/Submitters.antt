@@ -10,7 +10,7 @@ use Rattle.rail.specs.declared.events.Event.{Event}
 use Rattle.rail.specs.declared.events.Event.TheVariants.{Took, Stop, End}
 use Rattle.rail.specs.Seats.{SeatState, with_call}
 use Rattle.seats.specs.InProcessLinks.{without_last}
-use Rattle.seats.specs.SeatCallers.{IsSubmitted}
+use Rattle.seats.specs.Replies.{IsSubmitted}
 use Rattle.seats.specs.declared.submitters.Stage.{Stage}
 use Rattle.seats.specs.declared.submitters.Stage.TheVariants.{Free, Read, Update, Lost}
 

@@ -16,7 +16,7 @@ use Rattle.seats.specs.declared.talks.Standing.{Standing}
 use Rattle.seats.specs.declared.talks.Standing.TheVariants.{Idle, Reading, Unsent, Sent, Over}
 use Rattle.seats.specs.declared.talks.Went.{Went}
 use Rattle.seats.specs.declared.talks.Went.TheVariants.{Input, Write as Writes, Seat, Reply as Waits, More, End}
-use Rattle.seats.specs.SeatCallers.{IsSubmitted, ShowsClean}
+use Rattle.seats.specs.Replies.{IsSubmitted, ShowsClean}
 use Rattle.seats.specs.SeatPools.{IsFreeAt}
 use Rattle.seats.specs.Submitters.{Submitting}
 

@@ -1,7 +1,9 @@
 //! Links between the servers of one process: a message is brought into the other server's inbox.
-ghost use Rattle.std.specs.Prelude.{◌≡◌, ◌≤◌, ◌<◌, ◌∷◌, [], ℕ, nat_lt, OnOk, OnErr, IfErr};
+ghost use Rattle.std.specs.Prelude.{◌≡◌, ◌≢◌, ◌≤◌, ◌<◌, ◌++◌, ◌∷◌, [], ℕ, nat_lt, OnOk, OnErr, IfErr};
 ghost use Rattle.node.specs.Lawful.{IsBody};
-ghost use Rattle.seats.specs.InProcessLinks.{before_last, failures_at, last_put, sent_on};
+ghost use Rattle.node.specs.declared.messages.Input.TheVariants.{From};
+ghost use Rattle.rail.specs.declared.events.Event.TheVariants.{Took};
+ghost use Rattle.seats.specs.InProcessLinks.{before_last, failures_at, last_put, sent_at, sent_on};
 
 use crate::server_sets::ServerSet;
 use boxcar::tag::{Names, Tag};
@@ -52,10 +54,13 @@ impl Link {
         ensures down { OnErr result (self.new.has_failed ≡ true) }
         ensures fault { IfErr result (λ fault. fault ≡ RailFault.LinkDown) }
     {
-        if let Some(inlet) = &mut self.inlet {
-            if inlet.bring(rt, id, peer).is_ok() {
-                return Ok(());
+        match &mut self.inlet {
+            Some(inlet) => {
+                if inlet.bring(rt, id, peer).is_ok() {
+                    return Ok(());
+                }
             }
+            None => drop(peer),
         }
         self.has_failed = true;
         Err(RailFault::LinkDown)
@@ -83,11 +88,21 @@ impl<R: Wait + Drop> InProcessLinks<R> {
 }
 
 impl<R: Wait + Drop> Links for InProcessLinks<R> {
-    ghost use Rattle.seats.specs.InProcessLinks.{all_put, failures_at, sent_on};
+    ghost use Rattle.std.specs.Prelude.{◌∷◌, []};
+    ghost use Rattle.node.specs.declared.messages.Input.TheVariants.{From};
+    ghost use Rattle.rail.specs.declared.events.Event.{Event};
+    ghost use Rattle.rail.specs.declared.events.Event.TheVariants.{Took};
+    ghost use Rattle.seats.specs.InProcessLinks.{all_put, failures_at, sent_at, sent_on};
 
-    ghost list = { λ s. all_put s.receivers (sent_on s.links.items) };
+    ghost Carried = { Event };
 
-    ghost failures = { λ s. failures_at s.links.items };
+    // A message is on a wire as the event that it comes from the server of these links.
+    ghost state = { λ s. record {
+      list = all_put s.receivers (sent_on s.links.items);
+      failures = failures_at s.links.items;
+      wire = sent_at (sent_on s.links.items);
+      spelled = λ peer. Took (From s.id peer) ∷ [];
+    } };
 
     fn failed(&self, to: u8) -> bool {
         has_failed(self.links.as_slice(), to)
@@ -116,7 +131,7 @@ fn has_failed(links: &[Link], to: u8) -> bool
 }
 
 // Brings a message to a server whose link hasn't failed.
-#[tactic(auto, using(crate::proofs::Linked::put_at, crate::proofs::Linked::before_at, crate::proofs::Linked::unsent_at, crate::proofs::Linked::failed_at, crate::proofs::Linked::more_failed, crate::proofs::Linked::as_failed, crate::proofs::Linked::beyond))]
+#[tactic(auto, using(crate::proofs::Linked::putting))]
 fn bring_to<R: Wait>(
     rt: &R,
     links: &mut Vec<Link>,
@@ -128,6 +143,10 @@ fn bring_to<R: Wait>(
     requires up { failures_at links.old.items to ≡ 0 }
     ensures put { OnOk result (last_put to to (sent_on links.new.items) ≡ (to, peer) ∷ []) }
     ensures earlier { OnOk result (before_last to (sent_on links.new.items) ≡ sent_on links.old.items) }
+    ensures given { OnOk result
+        (sent_at (sent_on links.new.items) to ≡ sent_at (sent_on links.old.items) to ++ Took (From id peer) ∷ []) }
+    ensures elsewhere { (j : ℕ) → j ≢ to →
+        sent_at (sent_on links.new.items) j ≡ sent_at (sent_on links.old.items) j }
     ensures err { OnErr result (sent_on links.new.items ≡ sent_on links.old.items) }
     ensures failures { (j : ℕ) → failures_at links.old.items j ≤ failures_at links.new.items j }
     ensures fault { IfErr result (λ fault. (fault ≡ RailFault.LinkDown) × (0 < failures_at links.new.items to)) }

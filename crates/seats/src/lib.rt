@@ -1,25 +1,21 @@
-//! What stands between a server's threads and its clients: a seat that answers a connection's calls and may help the
-//! workers meanwhile, the links between servers of one process, the mark of a server that is stopped, and the gauge of
-//! its memory.
+//! What stands between a server's threads and its clients: seats that answer connections' calls, the links between
+//! servers of one process, the mark of a server that is stopped, and the gauge of its memory.
 #![tactic(auto)]
 
 mod gauges;
-mod helpers;
 mod in_process_links;
 mod marks;
+mod outcomes;
 mod peeks;
-mod seat_callers;
 mod seat_pools;
 mod server_sets;
 mod submitters;
 mod talks;
 
 pub use gauges::{Allowance, Gauge};
-pub use helpers::{Alone, Helper};
 pub use in_process_links::{InProcessLinks, Link};
 pub use marks::Mark;
 pub use peeks::peek;
-pub use seat_callers::SeatCaller;
 pub use seat_pools::SeatPool;
 pub use server_sets::ServerSet;
 pub use submitters::Submitter;

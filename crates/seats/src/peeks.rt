@@ -3,7 +3,7 @@ ghost use Rattle.std.specs.Prelude.{◌≡◌, Option, IfSome};
 ghost use Rattle.table.specs.declared.items.Item.{Item};
 ghost use Rattle.table.specs.declared.operations.Reply.TheVariants.{Value};
 ghost use Rattle.faces.specs.Courses.{IsLater};
-ghost use Rattle.seats.specs.SeatCallers.{ShowsClean};
+ghost use Rattle.seats.specs.Replies.{ShowsClean};
 
 use node::Look;
 use rail::Reader;

@@ -1,4 +1,7 @@
 //! The seats of one thread at one server.
+ghost use Rattle.std.specs.Prelude.{◌≡◌, ◌<◌, ◌≤◌, OnOk, vec_capacity, vec_len};
+ghost use Rattle.std.specs.VecDeque.{deque_capacity};
+
 use crate::gauges::Gauge;
 use crate::marks::Mark;
 use crate::peeks::peek;
@@ -20,9 +23,11 @@ pub struct SeatPool {
     mark: Mark,
     // Whether the server's items may take more memory.
     gauge: Gauge,
-    // Seats at which no call is open.
+    // How many seats it has, with those that were taken out.
+    seats: usize,
+    // Seats at which no call is open. There is room for all.
     free: Vec<Submitter>,
-    // Seats with open calls for whose replies nobody waits any more.
+    // Seats with open calls for whose replies nobody waits any more. There is room for all.
     left: VecDeque<Submitter>,
 }
 
@@ -30,9 +35,10 @@ impl Model for SeatPool {
     ghost use Rattle.std.specs.Coded.{codes};
     ghost use Rattle.logbook.specs.Pages.{book_coded};
     ghost use Rattle.versions.specs.Stores.{coded_items};
-    ghost use Rattle.std.specs.Prelude.{All};
+    ghost use Rattle.std.specs.Prelude.{vec_capacity};
+    ghost use Rattle.std.specs.VecDeque.{deque_capacity};
     ghost use Rattle.faces.specs.Courses.{Course};
-    ghost use Rattle.seats.specs.SeatPools.{IsAt, IsFreeAt};
+    ghost use Rattle.seats.specs.SeatPools.{IsPool};
 
     ghost Value = { Course };
 
@@ -40,7 +46,8 @@ impl Model for SeatPool {
 
     ghost view = { λ p. p.reader };
 
-    ghost invariant = { λ p. All (IsFreeAt p.reader.origin) p.free.items × All (IsAt p.reader.origin) p.left.items };
+    ghost invariant = { λ p.
+        IsPool p.reader.origin p.seats p.free.items p.left.items (vec_capacity p.free) (deque_capacity p.left) };
 }
 
 impl SeatPool {
@@ -48,7 +55,7 @@ impl SeatPool {
     ghost use Rattle.table.specs.declared.items.Item.{Item};
     ghost use Rattle.table.specs.declared.operations.Reply.TheVariants.{Value};
     ghost use Rattle.faces.specs.Courses.{IsLater};
-    ghost use Rattle.seats.specs.SeatCallers.{ShowsClean};
+    ghost use Rattle.seats.specs.Replies.{ShowsClean};
     ghost use Rattle.seats.specs.SeatPools.{IsAt, IsFreeAt};
     ghost use Rattle.seats.specs.Submitters.{IsAnswered};
 
@@ -60,17 +67,22 @@ impl SeatPool {
             reader,
             mark,
             gauge,
+            seats: 0,
             free: Vec::new(alloc),
             left: VecDeque::new(alloc),
         }
     }
 
-    /// Adds a seat of the same server. If it is refused, memory is out, and the seat is dropped.
+    /// Adds a seat of the same server, and makes room for whatever may become of it later. If it is refused, memory is
+    /// out, and the seat is dropped.
     pub fn add(&mut self, seat: Seat) -> Result<(), AllocError>
         requires server { seat.origin ≡ self.old.origin }
         ensures same { self.new ≡ self.old }
     {
-        self.free.push(Submitter::new(seat))?;
+        let seats = self.seats.saturating_add(1);
+        make_room(&mut self.free, &mut self.left, seats)?;
+        self.seats = seats;
+        self.free.push_reserved(Submitter::new(seat));
         Ok(())
     }
 
@@ -140,7 +152,7 @@ impl SeatPool {
         requires { IsFreeAt self.old.origin submitter }
         ensures { self.new ≡ self.old }
     {
-        // There is room, since it was there before.
+        // There is room for each seat.
         drop(self.free.push(submitter));
     }
 
@@ -149,6 +161,7 @@ impl SeatPool {
         requires { IsAt self.old.origin submitter }
         ensures { self.new ≡ self.old }
     {
+        // There is room for each seat.
         drop(self.left.push_back(submitter));
     }
 
@@ -168,4 +181,22 @@ impl SeatPool {
     {
         submitter.take(rt, &mut self.reader)
     }
+}
+
+// Makes room for one more free seat, and for so many in all among those that are free, and among those that were left.
+fn make_room(
+    free: &mut Vec<Submitter>,
+    left: &mut VecDeque<Submitter>,
+    seats: usize,
+) -> Result<(), AllocError>
+    ensures free { free.new.items ≡ free.old.items }
+    ensures left { left.new.items ≡ left.old.items }
+    ensures frees { vec_capacity free.old ≤ vec_capacity free.new }
+    ensures leaves { deque_capacity left.old ≤ deque_capacity left.new }
+    ensures one { OnOk result (vec_len free.new < vec_capacity free.new) }
+    ensures all { OnOk result ((seats ≤ vec_capacity free.new) × (seats ≤ deque_capacity left.new)) }
+{
+    free.reserve(seats.saturating_sub(free.len()).max(1))?;
+    left.reserve(seats.saturating_sub(left.len()))?;
+    Ok(())
 }

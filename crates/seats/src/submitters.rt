@@ -75,13 +75,6 @@ impl Submitter {
         }
     }
 
-    /// Whether nothing is sent or answered any more.
-    pub fn is_lost(&self) -> bool
-        ensures { result ≡ self.now.lost }
-    {
-        matches!(self.stage, Stage::Lost)
-    }
-
     /// Sends a call, which is open from then on. Refused if the worker is gone, or it is lost: nothing was sent then,
     /// and every later call is refused too. It may wait, if the server's queue is full.
     pub fn submit<R: Wait>(&mut self, rt: &R, call: Call) -> Result<(), CallFault>
@@ -129,28 +122,6 @@ impl Submitter {
             Ok(Some((reply, told))) => {
                 let reply = hear(&mut self.stage, reader, reply, told)?;
                 Ok(Some(reply))
-            }
-            Err(_) => {
-                self.stage = Stage::Lost;
-                Err(CallFault)
-            }
-        }
-    }
-
-    /// The same, but it waits for the reply to the open call.
-    pub fn wait<R: Wait>(&mut self, rt: &R, reader: &mut Reader) -> Result<Reply, CallFault>
-        requires together { self.old.seat.origin ≡ reader.old.origin }
-        requires waits { IsSome self.old.waiting }
-        ensures together { self.new.seat.origin ≡ reader.new.origin }
-        ensures later { IsLater reader.old reader.new }
-        ensures taken { IfOk result (λ reply. IsAnswered reader.old reader.new self.old self.new reply) }
-        ensures lost { OnErr result ((self.new.lost ≡ true) × (self.new.waiting ≡ None)) }
-        ensures sent { all_sent self.new ≡ all_sent self.old }
-    {
-        match self.seat.reply(rt) {
-            Ok((reply, told)) => {
-                let reply = hear(&mut self.stage, reader, reply, told)?;
-                Ok(reply)
             }
             Err(_) => {
                 self.stage = Stage::Lost;

@@ -1,24 +1,25 @@
 //! A connection at a server's seats, without a thread: each of its calls is refused or answered by a look at once, or
 //! sent at a seat, whose reply is taken later.
-ghost use Rattle.std.specs.Prelude.{◌≡◌, true, IfOk, IsTrue, MatchOption, OnErr, OnOk};
-ghost use Rattle.proto.specs.Turns.{Outcome, Refused, Replied, is_store};
+ghost use Rattle.std.specs.Prelude.{◌≡◌, IfOk, MatchOption, OnErr, OnOk};
+ghost use Rattle.proto.specs.Turns.{Outcome, Refused};
 ghost use Rattle.faces.specs.Courses.{IsLater};
-ghost use Rattle.serving.specs.Connections.{HasOutcome, MayHave, MayRefuse};
+ghost use Rattle.serving.specs.Connections.{HasOutcome, MayRefuse};
 ghost use Rattle.serving.specs.Serving.{CameTo};
 ghost use Rattle.serving.specs.Wanted.{IsAsking};
 ghost use Rattle.seats.specs.declared.talks.Standing.TheVariants.{Idle, Over, Unsent};
 ghost use Rattle.seats.specs.declared.talks.Went.TheVariants.{Seat};
 ghost use Rattle.seats.specs.Talks.{HoldsFree, IsReplied};
 
+use crate::outcomes::{hand_on, is_refused, settle};
 use crate::seat_pools::SeatPool;
 use crate::submitters::Submitter;
 use rail::Told;
-use serving::{Connection, End, ServeFault, Wants, stores};
+use serving::{Connection, End, ServeFault, Wants};
 use std::alloc::{AllocError, Global};
 use std::marker::Model;
 use std::mem;
 use std::sync::Wait;
-use table::{Call, Reply};
+use table::Call;
 
 /// How far a talk went.
 #[derive(Clone, Copy, Debug, PartialEq, Eq)]
@@ -198,7 +199,7 @@ impl Talk {
             Ok(Some(reply)) => {
                 give_back(&mut self.standing, pool);
                 hand_on(&mut self.connection, &mut self.seen, pool, reply)?;
-                self.standing = Standing::Idle;
+                stand_at(&mut self.standing, Standing::Idle);
                 Ok(true)
             }
             Err(_) => {
@@ -335,13 +336,6 @@ impl Talk {
     }
 }
 
-// Whether a call is to be refused: it stores, and the pool has no room.
-fn is_refused(pool: &SeatPool, call: &Call) -> bool
-    ensures { IsTrue result → is_store call.now.op ≡ true }
-{
-    stores(&call.op) && !pool.has_room()
-}
-
 // Refuses the call that waits.
 fn refuse(connection: &mut Connection, standing: &mut Standing) -> Result<(), ServeFault>
     requires may_refuse { MayRefuse connection.old.waiting }
@@ -349,14 +343,19 @@ fn refuse(connection: &mut Connection, standing: &mut Standing) -> Result<(), Se
     ensures err { OnErr result ((standing.new ≡ Over) ×
         (connection.new ≡ record connection.old { failed = connection.new.failed })) }
 {
-    *standing = Standing::Over;
-    connection.refuse()?;
-    *standing = Standing::Idle;
-    Ok(())
+    match connection.refuse() {
+        Ok(()) => {
+            stand_at(standing, Standing::Idle);
+            Ok(())
+        }
+        Err(_) => {
+            stand_at(standing, Standing::Over);
+            Err(ServeFault::Memory)
+        }
+    }
 }
 
-// Has the call that waits answered by a look, or refuses it: then it isn't looked at. If neither comes of it, it waits
-// for a seat.
+// Has the call that waits come to something at once. If it doesn't, it waits for a seat.
 fn ask(
     connection: &mut Connection,
     standing: &mut Standing,
@@ -376,42 +375,29 @@ fn ask(
     ensures err { OnErr result ((standing.new ≡ Over) × (seen.new ≡ seen.old) ×
         (connection.new ≡ record connection.old { failed = connection.new.failed })) }
 {
-    if is_refused(pool, &call) {
-        refuse(connection, standing)?;
-        return Ok(None);
-    }
-    match pool.peek(&call) {
-        Ok(Some(reply)) => {
-            *standing = Standing::Over;
-            hand_on(connection, seen, pool, reply)?;
-            *standing = Standing::Idle;
+    match settle(connection, seen, pool, &call) {
+        Ok(true) => {
+            drop(call);
+            stand_at(standing, Standing::Idle);
             Ok(None)
         }
-        Ok(None) => {
-            *standing = Standing::Unsent(call);
+        Ok(false) => {
+            stand_at(standing, Standing::Unsent(call));
             Ok(Some(Went::Seat))
         }
-        Err(_) => {
-            *standing = Standing::Over;
-            Err(ServeFault::Call)
+        Err(fault) => {
+            drop(call);
+            stand_at(standing, Standing::Over);
+            Err(fault)
         }
     }
 }
 
-// Hands on the reply to the call that waits, which was taken, or found by a look, at this pool.
-fn hand_on(
-    connection: &mut Connection,
-    seen: &mut Told,
-    pool: &SeatPool,
-    reply: Reply,
-) -> Result<(), ServeFault>
-    requires may_have { MayHave connection.old.waiting reply }
-    ensures ok { OnOk result (HasOutcome (Replied reply) connection.old connection.new × (seen.new ≡ pool.now)) }
-    ensures err { OnErr result ((seen.new ≡ seen.old) × (connection.new ≡ record connection.old { failed = true })) }
+// From now on it stands so. What it stood at is dropped, whatever that was.
+fn stand_at(standing: &mut Standing, next: Standing)
+    ensures { standing.new ≡ next }
 {
-    connection.answer(&reply)?;
-    *seen = pool.tell();
-    Ok(())
+    *standing = next;
 }
 
 // Gives the seat back to the pool, if it has one.

@@ -78,7 +78,7 @@ fn look(beside: &mut Reader, key: &Key) -> Shown
 
 // An input that may be given is taken.
 fn feed<R: Wait>(rt: &R, publisher: &mut Publisher, input: Input) -> Result<(), FaceFault>
-    ensures { publisher.new.origin ≡ publisher.old.origin }
+    ensures { publisher.new.published.origin ≡ publisher.old.published.origin }
 {
     if input.is_fit() {
         take(rt, publisher, input)
@@ -90,7 +90,7 @@ fn feed<R: Wait>(rt: &R, publisher: &mut Publisher, input: Input) -> Result<(), 
 // An input is taken.
 fn take<R: Wait>(rt: &R, publisher: &mut Publisher, input: Input) -> Result<(), FaceFault>
     requires { IsInput input }
-    ensures { publisher.new.origin ≡ publisher.old.origin }
+    ensures { publisher.new.published.origin ≡ publisher.old.published.origin }
 {
     match publisher.take(rt, input) {
         Ok(_) => Ok(()),
@@ -100,7 +100,7 @@ fn take<R: Wait>(rt: &R, publisher: &mut Publisher, input: Input) -> Result<(), 
 
 // A reader is told of what is published. Whether it then tells of all that.
 fn tells(publisher: &Publisher, beside: &mut Reader) -> bool
-    requires { beside.old.origin ≡ publisher.now.origin }
+    requires { beside.old.origin ≡ publisher.now.published.origin }
 {
     let told = publisher.published().again().tell();
     beside.learn(told.again());
@@ -115,7 +115,7 @@ fn looks<R: Wait>(
     input: Input,
     key: &Key,
 ) -> Result<bool, FaceFault>
-    requires { beside.old.origin ≡ publisher.old.origin }
+    requires { beside.old.origin ≡ publisher.old.published.origin }
 {
     let none = look(beside, key) == Shown::Nothing;
     feed(rt, publisher, input)?;

@@ -3,6 +3,8 @@
 #![tactic(auto)]
 
 #[cfg(test)]
+mod asking_tests;
+#[cfg(test)]
 mod connection_tests;
 #[cfg(test)]
 mod faces_tests;

@@ -70,9 +70,15 @@ struct Keeper {
 }
 
 impl Taker for Keeper {
+    ghost use Rattle.std.specs.Prelude.{◌≡◌, ◌++◌, ◌∷◌, []};
+
     ghost taken = { λ keeper. keeper.frames.items };
 
     ghost failures = { λ keeper. keeper.failures };
+
+    ghost hears = { λ before frame now. now.frames.items ≡ before.frames.items ++ frame ∷ [] };
+
+    ghost misses = { λ before frame now. now.frames.items ≡ before.frames.items };
 
     fn take<R: Wait>(&mut self, _rt: &R, frame: Frame) -> Result<(), TakeFault> {
         if self.left == 0 {

@@ -20,16 +20,21 @@ use table::{Call, Item, Key, Op, Reply, Target};
 
 // Links that are down.
 #[derive(Drop)]
-struct Down {
+pub(crate) struct Down {
     failures: u64,
 }
 
 impl Links for Down {
     ghost use Rattle.std.specs.Prelude.{[]};
 
-    ghost list = { λ s. [] };
+    ghost Carried = { Unit {0} };
 
-    ghost failures = { λ s j. s.failures };
+    ghost state = { λ s. record {
+      list = [];
+      failures = λ j. s.failures;
+      wire = λ j. [];
+      spelled = λ peer. [];
+    } };
 
     fn failed(&self, _to: u8) -> bool {
         self.failures > 0
@@ -41,11 +46,11 @@ impl Links for Down {
     }
 }
 
-fn no_links() -> Down {
+pub(crate) fn no_links() -> Down {
     Down { failures: 1 }
 }
 
-fn key(alloc: Global, bytes: &[u8]) -> Result<Key, RailFault> {
+pub(crate) fn key(alloc: Global, bytes: &[u8]) -> Result<Key, RailFault> {
     match Key::new(alloc, bytes)? {
         Some(key) => Ok(key),
         None => Err(RailFault::Closed),
@@ -76,7 +81,7 @@ fn idle_node(alloc: Global, count: u8) -> Result<Node, RailFault>
 }
 
 // The first of so many servers, with stands for so many threads and one inlet.
-fn first_of<R: Wait + Drop>(
+pub(crate) fn first_of<R: Wait + Drop>(
     rt: R,
     alloc: Global,
     count: u8,
@@ -88,7 +93,7 @@ fn first_of<R: Wait + Drop>(
     open(rt, alloc, node, readers, 1)
 }
 
-fn last<T>(list: &mut Vec<T>) -> Result<T, RailFault> {
+pub(crate) fn last<T>(list: &mut Vec<T>) -> Result<T, RailFault> {
     match list.pop() {
         Some(item) => Ok(item),
         None => Err(RailFault::NoReader),
@@ -103,7 +108,11 @@ fn has_turn<R: Wait + Drop>(worker: &mut Worker<R>) -> Result<bool, RailFault> {
     Ok(worker.turn_if_any(&mut no_links())?.is_some())
 }
 
-fn submits<R: Wait>(rt: &R, alloc: Global, stand: &mut Stand) -> Result<bool, RailFault> {
+pub(crate) fn submits<R: Wait>(
+    rt: &R,
+    alloc: Global,
+    stand: &mut Stand,
+) -> Result<bool, RailFault> {
     let call = set_of_a(alloc)?;
     Ok(stand.seat.submit(rt, call).is_ok())
 }
@@ -118,7 +127,7 @@ fn is_v(look: Look<Item>) -> bool {
 }
 
 // Whether a reader finds a key's item.
-fn finds_v(reader: &mut Reader, key: &Key) -> Result<bool, RailFault>
+pub(crate) fn finds_v(reader: &mut Reader, key: &Key) -> Result<bool, RailFault>
     ensures { reader.new.origin ≡ reader.old.origin }
 {
     match reader.look(key) {
@@ -259,9 +268,14 @@ struct Held<'a, R: Clock> {
 impl<'a, R: Clock> Links for Held<'a, R> {
     ghost use Rattle.std.specs.Prelude.{[]};
 
-    ghost list = { λ s. [] };
+    ghost Carried = { Unit {0} };
 
-    ghost failures = { λ s j. s.failures };
+    ghost state = { λ s. record {
+      list = [];
+      failures = λ j. s.failures;
+      wire = λ j. [];
+      spelled = λ peer. [];
+    } };
 
     fn failed(&self, _to: u8) -> bool {
         self.failures > 0

@@ -57,9 +57,16 @@ struct Barrier<R: Wait + Drop> {
 }
 
 impl<R: Wait + Drop> Links for Barrier<R> {
-    ghost list = { λ barrier. barrier.put.items };
+    ghost use Rattle.std.specs.Prelude.{[]};
 
-    ghost failures = { λ barrier server. 0 };
+    ghost Carried = { Unit {0} };
+
+    ghost state = { λ barrier. record {
+      list = barrier.put.items;
+      failures = λ server. 0;
+      wire = λ server. [];
+      spelled = λ peer. [];
+    } };
 
     fn failed(&self, _to: u8) -> bool {
         false

@@ -64,6 +64,8 @@ fn tells<
     let numbers = MasterNumbers {
         servers: SERVERS,
         peer_port,
+        watch: false,
+        beat: 300,
     };
     let settings = MasterSettings::new(alloc, numbers, here(alloc)?)?;
     let (input, mut lines) = pipe(rt)?;

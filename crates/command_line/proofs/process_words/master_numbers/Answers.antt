@@ -9,3 +9,7 @@ returns-in_err-servers-clause-none c = λ none numbers n.
 pub returns-in_err-peer_port-clause-none : goal.returns-in_err-peer_port-clause-none
 returns-in_err-peer_port-clause-none c = λ none numbers n.
     given_none _ _ _ _ _ _ _ c.in_ok-given.ensures.given n.named (c.in_err-peer_port.ensures.none refl) _ n.peer_port
+
+pub returns-in_err-beat-clause-none : goal.returns-in_err-beat-clause-none
+returns-in_err-beat-clause-none c = λ none numbers n.
+    given_none _ _ _ _ _ _ _ c.in_ok-given.ensures.given n.named (c.in_err-beat.ensures.none refl) _ n.beat

@@ -9,5 +9,7 @@ pub returns : goal.returns
 returns c =
     let named : ReadsAs (new_app (codes "master")) c.about.result = search rules in
     let servers = with_option _ _ _ _ _ named c.servers_option.ensures c.in_ok-arg.ensures in
-    let peer_port = with_option _ _ _ _ _ servers c.peer_port_option.ensures c.in_ok-master.ensures in
-    IfOk-weaker c.with_hosts.result _ _ (λ parser adds. adds _ peer_port) c.with_hosts.ensures
+    let peer_port = with_option _ _ _ _ _ servers c.peer_port_option.ensures c.in_ok-arg-2.ensures in
+    let watch = with_option _ _ _ _ _ peer_port c.watch_option.ensures c.in_ok-arg-3.ensures in
+    let beat = with_option _ _ _ _ _ watch c.beat_option.ensures c.in_ok-master.ensures in
+    IfOk-weaker c.with_hosts.result _ _ (λ parser adds. adds _ beat) c.with_hosts.ensures

@@ -1,9 +1,10 @@
-use Rattle.std.proofs.Common.{◌++◌, ℕ, List, [], take, refl, sym, subst, append-nil}
+use Rattle.std.proofs.Common.{◌≡◌, rules, ◌++◌, ℕ, List, [], take, refl, sym, subst, append-nil}
 use Rattle.wire.specs.declared.ends.PeerEnd.TheVariants as ends
 use Rattle.wire.specs.Streams.{Held}
 use Rattle.wire.specs.Ends.{IsEnd}
 use Rattle.ends.proofs.Written.{at-an-error, written-then}
-use Rattle.peers.specs.Links.{TakesFirst}
+use Rattle.peers.specs.Links.{TakesFirst, HasHeard, failed_takes}
+use Rattle.peers.proofs.Hearing.{heard_none, heard_on}
 use Rattle.peers.proofs.Taking.{given_still, none_taken, nothing_ends}
 use Rattle.peers.proofs.Taking.{taken_all, taken_beginning, piece_read, piece_taken}
 use Rattle.peers.proofs.serving.serve.Goals as goal
@@ -21,6 +22,7 @@ loop-init g c =
         subst (λ (h : Held). TakesFirst [] h.unread taken taken) (sym c.requires.fresh) (none_taken taken),
       );
       stops = subst (λ (h : Held). IsEnd h.unread ends.Input) (sym c.requires.fresh) nothing_ends;
+      heard = heard_none g.T.Taker.hears g.T.Taker.misses g.T.Taker.taken c.args.taker.now;
       reads = refl;
       takes = refl;
     }
@@ -75,3 +77,39 @@ returns-in_default-clause-served g c =
           c.in_ok-feed.ensures.fed s.2 c.in_ok-end.ensures.first)
           c.in_ok-end.ensures.stops,
     )
+
+pub returns-in_err-end-clause-heard : goal.returns-in_err-end-clause-heard
+returns-in_err-end-clause-heard g c =
+    let hears = g.T.Taker.hears in
+    let misses = g.T.Taker.misses in
+    let taken = g.T.Taker.taken in
+    let told : failed_takes c.hand_on.result ≡ failed_takes c.from_residual-in_err-end.result = search rules in
+    heard_on hears misses taken (failed_takes c.from_residual-in_err-end.result) c.args.taker.now c.loop.taker
+    c.hand_on.new.taker c.loop.invariant.heard
+    (subst (λ (n : ℕ). HasHeard hears misses taken n c.loop.taker c.hand_on.new.taker) told c.hand_on.ensures.heard)
+
+pub loop-preserved : goal.loop-preserved
+loop-preserved g c =
+    let s = c.loop.invariant.stands in
+    let piece : List ℕ = take c.in-Ok.n c.read.new.bytes in
+    record {
+      goes_on = (tt, tt);
+      some_room = search rules;
+      open_still = search rules;
+      stands = (
+        s.0 ++ piece,
+        written-then _ _ _ s.0 piece s.1 c.in-Ok.ensures.given,
+        piece_taken s.0 piece _ c.loop.frames c.feed.new.frames _ _ _ c.loop.invariant.open_still
+            c.in_ok-feed.ensures.fed s.2 c.in_ok-end.ensures.first,
+      );
+      stops = search rules;
+      heard = heard_on g.T.Taker.hears g.T.Taker.misses g.T.Taker.taken 0 c.args.taker.now c.loop.taker
+          c.hand_on.new.taker c.loop.invariant.heard c.in_ok-end.ensures.heard;
+      reads = search rules;
+      takes = search rules;
+    }
+
+pub returns-in_default-clause-heard : goal.returns-in_default-clause-heard
+returns-in_default-clause-heard g c =
+    heard_on g.T.Taker.hears g.T.Taker.misses g.T.Taker.taken 0 c.args.taker.now c.loop.taker c.hand_on.new.taker
+    c.loop.invariant.heard c.in_ok-end.ensures.heard

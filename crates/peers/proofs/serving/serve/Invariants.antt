@@ -1,7 +1,7 @@
 use Rattle.std.proofs.Common.{◌≡◌, ◌<◌, ◌++◌, List, ℕ, length, false}
 use Rattle.wire.specs.declared.ends.PeerEnd.TheVariants as ends
 use Rattle.wire.specs.Ends.{IsEnd}
-use Rattle.peers.specs.Links.{TakesFirst}
+use Rattle.peers.specs.Links.{HasHeard, TakesFirst}
 use Rattle.peers.proofs.serving.serve.Given as goal
 
 abbrev pub invariant-loop : goal.invariant-loop
@@ -13,6 +13,7 @@ invariant-loop g l =
       stands : (read : List ℕ) × (g.S.Source.given l.source ≡ g.S.Source.given l.fn.source ++ read)
           × TakesFirst read l.frames.unread (g.T.Taker.taken l.fn.taker) (g.T.Taker.taken l.taker);
       stops : IsEnd l.frames.unread ends.Input;
+      heard : HasHeard g.T.Taker.hears g.T.Taker.misses g.T.Taker.taken 0 l.fn.taker l.taker;
       reads : g.S.Source.failures l.source ≡ g.S.Source.failures l.fn.source;
       takes : g.T.Taker.failures l.taker ≡ g.T.Taker.failures l.fn.taker;
     }

@@ -1,5 +1,5 @@
 use Rattle.std.proofs.Common.{◌≡◌, ◌∙◌, sym, ap, ◌++◌, ◌∷◌, [], arith, rules}
-use Rattle.faces.specs.Courses.{Course}
+use Rattle.faces.specs.Publishers.{Publishing}
 use Rattle.rail.specs.Letters.{post_at}
 use Rattle.rail.specs.Servers.{stand_at}
 use Rattle.rail.proofs.Opening.{posts_more, stands_more}
@@ -9,9 +9,9 @@ pub loop-port-preserved : goal.loop-port-preserved
 loop-port-preserved c =
     let at = c.loop-port.invariant in
     let k = c.loop-port.port in
-    let o = c.args.publisher.now.origin in
-    let stand = c.in_ok-stand.ensures.stand ∙ ap (λ (p : Course). stand_at p.origin k) at.publisher in
-    let post = c.in_ok-stand.ensures.post ∙ ap (λ (p : Course). post_at p.origin k) at.publisher in
+    let o = c.args.publisher.now.published.origin in
+    let stand = c.in_ok-stand.ensures.stand ∙ ap (λ (p : Publishing). stand_at p.published.origin k) at.publisher in
+    let post = c.in_ok-stand.ensures.post ∙ ap (λ (p : Publishing). post_at p.published.origin k) at.publisher in
     let pushed : c.push-in-loop-port.new.self.items ≡ c.loop-port.posts.items ++ c.in_ok-stand.post ∷ [] =
     search rules in
     record {

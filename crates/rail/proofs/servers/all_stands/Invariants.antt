@@ -9,6 +9,6 @@ abbrev pub invariant-loop-port : goal.invariant-loop-port
 invariant-loop-port l = record {
   publisher : l.publisher ≡ l.fn.publisher;
   gate : view l.gate.pass ≡ taker l.port l.port [];
-  stands : l.stands.items ≡ stands_from l.fn.publisher.origin 0 l.port;
-  posts : l.posts.items ≡ posts_from l.fn.publisher.origin 0 l.port;
+  stands : l.stands.items ≡ stands_from l.fn.publisher.published.origin 0 l.port;
+  posts : l.posts.items ≡ posts_from l.fn.publisher.published.origin 0 l.port;
 }

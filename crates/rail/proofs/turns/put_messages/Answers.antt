@@ -4,6 +4,7 @@ use Rattle.node.specs.declared.messages.Output.{Output}
 use Rattle.node.specs.declared.messages.Output.TheVariants.{To}
 use Rattle.faces.specs.Outputs.{IsAmong}
 use Rattle.rail.specs.Turns.{HasPut, messages_of}
+use Rattle.rail.proofs.Carrying.{carried_none, carried_on}
 use Rattle.rail.proofs.Putting.{among_at, fit_at, put_none, put_next, put_same, put_failing, on_err}
 use Rattle.rail.proofs.turns.put_messages.Goals.{in-To+in_ok-put_message, in_default}
 use Rattle.rail.proofs.turns.put_messages.Goals as goal
@@ -19,32 +20,37 @@ put_message-requires g c =
     }
 
 pub loop-output-init : goal.loop-output-init
-loop-output-init g c = put_none (g.L.Links.list c.args.links.now) (g.L.Links.failures c.args.links.now)
+loop-output-init g c =
+    record { put = put_none (g.L.Links.state c.args.links.now); carried = carried_none (g.L.Links.state c.args.links.now) }
 
 pub loop-output-preserved : goal.loop-output-preserved
 loop-output-preserved g c =
-    let list = g.L.Links.list in
-    let failures = g.L.Links.failures in
+    let state = g.L.Links.state in
     let outputs = c.args.outputs.now in
     let k = c.loop-output.output-index in
+    let all = c.loop-output.invariant in
     elim c.match-output.branch [
       | in-To+in_ok-put_message w ↦ rw w.links-is
-          (put_next outputs k _ w.in-To.to w.in-To.peer (list c.args.links.now) (list c.loop-output.links)
-          (list w.put_message.new.links) (failures c.loop-output.links) (failures w.put_message.new.links)
-          c.loop-output-test.true
-          (sym c.output-item.is ∙ w.in-To.is) w.put_message.ensures.failures c.loop-output.invariant
-          w.in_ok-put_message.ensures.ok)
+          record {
+            put = put_next outputs k _ w.in-To.to w.in-To.peer (state c.args.links.now) (state c.loop-output.links)
+                (state w.put_message.new.links) c.loop-output-test.true (sym c.output-item.is ∙ w.in-To.is) all.carried
+                w.put_message.ensures.carried all.put w.in_ok-put_message.ensures.ok;
+            carried = carried_on (state c.args.links.now) (state c.loop-output.links) (state w.put_message.new.links)
+                all.carried w.put_message.ensures.carried;
+          }
       | in_default w ↦ rw w.links-is
-          (put_same outputs k _ (list c.args.links.now) (list c.loop-output.links) (failures c.loop-output.links)
-          c.loop-output-test.true (λ to peer is. w.in_default.not-To to peer (c.output-item.is ∙ is))
-          c.loop-output.invariant)
+          record {
+            put = put_same outputs k _ (state c.args.links.now) (state c.loop-output.links) c.loop-output-test.true
+                (λ to peer is. w.in_default.not-To to peer (c.output-item.is ∙ is)) all.put;
+            carried = all.carried;
+          }
     ]
 
 pub returns-clause-ok : goal.returns-clause-ok
 returns-clause-ok g c =
-    subst (λ (os : List Output). HasPut (g.L.Links.list c.args.links.now) (g.L.Links.list c.loop-output.links)
-    (g.L.Links.failures c.loop-output.links) (messages_of os))
-    (take_all c.loop-output.output-index c.args.outputs.now c.loop-output-test.false) c.loop-output.invariant
+    subst (λ (os : List Output). HasPut (g.L.Links.state c.args.links.now) (g.L.Links.state c.loop-output.links)
+    (messages_of os)) (take_all c.loop-output.output-index c.args.outputs.now c.loop-output-test.false)
+    c.loop-output.invariant.put
 
 pub returns-in_err-put_message-clause-err : goal.returns-in_err-put_message-clause-err
 returns-in_err-put_message-clause-err g c =
@@ -53,8 +59,12 @@ returns-in_err-put_message-clause-err g c =
       take k c.args.outputs.now,
       drop k c.args.outputs.now,
       sym (take-append-drop k c.args.outputs.now),
-      put_failing (g.L.Links.list c.args.links.now) (g.L.Links.list c.loop-output.links)
-          (g.L.Links.list c.put_message.new.links) (g.L.Links.failures c.loop-output.links)
-          (g.L.Links.failures c.put_message.new.links) (messages_of (take k c.args.outputs.now))
-          c.put_message.ensures.failures c.in_err-put_message.ensures.err c.loop-output.invariant,
+      put_failing (g.L.Links.state c.args.links.now) (g.L.Links.state c.loop-output.links)
+          (g.L.Links.state c.put_message.new.links) c.put_message.ensures.carried.failures
+          (messages_of (take k c.args.outputs.now)) c.in_err-put_message.ensures.err c.loop-output.invariant.put,
     )
+
+pub returns-in_err-put_message-clause-carried : goal.returns-in_err-put_message-clause-carried
+returns-in_err-put_message-clause-carried g c =
+    carried_on (g.L.Links.state c.args.links.now) (g.L.Links.state c.loop-output.links)
+    (g.L.Links.state c.put_message.new.links) c.loop-output.invariant.carried c.put_message.ensures.carried

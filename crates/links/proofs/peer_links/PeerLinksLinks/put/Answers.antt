@@ -5,17 +5,17 @@ use Rattle.wire.specs.declared.frames.Frame.TheVariants as frames
 use Rattle.links.specs.PeerLinks.{written_at}
 use Rattle.links.proofs.peer_links.PeerLinksLinks.put.Goals as goal
 
-pub returns-clause-ok : goal.returns-clause-ok
-returns-clause-ok g c =
+pub returns-in-Ok-clause-ok : goal.returns-in-Ok-clause-ok
+returns-in-Ok-clause-ok g c =
     let same : c.in_ok-clone.field-0 ≡ c.args.peer.now = search rules in
     let value : c.framed-snapshot.result.0.value ≡ (c.args.to, c.args.peer.now) =
     c.framed-snapshot.ensures.snapshot ∙ ap (λ p. (c.args.to, p)) same in
     let added : c.add.new.self ≡ c.args.self.now.puts ++ c.framed-snapshot.result.0.value ∷ [] =
-    c.in_ok-add.ensures.ok in
+    c.in-Ok.ensures.ok in
     added ∙ ap (λ m. c.args.self.now.puts ++ m ∷ []) value
 
-pub returns-clause-written : goal.returns-clause-written
-returns-clause-written g c =
+pub returns-in-Ok-clause-written : goal.returns-in-Ok-clause-written
+returns-in-Ok-clause-written g c =
     let same : c.in_ok-clone.field-0 ≡ c.args.peer.now = search rules in
     let frame : c.framed-snapshot.result.1 ≡ frames.Peer c.args.peer.now =
     c.framed-snapshot.ensures.frame ∙ ap (λ p. frames.Peer p) same in

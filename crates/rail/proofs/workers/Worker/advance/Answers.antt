@@ -5,6 +5,7 @@ use Rattle.node.specs.declared.messages.Input.{Input}
 use Rattle.node.specs.Lawful.{IsInput, HoldsEntry}
 use Rattle.node.specs.Replies.{AreCallsBelow, AreOpenBelow}
 use Rattle.faces.specs.Courses.{Course, server_after, with_next}
+use Rattle.faces.specs.Publishers.{Publishing}
 use Rattle.rail.specs.Letters.{PostState}
 use Rattle.rail.specs.Turns.{HasReplied}
 use Rattle.rail.specs.Workers.{WorkerState, IsGoing}
@@ -35,8 +36,8 @@ advance-done-requires-clause-open g c =
     let me = c.self.inside in
     let some : me.publisher ≡ Some c.in-Some.publisher = search rules in
     let going =
-    subst (λ (o : Option Course). IsGoing o me.told (view me.inbox.pass).ports) some c.self.invariant.going in
-    subst (λ (n : ℕ). AreOpenBelow n (server_after c.in-Some.publisher)) (sym c.self.invariant.as_many) going.2
+    subst (λ (o : Option Publishing). IsGoing o me.told (view me.inbox.pass).ports) some c.self.invariant.going in
+    subst (λ (n : ℕ). AreOpenBelow n (server_after c.in-Some.publisher.published)) (sym c.self.invariant.as_many) going.2
 
 pub invariant_of-self-then-is_ok : goal.invariant_of-self-then-is_ok
 invariant_of-self-then-is_ok g c =
@@ -44,7 +45,7 @@ invariant_of-self-then-is_ok g c =
     let done = c.advance-done in
     let some : me.publisher ≡ Some c.in-Some.publisher = search rules in
     let going =
-    subst (λ (o : Option Course). IsGoing o me.told (view me.inbox.pass).ports) some c.self.invariant.going in
+    subst (λ (o : Option Publishing). IsGoing o me.told (view me.inbox.pass).ports) some c.self.invariant.going in
     let got = c.into_input-input.ensures in
     let back = sym c.self.view_is in
     let same = sym got.0 in
@@ -52,9 +53,10 @@ invariant_of-self-then-is_ok g c =
     c.requires.port in
     let ok : is_err done.result ≡ false = search rules in
     let next = ok_by done.result _ ok done.ensures.next in
+    let goes = ok_by done.result _ ok done.ensures.goes in
     going_worker (Some done.new.publisher) c.in-Some.publisher done.new.publisher me.told done.new.told
     c.into_input-input.result me.posts.items _ _ _
-    refl going next.0 next.1 (ok_by done.result _ ok done.ensures.replies) c.self.invariant.placed
+    refl going goes next.0 next.1 (ok_by done.result _ ok done.ensures.replies) c.self.invariant.placed
     c.self.invariant.as_many
     (subst IsInput same got.1) (subst HoldsEntry same got.2) calls
 
@@ -64,16 +66,16 @@ returns-then-is_ok-clause-did g c =
     let done = c.advance-done in
     let some : me.publisher ≡ Some c.in-Some.publisher = search rules in
     let going =
-    subst (λ (o : Option Course). IsGoing o me.told (view me.inbox.pass).ports) some c.self.invariant.going in
+    subst (λ (o : Option Publishing). IsGoing o me.told (view me.inbox.pass).ports) some c.self.invariant.going in
     let got = c.into_input-input.ensures in
     let calls = subst (λ (w : WorkerState). AreCallsBelow (length w.posts) (c.args.input ∷ [])) (sym c.self.view_is)
     c.requires.port in
     let ok : is_err done.result ≡ false = search rules in
     let next = ok_by done.result _ ok done.ensures.next in
     rw (← c.self.view_is)
-    (gone _ _ (g.L.Links.list c.args.links.now) (g.L.Links.list done.new.links) (g.L.Links.failures done.new.links)
-    c.in-Some.publisher done.new.publisher c.args.input _
-    (ap is_some some) refl going next.1 (next.0 ∙ ap (with_next c.in-Some.publisher) got.0)
+    (gone _ _ (g.L.Links.state c.args.links.now) (g.L.Links.state done.new.links)
+    c.in-Some.publisher done.new.publisher.published c.args.input _
+    (ap is_some some) refl going next.1 (next.0 ∙ ap (with_next c.in-Some.publisher.published) got.0)
     (ok_by done.result _ ok done.ensures.messages) (ok_by done.result _ ok done.ensures.replies) got.1 got.2 calls
     c.self.invariant.as_many)
 
@@ -83,11 +85,11 @@ invariant_of-self-2 g c =
     let done = c.advance-done in
     let some : me.publisher ≡ Some c.in-Some.publisher = search rules in
     let going =
-    subst (λ (o : Option Course). IsGoing o me.told (view me.inbox.pass).ports) some c.self.invariant.going in
+    subst (λ (o : Option Publishing). IsGoing o me.told (view me.inbox.pass).ports) some c.self.invariant.going in
     let after : c.take.new.self ≡ None = search rules in
     let refused : is_err done.result ≡ true = search rules in
     let told' = done.new.told in
-    let origin = cut_origin _ _ _ c.in-Some.publisher told' c.into_input-input.result
+    let origin = cut_origin _ _ c.in-Some.publisher.published told' c.into_input-input.result
     (err_by done.result _ refused done.ensures.cut) ∙ ap (λ (x : Course). x.origin) going.0 in
     let closed = subst (λ (ps : List PostState). HasReplied told' 0 ps c.close_all.new.posts.items [])
     (err_by done.result _ refused done.ensures.unreplied) (c.close_all.ensures.replies told') in

@@ -6,7 +6,7 @@ use Rattle.rail.proofs.workers.Worker.new.Goals as goal
 
 pub invariant_of-result : goal.invariant_of-result
 invariant_of-result g c =
-    let told : c.tell-told.result ≡ c.args.publisher = search rules in
+    let told : c.tell-told.result ≡ c.args.publisher.published = search rules in
     record {
       placed = subst (λ (x : Course). ArePosts x.origin 0 c.args.posts.items) (sym told) c.requires.posts;
       as_many = sym c.requires.ports;
@@ -14,7 +14,8 @@ invariant_of-result g c =
       going = (
         sym told,
         c.requires.lawful,
-        subst (λ (n : ℕ). AreOpenBelow n (server_after c.args.publisher))
+        subst (λ (n : ℕ). AreOpenBelow n (server_after c.args.publisher.published))
             (sym c.requires.ports) c.requires.«open»,
+        c.requires.going,
       );
     }

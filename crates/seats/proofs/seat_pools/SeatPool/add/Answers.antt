@@ -1,15 +1,22 @@
-use Rattle.std.proofs.Common.{◌∷◌, ◌++◌, []}
+use Rattle.std.proofs.Common.{◌∷◌, ◌++◌, ◌∙◌, [], List, ap, arith}
 use Rattle.std.proofs.lemmas.List.Elements.{All-push, All-same}
-use Rattle.seats.specs.SeatPools.{IsFreeAt}
+use Rattle.seats.specs.SeatPools.{IsAt, IsFreeAt}
+use Rattle.seats.specs.Submitters.{Submitting}
 use Rattle.seats.proofs.Pooled.{added}
 use Rattle.seats.proofs.seat_pools.SeatPool.add.Goals as goal
 
 pub invariant_of-self-2 : goal.invariant_of-self-2
 invariant_of-self-2 c =
-    let s = c.self.inside in (
-      All-same (IsFreeAt s.reader.origin) c.push.new.self.items (s.free.items ++ c.new.result ∷ [])
-          c.in_ok-push.ensures.items
-          (All-push (IsFreeAt s.reader.origin) s.free.items c.new.result c.self.invariant.0
-          (added s.reader c.args.self.now c.args.seat c.new.result c.new.ensures c.requires.server c.self.view_is)),
-      c.self.invariant.1,
-    )
+    let s = c.self.inside in
+    let pushed = c.push_reserved.ensures.items
+    ∙ ap (λ (xs : List Submitting). xs ++ c.new.result ∷ []) c.make_room.ensures.free in
+    record {
+      are_free = All-same (IsFreeAt s.reader.origin) c.push_reserved.new.self.items (s.free.items ++ c.new.result ∷ [])
+          pushed
+          (All-push (IsFreeAt s.reader.origin) s.free.items c.new.result c.self.invariant.are_free
+          (added s.reader c.args.self.now c.args.seat c.new.result c.new.ensures c.requires.server c.self.view_is));
+      are_left = All-same (IsAt s.reader.origin) c.make_room.new.left.items s.left.items c.make_room.ensures.left
+          c.self.invariant.are_left;
+      frees = omega (arith, c.in_ok-make_room.ensures.all, c.push_reserved.ensures.capacity);
+      leaves = c.in_ok-make_room.ensures.all.1;
+    }

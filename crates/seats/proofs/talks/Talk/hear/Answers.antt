@@ -1,7 +1,8 @@
 use Rattle.std.proofs.Common.{◌∙◌, true, ap, sym, subst}
 use Rattle.proto.specs.Turns.{Replied}
 use Rattle.faces.specs.Courses.{IsLater}
-use Rattle.seats.specs.Talks.{Talking}
+use Rattle.seats.specs.Talks.{IsTalk, Talking}
+use Rattle.seats.specs.declared.talks.Standing.{Standing}
 use Rattle.seats.proofs.Seated.{later_same}
 use Rattle.seats.proofs.TalkLaws.{as_shown, further_failed, further_outcome, further_same, hear_talk, known_now}
 use Rattle.seats.proofs.talks.Talk.hear.Goals as goal
@@ -46,7 +47,8 @@ pub invariant_of-self-in-Ok-Some : goal.invariant_of-self-in-Ok-Some
 invariant_of-self-in-Ok-Some g c =
     let s = c.self.inside in
     let found = rw c.in-Ok-Some.field-0-is at c.in-Ok-Some.ensures in
-    hear_talk s.connection c.hand_on.new.connection s.standing s.first s.seen c.args.pool.now c.take_reply.new.self
+    subst (λ (x : Standing). IsTalk c.hand_on.new.connection x s.first c.hand_on.new.seen) (sym c.stand_at.ensures)
+    (hear_talk s.connection c.hand_on.new.connection s.standing s.first s.seen c.args.pool.now c.take_reply.new.self
     c.hand_on.new.seen c.in-Sent.submitter c.take_reply.new.submitter c.in-Ok-Some.reply c.self.invariant c.in-Sent.is
     (subst (λ (t : Talking). IsLater t.seen c.args.pool.now) (sym c.self.view_is) c.requires.known) found.taken
-    c.in_ok-hand_on-in-Ok-Some.ensures.ok.0 (c.in_ok-hand_on-in-Ok-Some.ensures.ok.1 ∙ c.give_back.ensures.pool)
+    c.in_ok-hand_on-in-Ok-Some.ensures.ok.0 (c.in_ok-hand_on-in-Ok-Some.ensures.ok.1 ∙ c.give_back.ensures.pool))

@@ -1,0 +1,58 @@
+-- A master that watches: how a server stands with it, and what is due if the server is seen so (this project's rule).
+use Rattle.std.specs.Prelude.{ℕ, Bool, true, false, Option, None, Some, nat_eq, if◌then◌else◌}
+use Rattle.masters.specs.declared.standings.Standing.{Standing}
+use Rattle.masters.specs.declared.standings.Standing.TheVariants.{Unmet, Watched, Lost, Gone}
+use Rattle.masters.specs.declared.standings.Sight.{Sight}
+use Rattle.masters.specs.declared.standings.Sight.TheVariants.{Stands, Accepted, Refused, Replaced, Unreached}
+use Rattle.masters.specs.declared.standings.Deed.{Deed}
+use Rattle.masters.specs.declared.standings.Deed.TheVariants.{Wait, TellMet, TellLost, CallGone}
+
+-- it was reached, and wasn't called gone
+abbrev pub is_watched : Standing → Bool
+is_watched Unmet = false
+is_watched Watched = true
+is_watched Lost = true
+is_watched Gone = false
+
+-- the process that was reached has ended: nothing listens at its port, or another start does
+abbrev pub has_ended : Sight → Bool
+has_ended Stands = false
+has_ended Accepted = false
+has_ended Refused = true
+has_ended Replaced = true
+has_ended Unreached = false
+
+-- what is due for a server that was never reached: it may not have been started yet
+abbrev pub unmet_due : Sight → Deed
+unmet_due Stands = Wait
+unmet_due Accepted = TellMet
+unmet_due Refused = Wait
+unmet_due Replaced = Wait
+unmet_due Unreached = Wait
+
+-- what is due for one that was reached; the argument is what is due if it isn't reached any more: that is told once
+abbrev pub met_due : Deed → Sight → Deed
+met_due unreached Stands = Wait
+met_due unreached Accepted = TellMet
+met_due unreached Refused = CallGone
+met_due unreached Replaced = CallGone
+met_due unreached Unreached = unreached
+
+-- what is due
+abbrev pub due : Standing → Sight → Deed
+due Unmet sight = unmet_due sight
+due Watched sight = met_due TellLost sight
+due Lost sight = met_due Wait sight
+due Gone sight = Wait
+
+-- how the server stands once that was done
+abbrev pub standing_after : Standing → Deed → Standing
+standing_after standing Wait = standing
+standing_after standing TellMet = Watched
+standing_after standing TellLost = Lost
+standing_after standing CallGone = Gone
+
+-- what it means that a start of a server has accepted a connection, if the first one is known
+abbrev pub seen_as : Option ℕ → ℕ → Sight
+seen_as None start = Accepted
+seen_as (Some known) start = if nat_eq known start then Accepted else Replaced

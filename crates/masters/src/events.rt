@@ -1,0 +1,74 @@
+//! What a master that watches hears: of servers from those who watch them, and of its input.
+
+use crossbeam_channel::Sender;
+use std::alloc::AllocError;
+use std::sync::Wait;
+use std::time::{Clock, Duration, Instant};
+
+/// How many milliseconds a second has.
+const SECOND: u64 = 1_000;
+
+/// How many nanoseconds a millisecond has.
+const NANOSECONDS: u32 = 1_000_000;
+
+/// What is new.
+#[derive(Clone, Copy, Debug, PartialEq, Eq)]
+pub(crate) enum News {
+    /// A line of the input names this server as gone.
+    Typed(u8),
+    /// A line of the input means nothing.
+    BadLine,
+    /// This start of this server has accepted a connection. It knows these servers to be gone.
+    Met(u8, u64, u16),
+    /// The connection to this server has ended.
+    Broken(u8),
+    /// This server can't be reached.
+    Lost(u8),
+    /// The process of this server has ended.
+    Ended(u8),
+    /// Who watches goes on no more: memory is out.
+    Memory,
+}
+
+/// What is new, and when it was: milliseconds since the master began.
+#[derive(Clone, Copy, Debug, PartialEq, Eq)]
+pub(crate) struct Event {
+    pub(crate) milliseconds: u64,
+    pub(crate) news: News,
+}
+
+/// Where one of those who watch puts what is new.
+#[derive(Drop)]
+pub(crate) struct Post {
+    sender: Sender<Event>,
+    begun: Instant,
+}
+
+impl Post {
+    /// The events go there; the master began then.
+    pub(crate) fn new(sender: Sender<Event>, begun: Instant) -> Post {
+        Post { sender, begun }
+    }
+
+    /// Another one, for another thread.
+    pub(crate) fn another(&self) -> Result<Post, AllocError> {
+        Ok(Post {
+            sender: self.sender.clone()?,
+            begun: self.begun,
+        })
+    }
+
+    /// Puts what is new, once there is room. It is lost if the master ends.
+    pub(crate) fn put<R: Wait + Clock>(&self, rt: &R, news: News) {
+        let milliseconds = match self.begun.elapsed(rt) {
+            Ok(passed) => milliseconds_of(passed),
+            Err(_) => 0,
+        };
+        let _ = self.sender.send(rt, Event { milliseconds, news });
+    }
+}
+
+fn milliseconds_of(time: Duration) -> u64 {
+    let rest = u64::from(time.subsec_nanos() / NANOSECONDS);
+    time.as_secs().saturating_mul(SECOND).saturating_add(rest)
+}

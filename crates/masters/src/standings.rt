@@ -1,0 +1,92 @@
+//! What a watch makes of what it sees of a server: a machine that reads no clock and sends nothing.
+ghost use Rattle.std.specs.Prelude.{◌≡◌, ◌↔◌, true};
+ghost use Rattle.masters.specs.Standings.{due, has_ended, is_watched, seen_as, standing_after};
+
+/// How a server stands with a master that watches.
+#[derive(Clone, Copy, Debug, PartialEq, Eq)]
+pub(crate) enum Standing {
+    /// It was never reached.
+    Unmet,
+    /// It was reached, and nothing was told since.
+    Watched,
+    /// It was reached, and then no more. Nothing says whether it lives.
+    Lost,
+    /// It is gone.
+    Gone,
+}
+
+/// What a watch sees of a server.
+#[derive(Clone, Copy, Debug, PartialEq, Eq)]
+pub(crate) enum Sight {
+    /// The connection stands.
+    Stands,
+    /// The server has accepted a new connection: the same start of it as before, if it was reached before.
+    Accepted,
+    /// Its host refuses a new connection: nothing listens at its port.
+    Refused,
+    /// Another start of the server has accepted a new connection.
+    Replaced,
+    /// The connection doesn't stand, and no new one could be opened. Nothing says why.
+    Unreached,
+}
+
+/// What is due then.
+#[derive(Clone, Copy, Debug, PartialEq, Eq)]
+pub(crate) enum Deed {
+    /// Nothing.
+    Wait,
+    /// To tell that the server has accepted a connection.
+    TellMet,
+    /// To tell that the server can't be reached.
+    TellLost,
+    /// To call it gone.
+    CallGone,
+}
+
+/// What is due if a server that stood so is seen so. It is called gone if it was reached and its process has ended, and
+/// in no other case.
+pub(crate) fn due(standing: Standing, sight: Sight) -> Deed
+    ensures deed { result ≡ due standing sight }
+    ensures gone { (result ≡ Deed.CallGone) ↔ ((is_watched standing ≡ true) × (has_ended sight ≡ true)) }
+{
+    match standing {
+        Standing::Unmet => match sight {
+            Sight::Accepted => Deed::TellMet,
+            Sight::Stands | Sight::Refused | Sight::Replaced | Sight::Unreached => Deed::Wait,
+        },
+        Standing::Watched => match sight {
+            Sight::Stands => Deed::Wait,
+            Sight::Accepted => Deed::TellMet,
+            Sight::Refused | Sight::Replaced => Deed::CallGone,
+            Sight::Unreached => Deed::TellLost,
+        },
+        Standing::Lost => match sight {
+            Sight::Accepted => Deed::TellMet,
+            Sight::Refused | Sight::Replaced => Deed::CallGone,
+            Sight::Stands | Sight::Unreached => Deed::Wait,
+        },
+        Standing::Gone => Deed::Wait,
+    }
+}
+
+/// How the server stands once that was done.
+pub(crate) fn standing_after(standing: Standing, deed: Deed) -> Standing
+    ensures { result ≡ standing_after standing deed }
+{
+    match deed {
+        Deed::Wait => standing,
+        Deed::TellMet => Standing::Watched,
+        Deed::TellLost => Standing::Lost,
+        Deed::CallGone => Standing::Gone,
+    }
+}
+
+/// What it means that this start of a server has accepted a connection, if that one is known.
+pub(crate) fn seen_as(known: Option<u64>, start: u64) -> Sight
+    ensures { result ≡ seen_as known start }
+{
+    match known {
+        Some(known) if known != start => Sight::Replaced,
+        _ => Sight::Accepted,
+    }
+}

@@ -1,0 +1,143 @@
+//! The threads of a master that watches: one for each server, and one for the lines of its input.
+
+use crate::command::TellFault;
+use crate::events::{Event, News, Post};
+use crate::input_lines::{empty_line, next_line, server_named};
+use crate::settings::{MasterSettings, port_of};
+use crate::tellers::{Teller, identity_of};
+use crate::watchers::{Place, Watcher};
+use crossbeam_channel::{Receiver, bounded};
+use ends::TrackedReader;
+use std::alloc::{AllocError, Global};
+use std::io::Stdin;
+use std::net::{Net, TcpListener, TcpStream};
+use std::sync::Wait;
+use std::thread;
+use std::thread::Threads;
+use std::time::{Clock, Duration, Instant};
+
+/// How many events may wait.
+const EVENTS: usize = 64;
+
+/// Starts the threads that watch the servers, but those that are gone, and the one that reads the input. What they hear
+/// comes there. Fails only if memory or threads run out, or the clock can't be read.
+pub(crate) fn start_threads<
+    R: Wait
+        + Threads
+        + Clock
+        + Net<Listener = TcpListener, Stream = TcpStream>
+        + Copy
+        + Drop
+        + Send
+        + 'static,
+>(
+    rt: R,
+    alloc: Global,
+    settings: &MasterSettings,
+    teller: &Teller,
+    input: Stdin,
+) -> Result<Receiver<Event>, TellFault> {
+    let Ok(begun) = Instant::now(&rt) else {
+        return Err(TellFault::Run);
+    };
+    let (sender, events) = bounded(alloc, EVENTS)?;
+    let post = Post::new(sender, begun);
+    for i in 0..settings.numbers.servers {
+        if !teller.is_gone(i) {
+            let place = place_of(&rt, alloc, settings, i)?;
+            start_watcher(rt, alloc, settings, place, post.another()?, teller.start(i))?;
+        }
+    }
+    start_reading(rt, alloc, settings.numbers.servers, input, post)?;
+    Ok(events)
+}
+
+// Where server i is.
+fn place_of<R: Clock>(
+    rt: &R,
+    alloc: Global,
+    settings: &MasterSettings,
+    i: u8,
+) -> Result<Place, AllocError> {
+    let host = match settings.hosts.get(usize::from(i)) {
+        Some(host) => String::from_str(alloc, host.as_str())?,
+        None => String::new(alloc),
+    };
+    Ok(Place {
+        id: i,
+        host,
+        port: port_of(settings.numbers.peer_port, i),
+        identity: identity_of(rt, settings)?,
+    })
+}
+
+// Starts the thread that watches the server there. Fails only if memory or threads run out.
+fn start_watcher<
+    R: Wait
+        + Threads
+        + Clock
+        + Net<Listener = TcpListener, Stream = TcpStream>
+        + Copy
+        + Drop
+        + Send
+        + 'static,
+>(
+    rt: R,
+    alloc: Global,
+    settings: &MasterSettings,
+    place: Place,
+    post: Post,
+    start: Option<u64>,
+) -> Result<(), AllocError> {
+    let beat = Duration::from_millis(u64::from(settings.numbers.beat));
+    let watcher = Watcher::new(alloc, place, post, beat, start);
+    let started = thread::spawn(&rt, move || run(&rt, watcher));
+    if started.is_err() {
+        return Err(AllocError);
+    }
+    Ok(())
+}
+
+fn run<R: Wait + Clock + Net<Listener = TcpListener, Stream = TcpStream>>(
+    rt: &R,
+    watcher: Watcher,
+) {
+    let mut watcher = watcher;
+    watcher.watch(rt);
+}
+
+// Starts the thread that reads the lines of the input. Fails only if memory or threads run out.
+fn start_reading<R: Wait + Threads + Clock + Copy + Drop + Send + 'static>(
+    rt: R,
+    alloc: Global,
+    servers: u8,
+    input: Stdin,
+    post: Post,
+) -> Result<(), AllocError> {
+    let line = empty_line(alloc)?;
+    let started = thread::spawn(&rt, move || read_lines(&rt, servers, input, line, &post));
+    if started.is_err() {
+        return Err(AllocError);
+    }
+    Ok(())
+}
+
+// Puts what each line of the input names, until it ends.
+fn read_lines<R: Wait + Clock>(rt: &R, servers: u8, input: Stdin, line: Vec<u8>, post: &Post) {
+    let mut input = TrackedReader::new(input);
+    let mut line = line;
+    for _ in rt.forever() {
+        match next_line(&mut input, &mut line) {
+            Ok(true) => match server_named(line.as_slice(), b"gone", servers) {
+                Some(j) => post.put(rt, News::Typed(j)),
+                None => post.put(rt, News::BadLine),
+            },
+            Ok(false) => return,
+            Err(AllocError) => {
+                post.put(rt, News::Memory);
+                return;
+            }
+        }
+    }
+    unreachable!()
+}

@@ -1,0 +1,208 @@
+//! Who watches one server for a master: it keeps a connection to it, as a master of its own.
+
+use crate::events::{News, Post};
+use crate::greetings::{Channel, Greeted, greet};
+use crate::standings::{Deed, Sight, Standing, due, seen_as, standing_after};
+use ends::TrackedWriter;
+use peers::Identity;
+use std::alloc::{AllocError, Global};
+use std::io::{ErrorKind, Read};
+use std::net::{Net, TcpListener, TcpStream};
+use std::sync::Wait;
+use std::thread;
+use std::time::{Clock, Duration, Instant};
+
+/// How often it tries to connect at once after a connection has ended, if that doesn't take a second.
+const TRIES: u8 = 10;
+
+/// How many milliseconds it pauses between these tries.
+const PAUSE: u64 = 10;
+
+/// Where a server is, and how its watcher introduces itself.
+#[derive(Drop)]
+pub(crate) struct Place {
+    /// The server's id.
+    pub(crate) id: u8,
+    /// Its host.
+    pub(crate) host: String,
+    /// Its port for masters.
+    pub(crate) port: u16,
+    /// How the watcher introduces itself.
+    pub(crate) identity: Identity,
+}
+
+/// Who watches a server.
+#[derive(Drop)]
+pub(crate) struct Watcher {
+    alloc: Global,
+    place: Place,
+    post: Post,
+    // So long it waits for the connection's end, and so long it pauses between two tries to connect.
+    beat: Duration,
+    standing: Standing,
+    // The number of the server's start, once it was reached, and who is gone as far as it knows.
+    start: Option<u64>,
+    gone: u16,
+    // The connection, if it stands.
+    stream: Option<TcpStream>,
+}
+
+impl Watcher {
+    /// Who watches the server there, of which this start was reached, if one was.
+    pub(crate) fn new(
+        alloc: Global,
+        place: Place,
+        post: Post,
+        beat: Duration,
+        start: Option<u64>,
+    ) -> Watcher {
+        Watcher {
+            alloc,
+            place,
+            post,
+            beat,
+            standing: match start {
+                Some(_) => Standing::Watched,
+                None => Standing::Unmet,
+            },
+            start,
+            gone: 0,
+            stream: None,
+        }
+    }
+
+    /// Watches until the server is gone, and tells what is new. It ends too if memory runs out, and tells that.
+    pub(crate) fn watch<R: Wait + Clock + Net<Listener = TcpListener, Stream = TcpStream>>(
+        &mut self,
+        rt: &R,
+    ) {
+        for _ in rt.forever() {
+            match self.look(rt) {
+                Ok(sight) => self.act(rt, due(self.standing, sight)),
+                Err(AllocError) => {
+                    self.post.put(rt, News::Memory);
+                    return;
+                }
+            }
+            if self.standing == Standing::Gone {
+                return;
+            }
+            if self.stream.is_none() {
+                thread::sleep(rt, self.beat);
+            }
+        }
+        unreachable!()
+    }
+
+    // Does what is due.
+    fn act<R: Wait + Clock>(&mut self, rt: &R, deed: Deed) {
+        self.standing = standing_after(self.standing, deed);
+        let id = self.place.id;
+        match deed {
+            Deed::Wait => {}
+            Deed::TellMet => {
+                let start = self.start.unwrap_or(0);
+                self.post.put(rt, News::Met(id, start, self.gone));
+            }
+            Deed::TellLost => self.post.put(rt, News::Lost(id)),
+            Deed::CallGone => self.post.put(rt, News::Ended(id)),
+        }
+    }
+
+    // Looks at the server: if the connection has ended, it connects anew at once.
+    fn look<R: Wait + Clock + Net<Listener = TcpListener, Stream = TcpStream>>(
+        &mut self,
+        rt: &R,
+    ) -> Result<Sight, AllocError> {
+        if let Some(stream) = &self.stream {
+            if stands(stream, self.beat) {
+                return Ok(Sight::Stands);
+            }
+            self.post.put(rt, News::Broken(self.place.id));
+        }
+        if self.standing == Standing::Watched {
+            self.open_soon(rt)
+        } else {
+            self.open(rt)
+        }
+    }
+
+    // Connects anew. A process that ends closes its connections one after another, and its port among them, so a try
+    // that is neither accepted nor refused is made again soon.
+    fn open_soon<R: Clock + Net<Listener = TcpListener, Stream = TcpStream>>(
+        &mut self,
+        rt: &R,
+    ) -> Result<Sight, AllocError> {
+        let begun = Instant::now(rt).ok();
+        for _ in 0..TRIES {
+            let sight = self.open(rt)?;
+            if sight != Sight::Unreached || !is_soon(rt, begun) {
+                return Ok(sight);
+            }
+            thread::sleep(rt, Duration::from_millis(PAUSE));
+        }
+        Ok(Sight::Unreached)
+    }
+
+    // Connects anew, once.
+    fn open<R: Clock + Net<Listener = TcpListener, Stream = TcpStream>>(
+        &mut self,
+        rt: &R,
+    ) -> Result<Sight, AllocError> {
+        self.stream = None;
+        let place = &self.place;
+        let greeted = greet(
+            rt,
+            self.alloc,
+            place.host.as_str(),
+            place.port,
+            &place.identity,
+        )?;
+        match greeted {
+            Greeted::Accepted(channel) => Ok(self.enter(channel)),
+            Greeted::NoListener => Ok(Sight::Refused),
+            Greeted::Refused(_) | Greeted::NoHost | Greeted::NoAnswer => Ok(Sight::Unreached),
+        }
+    }
+
+    // Takes a connection that the server has accepted.
+    fn enter(&mut self, channel: Channel) -> Sight {
+        let Channel { sink, start, gone } = channel;
+        let TrackedWriter { inner, .. } = sink;
+        let sight = seen_as(self.start, start);
+        if sight == Sight::Accepted {
+            self.start = Some(start);
+            self.gone = gone;
+            self.stream = Some(inner);
+        }
+        sight
+    }
+}
+
+// Whether less than a second has passed since then.
+fn is_soon<R: Clock>(rt: &R, begun: Option<Instant>) -> bool {
+    match begun {
+        Some(begun) => match begun.elapsed(rt) {
+            Ok(passed) => passed.as_secs() == 0,
+            Err(_) => false,
+        },
+        None => false,
+    }
+}
+
+// Waits for the end of a connection, so long at most. It tells whether it stands. What comes there is passed over.
+fn stands(stream: &TcpStream, beat: Duration) -> bool {
+    if stream.set_read_timeout(Some(beat)).is_err() {
+        return false;
+    }
+    let mut bytes = [0u8; 16];
+    let mut source = stream;
+    match source.read(bytes.as_mut_slice()) {
+        Ok(0) => false,
+        Ok(_) => true,
+        Err(fault) => matches!(
+            fault.kind(),
+            ErrorKind::WouldBlock | ErrorKind::TimedOut | ErrorKind::Interrupted
+        ),
+    }
+}

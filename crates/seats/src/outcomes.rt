@@ -1,0 +1,70 @@
+//! What one call of a connection comes to at once: it is refused, or has its reply.
+ghost use Rattle.std.specs.Prelude.{◌≡◌, true, IfOk, IsTrue, MatchBool, OnErr, OnOk};
+ghost use Rattle.proto.specs.Turns.{Outcome, Replied, is_store};
+ghost use Rattle.faces.specs.Courses.{IsLater};
+ghost use Rattle.serving.specs.Connections.{HasOutcome, MayHave};
+ghost use Rattle.serving.specs.Serving.{CameTo};
+ghost use Rattle.serving.specs.Wanted.{IsAsking};
+ghost use Rattle.seats.specs.Talks.{IsReplied};
+
+use crate::seat_pools::SeatPool;
+use rail::Told;
+use serving::{Connection, ServeFault, stores};
+use table::{Call, Reply};
+
+/// Whether a call is to be refused: it stores, and the pool has no room.
+pub(crate) fn is_refused(pool: &SeatPool, call: &Call) -> bool
+    ensures { IsTrue result → is_store call.now.op ≡ true }
+{
+    stores(&call.op) && !pool.has_room()
+}
+
+/// Has the call that waits answered by a look, or refuses it: then it isn't looked at. Whether either came of it. It is
+/// an error if the server is marked, or memory is out.
+pub(crate) fn settle(
+    connection: &mut Connection,
+    seen: &mut Told,
+    pool: &mut SeatPool,
+    call: &Call,
+) -> Result<bool, ServeFault>
+    requires asking { IsAsking call.now.target call.now.op connection.old }
+    requires known { IsLater seen.old pool.old }
+    ensures known { IsLater seen.new pool.new }
+    ensures later { IsLater pool.old pool.new }
+    ensures ok { IfOk result (λ settled. MatchBool settled
+        ((outcome : Outcome) × CameTo IsReplied seen.old call.now outcome seen.new ×
+        HasOutcome outcome connection.old connection.new)
+        ((connection.new ≡ connection.old) × (seen.new ≡ seen.old))) }
+    ensures err { OnErr result ((seen.new ≡ seen.old) ×
+        (connection.new ≡ record connection.old { failed = connection.new.failed })) }
+{
+    if is_refused(pool, call) {
+        connection.refuse()?;
+        return Ok(true);
+    }
+    match pool.peek(call) {
+        Ok(Some(reply)) => {
+            hand_on(connection, seen, pool, reply)?;
+            Ok(true)
+        }
+        Ok(None) => Ok(false),
+        Err(_) => Err(ServeFault::Call),
+    }
+}
+
+/// Hands on the reply to the call that waits, which was taken, or found by a look, at this pool. Refused only if memory
+/// is out.
+pub(crate) fn hand_on(
+    connection: &mut Connection,
+    seen: &mut Told,
+    pool: &SeatPool,
+    reply: Reply,
+) -> Result<(), ServeFault>
+    requires may_have { MayHave connection.old.waiting reply }
+    ensures ok { OnOk result (HasOutcome (Replied reply) connection.old connection.new × (seen.new ≡ pool.now)) }
+    ensures err { OnErr result ((seen.new ≡ seen.old) × (connection.new ≡ record connection.old { failed = true })) }
+{
+    connection.answer(&reply)?;
+    *seen = pool.tell();
+    Ok(())
+}

@@ -1,0 +1,255 @@
+"""Cases of tools/test_servers on `craq master --watch`: servers that are killed with nobody typing, masters that come
+and go, and what is no failure."""
+import re
+import signal
+import time
+
+from chain_clients import Wrong
+from notice_cases import GONE_STATUS, gone_line, said, stored
+from peer_sockets import MASTER, admitted, gone, noted, received
+from server_checks import differing, untold
+from server_processes import Chain, Process, run_clients
+
+BEAT = 50  # milliseconds
+STEP = re.compile(r"\+\d+\.\d{3} s (server \d+: .*)\n")
+MET, LOST, ENDED = "server {}: connected", "server {}: connection lost", "server {}: its process has ended"
+
+
+class Watched(Chain):
+    """A chain with masters that watch: who kills a server tells nobody."""
+
+    def another_master(self, *words):
+        """A master that watches, once it has reached each living server."""
+        master = Watching(self, *words)
+        master.reach([i for i in range(self.count) if i not in self.failed])
+        return master
+
+    def tell(self, server):
+        """Nobody is told. The master's lines say that it told by itself, and how many others."""
+        faults = self.master.tells(server, self.count - len(self.failed))
+        if faults:
+            raise Wrong(faults[0])
+
+
+class Watching(Process):
+    """A master that watches. Its input has ended."""
+
+    def __init__(self, chain, *words):
+        super().__init__(("master", *chain.words, "--watch", "--beat", str(BEAT), *words))
+
+    def step(self):
+        """Its next line, without the time if it has one."""
+        line = self.line()
+        found = STEP.fullmatch(line)
+        return found[1] if found else line
+
+    def reach(self, servers):
+        lines = sorted(self.step() for _ in servers)
+        if lines != sorted(MET.format(i) for i in servers):
+            raise Wrong(f"a master that watches says {lines}, and {self.told()!r}")
+
+    def tells(self, server, others):
+        """What is wrong with what it prints when the process of a server has ended."""
+        lines = [self.step() for _ in range(3)]
+        return differing("a master's lines", lines, [
+            LOST.format(server), ENDED.format(server), f"gone {server} told {others}\n"])
+
+    def is_quiet(self):
+        """What is wrong if it prints or tells something within ten beats."""
+        time.sleep(10 * BEAT / 1000)
+        faults = [f"a master prints {self.step()!r}"] if self.has_line() else []
+        return faults + differing("its standard error", self.told(), "")
+
+
+def killed_case(fails):
+    """Servers are killed one after another under clients, with nobody typing."""
+    def case(rounds):
+        chain = Watched()
+        try:
+            chain.master.process.stdin.close()
+            faults, calls = [], 0
+            for phase, server in enumerate(fails):
+                more, made = run_clients(chain, rounds, 3, phase, server)
+                faults, calls = faults + more, calls + made
+            return (faults if calls else ["no calls"]) + chain.master.is_quiet()
+        finally:
+            chain.end()
+    return case
+
+
+def again_case(rounds):
+    """The master is killed, and another one started, before a server is killed."""
+    chain = Watched()
+    try:
+        chain.master.end()
+        chain.master = chain.another_master()
+        faults, _calls = run_clients(chain, rounds, 3, 0, 1)
+        chain.master.end()
+        chain.master = chain.another_master()
+        more, _calls = run_clients(chain, rounds, 3, 1, 2)
+        return faults + more + chain.master.is_quiet()
+    finally:
+        chain.end()
+
+
+def two_case(rounds):
+    """Two masters watch: each tells of what was killed, and one goes on alone."""
+    chain = Watched(servers=4)
+    other = chain.another_master()
+    try:
+        faults, _calls = run_clients(chain, rounds, 3, 0, 2)
+        faults += other.tells(2, 3)
+        chain.master.end()
+        chain.master = other
+        more, _calls = run_clients(chain, rounds, 3, 1, 0)
+        return faults + more + other.is_quiet()
+    finally:
+        for it in (chain, other):
+            it.end()
+
+
+def stopped_case(rounds):
+    """A server is stopped for many beats and goes on: nobody is told of anything, and nothing is lost."""
+    chain = Watched()
+    try:
+        faults = []
+        for server in range(3):
+            chain.servers[server].signal(signal.SIGSTOP)
+            faults += chain.master.is_quiet()
+            chain.servers[server].signal(signal.SIGCONT)
+            for port in chain.ports:
+                faults += stored(port)
+        faults += chain.master.is_quiet()
+        more, _calls = run_clients(chain, rounds, 3, 0, 1)
+        return faults + more
+    finally:
+        chain.end()
+
+
+class Early(Watched):
+    """A chain whose master is started before its servers."""
+
+    def started(self, server, *words):
+        if server == 0:
+            self.master = Watching(self)
+            line = ("craq: no server answers; if the chain runs, look at --peers, --peer-port and its servers; the "
+                    "master goes on")
+            if untold(self.master, line):
+                raise Wrong(f"an early master says {self.master.told()!r}")
+        return super().started(server, *words)
+
+    def another_master(self, *words):
+        self.master.reach(range(self.count))
+        return self.master
+
+
+def early_case(rounds):
+    """A master that is started before the servers calls none of them gone, and watches each once it is there."""
+    chain = Early()
+    try:
+        faults, _calls = run_clients(chain, rounds, 3, 0, 0)
+        return faults
+    finally:
+        chain.end()
+
+
+def unmet_case(_rounds):
+    """A server that ended before the master came isn't called gone by itself, but by a line."""
+    chain = Watched()
+    try:
+        chain.master.end()
+        chain.kill(2)
+        chain.master = chain.another_master()
+        time.sleep(10 * BEAT / 1000)
+        faults = ["it prints something"] if chain.master.has_line() else []
+        faults += differing("its standard error", chain.master.told(),
+                            "craq: server 2 does not answer; if it has failed, type gone 2\n")
+        faults += said(chain.master, "gone 2", "gone 2 told 2") + said(chain.master, "gone 3", "bad line")
+        for port in chain.ports[:2]:
+            faults += stored(port)
+        return faults
+    finally:
+        chain.end()
+
+
+def typed_case(_rounds):
+    """A living server is called gone by a line: it ends, and is told of once. A later master says nothing."""
+    chain = Watched(servers=4)
+    try:
+        chain.failed.add(1)
+        chain.master.say("gone 1\n")
+        lines = []
+        # While it ends it may accept a connection once more.
+        while ENDED.format(1) not in lines or "gone 1 told 3\n" not in lines:
+            lines.append(chain.master.step())
+        faults = differing("its answers", [line for line in lines if line.startswith("gone")], ["gone 1 told 3\n"])
+        faults += differing("its status", chain.servers[1].status(), GONE_STATUS)
+        faults += untold(chain.servers[1], gone_line(1)) + chain.master.is_quiet()
+        late = chain.another_master()
+        faults += late.is_quiet()
+        late.end()
+        for port in (chain.ports[0], chain.ports[2], chain.ports[3]):
+            faults += stored(port)
+        return faults + chain.judge_living()
+    finally:
+        chain.end()
+
+
+def half_told_case(_rounds):
+    """A master ends before it has told each server of a failure: the next one that watches tells the others."""
+    chain = Watched()
+    try:
+        chain.master.end()
+        chain.kill(1)
+        half, _failed = admitted(chain.peer_port, MASTER, 3)
+        half.sendall(gone(1))
+        faults = differing("the answer", received(half, 3), noted(1))
+        half.close()
+        chain.master = Watching(chain)
+        lines = [chain.master.step() for _ in range(3)]
+        faults += differing("its lines", sorted(lines), sorted([MET.format(0), MET.format(2), "gone 1 told 2\n"]))
+        for port in (chain.ports[0], chain.ports[2]):
+            faults += stored(port)
+        return faults + chain.master.is_quiet()
+    finally:
+        chain.end()
+
+
+def last_case(_rounds):
+    """Each server is killed, one after another: then the master says that none is left, and ends. A new chain needs a
+    new master."""
+    chain = Watched()
+    try:
+        faults = []
+        for server in (1, 0, 2):
+            chain.fail(server)
+        faults += differing("its status", chain.master.status(), 1)
+        faults += differing("its standard error", chain.master.told(),
+                            "craq: no server is left; start the chain anew, and then this master\n")
+        chain.failed = set()
+        chain.servers = [chain.started(i) for i in range(3)]
+        chain.judge_ready()
+        chain.master = chain.another_master()
+        chain.fail(0)
+        return faults + stored(chain.ports[1]) + stored(chain.ports[2])
+    finally:
+        chain.end()
+
+
+def anew_case(_rounds):
+    """All servers are stopped as one, and a new chain is there when the master looks again: it tells the new ones
+    nothing, and ends."""
+    chain = Watched()
+    try:
+        chain.master.signal(signal.SIGSTOP)
+        for server in chain.servers:
+            server.end()
+        chain.servers = [chain.started(i) for i in range(3)]
+        chain.judge_ready()
+        chain.master.signal(signal.SIGCONT)
+        faults = differing("its status", chain.master.status(), 1)
+        for port in chain.ports:
+            faults += stored(port)
+        return faults + chain.judge_living()
+    finally:
+        chain.end()
