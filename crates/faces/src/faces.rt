@@ -2,6 +2,7 @@
 ghost use Rattle.std.specs.Prelude.{◌≡◌, fold, IfOk, OnOk, OnErr, MatchResult};
 ghost use Rattle.std.specs.FinMap as maps;
 ghost use Rattle.node.specs.Faces.{look_at, no_face};
+ghost use Rattle.faces.specs.Readers.{ShowsItem};
 ghost use Rattle.faces.specs.Shown.{Shown, applied, shown_first};
 ghost use Rattle.faces.specs.Weights.{weight_of};
 ghost use Rattle.faces.specs.declared.acts.Act.TheVariants.{Clear, Reach};
@@ -111,9 +112,11 @@ impl Face {
         self.versions.weight()
     }
 
-    /// A look at a key. Its item shares the data. Time is logarithmic in the number of keys.
+    /// A look at a key. Its item shares the data. Refused, for want of memory, only if it finds an item. Time is
+    /// logarithmic in the number of keys.
     pub fn look(&self, key: &Key) -> Result<Look<Item>, AllocError>
-        ensures { IfOk result (λ look. look ≡ look_at self.now.face key.now) }
+        ensures { MatchResult result (λ look. look ≡ look_at self.now.face key.now)
+            (λ _. ShowsItem self.now.face key.now) }
     {
         match self.versions.get(key) {
             Some(version) => {

@@ -1,8 +1,10 @@
 //! A server that shows its face: the node, the log of what it took, and the writer of its face.
 ghost use Rattle.std.specs.Prelude.{◌≡◌, ◌↔◌, ◌<◌, ◌^◌, [], true, false, IfOk, IfErr, OnOk, OnErr, IsErrOf};
 ghost use Rattle.node.specs.Lawful.{IsInput, AreFit};
+ghost use Rattle.faces.specs.Boards.{IsShownBy};
 ghost use Rattle.faces.specs.Courses.{shown_after, with_next};
 ghost use Rattle.faces.specs.Outputs.{last_outputs};
+ghost use Rattle.faces.specs.Showing.{pending};
 ghost use Rattle.faces.specs.Weights.{weight_of};
 
 use crate::boards::{FaceWriter, begin, place, publish};
@@ -62,10 +64,15 @@ impl Publisher {
         ensures memory { IfErr result (λ fault. fault ≡ FaceFault.Memory) }
     {
         let (log, front) = Front::open(&node);
-        let (first, second) = Face::copies(alloc, node.face()?, &front)?;
-        let writer = FaceWriter::new(alloc, first, second, readers)?;
+        let Ok(writer) = first_writer(alloc, &node, &front, readers) else {
+            drop(log);
+            drop(node);
+            return Err(FaceFault::Memory);
+        };
         let (writer, shown) = begin(rt, writer);
         let Ok(published) = shown else {
+            drop(log);
+            drop(node);
             writer.take(rt);
             return Err(FaceFault::Memory);
         };
@@ -128,15 +135,18 @@ impl Publisher {
             return Err(FaceFault::Closed);
         };
         let Some(front) = self.published.front().next(&self.log, &input) else {
+            drop(input);
             writer.take(rt);
             return Err(FaceFault::Closed);
         };
         let Ok((outputs, change)) = self.node.step_face(input) else {
+            drop(front);
             writer.take(rt);
             return Err(FaceFault::Memory);
         };
         let (writer, shown) = publish(rt, self.alloc, writer, change, front);
         let Ok(published) = shown else {
+            drop(outputs);
             writer.take(rt);
             return Err(FaceFault::Memory);
         };
@@ -151,13 +161,35 @@ impl Publisher {
     pub fn end<R: Wait>(self, rt: &R) {
         let Publisher {
             alloc: _alloc,
-            node: _node,
-            log: _log,
+            node,
+            log,
             writer,
-            published: _published,
+            published,
         } = self;
+        drop(node);
+        drop(log);
+        drop(published);
         if let Some(writer) = writer {
             writer.take(rt);
         }
     }
+}
+
+// A writer that is to show this node's face, after no input.
+fn first_writer(
+    alloc: Global,
+    node: &Node,
+    front: &Front,
+    readers: usize,
+) -> Result<FaceWriter, FaceFault>
+    requires readers { (0 < readers) × (readers < 2 ^ 32) }
+    requires first { front.now.inputs ≡ [] }
+    requires start { front.now.origin.start ≡ node.now.server }
+    ensures nothing { IfOk result (λ writer. pending writer ≡ []) }
+    ensures face { IfOk result (λ writer. IsShownBy writer.desk.shown.value) }
+    ensures course { IfOk result (λ writer. writer.desk.shown.value.course ≡ front.now) }
+{
+    let (first, second) = Face::copies(alloc, node.face()?, front)?;
+    let writer = FaceWriter::new(alloc, first, second, readers)?;
+    Ok(writer)
 }

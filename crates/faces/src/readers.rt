@@ -1,9 +1,10 @@
 //! Readers beside a server: they look at its face, and wait for nobody.
-ghost use Rattle.std.specs.Prelude.{◌≡◌, IfOk, IfErr, OnOk};
+ghost use Rattle.std.specs.Prelude.{◌≡◌, IfOk, OnErr, IsErrOf};
 ghost use Rattle.left_right.specs.Sides.{view};
 ghost use Rattle.node.specs.Faces.{look_at};
 ghost use Rattle.faces.specs.Boards.{known, IsShownBy};
-ghost use Rattle.faces.specs.Courses.{IsLater, shown_after};
+ghost use Rattle.faces.specs.Courses.{Course, IsLater, shown_after};
+ghost use Rattle.faces.specs.Readers.{ShowsItem};
 
 use crate::FaceFault;
 use crate::boards::{FacePlace, Takes};
@@ -18,6 +19,7 @@ use table::{Item, Key};
 /// published (`Course`).
 #[derive(Drop)]
 pub struct Reader {
+    // None only while it looks.
     place: Option<FacePlace>,
     front: Front,
 }
@@ -51,14 +53,19 @@ impl Reader {
     }
 
     /// A look at a key, in the server's face after some of the inputs that it published. They begin with all that this
-    /// reader has seen or was told of, and it has then seen them. Refused if memory is out, or with Closed if it finds
-    /// no such face. It waits for nobody. Time is logarithmic in the number of keys; the item shares its data.
+    /// reader has seen or was told of, and it has then seen them. Refused with Memory if memory is out for the item, or
+    /// with Closed if it finds no such face: either way it has seen no more than before. It waits for nobody. Time is
+    /// logarithmic in the number of keys; the item shares its data.
     pub fn look(&mut self, key: &Key) -> Result<Look<Item>, FaceFault>
         ensures found { IfOk result (λ look. look ≡ look_at (shown_after self.new) key.now) }
         ensures later { IsLater self.old self.new }
+        ensures unchanged { OnErr result (self.new ≡ self.old) }
+        // Memory comes only at an item, in a face after no fewer inputs than it has seen.
+        ensures memory { IsErrOf result FaceFault.Memory →
+            (found : Course) × IsLater self.old found × ShowsItem (shown_after found) key.now }
     {
         let Some(place) = self.place.take() else {
-            return Err(FaceFault::Closed);
+            unreachable!();
         };
         match place.enter_as::<Takes>() {
             Ok(reading) => {
@@ -98,6 +105,9 @@ fn see(front: &mut Front, face: &Face, key: &Key) -> Result<Look<Item>, FaceFaul
     requires server { face.now.course.origin ≡ front.old.origin }
     ensures found { IfOk result (λ look. (look ≡ look_at face.now.face key.now) × (front.new ≡ face.now.course)) }
     ensures later { IsLater front.old front.new }
+    ensures unchanged { OnErr result (front.new ≡ front.old) }
+    ensures memory { IsErrOf result FaceFault.Memory →
+        IsLater front.old face.now.course × ShowsItem face.now.face key.now }
 {
     if !face.front().has_all_of(front) {
         return Err(FaceFault::Closed);

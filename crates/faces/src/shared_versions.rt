@@ -1,5 +1,5 @@
 //! Versions that the copies of a face share.
-ghost use Rattle.std.specs.Prelude.{◌≡◌, is_some, IfOk};
+ghost use Rattle.std.specs.Prelude.{◌≡◌, is_some, IfOk, IsSome, MatchResult};
 ghost use Rattle.faces.specs.Versions.{version_of_block};
 ghost use Rattle.faces.specs.Weights.{data_in};
 
@@ -62,9 +62,9 @@ impl SharedVersion {
         self.block.has_item
     }
 
-    /// Its item, which shares the data, or none.
+    /// Its item, which shares the data, or none. Refused, for want of memory, only if it has one.
     pub fn item(&self) -> Result<Option<Item>, AllocError>
-        ensures { IfOk result (λ item. item ≡ self.now.item) }
+        ensures { MatchResult result (λ item. item ≡ self.now.item) (λ _. IsSome self.now.item) }
     {
         self.block.item()
     }
@@ -122,7 +122,8 @@ impl Block {
     }
 
     fn item(&self) -> Result<Option<Item>, AllocError>
-        ensures { IfOk result (λ item. item ≡ (version_of_block self.now).item) }
+        ensures { MatchResult result (λ item. item ≡ (version_of_block self.now).item)
+            (λ _. IsSome (version_of_block self.now).item) }
     {
         if !self.has_item {
             return Ok(None);

@@ -7,3 +7,4 @@ pub mod Ports
 pub mod Turning
 pub mod Opening
 pub mod PortBits
+pub mod Refusing

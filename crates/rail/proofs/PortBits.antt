@@ -1,5 +1,5 @@
 -- Which bits sets of ports have.
-use Rattle.std.proofs.Common.{◌≡◌, ◌≢◌, ◌∙◌, ℕ, suc, zero, ◌+◌, ◌*◌, ◌<◌, ◌/◌, ◌^◌, ◌%◌, ◌==◌, max}
+use Rattle.std.proofs.Common.{◌≡◌, ◌≢◌, ◌∙◌, ℕ, suc, zero, ◌*◌, ◌<◌, ◌/◌, ◌^◌, ◌%◌, ◌==◌, max}
 use Rattle.std.proofs.Common.{Bool, true, false, ◌||◌, refl, ap, sym, subst, arith, bit_and, bit_or, w64}
 use Rattle.std.proofs.lemmas.Bool.Decides.{nat_tests}
 use Rattle.std.specs.Int.{bit_at}

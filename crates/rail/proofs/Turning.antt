@@ -1,5 +1,5 @@
 -- What a turn leaves of a worker.
-use Rattle.std.proofs.Common.{◌≡◌, ◌∙◌, ⊎_elim, ap, sym, subst, ℕ, true, false, length, [], ◌∷◌, ◌++◌, List, Option}
+use Rattle.std.proofs.Common.{◌≡◌, ◌∙◌, ⊎_elim, ap, sym, subst, ℕ, true, false, length, [], ◌∷◌, List, Option}
 use Rattle.std.proofs.Common.{None, Some, Ok, Err, OnOk, OnErr, is_err, true≢false}
 use Rattle.std.specs.declared.result.Result.{Result}
 use Rattle.node.specs.declared.messages.Input.{Input}

@@ -1,6 +1,6 @@
 //! The inbox of a worker: several senders, one receiver. What was taken of a sender, and then what stands of it in the
 //! queue, is what it sent.
-ghost use Rattle.std.specs.Prelude.{◌≡◌, [], ◌∷◌, ◌++◌, IfOk, ◌+◌, ◌<◌, ◌^◌};
+ghost use Rattle.std.specs.Prelude.{◌≡◌, [], ◌∷◌, ◌++◌, IfOk, IfErr, ◌+◌, ◌<◌, ◌^◌};
 ghost use Rattle.crossbeam_channel.specs.Claims.{view, IsSeatAt};
 ghost use Rattle.crossbeam_channel.specs.Ends.{sends_on, receives_on};
 ghost use Rattle.rail.specs.Events.{IsBelow};
@@ -189,7 +189,8 @@ impl Inbox {
     /// The next message, if one stands there, which is added to what was taken. While others are inside a call it may
     /// find none although one stands there. Refused with Closed where every sender is gone.
     pub fn try_take<R: Wait>(&mut self, rt: &R) -> Result<Option<Message>, RailFault>
-        ensures { IsTry HasGot (view self.old.pass) (view self.new.pass) result }
+        ensures taken { IsTry HasGot (view self.old.pass) (view self.new.pass) result }
+        ensures fault { IfErr result (λ fault. fault ≡ RailFault.Closed) }
     {
         match self.inbox.try_recv_as::<Takes, R>(rt, &mut self.pass) {
             Ok(message) => Ok(Some(message)),
@@ -201,7 +202,8 @@ impl Inbox {
     /// The next message, which is added to what was taken. It tries a few times, and then sleeps until one comes.
     /// Refused with Closed where every sender is gone.
     pub fn take<R: Wait>(&mut self, rt: &R) -> Result<Message, RailFault>
-        ensures { IsTake HasGot (view self.old.pass) (view self.new.pass) result }
+        ensures taken { IsTake HasGot (view self.old.pass) (view self.new.pass) result }
+        ensures fault { IfErr result (λ fault. fault ≡ RailFault.Closed) }
     {
         for _ in 0..TRIES {
             if let Some(message) = self.try_take(rt)? {

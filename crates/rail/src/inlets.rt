@@ -1,5 +1,5 @@
 //! Inlets, by which a worker is brought other servers' messages, and told of failures.
-ghost use Rattle.std.specs.Prelude.{◌≡◌, ◌++◌, ◌∷◌, [], OnOk, OnErr};
+ghost use Rattle.std.specs.Prelude.{◌≡◌, ◌++◌, ◌∷◌, [], OnOk, OnErr, IfErr};
 ghost use Rattle.crossbeam_channel.specs.Claims.{view};
 ghost use Rattle.node.specs.Lawful.{IsBody};
 ghost use Rattle.node.specs.declared.messages.Input.TheVariants.{From, Gone};
@@ -44,30 +44,35 @@ impl Inlet {
         requires { IsBody peer.body }
         ensures ok { OnOk result (self.new ≡ self.old ++ Took (From i peer) ∷ []) }
         ensures err { OnErr result (self.new ≡ self.old) }
+        ensures fault { IfErr result (λ fault. fault ≡ RailFault.Closed) }
     {
         self.send(rt, Event::Took(FitInput::new(Input::From(i, peer))))
     }
 
-    /// Brings the notice that server `j` has failed.
+    /// Brings the notice that server `j` has failed. Refused with Closed where the worker is gone.
     pub fn gone<R: Wait>(&mut self, rt: &R, j: u8) -> Result<(), RailFault>
         ensures ok { OnOk result (self.new ≡ self.old ++ Took (Gone j) ∷ []) }
         ensures err { OnErr result (self.new ≡ self.old) }
+        ensures fault { IfErr result (λ fault. fault ≡ RailFault.Closed) }
     {
         self.send(rt, Event::Took(FitInput::new(Input::Gone(j))))
     }
 
-    /// Fails the server: from then on its worker puts out nothing, and each seat that waits there gets Closed.
+    /// Fails the server: from then on its worker puts out nothing, and each seat that waits there gets Closed. Refused
+    /// with Closed where the worker is gone.
     pub fn stop<R: Wait>(&mut self, rt: &R) -> Result<(), RailFault>
         ensures ok { OnOk result (self.new ≡ self.old ++ Stop ∷ []) }
         ensures err { OnErr result (self.new ≡ self.old) }
+        ensures fault { IfErr result (λ fault. fault ≡ RailFault.Closed) }
     {
         self.send(rt, Event::Stop)
     }
 
-    /// Ends the worker's loop.
+    /// Ends the worker's loop. Refused with Closed where the worker is gone.
     pub fn end<R: Wait>(&mut self, rt: &R) -> Result<(), RailFault>
         ensures ok { OnOk result (self.new ≡ self.old ++ End ∷ []) }
         ensures err { OnErr result (self.new ≡ self.old) }
+        ensures fault { IfErr result (λ fault. fault ≡ RailFault.Closed) }
     {
         self.send(rt, Event::End)
     }
@@ -76,7 +81,14 @@ impl Inlet {
         requires { IsBelow 0 event }
         ensures ok { OnOk result (self.new ≡ self.old ++ event ∷ []) }
         ensures err { OnErr result (self.new ≡ self.old) }
+        ensures fault { IfErr result (λ fault. fault ≡ RailFault.Closed) }
     {
-        self.slot.send(rt, event).map_err(|_| RailFault::Closed)
+        match self.slot.send(rt, event) {
+            Ok(()) => Ok(()),
+            Err(event) => {
+                drop(event);
+                Err(RailFault::Closed)
+            }
+        }
     }
 }

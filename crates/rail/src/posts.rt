@@ -1,5 +1,5 @@
 //! The replies of one seat: what the seat took, and then what stands in the queue, is what the worker put for it.
-ghost use Rattle.std.specs.Prelude.{◌≡◌, ◌<◌, [], ◌∷◌, ◌++◌, IfOk, MatchBool, false};
+ghost use Rattle.std.specs.Prelude.{◌≡◌, ◌<◌, [], ◌∷◌, ◌++◌, IfOk, IfErr, MatchBool, false};
 ghost use Rattle.crossbeam_channel.specs.Claims.{view, IsSeatAt};
 ghost use Rattle.crossbeam_channel.specs.Ends.{sends_on, receives_on};
 ghost use Rattle.rail.specs.Letters.{post_at};
@@ -198,7 +198,10 @@ impl Post {
                     self.gone = true;
                 }
             }
-            None => self.gone = true,
+            None => {
+                drop(mail);
+                self.gone = true;
+            }
         }
     }
 
@@ -215,7 +218,8 @@ impl Letters {
     /// The next reply, if one stands there, which is added to what was taken. It doesn't wait for one. Refused with
     /// Closed where the worker has gone or stopped.
     pub fn try_take<R: Wait>(&mut self, rt: &R) -> Result<Option<Mail>, RailFault>
-        ensures { IsTry HasGot (view self.old.pass) (view self.new.pass) result }
+        ensures taken { IsTry HasGot (view self.old.pass) (view self.new.pass) result }
+        ensures fault { IfErr result (λ fault. fault ≡ RailFault.Closed) }
     {
         match self.from.try_recv_as::<Gets, R>(rt, &mut self.pass) {
             Ok(mail) => Ok(Some(mail)),
@@ -227,7 +231,8 @@ impl Letters {
     /// The next reply, which is added to what was taken. It tries a few times, and then sleeps until one comes. Refused
     /// with Closed where the worker has gone or stopped.
     pub fn take<R: Wait>(&mut self, rt: &R) -> Result<Mail, RailFault>
-        ensures { IsTake HasGot (view self.old.pass) (view self.new.pass) result }
+        ensures taken { IsTake HasGot (view self.old.pass) (view self.new.pass) result }
+        ensures fault { IfErr result (λ fault. fault ≡ RailFault.Closed) }
     {
         for _ in 0..TRIES {
             if let Some(mail) = self.try_take(rt)? {

@@ -1,5 +1,5 @@
 //! Seats, which submit calls to a worker and wait for their replies.
-ghost use Rattle.std.specs.Prelude.{◌≡◌, ◌<◌, MatchOption, MatchResult, IfOk, IfSome};
+ghost use Rattle.std.specs.Prelude.{◌≡◌, ◌<◌, MatchOption, MatchResult, IfOk, IfErr, IfSome};
 ghost use Rattle.crossbeam_channel.specs.Claims.{view};
 ghost use Rattle.node.specs.Lawful.{IsCall};
 ghost use Rattle.node.specs.declared.messages.Output.TheVariants.{Reply as Replied};
@@ -80,10 +80,12 @@ impl Seat {
         ensures server { IfOk result (λ r. r.1.origin ≡ self.old.origin) }
         // The step of the last input that the note tells of put the reply out, for this seat.
         ensures put_out { IfOk result (λ r. PutsOut r.1 (Replied self.old.port r.0)) }
+        ensures fault { IfErr result (λ fault. fault ≡ RailFault.Closed) }
     {
         let mail = self.letters.take(rt)?;
         Ok(mail.open())
     }
+
     /// The same, if a reply stands there; none otherwise. It doesn't wait for one.
     pub fn reply_if_any<R: Wait>(&mut self, rt: &R) -> Result<Option<(Reply, Told)>, RailFault>
         ensures got { MatchResult result
@@ -92,6 +94,7 @@ impl Seat {
         ensures server { IfOk result (λ found. IfSome found (λ r. r.1.origin ≡ self.old.origin)) }
         // The step of the last input that the note tells of put the reply out, for this seat.
         ensures put_out { IfOk result (λ found. IfSome found (λ r. PutsOut r.1 (Replied self.old.port r.0))) }
+        ensures fault { IfErr result (λ fault. fault ≡ RailFault.Closed) }
     {
         match self.letters.try_take(rt)? {
             Some(mail) => Ok(Some(mail.open())),

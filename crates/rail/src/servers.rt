@@ -1,5 +1,5 @@
 //! A running server: its worker, and those who sit beside it.
-ghost use Rattle.std.specs.Prelude.{◌≡◌, ◌<◌, ◌≤◌, ◌+◌, [], true, false, replicate, IfOk};
+ghost use Rattle.std.specs.Prelude.{◌≡◌, ◌⊎◌, ◌<◌, ◌≤◌, ◌+◌, [], true, false, replicate, IfOk, IfErr, MatchResult};
 ghost use Rattle.crossbeam_channel.specs.Claims.{view};
 ghost use Rattle.node.specs.Nodes.{is_idle};
 ghost use Rattle.node.specs.Lawful.{IsLawful};
@@ -15,9 +15,9 @@ use crate::seats::Seat;
 use crate::stands::Stand;
 use crate::waiting::{INBOX, REPLIES};
 use crate::workers::Worker;
-use faces::Publisher;
+use faces::{Published, Publisher, Reader};
 use node::Node;
-use std::alloc::Global;
+use std::alloc::{AllocError, Global};
 use std::sync::Wait;
 
 /// A running server: its worker, a stand for each reader, and inlets.
@@ -29,8 +29,8 @@ pub struct Server<R: Wait + Drop> {
 }
 
 /// Opens a server that begins as this node: a worker, a reader and a seat for each of so many threads, at ports 0, 1
-/// and so on, and so many inlets. Its node may hold items already. Refused for want of memory, or where no reader could
-/// be made.
+/// and so on, and so many inlets. Its node may hold items already. Refused with NoReader where its publisher could make
+/// no reader, and otherwise with Memory.
 pub fn open<R: Wait + Drop>(
     rt: R,
     alloc: Global,
@@ -41,11 +41,14 @@ pub fn open<R: Wait + Drop>(
     requires readers { (1 ≤ readers) × (readers ≤ 16) }
     requires inlets { (1 ≤ inlets) × (inlets ≤ 16) }
     requires idle { is_idle node ≡ true }
-    ensures { IfOk result (λ s. IsOpened node readers inlets s.worker s.stands.items s.inlets.items) }
+    ensures { MatchResult result
+        (λ s. IsOpened node readers inlets s.worker s.stands.items s.inlets.items)
+        (λ fault. (fault ≡ RailFault.Memory) ⊎ (fault ≡ RailFault.NoReader)) }
 {
     hold_lawful(&node);
     let mut gate = Gate::new(alloc, INBOX)?;
     let Ok(mut publisher) = Publisher::open(&rt, alloc, node, readers) else {
+        drop(gate);
         return Err(RailFault::Memory);
     };
     match beside(alloc, &mut publisher, &mut gate, readers, inlets) {
@@ -59,6 +62,7 @@ pub fn open<R: Wait + Drop>(
         }
         Err(fault) => {
             publisher.end(&rt);
+            drop(gate);
             Err(fault)
         }
     }
@@ -88,6 +92,7 @@ fn beside(
     ensures stands { IfOk result (λ r. r.0.items ≡ stands_from publisher.old.published.origin 0 readers) }
     ensures posts { IfOk result (λ r. r.1.items ≡ posts_from publisher.old.published.origin 0 readers) }
     ensures inlets { IfOk result (λ r. r.2.items ≡ replicate inlets []) }
+    ensures fault { IfErr result (λ fault. (fault ≡ RailFault.Memory) ⊎ (fault ≡ RailFault.NoReader)) }
 {
     let (stands, posts) = all_stands(alloc, publisher, gate, readers)?;
     let inlets = all_inlets(alloc, gate, inlets)?;
@@ -108,6 +113,7 @@ fn all_stands(
     ensures gate { IfOk result (λ _. view gate.new.pass ≡ taker readers readers []) }
     ensures stands { IfOk result (λ r. r.0.items ≡ stands_from publisher.old.published.origin 0 readers) }
     ensures posts { IfOk result (λ r. r.1.items ≡ posts_from publisher.old.published.origin 0 readers) }
+    ensures fault { IfErr result (λ fault. (fault ≡ RailFault.Memory) ⊎ (fault ≡ RailFault.NoReader)) }
 {
     let mut stands = Vec::new(alloc);
     let mut posts = Vec::new(alloc);
@@ -133,17 +139,48 @@ fn one_stand(
     ensures gate { IfOk result (λ _. view gate.new.pass ≡ taker (port + 1) (port + 1) []) }
     ensures stand { IfOk result (λ r. r.0 ≡ stand_at publisher.old.published.origin port) }
     ensures post { IfOk result (λ r. r.1 ≡ post_at publisher.old.published.origin port) }
+    ensures fault { IfErr result (λ fault. (fault ≡ RailFault.Memory) ⊎ (fault ≡ RailFault.NoReader)) }
 {
-    let Ok(reader) = publisher.reader() else {
-        return Err(RailFault::NoReader);
-    };
-    let (post, letters) = open_queue(alloc, REPLIES, publisher.published(), port)?;
+    let reader = one_reader(publisher)?;
+    let made = stand_of(alloc, reader, publisher.published(), gate, port)?;
+    Ok(made)
+}
+
+// One more reader.
+fn one_reader(publisher: &mut Publisher) -> Result<Reader, RailFault>
+    ensures reader { IfOk result (λ reader. reader ≡ publisher.old.published) }
+    ensures publisher { publisher.new ≡ publisher.old }
+    ensures fault { IfErr result (λ fault. fault ≡ RailFault.NoReader) }
+{
+    match publisher.reader() {
+        Ok(reader) => Ok(reader),
+        Err(_) => Err(RailFault::NoReader),
+    }
+}
+
+// The stand of a reader at a port, and its post.
+fn stand_of(
+    alloc: Global,
+    reader: Reader,
+    published: &Published,
+    gate: &mut Gate,
+    port: usize,
+) -> Result<(Stand, Post), AllocError>
+    requires gate { view gate.old.pass ≡ taker port port [] }
+    requires few { port < 16 }
+    requires reader { reader ≡ published.now }
+    requires first { published.now.inputs ≡ [] }
+    ensures gate { IfOk result (λ _. view gate.new.pass ≡ taker (port + 1) (port + 1) []) }
+    ensures stand { IfOk result (λ r. r.0 ≡ stand_at published.now.origin port) }
+    ensures post { IfOk result (λ r. r.1 ≡ post_at published.now.origin port) }
+{
+    let (post, letters) = open_queue(alloc, REPLIES, published, port)?;
     let seat = Seat::new(port, gate.seat()?, letters);
     Ok((Stand { reader, seat }, post))
 }
 
 // So many inlets.
-fn all_inlets(alloc: Global, gate: &mut Gate, count: usize) -> Result<Vec<Inlet>, RailFault>
+fn all_inlets(alloc: Global, gate: &mut Gate, count: usize) -> Result<Vec<Inlet>, AllocError>
     requires few { ((view gate.old.pass).made ≤ 16) × (count ≤ 16) }
     requires gate { view gate.old.pass ≡ taker (view gate.old.pass).made (view gate.old.pass).ports [] }
     ensures gate { IfOk result

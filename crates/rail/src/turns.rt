@@ -1,5 +1,5 @@
 //! What a worker puts out for an input that was published.
-ghost use Rattle.std.specs.Prelude.{◌≡◌, ◌<◌, ◌++◌, ◌∷◌, [], length, OnOk, OnErr};
+ghost use Rattle.std.specs.Prelude.{◌≡◌, ◌<◌, ◌++◌, ◌∷◌, [], length, OnOk, OnErr, IfErr};
 ghost use Rattle.node.specs.declared.messages.Output.{Output};
 ghost use Rattle.node.specs.declared.messages.Output.TheVariants.{To, Reply as Replied};
 ghost use Rattle.node.specs.Lawful.{IsFit, AreFit};
@@ -31,6 +31,7 @@ pub fn put_messages<L: Links>(
     // Some of the first ones were put.
     ensures err { OnErr result (HasPutFirst (L.state links.old) (L.state links.new) outputs.now) }
     ensures carried { HaveCarried (L.state links.old) (L.state links.new) }
+    ensures fault { IfErr result (λ fault. fault ≡ RailFault.Memory) }
 {
     for output in outputs {
         if let Output::To(to, peer) = output {
@@ -52,6 +53,7 @@ fn put_message<L: Links>(
     ensures ok { OnOk result (HasPut (L.state links.old) (L.state links.new) ((to, peer.now) ∷ [])) }
     ensures err { OnErr result ((L.state links.new).list ≡ (L.state links.old).list) }
     ensures carried { HaveCarried (L.state links.old) (L.state links.new) }
+    ensures fault { IfErr result (λ fault. fault ≡ RailFault.Memory) }
 {
     if links.failed(to) {
         return Ok(());

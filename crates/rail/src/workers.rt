@@ -1,5 +1,5 @@
 //! The worker of a server: it takes one input after another.
-ghost use Rattle.std.specs.Prelude.{◌≡◌, [], ◌∷◌, true, false, length};
+ghost use Rattle.std.specs.Prelude.{◌≡◌, ◌⊎◌, ◌↔◌, [], ◌∷◌, true, false, length, IfErr, OnErr, IsErrOf};
 ghost use Rattle.crossbeam_channel.specs.Claims.{view};
 ghost use Rattle.node.specs.Lawful.{IsLawful};
 ghost use Rattle.node.specs.Replies.{AreCallsBelow, AreOpenBelow};
@@ -137,11 +137,37 @@ impl<R: Wait + Drop> Worker<R> {
 
     /// Takes the first message of the inbox that wasn't taken, and waits until there is one. An input is given to the
     /// node, the face after it is published, and only then its messages are put, and its replies. Refused with Closed
-    /// where every sender is gone, and with Memory; both stop the server.
-    #[tactic(auto, using(crate::proofs::Carrying::carried_none))]
+    /// where every sender is gone: nothing was taken then; and with Memory after it took an input. Both stop the
+    /// server.
     pub fn turn<L: Links>(&mut self, links: &mut L) -> Result<Turn, RailFault>
         ensures turn { IsTurn self.old self.new (L.state links.old) (L.state links.new) result }
         // What was put is what the wires were given.
+        ensures carried { HaveCarried (L.state links.old) (L.state links.new) }
+        ensures fault { IfErr result (λ fault. (fault ≡ RailFault.Memory) ⊎ (fault ≡ RailFault.Closed)) }
+        ensures closed { IsErrOf result RailFault.Closed ↔ (self.new.taken ≡ self.old.taken) }
+        ensures memory { IsErrOf result RailFault.Memory → self.old.goes ≡ true }
+        ensures stops { OnErr result (self.new.goes ≡ false) }
+    {
+        self.take_turn(links)
+    }
+
+    /// The same, if a message stands there; none otherwise. It doesn't wait for a message. It may answer none although
+    /// one stands there, while another thread is sending.
+    pub fn turn_if_any<L: Links>(&mut self, links: &mut L) -> Result<Option<Turn>, RailFault>
+        ensures turn { MayBeTurn self.old self.new (L.state links.old) (L.state links.new) result }
+        // What was put is what the wires were given.
+        ensures carried { HaveCarried (L.state links.old) (L.state links.new) }
+        ensures fault { IfErr result (λ fault. (fault ≡ RailFault.Memory) ⊎ (fault ≡ RailFault.Closed)) }
+        ensures closed { IsErrOf result RailFault.Closed → self.new.taken ≡ self.old.taken }
+        ensures memory { IsErrOf result RailFault.Memory → self.old.goes ≡ true }
+        ensures stops { OnErr result (self.new.goes ≡ false) }
+    {
+        self.take_turn_if_any(links)
+    }
+
+    #[tactic(auto, using(crate::proofs::Carrying::carried_none))]
+    fn take_turn<L: Links>(&mut self, links: &mut L) -> Result<Turn, RailFault>
+        ensures turn { IsTurn self.old self.new (L.state links.old) (L.state links.new) result }
         ensures carried { HaveCarried (L.state links.old) (L.state links.new) }
     {
         match self.inbox.take(&self.rt) {
@@ -153,12 +179,9 @@ impl<R: Wait + Drop> Worker<R> {
         }
     }
 
-    /// The same, if a message stands there; none otherwise. It doesn't wait for a message. It may answer none although
-    /// one stands there, while another thread is sending.
     #[tactic(auto, using(crate::proofs::Carrying::carried_none))]
-    pub fn turn_if_any<L: Links>(&mut self, links: &mut L) -> Result<Option<Turn>, RailFault>
+    fn take_turn_if_any<L: Links>(&mut self, links: &mut L) -> Result<Option<Turn>, RailFault>
         ensures turn { MayBeTurn self.old self.new (L.state links.old) (L.state links.new) result }
-        // What was put is what the wires were given.
         ensures carried { HaveCarried (L.state links.old) (L.state links.new) }
     {
         match self.inbox.try_take(&self.rt) {
