@@ -8,8 +8,8 @@ use Rattle.wire.specs.declared.greetings.Reason.{Reason}
 use Rattle.wire.specs.declared.greetings.Reason.TheVariants.{Servers, Chain, Taken, Gone}
 use Rattle.links.specs.declared.desks.Desk.{Desk}
 use Rattle.peers.specs.declared.identities.Identity.{Identity}
-use Rattle.links.specs.declared.speakers.Speaker.{Speaker}
-use Rattle.links.specs.declared.speakers.Speaker.TheVariants.{Server, Master}
+use Rattle.links.specs.declared.speakers.Who.{Who}
+use Rattle.links.specs.declared.speakers.Who.TheVariants.{Server, Master}
 use Rattle.links.specs.Places.{waiting}
 
 -- the opener's chain has the host's name
@@ -32,6 +32,17 @@ refusal host desk id opener =
     else Some Taken
 
 -- who is accepted has the inlet that waited for it; a master has brought nothing
-abbrev pub HasPlace : Desk → ℕ → Speaker → Type 0
+abbrev pub HasPlace : Desk → ℕ → Who → Type 0
 HasPlace desk id (Server j brought) = waiting desk.places id ≡ Some brought
 HasPlace desk id (Master told) = told ≡ []
+
+-- At some desk who greets so is accepted, and has the inlet that waited there.
+pub record IsAdmitted (host : Identity) (id : ℕ) (opener : Introduction) (who : Who) : Type 0 where
+  pub desk : Desk
+  pub accepted : refusal host desk id opener ≡ None
+  pub place : HasPlace desk id who
+
+-- At some desk who greets so is refused for this reason.
+pub record IsRefused (host : Identity) (id : ℕ) (opener : Introduction) (reason : Reason) : Type 0 where
+  pub desk : Desk
+  pub refused : refusal host desk id opener ≡ Some reason

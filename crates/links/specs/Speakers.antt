@@ -4,17 +4,17 @@ use Rattle.node.specs.declared.messages.Input.TheVariants as inputs
 use Rattle.rail.specs.declared.events.Event.TheVariants.{Took}
 use Rattle.wire.specs.declared.frames.Frame.{Frame}
 use Rattle.wire.specs.declared.frames.Frame.TheVariants.{Hello, Peer, Gone, Introduction, Accepted, Refused, Noted}
-use Rattle.links.specs.declared.speakers.Speaker.{Speaker}
-use Rattle.links.specs.declared.speakers.Speaker.TheVariants.{Server, Master}
+use Rattle.links.specs.declared.speakers.Who.{Who}
+use Rattle.links.specs.declared.speakers.Who.TheVariants.{Server, Master}
 
 -- who greets with this id: a master by 16, else the server of that id
-abbrev pub Greets : ℕ → Speaker → Type 0
+abbrev pub Greets : ℕ → Who → Type 0
 Greets id (Server j brought) = (j ≡ id) × (id ≢ 16)
 Greets id (Master told) = id ≡ 16
 
 -- what a frame makes of who speaks, if it is heard: a server sends messages and a master notices, and what is brought
 -- to the server are these, in order. Nobody greets twice, and who has opened the connection answers nothing
-abbrev pub Hears : Speaker → Frame → Speaker → Type 0
+abbrev pub Hears : Who → Frame → Who → Type 0
 Hears (Server i brought) (Hello id) now = ⊥
 Hears (Server i brought) (Peer peer) now = now ≡ Server i (brought ++ Took (inputs.From i peer) ∷ [])
 Hears (Server i brought) (Gone j) now = ⊥

@@ -5,7 +5,6 @@ ghost use Rattle.links.specs.Greetings.{HasPlace, is_same_size, refusal};
 ghost use Rattle.links.specs.Places.{waiting};
 ghost use Rattle.links.specs.Speakers.{Greets};
 
-use crate::histories::History;
 use crate::places::Places;
 use crate::speakers::Speaker;
 use node::{SERVERS, View};
@@ -101,10 +100,10 @@ impl Desk {
             return Err(reason);
         }
         if id == MASTER {
-            return Ok(Speaker::Master(History::new(alloc)));
+            return Ok(Speaker::master(alloc));
         }
         match self.places.take(id) {
-            Some(inlet) => Ok(Speaker::Server(id, inlet)),
+            Some(inlet) => Ok(Speaker::server(id, inlet)),
             None => unreachable!(),
         }
     }

@@ -3,6 +3,7 @@ ghost use Rattle.std.specs.Prelude.{◌≡◌, ◌⊎◌, ◌+◌, ◌++◌, ◌
 ghost use Rattle.peers.specs.Links.{MayCome};
 ghost use Rattle.links.specs.Notices.{notice_in, noted};
 ghost use Rattle.links.specs.Speakers.{Hears};
+ghost use Rattle.wire.specs.Spellings.{spelling};
 
 use crate::histories::History;
 use crate::lobbies::{Cuts, Lobby};
@@ -136,6 +137,7 @@ fn hear<R: Wait, C: Cuts>(
     if learn(rt, lobby, view, view_in(&frame)) {
         speaker.hear(rt, lobby, frame)
     } else {
+        drop(frame);
         Err(TakeFault)
     }
 }
@@ -169,10 +171,19 @@ fn answer<W: Sink>(alloc: Global, sink: &mut W, notice: Option<u8>) -> Result<()
         return Ok(());
     };
     let frame = Frame::Noted(j);
+    let answered = put_in_range(alloc, sink, &frame);
+    drop(frame);
+    answered
+}
+
+// Puts a frame, if its numbers are in range.
+fn put_in_range<W: Sink>(alloc: Global, sink: &mut W, frame: &Frame) -> Result<(), TakeFault>
+    ensures { OnOk result (W.written sink.new ≡ W.written sink.old ++ spelling frame.now) }
+{
     if !frame.is_in_range() {
         return Err(TakeFault);
     }
-    match put_frame(alloc, sink, &frame) {
+    match put_frame(alloc, sink, frame) {
         Ok(()) => Ok(()),
         Err(_) => Err(TakeFault),
     }

@@ -1,5 +1,6 @@
 //! What all who speak at a server's peer port share.
-ghost use Rattle.std.specs.Prelude.{◌≡◌, IfOk};
+ghost use Rattle.std.specs.Prelude.{◌≡◌, IfErr, IfOk};
+ghost use Rattle.links.specs.Greetings.{IsAdmitted, IsRefused};
 ghost use Rattle.links.specs.Speakers.{Greets};
 
 use crate::desks::Desk;
@@ -65,8 +66,9 @@ impl<C: Cuts> Lobby<C> {
         &self.notices
     }
 
-    /// The speaker who greets so, and what it is answered; or why it isn't accepted (`Desk::admit`). It may wait for
-    /// others who greet.
+    /// The speaker who greets so, and what it is answered; or why it isn't accepted (`Desk::admit`). Of each server one
+    /// greeting at most is accepted, since a speaker of its id has the one inlet that waited for it (`Speaker`). It may
+    /// wait for others who greet.
     pub fn greet<R: Wait>(
         &self,
         rt: &R,
@@ -74,14 +76,21 @@ impl<C: Cuts> Lobby<C> {
         id: u8,
         opener: &Introduction,
     ) -> Result<(Speaker, Acceptance), Reason>
+        // It is judged by the desk as others have left it, whom no clause can name.
+        ensures accepted { IfOk result (λ accepted. IsAdmitted self.now.host id opener.now accepted.0) }
+        ensures refused { IfErr result (λ reason. IsRefused self.now.host id opener.now reason) }
         ensures greets { IfOk result (λ accepted. Greets id accepted.0) }
         ensures start { IfOk result (λ accepted. accepted.1.start ≡ self.now.host.start) }
     {
         let mut desk = self.desk.lock(rt);
         let gone = desk.gone().bits();
-        let speaker = desk.admit(alloc, &self.host, id, opener)?;
-        let start = self.host.start;
-        Ok((speaker, Acceptance { start, gone }))
+        match desk.admit(alloc, &self.host, id, opener) {
+            Ok(speaker) => {
+                let start = self.host.start;
+                Ok((speaker, Acceptance { start, gone }))
+            }
+            Err(reason) => Err(reason),
+        }
     }
 
     /// These servers were called gone: each is cut of which this is news. Of a server that the chain hasn't nothing is

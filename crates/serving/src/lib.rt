@@ -1,12 +1,11 @@
-//! The connection engine: serves one client over any reader and writer, by anyone who answers calls.
+//! The connection engine: a client's connection without a thread, driven by what it wants next.
 #![tactic(auto)]
 
-mod callers;
+mod calls;
 mod connections;
 mod outcomes;
 mod serving;
-mod talks;
 
-pub use callers::{CallFault, Caller, stores};
+pub use calls::{CallFault, stores};
 pub use connections::{Connection, OUTPUT, Wants};
-pub use serving::{End, ServeFault, serve_stream};
+pub use serving::{End, ServeFault};

@@ -5,6 +5,8 @@
 #[cfg(test)]
 mod asking_tests;
 #[cfg(test)]
+mod client_tests;
+#[cfg(test)]
 mod connection_tests;
 #[cfg(test)]
 mod faces_tests;

@@ -1,56 +1,56 @@
-//! Connections that are served over memory, to a plain table.
-use ends::{Failures, TrackedReader, TrackedWriter};
-use serving::{CallFault, Caller, End, ServeFault, serve_stream};
+//! Connections that are served over memory, to a plain table: their input is cut anywhere, and the table may have no
+//! room.
+ghost use Rattle.std.specs.Prelude.{◌≡◌, [], OnOk};
+ghost use Rattle.serving.specs.Wanted.{IsAsking};
+
+use serving::{Connection, End, Wants, stores};
 use std::alloc::{AllocError, Global};
 use std::io;
-use std::io::{Error, ErrorKind};
-use std::sync::Wait;
+use std::io::{Read, Write};
 use std::test::Fail;
 use table::{Op, Reply, Table, Target};
 
-const REQUESTS: &[u8] = b"set a 5 0 3\r\nxyz\r\ngets a\r\nbad\r\nget a b\r\nquit\r\n";
-
-const REPLIES: &[u8] =
-    b"STORED\r\nVALUE a 5 3 1\r\nxyz\r\nEND\r\nERROR\r\nVALUE a 5 3\r\nxyz\r\nEND\r\n";
+// How many bytes are read or written at once.
+const FEW: usize = 7;
 
 // What a writer has room for.
-const MOST_OUTPUT: usize = 4096;
+const MANY: usize = 4096;
 
-// A reader that gives this many bytes in all, a few at a time, and then fails.
+// A reader that gives these bytes, so many at once. It gives nothing beyond the cut before it has given all that comes
+// before that.
 #[derive(Drop)]
-struct FailingReader<'a> {
+struct CutReader<'a> {
     bytes: &'a [u8],
-    left: usize,
+    most: usize,
+    cut: usize,
 }
 
-impl io::Read for FailingReader<'_> {
+impl Read for CutReader<'_> {
     fn read(&mut self, buf: &mut [u8]) -> io::Result<usize> {
-        if self.left == 0 {
-            return Err(Error::from(ErrorKind::Other));
-        }
-        let n = self.bytes.len().min(buf.len()).min(self.left).min(7);
+        let most = if self.cut == 0 {
+            self.most
+        } else {
+            self.most.min(self.cut)
+        };
+        let n = self.bytes.len().min(buf.len()).min(most);
         buf[..n].copy_from_slice(&self.bytes[..n]);
         self.bytes = &self.bytes[n..];
-        self.left -= n;
+        self.cut = self.cut.saturating_sub(n);
         Ok(n)
     }
 }
 
-// A writer that takes this many bytes in all, a few at a time, and then fails.
+// A writer that takes so many bytes at once.
 #[derive(Drop)]
-struct FailingWriter {
+struct Writer {
     held: Vec<u8>,
-    left: usize,
+    most: usize,
 }
 
-impl io::Write for FailingWriter {
+impl Write for Writer {
     fn write(&mut self, buf: &[u8]) -> io::Result<usize> {
-        if self.left == 0 {
-            return Err(Error::from(ErrorKind::Other));
-        }
-        let n = buf.len().min(self.left).min(7);
+        let n = buf.len().min(self.most);
         self.held.extend_from_slice(&buf[..n])?;
-        self.left -= n;
         Ok(n)
     }
 
@@ -59,24 +59,26 @@ impl io::Write for FailingWriter {
     }
 }
 
-// A plain table as a caller. It has room for a call that stores while it has fewer than this many items.
+// How many bytes were read and written, and how many calls were made and refused.
+#[derive(Clone, Copy, Debug, PartialEq, Eq)]
+struct Counts {
+    read: usize,
+    written: usize,
+    calls: usize,
+    refused: usize,
+}
+
+// What is beside a connection: a reader, with room for what it gives at once, a writer, and a plain table, which has
+// room for a call that stores while it has fewer than this many items.
 #[derive(Drop)]
-struct TableCaller {
+struct Beside<'a> {
+    reader: CutReader<'a>,
+    room: Vec<u8>,
+    writer: Writer,
     table: Table,
     items: usize,
     most_items: usize,
-    failures: Failures,
-}
-
-impl TableCaller {
-    fn new(alloc: Global, most_items: usize) -> TableCaller {
-        TableCaller {
-            table: Table::new(alloc),
-            items: 0,
-            most_items,
-            failures: Failures::new(),
-        }
-    }
+    counts: Counts,
 }
 
 // How many items there are after a reply to a call on a new key.
@@ -88,135 +90,165 @@ fn items_after(items: usize, reply: &Reply) -> usize {
     }
 }
 
-impl Caller for TableCaller {
-    ghost use Rattle.std.specs.Prelude.{◌≡◌};
-    ghost use Rattle.table.specs.Plain.{apply};
+// Has a call answered; or refuses it, if it stores and the table has no room.
+fn answer(
+    connection: &mut Connection,
+    beside: &mut Beside<'_>,
+    target: &Target,
+    op: &Op,
+) -> Result<(), AllocError>
+    requires asking { IsAsking target.now op.now connection.old }
+    ensures idle { OnOk result (connection.new.waiting ≡ []) }
+{
+    if stores(op) && beside.items >= beside.most_items {
+        beside.counts.refused = beside.counts.refused.saturating_add(1);
+        return connection.refuse();
+    }
+    match beside.table.call(target, op) {
+        Ok(reply) => {
+            beside.items = items_after(beside.items, &reply);
+            beside.counts.calls = beside.counts.calls.saturating_add(1);
+            connection.answer(&reply)
+        }
+        Err(_) => Err(AllocError),
+    }
+}
 
-    ghost answers = { λ before call reply after. (reply ≡ (apply before.table call.target call.op).0) ×
-        (after.table ≡ (apply before.table call.target call.op).1) };
+// Reads once, and tells how many bytes came. Refused for nothing but memory.
+fn read(beside: &mut Beside<'_>) -> Result<usize, AllocError> {
+    match beside.reader.read(beside.room.as_mut_slice()) {
+        Ok(n) => {
+            beside.counts.read = beside.counts.read.saturating_add(n);
+            Ok(n)
+        }
+        Err(_) => Err(AllocError),
+    }
+}
 
-    ghost failures = { λ caller. caller.failures };
+// Writes once, and tells how many bytes were taken. Refused for nothing but memory.
+fn write(beside: &mut Beside<'_>, bytes: &[u8]) -> Result<usize, AllocError> {
+    match beside.writer.write(bytes) {
+        Ok(n) => {
+            beside.counts.written = beside.counts.written.saturating_add(n);
+            Ok(n)
+        }
+        Err(_) => Err(AllocError),
+    }
+}
 
-    fn call<R: Wait>(&mut self, _rt: &R, target: Target, op: Op) -> Result<Reply, CallFault> {
-        match self.table.call(&target, &op) {
-            Ok(reply) => {
-                self.items = items_after(self.items, &reply);
-                Ok(reply)
-            }
-            Err(_) => {
-                self.failures.rise();
-                Err(CallFault)
+// Does what the connection wants next, and tells whether it is at its end.
+fn go(connection: &mut Connection, beside: &mut Beside<'_>) -> Result<Option<End>, AllocError>
+    requires idle { connection.old.waiting ≡ [] }
+    ensures idle { OnOk result (connection.new.waiting ≡ []) }
+{
+    match connection.next()? {
+        Wants::Call(target, op) => {
+            answer(connection, beside, &target, &op)?;
+        }
+        Wants::Write => {
+            let taken = write(beside, connection.output())?;
+            let n = connection.output().len().min(taken);
+            connection.written(n);
+        }
+        Wants::Read => {
+            let n = read(beside)?;
+            if n == 0 {
+                connection.input_ended();
+            } else {
+                connection.feed(beside.room.as_slice().get(..n).unwrap_or_default())?;
             }
         }
+        Wants::End(end) => return Ok(Some(end)),
     }
-
-    fn has_room(&self) -> bool {
-        self.items < self.most_items
-    }
+    Ok(None)
 }
 
-// What a connection left: how it came to its end, and what was written.
+// How many steps a connection has to come to its end.
+const STEPS: usize = 1000;
+
+// How a connection comes to its end, if it does.
+fn driven(alloc: Global, beside: &mut Beside<'_>) -> Result<Option<End>, AllocError> {
+    let mut connection = Connection::new(alloc);
+    for _ in 0..STEPS {
+        if let Some(end) = go(&mut connection, beside)? {
+            return Ok(Some(end));
+        }
+    }
+    Ok(None)
+}
+
+// What a connection left: how it came to its end, what was written, and what was done.
 #[derive(Drop)]
 struct Left {
-    end: Result<End, ServeFault>,
+    end: Option<End>,
     output: Vec<u8>,
+    counts: Counts,
 }
 
-// A connection over a reader that fails after `reads` bytes and a writer that fails after `writes`. Refused if memory
-// is out: the writer has room for all replies, and a plain table refuses a call for nothing else.
-fn served(
-    rt: &impl Wait,
+// A connection over this reader and a writer with room for so many bytes, which takes so many at once. Refused if
+// memory is out: a plain table refuses a call for nothing else.
+fn served_over(
     alloc: Global,
-    bytes: &[u8],
-    reads: usize,
+    reader: CutReader<'_>,
     writes: usize,
-) -> Result<Left, AllocError> {
-    served_within(rt, alloc, bytes, reads, writes, usize::MAX)
-}
-
-// The same of a table that has room for so many items.
-fn served_within(
-    rt: &impl Wait,
-    alloc: Global,
-    bytes: &[u8],
-    reads: usize,
-    writes: usize,
+    most: usize,
     most_items: usize,
 ) -> Result<Left, AllocError> {
-    let held = Vec::with_capacity(alloc, MOST_OUTPUT)?;
-    let mut source = TrackedReader::new(FailingReader { bytes, left: reads });
-    let mut sink = TrackedWriter::new(FailingWriter { held, left: writes });
-    let mut caller = TableCaller::new(alloc, most_items);
-    let end = serve_stream(rt, alloc, &mut source, &mut sink, &mut caller);
-    let output = sink.inner.held;
-    match end {
-        Err(ServeFault::Memory | ServeFault::Call) => Err(AllocError),
-        _ => Ok(Left { end, output }),
-    }
+    let room = Vec::from_elem(alloc, 0u8, reader.bytes.len().min(reader.most))?;
+    let writer = Writer {
+        held: Vec::with_capacity(alloc, writes)?,
+        most,
+    };
+    let counts = Counts {
+        read: 0,
+        written: 0,
+        calls: 0,
+        refused: 0,
+    };
+    let mut beside = Beside {
+        reader,
+        room,
+        writer,
+        table: Table::new(alloc),
+        items: 0,
+        most_items,
+        counts,
+    };
+    let end = driven(alloc, &mut beside)?;
+    let counts = beside.counts;
+    let output = beside.writer.held;
+    Ok(Left {
+        end,
+        output,
+        counts,
+    })
 }
 
-// Whether a connection came to this end, and left this output.
-fn came_to(left: &Left, end: Result<End, ServeFault>, output: &[u8]) -> bool {
-    left.end == end && left.output.as_slice() == output
+// A connection of which few bytes are read and written at once, to a table that has room for so many items.
+fn served(alloc: Global, bytes: &[u8], most_items: usize) -> Result<Left, AllocError> {
+    let reader = CutReader {
+        bytes,
+        most: FEW,
+        cut: 0,
+    };
+    served_over(alloc, reader, MANY, FEW, most_items)
+}
+
+// Whether a connection came to this end, and left this output, all of which was counted.
+fn came_to(left: &Left, end: End, output: &[u8]) -> bool {
+    left.end == Some(end) && left.output.as_slice() == output && left.counts.written == output.len()
+}
+
+// Whether so many calls were made, and so many refused.
+fn has_made(left: &Left, calls: usize, refused: usize) -> bool {
+    left.counts.calls == calls && left.counts.refused == refused
 }
 
 #[test]
 fn a_request_that_is_cut_has_no_reply(rt: HostRuntime) -> Result<(), Fail> {
-    let left = served(&rt, rt.alloc(), b"get a\r\nget b", 4096, 4096)?;
-    assert!(rt; came_to(&left, Ok(End::Input), b"END\r\n"));
-    Ok(())
-}
-
-#[test]
-fn a_write_that_fails_after_three_bytes(rt: HostRuntime) -> Result<(), Fail> {
-    let requests = b"set a 5 0 3\r\nxyz\r\ngets a\r\n";
-    let left = served(&rt, rt.alloc(), requests, 4096, 3)?;
-    assert!(rt; came_to(&left, Err(ServeFault::Write), b"STO"));
-    Ok(())
-}
-
-#[test]
-fn a_first_read_that_fails(rt: HostRuntime) -> Result<(), Fail> {
-    let left = served(&rt, rt.alloc(), b"get a\r\n", 0, 4096)?;
-    assert!(rt; came_to(&left, Err(ServeFault::Read), b""));
-    Ok(())
-}
-
-// Whether a connection whose input ends after so many bytes has a beginning of the replies, and one whose read fails
-// there has the same.
-fn is_same_if_read_fails(rt: &impl Wait, alloc: Global, n: usize) -> Result<bool, AllocError> {
-    let front = REQUESTS.get(..n).unwrap_or_default();
-    let ended = served(rt, alloc, front, 4096, 4096)?;
-    let failed = served(rt, alloc, REQUESTS, n, 4096)?;
-    Ok(
-        ended.end == Ok(End::Input)
-            && REPLIES.starts_with(ended.output.as_slice())
-            && came_to(&failed, Err(ServeFault::Read), ended.output.as_slice()),
-    )
-}
-
-// After any number of bytes before the last: what is written is the same if the input ends and if a read fails.
-#[test]
-fn the_input_ends_or_a_read_fails_anywhere(rt: HostRuntime) -> Result<(), Fail> {
-    for n in 0..REQUESTS.len() {
-        assert!(rt; is_same_if_read_fails(&rt, rt.alloc(), n)?, "after {n}");
-    }
-    Ok(())
-}
-
-// Whether a connection whose writes fail after so many bytes has left just these.
-fn leaves_what_was_written(rt: &impl Wait, alloc: Global, n: usize) -> Result<bool, AllocError> {
-    let left = served(rt, alloc, REQUESTS, 4096, n)?;
-    Ok(left.end == Err(ServeFault::Write) && Some(left.output.as_slice()) == REPLIES.get(..n))
-}
-
-#[test]
-fn a_write_fails_anywhere(rt: HostRuntime) -> Result<(), Fail> {
-    for n in 0..REPLIES.len() {
-        assert!(rt; leaves_what_was_written(&rt, rt.alloc(), n)?, "after {n}");
-    }
-    let whole = served(&rt, rt.alloc(), REQUESTS, 4096, REPLIES.len())?;
-    assert!(rt; came_to(&whole, Ok(End::Closed), REPLIES));
+    let left = served(rt.alloc(), b"get a\r\nget b", usize::MAX)?;
+    assert!(rt; came_to(&left, End::Input, b"END\r\n"));
+    assert!(rt; has_made(&left, 1, 0));
     Ok(())
 }
 
@@ -228,7 +260,129 @@ fn without_room_what_stores_is_refused(rt: HostRuntime) -> Result<(), Fail> {
         b"set a 0 0 1\r\n1\r\nset b 0 0 1\r\n2\r\nset a 0 0 1 noreply\r\n3\r\nappend a 0 0 1\r\n4\r\nincr a 1\r\ngets a b\r\ndelete a\r\nadd b 0 0 1\r\n5\r\nget a b\r\nreplace b 0 0 1\r\n6\r\nprepend b 0 0 1\r\n7\r\ncas b 0 0 1 4\r\n8\r\nquit\r\n";
     let replies =
         b"STORED\r\nSERVER_ERROR out of memory storing object\r\nSERVER_ERROR out of memory storing object\r\n2\r\nVALUE a 0 1 2\r\n2\r\nEND\r\nDELETED\r\nSTORED\r\nVALUE b 0 1\r\n5\r\nEND\r\nSERVER_ERROR out of memory storing object\r\nSERVER_ERROR out of memory storing object\r\nSERVER_ERROR out of memory storing object\r\n";
-    let left = served_within(&rt, rt.alloc(), requests, 4096, 4096, 1)?;
-    assert!(rt; came_to(&left, Ok(End::Closed), replies));
+    let left = served(rt.alloc(), requests, 1)?;
+    assert!(rt; came_to(&left, End::Closed, replies));
+    assert!(rt; has_made(&left, 8, 6));
+    Ok(())
+}
+
+// Requests of which some want no reply, and two have a block that doesn't end as it should; and their replies.
+const SILENT: &[u8] =
+    b"set a 0 0 3 noreply\r\nabc\r\nappend a 0 0 2 noreply\r\nde\r\nget a\r\nset b 0 0 3\r\nabcd\r\nset b 0 0 2 noreply\r\nwxyz\r\nincr a 1 noreply\r\nincr a 1\r\ndelete a noreply\r\ngets a b\r\ncas a 0 0 1 9 noreply\r\n1\r\nflush_all noreply\r\nquit\r\n";
+
+const SILENT_REPLIES: &[u8] =
+    b"VALUE a 0 5\r\nabcde\r\nEND\r\nCLIENT_ERROR bad data chunk\r\nERROR\r\nCLIENT_ERROR bad data chunk\r\nERROR\r\nCLIENT_ERROR cannot increment or decrement non-numeric value\r\nEND\r\n";
+
+// A large block, with what comes before and after it in a request that stores it and one that reads it, and in their
+// replies.
+const LARGE: usize = 65_600;
+
+const LARGE_LINE: &[u8] = b"set c 7 0 65600 noreply\r\n";
+
+const LARGE_READ: &[u8] = b"\r\nget c\r\nquit\r\n";
+
+const LARGE_SHOWN: &[u8] = b"VALUE c 7 65600\r\n";
+
+const LARGE_END: &[u8] = b"\r\nEND\r\n";
+
+// A block of so many bytes, with what comes before and after it.
+fn around_block(
+    alloc: Global,
+    before: &[u8],
+    length: usize,
+    after: &[u8],
+) -> Result<Vec<u8>, AllocError> {
+    let block = Vec::from_elem(alloc, b'x', length)?;
+    let mut bytes = Vec::new(alloc);
+    bytes.extend_from_slice(before)?;
+    bytes.extend_from_slice(block.as_slice())?;
+    bytes.extend_from_slice(after)?;
+    Ok(bytes)
+}
+
+// Requests with their replies, and how many calls they are.
+#[derive(Clone, Copy)]
+struct Exchange<'a> {
+    requests: &'a [u8],
+    replies: &'a [u8],
+    calls: usize,
+}
+
+// A connection to which these bytes come as two pieces, or as one if they are cut at 0, and whose output is taken as it
+// is.
+fn served_in_two(
+    alloc: Global,
+    bytes: &[u8],
+    cut: usize,
+    writes: usize,
+) -> Result<Left, AllocError> {
+    let reader = CutReader {
+        bytes,
+        most: usize::MAX,
+        cut,
+    };
+    served_over(alloc, reader, writes, usize::MAX, usize::MAX)
+}
+
+// Whether the first n bytes alone have a beginning of the replies, and all of them, cut there, have the replies.
+fn is_same_if_cut(alloc: Global, exchange: Exchange<'_>, n: usize) -> Result<bool, AllocError> {
+    let (requests, replies) = (exchange.requests, exchange.replies);
+    let front = requests.get(..n).unwrap_or_default();
+    let begun = served_in_two(alloc, front, 0, replies.len())?;
+    let whole = served_in_two(alloc, requests, n, replies.len())?;
+    Ok(
+        begun.end == Some(End::Input)
+            && replies.starts_with(begun.output.as_slice())
+            && came_to(&whole, End::Closed, replies)
+            && has_made(&whole, exchange.calls, 0),
+    )
+}
+
+// Whether that holds of so many cuts, each one so many bytes after the one before it.
+fn is_same_at_each(
+    alloc: Global,
+    exchange: Exchange<'_>,
+    first: usize,
+    cuts: usize,
+    step: usize,
+) -> Result<bool, AllocError> {
+    let mut cut = first;
+    for _ in 0..cuts {
+        if !is_same_if_cut(alloc, exchange, cut)? {
+            return Ok(false);
+        }
+        cut = cut.wrapping_add(step);
+    }
+    Ok(true)
+}
+
+// Wherever the input is cut.
+#[test]
+fn many_cuts_of_silent_requests_and_bad_blocks(rt: HostRuntime) -> Result<(), Fail> {
+    let exchange = Exchange {
+        requests: SILENT,
+        replies: SILENT_REPLIES,
+        calls: 10,
+    };
+    assert!(rt; is_same_at_each(rt.alloc(), exchange, 0, SILENT.len(), 1)?);
+    Ok(())
+}
+
+// Wherever the input is cut before or behind the block, or a little in it, and at some places far in it.
+#[test]
+fn many_cuts_of_a_large_block(rt: HostRuntime) -> Result<(), Fail> {
+    let requests = around_block(rt.alloc(), LARGE_LINE, LARGE, LARGE_READ)?;
+    let replies = around_block(rt.alloc(), LARGE_SHOWN, LARGE, LARGE_END)?;
+    let exchange = Exchange {
+        requests: requests.as_slice(),
+        replies: replies.as_slice(),
+        calls: 2,
+    };
+    let (front, back) = (LARGE_LINE.len(), LARGE_READ.len());
+    let last = requests.len().wrapping_sub(back);
+    assert!(rt; is_same_at_each(rt.alloc(), exchange, 0, front.wrapping_add(3), 1)?);
+    assert!(rt; is_same_at_each(rt.alloc(), exchange, front, 8, 8192)?);
+    assert!(rt; is_same_at_each(rt.alloc(), exchange, last.wrapping_sub(3), 3, 1)?);
+    assert!(rt; is_same_at_each(rt.alloc(), exchange, last, back, 1)?);
     Ok(())
 }
