@@ -1,25 +1,56 @@
-ghost use Rattle.std.specs.Prelude.{◌≡◌, ◌<◌, OnOk, None};
+ghost use Rattle.std.specs.Prelude.{◌≡◌, ◌<◌, true, IfOk, OnOk, None};
+ghost use Rattle.proto.specs.Sessions.{CanAnswer, IsOpenCall};
+ghost use Rattle.proto.specs.Streams.{most_turns};
 
+use crate::making::holds;
 use proto::{ProtoFault, Session, Step};
 use std::alloc::Global;
 use std::process::Abort;
 use std::test::Fail;
-use table::{Reply, Table};
+use table::{Op, Reply, Table, Target};
 
-// The next turn of a connection over a plain table: whether there was one.
+// The next turn of a connection over a plain table: whether there was one. Each leaves fewer.
 fn turn(session: &mut Session, table: &mut Table) -> Result<bool, Fail>
     requires { session.old.asked ≡ None }
-    ensures { OnOk result (session.new.asked ≡ None) }
+    ensures idle { OnOk result (session.new.asked ≡ None) }
+    ensures fewer { IfOk result (λ goes_on. goes_on ≡ true → most_turns session.new < most_turns session.old) }
 {
     match session.next()? {
         Step::Call(target, op) => {
-            let reply = table.call(&target, &op)?;
-            session.answer(&reply)?;
-            Ok(true)
+            let answered = has_answered(session, table, &target, &op);
+            drop(target);
+            drop(op);
+            answered
         }
         Step::Emit => Ok(true),
         Step::Wait | Step::Close => Ok(false),
     }
+}
+
+// The call that is open is carried out and answered: true.
+fn has_answered(
+    session: &mut Session,
+    table: &mut Table,
+    target: &Target,
+    op: &Op,
+) -> Result<bool, Fail>
+    requires { IsOpenCall target.now op.now session.old.asked }
+    ensures idle { OnOk result (session.new.asked ≡ None) }
+    ensures as_many { OnOk result (most_turns session.new ≡ most_turns session.old) }
+{
+    let reply = table.call(target, op)?;
+    let given = has_given(session, &reply);
+    drop(reply);
+    given
+}
+
+fn has_given(session: &mut Session, reply: &Reply) -> Result<bool, Fail>
+    requires { CanAnswer session.old.asked reply.now }
+    ensures idle { OnOk result (session.new.asked ≡ None) }
+    ensures as_many { OnOk result (most_turns session.new ≡ most_turns session.old) }
+{
+    session.answer(reply)?;
+    Ok(true)
 }
 
 // Whether there is a turn after one piece more.
@@ -37,13 +68,8 @@ fn settle(session: &mut Session, table: &mut Table) -> Result<(), Fail>
     ensures { OnOk result (session.new.asked ≡ None) }
 {
     'turns: loop {
-        match session.next()? {
-            Step::Call(target, op) => {
-                let reply = table.call(&target, &op)?;
-                session.answer(&reply)?;
-            }
-            Step::Emit => {}
-            Step::Wait | Step::Close => return Ok(()),
+        if !turn(session, table)? {
+            return Ok(());
         }
     }
 }
@@ -54,16 +80,31 @@ fn turn_without_room(session: &mut Session) -> Result<bool, Fail>
     ensures { OnOk result (session.new.asked ≡ None) }
 {
     match session.next()? {
-        Step::Call(_, op) => {
-            if op.is_update() {
-                session.refuse()?;
-            } else {
-                session.answer(&Reply::Value(None))?;
-            }
-            Ok(true)
+        Step::Call(target, op) => {
+            let refused = has_refused(session, &target, &op);
+            drop(target);
+            drop(op);
+            refused
         }
         Step::Emit => Ok(true),
         Step::Wait | Step::Close => Ok(false),
+    }
+}
+
+// The call that is open is refused if it is an update, and finds no item else: true.
+fn has_refused(session: &mut Session, target: &Target, op: &Op) -> Result<bool, Fail>
+    requires { IsOpenCall target.now op.now session.old.asked }
+    ensures { OnOk result (session.new.asked ≡ None) }
+{
+    let _ = target;
+    if op.is_update() {
+        session.refuse()?;
+        Ok(true)
+    } else {
+        let none = Reply::Value(None);
+        let given = has_given(session, &none);
+        drop(none);
+        given
     }
 }
 
@@ -77,29 +118,74 @@ fn take_some(session: &mut Session, written: &mut Vec<u8>) -> Result<(), Fail>
     Ok(())
 }
 
+// A closed session takes no more of its input.
+fn feed_open(session: &mut Session, piece: &[u8]) -> Result<(), Fail>
+    ensures { OnOk result (session.new.asked ≡ session.old.asked) }
+{
+    match session.feed(piece) {
+        Ok(()) | Err(ProtoFault::Closed) => Ok(()),
+        Err(fault) => Err(fault.into()),
+    }
+}
+
+// One piece of the input, its turns, and some of their output.
+fn pass(
+    session: &mut Session,
+    table: &mut Table,
+    piece: &[u8],
+    written: &mut Vec<u8>,
+) -> Result<(), Fail>
+    requires { session.old.asked ≡ None }
+    ensures { OnOk result (session.new.asked ≡ None) }
+{
+    feed_open(session, piece)?;
+    settle(session, table)?;
+    take_some(session, written)
+}
+
+fn written_by(
+    alloc: Global,
+    session: &mut Session,
+    table: &mut Table,
+    input: &[u8],
+    piece: usize,
+) -> Result<Vec<u8>, Fail>
+    requires some { 0 < piece }
+    requires idle { session.old.asked ≡ None }
+{
+    let mut written = Vec::new(alloc);
+    for part in input.chunks(piece) {
+        pass(session, table, part, &mut written)?;
+    }
+    written.extend_from_slice(session.out())?;
+    Ok(written)
+}
+
 // What is written where the input comes in pieces of `piece` bytes. A closed session takes no more of them.
 fn written(alloc: Global, input: &[u8], piece: usize) -> Result<Vec<u8>, Fail>
     requires { 0 < piece }
 {
     let mut session = Session::new(alloc);
     let mut table = Table::new(alloc);
-    let mut written = Vec::new(alloc);
-    for part in input.chunks(piece) {
-        match session.feed(part) {
-            Ok(()) | Err(ProtoFault::Closed) => {}
-            Err(fault) => return Err(fault.into()),
-        }
-        settle(&mut session, &mut table)?;
-        take_some(&mut session, &mut written)?;
-    }
-    written.extend_from_slice(session.out())?;
-    Ok(written)
+    let written = written_by(alloc, &mut session, &mut table, input, piece);
+    drop(session);
+    drop(table);
+    written
+}
+
+fn is_written(alloc: Global, input: &[u8], piece: usize, wanted: &[u8]) -> Result<bool, Fail>
+    requires { 0 < piece }
+{
+    let written = written(alloc, input, piece)?;
+    Ok(written.as_slice() == wanted)
 }
 
 fn check<R: Abort + AllocGlobal>(rt: &R, input: &[u8], wanted: &[u8]) -> Result<(), Fail> {
     for piece in [1, 7, 4096] {
-        let written = written(rt.alloc(), input, piece)?;
-        assert_eq!(rt; written.as_slice(), wanted);
+        assert!(rt;
+            is_written(rt.alloc(), input, piece, wanted)?,
+            "pieces of {piece}"
+        );
     }
     Ok(())
 }
@@ -114,18 +200,38 @@ fn set_then_gets(rt: HostRuntime) -> Result<(), Fail> {
     )
 }
 
+// Whether there are three turns, and no more.
+fn has_three_turns(session: &mut Session) -> Result<bool, Fail>
+    requires { session.old.asked ≡ None }
+    ensures { OnOk result (session.new.asked ≡ None) }
+{
+    Ok(
+        turn_without_room(session)?
+            && turn_without_room(session)?
+            && turn_without_room(session)?
+            && !turn_without_room(session)?,
+    )
+}
+
+fn refuses_twice(session: &mut Session) -> Result<bool, Fail>
+    requires { session.old.asked ≡ None }
+{
+    session.feed(b"set a 0 0 1\r\n1\r\nset a 0 0 1 noreply\r\n2\r\nget a\r\n")?;
+    let wanted = b"SERVER_ERROR out of memory storing object\r\nEND\r\n".as_slice();
+    Ok(has_three_turns(session)? && session.out() == wanted)
+}
+
+fn new_session_refuses_twice(alloc: Global) -> Result<bool, Fail> {
+    let mut session = Session::new(alloc);
+    let refused = refuses_twice(&mut session);
+    drop(session);
+    refused
+}
+
 // A refusal writes a line, and nothing if its line said `noreply`; the next request follows.
 #[test]
 fn refusals(rt: HostRuntime) -> Result<(), Fail> {
-    let mut session = Session::new(rt.alloc());
-    session.feed(b"set a 0 0 1\r\n1\r\nset a 0 0 1 noreply\r\n2\r\nget a\r\n")?;
-    assert!(rt; turn_without_room(&mut session)?);
-    assert!(rt; turn_without_room(&mut session)?);
-    assert!(rt; turn_without_room(&mut session)?);
-    assert!(rt; !turn_without_room(&mut session)?);
-    let wanted = b"SERVER_ERROR out of memory storing object\r\nEND\r\n".as_slice();
-    assert_eq!(rt; session.out(), wanted);
-    Ok(())
+    holds(new_session_refuses_twice(rt.alloc()))
 }
 
 #[test]
@@ -159,8 +265,10 @@ fn with_block(alloc: Global, line: &[u8], size: usize, behind: &[u8]) -> Result<
 // The input as one piece, and in pieces of 4,095 bytes.
 fn check_large<R: Abort + AllocGlobal>(rt: &R, input: &[u8], wanted: &[u8]) -> Result<(), Fail> {
     for piece in [input.len().max(1), 4095] {
-        let written = written(rt.alloc(), input, piece)?;
-        assert_eq!(rt; written.as_slice(), wanted);
+        assert!(rt;
+            is_written(rt.alloc(), input, piece, wanted)?,
+            "pieces of {piece}"
+        );
     }
     Ok(())
 }
@@ -178,34 +286,99 @@ fn too_large(rt: HostRuntime) -> Result<(), Fail> {
     check_large(&rt, input.as_slice(), wanted)
 }
 
+// Whether there is no turn, nor any output, while a refused block comes.
+fn waits_in_block(session: &mut Session, table: &mut Table) -> Result<bool, Fail>
+    requires { session.old.asked ≡ None }
+    ensures { OnOk result (session.new.asked ≡ None) }
+{
+    Ok(
+        !turn_after(session, table, b"set a 0 7 9\r\n")?
+            && !turn_after(session, table, b"xxx")?
+            && !turn_after(session, table, b"xxxxxx\r")?
+            && session.out() == b"".as_slice(),
+    )
+}
+
+// Whether there is a turn once the block's last byte and a request have come, and what all turns write.
+fn writes_behind_block(session: &mut Session, table: &mut Table) -> Result<bool, Fail>
+    requires { session.old.asked ≡ None }
+{
+    let has_turn = turn_after(session, table, b"\nget a\r\n")?;
+    settle(session, table)?;
+    let wanted = b"CLIENT_ERROR expiry is not supported\r\nEND\r\n".as_slice();
+    Ok(has_turn && session.out() == wanted)
+}
+
+fn passes_over_block(session: &mut Session, table: &mut Table) -> Result<bool, Fail>
+    requires { session.old.asked ≡ None }
+{
+    Ok(waits_in_block(session, table)? && writes_behind_block(session, table)?)
+}
+
+fn new_session_passes_over_block(alloc: Global) -> Result<bool, Fail> {
+    let mut table = Table::new(alloc);
+    let mut session = Session::new(alloc);
+    let passed = passes_over_block(&mut session, &mut table);
+    drop(session);
+    drop(table);
+    passed
+}
+
 // Its fault stands in turn only after its last byte, and is written once.
 #[test]
 fn a_refused_block_is_passed_over(rt: HostRuntime) -> Result<(), Fail> {
-    let mut table = Table::new(rt.alloc());
-    let mut session = Session::new(rt.alloc());
-    assert!(rt; !turn_after(&mut session, &mut table, b"set a 0 7 9\r\n")?);
-    assert!(rt; !turn_after(&mut session, &mut table, b"xxx")?);
-    assert!(rt; !turn_after(&mut session, &mut table, b"xxxxxx\r")?);
-    assert_eq!(rt; session.out(), b"".as_slice());
-    assert!(rt; turn_after(&mut session, &mut table, b"\nget a\r\n")?);
-    settle(&mut session, &mut table)?;
-    let wanted = b"CLIENT_ERROR expiry is not supported\r\nEND\r\n".as_slice();
-    assert_eq!(rt; session.out(), wanted);
-    Ok(())
+    holds(new_session_passes_over_block(rt.alloc()))
+}
+
+// Whether there is no turn after the first bytes of a line, one after its last, and then none.
+fn has_one_turn(
+    session: &mut Session,
+    table: &mut Table,
+    first: &[u8],
+    last: &[u8],
+) -> Result<bool, Fail>
+    requires { session.old.asked ≡ None }
+{
+    Ok(
+        !turn_after(session, table, first)?
+            && turn_after(session, table, last)?
+            && !turn(session, table)?,
+    )
+}
+
+fn is_closed(session: &mut Session) -> bool {
+    matches!(session.feed(b"get a\r\n"), Err(ProtoFault::Closed))
+}
+
+fn closes_after(
+    session: &mut Session,
+    table: &mut Table,
+    first: &[u8],
+    last: &[u8],
+) -> Result<bool, Fail>
+    requires { session.old.asked ≡ None }
+{
+    let has_one_turn = has_one_turn(session, table, first, last)?;
+    Ok(
+        has_one_turn
+            && session.out() == b"CLIENT_ERROR line too long\r\n".as_slice()
+            && is_closed(session),
+    )
+}
+
+fn new_session_closes_after(alloc: Global, first: &[u8], last: &[u8]) -> Result<bool, Fail> {
+    let mut table = Table::new(alloc);
+    let mut session = Session::new(alloc);
+    let closed = closes_after(&mut session, &mut table, first, last);
+    drop(session);
+    drop(table);
+    closed
 }
 
 #[test]
 fn a_line_that_is_too_long_closes(rt: HostRuntime) -> Result<(), Fail> {
     let line = vec![in rt.alloc(); b'q'; 2048]?;
-    let mut table = Table::new(rt.alloc());
-    let mut session = Session::new(rt.alloc());
-    session.feed(&line[..2047])?;
-    assert!(rt; !turn(&mut session, &mut table)?);
-    session.feed(&line[2047..])?;
-    assert!(rt; turn(&mut session, &mut table)?);
-    assert!(rt; !turn(&mut session, &mut table)?);
-    assert_eq!(rt; session.out(), b"CLIENT_ERROR line too long\r\n".as_slice());
-    assert!(rt; session.feed(b"get a\r\n") == Err(ProtoFault::Closed));
+    assert!(rt; new_session_closes_after(rt.alloc(), &line[..2047], &line[2047..])?);
     Ok(())
 }
 

@@ -1,4 +1,4 @@
-use bytes::Bytes;
+use crate::making::{block, holds, key};
 use std::alloc::Global;
 use std::collections::BTreeMap;
 use std::test::Fail;
@@ -55,13 +55,14 @@ impl Plain {
         versions.get(after.checked_sub(1)?)
     }
 
+    // The last clear up to `n`, or 0.
     fn cleared(&self, n: u64) -> u64 {
-        self.clears
-            .iter()
-            .rev()
-            .find(|number| **number <= n)
-            .copied()
-            .unwrap_or(0)
+        for number in self.clears.iter().rev() {
+            if *number <= n {
+                return *number;
+            }
+        }
+        0
     }
 
     fn at(&self, key: &Key, n: u64) -> Option<&Item> {
@@ -93,32 +94,50 @@ struct Pair {
 fn item(alloc: Global, number: u64) -> Result<Item, Fail> {
     Ok(Item {
         flags: 7,
-        bytes: Bytes::copy_from_slice(alloc, &number.to_be_bytes())?,
+        bytes: block(alloc, &number.to_be_bytes())?,
         unique: number,
     })
 }
 
-// An entry of an update at a key, in the ranges that an entry keeps.
-fn entry(number: u64, key: &Key, reply: Reply, change: Change) -> Result<Entry, Fail> {
-    let fits = match &change {
-        Change::Put(item) => item.unique == number && item.bytes.len() <= LIMIT,
-        Change::Keep | Change::Drop => true,
-        Change::Clear => false,
-    };
-    if number == 0 || !fits || matches!(reply, Reply::Value(_) | Reply::Flushed) {
+// The entry that puts an item, in the ranges that an entry keeps.
+fn put_of(number: u64, key: Key, item: Item) -> Result<Entry, Fail> {
+    if number == 0 || item.unique != number || item.bytes.len() > LIMIT {
         return Err("an entry in its ranges".into());
     }
-    let target = Target::One(key.clone()?);
-    Ok(Entry::new(number, 3, 1, target, reply, change))
+    let target = Target::One(key);
+    Ok(Entry::new(number, 3, 1, target, Reply::Stored, Change::Put(item)))
+}
+
+fn delete_of(number: u64, key: Key) -> Result<Entry, Fail> {
+    if number == 0 {
+        return Err("an entry in its ranges".into());
+    }
+    let target = Target::One(key);
+    Ok(Entry::new(number, 3, 1, target, Reply::Deleted, Change::Drop))
+}
+
+fn refused_of(number: u64, key: Key) -> Result<Entry, Fail> {
+    if number == 0 {
+        return Err("an entry in its ranges".into());
+    }
+    let target = Target::One(key);
+    Ok(Entry::new(number, 3, 1, target, Reply::NotStored, Change::Keep))
 }
 
 fn push(store: &mut Store, entry: Entry) -> Result<(), Fail> {
     let last = store.last();
     if last == u64::MAX || entry.number() != last + 1 {
+        drop(entry);
         return Err("the next number".into());
     }
     store.push(entry)?;
     Ok(())
+}
+
+fn push_put(store: &mut Store, number: u64, key: &Key, item: &Item) -> Result<(), Fail> {
+    let key = key.clone()?;
+    let item = item.clone()?;
+    push(store, put_of(number, key, item)?)
 }
 
 impl Pair {
@@ -137,27 +156,20 @@ impl Pair {
     fn put(&mut self, key: &Key) -> Result<(), Fail> {
         let number = self.next();
         let item = item(self.alloc, number)?;
-        let change = Change::Put(item.clone()?);
-        push(&mut self.store, entry(number, key, Reply::Stored, change)?)?;
+        push_put(&mut self.store, number, key, &item)?;
         self.plain.set(self.alloc, key, number, Some(item))
     }
 
     fn delete(&mut self, key: &Key) -> Result<(), Fail> {
         let number = self.next();
-        push(
-            &mut self.store,
-            entry(number, key, Reply::Deleted, Change::Drop)?,
-        )?;
+        push(&mut self.store, delete_of(number, key.clone()?)?)?;
         self.plain.set(self.alloc, key, number, None)
     }
 
     // A refused update takes a number, and makes no version.
     fn refuse(&mut self, key: &Key) -> Result<(), Fail> {
         let number = self.next();
-        push(
-            &mut self.store,
-            entry(number, key, Reply::NotStored, Change::Keep)?,
-        )
+        push(&mut self.store, refused_of(number, key.clone()?)?)
     }
 
     fn clear(&mut self) -> Result<(), Fail> {
@@ -218,10 +230,6 @@ fn same(a: Option<&Item>, b: Option<&Item>) -> bool {
     }
 }
 
-fn key(alloc: Global, name: &[u8]) -> Result<Key, Fail> {
-    Ok(Key::new(alloc, name)?.ok_or("a key")?)
-}
-
 // So many sets of one key, none of them acknowledged, and then each acknowledged and dropped.
 fn one_key(pair: &mut Pair, key: &Key, count: u64) -> Result<bool, Fail> {
     let mut agreed = true;
@@ -242,7 +250,9 @@ fn one_key(pair: &mut Pair, key: &Key, count: u64) -> Result<bool, Fail> {
 fn settled_key(alloc: Global, count: u64) -> Result<bool, Fail> {
     let key = key(alloc, b"a")?;
     let mut pair = Pair::new(alloc);
-    settles(&mut pair, &key, count)
+    let settled = settles(&mut pair, &key, count);
+    drop(pair);
+    settled
 }
 
 fn settles(pair: &mut Pair, key: &Key, count: u64) -> Result<bool, Fail> {
@@ -252,8 +262,7 @@ fn settles(pair: &mut Pair, key: &Key, count: u64) -> Result<bool, Fail> {
 
 #[test]
 fn many_versions_of_one_key(rt: HostRuntime) -> Result<(), Fail> {
-    assert!(rt; settled_key(rt.alloc(), 10_000)?);
-    Ok(())
+    holds(settled_key(rt.alloc(), 10_000))
 }
 
 // A key for each number below the count.
@@ -315,13 +324,14 @@ fn many_keys(pair: &mut Pair, keys: &[Key], rounds: u64) -> Result<bool, Fail> {
 fn many_keys_agree(alloc: Global, count: u32, rounds: u64) -> Result<bool, Fail> {
     let keys = keys(alloc, count)?;
     let mut pair = Pair::new(alloc);
-    many_keys(&mut pair, keys.as_slice(), rounds)
+    let agreed = many_keys(&mut pair, keys.as_slice(), rounds);
+    drop(pair);
+    agreed
 }
 
 #[test]
 fn many_keys_and_clears(rt: HostRuntime) -> Result<(), Fail> {
-    assert!(rt; many_keys_agree(rt.alloc(), 1_000, 12)?);
-    Ok(())
+    holds(many_keys_agree(rt.alloc(), 1_000, 12))
 }
 
 // Whether a key is clean once its first version is acknowledged.
@@ -361,13 +371,14 @@ fn a_clear_over_two_keys(alloc: Global) -> Result<bool, Fail> {
     let a = key(alloc, b"a")?;
     let b = key(alloc, b"b")?;
     let mut pair = Pair::new(alloc);
-    a_clear_is_shown(&mut pair, &a, &b)
+    let shown = a_clear_is_shown(&mut pair, &a, &b);
+    drop(pair);
+    shown
 }
 
 #[test]
 fn a_clear_is_a_version_of_every_key(rt: HostRuntime) -> Result<(), Fail> {
-    assert!(rt; a_clear_over_two_keys(rt.alloc())?);
-    Ok(())
+    holds(a_clear_over_two_keys(rt.alloc()))
 }
 
 // A set, a refused update and a delete of one key.
@@ -400,54 +411,50 @@ fn is_delete(entry: &Entry) -> bool {
     matches!(entry.reply(), Reply::Deleted) && matches!(entry.change(), Change::Drop)
 }
 
-fn are_refused_and_delete(entries: &[Entry], key: &Key) -> bool {
-    match entries {
-        [refused, delete] => {
-            is_of(refused, 2, key)
-                && is_refused(refused)
-                && is_of(delete, 3, key)
-                && is_delete(delete)
-        }
-        _ => false,
+// Whether a copy of an entry equals it.
+fn is_copied(entry: &Entry) -> Result<bool, Fail> {
+    let copy = entry.clone()?;
+    let equal = copy == *entry;
+    drop(copy);
+    Ok(equal)
+}
+
+fn are_refused_and_delete(refused: &Entry, delete: &Entry, key: &Key) -> bool {
+    is_of(refused, 2, key) && is_refused(refused) && is_of(delete, 3, key) && is_delete(delete)
+}
+
+fn are_copied(refused: &Entry, delete: &Entry) -> Result<bool, Fail> {
+    Ok(is_copied(refused)? && is_copied(delete)?)
+}
+
+// Whether the entries above 1 are a refused update and a delete of this key, and nothing else.
+fn shows_two(store: &Store, key: &Key) -> Result<bool, Fail> {
+    if 1 < store.floor() || store.last() < 1 {
+        return Err("an open number".into());
+    }
+    let mut entries = store.entries_after(1);
+    match (entries.next(), entries.next(), entries.next()) {
+        (Some(refused), Some(delete), None) => Ok(
+            are_refused_and_delete(refused, delete, key) && are_copied(refused, delete)?,
+        ),
+        _ => Ok(false),
     }
 }
 
 fn two_are_shown(pair: &mut Pair, key: &Key) -> Result<bool, Fail> {
     leave_two_open(pair, key)?;
-    let entries = open_entries(pair.alloc, &pair.store, 1)?;
-    Ok(are_refused_and_delete(entries.as_slice(), key))
+    shows_two(&pair.store, key)
 }
 
 fn two_of_three_are_shown(alloc: Global) -> Result<bool, Fail> {
     let key = key(alloc, b"a")?;
     let mut pair = Pair::new(alloc);
-    two_are_shown(&mut pair, &key)
+    let shown = two_are_shown(&mut pair, &key);
+    drop(pair);
+    shown
 }
 
 #[test]
 fn open_entries_are_shown_in_order(rt: HostRuntime) -> Result<(), Fail> {
-    assert!(rt; two_of_three_are_shown(rt.alloc())?);
-    Ok(())
-}
-
-// An equal copy.
-fn copy_of(entry: &Entry) -> Result<Entry, Fail> {
-    let copy = entry.clone()?;
-    if copy == *entry {
-        Ok(copy)
-    } else {
-        Err("an equal copy".into())
-    }
-}
-
-// Copies of the entries above a number.
-fn open_entries(alloc: Global, store: &Store, n: u64) -> Result<Vec<Entry>, Fail> {
-    if n < store.floor() || store.last() < n {
-        return Err("an open number".into());
-    }
-    let mut copies = Vec::new(alloc);
-    for entry in store.entries_after(n) {
-        copies.push(copy_of(entry)?)?;
-    }
-    Ok(copies)
+    holds(two_of_three_are_shown(rt.alloc()))
 }

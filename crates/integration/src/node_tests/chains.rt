@@ -1,29 +1,15 @@
 //! A chain of nodes, and the messages between them.
 
-use bytes::Bytes;
+use crate::making::{key, on};
 use node::{Input, Node, Output, Peer};
 use std::alloc::Global;
 use std::collections::VecDeque;
 use std::test::Fail;
-use table::{Call, Key, Op, Reply, Target};
-
-pub(super) fn key(alloc: Global, bytes: &[u8]) -> Result<Key, Fail> {
-    Ok(Key::new(alloc, bytes)?.ok_or("a key")?)
-}
-
-pub(super) fn on(alloc: Global, op: Op) -> Result<Call, Fail> {
-    Ok(Call {
-        target: Target::One(key(alloc, b"a")?),
-        op,
-    })
-}
-
-pub(super) fn set(alloc: Global, data: &[u8]) -> Result<Call, Fail> {
-    on(alloc, Op::Set(0, Bytes::copy_from_slice(alloc, data)?))
-}
+use table::{Call, Op, Reply};
 
 pub(super) fn get(alloc: Global) -> Result<Call, Fail> {
-    on(alloc, Op::Read)
+    let key = key(alloc, b"a")?;
+    Ok(on(key, Op::Read))
 }
 
 // A chain of nodes: messages on their way in the order in which they were sent, and the replies so far.
@@ -56,11 +42,23 @@ pub(super) fn step(chain: &mut Chain, i: u8, input: Input) -> Result<(), Fail> {
     Ok(())
 }
 
-// The outputs of an input. (Who owns an input has few exits: each costs a proof for each kind of input.)
 fn outputs(nodes: &mut Vec<Node>, i: u8, input: Input) -> Result<Vec<Output>, Fail> {
     match nodes.get_mut(usize::from(i)) {
-        Some(node) if input.is_fit() => Ok(node.step(input)?),
-        _ => Err("a node, and an input that may be handed in".into()),
+        Some(node) => outputs_of(node, input),
+        None => {
+            drop(input);
+            Err("a node".into())
+        }
+    }
+}
+
+// The outputs of an input. (What is dropped so costs no proof of each kind of input.)
+pub(super) fn outputs_of(node: &mut Node, input: Input) -> Result<Vec<Output>, Fail> {
+    if input.is_fit() {
+        Ok(node.step(input)?)
+    } else {
+        drop(input);
+        Err("an input that may be handed in".into())
     }
 }
 

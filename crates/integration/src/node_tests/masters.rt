@@ -1,5 +1,6 @@
 //! Whom the master tells, and how large a chain may be.
 
+use crate::making::holds;
 use node::{Master, Node, NodeFault};
 use std::alloc::Global;
 use std::test::Fail;
@@ -15,18 +16,33 @@ fn tells(
     Ok(told.as_slice() == wanted)
 }
 
+fn tells_the_others(alloc: Global, master: &mut Master) -> Result<bool, Fail> {
+    Ok(
+        tells(alloc, master, 1, &[(0, 1), (2, 1)])?
+            && tells(alloc, master, 1, &[])?
+            && tells(alloc, master, 0, &[(2, 0)])?
+            && tells(alloc, master, 3, &[])?,
+    )
+}
+
 #[test]
 fn a_master_tells_the_others(rt: HostRuntime) -> Result<(), Fail> {
     let mut master = Master::new(3);
-    assert!(rt; tells(rt.alloc(), &mut master, 1, &[(0, 1), (2, 1)])?);
-    assert!(rt; tells(rt.alloc(), &mut master, 1, &[])?);
-    assert!(rt; tells(rt.alloc(), &mut master, 0, &[(2, 0)])?);
-    assert!(rt; tells(rt.alloc(), &mut master, 3, &[])?);
-    Ok(())
+    holds(tells_the_others(rt.alloc(), &mut master))
 }
 
 fn is_refused(alloc: Global, id: u8, count: u8) -> bool {
-    matches!(Node::new(alloc, id, count), Err(NodeFault::BadCount))
+    let made = Node::new(alloc, id, count);
+    let refused = matches!(&made, Err(NodeFault::BadCount));
+    drop(made);
+    refused
+}
+
+fn is_made(alloc: Global, id: u8, count: u8) -> Result<bool, Fail> {
+    let node = Node::new(alloc, id, count)?;
+    let idle = node.is_idle();
+    drop(node);
+    Ok(idle)
 }
 
 #[test]
@@ -35,7 +51,7 @@ fn a_chain_has_1_to_16_servers(rt: HostRuntime) -> Result<(), Fail> {
         assert!(rt; is_refused(rt.alloc(), id, count));
     }
     for (id, count) in [(15, 16), (0, 1)] {
-        assert!(rt; Node::new(rt.alloc(), id, count)?.is_idle());
+        assert!(rt; is_made(rt.alloc(), id, count)?);
     }
     Ok(())
 }

@@ -1,6 +1,6 @@
 //! The published face: the changes that steps give, done on a map, show what the node shows.
 
-use super::chains::{key, on, set};
+use crate::making::{holds, key, on, set};
 use node::{Body, FaceChange, FaceStep, Input, Look, Node, Peer, Version, View};
 use std::alloc::Global;
 use std::collections::BTreeMap;
@@ -68,6 +68,7 @@ fn changed(node: &mut Node, input: Input) -> Result<FaceChange, Fail> {
         let (_, change) = node.step_face(input)?;
         Ok(change)
     } else {
+        drop(input);
         Err("an input that may be handed in".into())
     }
 }
@@ -94,25 +95,14 @@ fn acknowledged(n: u64) -> Input {
     Input::From(1, Peer { view, body })
 }
 
-fn on_b(alloc: Global, call: Call) -> Result<Call, Fail> {
-    let target = Target::One(key(alloc, b"b")?);
-    let op = call.op;
-    Ok(Call { target, op })
-}
-
-fn put_a(alloc: Global, scene: &mut Scene, data: &[u8]) -> Result<(), Fail> {
-    let call = set(alloc, data)?;
-    change(scene, Input::Call(0, call))
-}
-
-fn put_b(alloc: Global, scene: &mut Scene, data: &[u8]) -> Result<(), Fail> {
-    let call = on_b(alloc, set(alloc, data)?)?;
+fn put(alloc: Global, scene: &mut Scene, name: &[u8], data: &[u8]) -> Result<(), Fail> {
+    let call = set(alloc, name, data)?;
     change(scene, Input::Call(0, call))
 }
 
 fn delete_a(alloc: Global, scene: &mut Scene) -> Result<(), Fail> {
-    let call = on(alloc, Op::Delete)?;
-    change(scene, Input::Call(0, call))
+    let key = key(alloc, b"a")?;
+    change(scene, Input::Call(0, on(key, Op::Delete)))
 }
 
 fn clear_all(scene: &mut Scene) -> Result<(), Fail> {
@@ -125,17 +115,17 @@ fn clear_all(scene: &mut Scene) -> Result<(), Fail> {
 
 // Items are put and dropped.
 fn put_and_drop(alloc: Global, scene: &mut Scene) -> Result<(), Fail> {
-    put_a(alloc, scene, b"p")?;
+    put(alloc, scene, b"a", b"p")?;
     change(scene, acknowledged(1))?;
     delete_a(alloc, scene)?;
-    put_b(alloc, scene, b"q")?;
+    put(alloc, scene, b"b", b"q")?;
     change(scene, acknowledged(2))
 }
 
 // All keys are cleared, and one is put again.
 fn clear_and_put(alloc: Global, scene: &mut Scene) -> Result<(), Fail> {
     clear_all(scene)?;
-    put_a(alloc, scene, b"r")?;
+    put(alloc, scene, b"a", b"r")?;
     change(scene, acknowledged(4))
 }
 
@@ -159,7 +149,9 @@ fn is_clean_alone(scene: &mut Scene) -> Result<bool, Fail> {
 
 fn changes_are_shown(alloc: Global) -> Result<bool, Fail> {
     let mut scene = empty_scene(alloc)?;
-    changes_are_shown_in(alloc, &mut scene)
+    let shown = changes_are_shown_in(alloc, &mut scene);
+    drop(scene);
+    shown
 }
 
 fn changes_are_shown_in(alloc: Global, scene: &mut Scene) -> Result<bool, Fail> {
@@ -168,6 +160,5 @@ fn changes_are_shown_in(alloc: Global, scene: &mut Scene) -> Result<bool, Fail> 
 
 #[test]
 fn changes_replayed_show_what_the_node_shows(rt: HostRuntime) -> Result<(), Fail> {
-    assert!(rt; changes_are_shown(rt.alloc())?);
-    Ok(())
+    holds(changes_are_shown(rt.alloc()))
 }

@@ -1,6 +1,7 @@
 //! What a chain does while no server fails.
 
-use super::chains::{Chain, chain_of, key, set, step};
+use super::chains::{Chain, chain_of, step};
+use crate::making::{holds, key, set};
 use node::{Input, Look, Node};
 use std::alloc::Global;
 use std::test::Fail;
@@ -8,7 +9,7 @@ use table::{Key, Reply};
 
 // A set of the key at node i.
 fn set_at(alloc: Global, chain: &mut Chain, i: u8, port: usize) -> Result<(), Fail> {
-    let call = set(alloc, b"p")?;
+    let call = set(alloc, b"a", b"p")?;
     step(chain, i, Input::Call(port, call))
 }
 
@@ -59,32 +60,51 @@ fn all_show_item(nodes: &[Node], a: &Key) -> bool {
     true
 }
 
-fn sixteen_nodes_pass_a_set(alloc: Global, a: &Key) -> Result<bool, Fail> {
-    let mut chain = chain_of(alloc, 16)?;
-    let passed = passes_through_31(alloc, &mut chain)?;
+fn sixteen_show_item(alloc: Global, chain: &mut Chain, a: &Key) -> Result<bool, Fail> {
+    let passed = passes_through_31(alloc, chain)?;
     Ok(passed && chain.nodes.len() == 16 && all_show_item(chain.nodes.as_slice(), a))
+}
+
+fn sixteen_nodes_show(alloc: Global, a: &Key) -> Result<bool, Fail> {
+    let mut chain = chain_of(alloc, 16)?;
+    let shown = sixteen_show_item(alloc, &mut chain, a);
+    drop(chain);
+    shown
+}
+
+fn sixteen_nodes_pass_a_set(alloc: Global) -> Result<bool, Fail> {
+    let a = key(alloc, b"a")?;
+    let shown = sixteen_nodes_show(alloc, &a);
+    drop(a);
+    shown
 }
 
 #[test]
 fn sixteen_nodes_pass_a_set_through_31_messages(rt: HostRuntime) -> Result<(), Fail> {
-    let a = key(rt.alloc(), b"a")?;
-    assert!(rt; sixteen_nodes_pass_a_set(rt.alloc(), &a)?);
-    Ok(())
+    holds(sixteen_nodes_pass_a_set(rt.alloc()))
 }
 
-// The unique that node 0 shows of a key that has an item, or none while the key is dirty.
-fn unique_shown(chain: &Chain, a: &Key) -> Result<Option<u64>, Fail> {
-    match chain.nodes.first().ok_or("a node")?.peek(a) {
-        Look::Clean(Some(item)) => Ok(Some(item.unique)),
-        Look::Clean(None) => Err("an item".into()),
-        Look::Dirty => Ok(None),
+// Whether node 0 shows that a key is dirty.
+fn is_dirty(chain: &Chain, a: &Key) -> bool {
+    match chain.nodes.first() {
+        Some(node) => matches!(node.peek(a), Look::Dirty),
+        None => false,
+    }
+}
+
+// Whether node 0 shows an item with this unique, of a clean key.
+fn shows_unique(chain: &Chain, a: &Key, unique: u64) -> bool {
+    match chain.nodes.first() {
+        Some(node) => matches!(node.peek(a), Look::Clean(Some(item)) if item.unique == unique),
+        None => false,
     }
 }
 
 fn expect_dirty(chain: &Chain, a: &Key) -> Result<(), Fail> {
-    match unique_shown(chain, a)? {
-        Some(_) => Err("a dirty key".into()),
-        None => Ok(()),
+    if is_dirty(chain, a) {
+        Ok(())
+    } else {
+        Err("a dirty key".into())
     }
 }
 
@@ -136,21 +156,18 @@ fn settles_sets(
     unique: u64,
 ) -> Result<bool, Fail> {
     settle_sets(alloc, chain, a, count)?;
-    Ok(
-        unique_shown(chain, a)? == Some(unique)
-            && are_stored_in_order(chain, count)
-            && chain.sent.is_empty(),
-    )
+    Ok(shows_unique(chain, a, unique) && are_stored_in_order(chain, count) && chain.sent.is_empty())
 }
 
 fn two_nodes_settle_sets(alloc: Global, count: usize, unique: u64) -> Result<bool, Fail> {
     let a = key(alloc, b"a")?;
     let mut chain = chain_of(alloc, 2)?;
-    settles_sets(alloc, &mut chain, &a, count, unique)
+    let settled = settles_sets(alloc, &mut chain, &a, count, unique);
+    drop(chain);
+    settled
 }
 
 #[test]
 fn many_sets_at_the_head_of_two(rt: HostRuntime) -> Result<(), Fail> {
-    assert!(rt; two_nodes_settle_sets(rt.alloc(), 10_000, 10_000)?);
-    Ok(())
+    holds(two_nodes_settle_sets(rt.alloc(), 10_000, 10_000))
 }

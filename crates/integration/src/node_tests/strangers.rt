@@ -1,6 +1,7 @@
 //! Messages that no server sends which keeps to the rules.
 
-use super::chains::{get, key, set};
+use super::chains::{get, outputs_of};
+use crate::making::{key, set};
 use node::{Body, Input, Node, Peer, View};
 use std::alloc::Global;
 use std::test::Fail;
@@ -18,12 +19,8 @@ fn drop_of(alloc: Global, number: u64, origin: u8) -> Result<Entry, Fail> {
 
 // How many outputs an input gives.
 fn count_of(node: &mut Node, input: Input) -> Result<usize, Fail> {
-    if input.is_fit() {
-        let outputs = node.step(input)?;
-        Ok(outputs.len())
-    } else {
-        Err("an input that may be handed in".into())
-    }
+    let outputs = outputs_of(node, input)?;
+    Ok(outputs.len())
 }
 
 // How many outputs a message from server i gives.
@@ -72,8 +69,13 @@ fn make_dirty(alloc: Global, node: &mut Node) -> Result<(), Fail> {
 // Server 1 of 3 with an entry that isn't acknowledged, and an open read of its key.
 fn dirty_node(alloc: Global) -> Result<Node, Fail> {
     let mut node = Node::new(alloc, 1, 3)?;
-    make_dirty(alloc, &mut node)?;
-    Ok(node)
+    match make_dirty(alloc, &mut node) {
+        Ok(()) => Ok(node),
+        Err(fault) => {
+            drop(node);
+            Err(fault)
+        }
+    }
 }
 
 fn pass_over_forwards(alloc: Global, node: &mut Node) -> Result<(), Fail> {
@@ -86,7 +88,9 @@ fn pass_over_forwards(alloc: Global, node: &mut Node) -> Result<(), Fail> {
 #[test]
 fn forwards_out_of_turn_are_passed_over(rt: HostRuntime) -> Result<(), Fail> {
     let mut node = dirty_node(rt.alloc())?;
-    pass_over_forwards(rt.alloc(), &mut node)
+    let passed = pass_over_forwards(rt.alloc(), &mut node);
+    drop(node);
+    passed
 }
 
 fn pass_over_acknowledgements(node: &mut Node) -> Result<(), Fail> {
@@ -107,7 +111,9 @@ fn pass_over_acknowledgements(node: &mut Node) -> Result<(), Fail> {
 #[test]
 fn acknowledgements_of_others_are_passed_over(rt: HostRuntime) -> Result<(), Fail> {
     let mut node = dirty_node(rt.alloc())?;
-    pass_over_acknowledgements(&mut node)
+    let passed = pass_over_acknowledgements(&mut node);
+    drop(node);
+    passed
 }
 
 fn pass_over_answers(node: &mut Node) -> Result<(), Fail> {
@@ -127,7 +133,9 @@ fn pass_over_answers(node: &mut Node) -> Result<(), Fail> {
 #[test]
 fn answers_of_others_are_passed_over(rt: HostRuntime) -> Result<(), Fail> {
     let mut node = dirty_node(rt.alloc())?;
-    pass_over_answers(&mut node)
+    let passed = pass_over_answers(&mut node);
+    drop(node);
+    passed
 }
 
 fn pass_over_query(alloc: Global, node: &mut Node, ask: u64) -> Result<(), Fail> {
@@ -145,7 +153,9 @@ fn pass_over_queries(alloc: Global, node: &mut Node) -> Result<(), Fail> {
 #[test]
 fn queries_beside_the_tail_are_passed_over(rt: HostRuntime) -> Result<(), Fail> {
     let mut node = dirty_node(rt.alloc())?;
-    pass_over_queries(rt.alloc(), &mut node)
+    let passed = pass_over_queries(rt.alloc(), &mut node);
+    drop(node);
+    passed
 }
 
 // Whether an acknowledgement whose view is of no chain of three gives nothing.
@@ -181,12 +191,14 @@ fn pass_over_no_chain(node: &mut Node) -> Result<(), Fail> {
 #[test]
 fn views_of_no_chain_are_passed_over(rt: HostRuntime) -> Result<(), Fail> {
     let mut node = dirty_node(rt.alloc())?;
-    pass_over_no_chain(&mut node)
+    let passed = pass_over_no_chain(&mut node);
+    drop(node);
+    passed
 }
 
 // How many messages a set from server i with this id puts out.
 fn expect_set(alloc: Global, node: &mut Node, i: u8, id: u64, outputs: usize) -> Result<(), Fail> {
-    let call = set(alloc, b"p")?;
+    let call = set(alloc, b"a", b"p")?;
     expect(node, i, Body::Op(id, call), outputs)
 }
 
@@ -212,5 +224,7 @@ fn take_one_set(alloc: Global, node: &mut Node) -> Result<(), Fail> {
 #[test]
 fn calls_out_of_turn_are_passed_over(rt: HostRuntime) -> Result<(), Fail> {
     let mut head = Node::new(rt.alloc(), 0, 2)?;
-    take_one_set(rt.alloc(), &mut head)
+    let taken = take_one_set(rt.alloc(), &mut head);
+    drop(head);
+    taken
 }

@@ -1,8 +1,8 @@
 //! Each operation, reply and change.
 
-use super::fronts::{Found, next_found};
+use super::fronts::is_next;
 use super::ranges::row;
-use std::process::Abort;
+use std::alloc::Global;
 use std::test::Fail;
 use wire::Frames;
 
@@ -35,25 +35,26 @@ fn coded(place: usize) -> (u8, &'static [u8]) {
     }
 }
 
+fn is_next_after(alloc: Global, frames: &mut Frames, text: &[u8]) -> Result<bool, Fail> {
+    frames.feed(text)?;
+    is_next(alloc, frames, text)
+}
+
+// Whether a message of this kind is read as it was written.
+fn is_read_again(alloc: Global, kind: u8, behind: &[u8]) -> Result<bool, Fail> {
+    let wanted = row(alloc, kind, behind)?;
+    let mut frames = Frames::new(alloc);
+    let read = is_next_after(alloc, &mut frames, wanted.as_slice());
+    drop(frames);
+    read
+}
+
 // Each operation, reply and change is read as it was written.
 #[test]
 fn all_codes(rt: HostRuntime) -> Result<(), Fail> {
     for place in 0..17 {
         let (kind, behind) = coded(place);
-        check_again(&rt, kind, behind)?;
+        assert!(rt; is_read_again(rt.alloc(), kind, behind)?, "code {place}");
     }
-    Ok(())
-}
-
-fn check_again<R: Abort + AllocGlobal>(rt: &R, kind: u8, behind: &[u8]) -> Result<(), Fail> {
-    let wanted = row(rt.alloc(), kind, behind)?;
-    let mut frames = Frames::new(rt.alloc());
-    let mut text = Vec::new(rt.alloc());
-    frames.feed(wanted.as_slice())?;
-    assert_eq!(rt;
-        next_found(rt.alloc(), &mut frames, &mut text)?,
-        Found::Frame
-    );
-    assert_eq!(rt; text.as_slice(), wanted.as_slice());
     Ok(())
 }

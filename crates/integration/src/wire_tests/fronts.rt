@@ -1,13 +1,12 @@
 //! What stands at the front of some bytes.
 
-use super::vectors::vector;
+use super::vectors::{spelled, vector};
 use std::alloc::Global;
-use std::process::Abort;
 use std::test::Fail;
-use wire::{Frames, WireFault, encode};
+use wire::{Frame, Frames, WireFault};
 
 // What stands at the front of some bytes.
-#[derive(Clone, Copy, Debug, PartialEq, Eq)]
+#[derive(Clone, Copy, PartialEq)]
 pub(super) enum Found {
     Frame,
     Nothing,
@@ -22,24 +21,48 @@ pub(super) fn next_found(
     text: &mut Vec<u8>,
 ) -> Result<Found, Fail> {
     match frames.next() {
-        Ok(Some(frame)) => {
-            if !frame.is_in_range() {
-                return Err("a frame in its ranges".into());
-            }
-            *text = encode(alloc, &frame)?;
-            Ok(Found::Frame)
+        Ok(next) => {
+            let found = found_in(alloc, &next, text);
+            drop(next);
+            found
         }
-        Ok(None) => Ok(Found::Nothing),
         Err(WireFault::Malformed) => Ok(Found::Malformed),
         Err(WireFault::OldFormat) => Ok(Found::Old),
         Err(fault) => Err(fault.into()),
     }
 }
 
+fn found_in(alloc: Global, next: &Option<Frame>, text: &mut Vec<u8>) -> Result<Found, Fail> {
+    match next {
+        Some(frame) => {
+            *text = spelled(alloc, frame)?;
+            Ok(Found::Frame)
+        }
+        None => Ok(Found::Nothing),
+    }
+}
+
+// Whether the next of a reader is a frame of this spelling.
+pub(super) fn is_next(alloc: Global, frames: &mut Frames, wanted: &[u8]) -> Result<bool, Fail> {
+    let mut text = Vec::new(alloc);
+    Ok(next_found(alloc, frames, &mut text)? == Found::Frame && text.as_slice() == wanted)
+}
+
+// What stands next, whatever its spelling.
+fn kind_found(alloc: Global, frames: &mut Frames) -> Result<Found, Fail> {
+    next_found(alloc, frames, &mut Vec::new(alloc))
+}
+
 pub(super) fn first_found(alloc: Global, bytes: &[u8]) -> Result<Found, Fail> {
     let mut frames = Frames::new(alloc);
+    let found = found_after(alloc, &mut frames, bytes);
+    drop(frames);
+    found
+}
+
+fn found_after(alloc: Global, frames: &mut Frames, bytes: &[u8]) -> Result<Found, Fail> {
     frames.feed(bytes)?;
-    next_found(alloc, &mut frames, &mut Vec::new(alloc))
+    kind_found(alloc, frames)
 }
 
 // A stream that ends in any of a frame's fields holds no frame yet, and nothing bad.
@@ -118,31 +141,49 @@ fn fronts(rt: HostRuntime) -> Result<(), Fail> {
     Ok(())
 }
 
-// A bad front is met at every call, and the stream takes no more bytes.
-fn check_end<R: Abort + AllocGlobal>(
-    rt: &R,
+// Whether a stream takes no more bytes.
+fn is_closed(frames: &mut Frames, bytes: &[u8]) -> bool {
+    matches!(frames.feed(bytes), Err(WireFault::Closed))
+}
+
+// Whether a bad front is met at every call, and the stream takes no more bytes.
+fn stays_ended(
+    alloc: Global,
+    frames: &mut Frames,
+    bytes: &[u8],
+    wanted: Found,
+) -> Result<bool, Fail> {
+    let mut ended = true;
+    for _ in 0..3 {
+        ended &= kind_found(alloc, frames)? == wanted;
+        ended &= is_closed(frames, bytes);
+    }
+    Ok(ended)
+}
+
+// Whether a frame is read, and then the bad front behind it ends the stream.
+fn ends(
+    alloc: Global,
+    frames: &mut Frames,
     front: &[u8],
     last: u8,
     wanted: Found,
-) -> Result<(), Fail> {
-    let mut frames = Frames::new(rt.alloc());
-    let mut text = Vec::new(rt.alloc());
+) -> Result<bool, Fail> {
     frames.feed(front)?;
     frames.feed(&[last])?;
-    assert_eq!(rt;
-        next_found(rt.alloc(), &mut frames, &mut text)?,
-        Found::Frame
-    );
-    assert_eq!(rt; text.as_slice(), front);
-    for _ in 0..3 {
-        assert_eq!(rt; next_found(rt.alloc(), &mut frames, &mut text)?, wanted);
-        assert!(rt; frames.feed(front) == Err(WireFault::Closed));
-    }
-    Ok(())
+    Ok(is_next(alloc, frames, front)? && stays_ended(alloc, frames, front, wanted)?)
+}
+
+fn stream_ends(alloc: Global, front: &[u8], last: u8, wanted: Found) -> Result<bool, Fail> {
+    let mut frames = Frames::new(alloc);
+    let ended = ends(alloc, &mut frames, front, last, wanted);
+    drop(frames);
+    ended
 }
 
 #[test]
 fn streams_end(rt: HostRuntime) -> Result<(), Fail> {
-    check_end(&rt, vector(0), 1, Found::Old)?;
-    check_end(&rt, vector(1), 3, Found::Malformed)
+    assert!(rt; stream_ends(rt.alloc(), vector(0), 1, Found::Old)?);
+    assert!(rt; stream_ends(rt.alloc(), vector(1), 3, Found::Malformed)?);
+    Ok(())
 }

@@ -1,24 +1,13 @@
 //! The thirteen vectors, both ways.
 
+use crate::making::{key, on};
 use bytes::{Bytes, BytesMut};
 use node::{Body, Peer, View};
 use std::alloc::Global;
-use std::process::Abort;
 use std::test::Fail;
-use table::{Call, Change, Item, Key, Op, Reply, Target};
+use table::{Call, Change, Item, Op, Reply, Target};
 use versions::Entry;
 use wire::{Acceptance, Frame, Frames, Introduction, Reason, encode, encode_onto};
-
-fn key(alloc: Global, bytes: &[u8]) -> Result<Key, Fail> {
-    Ok(Key::new(alloc, bytes)?.ok_or("a key")?)
-}
-
-pub(super) fn on(alloc: Global, bytes: &[u8], op: Op) -> Result<Call, Fail> {
-    Ok(Call {
-        target: Target::One(key(alloc, bytes)?),
-        op,
-    })
-}
 
 pub(super) fn says(view: u16, body: Body) -> Frame {
     Frame::Peer(Peer {
@@ -64,7 +53,7 @@ fn frame_at(alloc: Global, place: usize) -> Result<Frame, Fail> {
         1 => Ok(says(0, Body::Ack(1))),
         2 => Ok(says(0, Body::Query(1, key(alloc, b"a")?))),
         3 => Ok(says(0, Body::Answer(1, 0))),
-        4 => Ok(says(1, Body::Op(2, on(alloc, b"n", Op::Incr(1))?))),
+        4 => Ok(says(1, Body::Op(2, on(key(alloc, b"n")?, Op::Incr(1))))),
         5 => Ok(says(0, Body::Forward(three_bytes_put(alloc)?))),
         6 => Ok(Frame::Gone(5)),
         7 => Ok(says(0, Body::Op(3, flush()))),
@@ -117,30 +106,37 @@ fn three_bytes_put(alloc: Global) -> Result<Entry, Fail> {
     Ok(Entry::new(1, 0, 1, target, Reply::Stored, Change::Put(item)))
 }
 
-// The vector at this place is what its frame is written as.
-fn check_written<R: Abort + AllocGlobal>(rt: &R, place: usize) -> Result<(), Fail> {
-    let frame = frame_at(rt.alloc(), place)?;
-    assert_eq!(rt;
-        spelled(rt.alloc(), &frame)?.as_slice(),
-        vector(place),
-        "vector {place}"
-    );
-    let mut out = BytesMut::new(rt.alloc());
-    put_behind(&mut out, &frame)?;
-    put_behind(&mut out, &frame)?;
-    assert_eq!(rt;
-        out.as_slice()
-            .get(vector(place).len()..)
-            .unwrap_or_default(),
-        vector(place)
-    );
-    Ok(())
+// Whether the frame is written as these bytes, alone and behind itself.
+fn is_written(alloc: Global, frame: &Frame, wanted: &[u8]) -> Result<bool, Fail> {
+    let alone = spelled(alloc, frame)?;
+    Ok(alone.as_slice() == wanted && is_written_behind(alloc, frame, wanted)?)
+}
+
+fn is_written_behind(alloc: Global, frame: &Frame, wanted: &[u8]) -> Result<bool, Fail> {
+    let out = put_twice(alloc, frame)?;
+    let behind = out.as_slice().get(wanted.len()..).unwrap_or_default();
+    Ok(behind == wanted)
+}
+
+fn put_twice(alloc: Global, frame: &Frame) -> Result<BytesMut, Fail> {
+    let mut out = BytesMut::new(alloc);
+    put_behind(&mut out, frame)?;
+    put_behind(&mut out, frame)?;
+    Ok(out)
+}
+
+// Whether the vector at this place is what its frame is written as.
+fn is_vector_written(alloc: Global, place: usize) -> Result<bool, Fail> {
+    let frame = frame_at(alloc, place)?;
+    let written = is_written(alloc, &frame, vector(place));
+    drop(frame);
+    written
 }
 
 #[test]
 fn vectors_are_written(rt: HostRuntime) -> Result<(), Fail> {
     for place in 0..13 {
-        check_written(&rt, place)?;
+        assert!(rt; is_vector_written(rt.alloc(), place)?, "vector {place}");
     }
     Ok(())
 }
@@ -152,23 +148,6 @@ fn put_behind(out: &mut BytesMut, frame: &Frame) -> Result<(), Fail> {
     Ok(encode_onto(out, frame)?)
 }
 
-// The entry of the message that some bytes spell.
-fn entry_of(alloc: Global, bytes: &[u8]) -> Result<Entry, Fail> {
-    let mut frames = Frames::new(alloc);
-    frames.feed(bytes)?;
-    match frames.next()? {
-        Some(
-            Frame::Peer(
-                Peer {
-                    body: Body::Forward(entry),
-                    ..
-                },
-            ),
-        ) => Ok(entry),
-        _ => Err("an entry".into()),
-    }
-}
-
 fn is_three_bytes_put(entry: &Entry) -> bool {
     let Change::Put(item) = entry.change() else {
         return false;
@@ -176,27 +155,62 @@ fn is_three_bytes_put(entry: &Entry) -> bool {
     entry.number() == 1
         && entry.origin() == 0
         && entry.id() == 1
-        && *entry.reply() == Reply::Stored
-        && item.flags == 5
-        && item.unique == 1
-        && item.bytes.as_slice() == b"xyz".as_slice()
+        && matches!(entry.reply(), Reply::Stored)
+        && is_xyz(item)
+}
+
+fn is_xyz(item: &Item) -> bool {
+    item.flags == 5 && item.unique == 1 && item.bytes.as_slice() == b"xyz".as_slice()
 }
 
 fn is_clear(entry: &Entry) -> bool {
     entry.number() == 4
         && entry.origin() == 1
         && entry.id() == 2
-        && *entry.target() == Target::All
-        && *entry.reply() == Reply::Flushed
-        && *entry.change() == Change::Clear
+        && matches!(entry.target(), Target::All)
+        && matches!(entry.reply(), Reply::Flushed)
+        && matches!(entry.change(), Change::Clear)
+}
+
+// Whether a frame forwards the entry of the vector at this place.
+fn holds_entry(next: &Option<Frame>, place: usize) -> bool {
+    match next {
+        Some(
+            Frame::Peer(
+                Peer {
+                    body: Body::Forward(entry),
+                    ..
+                },
+            ),
+        ) => match place {
+            5 => is_three_bytes_put(entry),
+            8 => is_clear(entry),
+            _ => false,
+        },
+        _ => false,
+    }
+}
+
+fn reads_entry(frames: &mut Frames, place: usize) -> Result<bool, Fail> {
+    frames.feed(vector(place))?;
+    let next = frames.next()?;
+    let held = holds_entry(&next, place);
+    drop(next);
+    Ok(held)
+}
+
+// Whether the entry of the vector at this place is read.
+fn is_entry_read(alloc: Global, place: usize) -> Result<bool, Fail> {
+    let mut frames = Frames::new(alloc);
+    let read = reads_entry(&mut frames, place);
+    drop(frames);
+    read
 }
 
 // What is read is the frame of the vector, field by field.
 #[test]
 fn fields_are_read(rt: HostRuntime) -> Result<(), Fail> {
-    let entry = entry_of(rt.alloc(), vector(5))?;
-    assert!(rt; is_three_bytes_put(&entry));
-    let entry = entry_of(rt.alloc(), vector(8))?;
-    assert!(rt; is_clear(&entry));
+    assert!(rt; is_entry_read(rt.alloc(), 5)?);
+    assert!(rt; is_entry_read(rt.alloc(), 8)?);
     Ok(())
 }

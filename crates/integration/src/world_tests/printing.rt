@@ -1,47 +1,76 @@
+use crate::making::key;
 use schedules::print_transcript;
+use std::alloc::Global;
 use std::test::Fail;
 use table::{Key, Op, Reply, Target};
 use world::{CallTranscript, ConnectionTranscript, Transcript};
 
-#[test]
-fn the_text_of_a_transcript(rt: HostRuntime) -> Result<(), Fail> {
-    let call = CallTranscript {
-        target: Target::One(Key::new(rt.alloc(), b"a")?.ok_or("a key")?),
+// A read of a key, with this reply or none.
+fn read_of(key: Key, reply: Option<Reply>) -> CallTranscript {
+    CallTranscript {
+        target: Target::One(key),
         op: Op::Read,
-        reply: Some(Reply::Value(None)),
-    };
-    let open = CallTranscript {
-        target: Target::One(Key::new(rt.alloc(), b"b")?.ok_or("a key")?),
-        op: Op::Read,
-        reply: None,
-    };
-    let first = ConnectionTranscript {
+        reply,
+    }
+}
+
+// A read that was answered, and one that wasn't.
+fn two_calls(alloc: Global) -> Result<Vec<CallTranscript>, Fail> {
+    let first = key(alloc, b"a")?;
+    let second = key(alloc, b"b")?;
+    let answered = read_of(first, Some(Reply::Value(None)));
+    let open = read_of(second, None);
+    Ok(vec![in alloc; answered, open]?)
+}
+
+fn with_two_calls(alloc: Global) -> Result<ConnectionTranscript, Fail> {
+    let sent = Vec::from_slice(alloc, b"VALUE a 5 3 1\r\n\n\x00 ~\x7f\\\xa9\x1b\r\rend")?;
+    let calls = two_calls(alloc)?;
+    Ok(ConnectionTranscript {
         home: 0,
-        calls: vec![in rt.alloc(); call, open]?,
-        sent: Vec::from_slice(
-            rt.alloc(),
-            b"VALUE a 5 3 1\r\n\n\x00 ~\x7f\\\xa9\x1b\r\rend",
-        )?,
-    };
+        calls,
+        sent,
+    })
+}
+
+fn of_two_connections(alloc: Global) -> Result<Transcript, Fail> {
+    let first = with_two_calls(alloc)?;
     let second = ConnectionTranscript {
         home: 10,
-        calls: Vec::new(rt.alloc()),
-        sent: Vec::new(rt.alloc()),
+        calls: Vec::new(alloc),
+        sent: Vec::new(alloc),
     };
-    let transcript = Transcript {
-        connections: vec![in rt.alloc(); first, second]?,
+    Ok(Transcript {
+        connections: vec![in alloc; first, second]?,
         quiet: false,
-    };
-    let text = print_transcript(rt.alloc(), &transcript)?;
-    assert_eq!(rt;
-        text.as_slice(),
-        b"connection 0 server 0 begun 2 answered 1\n| VALUE a 5 3 1\\r\\n\n| \\n\n| \\x00 ~\\x7f\\\\\\xa9\\x1b\\r\\rend\nconnection 1 server 10 begun 0 answered 0\nnot quiet\n".as_slice()
-    );
+    })
+}
+
+fn prints(alloc: Global, transcript: &Transcript, wanted: &[u8]) -> Result<bool, Fail> {
+    let text = print_transcript(alloc, transcript)?;
+    Ok(text.as_slice() == wanted)
+}
+
+fn prints_two_connections(alloc: Global) -> Result<bool, Fail> {
+    let transcript = of_two_connections(alloc)?;
+    prints(
+        alloc,
+        &transcript,
+        b"connection 0 server 0 begun 2 answered 1\n| VALUE a 5 3 1\\r\\n\n| \\n\n| \\x00 ~\\x7f\\\\\\xa9\\x1b\\r\\rend\nconnection 1 server 10 begun 0 answered 0\nnot quiet\n",
+    )
+}
+
+fn prints_no_connection(alloc: Global) -> Result<bool, Fail> {
     let transcript = Transcript {
-        connections: Vec::new(rt.alloc()),
+        connections: Vec::new(alloc),
         quiet: true,
     };
-    let text = print_transcript(rt.alloc(), &transcript)?;
-    assert_eq!(rt; text.as_slice(), b"quiet\n".as_slice());
+    prints(alloc, &transcript, b"quiet\n")
+}
+
+#[test]
+fn the_text_of_a_transcript(rt: HostRuntime) -> Result<(), Fail> {
+    assert!(rt; prints_two_connections(rt.alloc())?);
+    assert!(rt; prints_no_connection(rt.alloc())?);
     Ok(())
 }

@@ -1,9 +1,10 @@
 //! Tests of runs in which steps are refused.
-use schedules::{print_transcript, read_schedule};
+use schedules::{Schedule, print_transcript, read_schedule};
+use std::alloc::Global;
 use std::fs;
 use std::io::{self, ErrorKind, Write};
 use std::test::Fail;
-use world::{Event, SceneFault, run, run_failing};
+use world::{Event, SceneFault, Transcript, run, run_failing};
 
 // A schedule in the folder where the test runs, which `tools/refused_steps` puts there.
 const FILE: &str = "refused_steps.schedule";
@@ -21,28 +22,80 @@ fn schedule_text(rt: &HostRuntime) -> Result<String, Fail> {
     }
 }
 
-// What a run shows is what `run` shows of the events with a failure for each step that was refused. Where one was, the
-// test ends in that refusal. It writes the refused steps and the transcript, which `tools/refused_steps` reads.
-#[test]
-fn a_refused_step_is_a_failure(rt: HostRuntime) -> Result<(), Fail> {
-    let text = schedule_text(&rt)?;
-    let schedule = read_schedule(rt.alloc(), text.as_bytes())?;
-    let (count, homes, mut events) = (schedule.count, schedule.homes, schedule.events);
-    let (shown, refused) = run_failing(rt.alloc(), count, homes.as_slice(), events.as_slice())?;
-    let shown = print_transcript(rt.alloc(), &shown)?;
-    for (place, server) in refused.as_slice() {
+fn printed(alloc: Global, shown: &Transcript) -> Result<Vec<u8>, Fail> {
+    Ok(print_transcript(alloc, shown)?)
+}
+
+// The text of what a run shows, and the steps that were refused in it.
+fn shown_by(alloc: Global, schedule: &Schedule) -> Result<(Vec<u8>, Vec<(usize, usize)>), Fail> {
+    let homes = schedule.homes.as_slice();
+    let (shown, refused) = run_failing(alloc, schedule.count, homes, schedule.events.as_slice())?;
+    let text = printed(alloc, &shown)?;
+    Ok((text, refused))
+}
+
+// The text of what `run` shows.
+fn shown_by_run(alloc: Global, schedule: &Schedule) -> Result<Vec<u8>, Fail> {
+    let homes = schedule.homes.as_slice();
+    let shown = run(alloc, schedule.count, homes, schedule.events.as_slice())?;
+    printed(alloc, &shown)
+}
+
+// The events with a failure for each step that was refused. The steps are written.
+fn fail_steps(
+    rt: &HostRuntime,
+    events: &mut [Event],
+    refused: &[(usize, usize)],
+) -> Result<(), Fail> {
+    for (place, server) in refused {
         println!(rt; "refused {place} {server}")?;
         if *place < events.len() {
             events[*place] = Event::Fail(*server);
         }
     }
+    Ok(())
+}
+
+fn write_shown(rt: &HostRuntime, shown: &[u8]) -> Result<(), Fail> {
     println!(rt; "shown")?;
-    io::writer(&rt).write_all(shown.as_slice())?;
+    io::writer(rt).write_all(shown)?;
     println!(rt; "end")?;
-    let wanted = run(rt.alloc(), count, homes.as_slice(), events.as_slice())?;
-    let wanted = print_transcript(rt.alloc(), &wanted)?;
-    assert!(rt; shown.as_slice() == wanted.as_slice());
-    if refused.is_empty() {
+    Ok(())
+}
+
+// Whether `run` shows the same of the events with a failure for each step that was refused. Both are written.
+fn is_shown_by_failures(
+    rt: &HostRuntime,
+    schedule: &mut Schedule,
+    shown: &[u8],
+    refused: &[(usize, usize)],
+) -> Result<bool, Fail> {
+    fail_steps(rt, schedule.events.as_mut_slice(), refused)?;
+    write_shown(rt, shown)?;
+    let wanted = shown_by_run(rt.alloc(), schedule)?;
+    Ok(shown == wanted.as_slice())
+}
+
+// Whether the run with refused steps and the one with failures are shown alike, and how many steps were refused.
+fn compared(rt: &HostRuntime, schedule: &mut Schedule) -> Result<(bool, usize), Fail> {
+    let (shown, refused) = shown_by(rt.alloc(), schedule)?;
+    let alike = is_shown_by_failures(rt, schedule, shown.as_slice(), refused.as_slice())?;
+    Ok((alike, refused.len()))
+}
+
+fn schedule(rt: &HostRuntime) -> Result<Schedule, Fail> {
+    let text = schedule_text(rt)?;
+    Ok(read_schedule(rt.alloc(), text.as_bytes())?)
+}
+
+// What a run shows is what `run` shows of the events with a failure for each step that was refused. Where one was, the
+// test ends in that refusal. It writes the refused steps and the transcript, which `tools/refused_steps` reads.
+#[test]
+fn a_refused_step_is_a_failure(rt: HostRuntime) -> Result<(), Fail> {
+    let mut schedule = schedule(&rt)?;
+    let (alike, refused) = compared(&rt, &mut schedule)?;
+    assert!(rt; alike);
+    if refused == 0 {
         Ok(())
     } else {
         Err(SceneFault::Memory.into())

@@ -1,13 +1,10 @@
 //! Tests of schedules that are read from their text.
-use bytes::Bytes;
+use crate::making::{block, holds};
 use schedules::{ScheduleFault, read_schedule};
 use std::alloc::Global;
+use std::process::Abort;
 use std::test::Fail;
 use world::Event;
-
-fn piece(alloc: Global, connection: usize, data: &[u8]) -> Result<Event, Fail> {
-    Ok(Event::Piece(connection, Bytes::copy_from_slice(alloc, data)?))
-}
 
 // The number of the first bad line, or 0 where there is none.
 fn bad_line(alloc: Global, text: &[u8]) -> Result<u64, Fail> {
@@ -18,24 +15,50 @@ fn bad_line(alloc: Global, text: &[u8]) -> Result<u64, Fail> {
     }
 }
 
-// The same of one line after the two that open a schedule.
-fn bad_event(alloc: Global, line: &[u8]) -> Result<u64, Fail> {
-    let mut text = Vec::from_slice(alloc, b"servers 2\nhomes 0\n")?;
-    text.extend_from_slice(line)?;
+// The same of some lines behind others.
+fn bad_line_behind(alloc: Global, head: &[u8], lines: &[u8]) -> Result<u64, Fail> {
+    let mut text = Vec::from_slice(alloc, head)?;
+    text.extend_from_slice(lines)?;
     bad_line(alloc, text.as_slice())
 }
 
-#[test]
-fn set_then_gets(rt: HostRuntime) -> Result<(), Fail> {
-    let schedule = read_schedule(
-        rt.alloc(),
-        b"servers 1\nhomes 0\npiece 0 set a 5 0 3\\r\\nxyz\\r\\ngets a\\r\\n\nbegin 0\nwork 0\nhand 0\nbegin 0\nwork 0\nhand 0\n",
-    )?;
-    assert_eq!(rt; schedule.count, 1);
-    assert_eq!(rt; schedule.homes.as_slice(), [0].as_slice());
-    let input = piece(rt.alloc(), 0, b"set a 5 0 3\r\nxyz\r\ngets a\r\n")?;
+// The first bad line of each of some texts, which stand behind others and are parted by `%`, has this number.
+fn check_bad_lines<R: Abort + AllocGlobal>(
+    rt: &R,
+    head: &[u8],
+    texts: &[u8],
+    wanted: u64,
+) -> Result<(), Fail> {
+    let mut place = 0_usize;
+    for text in texts.split(|byte| *byte == b'%') {
+        assert!(rt;
+            bad_line_behind(rt.alloc(), head, text)? == wanted,
+            "text {place}"
+        );
+        place = place.wrapping_add(1);
+    }
+    Ok(())
+}
+
+// Whether a text is read as these events.
+fn has_events(alloc: Global, text: &[u8], wanted: &[Event]) -> Result<bool, Fail> {
+    let schedule = read_schedule(alloc, text)?;
+    Ok(schedule.events.as_slice() == wanted)
+}
+
+// Whether a text is read as so many servers and these homes.
+fn has_homes(alloc: Global, text: &[u8], count: usize, wanted: &[usize]) -> Result<bool, Fail> {
+    let schedule = read_schedule(alloc, text)?;
+    Ok(schedule.count == count && schedule.homes.as_slice() == wanted)
+}
+
+const SET_THEN_GETS: &[u8] =
+    b"servers 1\nhomes 0\npiece 0 set a 5 0 3\\r\\nxyz\\r\\ngets a\\r\\n\nbegin 0\nwork 0\nhand 0\nbegin 0\nwork 0\nhand 0\n";
+
+fn has_set_then_gets(alloc: Global) -> Result<bool, Fail> {
+    let input = block(alloc, b"set a 5 0 3\r\nxyz\r\ngets a\r\n")?;
     let wanted = [
-        input,
+        Event::Piece(0, input),
         Event::Begin(0),
         Event::Work(0),
         Event::Hand(0),
@@ -43,37 +66,46 @@ fn set_then_gets(rt: HostRuntime) -> Result<(), Fail> {
         Event::Work(0),
         Event::Hand(0),
     ];
-    assert!(rt; schedule.events.as_slice() == wanted.as_slice());
-    Ok(())
+    let read = has_events(alloc, SET_THEN_GETS, &wanted);
+    drop(wanted);
+    read
 }
 
 #[test]
-fn texts_and_numbers_of_events(rt: HostRuntime) -> Result<(), Fail> {
-    let schedule = read_schedule(
-        rt.alloc(),
-        b"#\xff\x00\n\nservers 16\n# homes 17\nhomes 0 15\npiece 999  a\\\\\\r\\n\\x0f\\xa9~\nfill 1 3 \\x00\ndeliver 0 99\nfail 99\ntell 98 1\ndeliver 5 5\n\n#\r\nhand 12",
-    )?;
-    assert_eq!(rt; schedule.count, 16);
-    assert_eq!(rt; schedule.homes.as_slice(), [0, 15].as_slice());
+fn set_then_gets(rt: HostRuntime) -> Result<(), Fail> {
+    assert!(rt; has_homes(rt.alloc(), SET_THEN_GETS, 1, &[0])?);
+    assert!(rt; has_set_then_gets(rt.alloc())?);
+    Ok(())
+}
+
+const TEXTS_AND_NUMBERS: &[u8] =
+    b"#\xff\x00\n\nservers 16\n# homes 17\nhomes 0 15\npiece 999  a\\\\\\r\\n\\x0f\\xa9~\nfill 1 3 \\x00\ndeliver 0 99\nfail 99\ntell 98 1\ndeliver 5 5\n\n#\r\nhand 12";
+
+fn has_texts_and_numbers(alloc: Global) -> Result<bool, Fail> {
+    let text = block(alloc, b" a\\\r\n\x0f\xa9~")?;
+    let filled = block(alloc, b"\x00\x00\x00")?;
     let wanted = [
-        piece(rt.alloc(), 999, b" a\\\r\n\x0f\xa9~")?,
-        piece(rt.alloc(), 1, b"\x00\x00\x00")?,
+        Event::Piece(999, text),
+        Event::Piece(1, filled),
         Event::Deliver(0, 99),
         Event::Fail(99),
         Event::Tell(98, 1),
         Event::Deliver(5, 5),
         Event::Hand(12),
     ];
-    assert!(rt; schedule.events.as_slice() == wanted.as_slice());
-    Ok(())
+    let read = has_events(alloc, TEXTS_AND_NUMBERS, &wanted);
+    drop(wanted);
+    read
 }
 
 #[test]
-fn rounds_of_settling(rt: HostRuntime) -> Result<(), Fail> {
-    let schedule = read_schedule(
-        rt.alloc(),
-        b"servers 3\nhomes 2 0\nbegin 1\nsettle 1\nfail 2\n",
-    )?;
+fn texts_and_numbers_of_events(rt: HostRuntime) -> Result<(), Fail> {
+    assert!(rt; has_homes(rt.alloc(), TEXTS_AND_NUMBERS, 16, &[0, 15])?);
+    assert!(rt; has_texts_and_numbers(rt.alloc())?);
+    Ok(())
+}
+
+fn has_rounds(alloc: Global) -> Result<bool, Fail> {
     let wanted = [
         Event::Begin(1),
         Event::Tell(0, 1),
@@ -94,201 +126,155 @@ fn rounds_of_settling(rt: HostRuntime) -> Result<(), Fail> {
         Event::Hand(1),
         Event::Fail(2),
     ];
-    assert!(rt; schedule.events.as_slice() == wanted.as_slice());
-    Ok(())
+    let text = b"servers 3\nhomes 2 0\nbegin 1\nsettle 1\nfail 2\n";
+    let read = has_events(alloc, text, &wanted);
+    drop(wanted);
+    read
+}
+
+#[test]
+fn rounds_of_settling(rt: HostRuntime) -> Result<(), Fail> {
+    holds(has_rounds(rt.alloc()))
 }
 
 // How many events a schedule has.
 fn events_in(alloc: Global, text: &[u8]) -> Result<usize, Fail> {
-    Ok(read_schedule(alloc, text)?.events.len())
+    let schedule = read_schedule(alloc, text)?;
+    Ok(schedule.events.len())
+}
+
+// A schedule with `settle` lines, and how many events it has.
+fn settled_row(place: usize) -> (&'static [u8], usize) {
+    match place {
+        0 => (b"servers 1\nhomes 0\nsettle 1\n", 2),
+        1 => (b"servers 1\nhomes 0 0 0\nsettle 500\n", 3_000),
+        2 => (b"servers 16\nhomes 0\nsettle 2\nsettle 1", 1_446),
+        _ => (b"servers 16\nhomes 0\nsettle 500\n", 241_000),
+    }
 }
 
 #[test]
 fn counts_of_settled_events(rt: HostRuntime) -> Result<(), Fail> {
-    let rows: [(&[u8], usize); 4] = [
-        (b"servers 1\nhomes 0\nsettle 1\n", 2),
-        (b"servers 1\nhomes 0 0 0\nsettle 500\n", 3_000),
-        (b"servers 16\nhomes 0\nsettle 2\nsettle 1", 1_446),
-        (b"servers 16\nhomes 0\nsettle 500\n", 241_000),
-    ];
-    for (text, wanted) in rows {
-        assert_eq!(rt; events_in(rt.alloc(), text)?, wanted);
+    for place in 0..4 {
+        let (text, wanted) = settled_row(place);
+        assert!(rt; events_in(rt.alloc(), text)? == wanted, "row {place}");
     }
     Ok(())
 }
 
 #[test]
 fn bad_head_lines(rt: HostRuntime) -> Result<(), Fail> {
-    let rows: [(&[u8], u64); 39] = [
-        (b"", 1),
-        (b"\n", 2),
-        (b"# no line counts", 2),
-        (b"servers 1", 2),
-        (b"servers 1\n", 2),
-        (b"servers 1\n\n#\n", 4),
-        (b"servers 1\nhomes 0", 0),
-        (b"servers 1\nhomes 0\n", 0),
-        (b"servers 0\nhomes 0\n", 1),
-        (b"servers 2\nhomes 0\nbegin x\n", 3),
-        (b"servers 9\nhomes 8 0\n", 0),
-        (b"servers 16\nhomes 15\n", 0),
-        (b"servers 16\nhomes 16\n", 2),
-        (b"servers 17\nhomes 0\n", 1),
-        (b"servers 99\nhomes 0\n", 1),
-        (b"servers 99999999999999999999999\nhomes 0\n", 1),
-        (b"servers 01\nhomes 0\n", 1),
-        (b"servers 016\nhomes 0\n", 1),
-        (b"servers 1 \nhomes 0\n", 1),
-        (b"servers 1 1\nhomes 0\n", 1),
-        (b"servers  1\nhomes 0\n", 1),
-        (b" servers 1\nhomes 0\n", 1),
-        (b"servers\nhomes 0\n", 1),
-        (b"servers 1\r\nhomes 0\n", 1),
-        (b"servers +1\nhomes 0\n", 1),
-        (b"homes 0\nservers 1\n", 1),
-        (b"settle 1\nservers 1\nhomes 0\n", 1),
-        (b"servers 1\nbegin 0\n", 2),
-        (b"servers 1\nsettle 1\nhomes 0\n", 2),
-        (b"servers 1\nservers 1\n", 2),
-        (b"servers 1\nhomes\n", 2),
-        (b"servers 1\nhomes \n", 2),
-        (b"servers 1\nhomes 1\n", 2),
-        (b"servers 3\nhomes 0 3\n", 2),
-        (b"servers 3\nhomes 00\n", 2),
-        (b"servers 3\nhomes 02\n", 2),
-        (b"servers 1\nhomes 0  0\n", 2),
-        (b"servers 1\nhomes 0 \n", 2),
-        (b"#\nservers 2\n\nhomes 0 1 0 2\n", 4),
-    ];
-    for (text, wanted) in rows {
-        assert_eq!(rt; bad_line(rt.alloc(), text)?, wanted);
+    check_bad_lines(
+        &rt,
+        b"",
+        b"servers 1\nhomes 0%servers 1\nhomes 0\n%servers 9\nhomes 8 0\n%servers 16\nhomes 15\n",
+        0,
+    )?;
+    check_bad_lines(
+        &rt,
+        b"",
+        b"%servers 0\nhomes 0\n%servers 17\nhomes 0\n%servers 99\nhomes 0\n%\
+            servers 99999999999999999999999\nhomes 0\n%servers 01\nhomes 0\n%servers 016\nhomes 0\n%\
+            servers 1 \nhomes 0\n%servers 1 1\nhomes 0\n%servers  1\nhomes 0\n% servers 1\nhomes 0\n%\
+            servers\nhomes 0\n%servers 1\r\nhomes 0\n%servers +1\nhomes 0\n%homes 0\nservers 1\n%\
+            settle 1\nservers 1\nhomes 0\n",
+        1,
+    )?;
+    check_bad_lines(
+        &rt,
+        b"",
+        b"\n%# no line counts%servers 1%servers 1\n%servers 16\nhomes 16\n%servers 1\nbegin 0\n%\
+            servers 1\nsettle 1\nhomes 0\n%servers 1\nservers 1\n%servers 1\nhomes\n%servers 1\nhomes \n%\
+            servers 1\nhomes 1\n%servers 3\nhomes 0 3\n%servers 3\nhomes 00\n%servers 3\nhomes 02\n%\
+            servers 1\nhomes 0  0\n%servers 1\nhomes 0 \n",
+        2,
+    )?;
+    check_bad_lines(&rt, b"", b"servers 2\nhomes 0\nbegin x\n", 3)?;
+    check_bad_lines(
+        &rt,
+        b"",
+        b"servers 1\n\n#\n%#\nservers 2\n\nhomes 0 1 0 2\n",
+        4,
+    )
+}
+
+// A schedule's first two lines, with so many homes.
+fn text_of_homes(alloc: Global, count: usize) -> Result<Vec<u8>, Fail> {
+    let mut text = Vec::from_slice(alloc, b"servers 1\nhomes")?;
+    for _ in 0..count {
+        text.extend_from_slice(b" 0")?;
     }
-    Ok(())
+    Ok(text)
 }
 
 #[test]
 fn a_schedule_has_up_to_64_homes(rt: HostRuntime) -> Result<(), Fail> {
     for (count, wanted) in [(1, 0), (64, 0), (65, 2)] {
-        let mut text = Vec::from_slice(rt.alloc(), b"servers 1\nhomes")?;
-        for _ in 0..count {
-            text.extend_from_slice(b" 0")?;
-        }
-        assert_eq!(rt; bad_line(rt.alloc(), text.as_slice())?, wanted);
+        let text = text_of_homes(rt.alloc(), count)?;
+        assert!(rt;
+            bad_line(rt.alloc(), text.as_slice())? == wanted,
+            "{count} homes"
+        );
     }
     Ok(())
 }
 
 #[test]
 fn bad_lines_of_connections(rt: HostRuntime) -> Result<(), Fail> {
-    let rows: [(&[u8], u64); 53] = [
-        (b"begin 0", 0),
-        (b"begin 999", 0),
-        (b"begin 1000", 3),
-        (b"begin 00", 3),
-        (b"begin 01", 3),
-        (b"begin  1", 3),
-        (b"begin 1 ", 3),
-        (b"begin 1\r", 3),
-        (b"begin", 3),
-        (b"begin ", 3),
-        (b"begin x", 3),
-        (b"begin -1", 3),
-        (b"begin 18446744073709551616", 3),
-        (b"Begin 1", 3),
-        (b"work 999", 0),
-        (b"work 1000", 3),
-        (b"hand 999", 0),
-        (b"hand 1000", 3),
-        (b"\r", 3),
-        (b" ", 3),
-        (b" # no comment", 3),
-        (b"#", 0),
-        (b"servers 1", 3),
-        (b"homes 0", 3),
-        (b"piece 999 x", 0),
-        (b"piece 1000 x", 3),
-        (b"piece 0", 3),
-        (b"piece 0 ", 3),
-        (b"piece 0  ", 0),
-        (b"piece  0 x", 3),
-        (b"piece x x", 3),
-        (b"piece 0 x\r", 3),
-        (b"piece 0 \x1f", 3),
-        (b"piece 0 \x7f", 3),
-        (b"piece 0 \xc3", 3),
-        (b"piece 0 \\", 3),
-        (b"piece 0 \\q", 3),
-        (b"piece 0 \\x0", 3),
-        (b"piece 0 \\x0A", 3),
-        (b"piece 0 \\x0g", 3),
-        (b"piece 0 \\X0a", 3),
-        (b"fill 0 1 x", 0),
-        (b"fill 999 2000000 \\n", 0),
-        (b"fill 0 2000001 x", 3),
-        (b"fill 0 0 x", 3),
-        (b"fill 0 01 x", 3),
-        (b"fill 1000 1 x", 3),
-        (b"fill 0 1 xy", 3),
-        (b"fill 0 1 ", 3),
-        (b"fill 0 1", 3),
-        (b"fill 0 1  ", 0),
-        (b"begin 0\nbegin 1000\nbegin 0\n", 4),
-        (b"begin 0\n\n#\nhand 0 0", 6),
-    ];
-    for (line, wanted) in rows {
-        assert_eq!(rt; bad_event(rt.alloc(), line)?, wanted);
-    }
-    Ok(())
+    let head = b"servers 2\nhomes 0\n".as_slice();
+    check_bad_lines(
+        &rt,
+        head,
+        b"begin 0%begin 999%work 999%hand 999%#%piece 999 x%piece 0  %fill 0 1 x%fill 999 2000000 \\n%\
+            fill 0 1  ",
+        0,
+    )?;
+    check_bad_lines(
+        &rt,
+        head,
+        b"begin 1000%begin 00%begin 01%begin  1%begin 1 %begin 1\r%begin%begin %begin x%begin -1%\
+            begin 18446744073709551616%Begin 1%work 1000%hand 1000%\r% % # no comment%servers 1%homes 0",
+        3,
+    )?;
+    check_bad_lines(
+        &rt,
+        head,
+        b"piece 1000 x%piece 0%piece 0 %piece  0 x%piece x x%piece 0 x\r%piece 0 \x1f%piece 0 \x7f%\
+            piece 0 \xc3%piece 0 \\%piece 0 \\q%piece 0 \\x0%piece 0 \\x0A%piece 0 \\x0g%piece 0 \\X0a",
+        3,
+    )?;
+    check_bad_lines(
+        &rt,
+        head,
+        b"fill 0 2000001 x%fill 0 0 x%fill 0 01 x%fill 1000 1 x%fill 0 1 xy%fill 0 1 %fill 0 1",
+        3,
+    )?;
+    check_bad_lines(&rt, head, b"begin 0\nbegin 1000\nbegin 0\n", 4)?;
+    check_bad_lines(&rt, head, b"begin 0\n\n#\nhand 0 0", 6)
 }
 
 #[test]
 fn bad_lines_of_servers(rt: HostRuntime) -> Result<(), Fail> {
-    let rows: [(&[u8], u64); 42] = [
-        (b"deliver 0 1", 0),
-        (b"deliver 1 1", 0),
-        (b"deliver 99 99", 0),
-        (b"deliver 100 0", 3),
-        (b"deliver 0 100", 3),
-        (b"deliver", 3),
-        (b"deliver ", 3),
-        (b"deliver 0", 3),
-        (b"deliver 0 ", 3),
-        (b"deliver 0 1 ", 3),
-        (b"deliver 0 1 2", 3),
-        (b"deliver 0  1", 3),
-        (b"deliver  0 1", 3),
-        (b"deliver 00 1", 3),
-        (b"deliver 0 01", 3),
-        (b"deliver 0 x", 3),
-        (b"deliver 0,1", 3),
-        (b"fail 0", 0),
-        (b"fail 99", 0),
-        (b"fail 100", 3),
-        (b"fail", 3),
-        (b"fail ", 3),
-        (b"fail 0 ", 3),
-        (b"fail 0 1", 3),
-        (b"fail  0", 3),
-        (b"fail 00", 3),
-        (b"tell 0 1", 0),
-        (b"tell 99 99", 0),
-        (b"tell 100 0", 3),
-        (b"tell 0 100", 3),
-        (b"tell 0", 3),
-        (b"tell 0 1 2", 3),
-        (b"tell 0 01", 3),
-        (b"Tell 0 1", 3),
-        (b"settle 1", 0),
-        (b"settle 0", 3),
-        (b"settle 501", 3),
-        (b"settle 01", 3),
-        (b"settle 1 ", 3),
-        (b"settle 1 1", 3),
-        (b"settle", 3),
-        (b"settle 1\nsettle x", 4),
-    ];
-    for (line, wanted) in rows {
-        assert_eq!(rt; bad_event(rt.alloc(), line)?, wanted);
-    }
-    Ok(())
+    let head = b"servers 2\nhomes 0\n".as_slice();
+    check_bad_lines(
+        &rt,
+        head,
+        b"deliver 0 1%deliver 1 1%deliver 99 99%fail 0%fail 99%tell 0 1%tell 99 99%settle 1",
+        0,
+    )?;
+    check_bad_lines(
+        &rt,
+        head,
+        b"deliver 100 0%deliver 0 100%deliver%deliver %deliver 0%deliver 0 %deliver 0 1 %deliver 0 1 2%\
+            deliver 0  1%deliver  0 1%deliver 00 1%deliver 0 01%deliver 0 x%deliver 0,1",
+        3,
+    )?;
+    check_bad_lines(
+        &rt,
+        head,
+        b"fail 100%fail%fail %fail 0 %fail 0 1%fail  0%fail 00%tell 100 0%tell 0 100%tell 0%tell 0 1 2%\
+            tell 0 01%Tell 0 1%settle 0%settle 501%settle 01%settle 1 %settle 1 1%settle",
+        3,
+    )?;
+    check_bad_lines(&rt, head, b"settle 1\nsettle x", 4)
 }

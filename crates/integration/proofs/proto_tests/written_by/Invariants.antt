@@ -1,5 +1,5 @@
 use Rattle.std.proofs.Common.{◌≡◌, None}
-use Rattle.integration.proofs.proto_tests.written.Given as goal
+use Rattle.integration.proofs.proto_tests.written_by.Given as goal
 
 abbrev pub invariant-loop-part : goal.invariant-loop-part
 invariant-loop-part l = (goal.iterator-loop-part).can_next l.part-iterator
