@@ -12,8 +12,8 @@ use Rattle.clap.specs.declared.error.kind.ErrorKind.{ErrorKind}
 use Rattle.clap.specs.declared.error.kind.ErrorKind.TheVariants.{DisplayVersion, MissingSubcommand, OutOfMemory}
 use Rattle.clap.specs.declared.parser.matches.ArgMatches.{ArgMatches}
 use Rattle.command_line.proofs.Found.{found_as}
-use Rattle.command_line.specs.Options.{HasRule, ReadsAs}
-use Rattle.command_line.specs.Words.{AddsCommand, IsRefusedFor, program_app}
+use Rattle.command_line.specs.Options.{AddsOption, HasRule, ReadsAs}
+use Rattle.command_line.specs.Words.{AddsCommand, AddsCommandIfMade, IsRefusedFor, program_app}
 
 -- a program and its command, by what clap reads of each
 pub with_command : (old sub new : Command) (program command : App)
@@ -42,6 +42,14 @@ pub command_added : (old : Command) (made r : Result Command AllocError) (progra
 command_added old made (Ok new) program command adds same reads = adds program command same reads
 command_added old made (Err e) program command adds same reads = tt
 
+-- the same, if the program was made too
+pub command_added_to : (old : Command) (before made after : Result Command AllocError)
+    → before ≡ Ok old
+    → IfOk after (AddsCommand old made)
+    → AddsCommandIfMade before made after
+command_added_to old before made after is adds program command same reads =
+    command_added old made after program command adds (subst (λ b. IfOk b (λ p. app_of p ≡ program)) is same) reads
+
 -- a command with one more argument, by what clap reads of each
 pub with_option : (old new : Command) (option : Arg) (command : App) (rule : Rule)
     → ReadsAs command old
@@ -52,6 +60,29 @@ with_option old new option command rule (p, plain) (q, local) adds = (
   adds.shape local ∙ ap (λ r. with_rule (app_of old) r) q ∙ ap (λ (a : App). with_rule a rule) p,
   adds.globals ∙ ap₂ ◌||◌ plain local,
 )
+
+-- the same, if it was made
+pub option_added : (old : Command) (made r : Result Command AllocError) (option : Arg)
+    → made ≡ Ok old
+    → IfOk r (AddsArg old option)
+    → AddsOption made option r
+option_added old made (Ok new) option is adds app rule reads has =
+    with_option old new option app rule (subst (λ m. IfOk m (ReadsAs app)) is reads) has adds
+option_added old made (Err e) option is adds app rule reads has = tt
+
+-- what a change of a command makes of any command that clap reads
+pub changes_any : (before : Command) (after : Result Command AllocError) (change : App → App)
+    → ((app : App) → ReadsAs app before → IfOk after (ReadsAs (change app)))
+    → IfOk after (λ made. (app : App) → ReadsAs app before → ReadsAs (change app) made)
+changes_any before (Ok made) change changes = changes
+changes_any before (Err e) change changes = tt
+
+-- what clap reads of a command that was made
+pub reads_made : (made : Result Command AllocError) (command : Command) (app : App)
+    → made ≡ Ok command
+    → IfOk made (ReadsAs app)
+    → ReadsAs app command
+reads_made made command app is reads = subst (λ m. IfOk m (ReadsAs app)) is reads
 
 -- clap's account of the parser is exact
 pub program_is_free : is_simple_and_free program_app ≡ true

@@ -1,7 +1,9 @@
 -- The arguments of commands, by what clap reads of them, and the numbers that they give.
 use Rattle.std.specs.Prelude.{◌≡◌, ◌↔◌, ◌≤◌, ℕ, List, [], ◌∷◌, Bool, Option, None, Some, true, false, codes}
+use Rattle.std.specs.Prelude.{IfOk, Result}
+use Rattle.std.specs.declared.alloc.AllocError.{AllocError}
 use Rattle.std.specs.Str.Parse.{IsNumeral, digits_value, without_leading_plus}
-use Rattle.clap.specs.Words.{App, Row, Rule, app_of, first_of, new_rule, one_of, rule_of}
+use Rattle.clap.specs.Words.{App, Row, Rule, app_of, first_of, new_rule, one_of, rule_of, with_rule}
 use Rattle.clap.specs.declared.builder.ArgAction.TheVariants.{Set, SetTrue}
 use Rattle.clap.specs.declared.builder.arg.Arg.{Arg}
 use Rattle.clap.specs.declared.builder.command.Command.{Command}
@@ -39,6 +41,11 @@ HasRule rule arg = (rule_of arg ≡ rule) × (arg.global ≡ false)
 -- clap reads the parser as this command, and its arguments are its own
 abbrev pub ReadsAs : App → Command → Type 0
 ReadsAs app parser = (app_of parser ≡ app) × ((out-Command parser).has_globals ≡ false)
+
+-- the second parser is the first one with this option, if that was made, by what clap reads of each
+abbrev pub AddsOption : Result Command AllocError → Arg → Result Command AllocError → Type 0
+AddsOption before option after = (app : App) (rule : Rule) → IfOk before (ReadsAs app) → HasRule rule option →
+    IfOk after (ReadsAs (with_rule app rule))
 
 -- the option of this name has a decimal number from least to greatest, which is this one
 abbrev pub GivesNumber : ℕ → ℕ → List ℕ → List Row → ℕ → Type 0

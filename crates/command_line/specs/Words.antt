@@ -1,5 +1,5 @@
 -- The command line, by clap's own account of what a parser finds in words.
-use Rattle.std.specs.Prelude.{◌≡◌, ◌⊎◌, ℕ, List, [], codes, IfOk, Option, Result, Some, true, string_bytes}
+use Rattle.std.specs.Prelude.{◌≡◌, ◌⊎◌, ℕ, List, [], codes, IfOk, Option, Result, true, string_bytes}
 use Rattle.std.specs.declared.alloc.AllocError.{AllocError}
 use Rattle.clap.specs.Words.{App, Row, Text, app_of, new_app, subcommand_of, takes, with_subcommand}
 use Rattle.clap.specs.Kinds.{IsAmong}
@@ -37,6 +37,11 @@ program_app =
 abbrev pub AddsCommand : Parser → Result Parser AllocError → Parser → Type 0
 AddsCommand before command after = (program app : App) → app_of before ≡ program → IfOk command (ReadsAs app) →
     app_of after ≡ with_subcommand program app.top
+
+-- the second parser is the first one with this command, if both were made, by what clap reads of each
+abbrev pub AddsCommandIfMade : Result Parser AllocError → Result Parser AllocError → Result Parser AllocError → Type 0
+AddsCommandIfMade before command after = (program app : App) → IfOk before (λ parser. app_of parser ≡ program) →
+    IfOk command (ReadsAs app) → IfOk after (λ parser. app_of parser ≡ with_subcommand program app.top)
 
 -- the name of a command that tells what a schedule does
 abbrev pub telling_name : Telling → List ℕ

@@ -11,7 +11,7 @@ use crate::given::{
     flag_given, given_to, large_number, middle_number, number_if_any, port_number, small_number,
 };
 use crate::numbers::Numbers;
-use crate::options::{flag_option, number_option};
+use crate::options::{and_option, flag_option, number_option};
 use clap::{Arg, ArgMatches, Command as Parser, value_parser};
 use std::alloc::{AllocError, Global};
 
@@ -45,25 +45,24 @@ pub fn numbers_given<'a>(matches: &ArgMatches<'a>) -> Option<Numbers>
 pub fn cluster_parser<'a>(alloc: Global) -> Result<Parser<'a>, AllocError>
     ensures { IfOk result (ReadsAs cluster_app) }
 {
-    let cluster = Parser::new(alloc, "cluster")
-        .about("Runs a chain of servers in one process, which serve memcached clients")
-        .arg(servers_option(alloc))?
-        .arg(port_option(alloc))?
-        .arg(serves_option(alloc))?;
-    with_serving(alloc, cluster)
+    let named = Parser::new(alloc, "cluster").about(
+        "Runs a chain of servers in one process, which serve memcached clients",
+    );
+    let servers = and_option(Ok(named), servers_option(alloc));
+    let port = and_option(servers, port_option(alloc));
+    let serves = and_option(port, serves_option(alloc));
+    with_serving(alloc, serves?)
 }
 
 /// The parser with the options that say how clients are served.
 pub fn with_serving<'a>(alloc: Global, parser: Parser<'a>) -> Result<Parser<'a>, AllocError>
     ensures { IfOk result (AddsServing parser.entry) }
 {
-    let parser = parser
-        .arg(seats_option(alloc))?
-        .arg(threads_option(alloc))?
-        .arg(connections_option(alloc))?
-        .arg(memory_option(alloc))?
-        .arg(quiet_option(alloc))?;
-    Ok(parser)
+    let seats = and_option(Ok(parser), seats_option(alloc));
+    let threads = and_option(seats, threads_option(alloc));
+    let connections = and_option(threads, connections_option(alloc));
+    let memory = and_option(connections, memory_option(alloc));
+    and_option(memory, quiet_option(alloc))
 }
 
 /// The option `--servers`.

@@ -6,7 +6,7 @@ use std::alloc::AllocError;
 use thiserror::Error;
 
 /// A command, with its arguments.
-#[derive(Debug, Drop)]
+#[derive(Drop)]
 pub enum Command {
     /// Prints something, and ends.
     Print(Print),
@@ -22,7 +22,7 @@ pub enum Command {
 }
 
 /// A command that prints something.
-#[derive(Debug, Drop)]
+#[derive(Drop)]
 pub enum Print {
     /// Replays a schedule and prints the transcript.
     Scenario {
@@ -34,7 +34,7 @@ pub enum Print {
 }
 
 /// How a schedule is told.
-#[derive(Clone, Copy, Debug, PartialEq, Eq)]
+#[derive(Clone, Copy, PartialEq, Eq)]
 pub enum Telling {
     /// As text, event by event, with the transcript at its end.
     Trace,
@@ -43,7 +43,7 @@ pub enum Telling {
 }
 
 /// A command that serves clients.
-#[derive(Debug, Drop)]
+#[derive(Drop)]
 pub enum Serve {
     /// Runs a chain in one process.
     Cluster(Numbers),

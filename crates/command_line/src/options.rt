@@ -1,9 +1,9 @@
 //! The arguments of commands: one file, or options with one value or none.
-ghost use Rattle.command_line.specs.Options.{HasRule, file_rule, flag_rule, number_rule, text_rule};
+ghost use Rattle.command_line.specs.Options.{AddsOption, HasRule, file_rule, flag_rule, number_rule, text_rule};
 
 use clap::builder::ValueParser;
-use clap::{Arg, ArgAction};
-use std::alloc::Global;
+use clap::{Arg, ArgAction, Command as Parser};
+use std::alloc::{AllocError, Global};
 
 /// The argument FILE, which has to be given.
 pub fn file_argument<'a>(alloc: Global) -> Arg<'a>
@@ -46,4 +46,20 @@ pub fn number_option<'a>(
     ensures { HasRule (number_rule name.entry.now numbers.entry) result }
 {
     text_option(alloc, name, value, help).value_parser(numbers)
+}
+
+/// The parser with one more option, if the parser was made.
+pub fn and_option<'a>(
+    parser: Result<Parser<'a>, AllocError>,
+    option: Arg<'a>,
+) -> Result<Parser<'a>, AllocError>
+    ensures { AddsOption parser.entry option.entry result }
+{
+    match parser {
+        Ok(parser) => parser.arg(option),
+        Err(AllocError) => {
+            drop(option);
+            Err(AllocError)
+        }
+    }
 }

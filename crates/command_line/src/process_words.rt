@@ -13,7 +13,7 @@ use crate::cluster_words::{port_option, servers_option, with_serving};
 use crate::given::{
     flag_given, given_to, middle_number, number_if_any, port_number, small_number, text_given,
 };
-use crate::options::{flag_option, number_option, text_option};
+use crate::options::{and_option, flag_option, number_option, text_option};
 use crate::processes::{Hosts, MasterNumbers, ServerNumbers};
 use clap::{Arg, ArgMatches, Command as Parser, value_parser};
 use std::alloc::{AllocError, Global};
@@ -97,13 +97,14 @@ pub fn hosts_given<'a>(
 pub fn server_parser<'a>(alloc: Global) -> Result<Parser<'a>, AllocError>
     ensures { IfOk result (ReadsAs server_app) }
 {
-    let listening = Parser::new(alloc, "server")
-        .about("Runs one server of a chain, which serves memcached clients")
-        .arg(id_option(alloc))?
-        .arg(servers_option(alloc))?
-        .arg(port_option(alloc))?
-        .arg(peer_port_option(alloc))?;
-    let serving = with_serving(alloc, listening)?;
+    let named = Parser::new(alloc, "server").about(
+        "Runs one server of a chain, which serves memcached clients",
+    );
+    let id = and_option(Ok(named), id_option(alloc));
+    let servers = and_option(id, servers_option(alloc));
+    let port = and_option(servers, port_option(alloc));
+    let listening = and_option(port, peer_port_option(alloc));
+    let serving = with_serving(alloc, listening?)?;
     with_hosts(alloc, serving)
 }
 
@@ -111,26 +112,23 @@ pub fn server_parser<'a>(alloc: Global) -> Result<Parser<'a>, AllocError>
 pub fn master_parser<'a>(alloc: Global) -> Result<Parser<'a>, AllocError>
     ensures { IfOk result (ReadsAs master_app) }
 {
-    let master = Parser::new(alloc, "master")
-        .about(
-            "Tells servers in other processes which of them failed: one 'gone J' a line of its input",
-        )
-        .arg(servers_option(alloc))?
-        .arg(peer_port_option(alloc))?
-        .arg(watch_option(alloc))?
-        .arg(beat_option(alloc))?;
-    with_hosts(alloc, master)
+    let named = Parser::new(alloc, "master").about(
+        "Tells servers in other processes which of them failed: one 'gone J' a line of its input",
+    );
+    let servers = and_option(Ok(named), servers_option(alloc));
+    let peer_port = and_option(servers, peer_port_option(alloc));
+    let watch = and_option(peer_port, watch_option(alloc));
+    let beat = and_option(watch, beat_option(alloc));
+    with_hosts(alloc, beat?)
 }
 
 // The parser with the options that say where servers are, and of which chain.
 fn with_hosts<'a>(alloc: Global, parser: Parser<'a>) -> Result<Parser<'a>, AllocError>
     ensures { IfOk result (AddsHosts parser.entry) }
 {
-    let parser = parser
-        .arg(address_option(alloc))?
-        .arg(peers_option(alloc))?
-        .arg(chain_option(alloc))?;
-    Ok(parser)
+    let address = and_option(Ok(parser), address_option(alloc));
+    let peers = and_option(address, peers_option(alloc));
+    and_option(peers, chain_option(alloc))
 }
 
 fn id_option<'a>(alloc: Global) -> Arg<'a>

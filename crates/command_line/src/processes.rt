@@ -37,7 +37,7 @@ pub struct MasterNumbers {
 }
 
 /// Where the servers of a chain are, and its name.
-#[derive(Debug, Drop)]
+#[derive(Drop)]
 pub struct Hosts {
     /// Where a server listens, and where each is if there is no list.
     pub address: String,

@@ -1,7 +1,8 @@
 //! The words of a command line, and the command that they spell.
 ghost use Rattle.std.specs.Prelude.{◌≡◌, ℕ, codes, List, [], IfOk, IfErr, IfSome, OnOk, None, map, true};
 ghost use Rattle.clap.specs.Words.{app_of, fault_of, kind_of, subcommand_of, subcommand_rows_of, takes};
-ghost use Rattle.command_line.specs.Words.{AddsCommand, IsNamed, IsRefusedFor, IsTaken, named_app, program_app};
+ghost use Rattle.command_line.specs.Words.{AddsCommand, AddsCommandIfMade, IsNamed, IsRefusedFor, IsTaken};
+ghost use Rattle.command_line.specs.Words.{named_app, program_app};
 ghost use Rattle.command_line.specs.declared.commands.Command.{Command as Shown};
 ghost use Rattle.command_line.specs.Options.{ReadsAs};
 ghost use Rattle.command_line.specs.ProcessWords.{NamesHosts, NamesMaster, NamesServer};
@@ -52,7 +53,9 @@ fn named<'a>(alloc: Global, words: &'a [&'a str]) -> Result<Command, Error>
         IsRefusedFor (fault_of program_app (map (λ w. w.now) words.entry.now)) (kind_of e)) }
 {
     let matches = parsed(alloc, words)?;
-    match command_given(alloc, &matches)? {
+    let given = command_given(alloc, &matches);
+    drop(matches);
+    match given? {
         Some(command) => Ok(command),
         None => Err(no_command(alloc)?),
     }
@@ -137,12 +140,28 @@ fn process_given<'a>(alloc: Global, matches: &ArgMatches<'a>) -> Result<Option<S
 fn parser<'a>(alloc: Global) -> Result<Parser<'a>, AllocError>
     ensures { IfOk result (λ parser. app_of parser ≡ program_app) }
 {
-    let program = with_command(program_parser(alloc), scenario_parser(alloc))?;
-    let program = with_command(program, trace_parser(alloc))?;
-    let program = with_command(program, draw_parser(alloc))?;
-    let program = with_command(program, cluster_parser(alloc))?;
-    let program = with_command(program, server_parser(alloc))?;
-    with_command(program, master_parser(alloc))
+    let scenario = and_command(Ok(program_parser(alloc)), scenario_parser(alloc));
+    let trace = and_command(scenario, trace_parser(alloc));
+    let draw = and_command(trace, draw_parser(alloc));
+    let cluster = and_command(draw, cluster_parser(alloc));
+    let server = and_command(cluster, server_parser(alloc));
+    and_command(server, master_parser(alloc))
+}
+
+// The program's parser with one more command, if both were made.
+fn and_command<'a>(
+    program: Result<Parser<'a>, AllocError>,
+    command: Result<Parser<'a>, AllocError>,
+) -> Result<Parser<'a>, AllocError>
+    ensures { AddsCommandIfMade program.entry command.entry result }
+{
+    match program {
+        Ok(program) => with_command(program, command),
+        Err(AllocError) => {
+            drop(command);
+            Err(AllocError)
+        }
+    }
 }
 
 // The program's parser with one more command, if that was made.
@@ -152,7 +171,13 @@ fn with_command<'a>(
 ) -> Result<Parser<'a>, AllocError>
     ensures { IfOk result (AddsCommand program.entry command.entry) }
 {
-    program.subcommand(command?)
+    match command {
+        Ok(command) => program.subcommand(command),
+        Err(AllocError) => {
+            drop(program);
+            Err(AllocError)
+        }
+    }
 }
 
 fn program_parser<'a>(alloc: Global) -> Parser<'a>

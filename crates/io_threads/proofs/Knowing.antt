@@ -1,5 +1,5 @@
 -- What the reader of a thread's seats knows of the thread's clients.
-use Rattle.std.proofs.Common.{◌≡◌, ◌≢◌, ◌⊎◌, ℕ, List, [], Option, Some, None, inl, inr, subst, sym, slice_index_or}
+use Rattle.std.proofs.Common.{◌≡◌, ℕ, List, [], Option, Some, None, inl, inr, subst, sym, slice_index_or}
 use Rattle.std.proofs.lemmas.Bool.{cases_eq}
 use Rattle.faces.specs.Courses.{Course, IsLater}
 use Rattle.slab.specs.Slab.{Slab, get, Updates, ContainsKey, with_value}

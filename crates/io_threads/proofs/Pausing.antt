@@ -1,6 +1,6 @@
 -- A client goes on, or pauses.
-use Rattle.std.proofs.Common.{◌≡◌, ◌∙◌, ◌≤◌, ◌<◌, ◌++◌, ℕ, List, [], Option, Some, None, IfSome, Bool, true, length}
-use Rattle.std.proofs.Common.{ap, append_assoc, append-nil, arith, refl, sym}
+use Rattle.std.proofs.Common.{◌≡◌, ◌∙◌, ◌≤◌, ◌<◌, ◌++◌, ℕ, List, [], Option, Some, None, IfSome, true, length}
+use Rattle.std.proofs.Common.{ap, append_assoc, append-nil, arith, sym}
 use Rattle.serving.specs.declared.connections.Wants.TheVariants.{End as Ends}
 use Rattle.serving.specs.declared.serving.End.{End}
 use Rattle.serving.specs.Wanted.{IsWanted}
@@ -75,5 +75,8 @@ pub if_paused : (found : Option Pause) (few many : ℕ) (v : Visiting) → few �
 if_paused None few many v le p = tt
 if_paused (Some pause) few many v le p = paused_since pause few many v le p
 
--- what a goal of a client that pauses may need
-pub ruleset pausing = (passed_none, passed_more, passed_then, awaits_input, awaits_output, past_refusal, past_leaving, past_fault, past_loss, past_end, paused_since, if_paused)
+-- what a goal on what has passed, or on what a client waits for, may need
+pub ruleset passed = (passed_none, passed_more, passed_then, awaits_input, awaits_output)
+
+-- what a goal of a client that goes no further may need
+pub ruleset ending = (past_refusal, past_leaving, past_fault, past_loss, past_end, paused_since, if_paused)

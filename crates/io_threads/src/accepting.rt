@@ -258,7 +258,7 @@ impl<R: Wait + Drop> Acceptor<R> {
     // Hands a connection to a thread, or keeps it for later. If memory is out for that it is closed.
     fn hand_on(&mut self, thread: usize, arrival: Arrival) {
         if let Some(arrival) = self.desks.send(thread, arrival) {
-            let _ = self.held.push_back(Held { thread, arrival });
+            drop(self.held.push_back(Held { thread, arrival }));
         }
     }
 

@@ -132,7 +132,7 @@ impl<S: Read + Write> Client<S> {
     /// Goes on for a while, and says why it goes no further: `HasPaused` tells what each answer means. Once memory was
     /// refused to what was read, or the connection is gone, nothing is read, written, looked at or sent. The slice is
     /// room for what is read.
-    #[tactic(auto, using(crate::proofs::Later::seeing, crate::proofs::Pausing::pausing))]
+    #[tactic(auto, using(crate::proofs::Later::seeing, crate::proofs::Pausing::passed, crate::proofs::Pausing::ending))]
     pub fn go<R: Wait>(&mut self, rt: &R, pool: &mut SeatPool, piece: &mut [u8]) -> Pause
         requires known { IsLater self.old.talk.seen pool.old }
         ensures known { IsLater self.new.talk.seen pool.new }
@@ -142,7 +142,8 @@ impl<S: Read + Write> Client<S> {
         ensures taken { HasPassed self.old.taken self.new.taken }
         ensures gone { self.new.gone ≡ self.old.gone }
         ensures paused { HasPaused result self.old.faults self.new }
-        ensures refused { self.old.refused ≡ true → (result ≡ Pause.Over) × (self.new ≡ self.old) × (pool.new ≡ pool.old) }
+        ensures refused { self.old.refused ≡ true →
+            (result ≡ Pause.Over) × (self.new ≡ self.old) × (pool.new ≡ pool.old) }
         ensures left { self.old.gone ≡ true → (result ≡ Pause.Over) × (self.new ≡ self.old) × (pool.new ≡ pool.old) }
     {
         if self.is_refused {
@@ -155,7 +156,7 @@ impl<S: Read + Write> Client<S> {
     }
 
     // Takes a few steps.
-    #[tactic(auto, using(crate::proofs::Later::seeing, crate::proofs::Pausing::pausing))]
+    #[tactic(auto, using(crate::proofs::Later::seeing, crate::proofs::Pausing::passed, crate::proofs::Pausing::ending))]
     fn go_on<R: Wait>(&mut self, rt: &R, pool: &mut SeatPool, piece: &mut [u8]) -> Pause
         requires known { IsLater self.old.talk.seen pool.old }
         requires whole { self.old.refused ≡ false }
@@ -176,7 +177,7 @@ impl<S: Read + Write> Client<S> {
     }
 
     // Goes on until it has to read or write, and does so once.
-    #[tactic(auto, using(crate::proofs::Later::seeing, crate::proofs::Pausing::pausing))]
+    #[tactic(auto, using(crate::proofs::Later::seeing, crate::proofs::Pausing::passed, crate::proofs::Pausing::ending))]
     fn step<R: Wait>(&mut self, rt: &R, pool: &mut SeatPool, piece: &mut [u8]) -> Option<Pause>
         requires known { IsLater self.old.talk.seen pool.old }
         requires whole { self.old.refused ≡ false }
@@ -202,7 +203,7 @@ impl<S: Read + Write> Client<S> {
     }
 
     // Reads once, if there may be input.
-    #[tactic(auto, using(crate::proofs::Pausing::pausing))]
+    #[tactic(auto, using(crate::proofs::Pausing::passed, crate::proofs::Pausing::ending))]
     fn read(&mut self, piece: &mut [u8]) -> Option<Pause>
         requires reads { self.old.talk.standing ≡ Reading }
         requires whole { self.old.refused ≡ false }
@@ -237,7 +238,7 @@ impl<S: Read + Write> Client<S> {
     }
 
     // Writes once, if output may be taken.
-    #[tactic(auto, using(crate::proofs::Pausing::pausing))]
+    #[tactic(auto, using(crate::proofs::Pausing::passed, crate::proofs::Pausing::ending))]
     fn write(&mut self) -> Option<Pause>
         requires writes { 0 < length self.old.talk.connected.due }
         ensures seen { self.new.talk.seen ≡ self.old.talk.seen }
@@ -297,7 +298,7 @@ impl<S: Read + Write> Client<S> {
 }
 
 // Reads once, and feeds what came. None if memory is refused to that.
-#[tactic(auto, using(crate::proofs::Pausing::pausing))]
+#[tactic(auto, using(crate::proofs::Pausing::passed))]
 fn read<S: Read + Write>(wire: &mut Wire<S>, talk: &mut Talk, piece: &mut [u8]) -> Option<Came>
     requires reads { talk.old.standing ≡ Reading }
     requires given { wire.old.given ≡ talk.old.connected.read }
@@ -329,7 +330,7 @@ fn read<S: Read + Write>(wire: &mut Wire<S>, talk: &mut Talk, piece: &mut [u8]) 
 }
 
 // Writes once, and counts what went.
-#[tactic(auto, using(crate::proofs::Pausing::pausing))]
+#[tactic(auto, using(crate::proofs::Pausing::passed))]
 fn write<S: Read + Write>(wire: &mut Wire<S>, talk: &mut Talk) -> Gone
     requires taken { wire.old.taken ≡ talk.old.connected.written }
     ensures given { wire.new.given ≡ wire.old.given }

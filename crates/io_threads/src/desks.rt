@@ -97,7 +97,7 @@ impl Desk {
 }
 
 /// The servers whose replies a thread waits for.
-#[derive(Clone, Copy, Debug, PartialEq, Eq)]
+#[derive(Clone, Copy, PartialEq, Eq)]
 pub(crate) struct OpenAt {
     // The bit of each server.
     bits: u32,
@@ -166,11 +166,14 @@ impl Desks {
     /// Hands a connection to a thread, and wakes it. If memory is out the connection is closed. It is handed back while
     /// that thread takes those that came before.
     pub(crate) fn send(&self, to: usize, arrival: Arrival) -> Option<Arrival> {
-        let desk = self.desks.get(to)?;
+        let Some(desk) = self.desks.get(to) else {
+            drop(arrival);
+            return None;
+        };
         let Some(mut arrivals) = desk.arrivals.try_lock() else {
             return Some(arrival);
         };
-        let _ = arrivals.push(arrival);
+        drop(arrivals.push(arrival));
         drop(arrivals);
         let _ = desk.waker.wake();
         None

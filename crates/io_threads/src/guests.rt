@@ -12,7 +12,7 @@ use std::marker::Model;
 use std::sync::Wait;
 
 /// What a client waits for.
-#[derive(Clone, Copy, Debug, PartialEq, Eq)]
+#[derive(Clone, Copy, PartialEq, Eq)]
 pub(crate) enum Waits {
     /// For its socket.
     Socket,
@@ -135,7 +135,7 @@ fn add(alloc: Global, pool: &SeatPool, clients: &mut Slab<Guest>, stream: TcpStr
         waits: Waits::Socket,
         entry,
     };
-    let _ = clients.insert(guest);
+    drop(clients.insert(guest));
 }
 
 // What the client waits for whose socket was found ready.

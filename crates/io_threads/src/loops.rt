@@ -195,8 +195,9 @@ impl<R: Wait + Copy + Drop, T: Stations + Drop> IoThread<R, T> {
         };
         let registry = self.poll.registry();
         for arrival in arrivals {
-            if let Some(lounge) = self.lounges.get_mut(usize::from(arrival.server)) {
-                lounge.admit(registry, arrival);
+            match self.lounges.get_mut(usize::from(arrival.server)) {
+                Some(lounge) => lounge.admit(registry, arrival),
+                None => drop(arrival),
             }
         }
     }

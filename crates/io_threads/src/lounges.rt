@@ -97,6 +97,7 @@ impl Lounge {
     /// Takes a client in, which is closed at once if the server answers no more calls, or memory is out.
     pub(crate) fn admit(&mut self, registry: &Registry, arrival: Arrival) {
         if self.is_shut || self.mark.is_set() {
+            drop(arrival);
             return;
         }
         let Arrival {
@@ -116,6 +117,9 @@ impl Lounge {
             .is_ok()
         {
             self.guests.add(stream, entry);
+        } else {
+            drop(entry);
+            drop(stream);
         }
     }
 

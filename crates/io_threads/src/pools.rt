@@ -4,7 +4,7 @@ ghost use Rattle.node.specs.Nodes.{is_idle};
 ghost use Rattle.io_threads.specs.Pools.{AreOfOne};
 
 use node::Node;
-use rail::{Inlet, RailFault, Server, Stand, Worker, open};
+use rail::{Inlet, RailFault, Seat, Server, Stand, Worker, open};
 use seats::{Gauge, Mark, SeatPool};
 use std::alloc::{AllocError, Global};
 use std::sync::Wait;
@@ -44,12 +44,18 @@ pub fn open_pools<R: Wait + Drop>(
         stands,
         inlets,
     } = open(rt, alloc, node, seats, inlets)?;
-    let pools = deal(alloc, stands, threads, mark, gauge)?;
-    Ok(Pooled {
-        worker,
-        pools,
-        inlets,
-    })
+    match deal(alloc, stands, threads, mark, gauge) {
+        Ok(pools) => Ok(Pooled {
+            worker,
+            pools,
+            inlets,
+        }),
+        Err(error) => {
+            drop(inlets);
+            drop(worker);
+            Err(RailFault::from(error))
+        }
+    }
 }
 
 // Deals the stands of one server out to so many threads, in turn.
@@ -89,7 +95,9 @@ fn give(
     ensures { All (λ pool. pool.origin ≡ stand.seat.origin) pools.new.items }
 {
     if let Some(pool) = pools.get_mut(place) {
-        return pool.add(stand.seat);
+        let Stand { reader, seat } = stand;
+        drop(reader);
+        return pool.add(seat);
     }
     let pool = pool_of(alloc, stand, mark, gauge)?;
     pools.push(pool)?;
@@ -101,7 +109,39 @@ fn pool_of(alloc: Global, stand: Stand, mark: &Mark, gauge: &Gauge) -> Result<Se
     ensures { IfOk result (λ pool. pool.origin ≡ stand.seat.origin) }
 {
     let Stand { reader, seat } = stand;
-    let mut pool = SeatPool::new(alloc, reader, mark.share()?, gauge.share()?);
-    pool.add(seat)?;
-    Ok(pool)
+    match share(mark, gauge) {
+        Ok((mark, gauge)) => with_seat(SeatPool::new(alloc, reader, mark, gauge), seat),
+        Err(error) => {
+            drop(seat);
+            drop(reader);
+            Err(error)
+        }
+    }
+}
+
+// The same mark and gauge, for a pool.
+fn share(mark: &Mark, gauge: &Gauge) -> Result<(Mark, Gauge), AllocError> {
+    let mark = mark.share()?;
+    match gauge.share() {
+        Ok(gauge) => Ok((mark, gauge)),
+        Err(error) => {
+            drop(mark);
+            Err(error)
+        }
+    }
+}
+
+// A pool with one seat more.
+fn with_seat(pool: SeatPool, seat: Seat) -> Result<SeatPool, AllocError>
+    requires { seat.origin ≡ pool.origin }
+    ensures { IfOk result (λ grown. grown ≡ pool) }
+{
+    let mut pool = pool;
+    match pool.add(seat) {
+        Ok(()) => Ok(pool),
+        Err(error) => {
+            drop(pool);
+            Err(error)
+        }
+    }
 }

@@ -6,7 +6,7 @@ use ends::{Failures, Passed};
 use std::io::{ErrorKind, Read, Write};
 
 /// What came of a read.
-#[derive(Clone, Copy, Debug, PartialEq, Eq)]
+#[derive(Clone, Copy, PartialEq, Eq)]
 pub enum Came {
     /// So many bytes.
     Bytes(usize),
@@ -19,7 +19,7 @@ pub enum Came {
 }
 
 /// What came of a write.
-#[derive(Clone, Copy, Debug, PartialEq, Eq)]
+#[derive(Clone, Copy, PartialEq, Eq)]
 pub enum Gone {
     /// So many bytes were taken.
     Bytes(usize),

@@ -15,7 +15,7 @@ const MOST: u8 = 64;
 const NEARLY: u64 = 100;
 
 /// What came of waiting for an answer.
-#[derive(Clone, Copy, Debug, PartialEq, Eq)]
+#[derive(Clone, Copy, PartialEq, Eq)]
 pub(crate) enum Heard {
     /// The answer.
     Noted,
@@ -28,7 +28,9 @@ pub(crate) enum Heard {
 /// Writes the notice that server `j` has failed. It answers whether it was written: no chain has a server beyond 15.
 pub(crate) fn put_notice(alloc: Global, stream: &TcpStream, j: u8) -> Result<bool, AllocError> {
     let notice = Frame::Gone(j);
-    put_if_in_range(alloc, stream, &notice)
+    let is_put = put_if_in_range(alloc, stream, &notice);
+    drop(notice);
+    is_put
 }
 
 // Writes a frame, if it is in its range.
@@ -37,7 +39,9 @@ fn put_if_in_range(alloc: Global, stream: &TcpStream, notice: &Frame) -> Result<
         return Ok(false);
     }
     let mut sink = TrackedWriter::new(stream);
-    match put_frame(alloc, &mut sink, notice) {
+    let put = put_frame(alloc, &mut sink, notice);
+    drop(sink);
+    match put {
         Ok(()) => Ok(true),
         Err(LinkFault::Memory) => Err(AllocError),
         Err(_) => Ok(false),
@@ -77,9 +81,14 @@ fn noted_on<R: Clock>(
     stream: &TcpStream,
     seconds: u64,
 ) -> Result<Option<u8>, AllocError> {
-    match next_small_frame(rt, alloc, stream, seconds)? {
-        Some(frame) => Ok(noted_by(&frame)),
-        None => Ok(None),
+    match next_small_frame(rt, alloc, stream, seconds) {
+        Ok(Some(frame)) => {
+            let noted = noted_by(&frame);
+            drop(frame);
+            Ok(noted)
+        }
+        Ok(None) => Ok(None),
+        Err(AllocError) => Err(AllocError),
     }
 }
 

@@ -12,26 +12,21 @@ use std::net::{Net, TcpListener, TcpStream};
 use std::sync::Wait;
 use std::thread::Threads;
 use std::time::Clock;
-use thiserror::Error;
 use wire::Reason;
 
 /// Who goes on if standard output can't be written.
 pub(crate) const WHO: &str = "the master";
 
 /// Why a master ends before its input does.
-#[derive(Clone, Copy, Debug, PartialEq, Eq, Error)]
+#[derive(Clone, Copy)]
 pub(crate) enum TellFault {
     /// No memory was left.
-    #[error("out of memory")]
     Memory,
     /// This server refuses the master.
-    #[error("server {0} refuses the master")]
     Refused(u8, Reason),
     /// The number of servers is none of a chain.
-    #[error("run failed")]
     Run,
     /// A master watches, and each server has failed.
-    #[error("no server is left")]
     NoServer,
 }
 
@@ -114,21 +109,64 @@ fn tell_all<
     output: &mut W,
     errors: &mut X,
 ) -> Result<(), TellFault> {
-    let mut line = empty_line(alloc)?;
-    let mut answers = Answers::new(alloc)?;
-    let mut teller = Teller::new(rt, alloc, settings)?;
-    teller.greet(rt, settings, errors)?;
-    for _ in rt.forever() {
-        if !next_line(input, &mut line)? {
-            return Ok(());
-        }
-        match server_named(line.as_slice(), b"gone", settings.numbers.servers) {
-            Some(j) => {
-                let told = teller.tell(rt, settings, errors, j)?;
-                answers.told(output, errors, WHO, j, told);
-            }
-            None => answers.bad_line(output, errors, WHO),
-        }
+    let mut master = ReadingMaster::new(rt, alloc, settings)?;
+    let end = master.go_on(rt, settings, input, output, errors);
+    drop(master);
+    end
+}
+
+// A master that is told of failures by its input.
+#[derive(Drop)]
+struct ReadingMaster {
+    line: Vec<u8>,
+    answers: Answers,
+    teller: Teller,
+}
+
+impl ReadingMaster {
+    // Before the first line.
+    fn new<R: Clock>(
+        rt: &R,
+        alloc: Global,
+        settings: &MasterSettings,
+    ) -> Result<ReadingMaster, TellFault> {
+        let line = empty_line(alloc)?;
+        let answers = Answers::new(alloc)?;
+        let teller = Teller::new(rt, alloc, settings)?;
+        Ok(ReadingMaster {
+            line,
+            answers,
+            teller,
+        })
     }
-    unreachable!()
+
+    // Asks each server once who has failed, and reads lines until the input ends.
+    fn go_on<
+        R: Wait + Threads + Clock + Net<Listener = TcpListener, Stream = TcpStream> + Sync,
+        S: Source,
+        W: Sink,
+        X: Sink,
+    >(
+        &mut self,
+        rt: &R,
+        settings: &MasterSettings,
+        input: &mut S,
+        output: &mut W,
+        errors: &mut X,
+    ) -> Result<(), TellFault> {
+        self.teller.greet(rt, settings, errors)?;
+        for _ in rt.forever() {
+            if !next_line(input, &mut self.line)? {
+                return Ok(());
+            }
+            match server_named(self.line.as_slice(), b"gone", settings.numbers.servers) {
+                Some(j) => {
+                    let told = self.teller.tell(rt, settings, errors, j)?;
+                    self.answers.told(output, errors, WHO, j, told);
+                }
+                None => self.answers.bad_line(output, errors, WHO),
+            }
+        }
+        unreachable!()
+    }
 }

@@ -13,7 +13,7 @@ use std::net::{Net, TcpListener, TcpStream};
 use std::time::Clock;
 
 /// What a master wants of a server.
-#[derive(Clone, Copy, Debug, PartialEq, Eq)]
+#[derive(Clone, Copy)]
 pub(crate) enum Errand {
     /// Nothing.
     Nothing,
@@ -153,7 +153,7 @@ impl Contact {
         }
         let answer = self.open(rt, settings, identity)?;
         if answer != Answer::Done && self.id != j {
-            self.stream = None;
+            self.close();
             return Ok(answer);
         }
         self.put(j)?;
@@ -170,7 +170,7 @@ impl Contact {
         settings: &MasterSettings,
         identity: &Identity,
     ) -> Result<Answer, AllocError> {
-        self.stream = None;
+        self.close();
         let Some(host) = settings.hosts.get(usize::from(self.id)) else {
             return Ok(Answer::Silent);
         };
@@ -183,11 +183,16 @@ impl Contact {
         }
     }
 
+    // Closes the connection, if it stands.
+    fn close(&mut self) {
+        drop(self.stream.take());
+    }
+
     // Takes a connection that the server has accepted.
     fn enter(&mut self, channel: Channel) -> Answer {
         let Channel { sink, start, gone } = channel;
         let TrackedWriter { inner, .. } = sink;
-        self.stream = Some(inner);
+        drop(self.stream.replace(inner));
         self.met(start, gone);
         match seen_as(self.start, start) {
             Sight::Accepted => Answer::Done,
@@ -202,7 +207,7 @@ impl Contact {
             None => false,
         };
         if !self.is_put {
-            self.stream = None;
+            self.close();
         }
         Ok(())
     }
@@ -215,7 +220,7 @@ impl Contact {
         };
         self.is_put = false;
         if heard == Heard::Broken {
-            self.stream = None;
+            self.close();
         }
         Ok(heard)
     }

@@ -12,7 +12,7 @@ const SECOND: u64 = 1_000;
 const NANOSECONDS: u32 = 1_000_000;
 
 /// What is new.
-#[derive(Clone, Copy, Debug, PartialEq, Eq)]
+#[derive(Clone, Copy)]
 pub(crate) enum News {
     /// A line of the input names this server as gone.
     Typed(u8),
@@ -31,7 +31,7 @@ pub(crate) enum News {
 }
 
 /// What is new, and when it was: milliseconds since the master began.
-#[derive(Clone, Copy, Debug, PartialEq, Eq)]
+#[derive(Clone, Copy)]
 pub(crate) struct Event {
     pub(crate) milliseconds: u64,
     pub(crate) news: News,

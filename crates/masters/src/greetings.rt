@@ -126,42 +126,80 @@ pub(crate) fn greet<R: Clock + Net<Listener = TcpListener, Stream = TcpStream>>(
     port: u16,
     identity: &Identity,
 ) -> Result<Greeted, AllocError> {
-    let stream = match connect(rt, host, port) {
-        Connected::Stream(stream) => stream,
-        Connected::NoHost => return Ok(Greeted::NoHost),
-        Connected::NoListener => return Ok(Greeted::NoListener),
-        Connected::NoAnswer => return Ok(Greeted::NoAnswer),
-    };
-    let mut sink = TrackedWriter::new(stream);
-    if !introduce(alloc, &mut sink, identity)? {
-        return Ok(Greeted::NoAnswer);
+    match connect(rt, host, port) {
+        Connected::Stream(stream) => greet_on(rt, alloc, TrackedWriter::new(stream), identity),
+        Connected::NoHost => Ok(Greeted::NoHost),
+        Connected::NoListener => Ok(Greeted::NoListener),
+        Connected::NoAnswer => Ok(Greeted::NoAnswer),
     }
-    match answer(rt, alloc, &sink.inner)? {
-        Some(Ok(Acceptance { start, gone })) => {
+}
+
+// Greets on a connection.
+fn greet_on<R: Clock>(
+    rt: &R,
+    alloc: Global,
+    sink: PeerSink,
+    identity: &Identity,
+) -> Result<Greeted, AllocError> {
+    let mut sink = sink;
+    match answered(rt, alloc, &mut sink, identity) {
+        Ok(Some(Ok(Acceptance { start, gone }))) => {
             Ok(Greeted::Accepted(Channel { sink, start, gone }))
         }
-        Some(Err(reason)) => Ok(Greeted::Refused(reason)),
-        None => Ok(Greeted::NoAnswer),
+        Ok(Some(Err(reason))) => {
+            drop(sink);
+            Ok(Greeted::Refused(reason))
+        }
+        Ok(None) => {
+            drop(sink);
+            Ok(Greeted::NoAnswer)
+        }
+        Err(AllocError) => {
+            drop(sink);
+            Err(AllocError)
+        }
+    }
+}
+
+// What the other side answers to the greeting, which is written first. None if it can't be, or nobody answers.
+fn answered<R: Clock>(
+    rt: &R,
+    alloc: Global,
+    sink: &mut PeerSink,
+    identity: &Identity,
+) -> Result<Option<Result<Acceptance, Reason>>, AllocError> {
+    if introduce(alloc, sink, identity)? {
+        answer(rt, alloc, &sink.inner)
+    } else {
+        Ok(None)
     }
 }
 
 // Writes the Hello and the introduction. It answers whether they were written.
 fn introduce(alloc: Global, sink: &mut PeerSink, identity: &Identity) -> Result<bool, AllocError> {
     let mut out = BytesMut::new(alloc);
-    let introduction = Introduction {
+    let introduction = Frame::Introduction(Introduction {
         servers: identity.servers,
         start: identity.start,
         chain: identity.chain.clone()?,
-    };
-    let is_put = add(&mut out, Frame::Hello(identity.id))?
-        && add(&mut out, Frame::Introduction(introduction))?;
-    Ok(is_put && put_all(sink, &mut out).is_ok())
+    });
+    let is_added = add_greeting(&mut out, identity.id, &introduction);
+    drop(introduction);
+    Ok(is_added? && put_all(sink, &mut out).is_ok())
+}
+
+// Adds the Hello and the introduction to a buffer, if their fields are in their ranges. It tells whether they are.
+fn add_greeting(out: &mut BytesMut, id: u8, introduction: &Frame) -> Result<bool, AllocError> {
+    let hello = Frame::Hello(id);
+    let is_added = add(out, &hello);
+    drop(hello);
+    Ok(is_added? && add(out, introduction)?)
 }
 
 // Adds a frame to a buffer, if its fields are in their ranges. It tells whether they are.
-fn add(out: &mut BytesMut, frame: Frame) -> Result<bool, AllocError> {
+fn add(out: &mut BytesMut, frame: &Frame) -> Result<bool, AllocError> {
     if frame.is_in_range() {
-        add_fit(out, &frame)
+        add_fit(out, frame)
     } else {
         Ok(false)
     }
@@ -182,9 +220,14 @@ fn answer<R: Clock>(
     alloc: Global,
     stream: &TcpStream,
 ) -> Result<Option<Result<Acceptance, Reason>>, AllocError> {
-    match next_small_frame(rt, alloc, stream, ANSWER)? {
-        Some(frame) => Ok(answer_of(&frame)),
-        None => Ok(None),
+    match next_small_frame(rt, alloc, stream, ANSWER) {
+        Ok(Some(frame)) => {
+            let answer = answer_of(&frame);
+            drop(frame);
+            Ok(answer)
+        }
+        Ok(None) => Ok(None),
+        Err(AllocError) => Err(AllocError),
     }
 }
 

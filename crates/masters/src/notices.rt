@@ -9,7 +9,7 @@ use std::alloc::{AllocError, Global};
 use wire::Reason;
 
 /// What came of asking a server.
-#[derive(Clone, Copy, Debug, PartialEq, Eq)]
+#[derive(Clone, Copy, PartialEq, Eq)]
 pub(crate) enum Answer {
     /// Nothing was asked that counts.
     Unasked,

@@ -18,7 +18,7 @@ const NO_ADDRESS: &str = "error: --address names no host\n";
 const NO_CHAIN: &str = "error: --chain names no chain: 1 to 250 bytes, none of them blank\n";
 
 /// Which server of a chain runs, where it listens, and where the others are.
-#[derive(Debug, Drop)]
+#[derive(Drop)]
 pub struct ServerSettings {
     /// Its id, which is below the number of servers, and its numbers.
     pub numbers: ServerNumbers,
@@ -31,7 +31,7 @@ pub struct ServerSettings {
 }
 
 /// Whom a master tells.
-#[derive(Debug, Drop)]
+#[derive(Drop)]
 pub struct MasterSettings {
     /// How many servers there are, and where they listen.
     pub numbers: MasterNumbers,

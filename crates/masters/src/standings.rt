@@ -3,7 +3,7 @@ ghost use Rattle.std.specs.Prelude.{◌≡◌, ◌↔◌, true};
 ghost use Rattle.masters.specs.Standings.{due, has_ended, is_watched, seen_as, standing_after};
 
 /// How a server stands with a master that watches.
-#[derive(Clone, Copy, Debug, PartialEq, Eq)]
+#[derive(Clone, Copy, PartialEq, Eq)]
 pub(crate) enum Standing {
     /// It was never reached.
     Unmet,
@@ -16,7 +16,7 @@ pub(crate) enum Standing {
 }
 
 /// What a watch sees of a server.
-#[derive(Clone, Copy, Debug, PartialEq, Eq)]
+#[derive(Clone, Copy, PartialEq, Eq)]
 pub(crate) enum Sight {
     /// The connection stands.
     Stands,
@@ -31,7 +31,7 @@ pub(crate) enum Sight {
 }
 
 /// What is due then.
-#[derive(Clone, Copy, Debug, PartialEq, Eq)]
+#[derive(Clone, Copy)]
 pub(crate) enum Deed {
     /// Nothing.
     Wait,

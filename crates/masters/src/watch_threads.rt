@@ -42,14 +42,66 @@ pub(crate) fn start_threads<
     };
     let (sender, events) = bounded(alloc, EVENTS)?;
     let post = Post::new(sender, begun);
+    match start_all(rt, alloc, settings, teller, input, post) {
+        Ok(()) => Ok(events),
+        Err(AllocError) => {
+            drop(events);
+            Err(TellFault::Memory)
+        }
+    }
+}
+
+// Starts them. What they hear is put there.
+fn start_all<
+    R: Wait
+        + Threads
+        + Clock
+        + Net<Listener = TcpListener, Stream = TcpStream>
+        + Copy
+        + Drop
+        + Send
+        + 'static,
+>(
+    rt: R,
+    alloc: Global,
+    settings: &MasterSettings,
+    teller: &Teller,
+    input: Stdin,
+    post: Post,
+) -> Result<(), AllocError> {
+    match start_watchers(rt, alloc, settings, teller, &post) {
+        Ok(()) => start_reading(rt, alloc, settings.numbers.servers, input, post),
+        Err(AllocError) => {
+            drop(post);
+            Err(AllocError)
+        }
+    }
+}
+
+// Starts the threads that watch.
+fn start_watchers<
+    R: Wait
+        + Threads
+        + Clock
+        + Net<Listener = TcpListener, Stream = TcpStream>
+        + Copy
+        + Drop
+        + Send
+        + 'static,
+>(
+    rt: R,
+    alloc: Global,
+    settings: &MasterSettings,
+    teller: &Teller,
+    post: &Post,
+) -> Result<(), AllocError> {
     for i in 0..settings.numbers.servers {
         if !teller.is_gone(i) {
             let place = place_of(&rt, alloc, settings, i)?;
-            start_watcher(rt, alloc, settings, place, post.another()?, teller.start(i))?;
+            watch_place(rt, alloc, settings, place, post, teller.start(i))?;
         }
     }
-    start_reading(rt, alloc, settings.numbers.servers, input, post)?;
-    Ok(events)
+    Ok(())
 }
 
 // Where server i is.
@@ -69,6 +121,33 @@ fn place_of<R: Clock>(
         port: port_of(settings.numbers.peer_port, i),
         identity: identity_of(rt, settings)?,
     })
+}
+
+// Starts the thread that watches the server there, which puts what it hears there too.
+fn watch_place<
+    R: Wait
+        + Threads
+        + Clock
+        + Net<Listener = TcpListener, Stream = TcpStream>
+        + Copy
+        + Drop
+        + Send
+        + 'static,
+>(
+    rt: R,
+    alloc: Global,
+    settings: &MasterSettings,
+    place: Place,
+    post: &Post,
+    start: Option<u64>,
+) -> Result<(), AllocError> {
+    match post.another() {
+        Ok(post) => start_watcher(rt, alloc, settings, place, post, start),
+        Err(AllocError) => {
+            drop(place);
+            Err(AllocError)
+        }
+    }
 }
 
 // Starts the thread that watches the server there. Fails only if memory or threads run out.
@@ -91,11 +170,16 @@ fn start_watcher<
 ) -> Result<(), AllocError> {
     let beat = Duration::from_millis(u64::from(settings.numbers.beat));
     let watcher = Watcher::new(alloc, place, post, beat, start);
-    let started = thread::spawn(&rt, move || run(&rt, watcher));
-    if started.is_err() {
-        return Err(AllocError);
+    match thread::spawn(&rt, move || run(&rt, watcher)) {
+        Ok(thread) => {
+            drop(thread);
+            Ok(())
+        }
+        Err(refused) => {
+            drop(refused);
+            Err(AllocError)
+        }
     }
-    Ok(())
 }
 
 fn run<R: Wait + Clock + Net<Listener = TcpListener, Stream = TcpStream>>(
@@ -114,12 +198,23 @@ fn start_reading<R: Wait + Threads + Clock + Copy + Drop + Send + 'static>(
     input: Stdin,
     post: Post,
 ) -> Result<(), AllocError> {
-    let line = empty_line(alloc)?;
-    let started = thread::spawn(&rt, move || read_lines(&rt, servers, input, line, &post));
-    if started.is_err() {
-        return Err(AllocError);
+    let line = match empty_line(alloc) {
+        Ok(line) => line,
+        Err(AllocError) => {
+            drop(post);
+            return Err(AllocError);
+        }
+    };
+    match thread::spawn(&rt, move || read_lines(&rt, servers, input, line, &post)) {
+        Ok(thread) => {
+            drop(thread);
+            Ok(())
+        }
+        Err(refused) => {
+            drop(refused);
+            Err(AllocError)
+        }
     }
-    Ok(())
 }
 
 // Puts what each line of the input names, until it ends.

@@ -149,7 +149,7 @@ impl Watcher {
         &mut self,
         rt: &R,
     ) -> Result<Sight, AllocError> {
-        self.stream = None;
+        drop(self.stream.take());
         let place = &self.place;
         let greeted = greet(
             rt,
@@ -173,7 +173,9 @@ impl Watcher {
         if sight == Sight::Accepted {
             self.start = Some(start);
             self.gone = gone;
-            self.stream = Some(inner);
+            drop(self.stream.replace(inner));
+        } else {
+            drop(inner);
         }
         sight
     }

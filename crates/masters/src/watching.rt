@@ -43,7 +43,9 @@ pub fn watch<
     let end = match begin(rt, alloc, settings, input, errors) {
         Ok(master) => {
             let mut master = master;
-            master.go_on(&rt, settings, output, errors)
+            let end = master.go_on(&rt, settings, output, errors);
+            drop(master);
+            end
         }
         Err(fault) => Err(fault),
     };
@@ -80,13 +82,42 @@ fn begin<
 ) -> Result<WatchingMaster, TellFault> {
     let answers = Answers::new(alloc)?;
     let mut teller = Teller::new(&rt, alloc, settings)?;
+    match greet_and_start(rt, alloc, settings, &mut teller, input, errors) {
+        Ok(events) => Ok(WatchingMaster {
+            teller,
+            answers,
+            events,
+        }),
+        Err(fault) => {
+            drop(teller);
+            drop(answers);
+            Err(fault)
+        }
+    }
+}
+
+// Asks each server once who has failed, and starts the threads that watch them.
+fn greet_and_start<
+    R: Wait
+        + Threads
+        + Clock
+        + Net<Listener = TcpListener, Stream = TcpStream>
+        + Copy
+        + Drop
+        + Send
+        + Sync
+        + 'static,
+    X: Sink,
+>(
+    rt: R,
+    alloc: Global,
+    settings: &MasterSettings,
+    teller: &mut Teller,
+    input: Stdin,
+    errors: &mut X,
+) -> Result<Receiver<Event>, TellFault> {
     teller.greet(&rt, settings, errors)?;
-    let events = start_threads(rt, alloc, settings, &teller, input)?;
-    Ok(WatchingMaster {
-        teller,
-        answers,
-        events,
-    })
+    start_threads(rt, alloc, settings, teller, input)
 }
 
 impl WatchingMaster {

@@ -1,7 +1,8 @@
 -- What every server keeps between steps: joins, messages and inputs are lists of actions, each of which keeps a server
 -- sound, and after which nothing is left to do.
 use Rattle.std.proofs.Common.{◌≡◌, ℕ, ◌+◌, ◌<◌, ◌≤◌, ◌==◌, ◌&&◌, true, false, Some, None, inl, refl, sym}
-use Rattle.std.proofs.Common.{◌∙◌, arith}
+use Rattle.std.proofs.Common.{◌∙◌, arith, subst}
+use Rattle.std.specs.Prelude.{Result, Ok, OnOk}
 use Rattle.std.proofs.lemmas.Bool.{cond_both, and_parts, eqb-true, both_ways}
 use Rattle.std.specs.FinMap.{get-empty}
 use Rattle.table.specs.Keys.{key_cmp}
@@ -183,3 +184,10 @@ lawful-opening id count placed counted = record {
   settled = λ t. (refl, refl);
   floored = refl;
 }
+
+-- what an answer tells if it is Ok, of one that is Ok
+pub when_ok : {T E : Type 0} (r : Result T E) (t : T) (P : Type 0)
+    → r ≡ Ok t
+    → OnOk r P
+    → P
+when_ok r t P is h = subst (λ s. OnOk s P) is h

@@ -67,6 +67,19 @@ fn put_base(items: Vec<(Key, Item)>, steps: &mut Vec<FaceStep>) -> Result<(), Al
     Ok(())
 }
 
+// The change that sets this version of the key.
+fn set_step(key: &Key, number: u64, item: Option<Item>) -> Result<FaceStep, AllocError>
+    ensures { IfOk result (λ step. step ≡ FaceStep.Set key.now (record { number = number; item = item })) }
+{
+    match key.clone() {
+        Ok(key) => Ok(FaceStep::Set(key, Version { number, item })),
+        Err(e) => {
+            drop(item);
+            Err(e)
+        }
+    }
+}
+
 // The version that an entry makes of its key, or of every key, if it makes one.
 fn step_of(entry: &Entry) -> Result<Option<FaceStep>, AllocError>
     ensures { IfOk result (λ step. step ≡ faces.face_step entry.now.number entry.now.target entry.now.change) }
@@ -77,13 +90,9 @@ fn step_of(entry: &Entry) -> Result<Option<FaceStep>, AllocError>
     match (target, change) {
         (_, Change::Clear) => Ok(Some(FaceStep::Clear(number))),
         (Target::One(key), Change::Put(item)) => {
-            let item = Some(item.clone()?);
-            Ok(Some(FaceStep::Set(key.clone()?, Version { number, item })))
+            Ok(Some(set_step(key, number, Some(item.clone()?))?))
         }
-        (Target::One(key), Change::Drop) => {
-            let item = None;
-            Ok(Some(FaceStep::Set(key.clone()?, Version { number, item })))
-        }
+        (Target::One(key), Change::Drop) => Ok(Some(set_step(key, number, None)?)),
         (Target::One(_), Change::Keep) | (Target::All, _) => Ok(None),
     }
 }

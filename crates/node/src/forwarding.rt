@@ -29,7 +29,9 @@ fn settle(
 {
     if entry.origin() == id {
         if let Some(update) = take_out(pend, entry.id()) {
-            outputs.push(Output::Reply(update.port, entry.reply().clone()?))?;
+            let port = update.port;
+            drop(update);
+            outputs.push(Output::Reply(port, entry.reply().clone()?))?;
         }
     }
     Ok(())
@@ -111,8 +113,22 @@ impl Server {
             let last = self.store.last();
             return self.rise(last, outputs);
         }
-        self.append(entry.clone()?)?;
-        self.send(self.next(), Body::Forward(entry), outputs)
+        match self.append_copy(&entry) {
+            Ok(()) => self.send(self.next(), Body::Forward(entry), outputs),
+            Err(e) => {
+                drop(entry);
+                Err(e)
+            }
+        }
+    }
+
+    // A copy of the entry, which shares its data, is the last one from now on.
+    fn append_copy(&mut self, entry: &Entry) -> Result<(), AllocError>
+        requires next { entry.now.number ≡ last_number self.old.store + 1 }
+        requires seen { length self.old.seen ≡ 16 }
+        ensures { OnOk result (self.new ≡ numbering.appended self.old entry.now) }
+    {
+        self.append(entry.clone()?)
     }
 
     /// `Forward` from server i: from the predecessor the entry with the next number is appended and passed on.
@@ -130,6 +146,7 @@ impl Server {
         if is_that(self.previous(), i) && last < entry.number() && entry.number() - last == 1 {
             self.append_and_pass(entry, outputs)
         } else {
+            drop(entry);
             Ok(())
         }
     }

@@ -106,7 +106,9 @@ impl Server {
             let Some((id, call)) = self.open_call(i)? else {
                 return Ok(());
             };
-            self.take_quietly(self.id, id, &call)?;
+            let taken = self.take_quietly(self.id, id, &call);
+            drop(call);
+            taken?;
         }
         Ok(())
     }

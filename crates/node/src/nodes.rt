@@ -105,6 +105,7 @@ impl Node {
         ensures fault { IfErr result (λ fault. fault ≢ NodeFault.BadCount) }
     {
         if self.stopped {
+            drop(input);
             return Err(NodeFault::Stopped);
         }
         self.stopped = true;
@@ -138,6 +139,7 @@ impl Node {
         ensures fault { IfErr result (λ fault. fault ≢ NodeFault.BadCount) }
     {
         if self.stopped {
+            drop(input);
             return Err(NodeFault::Stopped);
         }
         self.stopped = true;
@@ -160,6 +162,7 @@ impl Node {
         ensures fault { IfErr result (λ fault. fault ≢ NodeFault.BadCount) }
     {
         if self.stopped {
+            drop(input);
             return Err(NodeFault::Stopped);
         }
         self.stopped = true;

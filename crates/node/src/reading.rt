@@ -1,7 +1,10 @@
 //! Reading: clean keys at once, dirty ones by asking the tail for its last number.
-ghost use Rattle.std.specs.Prelude.{◌≡◌, ◌+◌, ◌++◌, Some, OnOk, IfOk};
+ghost use Rattle.std.specs.Prelude.{◌≡◌, ◌+◌, ◌∷◌, ◌++◌, [], Some, OnOk, IfOk};
 ghost use Rattle.std.specs.Option.{option_copied};
 ghost use Rattle.table.specs.declared.operations.Reply.TheVariants.{Value};
+ghost use Rattle.node.specs.declared.messages.Body.TheVariants.{Query};
+ghost use Rattle.node.specs.declared.messages.Output.TheVariants.{Reply as Replied};
+ghost use Rattle.node.specs.Servers.{message_to, tail_of};
 ghost use Rattle.node.specs.Lawful.{IsSound};
 ghost use Rattle.node.specs.Outcomes.{Does};
 ghost use Rattle.node.specs.Reading as reading;
@@ -21,6 +24,16 @@ pub(crate) fn value_reply(item: Option<&Item>) -> Result<Reply, AllocError>
     }
 }
 
+// Puts out the reply that shows this item, or none.
+fn put_value(port: usize, item: Option<&Item>, outputs: &mut Vec<Output>) -> Result<(), AllocError>
+    ensures { OnOk result
+        (outputs.new.items ≡ outputs.old.items ++ Replied port (Value (option_copied item.entry)) ∷ []) }
+{
+    let reply = value_reply(item)?;
+    outputs.push(Output::Reply(port, reply))?;
+    Ok(())
+}
+
 impl Server {
     /// A read: a clean key's newest version is the answer; of a dirty key the tail is asked, where an ask is left.
     pub(crate) fn read(
@@ -36,9 +49,9 @@ impl Server {
             return Ok(());
         };
         if let Some(item) = self.store.clean_version(&key) {
-            let reply = value_reply(item)?;
-            outputs.push(Output::Reply(port, reply))?;
-            return Ok(());
+            let done = put_value(port, item, outputs);
+            drop(key);
+            return done;
         }
         self.ask(port, key, outputs)
     }
@@ -50,11 +63,14 @@ impl Server {
         ensures { OnOk result (Does self.new outputs.old.items outputs.new.items (reading.dirty_read self.old port key)) }
     {
         if self.next_ask == u64::MAX {
+            drop(key);
             return Ok(());
         }
         let ask = self.next_ask;
-        let tail = self.tail();
-        self.send(tail, Body::Query(ask, key.clone()?), outputs)?;
+        if let Err(e) = self.put_query(ask, &key, outputs) {
+            drop(key);
+            return Err(e);
+        }
         let mark = self.store.acked();
         self.asks.push_back(OpenRead {
             ask,
@@ -64,6 +80,15 @@ impl Server {
         })?;
         self.next_ask = ask + 1;
         Ok(())
+    }
+
+    // The tail is asked.
+    fn put_query(&self, ask: u64, key: &Key, outputs: &mut Vec<Output>) -> Result<(), AllocError>
+        requires chain { IsSound self.now }
+        ensures { OnOk result
+            (outputs.new.items ≡ outputs.old.items ++ message_to self.now (tail_of self.now) (Query ask key.now)) }
+    {
+        self.send(self.tail(), Body::Query(ask, key.clone()?), outputs)
     }
 
     /// `Query` from server i: the tail answers its last number, whatever the key.
@@ -112,9 +137,8 @@ impl Server {
         if n < read.mark || self.store.last() < n {
             return Ok(());
         }
-        let reply = value_reply(self.store.at(&read.key, n))?;
-        outputs.push(Output::Reply(read.port, reply))?;
-        self.asks.remove(place);
+        put_value(read.port, self.store.at(&read.key, n), outputs)?;
+        drop(self.asks.remove(place));
         Ok(())
     }
 }

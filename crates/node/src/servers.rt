@@ -162,13 +162,15 @@ impl Server {
     ) -> Result<(), AllocError>
         ensures { OnOk result (outputs.new.items ≡ outputs.old.items ++ servers.message_to self.now to body) }
     {
-        if let Some(to) = to {
-            let peer = Peer {
-                view: self.view,
-                body,
-            };
-            outputs.push(Output::To(to, peer))?;
-        }
+        let Some(to) = to else {
+            drop(body);
+            return Ok(());
+        };
+        let peer = Peer {
+            view: self.view,
+            body,
+        };
+        outputs.push(Output::To(to, peer))?;
         Ok(())
     }
 }

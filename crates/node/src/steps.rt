@@ -112,9 +112,12 @@ impl Server {
         ensures { OnOk result (Does self.new outputs.old.items outputs.new.items (steps.call self.old port call)) }
     {
         if call.op.is_update() {
-            return self.update(port, &call, outputs);
+            let done = self.update(port, &call, outputs);
+            drop(call);
+            return done;
         }
-        let Call { target, .. } = call;
+        let Call { target, op } = call;
+        drop(op);
         self.read(port, target, outputs)
     }
 
@@ -145,11 +148,18 @@ impl Server {
         requires body { IsBody peer.body }
         ensures { OnOk result (Does self.new outputs.old.items outputs.new.items (steps.from_peer self.old i peer)) }
     {
-        if !self.is_heard(i, peer.view) {
+        let Peer { view, body } = peer;
+        if !self.is_heard(i, view) {
+            drop(body);
             return Ok(());
         }
-        self.join(peer.view, outputs)?;
-        self.receive(i, peer.body, outputs)
+        match self.join(view, outputs) {
+            Ok(()) => self.receive(i, body, outputs),
+            Err(e) => {
+                drop(body);
+                Err(e)
+            }
+        }
     }
 
     // Nothing is received of a server that is known to have failed. A body that doesn't fit has no effect.
@@ -160,13 +170,21 @@ impl Server {
         ensures { OnOk result (Does self.new outputs.old.items outputs.new.items (steps.received self.old i body)) }
     {
         if self.view.has(i) {
+            drop(body);
             return Ok(());
         }
         match body {
-            Body::Op(id, call) => self.receive_op(i, id, &call, outputs),
+            Body::Op(id, call) => {
+                let done = self.receive_op(i, id, &call, outputs);
+                drop(call);
+                done
+            }
             Body::Forward(entry) => self.receive_forward(i, entry, outputs),
             Body::Ack(n) => self.receive_ack(i, n, outputs),
-            Body::Query(ask, _) => self.receive_query(i, ask, outputs),
+            Body::Query(ask, key) => {
+                drop(key);
+                self.receive_query(i, ask, outputs)
+            }
             Body::Answer(ask, n) => self.receive_answer(i, ask, n, outputs),
         }
     }

@@ -1,15 +1,19 @@
 //! The fields of the other commands.
-ghost use Rattle.std.specs.Prelude.{◌≡◌, IfOk, IfSome};
+ghost use Rattle.std.specs.Prelude.{◌≡◌, IfOk, IfSome, if◌then◌else◌};
+ghost use Rattle.std.specs.Option.{option_map};
+ghost use Rattle.proto.specs.declared.words.Word.TheVariants.{Incr, Decr};
+ghost use Rattle.proto.specs.declared.lines.Asked.TheVariants.{Whole};
 ghost use Rattle.proto.specs.Fronts.{IsWhole};
 ghost use Rattle.proto.specs.Requests.{get_line, counter_line, delete_line, flush_line, quit_line};
+ghost use Rattle.proto.specs.Requests.{asked_of};
 
 use crate::fields::{Fields, key_of, silence_of};
 use crate::{Keys, Request};
 use std::alloc::{AllocError, Global};
-use table::{Key, number};
+use table::{Key, Op, number};
 
 /// What the fields of an `incr` or a `decr` say.
-#[derive(Debug, Drop)]
+#[derive(Drop)]
 pub struct CounterLine {
     pub key: Key,
     pub amount: u64,
@@ -26,9 +30,38 @@ pub fn get_line(
     ensures whole { IfOk result (λ request. IfSome request IsWhole) }
 {
     match fields.rest() {
-        Some(text) => Ok(Keys::from_text(alloc, text)?.map(|keys| Request::Get(keys, unique))),
+        Some(text) => match Keys::from_text(alloc, text)? {
+            Some(keys) => Ok(Some(Request::Get(keys, unique))),
+            None => Ok(None),
+        },
         None => Ok(None),
     }
+}
+
+/// What the fields after `incr` or `decr` ask for, if they fit.
+pub fn arith_line(
+    alloc: Global,
+    rises: bool,
+    fields: Fields<'_>,
+) -> Result<Option<Request>, AllocError>
+    ensures value { IfOk result
+        (λ request. option_map Whole request ≡ asked_of (if rises then Incr else Decr) fields.entry) }
+    ensures whole { IfOk result (λ request. IfSome request IsWhole) }
+{
+    let Some(line) = counter_line(alloc, fields)? else {
+        return Ok(None);
+    };
+    let CounterLine {
+        key,
+        amount,
+        silent,
+    } = line;
+    let op = if rises {
+        Op::Incr(amount)
+    } else {
+        Op::Decr(amount)
+    };
+    Ok(Some(Request::Arith(key, op, silent)))
 }
 
 /// What the fields after `incr` or `decr` say, if they fit.

@@ -17,7 +17,7 @@ use std::alloc::{AllocError, Global};
 use table::{Key, Op};
 
 /// What stands at the front of a stream.
-#[derive(Debug, Drop)]
+#[derive(Drop)]
 pub enum Found {
     /// A request, and how many bytes spell it.
     Request(Request, usize),
@@ -29,7 +29,7 @@ pub enum Found {
 
 /// A block that is to be put, and how many bytes the line before it has:
 /// what was found out about the front before all of the block had come.
-#[derive(Debug, Drop)]
+#[derive(Drop)]
 pub struct Pending {
     pub key: Key,
     pub verb: Verb,
@@ -122,7 +122,7 @@ fn announced_at(
     ensures front { IfOk result (λ found. IsFront found bytes.now) }
 {
     if bytes.len() - announced.line < announced.size + 2 {
-        *pending = Some(announced);
+        drop(pending.replace(announced));
         return Ok(Found::Nothing);
     }
     let end = announced.line + announced.size;
@@ -143,11 +143,23 @@ fn finished(
         (λ request. request ≡ finished (Put announced.key announced.verb announced.silent) block.now ends.now) }
     ensures whole { IfOk result IsWhole }
 {
+    let Pending {
+        key,
+        verb,
+        silent,
+        ..
+    } = announced;
     if ends != b"\r\n".as_slice() {
+        drop(key);
         return Ok(Request::Bad(Fault::DataChunk));
     }
-    let op = op_of(announced.verb, Bytes::copy_from_slice(alloc, block)?);
-    Ok(Request::Store(announced.key, op, announced.silent))
+    match Bytes::copy_from_slice(alloc, block) {
+        Ok(data) => Ok(Request::Store(key, op_of(verb, data), silent)),
+        Err(fault) => {
+            drop(key);
+            Err(fault)
+        }
+    }
 }
 
 // The operation of a storage command on this data.

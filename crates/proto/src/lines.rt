@@ -3,19 +3,18 @@ ghost use Rattle.std.specs.Prelude.{◌≡◌, ◌≤◌, IfOk, IfSome, length, 
 ghost use Rattle.proto.specs.Fronts.{IsSound};
 ghost use Rattle.proto.specs.Requests.{asked_at, asked_within, by_line, by_fields, by_word, asked_of};
 
-use crate::commands::{counter_line, delete_line, flush_line, get_line, quit_line};
+use crate::commands::{arith_line, delete_line, flush_line, get_line, quit_line};
 use crate::fields::{Fields, first_line_end};
 use crate::storage::{Block, store_line};
 use crate::words::{Word, word_of};
 use crate::{Fault, Request};
 use std::alloc::{AllocError, Global};
-use table::Op;
 
 /// The most bytes of a line, its line feed among them (this project's rule).
 pub const LINE_LIMIT: usize = 2048;
 
 /// What a line asks for.
-#[derive(Debug, Drop)]
+#[derive(Drop)]
 pub enum Asked {
     /// A request that the line spells alone.
     Whole(Request),
@@ -102,22 +101,14 @@ fn asked_of(alloc: Global, word: Word, fields: Fields<'_>) -> Result<Option<Aske
     ensures sound { IfOk result (λ asked. IfSome asked IsSound) }
 {
     let request = match word {
-        Word::Get => get_line(alloc, false, fields)?,
-        Word::Gets => get_line(alloc, true, fields)?,
+        Word::Get => get_line(alloc, false, fields),
+        Word::Gets => get_line(alloc, true, fields),
         Word::Store(storing) => return Ok(store_line(alloc, storing, fields)?.map(Asked::Behind)),
-        Word::Incr => counter_line(alloc, fields)?.map(|line| Request::Arith(
-            line.key,
-            Op::Incr(line.amount),
-            line.silent,
-        )),
-        Word::Decr => counter_line(alloc, fields)?.map(|line| Request::Arith(
-            line.key,
-            Op::Decr(line.amount),
-            line.silent,
-        )),
-        Word::Delete => delete_line(alloc, fields)?,
-        Word::FlushAll => flush_line(fields),
-        Word::Quit => quit_line(fields),
+        Word::Incr => arith_line(alloc, true, fields),
+        Word::Decr => arith_line(alloc, false, fields),
+        Word::Delete => delete_line(alloc, fields),
+        Word::FlushAll => Ok(flush_line(fields)),
+        Word::Quit => Ok(quit_line(fields)),
     };
-    Ok(request.map(Asked::Whole))
+    Ok(request?.map(Asked::Whole))
 }

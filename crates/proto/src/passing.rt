@@ -5,7 +5,7 @@ ghost use Rattle.proto.specs.Sessions.{kept, passed};
 use crate::Fault;
 
 /// A refused block, of which no byte is kept.
-#[derive(Clone, Copy, Debug)]
+#[derive(Clone, Copy)]
 pub struct Passing {
     /// The fault that stands in its request's place.
     pub fault: Fault,

@@ -109,7 +109,13 @@ fn pop_key(text: &mut Bytes) -> Result<Option<(Key, Key)>, AllocError>
     let Some(key) = Key::from_bytes(text.slice(0..at)?) else {
         return Ok(None);
     };
-    let copy = key.clone()?;
+    let copy = match key.clone() {
+        Ok(copy) => copy,
+        Err(fault) => {
+            drop(key);
+            return Err(fault);
+        }
+    };
     text.advance(text.len().min(at + 1));
     Ok(Some((key, copy)))
 }

@@ -141,7 +141,7 @@ impl Session {
     {
         if let Some(form) = &self.asked {
             write_reply(&mut self.out, form, reply)?;
-            self.asked = None;
+            drop(self.asked.take());
         }
         Ok(())
     }
@@ -157,7 +157,7 @@ impl Session {
     {
         if let Some(form) = &self.asked {
             write_refusal(&mut self.out, form)?;
-            self.asked = None;
+            drop(self.asked.take());
         }
         Ok(())
     }

@@ -11,14 +11,14 @@ use std::alloc::{AllocError, Global};
 use table::{Key, LIMIT, number};
 
 /// A data block: `size` bytes, two more after them, and what becomes of it.
-#[derive(Debug, Drop)]
+#[derive(Drop)]
 pub struct Block {
     pub size: usize,
     pub fate: Fate,
 }
 
 /// What becomes of a data block.
-#[derive(Debug, Drop)]
+#[derive(Drop)]
 pub enum Fate {
     /// It is put at the key by this verb, and the reply is silent or not.
     Put(Key, Verb, bool),
@@ -28,7 +28,7 @@ pub enum Fate {
 
 /// What a storage command makes of its data block, with its flags, and for `cas` the unique that is asked for.
 /// An append and a prepend leave the item's flags.
-#[derive(Clone, Copy, Debug)]
+#[derive(Clone, Copy)]
 pub enum Verb {
     Set(u32),
     Add(u32),
@@ -39,7 +39,7 @@ pub enum Verb {
 }
 
 /// What the fields of a storage line say after its key.
-#[derive(Clone, Copy, Debug)]
+#[derive(Clone, Copy)]
 pub struct StorageLine {
     pub verb: Verb,
     /// Whether an expiry time is asked for.
@@ -67,10 +67,17 @@ fn verb_of(storing: Storing, flags: u32, fields: &mut Fields<'_>) -> Option<Verb
 fn storage_line(storing: Storing, mut fields: Fields<'_>) -> Option<StorageLine>
     ensures { result ≡ storage_line storing fields.entry }
 {
-    let (flags, exptime, size) = (fields.next()?, fields.next()?, fields.next()?);
-    let flags = number_32(flags)?;
-    let expires = expiry_of(exptime)?;
-    let size = number_32(size)?;
+    let (Some(flags), Some(exptime), Some(size)) = (fields.next(), fields.next(), fields.next())
+    else {
+        return None;
+    };
+    let (Some(flags), Some(expires), Some(size)) = (
+        number_32(flags),
+        expiry_of(exptime),
+        number_32(size),
+    ) else {
+        return None;
+    };
     let verb = verb_of(storing, flags, &mut fields)?;
     let silent = silence_of(fields)?;
     Some(StorageLine {

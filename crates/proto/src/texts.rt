@@ -23,7 +23,7 @@ const VALUE_LINE: usize = 6 + 3 * NUMBER + 2;
 const VALUE_END: usize = 2 + 5;
 
 /// How a read of one key is shown (protocol.txt, "Retrieval command").
-#[derive(Debug, Drop)]
+#[derive(Drop)]
 pub struct Look {
     /// The key that is shown.
     pub key: Key,
@@ -34,7 +34,7 @@ pub struct Look {
 }
 
 /// The form in which a call is answered.
-#[derive(Debug, Drop)]
+#[derive(Drop)]
 pub enum Form {
     /// One line that says how an update went.
     Status,

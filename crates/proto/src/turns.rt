@@ -33,9 +33,9 @@ impl Session {
         if passing.left > 0 {
             return Ok(Step::Wait);
         }
-        let step = self.fail(passing.fault)?;
+        self.fail(passing.fault)?;
         self.passing = None;
-        Ok(step)
+        Ok(Step::Emit)
     }
 
     // Begins what stands at the front.
@@ -51,7 +51,7 @@ impl Session {
         match front(self.alloc, &mut self.pending, self.unread.as_slice())? {
             Found::Request(request, n) => self.begin(request, n),
             Found::Refused(passing) => {
-                self.pending = None;
+                drop(self.pending.take());
                 self.unread.clear();
                 self.passing = Some(passing);
                 Ok(Step::Wait)
@@ -74,9 +74,9 @@ impl Session {
     {
         match request {
             Request::Bad(fault) => {
-                let step = self.fail(fault)?;
+                self.fail(fault)?;
                 self.consume(n);
-                Ok(step)
+                Ok(Step::Emit)
             }
             Request::Get(keys, unique) => self.begin_get(keys, unique, n),
             Request::Store(key, op, silent) | Request::Arith(key, op, silent) => {
@@ -105,26 +105,31 @@ impl Session {
         ensures err { OnErr result (self.new ≡ self.old) }
     {
         let mut keys = keys;
-        let Some((key, shown)) = keys.pop()? else {
-            unreachable!();
-        };
-        self.consume(n);
-        self.later = keys;
-        self.unique = unique;
-        Ok(self.look(key, shown))
+        match keys.pop() {
+            Ok(Some((key, shown))) => {
+                self.consume(n);
+                self.later = keys;
+                self.unique = unique;
+                Ok(self.look(key, shown))
+            }
+            Ok(None) => unreachable!(),
+            Err(fault) => {
+                drop(keys);
+                Err(ProtoFault::from(fault))
+            }
+        }
     }
 
     // Writes a fault's line. Some faults end the stream.
-    fn fail(&mut self, fault: Fault) -> Result<Step, ProtoFault>
+    fn fail(&mut self, fault: Fault) -> Result<(), ProtoFault>
         requires open { self.old.closed ≡ false }
-        ensures step { IfOk result (λ step. step ≡ Step.Emit) }
         ensures left { OnOk result (self.new ≡ (by_request (Bad fault) self.old).1) }
         ensures only_memory { IsOkUnless result ProtoFault.Memory }
         ensures err { OnErr result (self.new ≡ self.old) }
     {
         write_fault(&mut self.out, fault)?;
         self.closed = fault == Fault::LineTooLong;
-        Ok(Step::Emit)
+        Ok(())
     }
 
     // Opens the update that the first n unread bytes spell.
@@ -139,7 +144,7 @@ impl Session {
         ensures opens { IsOpen result self.new.asked }
     {
         self.consume(n);
-        self.asked = Some(update_form(silent));
+        drop(self.asked.replace(update_form(silent)));
         Step::Call(target, op)
     }
 
@@ -150,11 +155,13 @@ impl Session {
         ensures left { self.new ≡ looking key self.old }
         ensures opens { IsOpen result self.new.asked }
     {
-        self.asked = Some(Form::Show(Look {
-            key: shown,
-            unique: self.unique,
-            last: self.later.is_empty(),
-        }));
+        drop(
+            self.asked.replace(Form::Show(Look {
+                key: shown,
+                unique: self.unique,
+                last: self.later.is_empty(),
+            })),
+        );
         Step::Call(Target::One(key), Op::Read)
     }
 
@@ -163,7 +170,7 @@ impl Session {
         requires { n ≤ length self.old.unread }
         ensures { self.new ≡ record self.old { unread = drop n self.old.unread } }
     {
-        self.pending = None;
+        drop(self.pending.take());
         self.unread.advance(n);
     }
 }

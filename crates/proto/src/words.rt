@@ -1,9 +1,10 @@
 //! Command words.
 ghost use Rattle.std.specs.Prelude.{◌≡◌};
+ghost use Rattle.std.specs.Str.{bytes_eq};
 ghost use Rattle.proto.specs.Requests.{word_of};
 
 /// The command words.
-#[derive(Clone, Copy, Debug)]
+#[derive(Clone, Copy)]
 pub enum Word {
     Get,
     Gets,
@@ -16,7 +17,7 @@ pub enum Word {
 }
 
 /// The words of the storage commands.
-#[derive(Clone, Copy, Debug)]
+#[derive(Clone, Copy)]
 pub enum Storing {
     Set,
     Add,
@@ -30,33 +31,39 @@ pub enum Storing {
 pub fn word_of(field: &[u8]) -> Option<Word>
     ensures { result ≡ word_of field.now }
 {
-    if field == b"get".as_slice() {
+    if is_word(field, b"get") {
         Some(Word::Get)
-    } else if field == b"gets".as_slice() {
+    } else if is_word(field, b"gets") {
         Some(Word::Gets)
-    } else if field == b"set".as_slice() {
+    } else if is_word(field, b"set") {
         Some(Word::Store(Storing::Set))
-    } else if field == b"add".as_slice() {
+    } else if is_word(field, b"add") {
         Some(Word::Store(Storing::Add))
-    } else if field == b"replace".as_slice() {
+    } else if is_word(field, b"replace") {
         Some(Word::Store(Storing::Replace))
-    } else if field == b"append".as_slice() {
+    } else if is_word(field, b"append") {
         Some(Word::Store(Storing::Append))
-    } else if field == b"prepend".as_slice() {
+    } else if is_word(field, b"prepend") {
         Some(Word::Store(Storing::Prepend))
-    } else if field == b"cas".as_slice() {
+    } else if is_word(field, b"cas") {
         Some(Word::Store(Storing::Cas))
-    } else if field == b"incr".as_slice() {
+    } else if is_word(field, b"incr") {
         Some(Word::Incr)
-    } else if field == b"decr".as_slice() {
+    } else if is_word(field, b"decr") {
         Some(Word::Decr)
-    } else if field == b"delete".as_slice() {
+    } else if is_word(field, b"delete") {
         Some(Word::Delete)
-    } else if field == b"flush_all".as_slice() {
+    } else if is_word(field, b"flush_all") {
         Some(Word::FlushAll)
-    } else if field == b"quit".as_slice() {
+    } else if is_word(field, b"quit") {
         Some(Word::Quit)
     } else {
         None
     }
+}
+
+fn is_word(field: &[u8], word: &[u8]) -> bool
+    ensures { result ≡ bytes_eq field.now word.now }
+{
+    field == word
 }

@@ -25,7 +25,7 @@ struct Arrived {
 }
 
 // The link from one server.
-#[derive(Clone, Copy, Debug, PartialEq, Eq)]
+#[derive(Clone, Copy)]
 enum Arrival {
     // It wasn't accepted yet.
     Away,
@@ -36,7 +36,7 @@ enum Arrival {
 }
 
 // How far the links are.
-#[derive(Clone, Copy, Debug, PartialEq, Eq)]
+#[derive(Clone, Copy)]
 enum Meeting {
     // All stand.
     Whole,
@@ -119,7 +119,7 @@ impl Arrivals {
         let mut guard = self.hall.lock(rt);
         let hall = &mut *guard;
         let meeting = meeting_of(hall.links.as_slice(), starts);
-        if meeting == Meeting::Whole {
+        if matches!(meeting, Meeting::Whole) {
             hall.is_ready = true;
         }
         meeting

@@ -51,7 +51,9 @@ impl Connections {
             let _ = stream.shutdown(Shutdown::Both);
         }
         if let Some(place) = streams.get_mut(usize::from(j)) {
-            *place = Some(stream);
+            drop(place.replace(stream));
+        } else {
+            drop(stream);
         }
     }
 

@@ -49,7 +49,10 @@ impl Greeter {
 
     /// Accepts a connection, which may be quiet from then on. It tells whether the answer was written.
     pub(crate) fn accept(&self, alloc: Global, acceptance: Acceptance, stream: &TcpStream) -> bool {
-        stream.set_read_timeout(None).is_ok() && put(alloc, Frame::Accepted(acceptance), stream)
+        let frame = Frame::Accepted(acceptance);
+        let is_put = stream.set_read_timeout(None).is_ok() && put(alloc, &frame, stream);
+        drop(frame);
+        is_put
     }
 
     /// Refuses a connection of who greets with this id, and tells so.
@@ -61,7 +64,9 @@ impl Greeter {
         reason: Reason,
         stream: &TcpStream,
     ) {
-        put(alloc, Frame::Refused(reason), stream);
+        let frame = Frame::Refused(reason);
+        put(alloc, &frame, stream);
+        drop(frame);
         if self.is_time(rt, reason) {
             tell_refused(rt, self.id, id, reason);
         }
@@ -82,9 +87,9 @@ impl Greeter {
 }
 
 // Writes a frame. It tells whether it was written.
-fn put(alloc: Global, frame: Frame, stream: &TcpStream) -> bool {
+fn put(alloc: Global, frame: &Frame, stream: &TcpStream) -> bool {
     if frame.is_in_range() {
-        put_fit(alloc, &frame, stream)
+        put_fit(alloc, frame, stream)
     } else {
         false
     }

@@ -53,7 +53,7 @@ pub struct Hall<R: Wait + Drop> {
 }
 
 // What some turns of one server have done.
-#[derive(Clone, Copy, Debug)]
+#[derive(Clone, Copy)]
 struct Taken {
     turns: usize,
     // The servers that were sent something.
@@ -63,7 +63,7 @@ struct Taken {
 }
 
 // What there was to do at a worker.
-#[derive(Clone, Copy, Debug, PartialEq, Eq)]
+#[derive(Clone, Copy)]
 enum Found {
     // A message, and a turn was taken for it.
     Message,
@@ -78,6 +78,7 @@ impl<R: Wait + Drop> Station<R> {
     fn try_turns(&self, most: usize, alarm: &Alarm) -> Option<Taken> {
         let mut bench = self.bench.try_lock()?;
         if self.ended.load(Ordering::SeqCst) {
+            drop(bench);
             return None;
         }
         self.due.store(false, Ordering::SeqCst);

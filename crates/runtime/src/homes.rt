@@ -11,7 +11,7 @@ use std::sync::Wait;
 use thiserror::Error;
 
 /// What came of telling a server to stop.
-#[derive(Clone, Copy, Debug, PartialEq, Eq)]
+#[derive(Clone, Copy)]
 pub(crate) enum Stopping {
     /// Its worker had stopped before.
     Done,

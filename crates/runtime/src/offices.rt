@@ -17,7 +17,7 @@ pub(crate) struct Office<R: Wait + Drop> {
 }
 
 // What a look at the servers found.
-#[derive(Clone, Copy, Debug, PartialEq, Eq)]
+#[derive(Clone, Copy)]
 enum Found {
     // This server has stopped by itself, and so many others haven't failed.
     Fallen(u8, usize),
@@ -143,7 +143,10 @@ pub(crate) fn start_watching<R: Wait + Threads + Eprint + Copy + Drop + Send + '
     let office = Arc::try_clone(office)?;
     match thread::spawn(&rt, move || office.watch(&rt)) {
         Ok(thread) => Ok(thread),
-        Err(_) => Err(AllocError),
+        Err(refused) => {
+            drop(refused);
+            Err(AllocError)
+        }
     }
 }
 

@@ -5,7 +5,7 @@ use crate::server_faults::ServerFault;
 use crate::told_sinks::ToldSink;
 use links::{Lobby, PeerLink};
 use masters::{Channel, Greeted, PeerSink, ServerSettings, port_of, reach};
-use std::alloc::Global;
+use std::alloc::{AllocError, Global};
 use std::net::{Net, TcpListener, TcpStream};
 use std::sync::Wait;
 use std::time::Clock;
@@ -76,10 +76,16 @@ fn told<R: Wait + Eprint + Drop>(
     sink: PeerSink,
 ) -> Result<LinkSink<R>, ServerFault> {
     let Ok(stream) = sink.inner.try_clone() else {
+        drop(sink);
         return Err(ServerFault::Memory);
     };
     let connections = lobby.cuts();
     connections.add(&rt, j, stream);
-    let gone = connections.mark(j)?;
-    Ok(ToldSink::new(rt, sink, lobby.host().id, j, gone))
+    match connections.mark(j) {
+        Ok(gone) => Ok(ToldSink::new(rt, sink, lobby.host().id, j, gone)),
+        Err(AllocError) => {
+            drop(sink);
+            Err(ServerFault::Memory)
+        }
+    }
 }

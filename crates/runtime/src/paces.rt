@@ -3,7 +3,7 @@
 use std::time::{Clock, Instant};
 
 /// Lets one line pass in so many seconds.
-#[derive(Clone, Copy, Debug, PartialEq, Eq)]
+#[derive(Clone, Copy)]
 pub(crate) struct Pace {
     seconds: u64,
     last: Option<Instant>,

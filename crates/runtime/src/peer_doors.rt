@@ -44,11 +44,13 @@ pub(crate) fn open_peer_door<R: Wait + Threads + Clock + Eprint + Copy + Drop + 
     arrivals: &Arc<Arrivals, Global>,
 ) -> Result<JoinHandle<()>, AllocError> {
     let id = lobby.host().id;
+    let lobby = Arc::try_clone(lobby)?;
+    let arrivals = Arc::try_clone(arrivals)?;
     let door = PeerDoor {
         id,
         alloc,
-        lobby: Arc::try_clone(lobby)?,
-        arrivals: Arc::try_clone(arrivals)?,
+        lobby,
+        arrivals,
         strangers: Strangers::new(alloc),
         masters: Strangers::new(alloc),
         greeter: Greeter::new(id),
@@ -56,7 +58,10 @@ pub(crate) fn open_peer_door<R: Wait + Threads + Clock + Eprint + Copy + Drop + 
     let door = Arc::new(alloc, door)?;
     match thread::spawn(&rt, move || accept_all(rt, listener, &door)) {
         Ok(thread) => Ok(thread),
-        Err(_) => Err(AllocError),
+        Err(refused) => {
+            drop(refused);
+            Err(AllocError)
+        }
     }
 }
 
@@ -96,12 +101,17 @@ fn receive<R: Wait + Threads + Clock + Eprint + Copy + Drop + Send + 'static>(
     let stream = Arc::new(door.alloc, stream)?;
     let shared = Arc::try_clone(door)?;
     door.strangers.admit(&rt, number, &stream)?;
-    let started = thread::spawn(&rt, move || shared.attend(&rt, number, &stream));
-    if started.is_err() {
-        door.strangers.release(&rt, number);
-        return Err(AllocError);
+    match thread::spawn(&rt, move || shared.attend(&rt, number, &stream)) {
+        Ok(thread) => {
+            drop(thread);
+            Ok(())
+        }
+        Err(refused) => {
+            door.strangers.release(&rt, number);
+            drop(refused);
+            Err(AllocError)
+        }
     }
-    Ok(())
 }
 
 impl PeerDoor {
@@ -114,10 +124,14 @@ impl PeerDoor {
     ) {
         let greeting = read_greeting(rt, self.alloc, stream);
         if !self.strangers.release(rt, number) {
+            drop(greeting);
             return;
         }
         match greeting {
-            Greeting::Whole(id, opener) => self.answer(rt, number, id, &opener, stream),
+            Greeting::Whole(id, opener) => {
+                self.answer(rt, number, id, &opener, stream);
+                drop(opener);
+            }
             Greeting::Short(id) => {
                 let _ = stream.set_read_timeout(None);
                 self.greeter
@@ -139,25 +153,41 @@ impl PeerDoor {
     ) {
         match self.lobby.greet(rt, self.alloc, id, opener) {
             Ok((speaker, acceptance)) => {
-                let name = Name::new(id);
-                if !self.greeter.accept(self.alloc, acceptance, stream) {
-                    self.tell(rt, name, "broke");
-                    return;
-                }
-                match name {
-                    Name::Server(id) => {
-                        self.arrivals.here(rt, id, opener.start);
-                        self.serve(rt, name, speaker, stream);
-                    }
-                    Name::Master => {
-                        if self.masters.admit(rt, number, stream).is_ok() {
-                            self.serve(rt, name, speaker, stream);
-                            self.masters.release(rt, number);
-                        }
-                    }
+                if self.greeter.accept(self.alloc, acceptance, stream) {
+                    self.receive(rt, number, id, opener.start, speaker, stream);
+                } else {
+                    self.tell(rt, Name::new(id), "broke");
+                    drop(speaker);
                 }
             }
             Err(reason) => self.greeter.refuse(rt, self.alloc, id, reason, stream),
+        }
+    }
+
+    // Serves who was accepted with this id, at this start.
+    fn receive<R: Wait + Clock + Eprint>(
+        &self,
+        rt: &R,
+        number: u64,
+        id: u8,
+        start: u64,
+        speaker: Speaker,
+        stream: &Arc<TcpStream, Global>,
+    ) {
+        let name = Name::new(id);
+        match name {
+            Name::Server(id) => {
+                self.arrivals.here(rt, id, start);
+                self.serve(rt, name, speaker, stream);
+            }
+            Name::Master => {
+                if self.masters.admit(rt, number, stream).is_ok() {
+                    self.serve(rt, name, speaker, stream);
+                    self.masters.release(rt, number);
+                } else {
+                    drop(speaker);
+                }
+            }
         }
     }
 
@@ -165,6 +195,7 @@ impl PeerDoor {
     // other one still sends is lost.
     fn serve<R: Wait + Eprint>(&self, rt: &R, name: Name, speaker: Speaker, stream: &TcpStream) {
         let Ok(lobby) = Arc::try_clone(&self.lobby) else {
+            drop(speaker);
             return;
         };
         let mut source = TrackedReader::new(stream);
@@ -178,6 +209,7 @@ impl PeerDoor {
         if let Some(reason) = guest.reason(end) {
             self.tell(rt, name, reason);
         }
+        drop(guest);
     }
 
     // Tells why a connection isn't heard any more. Of a server that was called gone nothing is told, and before this

@@ -8,44 +8,33 @@ use io_threads::FrontFault;
 use itoa::Buffer;
 use masters::{ServerSettings, port_of};
 use std::alloc::{AllocError, AllocFailed};
-use thiserror::Error;
 use wire::Reason;
 
 /// What to do if a chain doesn't come to stand.
 const ANEW: &str = "; end all servers of the chain, and start them anew\n";
 
 /// Why a server ends.
-#[derive(Clone, Copy, Debug, PartialEq, Eq, Error)]
+#[derive(Clone, Copy)]
 pub(crate) enum ServerFault {
     /// No memory was left, or no thread.
-    #[error("out of memory")]
     Memory,
     /// Nobody can listen on this port.
-    #[error("cannot listen on port {0}")]
     Port(u16),
     /// This server can't be reached.
-    #[error("cannot connect to server {0}")]
     Away(u8),
     /// The host of this server has no address.
-    #[error("unknown host of server {0}")]
     NoHost(u8),
     /// This server has refused this one.
-    #[error("refused by server {0}")]
     Refused(u8, Reason),
     /// This server hasn't connected to this one in time.
-    #[error("server {0} hasn't connected")]
     NotHere(u8),
     /// The link from this server doesn't stand any more, before all were ready; in words that go on from "the link".
-    #[error("the link from server {0} is lost")]
     Lost(u8, &'static str),
     /// This server was started again before all were ready.
-    #[error("server {0} was started again")]
     Restarted(u8),
     /// This server itself was called gone.
-    #[error("called gone")]
     Gone,
     /// The numbers are none of a chain, or the output can't be written.
-    #[error("run failed")]
     Run,
 }
 

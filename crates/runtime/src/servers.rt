@@ -152,10 +152,18 @@ impl<R: Wait + Eprint + Copy + Drop + Send + 'static> Running<R> {
                     failed,
                     ended,
                 };
-                fault_of(work(&rt, worker, &mut links, &around))
+                let rest = work(&rt, worker, &mut links, &around);
+                drop(links);
+                drop(around);
+                fault_of(rest)
             }
             Err(fault) => {
                 failed.set();
+                drop(worker);
+                drop(links);
+                drop(failed);
+                drop(ended);
+                drop(gauge);
                 fault
             }
         }
@@ -271,5 +279,8 @@ fn idle_server<R: Wait + Copy + Drop>(
     }
     let node = idle_node(alloc, settings.numbers.id, servers)?;
     let allowance = Allowance::new(settings.numbers.memory, 1);
-    Ok(open_server(rt, alloc, node, servers, shape, allowance)?)
+    match open_server(rt, alloc, node, servers, shape, allowance) {
+        Ok(opened) => Ok(opened),
+        Err(fault) => Err(ServerFault::from(fault)),
+    }
 }

@@ -8,8 +8,9 @@ use crate::homes::Home;
 use crate::shapes::Shape;
 use io_threads::{Desks, Pooled, open_pools};
 use node::Node;
+use rail::Worker;
 use seats::{Allowance, Gauge, InProcessLinks, Link, Mark, SeatPool};
-use std::alloc::Global;
+use std::alloc::{AllocError, Global};
 use std::sync::{Arc, Wait};
 
 /// A server of a process, before its links stand.
@@ -63,8 +64,13 @@ pub(crate) fn open_server<R: Wait + Copy + Drop>(
     requires chain { (1 ≤ count) × (count ≤ 16) }
     requires idle { is_idle node ≡ true }
 {
-    let failed = Mark::new(alloc)?;
-    let gauge = Gauge::new(alloc, allowance)?;
+    let (failed, gauge) = match mark_and_gauge(alloc, allowance) {
+        Ok(both) => both,
+        Err(AllocError) => {
+            drop(node);
+            return Err(ClusterFault::Memory);
+        }
+    };
     let Shape { threads, seats } = shape;
     let inlets = usize::from(count);
     let Ok(pooled) = open_pools(rt, alloc, node, seats, threads, inlets, &failed, &gauge) else {
@@ -77,14 +83,28 @@ pub(crate) fn open_server<R: Wait + Copy + Drop>(
     })
 }
 
+// The mark of a server, and its gauge.
+fn mark_and_gauge(alloc: Global, allowance: Allowance) -> Result<(Mark, Gauge), AllocError> {
+    let failed = Mark::new(alloc)?;
+    let gauge = Gauge::new(alloc, allowance)?;
+    Ok((failed, gauge))
+}
+
 /// Server `id` of a chain of `count`, before any input.
 pub(crate) fn idle_node(alloc: Global, id: u8, count: u8) -> Result<Node, ClusterFault>
     ensures which { IfOk result (λ node. node ≡ fresh id count) }
     ensures idle { IfOk result (λ node. is_idle node ≡ true) }
 {
     match Node::new(alloc, id, count) {
-        Ok(node) if node.is_idle() => Ok(node),
-        _ => Err(ClusterFault::Run),
+        Ok(node) => {
+            if node.is_idle() {
+                Ok(node)
+            } else {
+                drop(node);
+                Err(ClusterFault::Run)
+            }
+        }
+        Err(_) => Err(ClusterFault::Run),
     }
 }
 
@@ -124,23 +144,84 @@ pub fn all_sides<R: Wait + Drop>(
     let mut sides = Vec::new(alloc);
     let mut links = links.into_iter();
     for server in servers {
-        let Opened {
-            pooled,
-            failed,
-            gauge,
-        } = server;
-        let Pooled {
-            worker,
-            pools,
-            mut inlets,
-        } = pooled;
-        let (Some(links), Some(inlet)) = (links.next(), inlets.pop()) else {
-            return Err(ClusterFault::Run);
+        let side = match links.next() {
+            Some(links) => add_server(alloc, &mut hall, server, links),
+            None => {
+                drop(server);
+                Err(ClusterFault::Run)
+            }
         };
-        let stopped = Mark::new(alloc)?;
-        hall.add(worker, links, stopped.share()?, gauge)?;
-        let home = Home::new(inlet, failed, stopped);
-        sides.push(Side { pools, home })?;
+        sides.push(side?)?;
     }
     Ok((hall, sides))
+}
+
+// Adds a server with its links to the hall. It gives what the server has beside its worker.
+fn add_server<R: Wait + Drop>(
+    alloc: Global,
+    hall: &mut Hall<R>,
+    server: Opened<R>,
+    links: InProcessLinks<R>,
+) -> Result<Side, ClusterFault> {
+    let Opened {
+        pooled,
+        failed,
+        gauge,
+    } = server;
+    let Pooled {
+        worker,
+        pools,
+        inlets,
+    } = pooled;
+    let mut inlets = inlets;
+    let Some(inlet) = inlets.pop() else {
+        drop(worker);
+        drop(links);
+        drop(pools);
+        return Err(ClusterFault::Run);
+    };
+    match add_worker(alloc, hall, worker, links, gauge) {
+        Ok(stopped) => Ok(Side {
+            pools,
+            home: Home::new(inlet, failed, stopped),
+        }),
+        Err(AllocError) => {
+            drop(pools);
+            drop(inlet);
+            drop(failed);
+            Err(ClusterFault::Memory)
+        }
+    }
+}
+
+// Adds a worker with its links to the hall. It gives the mark that is set as soon as the server has stopped.
+fn add_worker<R: Wait + Drop>(
+    alloc: Global,
+    hall: &mut Hall<R>,
+    worker: Worker<R>,
+    links: InProcessLinks<R>,
+    gauge: Gauge,
+) -> Result<Mark, AllocError> {
+    match shared_mark(alloc) {
+        Ok((stopped, shared)) => match hall.add(worker, links, shared, gauge) {
+            Ok(()) => Ok(stopped),
+            Err(AllocError) => {
+                drop(stopped);
+                Err(AllocError)
+            }
+        },
+        Err(AllocError) => {
+            drop(worker);
+            drop(links);
+            drop(gauge);
+            Err(AllocError)
+        }
+    }
+}
+
+// A mark, twice.
+fn shared_mark(alloc: Global) -> Result<(Mark, Mark), AllocError> {
+    let mark = Mark::new(alloc)?;
+    let shared = mark.share()?;
+    Ok((mark, shared))
 }

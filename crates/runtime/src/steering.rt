@@ -84,16 +84,47 @@ fn steer<
     let cluster = Cluster::open(rt, alloc, numbers, shape)?;
     tell_cluster(numbers, shape, machine, errors);
     warn_of_files(numbers.servers, numbers.connections, shape, errors);
+    match fail_named(
+        &rt,
+        numbers,
+        &cluster,
+        &mut line,
+        &mut answers,
+        input,
+        output,
+        errors,
+    ) {
+        Ok(()) => {
+            cluster.end(&rt);
+            Ok(())
+        }
+        Err(fault) => {
+            drop(cluster);
+            Err(fault)
+        }
+    }
+}
+
+// Says `ready`, and fails the servers that the input names, until it ends.
+fn fail_named<R: Wait + Clock + Copy + Drop + Send + 'static, S: Source, W: Sink, X: Sink>(
+    rt: &R,
+    numbers: Numbers,
+    cluster: &Cluster<R>,
+    line: &mut Vec<u8>,
+    answers: &mut Answers,
+    input: &mut S,
+    output: &mut W,
+    errors: &mut X,
+) -> Result<(), ClusterFault> {
     if write_all(output, b"ready\n").is_err() {
         return Err(ClusterFault::Run);
     }
     for _ in rt.forever() {
-        if !next_line(input, &mut line)? {
-            cluster.end(&rt);
+        if !next_line(input, line)? {
             return Ok(());
         }
         match server_named(line.as_slice(), b"fail", numbers.servers) {
-            Some(j) => match cluster.fail(&rt, j) {
+            Some(j) => match cluster.fail(rt, j) {
                 Ok(()) => answers.gone(output, errors, WHO, j),
                 Err(StopFault) => answers.not_gone(output, errors, WHO, j),
             },

@@ -37,18 +37,29 @@ pub(crate) fn read_greeting<R: Clock>(rt: &R, alloc: Global, stream: &TcpStream)
         return Greeting::Nothing;
     };
     match read_hello(rt, alloc, stream, deadline) {
-        Opening::Hello(id) => match next_frame(rt, alloc, stream, deadline, INTRODUCTION) {
-            Ok(Heard::Frame(frame)) => greeting_of(id, frame),
-            Ok(Heard::Old | Heard::Nothing) => Greeting::Short(id),
-            Err(AllocError) => Greeting::Nothing,
-        },
+        Opening::Hello(id) => read_introduction(rt, alloc, stream, deadline, id),
         Opening::Old => Greeting::Old,
         Opening::Nothing => Greeting::Nothing,
     }
 }
 
+// What follows the Hello of who greets with this id.
+fn read_introduction<R: Clock>(
+    rt: &R,
+    alloc: Global,
+    stream: &TcpStream,
+    deadline: Deadline,
+    id: u8,
+) -> Greeting {
+    match next_frame(rt, alloc, stream, deadline, INTRODUCTION) {
+        Ok(Heard::Frame(frame)) => greeting_of(id, frame),
+        Ok(Heard::Old | Heard::Nothing) => Greeting::Short(id),
+        Err(AllocError) => Greeting::Nothing,
+    }
+}
+
 // What stands first.
-#[derive(Clone, Copy, Debug, PartialEq, Eq)]
+#[derive(Clone, Copy)]
 enum Opening {
     // A Hello with this id.
     Hello(u8),
@@ -60,7 +71,11 @@ enum Opening {
 
 fn read_hello<R: Clock>(rt: &R, alloc: Global, stream: &TcpStream, deadline: Deadline) -> Opening {
     match next_frame(rt, alloc, stream, deadline, HELLO) {
-        Ok(Heard::Frame(frame)) => opening_of(&frame),
+        Ok(Heard::Frame(frame)) => {
+            let opening = opening_of(&frame);
+            drop(frame);
+            opening
+        }
         Ok(Heard::Old) => Opening::Old,
         Ok(Heard::Nothing) => Opening::Nothing,
         Err(AllocError) => Opening::Nothing,
@@ -78,7 +93,10 @@ fn opening_of(frame: &Frame) -> Opening {
 fn greeting_of(id: u8, frame: Frame) -> Greeting {
     match frame {
         Frame::Introduction(opener) => Greeting::Whole(id, opener),
-        _ => Greeting::Short(id),
+        other => {
+            drop(other);
+            Greeting::Short(id)
+        }
     }
 }
 
@@ -116,10 +134,14 @@ impl Strangers {
         if waiting.len() >= MOST && !waiting.is_empty() {
             let oldest = waiting.remove(0);
             let _ = oldest.stream.shutdown(Shutdown::Both);
+            drop(oldest);
         }
         match waiting.push(Stranger { number, stream }) {
             Ok(()) => Ok(()),
-            Err(_) => Err(AllocError),
+            Err(failed) => {
+                drop(failed);
+                Err(AllocError)
+            }
         }
     }
 

@@ -5,7 +5,7 @@ use std::sync::Wait;
 use wire::{Frame, MASTER};
 
 /// Who speaks on a connection.
-#[derive(Clone, Copy, Debug, PartialEq, Eq)]
+#[derive(Clone, Copy, PartialEq, Eq)]
 pub(crate) enum Name {
     /// The server of this id.
     Server(u8),
@@ -25,7 +25,7 @@ impl Name {
 }
 
 /// What a frame is for.
-#[derive(Clone, Copy, Debug, PartialEq, Eq)]
+#[derive(Clone, Copy)]
 pub(crate) enum Kind {
     /// It greets.
     Hello,

@@ -40,7 +40,9 @@ pub fn work<R: Wait + Drop, L: Links>(
     links: &mut L,
     around: &Surroundings,
 ) -> Rest {
-    let rest = take_turns(rt, worker, links, around);
+    let mut worker = worker;
+    let rest = take_turns(rt, &mut worker, links, around);
+    drop(worker);
     around.failed.set();
     around.desks.wake_all();
     rest
@@ -48,11 +50,10 @@ pub fn work<R: Wait + Drop, L: Links>(
 
 fn take_turns<R: Wait + Drop, L: Links>(
     rt: &R,
-    worker: Worker<R>,
+    worker: &mut Worker<R>,
     links: &mut L,
     around: &Surroundings,
 ) -> Rest {
-    let mut worker = worker;
     for _ in rt.forever() {
         let turn = worker.turn(links);
         around.gauge.note(worker.weight());

@@ -1,6 +1,6 @@
 -- Calls at a seat, one stage after another.
 use Rattle.std.proofs.Common.{◌≡◌, ◌∙◌, ◌∷◌, ◌++◌, [], List, Bool, true, false, not, if◌then◌else◌, Option, Some, None}
-use Rattle.std.proofs.Common.{IsSome, MatchResult, Ok, Err, Result, is_err, refl, ap, sym, subst}
+use Rattle.std.proofs.Common.{IsSome, refl, ap, sym, subst}
 use Rattle.table.specs.Operations.{is_update, is_value}
 use Rattle.table.specs.declared.operations.Call.{Call}
 use Rattle.table.specs.declared.operations.Reply.{Reply}
@@ -159,24 +159,6 @@ pub update_waits : (stage : Stage) (seat : SeatState) (s : Submitting) → stage
 update_waits stage seat s e is view =
     subst (λ (t : Submitting). IsSome t.waiting) (ap (λ x. submitting x seat) (sym e) ∙ view)
     (waits_last seat true (subst (λ x. IsOpen x seat) e is))
-
--- what holds of a call that was sent
-pub if_sent : {T E : Type 0} (P : Type 0) (Q : E → Type 0) (r : Result T E) (b : Bool)
-    → b ≡ is_err r
-    → b ≡ false
-    → MatchResult r (λ _. P) Q
-    → P
-if_sent P Q (Ok x) b is fine holds = holds
-if_sent P Q (Err e) b is fine holds = let bad : true ≡ false = sym is ∙ fine in cc
-
--- what holds of one that wasn't
-pub if_unsent : {T E : Type 0} (P : Type 0) (R : E → Type 0) (Q : Type 0) (r : Result T E) (b : Bool)
-    → b ≡ is_err r
-    → b ≡ true
-    → MatchResult r (λ _. P) (λ e. R e × Q)
-    → Q
-if_unsent P R Q (Ok x) b is bad holds = let no : false ≡ true = sym is ∙ bad in cc
-if_unsent P R Q (Err e) b is bad holds = holds.1
 
 -- a call was sent at a seat with this value
 pub submit_sent : (stage next : Stage) (seat last : SeatState) (s : Submitting) (call : Call)

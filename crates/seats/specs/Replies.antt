@@ -5,7 +5,6 @@ use Rattle.table.specs.declared.operations.Call.{Call}
 use Rattle.table.specs.declared.operations.Target.TheVariants.{One}
 use Rattle.table.specs.declared.operations.Op.TheVariants.{Read}
 use Rattle.table.specs.declared.operations.Reply.{Reply}
-use Rattle.table.specs.declared.operations.Reply.TheVariants.{Value}
 use Rattle.node.specs.declared.messages.Input.TheVariants.{Call as Called}
 use Rattle.node.specs.declared.messages.Output.TheVariants.{Reply as Replied}
 use Rattle.node.specs.declared.looks.Look.TheVariants.{Clean}

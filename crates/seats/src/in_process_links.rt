@@ -155,6 +155,7 @@ fn bring_to<R: Wait>(
     if place < links.len() {
         links[place].bring(rt, id, peer)
     } else {
+        drop(peer);
         Err(RailFault::LinkDown)
     }
 }

@@ -64,7 +64,9 @@ pub(crate) fn hand_on(
     ensures ok { OnOk result (HasOutcome (Replied reply) connection.old connection.new × (seen.new ≡ pool.now)) }
     ensures err { OnErr result ((seen.new ≡ seen.old) × (connection.new ≡ record connection.old { failed = true })) }
 {
-    connection.answer(&reply)?;
+    let answered = connection.answer(&reply);
+    drop(reply);
+    answered?;
     *seen = pool.tell();
     Ok(())
 }

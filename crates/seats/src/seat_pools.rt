@@ -80,10 +80,17 @@ impl SeatPool {
         ensures same { self.new ≡ self.old }
     {
         let seats = self.seats.saturating_add(1);
-        make_room(&mut self.free, &mut self.left, seats)?;
-        self.seats = seats;
-        self.free.push_reserved(Submitter::new(seat));
-        Ok(())
+        match make_room(&mut self.free, &mut self.left, seats) {
+            Ok(()) => {
+                self.seats = seats;
+                self.free.push_reserved(Submitter::new(seat));
+                Ok(())
+            }
+            Err(error) => {
+                drop(seat);
+                Err(error)
+            }
+        }
     }
 
     /// Whether a call that stores may be sent. If not, it is to be refused.
@@ -104,6 +111,7 @@ impl SeatPool {
     {
         let found = peek(&mut self.reader, call);
         if self.mark.is_set() {
+            drop(found);
             return Err(CallFault);
         }
         Ok(found)

@@ -10,7 +10,7 @@ use std::sync::Wait;
 use table::{Call, Reply};
 
 /// What waits at a seat.
-#[derive(Clone, Copy, Debug, PartialEq, Eq)]
+#[derive(Clone, Copy, PartialEq, Eq)]
 pub enum Stage {
     /// No call.
     Free,
@@ -85,15 +85,21 @@ impl Submitter {
         ensures spent { self.old.lost ≡ true → IsErr result }
     {
         if let Stage::Lost = self.stage {
+            drop(call);
             return Err(CallFault);
         }
         let stage = stage_of(&call);
-        if self.seat.submit(rt, call).is_err() {
-            self.stage = Stage::Lost;
-            return Err(CallFault);
+        match self.seat.submit(rt, call) {
+            Ok(()) => {
+                self.stage = stage;
+                Ok(())
+            }
+            Err(back) => {
+                drop(back);
+                self.stage = Stage::Lost;
+                Err(CallFault)
+            }
         }
-        self.stage = stage;
-        Ok(())
     }
 
     /// The reply to the open call, if it stands there; the reader has then seen all that the server had published by

@@ -1,6 +1,7 @@
 //! A connection at a server's seats, without a thread: each of its calls is refused or answered by a look at once, or
 //! sent at a seat, whose reply is taken later.
 ghost use Rattle.std.specs.Prelude.{◌≡◌, IfOk, MatchOption, OnErr, OnOk};
+ghost use Rattle.table.specs.declared.operations.Call.{Call};
 ghost use Rattle.proto.specs.Turns.{Outcome, Refused};
 ghost use Rattle.faces.specs.Courses.{IsLater};
 ghost use Rattle.serving.specs.Connections.{HasOutcome, MayRefuse};
@@ -22,7 +23,7 @@ use std::sync::Wait;
 use table::Call;
 
 /// How far a talk went.
-#[derive(Clone, Copy, Debug, PartialEq, Eq)]
+#[derive(Clone, Copy, PartialEq, Eq)]
 pub enum Went {
     /// All is answered and written: it wants input.
     Input,
@@ -137,7 +138,7 @@ impl Talk {
             record self.old { connected = record self.old.connected { failed = true } }) }
     {
         self.connection.feed(piece)?;
-        self.standing = Standing::Idle;
+        stand_at(&mut self.standing, Standing::Idle);
         Ok(())
     }
 
@@ -148,7 +149,7 @@ impl Talk {
             record self.old { connected = record self.old.connected { ended = true }; standing = Idle } }
     {
         self.connection.input_ended();
-        self.standing = Standing::Idle;
+        stand_at(&mut self.standing, Standing::Idle);
     }
 
     /// Goes on as far as it can: it makes the calls of what was read, one after another, each by a look at once, or at
@@ -234,9 +235,20 @@ impl Talk {
         requires known { IsLater self.seen pool.old }
         ensures { pool.new ≡ pool.old }
     {
-        let standing = self.standing;
-        if let Standing::Sent(submitter) = standing {
-            pool.leave(submitter);
+        let Talk {
+            connection,
+            standing,
+            first,
+            seen,
+        } = self;
+        drop(connection);
+        drop(first);
+        drop(seen);
+        match standing {
+            Standing::Sent(submitter) => {
+                pool.leave(submitter);
+            }
+            other => drop(other),
         }
     }
 
@@ -298,12 +310,12 @@ impl Talk {
             ),
             Ok(Wants::Write) => Ok(Some(Went::Write)),
             Ok(Wants::Read) => {
-                self.standing = Standing::Reading;
+                stand_at(&mut self.standing, Standing::Reading);
                 Ok(Some(Went::Input))
             }
             Ok(Wants::End(end)) => Ok(Some(Went::End(end))),
             Err(_) => {
-                self.standing = Standing::Over;
+                stand_at(&mut self.standing, Standing::Over);
                 Err(ServeFault::Memory)
             }
         }
@@ -318,20 +330,19 @@ impl Talk {
         ensures went { IfOk result (λ went. HasGone went self.new) }
         ensures over { OnErr result (self.new.standing ≡ Over) }
     {
-        let Some(submitter) = pool.take_free() else {
+        let Some(mut submitter) = pool.take_free() else {
             return Ok(Went::Seat);
         };
-        match mem::replace(&mut self.standing, Standing::Over) {
-            Standing::Unsent(call) => {
-                let mut submitter = submitter;
-                if submitter.submit(rt, call).is_err() {
-                    pool.put(submitter);
-                    return Err(ServeFault::Call);
-                }
-                self.standing = Standing::Sent(submitter);
+        let call = unsent(mem::replace(&mut self.standing, Standing::Over));
+        match submitter.submit(rt, call) {
+            Ok(()) => {
+                stand_at(&mut self.standing, Standing::Sent(submitter));
                 Ok(Went::Reply)
             }
-            _ => unreachable!(),
+            Err(_) => {
+                pool.put(submitter);
+                Err(ServeFault::Call)
+            }
         }
     }
 }
@@ -393,11 +404,25 @@ fn ask(
     }
 }
 
+// The call that waits for a seat.
+fn unsent(standing: Standing) -> Call
+    requires { (call : Call) × (standing ≡ Unsent call) }
+    ensures { standing ≡ Unsent result }
+{
+    match standing {
+        Standing::Unsent(call) => call,
+        other => {
+            drop(other);
+            unreachable!()
+        }
+    }
+}
+
 // From now on it stands so. What it stood at is dropped, whatever that was.
 fn stand_at(standing: &mut Standing, next: Standing)
     ensures { standing.new ≡ next }
 {
-    *standing = next;
+    drop(mem::replace(standing, next));
 }
 
 // Gives the seat back to the pool, if it has one.
@@ -406,7 +431,8 @@ fn give_back(standing: &mut Standing, pool: &mut SeatPool)
     ensures standing { standing.new ≡ Over }
     ensures pool { pool.new ≡ pool.old }
 {
-    if let Standing::Sent(submitter) = mem::replace(standing, Standing::Over) {
-        pool.put(submitter);
+    match mem::replace(standing, Standing::Over) {
+        Standing::Sent(submitter) => pool.put(submitter),
+        other => drop(other),
     }
 }

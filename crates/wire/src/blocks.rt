@@ -14,7 +14,8 @@ pub fn owned_block_at(alloc: Global, bytes: &[u8]) -> Result<(Bytes, &[u8]), Rea
     ensures within_limit { IfOk result (λ x. length x.0 ≤ limit) }
 {
     let (data, rest) = block_at(bytes)?;
-    Ok((Bytes::copy_from_slice(alloc, data)?, rest))
+    let data = Bytes::copy_from_slice(alloc, data)?;
+    Ok((data, rest))
 }
 
 /// An item's flags, and its data.

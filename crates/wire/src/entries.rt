@@ -1,16 +1,15 @@
 //! Entries of the log: the body of a forward, with its reply and its change.
-ghost use Rattle.std.specs.Prelude.{◌≡◌, ◌<◌, false, IfOk};
+ghost use Rattle.std.specs.Prelude.{◌≡◌, false, IfOk};
 ghost use Rattle.table.specs.Operations.{is_value};
 ghost use Rattle.versions.specs.Entries.{PutsOwn, is_clear, is_flushed};
-ghost use Rattle.wire.specs.Fronts.{Gives, GivesOwned, byte_at, change_at, key_change_at, forward_body_at};
+ghost use Rattle.wire.specs.Fronts.{Gives, GivesOwned, change_at, key_change_at, forward_body_at};
 ghost use Rattle.wire.specs.Fronts.{key_reply_at, reply_at};
-ghost use Rattle.wire.specs.Grammar.{below};
 
 use crate::blocks::owned_flagged_at;
-use crate::fields::{Stop, byte_at, positive_at, u64_at};
+use crate::fields::{Stop, byte_at, positive_at, server_at, u64_at};
 use crate::reading::ReadFault;
 use crate::targets::{owned, target_at};
-use node::{Body, SERVERS};
+use node::Body;
 use std::alloc::Global;
 use table::{Change, Item, Reply};
 use versions::Entry;
@@ -21,26 +20,28 @@ pub fn forward_body_at(alloc: Global, bytes: &[u8]) -> Result<(Body, &[u8]), Rea
     ensures { GivesOwned (λ x. (x.0, x.1.now)) result (forward_body_at bytes.now) }
 {
     let (number, rest) = positive_at(bytes)?;
-    let (origin, rest) = origin_at(rest)?;
+    let (origin, rest) = server_at(rest)?;
     let (id, rest) = positive_at(rest)?;
     let (target, rest) = target_at(rest)?;
     let (reply, rest) = reply_at(target.is_none(), rest)?;
-    let (change, rest) = change_at(alloc, target.is_none(), number, rest)?;
-    let target = owned(alloc, target)?;
-    let entry = Entry::new(number, origin, id, target, reply, change);
-    Ok((Body::Forward(entry), rest))
-}
-
-// The server whose client asked for an entry.
-fn origin_at(bytes: &[u8]) -> Result<(u8, &[u8]), Stop>
-    ensures gives { Gives (λ x. (x.0, x.1.now)) result (byte_at (below 16) bytes.now) }
-    ensures server { IfOk result (λ x. x.0 < 16) }
-{
-    let (origin, rest) = byte_at(bytes)?;
-    if origin >= SERVERS {
-        return Err(Stop::Malformed);
+    let (change, rest) = match change_at(alloc, target.is_none(), number, rest) {
+        Ok(read) => read,
+        Err(fault) => {
+            drop(reply);
+            return Err(fault);
+        }
+    };
+    match owned(alloc, target) {
+        Ok(target) => {
+            let entry = Entry::new(number, origin, id, target, reply, change);
+            Ok((Body::Forward(entry), rest))
+        }
+        Err(_) => {
+            drop(reply);
+            drop(change);
+            Err(ReadFault::Memory)
+        }
     }
-    Ok((origin, rest))
 }
 
 #[tactic(auto, unfolding(crate::specs::Fronts::reply_at))]

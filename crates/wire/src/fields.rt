@@ -1,15 +1,16 @@
 //! Fields of frames: each is read from the front, and judged as soon as all its bytes are there.
-ghost use Rattle.std.specs.Prelude.{◌≡◌, ◌≤◌, length, IfOk};
+ghost use Rattle.std.specs.Prelude.{◌≡◌, ◌≤◌, ◌<◌, length, IfOk};
 ghost use Rattle.std.specs.Int.{w16, w32, w64};
 ghost use Rattle.table.specs.Items.{limit};
 ghost use Rattle.table.specs.Keys.{IsKey};
-ghost use Rattle.wire.specs.Grammar.{any, positive};
+ghost use Rattle.wire.specs.Grammar.{any, below, positive};
 ghost use Rattle.wire.specs.Fronts.{Gives, block_at, byte_at, bytes_at, key_at, number_at, text_at};
 
+use node::SERVERS;
 use table::{Key, LIMIT, are_key_bytes};
 
 /// Why no value is read from the front.
-#[derive(Clone, Copy, Debug)]
+#[derive(Clone, Copy)]
 pub enum Stop {
     /// So many bytes more have to come, before anything else can be told.
     Short(usize),
@@ -27,6 +28,18 @@ pub fn byte_at(bytes: &[u8]) -> Result<(u8, &[u8]), Stop>
         [] => Err(Stop::Short(1)),
         [byte, rest @ ..] => Ok((*byte, rest)),
     }
+}
+
+/// A server's id.
+pub fn server_at(bytes: &[u8]) -> Result<(u8, &[u8]), Stop>
+    ensures gives { Gives (λ x. (x.0, x.1.now)) result (byte_at (below 16) bytes.now) }
+    ensures server { IfOk result (λ x. x.0 < 16) }
+{
+    let (id, rest) = byte_at(bytes)?;
+    if id >= SERVERS {
+        return Err(Stop::Malformed);
+    }
+    Ok((id, rest))
 }
 
 /// A number of two bytes.

@@ -3,7 +3,7 @@ ghost use Rattle.wire.specs.Fronts.{Gives, GivesOwned, acceptance_at, byte_at, g
 ghost use Rattle.wire.specs.Fronts.{refusal_at, refusal_of_at};
 ghost use Rattle.wire.specs.Grammar.{is_server_count};
 
-use crate::fields::{Stop, byte_at, key_at, u16_at, u64_at};
+use crate::fields::{Stop, byte_at, key_at, server_at, u16_at, u64_at};
 use crate::reading::ReadFault;
 use crate::targets::owned_key;
 use crate::{Acceptance, Frame, Introduction, Reason};
@@ -20,10 +20,7 @@ pub fn greeting_at(alloc: Global, kind: u8, bytes: &[u8]) -> Result<(Frame, &[u8
         8 => Ok(acceptance_at(bytes)?),
         9 => Ok(refusal_at(bytes)?),
         10 => {
-            let (id, rest) = byte_at(bytes)?;
-            if id >= SERVERS {
-                return Err(ReadFault::Stopped(Stop::Malformed));
-            }
+            let (id, rest) = server_at(bytes)?;
             Ok((Frame::Noted(id), rest))
         }
         _ => Err(ReadFault::Stopped(Stop::Malformed)),

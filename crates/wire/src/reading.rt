@@ -6,17 +6,17 @@ ghost use Rattle.wire.specs.declared.reading.ReadFault.TheVariants.{Memory, Stop
 
 use crate::Frame;
 use crate::entries::forward_body_at;
-use crate::fields::{Stop, byte_at, key_at, positive_at, u16_at, u64_at};
+use crate::fields::{Stop, byte_at, key_at, positive_at, server_at, u16_at, u64_at};
 use crate::frames::{FORMAT, MASTER, OLD_FORMAT};
 use crate::greeting_fronts::greeting_at;
 use crate::operations::op_at;
 use crate::targets::{owned, owned_key, target_at};
-use node::{Body, Peer, SERVERS, View};
+use node::{Body, Peer, View};
 use std::alloc::{AllocError, Global};
 use table::Call;
 
 /// Why no frame is read from the front.
-#[derive(Debug, Drop)]
+#[derive(Clone, Copy)]
 pub enum ReadFault {
     /// A frame stands there, and there is no memory for it.
     Memory,
@@ -77,10 +77,7 @@ fn of_kind_at(alloc: Global, kind: u8, bytes: &[u8]) -> Result<(Frame, &[u8]), R
             Ok((Frame::Hello(id), rest))
         }
         6 => {
-            let (id, rest) = byte_at(bytes)?;
-            if id >= SERVERS {
-                return Err(ReadFault::Stopped(Stop::Malformed));
-            }
+            let (id, rest) = server_at(bytes)?;
             Ok((Frame::Gone(id), rest))
         }
         7.. => greeting_at(alloc, kind, bytes),
@@ -119,8 +116,13 @@ fn op_body_at(alloc: Global, bytes: &[u8]) -> Result<(Body, &[u8]), ReadFault>
     let (id, rest) = positive_at(bytes)?;
     let (target, rest) = target_at(rest)?;
     let (op, rest) = op_at(alloc, target.is_none(), rest)?;
-    let target = owned(alloc, target)?;
-    Ok((Body::Op(id, Call { target, op }), rest))
+    match owned(alloc, target) {
+        Ok(target) => Ok((Body::Op(id, Call { target, op }), rest)),
+        Err(_) => {
+            drop(op);
+            Err(ReadFault::Memory)
+        }
+    }
 }
 
 #[tactic(auto, unfolding(crate::specs::Fronts::ack_body_at))]
@@ -137,7 +139,8 @@ fn query_body_at(alloc: Global, bytes: &[u8]) -> Result<(Body, &[u8]), ReadFault
 {
     let (ask, rest) = positive_at(bytes)?;
     let (key, rest) = key_at(rest)?;
-    Ok((Body::Query(ask, owned_key(alloc, key)?), rest))
+    let key = owned_key(alloc, key)?;
+    Ok((Body::Query(ask, key), rest))
 }
 
 #[tactic(auto, unfolding(crate::specs::Fronts::answer_body_at))]

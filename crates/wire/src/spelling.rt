@@ -1,6 +1,6 @@
 //! The bytes of frames. There is room for all of a frame before its first byte is written, so that nothing is refused
 //! halfway.
-ghost use Rattle.std.specs.Prelude.{◌≡◌, ◌+◌, ◌≤◌, ◌++◌, ◌∷◌, false, length, IfOk, OnOk, OnErr, IsOkUnless};
+ghost use Rattle.std.specs.Prelude.{◌≡◌, ◌+◌, ◌≤◌, ◌++◌, ◌∷◌, [], false, length, IfOk, OnOk, OnErr, IsOkUnless};
 ghost use Rattle.table.specs.Items.{limit};
 ghost use Rattle.table.specs.Operations.{Fits, is_value};
 ghost use Rattle.node.specs.Lawful.{IsSendable};
@@ -54,24 +54,41 @@ fn put(out: &mut BytesMut, frame: &Frame)
     ensures { out.new.items ≡ out.old.items ++ spelling frame.now }
 {
     match frame {
-        Frame::Hello(id) => out.extend_reserved(&[FORMAT, 0, *id]),
+        Frame::Hello(id) => put_short(out, 0, *id),
         Frame::Peer(peer) => {
-            out.extend_reserved(&[FORMAT, kind_of(&peer.body)]);
+            put_head(out, kind_of(&peer.body));
             out.extend_reserved(&peer.view.bits().to_be_bytes());
             put_body(out, &peer.body);
         }
-        Frame::Gone(id) => out.extend_reserved(&[FORMAT, 6, *id]),
+        Frame::Gone(id) => put_short(out, 6, *id),
         Frame::Introduction(opener) => {
-            out.extend_reserved(&[FORMAT, 7]);
+            put_head(out, 7);
             put_introduction(out, opener);
         }
         Frame::Accepted(answer) => {
-            out.extend_reserved(&[FORMAT, 8]);
+            put_head(out, 8);
             put_acceptance(out, answer);
         }
-        Frame::Refused(reason) => out.extend_reserved(&[FORMAT, 9, code_of(*reason)]),
-        Frame::Noted(id) => out.extend_reserved(&[FORMAT, 10, *id]),
+        Frame::Refused(reason) => put_short(out, 9, code_of(*reason)),
+        Frame::Noted(id) => put_short(out, 10, *id),
     }
+}
+
+// The format and a kind.
+fn put_head(out: &mut BytesMut, kind: u8)
+    requires room { 2 ≤ out.old.spare }
+    ensures text { out.new.items ≡ out.old.items ++ 2 ∷ kind ∷ [] }
+    ensures room { out.new.spare + 2 ≡ out.old.spare }
+{
+    out.extend_reserved(&[FORMAT, kind]);
+}
+
+// A frame of three bytes: the format, a kind and a value.
+fn put_short(out: &mut BytesMut, kind: u8, value: u8)
+    requires room { 3 ≤ out.old.spare }
+    ensures { out.new.items ≡ out.old.items ++ 2 ∷ kind ∷ value ∷ [] }
+{
+    out.extend_reserved(&[FORMAT, kind, value]);
 }
 
 fn put_introduction(out: &mut BytesMut, opener: &Introduction)
@@ -158,7 +175,7 @@ fn put_target(out: &mut BytesMut, target: &Target)
 {
     match target {
         Target::One(key) => put_key(out, key),
-        Target::All => out.extend_reserved(&[0]),
+        Target::All => put_code(out, 0),
     }
 }
 
@@ -183,24 +200,33 @@ fn put_op(out: &mut BytesMut, op: &Op)
         Op::Add(flags, bytes) => put_flagged(out, 2, *flags, bytes),
         Op::Replace(flags, bytes) => put_flagged(out, 3, *flags, bytes),
         Op::Append(bytes) => {
-            out.extend_reserved(&[4]);
+            put_code(out, 4);
             put_block(out, bytes);
         }
         Op::Prepend(bytes) => {
-            out.extend_reserved(&[5]);
+            put_code(out, 5);
             put_block(out, bytes);
         }
         Op::Cas(flags, bytes, unique) => {
-            out.extend_reserved(&[6]);
+            put_code(out, 6);
             out.extend_reserved(&flags.to_be_bytes());
             out.extend_reserved(&unique.to_be_bytes());
             put_block(out, bytes);
         }
         Op::Incr(amount) => put_number(out, 7, *amount),
         Op::Decr(amount) => put_number(out, 8, *amount),
-        Op::Delete => out.extend_reserved(&[9]),
-        Op::Flush => out.extend_reserved(&[10]),
+        Op::Delete => put_code(out, 9),
+        Op::Flush => put_code(out, 10),
     }
+}
+
+// A code alone.
+fn put_code(out: &mut BytesMut, code: u8)
+    requires room { 1 ≤ out.old.spare }
+    ensures text { out.new.items ≡ out.old.items ++ code ∷ [] }
+    ensures room { out.new.spare + 1 ≡ out.old.spare }
+{
+    out.extend_reserved(&[code]);
 }
 
 // A code, flags and data.
@@ -209,7 +235,7 @@ fn put_flagged(out: &mut BytesMut, code: u8, flags: u32, bytes: &Bytes)
     requires room { 9 + length bytes.now ≤ out.old.spare }
     ensures { out.new.items ≡ out.old.items ++ code ∷ (four_bytes flags ++ block_spelling bytes.now) }
 {
-    out.extend_reserved(&[code]);
+    put_code(out, code);
     out.extend_reserved(&flags.to_be_bytes());
     put_block(out, bytes);
 }
@@ -230,7 +256,7 @@ fn put_number(out: &mut BytesMut, code: u8, n: u64)
     ensures text { out.new.items ≡ out.old.items ++ code ∷ eight_bytes n }
     ensures room { out.new.spare + 9 ≡ out.old.spare }
 {
-    out.extend_reserved(&[code]);
+    put_code(out, code);
     out.extend_reserved(&n.to_be_bytes());
 }
 
@@ -241,16 +267,16 @@ fn put_reply(out: &mut BytesMut, reply: &Reply)
     ensures room { out.new.spare + length (reply_spelling reply.now) ≡ out.old.spare }
 {
     match reply {
-        Reply::Stored => out.extend_reserved(&[1]),
-        Reply::NotStored => out.extend_reserved(&[2]),
-        Reply::Exists => out.extend_reserved(&[3]),
-        Reply::NotFound => out.extend_reserved(&[4]),
-        Reply::Deleted => out.extend_reserved(&[5]),
+        Reply::Stored => put_code(out, 1),
+        Reply::NotStored => put_code(out, 2),
+        Reply::Exists => put_code(out, 3),
+        Reply::NotFound => put_code(out, 4),
+        Reply::Deleted => put_code(out, 5),
         Reply::Number(n) => put_number(out, 6, *n),
         Reply::Value(_) => {}
-        Reply::TooLarge => out.extend_reserved(&[8]),
-        Reply::NotNumber => out.extend_reserved(&[9]),
-        Reply::Flushed => out.extend_reserved(&[10]),
+        Reply::TooLarge => put_code(out, 8),
+        Reply::NotNumber => put_code(out, 9),
+        Reply::Flushed => put_code(out, 10),
     }
 }
 
@@ -259,9 +285,9 @@ fn put_change(out: &mut BytesMut, entry: &Entry)
     ensures { out.new.items ≡ out.old.items ++ change_spelling entry.now.change }
 {
     match entry.change() {
-        Change::Keep => out.extend_reserved(&[0]),
+        Change::Keep => put_code(out, 0),
         Change::Put(item) => put_flagged(out, 1, item.flags, &item.bytes),
-        Change::Drop => out.extend_reserved(&[2]),
-        Change::Clear => out.extend_reserved(&[3]),
+        Change::Drop => put_code(out, 2),
+        Change::Clear => put_code(out, 3),
     }
 }

@@ -13,7 +13,7 @@ use std::mem;
 use table::{Call, Reply};
 
 /// Where the open call of a connection stands.
-#[derive(Debug, Drop)]
+#[derive(Drop)]
 pub enum Stage {
     /// No call is open.
     Idle,
@@ -91,14 +91,19 @@ impl Connection {
         ensures ok { OnOk result (self.new ≡ begun self.old.stage self.old) }
         ensures only_memory { IfErr result (λ fault. fault ≡ SceneFault.Memory) }
     {
-        if let Stage::Idle = self.stage {
-            self.calls.reserve(1)?;
-            if let Some(call) = next_call(&mut self.session).map_err(out_of_memory)? {
-                self.calls.push(call)?;
-                self.stage = Stage::Begun;
-            }
+        if !self.is_idle() {
+            return Ok(());
         }
-        Ok(())
+        self.calls.reserve(1)?;
+        match next_call(&mut self.session) {
+            Ok(Some(call)) => {
+                self.calls.push(call)?;
+                enter(&mut self.stage, Stage::Begun);
+                Ok(())
+            }
+            Ok(None) => Ok(()),
+            Err(fault) => Err(out_of_memory(fault)),
+        }
     }
 
     /// The server that it is at.
@@ -128,7 +133,7 @@ impl Connection {
         requires begun { self.old.stage ≡ Begun }
         ensures { self.new ≡ asked self.old }
     {
-        self.stage = Stage::Asked;
+        enter(&mut self.stage, Stage::Asked);
     }
 
     /// Whether a call waits for its work, or a reply for its hand.
@@ -142,10 +147,10 @@ impl Connection {
     pub fn replied(&mut self, reply: Reply)
         ensures { self.new ≡ replied self.old.stage reply self.old }
     {
-        if let Stage::Asked = self.stage
-            && self.may_have(&reply)
-        {
-            self.stage = Stage::Replied(reply);
+        if matches!(self.stage, Stage::Asked) && self.may_have(&reply) {
+            enter(&mut self.stage, Stage::Replied(reply));
+        } else {
+            drop(reply);
         }
     }
 
@@ -216,12 +221,35 @@ impl Connection {
     pub fn transcript(self, alloc: Global) -> Result<ConnectionTranscript, AllocError>
         ensures { IfOk result (λ t. t ≡ connection_shown self) }
     {
-        Ok(ConnectionTranscript {
-            home: self.home,
-            sent: Vec::from_slice(alloc, self.session.out())?,
-            calls: call_transcripts(alloc, self.calls, self.replies)?,
-        })
+        let Connection {
+            home,
+            session,
+            calls,
+            replies,
+            stage,
+        } = self;
+        drop(stage);
+        match Vec::from_slice(alloc, session.out()) {
+            Ok(sent) => {
+                drop(session);
+                let calls = call_transcripts(alloc, calls, replies)?;
+                Ok(ConnectionTranscript { home, calls, sent })
+            }
+            Err(fault) => {
+                drop(session);
+                drop(calls);
+                drop(replies);
+                Err(fault)
+            }
+        }
     }
+}
+
+// The next stage. The one before is dropped by a call: an assignment drops it in place, which costs a proof far more.
+fn enter(stage: &mut Stage, next: Stage)
+    ensures { stage.new ≡ next }
+{
+    drop(mem::replace(stage, next));
 }
 
 // Why a session that isn't asked while it is closed refuses.

@@ -94,7 +94,14 @@ impl Connection {
         }
         let before = self.sent().len();
         self.begin()?;
-        Ok(Deed::Began(self.to_work()?, self.sent_since(alloc, before)?))
+        let sent = self.sent_since(alloc, before)?;
+        match self.to_work() {
+            Ok(call) => Ok(Deed::Began(call, sent)),
+            Err(fault) => {
+                drop(sent);
+                Err(fault.into())
+            }
+        }
     }
 
     /// The waiting reply reaches the connection, and what that did.
@@ -257,7 +264,12 @@ impl World {
         ensures only_memory { IfErr result (λ fault. fault ≡ SceneFault.Memory) }
     {
         let (step, outputs) = self.servers.step_telling(alloc, i, input)?;
-        self.put_all(i, outputs)?;
-        Ok(Deed::Stepped(i, step))
+        match self.put_all(i, outputs) {
+            Ok(()) => Ok(Deed::Stepped(i, step)),
+            Err(fault) => {
+                drop(step);
+                Err(fault)
+            }
+        }
     }
 }

@@ -104,9 +104,11 @@ impl Row {
         ensures ok { OnOk result (self.new ≡ slice_set self.old j (slice_index_or self.old j [] ++ message ∷ [])) }
     {
         if j < self.links.len() {
-            self.links[j].push(message)?;
+            self.links[j].push(message)
+        } else {
+            drop(message);
+            Ok(())
         }
-        Ok(())
     }
 
     /// Takes the first message off the link to server j.
@@ -180,9 +182,11 @@ impl Links {
             (self.new ≡ with_messages self.old i j (messages_between self.old i j ++ message ∷ [])) }
     {
         if i < self.rows.len() {
-            self.rows[i].push(j, message)?;
+            self.rows[i].push(j, message)
+        } else {
+            drop(message);
+            Ok(())
         }
-        Ok(())
     }
 
     /// Takes the first message off the link from server i to server j.

@@ -89,8 +89,13 @@ pub fn run_failing(
     calls_follow_the_stream();
     none_forgotten();
     let mut world = Scene::new(alloc, count, homes)?.into_world();
-    let refused = world.attempt_all(alloc, events)?;
-    Ok((world.transcript(alloc)?, refused))
+    match world.attempt_all(alloc, events) {
+        Ok(refused) => Ok((world.transcript(alloc)?, refused)),
+        Err(fault) => {
+            drop(world);
+            Err(fault)
+        }
+    }
 }
 
 impl World {

@@ -13,6 +13,7 @@ use crate::deeds::ServerStep;
 use node::{Input, Node, NodeFault, Output, Standing, View};
 use std::alloc::{AllocError, Global};
 use std::marker::Model;
+use std::mem;
 use versions::Entry;
 
 /// The servers of a chain: at most 16.
@@ -85,7 +86,8 @@ impl Servers {
         match self.nodes[i].step(input) {
             Ok(outputs) => Ok(outputs),
             Err(NodeFault::Memory) => {
-                self.nodes[i] = opening_node(self.alloc, i as u8, count);
+                let opening = opening_node(self.alloc, i as u8, count);
+                drop(mem::replace(&mut self.nodes[i], opening));
                 Err(SceneFault::Memory)
             }
             Err(NodeFault::Stopped | NodeFault::BadCount) => unreachable!(),
@@ -126,18 +128,39 @@ impl Servers {
         ensures only_memory { IfErr result (λ fault. fault ≡ SceneFault.Memory) }
     {
         let before = self.standing(i);
-        let kept = copy_of_input(&input)?;
-        let (outputs, entries) = self.step_logged(i, input)?;
-        let after = self.standing(i);
-        let told = copies_of_outputs(alloc, outputs.as_slice())?;
-        let step = ServerStep {
-            input: kept,
-            before,
-            entries,
-            outputs: told,
-            after,
+        let kept = match copy_of_input(&input) {
+            Ok(kept) => kept,
+            Err(_) => {
+                drop(input);
+                return Err(SceneFault::Memory);
+            }
         };
-        Ok((step, outputs))
+        let (outputs, entries) = match self.step_logged(i, input) {
+            Ok(found) => found,
+            Err(fault) => {
+                drop(kept);
+                return Err(fault);
+            }
+        };
+        let after = self.standing(i);
+        match copies_of_outputs(alloc, outputs.as_slice()) {
+            Ok(told) => {
+                let step = ServerStep {
+                    input: kept,
+                    before,
+                    entries,
+                    outputs: told,
+                    after,
+                };
+                Ok((step, outputs))
+            }
+            Err(_) => {
+                drop(kept);
+                drop(entries);
+                drop(outputs);
+                Err(SceneFault::Memory)
+            }
+        }
     }
 
     // The same as `step`, and the entries that the server appended.

@@ -105,8 +105,13 @@ pub fn traced_run(
         return Err(SceneFault::BadHomes);
     }
     let mut world = World::new(alloc, count as u8, homes)?;
-    let deeds = all_deeds(alloc, &mut world, events)?;
-    Ok(Trace { world, deeds })
+    match all_deeds(alloc, &mut world, events) {
+        Ok(deeds) => Ok(Trace { world, deeds }),
+        Err(fault) => {
+            drop(world);
+            Err(fault)
+        }
+    }
 }
 
 // What the events do, one after another.

@@ -46,7 +46,7 @@ impl Model for ConnectionTranscript {
 }
 
 /// A begun call, with its reply or none.
-#[derive(Clone, Debug, PartialEq, Eq, Drop)]
+#[derive(Clone, PartialEq, Eq, Drop)]
 pub struct CallTranscript {
     /// The key that it is on, or all of them.
     pub target: Target,

@@ -1,16 +1,17 @@
 use Rattle.std.proofs.Common.{codes, rules}
 use Rattle.std.proofs.lemmas.Result.{IfOk-weaker}
 use Rattle.clap.specs.Words.{new_app}
-use Rattle.command_line.proofs.Parsers.{with_option}
+use Rattle.command_line.proofs.Parsers.{reads_made}
 use Rattle.command_line.specs.Options.{ReadsAs}
 use Rattle.command_line.proofs.process_words.server_parser.Goals as goal
 
 pub returns : goal.returns
 returns c =
-    let named : ReadsAs (new_app (codes "server")) c.about.result = search rules in
-    let id = with_option _ _ _ _ _ named c.id_option.ensures c.in_ok-arg.ensures in
-    let servers = with_option _ _ _ _ _ id c.servers_option.ensures c.in_ok-arg-2.ensures in
-    let port = with_option _ _ _ _ _ servers c.port_option.ensures c.in_ok-arg-3.ensures in
-    let peer_port = with_option _ _ _ _ _ port c.peer_port_option.ensures c.in_ok-listening.ensures in
-    let serving = c.in_ok-serving.ensures _ peer_port in
+    let named : ReadsAs (new_app (codes "server")) c.about-named.result = search rules in
+    let id = c.and_option-id.ensures _ _ named c.id_option.ensures in
+    let servers = c.and_option-servers.ensures _ _ id c.servers_option.ensures in
+    let port = c.and_option-port.ensures _ _ servers c.port_option.ensures in
+    let made = c.and_option-listening.ensures _ _ port c.peer_port_option.ensures in
+    let listening = reads_made _ _ _ c.in_ok-listening.was made in
+    let serving = c.in_ok-serving.ensures _ listening in
     IfOk-weaker c.with_hosts.result _ _ (λ parser adds. adds _ serving) c.with_hosts.ensures

@@ -1,8 +1,9 @@
-use Rattle.command_line.proofs.Parsers.{with_option}
+use Rattle.command_line.proofs.Parsers.{changes_any}
+use Rattle.command_line.specs.ProcessWords.{with_hosts}
 use Rattle.command_line.proofs.process_words.with_hosts.Goals as goal
 
 pub returns : goal.returns
-returns c = λ app reads.
-    let address = with_option _ _ _ _ _ reads c.address_option.ensures c.in_ok-arg.ensures in
-    let peers = with_option _ _ _ _ _ address c.peers_option.ensures c.in_ok-arg-2.ensures in
-    with_option _ _ _ _ _ peers c.chain_option.ensures c.in_ok-parser.ensures
+returns c = changes_any c.args.parser _ with_hosts (λ app reads.
+    let address = c.and_option-address.ensures _ _ reads c.address_option.ensures in
+    let peers = c.and_option-peers.ensures _ _ address c.peers_option.ensures in
+    c.and_option.ensures _ _ peers c.chain_option.ensures)

@@ -24,6 +24,6 @@ returns-clause-keys c = (first c).keys
 
 pub returns-clause-ok : goal.returns-clause-ok
 returns-clause-ok c = (
-  sym c.in_ok-copy.ensures.cases,
+  sym c.in-Ok.ensures.cases,
   (first c).first ∙ ap (λ k. k ∷ keys_in c.advance.new.self) (sym c.in-Some.ensures.bytes),
 )

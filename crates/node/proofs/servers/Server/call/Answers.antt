@@ -5,4 +5,4 @@ use Rattle.node.proofs.servers.Server.call.Goals as goal
 pub returns-then-is_update : goal.returns-then-is_update
 returns-then-is_update c =
     let is : is_update c.args.call.op ≡ true = sym c.is_update.ensures ∙ c.if-is_update.true in
-    rw is c.update.ensures
+    rw is c.update-done.ensures

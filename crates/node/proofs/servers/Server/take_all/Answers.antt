@@ -11,16 +11,16 @@ returns-in_default c =
     taken_end _ c.loop-i.self c.loop-i.i
     (no_call_at c.loop-i.self.pend c.loop-i.i (sym c.in_default.is ∙ c.in_ok-id.ensures)) c.loop-i.invariant.rest
 
-pub take_quietly-requires-clause-call : goal.take_quietly-requires-clause-call
-take_quietly-requires-clause-call c =
+pub take_quietly-taken-requires-clause-call : goal.take_quietly-taken-requires-clause-call
+take_quietly-taken-requires-clause-call c =
     let at =
     call_at_is c.loop-i.self.pend c.loop-i.i c.in-Some.id c.in-Some.call (sym c.in-Some.is ∙ c.in_ok-id.ensures) in
     let waits = waiting 0 c.loop-i.self.pend c.loop-i.self.next_id c.loop-i.i at.update _
     c.loop-i.invariant.sound.updates at.rest in
     rw at.is_call waits.0
 
-pub take_quietly-requires-clause-update : goal.take_quietly-requires-clause-update
-take_quietly-requires-clause-update c =
+pub take_quietly-taken-requires-clause-update : goal.take_quietly-taken-requires-clause-update
+take_quietly-taken-requires-clause-update c =
     let at =
     call_at_is c.loop-i.self.pend c.loop-i.i c.in-Some.id c.in-Some.call (sym c.in-Some.is ∙ c.in_ok-id.ensures) in
     let waits = waiting 0 c.loop-i.self.pend c.loop-i.self.next_id c.loop-i.i at.update _
@@ -33,11 +33,11 @@ loop-i-preserved c =
     let sound = c.loop-i.invariant.sound in
     let at = call_at_is s.pend c.loop-i.i c.in-Some.id c.in-Some.call (sym c.in-Some.is ∙ c.in_ok-id.ensures) in
     let waits = waiting 0 s.pend s.next_id c.loop-i.i at.update _ sound.updates at.rest in
-    let made : c.take_quietly-in-loop-i.new.self ≡ taken s s.id c.in-Some.id c.in-Some.call =
-    c.in_ok-take_quietly.ensures ∙ ap (λ n. taken s n c.in-Some.id c.in-Some.call)
+    let made : c.take_quietly-taken.new.self ≡ taken s s.id c.in-Some.id c.in-Some.call =
+    c.in_ok-taken.ensures ∙ ap (λ n. taken s n c.in-Some.id c.in-Some.call)
     (ap (λ (t : ServerState). t.id) c.take_quietly.view_is) in
     record {
-      rest = taken_step _ s c.take_quietly-in-loop-i.new.self c.loop-i.i c.in-Some.id c.in-Some.call at made
+      rest = taken_step _ s c.take_quietly-taken.new.self c.loop-i.i c.in-Some.id c.in-Some.call at made
           c.loop-i.invariant.rest;
       pend = ap (λ (t : ServerState). t.pend) made ∙ pend-taken s s.id c.in-Some.id c.in-Some.call
           ∙ c.loop-i.invariant.pend;

@@ -5,8 +5,8 @@ use Rattle.seats.specs.Submitters.{Submitting}
 use Rattle.seats.proofs.Pooled.{added}
 use Rattle.seats.proofs.seat_pools.SeatPool.add.Goals as goal
 
-pub invariant_of-self-2 : goal.invariant_of-self-2
-invariant_of-self-2 c =
+pub invariant_of-self : goal.invariant_of-self
+invariant_of-self c =
     let s = c.self.inside in
     let pushed = c.push_reserved.ensures.items
     ∙ ap (λ (xs : List Submitting). xs ++ c.new.result ∷ []) c.make_room.ensures.free in
@@ -17,6 +17,6 @@ invariant_of-self-2 c =
           (added s.reader c.args.self.now c.args.seat c.new.result c.new.ensures c.requires.server c.self.view_is));
       are_left = All-same (IsAt s.reader.origin) c.make_room.new.left.items s.left.items c.make_room.ensures.left
           c.self.invariant.are_left;
-      frees = omega (arith, c.in_ok-make_room.ensures.all, c.push_reserved.ensures.capacity);
-      leaves = c.in_ok-make_room.ensures.all.1;
+      frees = omega (arith, c.in-Ok.ensures.all, c.push_reserved.ensures.capacity);
+      leaves = c.in-Ok.ensures.all.1;
     }

@@ -1,5 +1,4 @@
-use Rattle.std.proofs.Common.{refl}
 use Rattle.seats.proofs.talks.Talk.send.Goals as goal
 
-pub returns-clause-went : goal.returns-clause-went
-returns-clause-went g c = (c.submit.new.self, refl)
+pub returns-in-Ok-clause-went : goal.returns-in-Ok-clause-went
+returns-in-Ok-clause-went g c = (c.submit.new.self, c.stand_at.ensures)

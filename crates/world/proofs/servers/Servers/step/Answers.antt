@@ -1,4 +1,4 @@
-use Rattle.std.proofs.Common.{arith, ap, length}
+use Rattle.std.proofs.Common.{arith, ap, length, ◌∙◌}
 use Rattle.std.proofs.lemmas.List.{length-map}
 use Rattle.node.specs.Steps.{step}
 use Rattle.world.proofs.bodies.ServerLists.{server_stepped, server_lost}
@@ -13,5 +13,6 @@ returns-in-Ok-clause-state c =
 pub returns-in-Err-Memory-clause-err : goal.returns-in-Err-Memory-clause-err
 returns-in-Err-Memory-clause-err c =
     let nodes = c.self.inside.nodes.items in
-    server_lost nodes c.args.self.now c.args.i _ c.step.new.self c.opening_node.result c.self.view_is
-    (omega (arith, simp length-map at (ap length c.self.view_is))) c.opening_node.ensures
+    server_lost nodes c.args.self.now c.args.i _ c.step.new.self c.replace.new.dest c.self.view_is
+    (omega (arith, simp length-map at (ap length c.self.view_is)))
+    (c.replace.ensures.after ∙ c.opening_node-opening.ensures)
