@@ -173,6 +173,27 @@ class Craq(Peer):
         return [self.first + place for place in range(self.servers)]
 
 
+class CraqServers(Peer):
+    """A chain of `craq server` processes: connections go to them in turn, the first to the head."""
+
+    def __init__(self, name, program, servers):
+        super().__init__(name)
+        self.program, self.servers = program, servers
+
+    def open(self, _folder):
+        self.first = free_ports(2 * self.servers)
+        numbers = ["--servers", self.servers, "--port", self.first, "--peer-port", self.first + self.servers]
+        for place in range(self.servers):
+            words = [*self.program, "server", "--id", place, *numbers, "--seats", SEATS, "--connections", 2048]
+            self.start(list(map(str, words)), stdin=subprocess.DEVNULL, stdout=subprocess.PIPE, text=True)
+        if any(process.stdout.readline() != "ready\n" for process in self.processes):
+            self.end()
+            sys.exit(f"{self.name} isn't ready")
+
+    def ports(self, _size):
+        return [self.first + place for place in range(self.servers)]
+
+
 def is_there(program):
     if shutil.which(program):
         return True
