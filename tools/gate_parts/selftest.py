@@ -1,23 +1,27 @@
 """What the gate must refuse, and what it must pass: `tools/gate --selftest`.
 
 Throw-away repositories of one small crate go through the whole gate; made-up outputs of a check go through the reading of
-a batch alone; repositories with a change are looked up in the record of edits that was made without it."""
+a batch alone; repositories with a change are looked up in the record of edits that was made without it, or of their last
+commit."""
 import concurrent.futures
 import contextlib
 import os
+import shutil
 import subprocess
 import sys
 import tempfile
 from dataclasses import dataclass
 from types import SimpleNamespace
 
+import landed
 import record
 from edits import Reading
 from kept import proved_in
 from kit import rt, rtlib
 from places import Function
 
-GATE = os.path.join(os.path.dirname(os.path.dirname(os.path.realpath(__file__))), "gate")
+HERE = os.path.dirname(os.path.realpath(__file__))
+GATE = os.path.join(os.path.dirname(HERE), "gate")
 LIB = """//! Small functions for the gate's own test.
 #![tactic(auto)]
 
@@ -305,6 +309,26 @@ def turns():
     return len(found[0]) == 1 and found[0] < {"low", "high"} and found[1:] == [set(), set()]
 
 
+def landed_with(change):
+    """Whether a commit gives the rows of its own crates, after `change` was made to the files that it was made of; None if
+    it gives none."""
+    with tempfile.TemporaryDirectory(prefix="gate-self-") as room, crates_in(room) as crates:
+        rows = {record.row_of(it) for it in crates}
+        for it in landed.SCRIPTS:
+            os.makedirs(os.path.dirname(f"{room}/{it}"), exist_ok=True)
+            shutil.copy(f"{HERE}/{os.path.basename(it)}", f"{room}/{it}")
+        for words in (["init", "-q"], ["add", "-A"], [*GIT_NAMES, "commit", "-q", "-m", "all"]):
+            subprocess.run(["git", "-C", room, *words], check=True)
+        change(room)
+        try:
+            return set(landed.rows_of(room, "HEAD")) == rows
+        except landed.OtherScripts:
+            return None
+
+
+GIT_NAMES = ["-c", "user.name=gate", "-c", "user.email=gate@localhost"]
+
+
 RECORDS = {
     "one crate is tried though it stands in the record, in turn": turns,
     "the same sources stand in it": lambda: taken_after(lambda room: None) == {"low", "high"},
@@ -317,6 +341,13 @@ RECORDS = {
     "a changed edit does not": lambda: taken_after(
         lambda room: append(f"{room}/crates/low/must-fail/adds_two.edit", "\n")
     ) == {"high"},
+    "a commit that landed gives its own rows, whatever stands beside it": lambda: landed_with(
+        lambda room: append(f"{room}/crates/low/src/lib.rt", "// more\n")
+    ),
+    "a commit that landed gives none for other scripts": lambda: landed_with(
+        lambda room: append(f"{room}/tools/gate_parts/edits.py", "# more\n")
+    )
+    is None,
     "a lost edit does not": lambda: taken_after(lambda room: os.remove(f"{room}/crates/high/must-fail/adds_two.edit")) == {"low"},
 }
 
