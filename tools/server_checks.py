@@ -77,7 +77,7 @@ def reset(connection):
 
 
 class Starting:
-    """Server 0 of so many, which has been started, and of which the test is the others. It isn't ready."""
+    """Server 0 of this many, which has been started, and of which the test is the others. It isn't ready."""
 
     def __init__(self, servers):
         self.port, self.peer_port = free_ports(servers), free_ports(servers)

@@ -37,7 +37,7 @@ class Process:
     """A run of the program, with its standard output as lines and its standard error in a file."""
 
     def __init__(self, words, files=None):
-        """With `files`, so many may be open in it at once."""
+        """With `files`, that many may be open in it at once."""
         self.words, self.unread = words, b""
         self.errors = tempfile.TemporaryFile()
 

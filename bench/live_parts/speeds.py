@@ -50,7 +50,7 @@ def quartiles(numbers):
 
 
 def measure(generator, peers, cases, rounds, seconds, limit):
-    """So many rounds; no run begins after the limit, in seconds."""
+    """This many rounds; no run begins after the limit, in seconds."""
     until, samples = time.monotonic() + limit, Samples()
     for peer in peers:
         for size in SIZES:

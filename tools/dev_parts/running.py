@@ -15,7 +15,7 @@ from lanes import Plan, in_lanes, read_costs
 
 HERE = os.path.dirname(os.path.realpath(__file__))
 COSTS = f"{tree.GATE_PARTS}/costs.txt"
-# A first proof may take so many times the limit.
+# A first proof may take this many times the limit.
 FIRST = 4
 # What a piece of work is called that went well or didn't.
 WELL = {"proof": "proved", "tests": "tests passed", "edits": "edits refused"}
@@ -36,7 +36,7 @@ class Done:
 
 
 def in_a_process(crate, kind, jobs, limit, more=()):
-    """Runs one piece of work in a process of its own, for at most so many seconds."""
+    """Runs one piece of work in a process of its own, for at most that many seconds."""
     log = f"{crate.folder}/out/dev_{kind}.log"
     os.makedirs(os.path.dirname(log), exist_ok=True)
     ours, theirs = os.pipe()

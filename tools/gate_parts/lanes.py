@@ -34,7 +34,7 @@ MARGIN = 1.15
 OF_A_LINE = 0.3
 # Shorter tasks get one process.
 SHORT = 60
-# So many changes of a plan are played.
+# How many changes of a plan are played.
 STEPS = 1500
 # The first lines of a file of costs.
 HEAD = """\
@@ -145,7 +145,7 @@ class Plan:
         self.set_wanted(best)
 
     def set_wanted(self, wanted):
-        """From now on each task gets so many processes, and its place goes by the time that they take."""
+        """From now on each task gets this many processes, and its place goes by the time that they take."""
         self.wanted, self.behind = wanted, {}
         for key in reversed(self.order):
             after = max((self.behind[it] for it in self.above[key]), default=0)
