@@ -11,10 +11,9 @@ import outputs
 import tree
 
 import kit
-from lanes import Plan, in_lanes, read_costs
+from lanes import FILE, Plan, in_lanes, read_costs
 
 HERE = os.path.dirname(os.path.realpath(__file__))
-COSTS = f"{tree.GATE_PARTS}/costs.txt"
 # A first proof may take this many times the limit.
 FIRST = 4
 # What a piece of work is called that went well or didn't.
@@ -96,7 +95,7 @@ class Work:
         number = os.environ.get("RT_JOBS", "")
         lanes = int(number) if number.isdigit() and int(number) else kit.rt.processors()
         try:
-            return in_lanes(Plan(self.tasks, read_costs(COSTS), lanes, 0.85 * kit.rt.free()), told)
+            return in_lanes(Plan(self.tasks, read_costs(FILE), lanes, 0.85 * kit.rt.free()), told)
         finally:
             for it in held:
                 os.close(it)

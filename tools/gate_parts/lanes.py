@@ -14,6 +14,7 @@ rests on the costs: a wrong figure costs time alone.
 """
 import bisect
 import heapq
+import os
 import random
 import re
 import sys
@@ -36,6 +37,8 @@ OF_A_LINE = 0.3
 SHORT = 60
 # How many changes of a plan are played.
 STEPS = 1500
+# Where the costs of this repository's crates stand.
+FILE = os.path.join(os.path.dirname(os.path.realpath(__file__)), "costs.txt")
 # The first lines of a file of costs.
 HEAD = """\
 # Of each crate: processor seconds of its proof, of its tests and of its edits (at one process), and the MB of its

@@ -3,8 +3,8 @@ which was refused.
 
 Edits test how strong contracts are. Their verdicts depend on the crate's sources, on those of the crates below it, on the
 edits, on the kit and on the gate's own scripts, and on nothing else: a sum over exactly these stands in the record. A crate
-with another sum is tried. In each run one crate that could be taken from the record is tried all the same, in turn; if one
-of its edits is not refused then, the gate fails.
+with another sum is tried. In each run one crate that could be taken from the record is tried all the same; if one of its
+edits is not refused then, the gate fails. Which one is drawn by the sums: one that costs half as much comes twice as often.
 
 A row is a crate's name, the kit, the sum, and how many edits the crate has. A run with `--costs` writes a row as soon as a
 crate's edits are tried, in place of the one that it had with this kit."""
@@ -51,12 +51,27 @@ def write(rows, file=FILE):
         it.write(HEAD + "".join(f"{new[key]}\n" for key in sorted(new)))
 
 
-def taken(crates, rows, tries_all=False):
-    """The names of those crates with edits whose row stands in the record, without the one whose turn it is."""
+def taken(crates, rows, tries_all=False, costs=None):
+    """The names of those crates with edits whose row stands in the record, without the one whose turn it is. `costs` has
+    what the work of some crates costs, by their names."""
     if tries_all:
         return set()
     able = {it.name: sum_of(it) for it in crates if rt.edits_of(it)[0] and row_of(it) in rows}
-    # the turn goes by the sums, so it changes with the sources and is the same for the same ones
-    turn = int(hashlib.sha256(repr(sorted(able.items())).encode()).hexdigest(), 16)
-    names = sorted(able)
-    return set(names) - ({names[turn % len(names)]} if names else set())
+    return set(able) - {drawn(able, costs or {})}
+
+
+# The seconds of a crate's proof and edits that were never measured.
+UNKNOWN = 300
+
+
+def drawn(sums, costs):
+    """The crate whose turn it is, of those with these sums, or None of none. It changes with the sums and is the same for
+    the same ones."""
+    seconds = {name: costs[name].proof + costs[name].edits if name in costs else UNKNOWN for name in sorted(sums)}
+    parts = {name: int(1e9 / max(1, it)) for name, it in seconds.items()}
+    place = int(hashlib.sha256(repr(sorted(sums.items())).encode()).hexdigest(), 16) % max(1, sum(parts.values()))
+    for name, part in parts.items():
+        if place < part:
+            return name
+        place -= part
+    return None

@@ -14,6 +14,7 @@ from dataclasses import dataclass
 from types import SimpleNamespace
 
 import landed
+import lanes
 import record
 from edits import Reading
 from kept import proved_in
@@ -309,6 +310,13 @@ def turns():
     return len(found[0]) == 1 and found[0] < {"low", "high"} and found[1:] == [set(), set()]
 
 
+def draws():
+    """A cheap crate is drawn far more often than a dear one, and each now and then."""
+    costs = {"cheap": lanes.Cost(proof=10), "dear": lanes.Cost(proof=190)}
+    found = [record.drawn({"cheap": number, "dear": number}, costs) for number in range(400)]
+    return 0 < found.count("dear") < 60 and found.count("dear") + found.count("cheap") == 400
+
+
 def landed_with(change):
     """Whether a commit gives the rows of its own crates, after `change` was made to the files that it was made of; None if
     it gives none."""
@@ -331,6 +339,7 @@ GIT_NAMES = ["-c", "user.name=gate", "-c", "user.email=gate@localhost"]
 
 RECORDS = {
     "one crate is tried though it stands in the record, in turn": turns,
+    "a cheap crate is drawn more often": draws,
     "the same sources stand in it": lambda: taken_after(lambda room: None) == {"low", "high"},
     "a changed source of the crate does not": lambda: taken_after(
         lambda room: append(f"{room}/crates/high/src/lib.rt", "// more\n")

@@ -2,6 +2,7 @@
 import os
 import threading
 
+import lanes
 import record
 from edits import Trial, tried_alone
 
@@ -18,7 +19,7 @@ class Tried:
 
     def look_up(self, crates):
         """Finds which crates' edits the record has."""
-        self.taken = record.taken(crates, record.read(), self.tries_all)
+        self.taken = record.taken(crates, record.read(), self.tries_all, lanes.read_costs(lanes.FILE))
 
     def of(self, crate, edits, kept):
         """Of each edit of a crate whether it is refused and what to say: over what a check of the crate kept; from nothing,
