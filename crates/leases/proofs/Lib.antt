@@ -1,4 +1,9 @@
+pub mod Bits
 pub mod Looks
 pub mod Holders
 pub mod Tellings
+pub mod Whole
+pub mod Warding
+pub mod Runs
+pub mod Served
 pub mod Late

@@ -1,15 +1,15 @@
 -- A watch tells the others by the rule.
 use Rattle.std.proofs.Common.{◌≡◌, ◌≢◌, ℕ, ◌+◌, ◌-◌, ◌*◌, ◌/◌, ◌≤◌, inl, inr, nat_le, Bool, true, false}
-use Rattle.std.proofs.Common.{List, [], ◌∷◌, Option, None, Some, if◌then◌else◌, refl, arith}
+use Rattle.std.proofs.Common.{List, [], ◌∷◌, Option, None, Some, if◌then◌else◌, refl, ap, arith}
 use Rattle.std.proofs.lemmas.Bool.{cases_Bool, leb-true}
 use Rattle.leases.specs.declared.terms.TheConstants.{GRAIN}
 use Rattle.leases.specs.declared.watches.Standing.{Standing}
-use Rattle.leases.specs.declared.watches.Standing.TheVariants.{Watched, Told, Gone}
+use Rattle.leases.specs.declared.watches.Standing.TheVariants.{Watched, Told, Over, Gone}
 use Rattle.leases.specs.declared.watches.Deed.{Deed}
-use Rattle.leases.specs.declared.watches.Deed.TheVariants.{Wait, Beat, TellServer, TellOthers}
+use Rattle.leases.specs.declared.watches.Deed.TheVariants.{Wait, Beat, TellServer, TellSilent, TellGone}
 use Rattle.leases.specs.Clocks.{IsSurelyOver, wait_for}
 use Rattle.leases.specs.Watching.{WatchState, due, done, watched_due, told_due, standing_due, is_silent, brought}
-use Rattle.leases.specs.Watching.{heard_at, happen, happens, Happening, Answers, Refuses, Asks}
+use Rattle.leases.specs.Watching.{heard_at, answered, happen, happens, Happening, Answers, Refuses, Asks, IsRefused}
 
 -- who waits so long has waited long enough
 pub over_after : (term silence : ℕ) → wait_for term ≤ silence → IsSurelyOver term silence
@@ -18,25 +18,36 @@ over_after term silence waited = tenth (term + GRAIN) silence waited
     tenth : (n m : ℕ) → n + n / 10 + 1 ≤ m → 11 * n ≤ 10 * m
     tenth n m waited = omega arith
 
--- a server that is watched isn't called gone to others
-watched_others : (w : WatchState) (whole : Bool) (silence pause : ℕ)
-    → watched_due w whole silence pause ≡ TellOthers → ⊥
-watched_others w whole silence pause =
-    elim (is_silent w.term w.after silence) as
-    (λ v. (if v then TellServer
-    else (if nat_le w.beat pause then Beat (brought whole w.stamp) else Wait (w.beat - pause))) ≡ TellOthers → ⊥) [
-      | true ↦ (λ says. let no : ⊥ = cc in no)
-      | false ↦ beats_or_waits (nat_le w.beat pause) (brought whole w.stamp) (w.beat - pause)
-    ]
-  where
-    beats_or_waits : (beats : Bool) (stamp : Option ℕ) (span : ℕ)
-        → (if beats then Beat stamp else Wait span) ≡ TellOthers → ⊥
-    beats_or_waits true stamp span says = cc
-    beats_or_waits false stamp span says = cc
+-- a deed by which others are told of nobody
+data IsQuiet : Deed → Type 0 where
+  Waits : (span : ℕ) → IsQuiet (Wait span)
+  Beats : (stamp : Option ℕ) → IsQuiet (Beat stamp)
+  TellsServer : IsQuiet TellServer
 
--- one that was told is called gone to others once it has a lease that is over
+quiet_not_silent : (deed : Deed) → IsQuiet deed → deed ≡ TellSilent → ⊥
+quiet_not_silent any (Waits span) says = cc
+quiet_not_silent any (Beats stamp) says = cc
+quiet_not_silent any TellsServer says = cc
+
+quiet_not_gone : (deed : Deed) → IsQuiet deed → deed ≡ TellGone → ⊥
+quiet_not_gone any (Waits span) says = cc
+quiet_not_gone any (Beats stamp) says = cc
+quiet_not_gone any TellsServer says = cc
+
+-- of a server that is watched others are told nothing
+watched_quiet : (w : WatchState) (whole : Bool) (silence pause : ℕ) → IsQuiet (watched_due w whole silence pause)
+watched_quiet w whole silence pause =
+    by_tests (is_silent w.term w.after silence) (nat_le w.beat pause) (brought whole w.stamp) (w.beat - pause)
+  where
+    by_tests : (silent beats : Bool) (stamp : Option ℕ) (span : ℕ)
+        → IsQuiet (if silent then TellServer else (if beats then Beat stamp else Wait span))
+    by_tests true beats stamp span = TellsServer
+    by_tests false true stamp span = Beats stamp
+    by_tests false false stamp span = Waits span
+
+-- one that was told is called silent to others once it has a lease that is over
 told_others : (term : Option ℕ) (beat silence : ℕ)
-    → told_due term beat silence ≡ TellOthers
+    → told_due term beat silence ≡ TellSilent
     → (t : ℕ) × ((term ≡ Some t) × IsSurelyOver t silence)
 told_others None beat silence says = absurd (let no : ⊥ = cc in no)
 told_others (Some t) beat silence says =
@@ -45,28 +56,89 @@ told_others (Some t) beat silence says =
       | inr early ↦ absurd (let wrong = rw early at says in let no : ⊥ = cc in no)
     ]
 
--- others are told after a refusal, or by the rule
+-- and it isn't called gone by that
+told_not_gone : (term : Option ℕ) (beat silence : ℕ) → told_due term beat silence ≡ TellGone → ⊥
+told_not_gone None beat silence says = cc
+told_not_gone (Some t) beat silence says =
+    elim (cases_Bool (nat_le (wait_for t) silence)) [
+      | inl waited ↦ (let wrong = rw waited at says in let no : ⊥ = cc in no)
+      | inr early ↦ (let wrong = rw early at says in let no : ⊥ = cc in no)
+    ]
+
+-- others are told that it was silent by the rule
 pub tells_by_rule : (w : WatchState) (whole : Bool) (now : ℕ)
-    → w.standing ≢ Gone
-    → due w whole now ≡ TellOthers
+    → w.standing ≢ Over
+    → due w whole now ≡ TellSilent
     → (t : ℕ) × ((w.term ≡ Some t) × IsSurelyOver t (now - w.heard))
 tells_by_rule w whole now = by_standing w.standing w whole now
   where
     by_standing : (standing : Standing) (w : WatchState) (whole : Bool) (now : ℕ)
-        → standing ≢ Gone
-        → standing_due standing w whole now ≡ TellOthers
+        → standing ≢ Over
+        → standing_due standing w whole now ≡ TellSilent
         → (t : ℕ) × ((w.term ≡ Some t) × IsSurelyOver t (now - w.heard))
     by_standing Watched w whole now going says =
-        absurd (watched_others w whole (now - w.heard) (now - w.sent) says)
+        absurd (quiet_not_silent (watched_due w whole (now - w.heard) (now - w.sent))
+        (watched_quiet w whole (now - w.heard) (now - w.sent)) says)
     by_standing Told w whole now going says = told_others w.term w.beat (now - w.heard) says
-    by_standing Gone w whole now going says = absurd (going refl)
+    by_standing Over w whole now going says = absurd (going refl)
+    by_standing Gone w whole now going says = absurd (let no : ⊥ = cc in no)
+
+-- others are told that it does nothing more if it is gone
+gone_if_told : (standing : Standing) (w : WatchState) (whole : Bool) (now : ℕ)
+    → standing_due standing w whole now ≡ TellGone
+    → standing ≡ Gone
+gone_if_told Watched w whole now says =
+    absurd (quiet_not_gone (watched_due w whole (now - w.heard) (now - w.sent))
+    (watched_quiet w whole (now - w.heard) (now - w.sent)) says)
+gone_if_told Told w whole now says = absurd (told_not_gone w.term w.beat (now - w.heard) says)
+gone_if_told Over w whole now says = absurd (let no : ⊥ = cc in no)
+gone_if_told Gone w whole now says = refl
+
+-- nothing but a refusal makes it gone
+going_done : (w : WatchState) (now : ℕ) (deed : Deed) → w.standing ≢ Gone → (done w now deed).standing ≢ Gone
+going_done w now (Wait span) going = going
+going_done w now (Beat stamp) going = going
+going_done w now TellServer going = λ same. let no : ⊥ = cc in no
+going_done w now TellSilent going = λ same. let no : ⊥ = cc in no
+going_done w now TellGone going = going
+
+going_answered : (standing : Standing) (w : WatchState) (stamp now : ℕ)
+    → w.standing ≢ Gone → (heard_at standing w stamp now).standing ≢ Gone
+going_answered Watched w stamp now going = going
+going_answered Told w stamp now going = going
+going_answered Over w stamp now going = going
+going_answered Gone w stamp now going = going
+
+refused_later : (x : Happening) (xs : List Happening) → IsRefused xs → IsRefused (x ∷ xs)
+refused_later x xs by = record { before = x ∷ by.before; after = by.after; came = ap (λ ys. x ∷ ys) by.came }
+
+gone_by_refusal : (xs : List Happening) (w : WatchState)
+    → w.standing ≢ Gone
+    → (happens w xs).standing ≡ Gone
+    → IsRefused xs
+gone_by_refusal [] w going is = absurd (going is)
+gone_by_refusal (Answers stamp now ∷ xs) w going is =
+    refused_later (Answers stamp now) xs
+    (gone_by_refusal xs (answered w stamp now) (going_answered w.standing w stamp now going) is)
+gone_by_refusal (Refuses ∷ xs) w going is = record { before = []; after = xs; came = refl }
+gone_by_refusal (Asks whole now ∷ xs) w going is =
+    refused_later (Asks whole now) xs
+    (gone_by_refusal xs (done w now (due w whole now)) (going_done w now (due w whole now) going) is)
+
+pub tells_after_refusal : (w : WatchState) (xs : List Happening) (whole : Bool) (now : ℕ)
+    → w.standing ≢ Gone
+    → due (happens w xs) whole now ≡ TellGone
+    → IsRefused xs
+tells_after_refusal w xs whole now going says =
+    gone_by_refusal xs w going (gone_if_told (happens w xs).standing (happens w xs) whole now says)
 
 -- what was heard later isn't before what was heard
 heard-done : (w : WatchState) (now : ℕ) (deed : Deed) → (done w now deed).heard ≡ w.heard
 heard-done w now (Wait span) = refl
 heard-done w now (Beat stamp) = refl
 heard-done w now TellServer = refl
-heard-done w now TellOthers = refl
+heard-done w now TellSilent = refl
+heard-done w now TellGone = refl
 
 heard_grows : (w : WatchState) (x : Happening) → w.heard ≤ (happen w x).heard
 heard_grows w (Answers stamp now) = by_standing w.standing w stamp now
@@ -75,6 +147,7 @@ heard_grows w (Answers stamp now) = by_standing w.standing w stamp now
         → w.heard ≤ (heard_at standing w stamp now).heard
     by_standing Watched w stamp now = omega arith
     by_standing Told w stamp now = omega arith
+    by_standing Over w stamp now = omega arith
     by_standing Gone w stamp now = omega arith
 heard_grows w Refuses = omega arith
 heard_grows w (Asks whole now) =
@@ -92,7 +165,8 @@ stays_done : (w : WatchState) (now : ℕ) (deed : Deed) → w.standing ≢ Watch
 stays_done w now (Wait span) left = left
 stays_done w now (Beat stamp) left = left
 stays_done w now TellServer left = λ same. let no : ⊥ = cc in no
-stays_done w now TellOthers left = λ same. let no : ⊥ = cc in no
+stays_done w now TellSilent left = λ same. let no : ⊥ = cc in no
+stays_done w now TellGone left = left
 
 stays_once : (w : WatchState) (x : Happening) → w.standing ≢ Watched → (happen w x).standing ≢ Watched
 stays_once w (Answers stamp now) left = by_standing w.standing w stamp now left
@@ -101,6 +175,7 @@ stays_once w (Answers stamp now) left = by_standing w.standing w stamp now left
         → w.standing ≢ Watched → (heard_at standing w stamp now).standing ≢ Watched
     by_standing Watched w stamp now left = left
     by_standing Told w stamp now left = left
+    by_standing Over w stamp now left = left
     by_standing Gone w stamp now left = left
 stays_once w Refuses left = λ same. let no : ⊥ = cc in no
 stays_once w (Asks whole now) left = stays_done w now (due w whole now) left
@@ -125,6 +200,7 @@ no_beat Told w whole now stamp left says = no_beat_told w.term w.beat (now - w.h
           | inl waited ↦ (let wrong = rw waited at says in let no : ⊥ = cc in no)
           | inr early ↦ (let wrong = rw early at says in let no : ⊥ = cc in no)
         ]
+no_beat Over w whole now stamp left says = cc
 no_beat Gone w whole now stamp left says = cc
 
 pub no_beat_later : (w : WatchState) (xs : List Happening) (whole : Bool) (now : ℕ) (stamp : Option ℕ)
@@ -160,4 +236,5 @@ brings_last w whole now stamp = by_standing w.standing w whole now stamp
         (w.beat - (now - w.sent)) says
     by_standing Told w whole now stamp says =
         absurd (no_beat Told w whole now (Some stamp) (λ same. let no : ⊥ = cc in no) says)
+    by_standing Over w whole now stamp says = absurd (let no : ⊥ = cc in no)
     by_standing Gone w whole now stamp says = absurd (let no : ⊥ = cc in no)

@@ -1,6 +1,12 @@
--- The server's side: which reign it is in, and until when its lease runs.
+-- The server's side: which reign it is in, until when its lease runs, and what it does with what masters send.
 use Rattle.std.specs.Prelude.{◌≡◌, ℕ, ◌+◌, ◌-◌, ◌^◌, ◌≤◌, ◌<◌, max, min, bit_or, Bool, true, ◌&&◌, nat_eq, nat_le}
 use Rattle.std.specs.Prelude.{nat_lt, List, [], ◌∷◌, ◌++◌, Option, None, Some, if◌then◌else◌}
+use Rattle.leases.specs.declared.orders.Order.{Order}
+use Rattle.leases.specs.declared.orders.Order.TheVariants.{Reign, Beat, Silent, Gone}
+use Rattle.leases.specs.declared.orders.Report.{Report}
+use Rattle.leases.specs.declared.orders.Answer.{Answer}
+use Rattle.leases.specs.declared.orders.Answer.TheVariants.{Tells, Notes}
+use Rattle.leases.specs.Sets.{has}
 
 -- What a server knows of its lease. Times are what its clock shows.
 pub record LeaseState : Type 0 where
@@ -8,7 +14,7 @@ pub record LeaseState : Type 0 where
   pub term : Option ℕ
   -- the reign that it is in; 0 before the first
   pub reign : ℕ
-  -- when the lease ends
+  -- when the lease ends; without a term, the latest stamp that a beat brought back
   pub end : ℕ
   -- the servers that it knew to be gone while it held, server i being the bit of value 2^i
   pub known : ℕ
@@ -34,42 +40,96 @@ learned lease gone now = if holds lease now then record lease { known = bit_or l
 abbrev pub entered : LeaseState → ℕ → LeaseState
 entered lease reign = record lease { reign = max lease.reign reign }
 
--- it runs its term from a stamp on, if that is longer; a clock shows numbers below 2^64
-abbrev pub prolonged : LeaseState → Option ℕ → ℕ → LeaseState
-prolonged lease None stamp = lease
-prolonged lease (Some term) stamp = record lease { end = max lease.end (min (stamp + term) (2 ^ 64 - 1)) }
+-- when a lease ends that runs from this stamp on; a clock shows numbers below 2^64
+abbrev pub end_from : Option ℕ → ℕ → ℕ
+end_from None stamp = stamp
+end_from (Some term) stamp = min (stamp + term) (2 ^ 64 - 1)
+
+-- it runs its term from a stamp on, if that is longer
+abbrev pub prolonged : LeaseState → ℕ → LeaseState
+prolonged lease stamp = record lease { end = max lease.end (end_from lease.term stamp) }
 
 -- a beat is taken if it is of the server's reign, and its stamp is no later than what the clock shows
 abbrev pub beaten : LeaseState → ℕ → ℕ → ℕ → LeaseState
 beaten lease reign stamp now =
-    if nat_eq reign lease.reign && nat_le stamp now then prolonged lease lease.term stamp else lease
+    if nat_eq reign lease.reign && nat_le stamp now then prolonged lease stamp else lease
 
--- What comes to a server from masters.
-pub data Coming : Type 0 where
-  -- a master of this reign greets
-  Greets : ℕ → Coming
-  -- a beat of this reign, with this stamp, while the clock shows this
-  Beats : ℕ → ℕ → ℕ → Coming
+-- a beat without a stamp prolongs nothing
+abbrev pub beaten_by : LeaseState → ℕ → Option ℕ → ℕ → LeaseState
+beaten_by lease reign None now = lease
+beaten_by lease reign (Some stamp) now = beaten lease reign stamp now
+
+-- what an order does to reign and end
+abbrev pub obeyed : LeaseState → Order → ℕ → LeaseState
+obeyed lease (Reign reign) now = entered lease reign
+obeyed lease (Beat reign stamp) now = beaten_by lease reign stamp now
+obeyed lease (Silent reign id) now = lease
+obeyed lease (Gone id) now = lease
+
+-- what an order does, while the server knows these to be gone
+abbrev pub heeded : LeaseState → Order → ℕ → ℕ → LeaseState
+heeded lease order gone now = learned (obeyed lease order now) gone now
+
+-- the server of which an order tells, if this is a notice to be taken: one of silence must be of the server's own reign
+abbrev pub noticed : LeaseState → Order → Option ℕ
+noticed lease (Reign reign) = None
+noticed lease (Beat reign stamp) = None
+noticed lease (Silent reign id) = if nat_eq reign lease.reign then Some id else None
+noticed lease (Gone id) = Some id
+
+-- how the server is
+abbrev pub report_of : LeaseState → ℕ → ℕ → Report
+report_of lease gone now = record {
+  reign = lease.reign;
+  stamp = now;
+  end = lease.end;
+  term = lease.term;
+  gone = gone;
+  known = lease.known;
+}
+
+abbrev pub answer_with : Option ℕ → Report → Answer
+answer_with None report = Tells report
+answer_with (Some id) report = Notes id
+
+-- a notice is noted; else the server tells how it is then
+abbrev pub answer_to : LeaseState → Order → ℕ → ℕ → Answer
+answer_to lease order gone now = answer_with (noticed lease order) (report_of (heeded lease order gone now) gone now)
+
+-- What a server hears: an order, while it knows these to be gone and the clock shows this.
+pub data Hearing : Type 0 where
+  Hears : Order → ℕ → ℕ → Hearing
 
 -- what one of them does
-abbrev pub come : LeaseState → Coming → LeaseState
-come lease (Greets reign) = entered lease reign
-come lease (Beats reign stamp now) = beaten lease reign stamp now
+abbrev pub hear : LeaseState → Hearing → LeaseState
+hear lease (Hears order gone now) = heeded lease order gone now
 
 -- what all of them do, in order
-abbrev pub comes : LeaseState → List Coming → LeaseState
-comes lease [] = lease
-comes lease (x ∷ xs) = comes (come lease x) xs
+abbrev pub hears : LeaseState → List Hearing → LeaseState
+hears lease [] = lease
+hears lease (x ∷ xs) = hears (hear lease x) xs
 
--- A beat by which the lease holds: it is one of those that came, of the reign that the server was in, with a stamp that
--- the clock had shown, and less than the term has passed since.
-pub record IsHeldBy (lease : LeaseState) (term : ℕ) (comings : List Coming) (now : ℕ) : Type 0 where
-  pub before : List Coming
-  pub after : List Coming
+-- A beat by which the lease holds: it is one of those that were heard, of the reign that the server was in, with a
+-- stamp that the clock had shown, and less than the term has passed since.
+pub record IsHeldBy (lease : LeaseState) (term : ℕ) (hearings : List Hearing) (now : ℕ) : Type 0 where
+  pub before : List Hearing
+  pub after : List Hearing
   pub reign : ℕ
   pub stamp : ℕ
+  pub gone : ℕ
   pub read : ℕ
-  pub came : comings ≡ before ++ Beats reign stamp read ∷ after
-  pub own : (comes lease before).reign ≡ reign
+  pub came : hearings ≡ before ++ Hears (Beat reign (Some stamp)) gone read ∷ after
+  pub own : (hears lease before).reign ≡ reign
   pub shown : stamp ≤ read
   pub held : now < stamp + term
+
+-- When a server learned that another is gone: it knew that as it heard an order, and then its lease held.
+pub record IsLearnedBy (lease : LeaseState) (hearings : List Hearing) (id : ℕ) : Type 0 where
+  pub before : List Hearing
+  pub after : List Hearing
+  pub order : Order
+  pub gone : ℕ
+  pub read : ℕ
+  pub came : hearings ≡ before ++ Hears order gone read ∷ after
+  pub named : has gone id ≡ true
+  pub held : holds (obeyed (hears lease before) order read) read ≡ true

@@ -1,5 +1,12 @@
 pub mod Clocks
 pub mod Leases
+pub mod Sets
 pub mod Holding
 pub mod Watching
+pub mod Rolls
+pub mod Wards
+pub mod Claims
+pub mod Runs
+pub mod Serving
+pub mod Shared
 pub mod WrongRules

@@ -1,10 +1,10 @@
 -- The master's side: what it knows of one server, and what is due.
-use Rattle.std.specs.Prelude.{ℕ, ◌-◌, max, nat_le, Bool, true, false, List, [], ◌∷◌}
+use Rattle.std.specs.Prelude.{◌≡◌, ℕ, ◌-◌, max, nat_le, Bool, true, false, List, [], ◌∷◌, ◌++◌}
 use Rattle.std.specs.Prelude.{Option, None, Some, if◌then◌else◌}
 use Rattle.leases.specs.declared.watches.Standing.{Standing}
-use Rattle.leases.specs.declared.watches.Standing.TheVariants.{Watched, Told, Gone}
+use Rattle.leases.specs.declared.watches.Standing.TheVariants.{Watched, Told, Over, Gone}
 use Rattle.leases.specs.declared.watches.Deed.{Deed}
-use Rattle.leases.specs.declared.watches.Deed.TheVariants.{Wait, Beat, TellServer, TellOthers}
+use Rattle.leases.specs.declared.watches.Deed.TheVariants.{Wait, Beat, TellServer, TellSilent, TellGone}
 use Rattle.leases.specs.Clocks.{wait_for}
 
 -- What a master knows of a server that is in its reign. Times are what the master's clock shows.
@@ -22,6 +22,37 @@ pub record WatchState : Type 0 where
   -- when the last beat was sent
   pub sent : ℕ
   pub standing : Standing
+
+-- the server has entered the reign, and answered that with this stamp
+abbrev pub begun_watch : Option ℕ → ℕ → ℕ → ℕ → ℕ → WatchState
+begun_watch term beat after stamp now = record {
+  term = term;
+  beat = beat;
+  after = after;
+  heard = now;
+  stamp = stamp;
+  sent = now;
+  standing = Watched;
+}
+
+-- the server isn't in the reign: a beat is due each time that so much has passed, and nothing else
+abbrev pub idle_watch : ℕ → ℕ → WatchState
+idle_watch beat after = record {
+  term = None;
+  beat = beat;
+  after = after;
+  heard = 0;
+  stamp = 0;
+  sent = 0;
+  standing = Watched;
+}
+
+-- it does nothing more
+abbrev pub is_gone : Standing → Bool
+is_gone Watched = false
+is_gone Told = false
+is_gone Over = false
+is_gone Gone = true
 
 -- it wasn't heard for too long; without a lease that says nothing
 abbrev pub is_silent : Option ℕ → ℕ → ℕ → Bool
@@ -43,12 +74,13 @@ watched_due w whole silence pause =
 abbrev pub told_due : Option ℕ → ℕ → ℕ → Deed
 told_due None beat silence = Wait beat
 told_due (Some term) beat silence =
-    if nat_le (wait_for term) silence then TellOthers else Wait (wait_for term - silence)
+    if nat_le (wait_for term) silence then TellSilent else Wait (wait_for term - silence)
 
 abbrev pub standing_due : Standing → WatchState → Bool → ℕ → Deed
 standing_due Watched w whole now = watched_due w whole (now - w.heard) (now - w.sent)
 standing_due Told w whole now = told_due w.term w.beat (now - w.heard)
-standing_due Gone w whole now = TellOthers
+standing_due Over w whole now = TellSilent
+standing_due Gone w whole now = TellGone
 
 -- what is due when the master's clock shows this
 abbrev pub due : WatchState → Bool → ℕ → Deed
@@ -59,12 +91,14 @@ abbrev pub done : WatchState → ℕ → Deed → WatchState
 done w now (Wait span) = w
 done w now (Beat stamp) = record w { sent = now }
 done w now TellServer = record w { standing = Told }
-done w now TellOthers = record w { standing = Gone }
+done w now TellSilent = record w { standing = Over }
+done w now TellGone = w
 
 -- an answer counts as long as the server is watched
 abbrev pub heard_at : Standing → WatchState → ℕ → ℕ → WatchState
 heard_at Watched w stamp now = record w { heard = max w.heard now; stamp = stamp }
 heard_at Told w stamp now = w
+heard_at Over w stamp now = w
 heard_at Gone w stamp now = w
 
 abbrev pub answered : WatchState → ℕ → ℕ → WatchState
@@ -89,3 +123,9 @@ happen w (Asks whole now) = done w now (due w whole now)
 abbrev pub happens : WatchState → List Happening → WatchState
 happens w [] = w
 happens w (x ∷ xs) = happens (happen w x) xs
+
+-- A refusal that was told.
+pub record IsRefused (happenings : List Happening) : Type 0 where
+  pub before : List Happening
+  pub after : List Happening
+  pub came : happenings ≡ before ++ Refuses ∷ after

@@ -1,7 +1,9 @@
-//! The server's side: a lease, and the reign whose beats prolong it.
+//! The server's side: a lease, the reign whose beats prolong it, and what masters are answered.
 ghost use Rattle.std.specs.Prelude.{◌≡◌, ◌≤◌, ◌↔◌, IsTrue};
-ghost use Rattle.leases.specs.Holding.{unheld, holds, learned, entered, beaten};
+ghost use Rattle.leases.specs.Holding.{unheld, holds, learned, entered, beaten, end_from, obeyed, noticed, heeded};
+ghost use Rattle.leases.specs.Holding.{report_of, answer_to};
 
+use crate::orders::{Answer, Order, Report};
 use crate::terms::Term;
 use std::marker::Model;
 
@@ -23,7 +25,8 @@ impl Model for Lease {
 }
 
 impl Lease {
-    /// The lease of a server that has just started: it holds from the first beat on. Without a term it always holds.
+    /// The lease of a server that has just started: it holds from the first beat on that brings back a stamp. Without a
+    /// term it always holds.
     pub fn new(term: Option<Term>) -> Lease
         ensures { result ≡ unheld term }
     {
@@ -32,6 +35,66 @@ impl Lease {
             reign: 0,
             end: 0,
             known: 0,
+        }
+    }
+
+    /// What the server does with an order and answers to it, if it knows these servers to be gone, server i being the
+    /// bit of value 2^i, and then the clock showed `now`. Who calls takes a notice (`Answer::Notes`) before the next
+    /// order is heard, so that no answer hides what the server was told.
+    pub fn hear(&mut self, order: Order, gone: u16, now: u64) -> Answer
+        ensures state { self.new ≡ heeded self.old order gone now }
+        ensures answer { result ≡ answer_to self.old order gone now }
+    {
+        let noticed = self.noticed(order);
+        self.obey(order, now);
+        self.learn(gone, now);
+        match noticed {
+            None => Answer::Tells(self.report(gone, now)),
+            Some(id) => Answer::Notes(id),
+        }
+    }
+
+    // Enters a reign, or takes a beat.
+    fn obey(&mut self, order: Order, now: u64)
+        ensures { self.new ≡ obeyed self.old order now }
+    {
+        match order {
+            Order::Reign(reign) => {
+                self.enter(reign);
+            }
+            Order::Beat(reign, stamp) => {
+                if let Some(stamp) = stamp {
+                    self.beat(reign, stamp, now);
+                }
+            }
+            Order::Silent(_, _) => {}
+            Order::Gone(_) => {}
+        }
+    }
+
+    // The server of which an order tells, if this is a notice to be taken.
+    fn noticed(&self, order: Order) -> Option<u8>
+        ensures { result ≡ noticed self.now order }
+    {
+        match order {
+            Order::Reign(_) => None,
+            Order::Beat(_, _) => None,
+            Order::Silent(reign, id) => { if reign == self.reign { Some(id) } else { None } }
+            Order::Gone(id) => Some(id),
+        }
+    }
+
+    /// How the server is that knows these to be gone, when its clock shows `now`.
+    pub fn report(&self, gone: u16, now: u64) -> Report
+        ensures { result ≡ report_of self.now gone now }
+    {
+        Report {
+            reign: self.reign,
+            stamp: now,
+            end: self.end,
+            term: self.term,
+            gone,
+            known: self.known,
         }
     }
 
@@ -63,14 +126,20 @@ impl Lease {
         ensures { self.new ≡ beaten self.old reign stamp now }
     {
         if reign == self.reign && stamp <= now {
-            if let Some(term) = self.term {
-                self.end = self.end.max(stamp.saturating_add(term.nanoseconds()));
-            }
+            self.end = self.end.max(end_from(self.term, stamp));
         }
     }
 
+    /// When it ends. Others may ask for that by a `SharedLease`.
+    pub fn end(&self) -> u64
+        ensures { result ≡ self.now.end }
+    {
+        self.end
+    }
+
     /// Whether it holds. The clock is read after a look and before its reply is written, or after a reply or a message
-    /// was made up and before it is put out; if the answer is no, the reply or the message is dropped.
+    /// was made up and before it is put out. If the answer is no, nothing is put out: it may wait until the lease holds
+    /// again, by a later reading.
     pub fn is_held(&self, now: u64) -> bool
         ensures { result ≡ holds self.now now }
     {
@@ -95,5 +164,15 @@ impl Lease {
         ensures { result ≡ self.now.known }
     {
         self.known
+    }
+}
+
+// When a lease ends that runs from this stamp on.
+fn end_from(term: Option<Term>, stamp: u64) -> u64
+    ensures { result ≡ end_from term stamp }
+{
+    match term {
+        None => stamp,
+        Some(term) => stamp.saturating_add(term.nanoseconds()),
     }
 }

@@ -16,41 +16,104 @@
 //!   steps. It sends no beat any more once it has told the server; then it tells the others.
 //! - **The look.** A server reads its clock after a look, and answers if the lease holds by that reading. It may be
 //!   stopped before, between or after: if it answers, the look was taken in time. When the bytes of the answer are
-//!   written doesn't matter. For a reply or a message the clock is read when it is made up, before it is put out.
+//!   written doesn't matter. For a reply or a message the clock is read when it was made up, before it is put out. What
+//!   isn't put out may wait, and be put out by a later reading by which the lease holds again.
 //! - **Reigns.** Several masters may watch, so each has a reign: a number that no other master has (`next_reign`). A
 //!   server enters a reign that isn't below its own, and answers who is gone as far as it knows. From then on it takes
 //!   beats of this reign alone, and so it does with notices that another server was silent. A beat may bring back a
 //!   stamp only once the reign is whole for that server: each other server has entered it and doesn't know that this
-//!   one is gone, or this one knew it to be gone while its own lease held (`Lease::known`). So a master that another
-//!   one has followed tells nobody who is in the later reign, and a master that follows holds up nobody of whom others
-//!   were told. A server that enters a later reign keeps the lease that it has, so there need be no gap.
+//!   one is gone, or this one knew it to be gone while its own lease held (`Roll`). So a master that another one has
+//!   followed tells nobody who is in the later reign, and a master that follows holds up nobody of whom others were
+//!   told. A server that enters a later reign keeps the lease that it has, so there need be no gap.
 //! - **A process that is gone.** If a host refuses a new connection at once, then nothing listens there any more: the
 //!   process has ended, and no lease has to run out.
 //!
-//! So the server's `Lease` and a master's `Watch` over it are machines that read no clock and send nothing; times are
-//! nanoseconds since a start, as each one's own clock shows them. The law `looks_before_tellings` is about instants, on
-//! both clocks; `leases_are_held_by_beats` and `tellings_are_by_rule` say that the machines do what it asks of servers
-//! and masters.
+//! So there are machines that read no clock and send nothing; times are nanoseconds since a start, as each one's own
+//! clock shows them (`nanoseconds_of`). A server has a `Lease`, under a lock; its other threads ask a `SharedLease`. A
+//! master has a `Claim` to a reign, and for each server a `Ward`: a `Watch` and a `Roll` in that reign.
+//!
+//! **What a server does** is `Lease::hear`:
+//!
+//! - A greeting, `Order::Reign`: it enters the reign, unless it is in a later one, and tells how it is.
+//! - A beat of its own reign that brings back a stamp: its lease runs its term from the stamp on, if that is longer. It
+//!   tells how it is; so it does after any other beat, which changes nothing.
+//! - A notice `Silent` of its own reign: it takes the notice, and says that it has noted it. If it was silent itself,
+//!   it ends. One of another reign changes nothing: it tells how it is, and so the master sees that it was followed.
+//! - A notice `Gone`: it takes the notice, whatever reign it is in, since somebody has seen to it.
+//! - Its lease runs out: it puts nothing out, and goes on otherwise. A beat after that is as any other: if the stamp
+//!   that it brings back isn't older than the term, the lease holds again.
+//!
+//! **What a master does**, while its caller moves the bytes and reads the clock:
+//!
+//! - It starts: each server is greeted with reign 0, which changes nothing there, and tells how it is.
+//! - A server told how it is: `Claim::informed`, and `Ward::hear` of each ward. So a server that enters the reign is
+//!   watched from then on, the others' rolls know that it has entered, and who is named as gone gets no beat any more.
+//! - `Claim::is_due`: the master takes a reign (`Claim::claim`), and each ward begins anew in it (`Ward::begin`), with
+//!   greetings.
+//! - A server told of a later reign, so that the master isn't reigning any more: each ward begins anew in reign 0. It
+//!   sends greetings of reign 0, calls nobody silent, and takes a new reign once it saw no lease prolonged for
+//!   `--after`.
+//! - A beat's time: `Ward::next` says what is sent. A beat brings back a stamp only if the reign is whole for its
+//!   server.
+//! - Silence for `--after`: `Ward::next` has the server told, and the others once its lease is surely over.
+//! - A refused connection, or a person's word: `Ward::lose`. Then `Ward::next` has the others told that it is gone.
+//!
+//! Two masters never take one reign, if their names differ. The one that started last reigns, if it has met each server
+//! that isn't gone; the others stand by.
+//!
+//! **Odd numbers.**
+//!
+//! - A term is 1 to 3,600 seconds: `Term::of_seconds(0)` is none. Sums are at most 2^64 - 1, which a clock shows after
+//!   584 years; from then on no lease holds. Nothing wraps.
+//! - A server that has just started holds no lease, and puts nothing out, until the first beat that brings back a
+//!   stamp: a pause after the reign is whole, at most.
+//! - A term that isn't longer than two pauses ends between two beats (`Paces::keep_up`): the server serves by fits.
+//! - A server's clock that can't be read shows no number: nothing is put out. A master's: nothing happens.
+//! - If the master's clock stands still, it sends no beats and calls nobody silent, so leases run out. If a server's
+//!   stands still its lease never ends, and the premise is broken: it may show what is old.
+//! - A lease without a term never ends: silence says nothing of that server, which is called gone after a refusal or by
+//!   a person alone.
+//! - If the reigning master fails together with a server, and no lease holds any more when somebody says that this
+//!   server is gone, then no reign is whole ever again: nobody can know whether those two went on alone, and told each
+//!   other that the rest is gone. So a chain's masters are best on machines without a server.
+//!
+//! The law `looks_before_tellings` is about instants, on both clocks. The other laws say that the machines do what it
+//! asks of servers and masters: `leases_are_held_by_beats` of looks and beats, `tellings_are_by_rule` of notices,
+//! `wards_beat_in_whole_reigns` of when a beat may bring back a stamp. `machines_look_before_tellings` is the law for
+//! the machines as they are.
 //!
 //! **Trusted**: that clocks never go back, and that the master's is at most a tenth faster than a server's, both also
 //! while a machine sleeps or is moved (so a clock that counts these times too); that a process reads and writes when it
 //! says so; and, of a refused connection, that the port is the server's and no other machine answers for it.
 #![tactic(auto)]
 
+mod claims;
 mod laws;
 mod leases;
+mod orders;
 mod paces;
+mod readings;
 mod reigns;
+mod rolls;
+mod shared_leases;
 mod terms;
 #[cfg(test)]
 mod tests;
+mod wards;
 mod watches;
 
+pub use claims::Claim;
 pub use laws::{
-    each_rule_is_needed, leases_are_held_by_beats, looks_before_tellings, tellings_are_by_rule,
+    each_rule_is_needed, leases_are_held_by_beats, looks_before_tellings,
+    machines_look_before_tellings, tellings_are_by_rule, wards_beat_in_whole_reigns,
 };
 pub use leases::Lease;
+pub use orders::{Answer, Order, Report};
 pub use paces::{AFTER, BEAT, MILLISECOND, Paces, SLOWEST};
+pub use readings::nanoseconds_of;
 pub use reigns::next_reign;
+pub use rolls::Roll;
+pub use shared_leases::{AnyEnd, SharedLease};
 pub use terms::{GRAIN, LONGEST, SECOND, Term};
+pub use wards::{Due, Ward};
 pub use watches::{Deed, Standing, Watch};

@@ -1,5 +1,7 @@
 //! How often a master sends beats, and for how long a server may be silent.
-ghost use Rattle.std.specs.Prelude.{◌≡◌, ◌≤◌, ◌<◌, ◌*◌, ◌↔◌, IsSome, IfSome};
+ghost use Rattle.std.specs.Prelude.{◌≡◌, ◌≤◌, ◌<◌, ◌*◌, ◌↔◌, IsSome, IfSome, IsTrue};
+
+use crate::terms::Term;
 
 /// How many nanoseconds a millisecond has.
 pub const MILLISECOND: u64 = 1_000_000;
@@ -50,5 +52,14 @@ impl Paces {
             beat: BEAT * MILLISECOND,
             after: AFTER * MILLISECOND,
         }
+    }
+
+    /// Whether a lease of this term can be kept up by such beats: it is longer than two pauses. A shorter one ends
+    /// again and again between two beats, however fast the way is; the server serves by fits then, and nothing worse
+    /// comes of it. That the term is longer by the way there and back as well isn't tested here.
+    pub fn keep_up(self, term: Term) -> bool
+        ensures { IsTrue result ↔ (2 * self.beat < term) }
+    {
+        self.beat.saturating_mul(2) < term.nanoseconds()
     }
 }

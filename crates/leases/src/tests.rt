@@ -1,9 +1,20 @@
 //! A lease of two seconds, and a watch over it.
 
-use crate::{Deed, Lease, Paces, SECOND, Term, Watch, next_reign};
+use crate::{
+    Answer, AnyEnd, Claim, Deed, Due, Lease, Order, Paces, Report, Roll, SECOND, SharedLease, Term,
+    Ward, Watch, nanoseconds_of, next_reign,
+};
+use std::time::Duration;
 
 fn two_seconds() -> Option<Term> {
     Term::of_seconds(2)
+}
+
+fn is_kept_up(term: Option<Term>) -> bool {
+    match term {
+        Some(term) => Paces::usual().keep_up(term),
+        None => true,
+    }
 }
 
 // A lease to which a beat of reign 7 came.
@@ -47,6 +58,7 @@ fn terms_are_from_one_second_to_an_hour(rt: HostRuntime) {
 fn paces_are_in_order(rt: HostRuntime) {
     assert!(rt; Paces::of_milliseconds(300, 300).is_none());
     assert!(rt; Paces::of_milliseconds(300, 3_000) == Some(Paces::usual()));
+    assert!(rt; is_kept_up(two_seconds()));
 }
 
 #[test]
@@ -75,8 +87,104 @@ fn a_watch_beats_and_then_tells(rt: HostRuntime) {
     assert!(rt; first_due(1_300_000_000) == Deed::Beat(Some(5)));
     assert!(rt; first_due(4_000_000_000) == Deed::TellServer);
     assert!(rt; due_later(3_211_000_000) == Deed::Wait(1));
-    assert!(rt; due_later(3_211_000_001) == Deed::TellOthers);
-    assert!(rt; due_after_refusal() == Deed::TellOthers);
+    assert!(rt; due_later(3_211_000_001) == Deed::TellSilent);
+    assert!(rt; due_after_refusal() == Deed::TellGone);
+}
+
+// The reign that a server tells after an order, and whether its lease holds then. It is in reign 7, and was prolonged
+// at 1 s.
+fn told_after(order: Order, now: u64) -> Option<(u64, bool)> {
+    let mut lease = beaten(SECOND, SECOND);
+    match lease.hear(order, 0, now) {
+        Answer::Tells(report) => Some((report.reign, now < report.end)),
+        Answer::Notes(_) => None,
+    }
+}
+
+// The server of which a notice is taken in reign 7.
+fn noted_after(order: Order) -> Option<u8> {
+    let mut lease = beaten(SECOND, SECOND);
+    match lease.hear(order, 0, SECOND) {
+        Answer::Tells(_) => None,
+        Answer::Notes(id) => Some(id),
+    }
+}
+
+#[test]
+fn a_server_hears_orders(rt: HostRuntime) {
+    assert!(rt; told_after(Order::Reign(6), SECOND) == Some((7, true)));
+    assert!(rt; told_after(Order::Reign(8), SECOND) == Some((8, true)));
+    assert!(rt; told_after(Order::Beat(7, None), 3 * SECOND) == Some((7, false)));
+    assert!(rt; told_after(Order::Beat(7, Some(2 * SECOND)), 3 * SECOND) == Some((7, true)));
+    assert!(rt; told_after(Order::Beat(6, Some(2 * SECOND)), 3 * SECOND) == Some((7, false)));
+    assert!(rt; noted_after(Order::Silent(7, 2)) == Some(2));
+    assert!(rt; noted_after(Order::Silent(6, 2)).is_none());
+    assert!(rt; noted_after(Order::Gone(2)) == Some(2));
+}
+
+// The other threads of the server of this lease.
+fn shared(term: Option<Term>, lease: &Lease) -> SharedLease<AnyEnd> {
+    let shared = SharedLease::new(term);
+    shared.renew(lease);
+    shared
+}
+
+#[test]
+fn other_threads_ask(rt: HostRuntime) {
+    let timed = shared(two_seconds(), &beaten(SECOND, SECOND));
+    assert!(rt; timed.is_timed());
+    assert!(rt; timed.is_held(2_999_999_999));
+    assert!(rt; !timed.is_held(3 * SECOND));
+    let untimed = shared(None, &Lease::new(None));
+    assert!(rt; !untimed.is_timed());
+    assert!(rt; untimed.is_held(u64::MAX));
+    assert!(rt; nanoseconds_of(Duration::from_millis(1_500)) == 1_500_000_000);
+    assert!(rt; nanoseconds_of(Duration::MAX) == u64::MAX);
+}
+
+// Whether a reign is whole for server 1 of three, if server 0 entered it and knew these to be gone, and it knew those.
+fn whole_for_one(gone: u16, known: u16) -> bool {
+    let mut roll = Roll::new(0b010, 0b101);
+    roll.enters(0b001, gone);
+    roll.knows(known);
+    roll.is_whole()
+}
+
+#[test]
+fn a_reign_is_whole_or_not(rt: HostRuntime) {
+    assert!(rt; !whole_for_one(0, 0));
+    assert!(rt; whole_for_one(0, 0b100));
+    assert!(rt; whole_for_one(0b100, 0b100));
+    assert!(rt; !whole_for_one(0b010, 0b100));
+}
+
+// A master of name 3 that started at 1 s, and then heard of reign 9 of another, and of a lease that ends at 5 s.
+fn followed() -> Claim {
+    let mut claim = Claim::new(3, Paces::usual(), SECOND);
+    let mut lease = Lease::new(two_seconds());
+    lease.enter(9);
+    lease.beat(9, 3 * SECOND, 3 * SECOND);
+    claim.informed(&lease.report(0, 3 * SECOND), 0, 2 * SECOND);
+    claim
+}
+
+// The reign that it takes at this time, if it takes one.
+fn claimed(met: bool, now: u64) -> Option<u64> {
+    let mut claim = followed();
+    if claim.is_due(met, now) {
+        claim.claim(now)
+    } else {
+        None
+    }
+}
+
+#[test]
+fn a_master_takes_a_reign(rt: HostRuntime) {
+    assert!(rt; claimed(true, 2 * SECOND) == Some(0x1_0000_0003));
+    assert!(rt; claimed(false, 4 * SECOND).is_none());
+    assert!(rt; claimed(false, 5 * SECOND) == Some(0x1_0000_0003));
+    assert!(rt; !followed().is_reigning());
+    assert!(rt; followed().reign() == 0);
 }
 
 #[test]
@@ -85,4 +193,50 @@ fn reigns_end_in_the_masters_name(rt: HostRuntime) {
     assert!(rt; next_reign(3, 3) == Some(0x1_0000_0003));
     assert!(rt; next_reign(0x1_0000_0003, 2) == Some(0x2_0000_0002));
     assert!(rt; next_reign(0xffff_ffff_ffff_fffe, 3).is_none());
+}
+
+// What server 1 of three tells in a reign, at 2 s of its clock, if it knows these to be gone.
+fn report_in(reign: u64, gone: u16) -> Report {
+    let mut lease = Lease::new(two_seconds());
+    lease.enter(reign);
+    lease.report(gone, 2 * SECOND)
+}
+
+// Server 1 of three, which a master of reign 7 has greeted.
+fn greeted() -> Ward {
+    let mut ward = Ward::new(1, 0b101, Paces::usual());
+    ward.begin(7);
+    ward
+}
+
+// What is due for it at 6 s, once it was heard in this reign at 5 s, and the others in reign 7, which know these to be
+// gone.
+fn due_for(reign: u64, gone: u16) -> Due {
+    let mut ward = greeted();
+    ward.hear(1, &report_in(reign, 0), 5 * SECOND);
+    ward.hear(0, &report_in(7, 0), 5 * SECOND);
+    ward.hear(2, &report_in(7, gone), 5 * SECOND);
+    ward.next(6 * SECOND)
+}
+
+// What is due for it at this time, once it was heard at 1 s, and told at 4 s that it is gone.
+fn due_for_silent(now: u64) -> Due {
+    let mut ward = greeted();
+    ward.hear(1, &report_in(7, 0), SECOND);
+    ward.next(4 * SECOND);
+    ward.next(now)
+}
+
+#[test]
+fn a_master_watches(rt: HostRuntime) {
+    assert!(rt; greeted().next(SECOND) == Due::Server(Order::Reign(7)));
+    assert!(rt; due_for(7, 0) == Due::Server(Order::Beat(7, Some(2 * SECOND))));
+    assert!(rt; due_for(7, 0b010) == Due::Others(Order::Gone(1)));
+    assert!(rt; due_for(6, 0) == Due::Server(Order::Reign(7)));
+}
+
+#[test]
+fn a_master_calls_a_silent_server_gone(rt: HostRuntime) {
+    assert!(rt; due_for_silent(3_211_000_001) == Due::Others(Order::Silent(7, 1)));
+    assert!(rt; due_for_silent(3_211_000_000) == Due::Wait(1));
 }

@@ -1,6 +1,7 @@
 //! The master's side: a watch over one server.
 ghost use Rattle.std.specs.Prelude.{◌≡◌, ℕ};
-ghost use Rattle.leases.specs.Watching.{due, done, answered, watched_due, told_due, is_silent};
+ghost use Rattle.leases.specs.Watching.{due, done, answered, watched_due, told_due, is_silent, is_gone};
+ghost use Rattle.leases.specs.Watching.{begun_watch, idle_watch};
 
 use crate::paces::Paces;
 use crate::terms::Term;
@@ -13,7 +14,9 @@ pub enum Standing {
     Watched,
     /// It was told that it is gone, and gets no beat any more.
     Told,
-    /// It is gone.
+    /// Its lease is surely over.
+    Over,
+    /// It does nothing more.
     Gone,
 }
 
@@ -26,8 +29,11 @@ pub enum Deed {
     Beat(Option<u64>),
     /// The server is told that it is gone.
     TellServer,
-    /// The others are told that it is gone.
-    TellOthers,
+    /// The others are told that it was silent until its lease was surely over. This is due as long as one of them
+    /// doesn't know it.
+    TellSilent,
+    /// The others are told that it does nothing more. This is due as long as one of them doesn't know it.
+    TellGone,
 }
 
 /// What a master knows of one server that has entered its reign. Times are nanoseconds of the master's own clock, which
@@ -60,21 +66,12 @@ impl Model for Watch {
 }
 
 impl Watch {
-    ghost use Rattle.leases.specs.Watching.{WatchState};
-    ghost use Rattle.leases.specs.declared.watches.Standing.TheVariants.{Watched, Gone};
+    ghost use Rattle.leases.specs.declared.watches.Standing.TheVariants.{Gone};
 
     /// A watch over a server with a lease of this term, or with none, which has entered the master's reign and answered
     /// that with this stamp. Then the clock showed `now`.
     pub fn new(term: Option<Term>, paces: Paces, stamp: u64, now: u64) -> Watch
-        ensures { result ≡ record {
-          term = term;
-          beat = paces.beat;
-          after = paces.after;
-          heard = now;
-          stamp = stamp;
-          sent = now;
-          standing = Watched;
-        } }
+        ensures { result ≡ begun_watch term paces.beat paces.after stamp now }
     {
         Watch {
             term,
@@ -83,6 +80,22 @@ impl Watch {
             heard: now,
             stamp,
             sent: now,
+            standing: Standing::Watched,
+        }
+    }
+
+    /// The watch over a server that isn't in the reign: a beat is due each time that so much has passed, and nothing
+    /// else.
+    pub(crate) fn idle(paces: Paces) -> Watch
+        ensures { result ≡ idle_watch paces.beat paces.after }
+    {
+        Watch {
+            term: None,
+            beat: paces.beat,
+            after: paces.after,
+            heard: 0,
+            stamp: 0,
+            sent: 0,
             standing: Standing::Watched,
         }
     }
@@ -98,16 +111,24 @@ impl Watch {
         }
     }
 
-    /// Its host refused a new connection at once: its process has ended. So no lease has to run out.
+    /// Its host refused a new connection at once: its process has ended. Or a person, or another server, says that it
+    /// is gone. So no lease has to run out.
     pub fn refused(&mut self)
         ensures { self.new ≡ record self.old { standing = Gone } }
     {
         self.standing = Standing::Gone;
     }
 
-    /// What is due when the clock shows `now`. It counts as done. `whole` says whether each other server that isn't
-    /// gone has entered the master's reign, and didn't know then that this one is gone: only then may a beat prolong
-    /// its lease. Silence is noticed whenever this is called.
+    /// Whether it does nothing more.
+    pub(crate) fn is_gone(&self) -> bool
+        ensures { result ≡ is_gone self.now.standing }
+    {
+        self.standing == Standing::Gone
+    }
+
+    /// What is due when the clock shows `now`. It counts as done. `whole` says whether the master's reign is whole for
+    /// this server (`Roll::is_whole`): only then may a beat prolong its lease. Silence is noticed whenever this is
+    /// called.
     pub fn next(&mut self, whole: bool, now: u64) -> Deed
         ensures deed { result ≡ due self.old whole now }
         ensures state { self.new ≡ done self.old now result }
@@ -117,7 +138,8 @@ impl Watch {
             Deed::Wait(_) => {}
             Deed::Beat(_) => self.sent = now,
             Deed::TellServer => self.standing = Standing::Told,
-            Deed::TellOthers => self.standing = Standing::Gone,
+            Deed::TellSilent => self.standing = Standing::Over,
+            Deed::TellGone => {}
         }
         deed
     }
@@ -130,7 +152,8 @@ impl Watch {
         match self.standing {
             Standing::Watched => self.watched_due(whole, silence, now.saturating_sub(self.sent)),
             Standing::Told => self.told_due(silence),
-            Standing::Gone => Deed::TellOthers,
+            Standing::Over => Deed::TellSilent,
+            Standing::Gone => Deed::TellGone,
         }
     }
 
@@ -156,7 +179,7 @@ impl Watch {
             Some(term) => {
                 let wait = term.wait();
                 if wait <= silence {
-                    Deed::TellOthers
+                    Deed::TellSilent
                 } else {
                     Deed::Wait(wait - silence)
                 }

@@ -1,0 +1,212 @@
+//! The master's side: all that it does about one server of its chain.
+ghost use Rattle.std.specs.Prelude.{◌≡◌, ◌<◌, ◌^◌};
+ghost use Rattle.leases.specs.Sets.{is_apart};
+ghost use Rattle.leases.specs.Watching.{done};
+ghost use Rattle.leases.specs.Wards.{unmet, begun, lost, named, is_of, entered_watch, reported, heard_it, heard_other};
+ghost use Rattle.leases.specs.Wards.{heard_from, deed_of, due_for};
+
+use crate::orders::{Order, Report};
+use crate::paces::Paces;
+use crate::rolls::Roll;
+use crate::watches::{Deed, Watch};
+use std::marker::Model;
+
+/// What is due for a server.
+#[derive(Clone, Copy, Debug, PartialEq, Eq)]
+pub enum Due {
+    /// Nothing, for so many nanoseconds at most.
+    Wait(u64),
+    /// This is sent to the server.
+    Server(Order),
+    /// This is sent to the other servers that aren't gone. It is due as long as one of them doesn't know it.
+    Others(Order),
+}
+
+/// What a master knows of one server. It is told of the reports of all servers, in the order in which they came. Times
+/// are nanoseconds of the master's own clock, which never goes back.
+#[derive(Debug, Drop)]
+pub struct Ward {
+    id: u8,
+    own: u16,
+    others: u16,
+    paces: Paces,
+    reign: u64,
+    is_in: bool,
+    seen: u16,
+    end: u64,
+    watch: Watch,
+    roll: Roll,
+}
+
+impl Model for Ward {
+    ghost use Rattle.leases.specs.Wards.{WardState};
+
+    ghost Value = { WardState };
+
+    ghost view = { λ w. record {
+      id = w.id;
+      own = w.own;
+      others = w.others;
+      beat = w.paces.beat;
+      after = w.paces.after;
+      reign = w.reign;
+      is_in = w.is_in;
+      seen = w.seen;
+      end = w.end;
+      watch = w.watch;
+      roll = w.roll;
+    } };
+}
+
+impl Ward {
+    /// The server of this id, in a chain that has these others, server i being the bit of value 2^i. Nothing is known
+    /// of it, and the master has no reign.
+    pub fn new(id: u8, others: u16, paces: Paces) -> Ward
+        requires server { id < 16 }
+        ensures { result ≡ unmet id others paces.beat paces.after }
+    {
+        let own = bit_of(id);
+        Ward {
+            id,
+            own,
+            others,
+            paces,
+            reign: 0,
+            is_in: false,
+            seen: 0,
+            end: 0,
+            watch: Watch::idle(paces),
+            roll: Roll::new(own, others),
+        }
+    }
+
+    /// The master has this reign from now on, or none if it is 0: then the server is greeted with 0, which changes
+    /// nothing there, and tells how it is. A server that is gone stays so.
+    pub fn begin(&mut self, reign: u64)
+        ensures { self.new ≡ begun self.old reign }
+    {
+        self.reign = reign;
+        self.is_in = false;
+        self.seen = 0;
+        self.roll = Roll::new(self.own, self.others);
+        if !self.watch.is_gone() {
+            self.watch = Watch::idle(self.paces);
+        }
+    }
+
+    /// The server with the id `from` told how it is, and then the clock showed `now`.
+    pub fn hear(&mut self, from: u8, report: &Report, now: u64)
+        requires server { from < 16 }
+        ensures { self.new ≡ heard_from self.old from report.now now }
+    {
+        if report.gone & self.own != 0 {
+            self.lose();
+        }
+        if from == self.id {
+            self.hear_it(report, now);
+        } else {
+            self.hear_other(from, report);
+        }
+    }
+
+    // It told how it is.
+    fn hear_it(&mut self, report: &Report, now: u64)
+        ensures { self.new ≡ heard_it self.old report.now now }
+    {
+        self.end = self.end.max(report.end);
+        if self.is_of(report) {
+            self.enter(report, now);
+        }
+    }
+
+    // It told how it is, in the master's reign.
+    fn enter(&mut self, report: &Report, now: u64)
+        ensures { self.new ≡ reported self.old report.now now }
+    {
+        if self.is_in {
+            self.watch.answered(report.stamp, now);
+        } else {
+            self.begin_watch(report, now);
+        }
+        self.is_in = true;
+        self.roll.knows(report.known);
+    }
+
+    // The watch over it begins, unless it is gone.
+    fn begin_watch(&mut self, report: &Report, now: u64)
+        ensures { self.new ≡ record self.old { watch = entered_watch self.old report.now now } }
+    {
+        if !self.watch.is_gone() {
+            self.watch = Watch::new(report.term, self.paces, report.stamp, now);
+        }
+    }
+
+    // Another one told how that is. What it knew at its first report in the reign counts.
+    fn hear_other(&mut self, from: u8, report: &Report)
+        requires server { from < 16 }
+        ensures { self.new ≡ heard_other self.old from report.now }
+    {
+        let other = bit_of(from);
+        let gone = report.gone;
+        if self.is_of(report) && self.seen & other == 0 {
+            self.seen |= other;
+            self.roll.enters(other, gone);
+        }
+    }
+
+    // Whether who told that is in the master's reign.
+    fn is_of(&self, report: &Report) -> bool
+        ensures { result ≡ is_of self.now report.now }
+    {
+        0 < self.reign && report.reign == self.reign
+    }
+
+    /// It does nothing more: its host refused a new connection at once, or a person says so.
+    pub fn lose(&mut self)
+        ensures { self.new ≡ lost self.old }
+    {
+        self.watch.refused();
+    }
+
+    /// When its lease ends, as far as it told; 0 at first.
+    pub fn end(&self) -> u64
+        ensures { result ≡ self.now.end }
+    {
+        self.end
+    }
+
+    /// What is due when the clock shows `now`. It counts as done.
+    pub fn next(&mut self, now: u64) -> Due
+        ensures due { result ≡ due_for self.old (deed_of self.old now) }
+        ensures state { self.new ≡ record self.old { watch = done self.old.watch now (deed_of self.old now) } }
+    {
+        let whole = self.is_in && self.roll.is_whole();
+        let deed = self.watch.next(whole, now);
+        self.due_for(deed)
+    }
+
+    // What is sent, and to whom.
+    fn due_for(&self, deed: Deed) -> Due
+        ensures { result ≡ due_for self.now deed }
+    {
+        match deed {
+            Deed::Wait(span) => Due::Wait(span),
+            Deed::Beat(stamp) => Due::Server(if self.is_in {
+                Order::Beat(self.reign, stamp)
+            } else {
+                Order::Reign(self.reign)
+            }),
+            Deed::TellServer => Due::Server(Order::Silent(self.reign, self.id)),
+            Deed::TellSilent => Due::Others(Order::Silent(self.reign, self.id)),
+            Deed::TellGone => Due::Others(Order::Gone(self.id)),
+        }
+    }
+}
+
+// The bit of this server.
+fn bit_of(id: u8) -> u16
+    requires { id < 16 }
+    ensures { result ≡ 2 ^ id }
+{
+    1 << id
+}
