@@ -1,10 +1,12 @@
--- What a scenario shows is what the program may write.
+-- What a scenario shows, and what is told of a schedule, is what the program may write.
 use Rattle.std.proofs.Common.{◌≡◌, ℕ, List, ◌++◌, refl}
 use Rattle.std.specs.Prelude.{Ok}
 use Rattle.command_line.specs.declared.commands.Print.TheVariants.{Scenario, Version}
 use Rattle.ends.specs.Ends.{WritesBeginning}
 use Rattle.commands.specs.Programs.{BeginsOutput, WritesOutput, version_line}
 use Rattle.commands.specs.Scenarios.{Shows, ShowsBeginning}
+use Rattle.commands.specs.Tellings.{BeginsTelling, TellsBeginning}
+use Rattle.command_line.specs.declared.commands.Telling.{Telling}
 
 -- what a scenario wrote
 pub shows-output : (file : _) (given_before given_after before after : List ℕ)
@@ -31,3 +33,10 @@ pub version-beginning : (before after : List ℕ)
     → WritesBeginning before after version_line
     → BeginsOutput (Ok Version) before after
 version-beginning before after begun = (version_line, refl, begun)
+
+-- what was told of a schedule before a write failed
+pub telling-beginning : (telling : Telling) (given_before given_after before after : List ℕ)
+    → TellsBeginning telling given_before given_after before after
+    → BeginsTelling telling before after
+telling-beginning telling given_before given_after before after (text, shown, told, given, begun) =
+    (text, shown, told, begun)

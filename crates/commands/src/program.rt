@@ -139,7 +139,7 @@ fn print_version<W: Sink, X: Sink>(output: &mut W, errors: &mut X) -> u8
     }
 }
 
-fn unopened(error: &io::Error) -> ScenarioFault
+pub(crate) fn unopened(error: &io::Error) -> ScenarioFault
     ensures memory { error_kind error.now ≡ ErrorKind.OutOfMemory → result ≡ ScenarioFault.Memory }
     ensures other { error_kind error.now ≢ ErrorKind.OutOfMemory → result ≡ ScenarioFault.Unreadable }
 {

@@ -1,18 +1,25 @@
 //! What events did, in words: a line for each thing.
-ghost use Rattle.std.specs.Prelude.{◌≤◌};
+ghost use Rattle.std.specs.Prelude.{◌≡◌, ◌≤◌, ◌++◌, OnOk, flat_map};
+ghost use Rattle.std.specs.Option.{option_copied};
+ghost use Rattle.traces.specs.Deeds.{acknowledged_line, acknowledging, answering_line, appended_line, began_lines};
+ghost use Rattle.traces.specs.Deeds.{body_way, call_way, deed_lines, ends_text, failed_line, handed_lines, input_text};
+ghost use Rattle.traces.specs.Deeds.{is_tail, joined_line, neighbours_text, output_line, places_line, sending_line};
+ghost use Rattle.traces.specs.Deeds.{sent_line, step_lines, taken_text, taking_line, way_text};
 
 use crate::texts::Text;
 use crate::words::{
     put_body, put_call, put_entry, put_message, put_neighbour, put_reply, put_view,
 };
-use node::{Body, Input, Output, Standing};
+use node::{Body, Input, Output, Peer, Standing, View};
 use std::alloc::AllocError;
 use table::{Call, Op, Reply};
+use versions::Entry;
 use world::{Deed, Event, ServerStep};
 
 /// The lines that say what an event did, each after two spaces. `count` is the number of servers, 1 to 16.
 pub fn put_deed(text: &mut Text, count: u8, event: &Event, deed: &Deed) -> Result<(), AllocError>
     requires { count ≤ 16 }
+    ensures { OnOk result (text.new ≡ text.old ++ deed_lines count event.now deed.now) }
 {
     match deed {
         Deed::Nothing => text.put(b"  no effect\n"),
@@ -24,7 +31,9 @@ pub fn put_deed(text: &mut Text, count: u8, event: &Event, deed: &Deed) -> Resul
     }
 }
 
-fn put_began(text: &mut Text, call: Option<&Call>, sent: &[u8]) -> Result<(), AllocError> {
+fn put_began(text: &mut Text, call: Option<&Call>, sent: &[u8]) -> Result<(), AllocError>
+    ensures { OnOk result (text.new ≡ text.old ++ began_lines (option_copied call.entry) sent.now) }
+{
     put_sent(text, sent)?;
     match call {
         Some(call) => {
@@ -36,7 +45,9 @@ fn put_began(text: &mut Text, call: Option<&Call>, sent: &[u8]) -> Result<(), Al
     }
 }
 
-fn put_handed(text: &mut Text, reply: &Reply, sent: &[u8]) -> Result<(), AllocError> {
+fn put_handed(text: &mut Text, reply: &Reply, sent: &[u8]) -> Result<(), AllocError>
+    ensures { OnOk result (text.new ≡ text.old ++ handed_lines reply.now sent.now) }
+{
     text.put(b"  is answered ")?;
     put_reply(text, reply)?;
     text.put(b"\n")?;
@@ -44,7 +55,10 @@ fn put_handed(text: &mut Text, reply: &Reply, sent: &[u8]) -> Result<(), AllocEr
 }
 
 // The bytes that a connection was sent, in one line.
-fn put_sent(text: &mut Text, sent: &[u8]) -> Result<(), AllocError> {
+#[tactic(auto, unfolding(crate::specs::Deeds::sent_line))]
+fn put_sent(text: &mut Text, sent: &[u8]) -> Result<(), AllocError>
+    ensures { OnOk result (text.new ≡ text.old ++ sent_line sent.now) }
+{
     if sent.is_empty() {
         return Ok(());
     }
@@ -52,7 +66,9 @@ fn put_sent(text: &mut Text, sent: &[u8]) -> Result<(), AllocError> {
     text.put(b"\n")
 }
 
-fn put_failed(text: &mut Text, event: &Event) -> Result<(), AllocError> {
+fn put_failed(text: &mut Text, event: &Event) -> Result<(), AllocError>
+    ensures { OnOk result (text.new ≡ text.old ++ failed_line event.now) }
+{
     match event {
         Event::Fail(i) => {
             text.numbered(b"  server ", *i)?;
@@ -64,57 +80,113 @@ fn put_failed(text: &mut Text, event: &Event) -> Result<(), AllocError> {
 
 fn put_step(text: &mut Text, count: u8, i: usize, step: &ServerStep) -> Result<(), AllocError>
     requires { count ≤ 16 }
+    ensures { OnOk result (text.new ≡ text.old ++ step_lines count i step.now) }
 {
-    text.numbered(b"  server ", i)?;
-    put_input(text, &step.input)?;
-    if step.after.view != step.before.view {
-        put_joined(text, count, i, step.after)?;
-    }
-    for entry in step.entries.iter() {
-        text.put(b"    appends ")?;
-        put_entry(text, entry)?;
-        text.put(b"\n")?;
-    }
-    put_acknowledged(text, count, i, step)?;
-    for output in step.outputs.iter() {
-        put_output(text, &step.input, output)?;
-    }
-    Ok(())
+    put_taking(text, i, &step.input)?;
+    put_joined(text, count, i, step.before.view, step.after.view)?;
+    put_entries(text, step.entries.as_slice())?;
+    put_acknowledged(text, count, i, step.before, step.after)?;
+    put_outputs(text, &step.input, step.outputs.as_slice())
 }
 
-fn put_input(text: &mut Text, input: &Input) -> Result<(), AllocError> {
+// The server and what it takes.
+fn put_taking(text: &mut Text, i: usize, input: &Input) -> Result<(), AllocError>
+    ensures { OnOk result (text.new ≡ text.old ++ taking_line i input.now) }
+{
+    text.numbered(b"  server ", i)?;
+    put_input(text, input)?;
+    text.put(b"\n")
+}
+
+fn put_input(text: &mut Text, input: &Input) -> Result<(), AllocError>
+    ensures { OnOk result (text.new ≡ text.old ++ input_text input.now) }
+{
     match input {
         Input::Call(port, call) => {
             text.numbered(b" takes of connection ", *port)?;
             text.put(b": ")?;
-            put_call(text, call)?;
+            put_call(text, call)
         }
         Input::From(i, message) => {
-            text.labelled(b" takes of server ", u64::from(*i))?;
+            text.server(b" takes of server ", *i)?;
             text.put(b": ")?;
-            put_message(text, message)?;
+            put_message(text, message)
         }
         Input::Gone(j) => {
-            text.labelled(b" is told that server ", u64::from(*j))?;
-            text.put(b" has failed")?;
+            text.server(b" is told that server ", *j)?;
+            text.put(b" has failed")
         }
     }
+}
+
+// The view that it has now, if that is another one than before.
+fn put_joined(
+    text: &mut Text,
+    count: u8,
+    i: usize,
+    before: View,
+    after: View,
+) -> Result<(), AllocError>
+    requires { count ≤ 16 }
+    ensures { OnOk result (text.new ≡ text.old ++ joined_line count i before after) }
+{
+    if after.bits() == before.bits() {
+        Ok(())
+    } else {
+        put_places(text, count, i, after)
+    }
+}
+
+// A view, and the server's places in it.
+fn put_places(text: &mut Text, count: u8, i: usize, view: View) -> Result<(), AllocError>
+    requires { count ≤ 16 }
+    ensures { OnOk result (text.new ≡ text.old ++ places_line count i view) }
+{
+    text.put(b"    knows failed")?;
+    put_view(text, view)?;
+    put_ends(text, count, view)?;
+    put_neighbours(text, count, i, view)?;
     text.put(b"\n")
 }
 
-// The view that it has now, and its places in it.
-fn put_joined(text: &mut Text, count: u8, i: usize, after: Standing) -> Result<(), AllocError>
+#[tactic(auto, unfolding(crate::specs::Deeds::ends_text))]
+fn put_ends(text: &mut Text, count: u8, view: View) -> Result<(), AllocError>
     requires { count ≤ 16 }
+    ensures { OnOk result (text.new ≡ text.old ++ ends_text count view) }
 {
-    text.put(b"    knows failed")?;
-    put_view(text, after.view)?;
-    put_neighbour(text, b": head ", after.view.head(count))?;
-    put_neighbour(text, b", tail ", after.view.tail(count))?;
+    put_neighbour(text, b": head ", view.head(count))?;
+    put_neighbour(text, b", tail ", view.tail(count))
+}
+
+#[tactic(auto, unfolding(crate::specs::Deeds::neighbours_text))]
+fn put_neighbours(text: &mut Text, count: u8, i: usize, view: View) -> Result<(), AllocError>
+    requires { count ≤ 16 }
+    ensures { OnOk result (text.new ≡ text.old ++ neighbours_text count i view) }
+{
     if i < usize::from(count) {
         let i = i as u8;
-        put_neighbour(text, b", predecessor ", after.view.predecessor(i))?;
-        put_neighbour(text, b", successor ", after.view.successor(count, i))?;
+        put_neighbour(text, b", predecessor ", view.predecessor(i))?;
+        put_neighbour(text, b", successor ", view.successor(count, i))
+    } else {
+        Ok(())
     }
+}
+
+fn put_entries(text: &mut Text, entries: &[Entry]) -> Result<(), AllocError>
+    ensures { OnOk result (text.new ≡ text.old ++ flat_map appended_line entries.now) }
+{
+    for entry in entries {
+        put_appended(text, entry)?;
+    }
+    Ok(())
+}
+
+#[tactic(auto, unfolding(crate::specs::Deeds::appended_line))]
+fn put_appended(text: &mut Text, entry: &Entry) -> Result<(), AllocError>
+    ensures { OnOk result (text.new ≡ text.old ++ appended_line entry.now) }
+{
+    text.put(b"    appends ")?;
+    put_entry(text, entry)?;
     text.put(b"\n")
 }
 
@@ -123,25 +195,35 @@ fn put_acknowledged(
     text: &mut Text,
     count: u8,
     i: usize,
-    step: &ServerStep,
+    before: Standing,
+    after: Standing,
 ) -> Result<(), AllocError>
     requires { count ≤ 16 }
+    ensures { OnOk result (text.new ≡ text.old ++ acknowledged_line count i before after) }
 {
-    if step.after.acked <= step.before.acked {
+    let number = after.acked;
+    if number <= before.acked {
         return Ok(());
     }
-    let words = if is_tail(count, i, step.after) {
-        b"    commits up to ".as_slice()
-    } else {
-        b"    has acknowledged up to ".as_slice()
-    };
-    text.labelled(words, step.after.acked)?;
+    let words = acknowledging(is_tail(count, i, after));
+    text.labelled(words, number)?;
     text.put(b"\n")
+}
+
+fn acknowledging(tail: bool) -> &'static [u8]
+    ensures { result.now ≡ acknowledging tail }
+{
+    if tail {
+        b"    commits up to "
+    } else {
+        b"    has acknowledged up to "
+    }
 }
 
 /// Whether a server that stands so is the tail in its own view.
 pub fn is_tail(count: u8, i: usize, standing: Standing) -> bool
     requires { count ≤ 16 }
+    ensures { result ≡ is_tail count i standing }
 {
     match standing.view.tail(count) {
         Some(tail) => usize::from(tail) == i,
@@ -149,40 +231,84 @@ pub fn is_tail(count: u8, i: usize, standing: Standing) -> bool
     }
 }
 
-fn put_output(text: &mut Text, input: &Input, output: &Output) -> Result<(), AllocError> {
-    match output {
-        Output::To(to, message) => {
-            text.labelled(b"    sends server ", u64::from(*to))?;
-            text.put(b": ")?;
-            put_message(text, message)?;
-        }
-        Output::Reply(port, reply) => {
-            text.numbered(b"    answers connection ", *port)?;
-            put_way(text, input)?;
-            text.put(b": ")?;
-            put_reply(text, reply)?;
-        }
+fn put_outputs(text: &mut Text, input: &Input, outputs: &[Output]) -> Result<(), AllocError>
+    ensures { OnOk result (text.new ≡ text.old ++ flat_map (output_line input.now) outputs.now) }
+{
+    for output in outputs {
+        put_output(text, input, output)?;
     }
+    Ok(())
+}
+
+fn put_output(text: &mut Text, input: &Input, output: &Output) -> Result<(), AllocError>
+    ensures { OnOk result (text.new ≡ text.old ++ output_line input.now output.now) }
+{
+    match output {
+        Output::To(to, message) => put_sending(text, *to, message),
+        Output::Reply(port, reply) => put_answering(text, input, *port, reply),
+    }
+}
+
+fn put_sending(text: &mut Text, to: u8, message: &Peer) -> Result<(), AllocError>
+    ensures { OnOk result (text.new ≡ text.old ++ sending_line to message.now) }
+{
+    text.server(b"    sends server ", to)?;
+    text.put(b": ")?;
+    put_message(text, message)?;
+    text.put(b"\n")
+}
+
+fn put_answering(
+    text: &mut Text,
+    input: &Input,
+    port: usize,
+    reply: &Reply,
+) -> Result<(), AllocError>
+    ensures { OnOk result (text.new ≡ text.old ++ answering_line input.now port reply.now) }
+{
+    text.numbered(b"    answers connection ", port)?;
+    put_way(text, input)?;
+    text.put(b": ")?;
+    put_reply(text, reply)?;
     text.put(b"\n")
 }
 
 // How a read was answered: clean, or at the number of the tail's answer.
-fn put_way(text: &mut Text, input: &Input) -> Result<(), AllocError> {
+fn put_way(text: &mut Text, input: &Input) -> Result<(), AllocError>
+    ensures { OnOk result (text.new ≡ text.old ++ way_text input.now) }
+{
     match input {
-        Input::Call(_, call) if matches!(call.op, Op::Read) => text.put(b" clean"),
-        Input::From(_, message) => match &message.body {
-            Body::Answer(_, number) => text.labelled(b" at ", *number),
-            _ => Ok(()),
-        },
+        Input::Call(_, call) => text.put(call_way(&call.op)),
+        Input::From(_, message) => put_body_way(text, &message.body),
+        Input::Gone(_) => Ok(()),
+    }
+}
+
+fn call_way(op: &Op) -> &'static [u8]
+    ensures { result.now ≡ call_way op.now }
+{
+    match op {
+        Op::Read => b" clean",
+        _ => b"",
+    }
+}
+
+fn put_body_way(text: &mut Text, body: &Body) -> Result<(), AllocError>
+    ensures { OnOk result (text.new ≡ text.old ++ body_way body.now) }
+{
+    match body {
+        Body::Answer(_, number) => text.labelled(b" at ", *number),
         _ => Ok(()),
     }
 }
 
 /// The words for what a server takes, for a picture.
-pub fn put_taken(text: &mut Text, input: &Input) -> Result<(), AllocError> {
+pub fn put_taken(text: &mut Text, input: &Input) -> Result<(), AllocError>
+    ensures { OnOk result (text.new ≡ text.old ++ taken_text input.now) }
+{
     match input {
         Input::Call(_, call) => put_call(text, call),
         Input::From(_, message) => put_body(text, &message.body),
-        Input::Gone(j) => text.labelled(b"told of ", u64::from(*j)),
+        Input::Gone(j) => text.server(b"told of ", *j),
     }
 }
