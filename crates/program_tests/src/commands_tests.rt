@@ -3,7 +3,6 @@ use ends::{TrackedReader, TrackedWriter};
 use std::alloc::Global;
 use std::io;
 use std::io::{Error, ErrorKind};
-use std::test::Fail;
 
 const SET_THEN_GETS: &[u8] =
     b"servers 1\nhomes 0\npiece 0 set a 5 0 3\\r\\nxyz\\r\\ngets a\\r\\n\nbegin 0\nwork 0\nhand 0\nbegin 0\nwork 0\nhand 0\n";
@@ -76,59 +75,74 @@ fn replayed(alloc: Global, bytes: &[u8], reads: usize, writes: usize) -> Left {
     }
 }
 
+// Whether a scenario left this status, this output and these errors.
+fn has_left(left: &Left, status: u8, output: &[u8], errors: &[u8]) -> bool {
+    left.status == status && left.output.as_slice() == output && left.errors.as_slice() == errors
+}
+
 #[test]
 fn set_then_gets(rt: HostRuntime) {
     let left = replayed(rt.alloc(), SET_THEN_GETS, 4096, 4096);
-    assert_eq!(rt; left.status, 0);
-    assert_eq!(rt; left.output.as_slice(), SHOWN);
-    assert_eq!(rt; left.errors.as_slice(), b"".as_slice());
+    assert!(rt; has_left(&left, 0, SHOWN, b""));
+}
+
+// Whether a scenario of these bytes has no output, and this line of its fault.
+fn has_fault(alloc: Global, bytes: &[u8], line: &[u8]) -> bool {
+    let left = replayed(alloc, bytes, 4096, 4096);
+    has_left(&left, 1, b"", line)
 }
 
 #[test]
 fn a_fault_is_one_line_and_no_output(rt: HostRuntime) {
-    let rows: [(&[u8], &[u8]); 4] = [
-        (b"", b"craq: line 1: bad schedule line\n"),
-        (
+    assert!(rt; has_fault(rt.alloc(), b"", b"craq: line 1: bad schedule line\n"));
+    assert!(rt;
+        has_fault(
+            rt.alloc(),
             b"servers 1\nhomes 0\nbegin x\n",
             b"craq: line 3: bad schedule line\n",
-        ),
-        (
+        )
+    );
+    assert!(rt;
+        has_fault(
+            rt.alloc(),
             b"servers 17\nhomes 0\n",
             b"craq: line 1: bad schedule line\n",
-        ),
-        (
+        )
+    );
+    assert!(rt;
+        has_fault(
+            rt.alloc(),
             b"servers 1\nhomes 0\nbegin 0\nwait 0",
             b"craq: line 4: bad schedule line\n",
-        ),
-    ];
-    for (bytes, wanted) in rows {
-        let left = replayed(rt.alloc(), bytes, 4096, 4096);
-        assert_eq!(rt; left.status, 1);
-        assert_eq!(rt; left.output.as_slice(), b"".as_slice());
-        assert_eq!(rt; left.errors.as_slice(), wanted);
-    }
+        )
+    );
+}
+
+// Whether a scenario whose reader fails after so many bytes has no output, and says that the file can't be read.
+fn is_unreadable_after(alloc: Global, reads: usize) -> bool {
+    let left = replayed(alloc, SET_THEN_GETS, reads, 4096);
+    has_left(&left, 1, b"", b"craq: cannot read a.schedule\n")
 }
 
 #[test]
 fn a_reader_that_fails(rt: HostRuntime) {
     for reads in [0, 1, 9, 30] {
-        let left = replayed(rt.alloc(), SET_THEN_GETS, reads, 4096);
-        assert_eq!(rt; left.status, 1);
-        assert_eq!(rt; left.output.as_slice(), b"".as_slice());
-        assert_eq!(rt;
-            left.errors.as_slice(),
-            b"craq: cannot read a.schedule\n".as_slice()
-        );
+        assert!(rt; is_unreadable_after(rt.alloc(), reads), "after {reads}");
+    }
+}
+
+// Whether a scenario whose writer fails after so many bytes has put out these, and says that its run failed.
+fn is_cut_after(alloc: Global, writes: usize) -> bool {
+    let left = replayed(alloc, SET_THEN_GETS, 4096, writes);
+    match SHOWN.get(..writes) {
+        Some(front) => has_left(&left, 1, front, b"craq: run failed\n"),
+        None => false,
     }
 }
 
 #[test]
-fn a_writer_that_fails(rt: HostRuntime) -> Result<(), Fail> {
+fn a_writer_that_fails(rt: HostRuntime) {
     for writes in [0, 1, 7, 60] {
-        let left = replayed(rt.alloc(), SET_THEN_GETS, 4096, writes);
-        assert_eq!(rt; left.status, 1);
-        assert_eq!(rt; Some(left.output.as_slice()), SHOWN.get(..writes));
-        assert_eq!(rt; left.errors.as_slice(), b"craq: run failed\n".as_slice());
+        assert!(rt; is_cut_after(rt.alloc(), writes), "after {writes}");
     }
-    Ok(())
 }

@@ -1,5 +1,5 @@
-//! Tests of what the program is made of, by public functions. A crate with tests is proved twice, so they stand here, and
-//! each library is proved once.
+//! Tests of what the program is made of, by public functions. A crate with tests is proved twice, so they stand here,
+//! and each library is proved once.
 #![tactic(auto)]
 
 #[cfg(test)]

@@ -8,6 +8,15 @@ use std::time::Duration;
 // How long a client waits for the next byte before it gives up. Slowness is no fault, a reply that never comes is.
 const LIMIT: u64 = 50;
 
+/// A listener at a port of the system's choice.
+pub fn listen<R: Net<Listener = TcpListener, Stream = TcpStream>>(
+    rt: &R,
+) -> Option<(u16, TcpListener)> {
+    let listener = TcpListener::bind(rt, (Ipv4Addr::LOCALHOST, 0)).ok()?;
+    let port = listener.local_addr().ok()?.port();
+    Some((port, listener))
+}
+
 /// A connection to the server at this port.
 pub fn client<R: Net<Listener = TcpListener, Stream = TcpStream>>(
     rt: &R,

@@ -1,7 +1,7 @@
 //! Connections that don't wait for each other.
 ghost use Rattle.std.specs.Prelude.{◌≡◌, ◌++◌, ◌∷◌, [], OnOk, OnErr};
 
-use super::clients::{answers, client, says};
+use super::clients::{answers, client, listen, says};
 use crossbeam_channel::{Receiver, Sender, unbounded};
 use io_threads::{Desks, Elsewhere, Front, FrontSettings, Gate, Pooled, open_desks, open_front};
 use mio::Poll;
@@ -12,7 +12,7 @@ use seats::{Allowance, Gauge, InProcessLinks, Mark, SeatPool};
 use std::alloc::{AllocError, Global};
 use std::io::Write;
 use std::marker::Model;
-use std::net::{Ipv4Addr, Net, TcpListener, TcpStream};
+use std::net::{Net, TcpListener, TcpStream};
 use std::sync::{Arc, Wait};
 use std::test::Fail;
 use std::thread;
@@ -76,9 +76,16 @@ impl<R: Wait + Drop> Links for Barrier<R> {
         let kept = Kept {
             peer: peer.clone()?,
         };
-        note(&mut self.put, to, peer)?;
-        keep(&self.rt, &self.kept, kept);
-        Ok(())
+        match note(&mut self.put, to, peer) {
+            Ok(()) => {
+                keep(&self.rt, &self.kept, kept);
+                Ok(())
+            }
+            Err(error) => {
+                drop(kept);
+                Err(RailFault::from(error))
+            }
+        }
     }
 }
 
@@ -93,18 +100,24 @@ fn note(put: &mut Vec<(u8, Peer)>, to: u8, peer: &Peer) -> Result<(), AllocError
 
 // Gives a message to who holds the barrier.
 fn keep<R: Wait>(rt: &R, barrier: &Sender<Kept>, kept: Kept) {
-    let _ = barrier.send(rt, kept);
+    drop(barrier.send(rt, kept));
 }
 
 // A chain of two whose head keeps its messages at a barrier. One thread serves the head's clients, with one seat.
 #[derive(Drop)]
 struct HeldChain {
     port: u16,
-    to_head: Inlet,
-    to_tail: Inlet,
-    barrier: Receiver<Kept>,
     front: Front,
-    workers: Vec<JoinHandle<Rest>>,
+    head: Started,
+    tail: Started,
+    barrier: Receiver<Kept>,
+}
+
+// A server whose worker has a thread of its own, with inlets of it.
+#[derive(Drop)]
+struct Started {
+    thread: JoinHandle<Rest>,
+    inlets: Vec<Inlet>,
 }
 
 // A set whose message stays on its link keeps no read of another connection of its thread waiting.
@@ -121,18 +134,36 @@ fn passes_by<R: Wait + Clock + Net<Listener = TcpListener, Stream = TcpStream>>(
     rt: &R,
     chain: &mut HeldChain,
 ) -> bool {
-    let (Ok(mut first), Ok(mut second)) = (client(rt, chain.port), client(rt, chain.port)) else {
+    let Ok(mut first) = client(rt, chain.port) else {
         return false;
     };
-    if first.write_all(b"set a 0 0 1\r\n1\r\n").is_err() {
+    let Ok(mut second) = client(rt, chain.port) else {
         return false;
-    }
+    };
+    first.write_all(b"set a 0 0 1\r\n1\r\n").is_ok()
+        && reads_beside(rt, chain, &mut second)
+        && says(&mut first, b"STORED\r\n")
+}
+
+// Whether a read is answered while a message is held, which is brought on then.
+fn reads_beside<R: Wait + Clock>(rt: &R, chain: &mut HeldChain, stream: &mut TcpStream) -> bool {
     let Ok(kept) = chain.barrier.recv_timeout(rt, Duration::from_secs(50)) else {
         return false;
     };
-    answers(&mut second, b"get b\r\n", b"END\r\n")
-        && chain.to_tail.bring(rt, 0, kept.into_peer()).is_ok()
-        && says(&mut first, b"STORED\r\n")
+    let answered = answers(stream, b"get b\r\n", b"END\r\n");
+    let brought = brings(rt, &mut chain.tail, kept);
+    answered && brought
+}
+
+// Whether a message of server 0 is brought on.
+fn brings<R: Wait>(rt: &R, to: &mut Started, kept: Kept) -> bool {
+    match to.inlets.get_mut(0) {
+        Some(inlet) => inlet.bring(rt, 0, kept.into_peer()).is_ok(),
+        None => {
+            drop(kept);
+            false
+        }
+    }
 }
 
 impl HeldChain {
@@ -140,18 +171,25 @@ impl HeldChain {
     fn end<R: Wait + Threads>(self, rt: &R) {
         let HeldChain {
             port: _,
-            mut to_head,
-            mut to_tail,
-            barrier: _barrier,
             front,
-            workers,
+            head,
+            tail,
+            barrier: _barrier,
         } = self;
         front.end(rt);
-        let _ = to_head.end(rt);
-        let _ = to_tail.end(rt);
-        for worker in workers {
-            worker.join(rt);
+        head.end(rt);
+        tail.end(rt);
+    }
+}
+
+impl Started {
+    // Ends the worker.
+    fn end<R: Wait + Threads>(self, rt: &R) {
+        let Started { thread, mut inlets } = self;
+        if let Some(inlet) = inlets.get_mut(0) {
+            let _ = inlet.end(rt);
         }
+        thread.join(rt);
     }
 }
 
@@ -164,61 +202,69 @@ fn held_chain<
         + Send
         + 'static,
 >(rt: R, alloc: Global) -> Option<HeldChain> {
+    let (desks, polls) = shared_desks(&rt, alloc)?;
+    let (mut servers, links) = two_servers(rt, alloc)?;
+    let (tail, _, _) = start_last(rt, alloc, 1, &mut servers, links, &desks)?;
+    let (head, barrier) = start_head(rt, alloc, &mut servers, &desks)?;
+    let (head, pools, failed) = head;
+    let (port, front) = serve(rt, alloc, &desks, polls, pools, failed)?;
+    Some(HeldChain {
+        port,
+        front,
+        head,
+        tail,
+        barrier,
+    })
+}
+
+// The desk of one thread, and what that polls.
+fn shared_desks<R: Net>(rt: &R, alloc: Global) -> Option<(Arc<Desks, Global>, Vec<Poll>)> {
+    let (desks, polls) = open_desks(rt, alloc, 1).ok()?;
+    let desks = Arc::new(alloc, desks).ok()?;
+    Some((desks, polls))
+}
+
+// Two servers, and the links of the second.
+fn two_servers<R: Wait + Threads + Copy + Drop>(
+    rt: R,
+    alloc: Global,
+) -> Option<(Vec<Opened<R>>, InProcessLinks<R>)> {
     let shape = Shape::new(&rt, Some(1), 1);
     let mut servers = all_servers(rt, alloc, 2, shape, Allowance::new(None, 2)).ok()?;
     let links = all_links(rt, alloc, 2, &mut servers).ok()?.pop()?;
-    let tail = servers.pop()?;
-    let head = servers.pop()?;
-    start_chain(rt, alloc, head, tail, links)
+    Some((servers, links))
 }
 
-fn start_chain<
-    R: Wait
-        + Threads
-        + Net<Listener = TcpListener, Stream = TcpStream>
-        + Copy
-        + Drop
-        + Send
-        + 'static,
->(
+// Starts the head, whose messages come to the barrier.
+fn start_head<R: Wait + Threads + Copy + Drop + Send + 'static>(
     rt: R,
     alloc: Global,
-    head: Opened<R>,
-    tail: Opened<R>,
-    links: InProcessLinks<R>,
-) -> Option<HeldChain> {
-    let (desks, polls) = open_desks(&rt, alloc, 1).ok()?;
-    let desks = Arc::new(alloc, desks).ok()?;
+    servers: &mut Vec<Opened<R>>,
+    desks: &Arc<Desks, Global>,
+) -> Option<((Started, Vec<SeatPool>, Mark), Receiver<Kept>)> {
     let (sender, barrier) = unbounded(alloc).ok()?;
     let held = Barrier {
         rt,
         kept: sender,
         put: Vec::new(alloc),
     };
-    let head = start_server(rt, alloc, 0, head, held, &desks)?;
-    let tail = start_server(rt, alloc, 1, tail, links, &desks)?;
-    let listener = TcpListener::bind(&rt, (Ipv4Addr::LOCALHOST, 0)).ok()?;
-    open_head(rt, alloc, listener, &desks, polls, head, tail, barrier)
+    let head = start_last(rt, alloc, 0, servers, held, desks)?;
+    Some((head, barrier))
 }
 
-// A server whose worker's thread was started.
-#[derive(Drop)]
-struct Started {
-    thread: JoinHandle<Rest>,
-    inlet: Inlet,
-    pools: Vec<SeatPool>,
-    failed: Mark,
-}
-
-// Starts the thread of the worker of server `id`.
-fn start_server<R: Wait + Threads + Copy + Drop + Send + 'static, L: Links + Drop + Send + 'static>(
+// Starts the last of these servers, whose id this is. With it come its seats, and the mark that its clients look at.
+fn start_last<R: Wait + Threads + Copy + Drop + Send + 'static, L: Links + Drop + Send + 'static>(
     rt: R,
     alloc: Global,
     id: u8,
-    server: Opened<R>,
+    servers: &mut Vec<Opened<R>>,
     links: L,
     desks: &Arc<Desks, Global>,
-) -> Option<Started> {
+) -> Option<(Started, Vec<SeatPool>, Mark)> {
+    let Some(server) = servers.pop() else {
+        drop(links);
+        return None;
+    };
     let Opened {
         pooled,
         failed,
@@ -227,80 +273,11 @@ fn start_server<R: Wait + Threads + Copy + Drop + Send + 'static, L: Links + Dro
     let Pooled {
         worker,
         pools,
-        mut inlets,
+        inlets,
     } = pooled;
-    let inlet = inlets.pop()?;
-    let around = surroundings(alloc, id, &failed, gauge, desks)?;
+    let around = surroundings(alloc, id, &failed, gauge, desks);
     let thread = start_worker(rt, worker, links, around)?;
-    Some(Started {
-        thread,
-        inlet,
-        pools,
-        failed,
-    })
-}
-
-// Serves the head's clients, who connect here.
-fn open_head<R: Wait + Threads + Net + Copy + Drop + Send + 'static>(
-    rt: R,
-    alloc: Global,
-    listener: TcpListener,
-    desks: &Arc<Desks, Global>,
-    polls: Vec<Poll>,
-    head: Started,
-    tail: Started,
-    barrier: Receiver<Kept>,
-) -> Option<HeldChain> {
-    let Started {
-        thread: at_head,
-        inlet: to_head,
-        pools,
-        failed,
-    } = head;
-    let Started {
-        thread: at_tail,
-        inlet: to_tail,
-        ..
-    } = tail;
-    let mut workers = Vec::new(alloc);
-    workers.push(at_head).ok()?;
-    workers.push(at_tail).ok()?;
-    let port = listener.local_addr().ok()?.port();
-    let gates = only_gate(alloc, listener, pools, failed)?;
-    let stations = Arc::new(alloc, Elsewhere).ok()?;
-    let front = open_front(rt, alloc, two(), &stations, desks, polls, gates).ok()?;
-    Some(HeldChain {
-        port,
-        to_head,
-        to_tail,
-        barrier,
-        front,
-        workers,
-    })
-}
-
-// Two connections are served.
-fn two() -> FrontSettings {
-    FrontSettings {
-        connections: 2,
-        serves: 2,
-    }
-}
-
-fn only_gate(
-    alloc: Global,
-    listener: TcpListener,
-    pools: Vec<SeatPool>,
-    mark: Mark,
-) -> Option<Vec<Gate>> {
-    let mut gates = Vec::new(alloc);
-    let gate = Gate {
-        listener,
-        pools,
-        mark,
-    };
-    gates.push(gate).ok()?;
-    Some(gates)
+    Some((Started { thread, inlets }, pools, failed))
 }
 
 // What the worker of server `id` shares with others.
@@ -320,16 +297,66 @@ fn surroundings(
     })
 }
 
-// Starts the thread of a worker.
+// Starts the thread of a worker, unless there was no memory for what it shares.
 fn start_worker<R: Wait + Threads + Copy + Drop + Send + 'static, L: Links + Drop + Send + 'static>(
     rt: R,
     worker: Worker<R>,
     links: L,
-    around: Surroundings,
+    around: Option<Surroundings>,
 ) -> Option<JoinHandle<Rest>> {
+    let Some(around) = around else {
+        drop(worker);
+        drop(links);
+        return None;
+    };
     let started = thread::spawn(&rt, move || {
         let mut links = links;
         work(&rt, worker, &mut links, &around)
     });
     started.ok()
+}
+
+// Serves two clients, who connect at a port of the system's choice.
+fn serve<
+    R: Wait
+        + Threads
+        + Net<Listener = TcpListener, Stream = TcpStream>
+        + Copy
+        + Drop
+        + Send
+        + 'static,
+>(
+    rt: R,
+    alloc: Global,
+    desks: &Arc<Desks, Global>,
+    polls: Vec<Poll>,
+    pools: Vec<SeatPool>,
+    failed: Mark,
+) -> Option<(u16, Front)> {
+    let (port, listener) = listen(&rt)?;
+    let gates = only_gate(alloc, listener, pools, failed)?;
+    let elsewhere = Arc::new(alloc, Elsewhere).ok()?;
+    let settings = FrontSettings {
+        connections: 2,
+        serves: 2,
+    };
+    let front = open_front(rt, alloc, settings, &elsewhere, desks, polls, gates).ok()?;
+    Some((port, front))
+}
+
+// The gate of the only server of a front.
+fn only_gate(
+    alloc: Global,
+    listener: TcpListener,
+    pools: Vec<SeatPool>,
+    mark: Mark,
+) -> Option<Vec<Gate>> {
+    let mut gates = Vec::new(alloc);
+    let gate = Gate {
+        listener,
+        pools,
+        mark,
+    };
+    gates.push(gate).ok()?;
+    Some(gates)
 }

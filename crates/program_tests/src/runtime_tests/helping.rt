@@ -1,11 +1,11 @@
 //! Threads that serve clients, and take the turns of the workers.
 
-use super::clients::{answers, client};
-use io_threads::{Front, FrontSettings, Gate, open_desks, open_front};
-use runtime::{Shape, Side, all_links, all_servers, all_sides};
+use super::clients::{answers, client, listen};
+use io_threads::{Desks, Front, FrontSettings, Gate, open_desks, open_front};
+use runtime::{Hall, Shape, Side, all_links, all_servers, all_sides};
 use seats::Allowance;
 use std::alloc::Global;
-use std::net::{Ipv4Addr, Net, TcpListener, TcpStream};
+use std::net::{Net, TcpListener, TcpStream};
 use std::sync::{Arc, Wait};
 use std::test::Fail;
 use std::thread::Threads;
@@ -52,12 +52,9 @@ fn helped_chain<
         + Send
         + 'static,
 >(rt: R, alloc: Global) -> Option<HelpedChain> {
-    let shape = Shape::new(&rt, Some(1), 1);
-    let mut servers = all_servers(rt, alloc, 3, shape, Allowance::new(None, 3)).ok()?;
-    let links = all_links(rt, alloc, 3, &mut servers).ok()?;
     let (desks, polls) = open_desks(&rt, alloc, 1).ok()?;
     let desks = Arc::new(alloc, desks).ok()?;
-    let (hall, sides) = all_sides(alloc, &desks, servers, links).ok()?;
+    let (hall, sides) = three_sides(rt, alloc, &desks)?;
     let hall = Arc::new(alloc, hall).ok()?;
     let (ports, gates) = all_gates(&rt, alloc, sides)?;
     let settings = FrontSettings {
@@ -66,6 +63,18 @@ fn helped_chain<
     };
     let front = open_front(rt, alloc, settings, &hall, &desks, polls, gates).ok()?;
     Some(HelpedChain { ports, front })
+}
+
+// The hall of the workers of three servers, and what each server has beside its own.
+fn three_sides<R: Wait + Threads + Copy + Drop>(
+    rt: R,
+    alloc: Global,
+    desks: &Arc<Desks, Global>,
+) -> Option<(Hall<R>, Vec<Side>)> {
+    let shape = Shape::new(&rt, Some(1), 1);
+    let mut servers = all_servers(rt, alloc, 3, shape, Allowance::new(None, 3)).ok()?;
+    let links = all_links(rt, alloc, 3, &mut servers).ok()?;
+    all_sides(alloc, desks, servers, links).ok()
 }
 
 // A port of each server.
@@ -77,16 +86,25 @@ fn all_gates<R: Net<Listener = TcpListener, Stream = TcpStream>>(
     let mut ports = Vec::new(alloc);
     let mut gates = Vec::new(alloc);
     for side in sides {
-        let Side { pools, home } = side;
-        let listener = TcpListener::bind(rt, (Ipv4Addr::LOCALHOST, 0)).ok()?;
-        ports.push(listener.local_addr().ok()?.port()).ok()?;
-        let mark = home.failed.share().ok()?;
-        let gate = Gate {
-            listener,
-            pools,
-            mark,
-        };
+        let (port, gate) = gate_of(rt, side)?;
+        ports.push(port).ok()?;
         gates.push(gate).ok()?;
     }
     Some((ports, gates))
+}
+
+// A port of a server, and its gate.
+fn gate_of<R: Net<Listener = TcpListener, Stream = TcpStream>>(
+    rt: &R,
+    side: Side,
+) -> Option<(u16, Gate)> {
+    let (port, listener) = listen(rt)?;
+    let Side { pools, home } = side;
+    let mark = home.failed.share().ok()?;
+    let gate = Gate {
+        listener,
+        pools,
+        mark,
+    };
+    Some((port, gate))
 }

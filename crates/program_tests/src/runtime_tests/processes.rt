@@ -12,9 +12,9 @@ use std::net::{Ipv4Addr, Net, SocketAddr, SocketAddrV4, TcpListener, TcpStream};
 use std::rt::Files;
 use std::sync::Wait;
 use std::test::Fail;
-use std::thread;
 use std::thread::Threads;
 use std::time::Clock;
+use std::{io, thread};
 
 // How many servers the chain has.
 const SERVERS: u8 = 3;
@@ -47,14 +47,27 @@ struct Middle {
 fn set_waits_for_the_master(rt: HostRuntime) -> Result<(), Fail> {
     let alloc = rt.alloc();
     let broken = ready(rt, alloc).ok_or("two servers")?;
-    let mut first = client(&rt, broken.port)?;
-    first.write_all(b"set a 0 0 1\r\n1\r\n")?;
-    let mut second = client(&rt, broken.port.wrapping_add(2))?;
-    assert!(rt; answers(&mut second, b"get a\r\n", b"END\r\n"));
-    assert!(rt; tells(&rt, alloc, broken.peer_port)?);
-    assert!(rt; says(&mut first, b"STORED\r\n"));
+    assert!(rt; waits_for_the_master(&rt, alloc, &broken)?);
     drop(broken);
     Ok(())
+}
+
+fn waits_for_the_master<
+    R: Wait + Threads + Clock + Net<Listener = TcpListener, Stream = TcpStream> + Files + Sync,
+>(rt: &R, alloc: Global, broken: &Broken) -> Result<bool, Fail> {
+    let mut first = client(rt, broken.port)?;
+    first.write_all(b"set a 0 0 1\r\n1\r\n")?;
+    let waits = finds_none(rt, broken.port.wrapping_add(2));
+    let told = tells(rt, alloc, broken.peer_port)?;
+    Ok(waits && told && says(&mut first, b"STORED\r\n"))
+}
+
+// Whether a client of the server at this port finds no item.
+fn finds_none<R: Net<Listener = TcpListener, Stream = TcpStream>>(rt: &R, port: u16) -> bool {
+    match client(rt, port) {
+        Ok(mut stream) => answers(&mut stream, b"get a\r\n", b"END\r\n"),
+        Err(_) => false,
+    }
 }
 
 // Whether a master that reads `gone 1` tells both others.
@@ -67,23 +80,31 @@ fn tells<
         watch: false,
         beat: 300,
     };
+    let input = notice(rt)?;
     let settings = MasterSettings::new(alloc, numbers, here(alloc)?)?;
-    let (input, mut lines) = pipe(rt)?;
-    lines.write_all(b"gone 1\n")?;
-    drop(lines);
     let mut input = TrackedReader::new(input);
     let mut output = TrackedWriter::new(Vec::new(alloc));
     let mut errors = TrackedWriter::new(Vec::new(alloc));
     let status = master(rt, alloc, &settings, &mut input, &mut output, &mut errors);
+    drop(settings);
     Ok(status == 0 && output.inner.as_slice() == b"gone 1 told 2\n".as_slice())
+}
+
+// An input that says that server 1 is gone, and ends.
+fn notice<R: Files>(rt: &R) -> io::Result<PipeReader> {
+    let (input, mut lines) = pipe(rt)?;
+    lines.write_all(b"gone 1\n")?;
+    Ok(input)
 }
 
 // This machine alone.
 fn here(alloc: Global) -> Result<Hosts, AllocError> {
+    let address = String::from_str(alloc, "127.0.0.1")?;
+    let chain = String::from_str(alloc, "craq")?;
     Ok(Hosts {
-        address: String::from_str(alloc, "127.0.0.1")?,
+        address,
         peers: None,
-        chain: String::from_str(alloc, "craq")?,
+        chain,
     })
 }
 
@@ -103,22 +124,41 @@ fn ready<
     for _ in 0..50 {
         let port = some_port(&rt)?;
         let peer_port = port.wrapping_add(u16::from(SERVERS));
-        let Ok(middle) = TcpListener::bind(&rt, (Ipv4Addr::LOCALHOST, peer_port.wrapping_add(1)))
-        else {
-            continue;
-        };
-        let mut head = start(rt, alloc, 0, port, peer_port)?;
-        let mut tail = start(rt, alloc, 2, port, peer_port)?;
-        let played = thread::spawn(&rt, move || play(&rt, &middle, peer_port)).ok()?;
-        if says(&mut head, b"ready\n") && says(&mut tail, b"ready\n") {
+        if let Some(middle) = begin(rt, alloc, port, peer_port) {
             return Some(Broken {
                 port,
                 peer_port,
-                middle: played.join(&rt)?,
+                middle,
             });
         }
     }
     None
+}
+
+// Starts both servers at these ports, and is the one between them. None if a port is taken.
+fn begin<
+    R: Wait
+        + Threads
+        + Clock
+        + Eprint
+        + Files
+        + Net<Listener = TcpListener, Stream = TcpStream>
+        + Copy
+        + Drop
+        + Send
+        + 'static,
+>(rt: R, alloc: Global, port: u16, peer_port: u16) -> Option<Middle> {
+    let here = (Ipv4Addr::LOCALHOST, peer_port.wrapping_add(1));
+    let listener = TcpListener::bind(&rt, here).ok()?;
+    let mut head = start(rt, alloc, 0, port, peer_port)?;
+    let mut tail = start(rt, alloc, 2, port, peer_port)?;
+    let played = thread::spawn(&rt, move || play(&rt, &listener, peer_port)).ok()?;
+    if says(&mut head, b"ready\n") && says(&mut tail, b"ready\n") {
+        played.join(&rt)
+    } else {
+        drop(played);
+        None
+    }
 }
 
 // Accepts both others, and is accepted by them.
@@ -178,14 +218,15 @@ fn start<
         memory: None,
         quiet: true,
     };
-    let settings = ServerSettings::new(alloc, numbers, here(alloc).ok()?).ok()?;
     let (output, ours) = pipe(&rt).ok()?;
+    let settings = ServerSettings::new(alloc, numbers, here(alloc).ok()?).ok()?;
     let started = thread::spawn(&rt, move || {
         let mut output = TrackedWriter::new(ours);
         let mut errors = TrackedWriter::new(Vec::new(alloc));
         server(rt, alloc, &settings, None, &mut output, &mut errors)
     });
-    started.is_ok().then_some(output)
+    drop(started.ok()?);
+    Some(output)
 }
 
 // Who listens beyond this machine is warned, and who doesn't is not.

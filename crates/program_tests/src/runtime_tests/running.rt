@@ -1,12 +1,12 @@
 //! A program that runs a chain, with the other ends of its input and its output.
 
-use super::clients::says;
+use super::clients::{listen, says};
 use command_line::Numbers;
 use ends::{TrackedReader, TrackedWriter};
 use runtime::cluster;
 use std::alloc::Global;
 use std::io::{Error, ErrorKind, PipeReader, PipeWriter, pipe};
-use std::net::{Ipv4Addr, Net, TcpListener, TcpStream};
+use std::net::{Net, TcpListener, TcpStream};
 use std::rt::Files;
 use std::sync::Wait;
 use std::thread::{JoinHandle, Threads};
@@ -55,11 +55,11 @@ pub fn ready<
     None
 }
 
-/// A port below those that the system gives out. Which one differs from call to call, so that tests that run at the same
-/// time seldom meet.
+/// A port below those that the system gives out. Which one differs from call to call, so that tests that run at the
+/// same time seldom meet.
 pub fn some_port<R: Net<Listener = TcpListener, Stream = TcpStream>>(rt: &R) -> Option<u16> {
-    let listener = TcpListener::bind(rt, (Ipv4Addr::LOCALHOST, 0)).ok()?;
-    let given = listener.local_addr().ok()?.port();
+    let (given, listener) = listen(rt)?;
+    drop(listener);
     Some((given % 700).wrapping_mul(16).wrapping_add(12_000))
 }
 
@@ -77,13 +77,14 @@ fn start<
 >(rt: R, alloc: Global, numbers: Numbers) -> io::Result<Running> {
     let (theirs, input) = pipe(&rt)?;
     let (output, ours) = pipe(&rt)?;
-    match thread::spawn(&rt, move || program(rt, alloc, numbers, theirs, ours)) {
-        Ok(program) => Ok(Running {
+    let started = thread::spawn(&rt, move || program(rt, alloc, numbers, theirs, ours));
+    match started.ok() {
+        Some(program) => Ok(Running {
             input,
             output,
             program,
         }),
-        Err(_) => Err(Error::from(ErrorKind::OutOfMemory)),
+        None => Err(Error::from(ErrorKind::OutOfMemory)),
     }
 }
 
