@@ -1,5 +1,5 @@
 //! Requests: what a client may ask for, and the faults that stand in a request's place.
-ghost use Rattle.std.specs.Prelude.{◌≡◌, ◌↔◌, [], ◌∷◌, IsTrue, IfOk, OnErr, MatchOption, true};
+ghost use Rattle.std.specs.Prelude.{◌≡◌, ◌≤◌, ◌↔◌, [], ◌∷◌, IsTrue, IfOk, OnErr, MatchOption, true, drop, length};
 ghost use Rattle.std.specs.List.{list_all};
 ghost use Rattle.table.specs.Keys.{is_key};
 ghost use Rattle.proto.specs.Keys.{keys_of, keys_in};
@@ -9,6 +9,7 @@ use crate::fields::{Fields, first_end};
 use bytes::Bytes;
 use std::alloc::{AllocError, Global};
 use std::marker::Model;
+use std::mem;
 use table::{Key, Op};
 
 /// What is reported if the bytes spell no request (protocol.txt, "Error strings"). What each consumes and writes:
@@ -116,8 +117,19 @@ fn pop_key(text: &mut Bytes) -> Result<Option<(Key, Key)>, AllocError>
             return Err(fault);
         }
     };
-    text.advance(text.len().min(at + 1));
+    pass(text, text.len().min(at + 1));
     Ok(Some((key, copy)))
+}
+
+// Passes over the first n bytes. A text that has come to its end keeps no block.
+fn pass(text: &mut Bytes, n: usize)
+    requires { n ≤ length text.old }
+    ensures { text.new ≡ drop n text.old }
+{
+    text.advance(n);
+    if text.is_empty() {
+        drop(mem::replace(text, Bytes::new()));
+    }
 }
 
 /// What the bytes at the front of a stream spell.

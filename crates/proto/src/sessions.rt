@@ -1,4 +1,5 @@
 //! Sessions: the requests of one connection, from bytes that come in pieces, and the bytes that answer them.
+ghost use Rattle.std.specs.Prelude.{◌≡◌};
 
 use crate::front::Pending;
 use crate::passing::{Passing, kept, passed};
@@ -7,6 +8,7 @@ use crate::{Form, Keys, ProtoFault};
 use bytes::BytesMut;
 use std::alloc::{AllocError, Global};
 use std::marker::Model;
+use std::mem;
 use table::{Op, Reply, Target};
 
 /// What stands next in a session.
@@ -24,7 +26,8 @@ pub enum Step {
 
 /// One connection's side of the protocol: it is fed with bytes in any pieces, gives their requests as steps, one call
 /// at a time, and keeps the output until it is taken. Fed with n bytes, it moves O(n) bytes in all, however they are
-/// cut. Of a block that is refused for its size or its expiry time it keeps no byte once `next` has met its line.
+/// cut. Of a block that is refused for its size or its expiry time it keeps no byte once `next` has met its line. Its
+/// buffers hold no memory while they are empty.
 #[derive(Drop)]
 pub struct Session {
     pub(crate) alloc: Global,
@@ -182,5 +185,15 @@ impl Session {
         ensures { self.new ≡ record self.old { out = drop n self.old.out } }
     {
         self.out.advance(n);
+        rest(self.alloc, &mut self.out);
+    }
+}
+
+/// Gives the memory of an empty buffer back.
+pub(crate) fn rest(alloc: Global, buffer: &mut BytesMut)
+    ensures { buffer.new.items ≡ buffer.old.items }
+{
+    if buffer.is_empty() {
+        drop(mem::replace(buffer, BytesMut::new(alloc)));
     }
 }

@@ -5,6 +5,7 @@ ghost use Rattle.proto.specs.Sessions.{shows};
 
 use crate::front::{Found, front};
 use crate::passing::Passing;
+use crate::sessions::rest;
 use crate::texts::write_fault;
 use crate::{Fault, Form, Keys, Look, ProtoFault, Request, Session, Step};
 use table::{Key, Op, Target};
@@ -53,6 +54,7 @@ impl Session {
             Found::Refused(passing) => {
                 drop(self.pending.take());
                 self.unread.clear();
+                rest(self.alloc, &mut self.unread);
                 self.passing = Some(passing);
                 Ok(Step::Wait)
             }
@@ -172,6 +174,7 @@ impl Session {
     {
         drop(self.pending.take());
         self.unread.advance(n);
+        rest(self.alloc, &mut self.unread);
     }
 }
 

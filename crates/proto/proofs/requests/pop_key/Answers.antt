@@ -12,12 +12,12 @@ returns-in_default-clause-ok c =
     (λ is. let bad = c.in_default.ensures.valid.1 is in cc) in
     (none, none)
 
-first : (c : goal.After-advance) → Popped c.args.text.now c.in_ok-slice.field-0 c.advance.new.self
+first : (c : goal.After-pass) → Popped c.args.text.now c.in_ok-slice.field-0 c.pass.new.text
 first c =
     let past = c.min.ensures ∙ ap (λ n. min n (c.first_end-at.result + 1)) c.len.ensures.value in
-    popped_key c.args.text.now c.in_ok-slice.field-0 c.advance.new.self c.first_end-at.result c.min.result
+    popped_key c.args.text.now c.in_ok-slice.field-0 c.pass.new.text c.first_end-at.result c.min.result
     c.requires.keys (c.first_end-at.ensures ∙ ap first_end c.as_slice.ensures) past c.in_ok-slice.ensures.ok
-    c.advance.ensures (c.in-Some.ensures.valid.0 refl)
+    c.pass.ensures (c.in-Some.ensures.valid.0 refl)
 
 pub returns-clause-keys : goal.returns-clause-keys
 returns-clause-keys c = (first c).keys
@@ -25,5 +25,5 @@ returns-clause-keys c = (first c).keys
 pub returns-clause-ok : goal.returns-clause-ok
 returns-clause-ok c = (
   sym c.in-Ok.ensures.cases,
-  (first c).first ∙ ap (λ k. k ∷ keys_in c.advance.new.self) (sym c.in-Some.ensures.bytes),
+  (first c).first ∙ ap (λ k. k ∷ keys_in c.pass.new.text) (sym c.in-Some.ensures.bytes),
 )
