@@ -11,6 +11,7 @@ pub mod KnownLaws
 pub mod LineLaws
 pub mod MeasureLaws
 pub mod RequestLaws
+pub mod RestLaws
 pub mod RestedLaws
 pub mod RunLaws
 pub mod RunTexts

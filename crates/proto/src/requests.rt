@@ -75,6 +75,9 @@ impl Keys {
             (λ o. MatchOption o ((self.old ≡ []) × (self.new ≡ [])) (λ p. (p.0 ≡ p.1) × (self.old ≡ p.0 ∷ self.new))) }
         ensures err { OnErr result (self.new ≡ self.old) }
     {
+        if self.is_empty() {
+            return Ok(None);
+        }
         pop_key(&mut self.text)
     }
 

@@ -49,6 +49,22 @@ impl Session {
         ensures only_memory { IsOkUnless result ProtoFault.Memory }
         ensures err { OnErr result (self.new ≡ self.old) }
     {
+        if self.unread.is_empty() {
+            return Ok(Step::Wait);
+        }
+        self.begin_unread()
+    }
+
+    // Begins what the unread bytes spell.
+    fn begin_unread(&mut self) -> Result<Step, ProtoFault>
+        requires idle { self.old.asked ≡ None }
+        requires open { self.old.closed ≡ false }
+        ensures step { IfOk result (λ step. step ≡ step_of (by_found (found_at self.old.unread) self.old)) }
+        ensures left { OnOk result (self.new ≡ (by_found (found_at self.old.unread) self.old).1) }
+        ensures opens { IfOk result (λ step. IsOpen step self.new.asked) }
+        ensures only_memory { IsOkUnless result ProtoFault.Memory }
+        ensures err { OnErr result (self.new ≡ self.old) }
+    {
         match front(self.alloc, &mut self.pending, self.unread.as_slice())? {
             Found::Request(request, n) => self.begin(request, n),
             Found::Refused(passing) => {

@@ -1,0 +1,9 @@
+use Rattle.std.proofs.Common.{rules}
+use Rattle.proto.proofs.RestLaws.{waits, stays}
+use Rattle.proto.proofs.sessions.Session.begin_front.Goals as goal
+
+pub returns-then-is_empty-clause-step : goal.returns-then-is_empty-clause-step
+returns-then-is_empty-clause-step c = waits c.args.self.now (search rules) (search rules)
+
+pub returns-then-is_empty-clause-left : goal.returns-then-is_empty-clause-left
+returns-then-is_empty-clause-left c = stays c.args.self.now (search rules)
