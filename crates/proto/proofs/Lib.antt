@@ -9,6 +9,7 @@ pub mod GrammarWords
 pub mod HoldLaws
 pub mod KnownLaws
 pub mod LineLaws
+pub mod LoneGetLaws
 pub mod MeasureLaws
 pub mod RequestLaws
 pub mod RestLaws

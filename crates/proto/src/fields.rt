@@ -22,6 +22,13 @@ pub fn first_line_end(bytes: &[u8]) -> Option<usize>
     memchr(b'\n', bytes)
 }
 
+/// The place of the first carriage return, by a vector search.
+pub fn first_return(bytes: &[u8]) -> Option<usize>
+    ensures within { IfSome result (λ i. i < length bytes.now) }
+{
+    memchr(b'\r', bytes)
+}
+
 /// The fields of a text that are left, cut at each single space by a vector search. They borrow the text, and nothing
 /// is allocated. Contracts see the list of them.
 #[derive(Drop)]

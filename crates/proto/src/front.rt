@@ -1,14 +1,17 @@
 //! The request at the front of a stream.
-ghost use Rattle.std.specs.Prelude.{◌≡◌, ◌-◌, ◌≤◌, IfOk, None, Some, if◌then◌else◌, length, nat_lt};
+ghost use Rattle.std.specs.Prelude.{◌≡◌, ◌+◌, ◌-◌, ◌≤◌, ◌++◌, IfOk, IfSome, None, Some, [], ◌∷◌, false, if◌then◌else◌};
+ghost use Rattle.std.specs.Prelude.{length, nat_lt};
 ghost use Rattle.table.specs.Items.{limit};
 ghost use Rattle.proto.specs.Fronts.{IsFront, IsKeyUpdate, IsKnown, IsWhole, IsWithin, finished, found_at, found_of};
 ghost use Rattle.proto.specs.Requests.{asked_at};
 ghost use Rattle.proto.specs.Verbs.{op_of};
 ghost use Rattle.proto.specs.declared.lines.Asked.TheVariants.{Behind};
 ghost use Rattle.proto.specs.declared.storage.Fate.TheVariants.{Put};
-ghost use Rattle.proto.specs.declared.requests.Request.TheVariants.{Bad};
+ghost use Rattle.proto.specs.declared.front.Found.TheVariants.{Request as Requested};
+ghost use Rattle.proto.specs.declared.requests.Request.TheVariants.{Bad, Get};
 
-use crate::lines::{Asked, asked_at};
+use crate::fields::first_return;
+use crate::lines::{Asked, asked_at, beginning};
 use crate::passing::Passing;
 use crate::storage::{Block, Fate, Verb};
 use crate::{Fault, Request};
@@ -59,6 +62,33 @@ pub fn front(
         Asked::Whole(request) => Ok(Found::Request(request, line)),
         Asked::Behind(block) => behind(alloc, pending, block, line, bytes),
     }
+}
+
+/// The key of a `get` of one key, if such a line stands at the front. If not, nothing is said of what stands there.
+pub fn lone_key(alloc: Global, bytes: &[u8]) -> Result<Option<Key>, AllocError>
+    ensures found { IfOk result (λ found. IfSome found
+        (λ key. found_at bytes.now ≡ Requested (Get (key ∷ []) false) (length key + 6))) }
+    ensures within { IfOk result (λ found. IfSome found (λ key. length key + 6 ≤ length bytes.now)) }
+{
+    let Some(rest) = after(b"get ", bytes) else {
+        return Ok(None);
+    };
+    let Some(at) = first_return(beginning(rest, Key::MAX + 1)) else {
+        return Ok(None);
+    };
+    let (text, end) = rest.split_at(at);
+    match after(b"\r\n", end) {
+        Some(_) => Key::new(alloc, text),
+        None => Ok(None),
+    }
+}
+
+// The bytes after these, if these stand at the front.
+fn after<'a>(first: &[u8], bytes: &'a [u8]) -> Option<&'a [u8]>
+    ensures { IfSome result (λ rest. bytes.now ≡ first.now ++ rest.now) }
+{
+    let rest = bytes.strip_prefix(first)?;
+    Some(rest)
 }
 
 // By the block that a line of `line` bytes announces.

@@ -51,7 +51,8 @@ fn asked_within(
     }
 }
 
-fn beginning(bytes: &[u8], most: usize) -> &[u8]
+/// The first bytes, `most` at most.
+pub fn beginning(bytes: &[u8], most: usize) -> &[u8]
     ensures bytes { result.now ≡ take most bytes.entry.now }
     ensures short { length result.now ≤ length bytes.entry.now }
 {

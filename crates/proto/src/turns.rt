@@ -3,7 +3,7 @@ ghost use Rattle.std.specs.Prelude.{◌≡◌, false};
 ghost use Rattle.proto.specs.Turns.{form_of};
 ghost use Rattle.proto.specs.Sessions.{shows};
 
-use crate::front::{Found, front};
+use crate::front::{Found, front, lone_key};
 use crate::passing::Passing;
 use crate::sessions::rest;
 use crate::texts::write_fault;
@@ -11,7 +11,8 @@ use crate::{Fault, Form, Keys, Look, ProtoFault, Request, Session, Step};
 use table::{Key, Op, Target};
 
 impl Session {
-    ghost use Rattle.std.specs.Prelude.{◌≡◌, ◌≤◌, drop, length, false, true, None, Some, IfOk, OnOk, OnErr, IsOkUnless};
+    ghost use Rattle.std.specs.Prelude.{◌≡◌, ◌≤◌, ◌+◌, [], ◌∷◌, drop, length, false, true, None, Some};
+    ghost use Rattle.std.specs.Prelude.{IfOk, OnOk, OnErr, IsOkUnless};
     ghost use Rattle.table.specs.Operations.{Fits, Suits, is_update};
     ghost use Rattle.table.specs.declared.operations.Target.TheVariants.{One};
     ghost use Rattle.proto.specs.declared.front.Found.TheVariants.{Request as Requested};
@@ -52,7 +53,36 @@ impl Session {
         if self.unread.is_empty() {
             return Ok(Step::Wait);
         }
-        self.begin_unread()
+        match lone_key(self.alloc, self.unread.as_slice())? {
+            Some(key) => self.begin_lone_get(key),
+            None => self.begin_unread(),
+        }
+    }
+
+    // Begins the `get` of this key alone, which stands at the front: the request that is met most, so it gets a short
+    // way.
+    fn begin_lone_get(&mut self, key: Key) -> Result<Step, ProtoFault>
+        requires within { length key + 6 ≤ length self.old.unread }
+        ensures step { IfOk result
+            (λ step. step ≡ step_of (by_found (Requested (Get (key ∷ []) false) (length key + 6)) self.old)) }
+        ensures left { OnOk result
+            (self.new ≡ (by_found (Requested (Get (key ∷ []) false) (length key + 6)) self.old).1) }
+        ensures opens { IfOk result (λ step. IsOpen step self.new.asked) }
+        ensures only_memory { IsOkUnless result ProtoFault.Memory }
+        ensures err { OnErr result (self.new ≡ self.old) }
+    {
+        match key.clone() {
+            Ok(shown) => {
+                self.consume(key.bytes().len() + 6);
+                self.later = Keys::new();
+                self.unique = false;
+                Ok(self.look(key, shown))
+            }
+            Err(fault) => {
+                drop(key);
+                Err(ProtoFault::from(fault))
+            }
+        }
     }
 
     // Begins what the unread bytes spell.
