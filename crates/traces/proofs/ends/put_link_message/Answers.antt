@@ -7,5 +7,6 @@ pub returns : goal.returns
 unfolding message_line
 returns c =
     on_ok_weaker c.put-2.result
-    (five_more _ _ _ _ _ _ _ _ _ _ _ c.in_ok-numbered.ensures c.in_ok-numbered-2.ensures c.in_ok-put.ensures c.in_ok-put_message.ensures)
+    (five_more _ _ _ _ _ _ _ _ _ _ _ c.in_ok-numbered.ensures c.in_ok-numbered-2.ensures
+    c.in_ok-put.ensures c.in_ok-put_message.ensures)
     c.put-2.ensures

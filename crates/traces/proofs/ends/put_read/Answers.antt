@@ -7,5 +7,6 @@ pub returns : goal.returns
 unfolding read_line
 returns c =
     on_ok_weaker c.put.result
-    (five_more _ _ _ _ _ _ _ _ _ _ _ c.in_ok-labelled.ensures c.in_ok-numbered.ensures c.in_ok-put_key.ensures c.in_ok-labelled-2.ensures)
+    (five_more _ _ _ _ _ _ _ _ _ _ _ c.in_ok-labelled.ensures c.in_ok-numbered.ensures
+    c.in_ok-put_key.ensures c.in_ok-labelled-2.ensures)
     c.put.ensures

@@ -7,5 +7,6 @@ pub returns : goal.returns
 unfolding update_line
 returns c =
     on_ok_weaker c.put-2.result
-    (five_more _ _ _ _ _ _ _ _ _ _ _ c.in_ok-labelled.ensures c.in_ok-numbered.ensures c.in_ok-put.ensures c.in_ok-put_call.ensures)
+    (five_more _ _ _ _ _ _ _ _ _ _ _ c.in_ok-labelled.ensures c.in_ok-numbered.ensures
+    c.in_ok-put.ensures c.in_ok-put_call.ensures)
     c.put-2.ensures
