@@ -27,7 +27,7 @@ pub enum Step {
 /// One connection's side of the protocol: it is fed with bytes in any pieces, gives their requests as steps, one call
 /// at a time, and keeps the output until it is taken. Fed with n bytes, it moves O(n) bytes in all, however they are
 /// cut. Of a block that is refused for its size or its expiry time it keeps no byte once `next` has met its line. An
-/// empty buffer keeps no block of up to 1 KiB, and none above 128 KiB.
+/// empty buffer keeps no block above 128 KiB.
 #[derive(Drop)]
 pub struct Session {
     pub(crate) alloc: Global,
@@ -189,19 +189,16 @@ impl Session {
     }
 }
 
-/// A block up to this size is as soon had anew, and is then one that was just in use.
-const SMALL: usize = 1024;
-
 /// A block above this size isn't kept by a connection that may be idle for long.
 const LARGE: usize = 131_072;
 
-/// Gives the block of an empty buffer back, if it is small or large.
+/// Gives the block of an empty buffer back, if it is large.
 pub(crate) fn rest(alloc: Global, buffer: &mut BytesMut)
     ensures { buffer.new.items ≡ buffer.old.items }
 {
     if buffer.is_empty() {
         buffer.clear();
-        if buffer.capacity() <= SMALL || buffer.capacity() > LARGE {
+        if buffer.capacity() > LARGE {
             drop(mem::replace(buffer, BytesMut::new(alloc)));
         }
     }
