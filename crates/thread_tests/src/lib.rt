@@ -1,17 +1,13 @@
 //! Tests of what the threads of a server stand on, by public functions. A crate with tests is proved twice, so they
-//! stand here, and each library is proved once.
+//! stand here, and each library is proved once. Those of the front that serves clients are `front_tests`.
 #![tactic(auto)]
 
 #[cfg(test)]
 mod asking_tests;
 #[cfg(test)]
-mod client_tests;
-#[cfg(test)]
 mod connection_tests;
 #[cfg(test)]
 mod faces_tests;
-#[cfg(test)]
-mod front_tests;
 #[cfg(test)]
 mod peers_tests;
 #[cfg(test)]
