@@ -135,7 +135,8 @@ class Client(threading.Thread):
     def round(self, connection, key, number):
         value = b"%s:%d:" % (key, number) + b"x" * self.random.randrange(200)
         self.made(Call("incr", self.counter), lambda: int(connection.call(b"incr %s 1\r\n" % self.counter)))
-        self.made(Call("set", key, number), lambda: connection.call(b"set %s 7 0 %d\r\n%s\r\n" % (key, len(value), value)))
+        request = b"set %s 7 0 %d\r\n%s\r\n" % (key, len(value), value)
+        self.made(Call("set", key, number), lambda: connection.call(request))
         other = self.random.choice(self.shared)
         self.made(Call("gets", other), lambda: connection.gets(other))
 
@@ -164,7 +165,8 @@ def judge_counter(calls, faults):
         faults.append("two increments were answered with one number")
     for final in finals:
         if not len(answered) <= final.result <= len(increments):
-            faults.append(f"the counter is {final.result} after {len(answered)} answered increments of {len(increments)}")
+            faults.append(f"the counter is {final.result} after {len(answered)} answered increments of "
+                          f"{len(increments)}")
     judge_order([(c, c.result) for c in answered + finals], "the counter", faults)
 
 

@@ -183,11 +183,12 @@ def lost_answers(cluster):
 
 # The address space, in bytes, that a cluster may still take once it is ready.
 ROOM = 24 * 1024 * 1024
-FALLEN = re.compile(r"craq: server (\d) ran out of memory and was stopped; (the others go on without it|no server is left)")
+FALLEN = re.compile(
+    r"craq: server (\d) ran out of memory and was stopped; (the others go on without it|no server is left)")
 
 
 def memory_runs_out(cluster):
-    """Memory is refused to a server's worker: a line names it, the others are told by the cluster itself, and answer."""
+    """Memory is refused to a server's worker: a line names it; the cluster itself tells the others, and they answer."""
     with open(f"/proc/{cluster.process.pid}/status", encoding="ascii") as status:
         held = next(int(line.split()[1]) for line in status if line.startswith("VmSize:")) * 1024
     resource.prlimit(cluster.process.pid, resource.RLIMIT_AS, (held + ROOM, resource.RLIM_INFINITY))

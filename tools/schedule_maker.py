@@ -3,7 +3,8 @@ import random
 
 KEYS = ["a", "b", "n"]
 STORAGE = ["set", "set", "set", "add", "replace", "append", "prepend"]
-OTHERS = ["cas", "incr", "decr", "delete", "get", "get", "get", "gets", "gets", "flush_all", "expiry", "chunk", "unknown"]
+OTHERS = ["cas", "incr", "decr", "delete", "get", "get", "get", "gets", "gets", "flush_all", "expiry", "chunk",
+          "unknown"]
 
 
 def request(chosen):

@@ -4,8 +4,8 @@ from server_checks import differing
 from server_processes import Process
 
 SERVER = ("craq 0.1.0: server 0 of 1 of the chain {chain}; clients at 127.0.0.1 port {port}, servers and masters at "
-          "127.0.0.1 port {peer_port}; at most 9 connections at each server, by 2 threads and 3 seats; memory limit: {limit} "
-          "(the machine has {machine} MiB)\n")
+          "127.0.0.1 port {peer_port}; at most 9 connections at each server, by 2 threads and 3 seats; memory limit: "
+          "{limit} (the machine has {machine} MiB)\n")
 CLUSTER = ("craq 0.1.0: a cluster of 2 servers; clients at 127.0.0.1 ports {port} to {last}; at most 9 connections "
            "at each server, by 2 threads and 3 seats; memory limit: {limit} (the machine has {machine} MiB)\n")
 

@@ -1,7 +1,8 @@
 """What has changed since a commit: which crates, and which of these show another face to the crates above them.
 
 A crate's face is all that another crate can know of it: its definitions, and its sources without comments and without
-the bodies of functions, since callers are proved from contracts; if a crate above cites lemmas of this one, these too."""
+the bodies of functions, since callers are proved from contracts. If a crate above cites lemmas of this one, these
+too."""
 import os
 import re
 import subprocess

@@ -121,8 +121,8 @@ def naming(crate, other):
 
 
 def covering(crate, known):
-    """The crates whose tests cover this one, each with its modules that do so: itself, and crates of tests that name it.
-    Without any, others whose tests name it; without these, those above it that have tests."""
+    """The crates whose tests cover this one, each with its modules that do so: itself, and crates of tests that name
+    it. Without any, others whose tests name it; without these, those above it that have tests."""
     found = {crate: []} if crate.has_tests() else {}
     able = {it: naming(crate, it) for it in above(crate, known) if it.has_tests()}
     named_in = {it: modules for it, modules in able.items() if modules}

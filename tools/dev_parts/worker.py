@@ -1,5 +1,5 @@
-"""One piece of work on one crate, in a process that running.py starts: `worker.py KIND CRATE JOBS [MORE..]`. It ends, with
-all that it started, once its standard input ends.
+"""One piece of work on one crate, in a process that running.py starts: `worker.py KIND CRATE JOBS [MORE..]`. It ends,
+with all that it started, once its standard input ends.
 
   proof [strict]   proves the crate over its kept work, and builds what crates above load
   tests [strict]   proves and runs its tests; of a program that the tools' tests don't start also its stored run
