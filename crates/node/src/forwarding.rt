@@ -77,6 +77,9 @@ impl Server {
         let entries = self.store.entries_after(acked);
         settle_first(self.id, &mut self.pend, entries, n - acked, outputs)?;
         self.store.ack(n);
+        if previous.is_none() {
+            return Ok(());
+        }
         self.send(previous, Body::Ack(n), outputs)
     }
 
