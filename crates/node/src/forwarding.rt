@@ -77,6 +77,7 @@ impl Server {
         let entries = self.store.entries_after(acked);
         settle_first(self.id, &mut self.pend, entries, n - acked, outputs)?;
         self.store.ack(n);
+        // Nobody is to be told: a body that nobody gets would be made and dropped at each set of a head.
         if previous.is_none() {
             return Ok(());
         }
