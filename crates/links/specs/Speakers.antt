@@ -4,6 +4,7 @@ use Rattle.node.specs.declared.messages.Input.TheVariants as inputs
 use Rattle.rail.specs.declared.events.Event.TheVariants.{Took}
 use Rattle.wire.specs.declared.frames.Frame.{Frame}
 use Rattle.wire.specs.declared.frames.Frame.TheVariants.{Hello, Peer, Gone, Introduction, Accepted, Refused, Noted}
+use Rattle.wire.specs.declared.frames.Frame.TheVariants.{Reign, Beat, Alive, Silent}
 use Rattle.links.specs.declared.speakers.Who.{Who}
 use Rattle.links.specs.declared.speakers.Who.TheVariants.{Server, Master}
 
@@ -13,7 +14,8 @@ Greets id (Server j brought) = (j ≡ id) × (id ≢ 16)
 Greets id (Master told) = id ≡ 16
 
 -- what a frame makes of who speaks, if it is heard: a server sends messages and a master notices, and what is brought
--- to the server are these, in order. Nobody greets twice, and who has opened the connection answers nothing
+-- to the server are these, in order. Nobody greets twice, who has opened the connection answers nothing, and nobody
+-- watches by a later release's frames
 abbrev pub Hears : Who → Frame → Who → Type 0
 Hears (Server i brought) (Hello id) now = ⊥
 Hears (Server i brought) (Peer peer) now = now ≡ Server i (brought ++ Took (inputs.From i peer) ∷ [])
@@ -22,6 +24,10 @@ Hears (Server i brought) (Introduction opener) now = ⊥
 Hears (Server i brought) (Accepted answer) now = ⊥
 Hears (Server i brought) (Refused reason) now = ⊥
 Hears (Server i brought) (Noted j) now = ⊥
+Hears (Server i brought) (Reign reign) now = ⊥
+Hears (Server i brought) (Beat beat) now = ⊥
+Hears (Server i brought) (Alive alive) now = ⊥
+Hears (Server i brought) (Silent silent) now = ⊥
 Hears (Master told) (Hello id) now = ⊥
 Hears (Master told) (Peer peer) now = ⊥
 Hears (Master told) (Gone j) now = now ≡ Master (told ++ j ∷ [])
@@ -29,3 +35,7 @@ Hears (Master told) (Introduction opener) now = ⊥
 Hears (Master told) (Accepted answer) now = ⊥
 Hears (Master told) (Refused reason) now = ⊥
 Hears (Master told) (Noted j) now = ⊥
+Hears (Master told) (Reign reign) now = ⊥
+Hears (Master told) (Beat beat) now = ⊥
+Hears (Master told) (Alive alive) now = ⊥
+Hears (Master told) (Silent silent) now = ⊥

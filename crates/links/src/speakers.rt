@@ -100,6 +100,10 @@ fn hear<R: Wait, C: Cuts>(
         | Frame::Introduction(_)
         | Frame::Accepted(_)
         | Frame::Refused(_)
+        | Frame::Reign(_)
+        | Frame::Beat(_)
+        | Frame::Alive(_)
+        | Frame::Silent(_)
         | Frame::Noted(_) => Err(TakeFault),
     }
 }

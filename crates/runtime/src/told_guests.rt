@@ -35,6 +35,8 @@ pub(crate) enum Kind {
     Message,
     /// It introduces, or answers.
     Greeting,
+    /// It watches, as nothing here does yet.
+    Order,
 }
 
 /// One who takes frames. It knows who sends them, and which one was refused.
@@ -101,6 +103,7 @@ fn kind_of(frame: &Frame) -> Kind {
         Frame::Introduction(_) | Frame::Accepted(_) | Frame::Refused(_) | Frame::Noted(_) => {
             Kind::Greeting
         }
+        Frame::Reign(_) | Frame::Beat(_) | Frame::Alive(_) | Frame::Silent(_) => Kind::Order,
     }
 }
 
@@ -109,6 +112,7 @@ fn reason_of(name: Name, refused: Option<Kind>) -> Option<&'static str> {
     match (name, refused) {
         (_, Some(Kind::Hello)) => Some("was closed after a second Hello"),
         (_, Some(Kind::Greeting)) => Some("was closed after a frame that belongs to greetings"),
+        (_, Some(Kind::Order)) => Some("was closed after a frame that belongs to leases"),
         (Name::Server(_), Some(Kind::Notice)) => {
             Some("was closed after a notice of a failure, which only the master may send")
         }

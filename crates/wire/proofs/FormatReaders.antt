@@ -18,7 +18,7 @@ use Rattle.node.specs.declared.messages.Body.{Body}
 use Rattle.node.specs.declared.messages.Body.TheVariants as bodies
 use Rattle.wire.specs.declared.fields.Stop.TheVariants.{Malformed}
 use Rattle.wire.specs.declared.frames.Frame.{Frame}
-use Rattle.wire.specs.declared.frames.Frame.TheVariants.{Hello, Peer, Gone, Accepted, Refused, Noted}
+use Rattle.wire.specs.declared.frames.Frame.TheVariants.{Hello, Peer, Gone, Accepted, Refused, Noted, Reign}
 use Rattle.wire.specs.declared.frames.Frame.TheVariants as frames
 use Rattle.wire.specs.declared.greetings.Reason.TheVariants as reasons
 use Rattle.wire.specs.Parts.{Part, followed, makes, refused, either, byte, number, bytes_of, text_of}
@@ -27,8 +27,8 @@ use Rattle.wire.specs.Grammar.{any, positive, at_most, below, is_key_length, is_
 use Rattle.wire.specs.Fronts.{Read, ◌>>=◌, byte_at, number_at, bytes_at, text_at, key_at, target_at, block_at}
 use Rattle.wire.specs.Fronts.{flagged_at, key_operation_at, op_at, key_reply_at, reply_at, key_change_at, change_at}
 use Rattle.wire.specs.Fronts.{op_body_at, forward_body_at, ack_body_at, query_body_at, answer_body_at, body_at}
-use Rattle.wire.specs.Fronts.{message_at, introduction_at, acceptance_at, refusal_of_at, refusal_at, greeting_at}
-use Rattle.wire.specs.Fronts.{of_kind_at}
+use Rattle.wire.specs.Fronts.{message_at, introduction_at, acceptance_at, refusal_of_at, refusal_at, beat_at, alive_at}
+use Rattle.wire.specs.Fronts.{silence_at, watching_at, greeting_at, of_kind_at}
 use Rattle.wire.proofs.Readers.{IsReader, in_turn, made, refusing, chosen}
 use Rattle.wire.proofs.FieldReaders.{byte_reader, number_reader, bytes_reader, text_reader, wide16, wide32, wide64}
 
@@ -247,14 +247,51 @@ refusal_reader : IsReader refusal_at format.refusal
 unfolding refusal_at
 refusal_reader = in_turn (byte_at any) (byte any) refusal_of_at format.refusal_of (byte_reader any) refusal_of_reader
 
+any64_reader : IsReader (number_at w64 any) (number w64 any)
+any64_reader = number_reader w64 any wide64
+
+any16_reader : IsReader (number_at w16 any) (number w16 any)
+any16_reader = number_reader w16 any wide16
+
+beat_reader : IsReader beat_at format.beat
+unfolding beat_at
+beat_reader = in_turn (number_at w64 any) (number w64 any) _ _ any64_reader
+    (λ reign. amount_reader (λ stamp. frames.Beat (record { reign = reign; stamp = stamp })))
+
+alive_reader : IsReader alive_at format.alive
+unfolding alive_at
+alive_reader =
+    in_turn (number_at w64 any) (number w64 any) _ _ any64_reader
+    (λ reign. in_turn (number_at w64 any) (number w64 any) _ _ any64_reader
+    (λ stamp. in_turn (number_at w64 any) (number w64 any) _ _ any64_reader
+    (λ end. in_turn (number_at w64 any) (number w64 any) _ _ any64_reader
+    (λ term. in_turn (number_at w16 any) (number w16 any) _ _ any16_reader
+    (λ gone. mapped (number_at w16 any) (number w16 any)
+    (λ known. frames.Alive
+    (record { reign = reign; stamp = stamp; end = end; term = term; gone = gone; known = known })) any16_reader)))))
+
+silence_reader : IsReader silence_at format.silence
+unfolding silence_at
+silence_reader = in_turn (number_at w64 any) (number w64 any) _ _ any64_reader
+    (λ reign. mapped (byte_at (below 16)) (byte (below 16)) (λ id. frames.Silent (record { reign = reign; id = id }))
+    (byte_reader (below 16)))
+
+watching_reader : (kind : ℕ) → IsReader (watching_at kind) (format.watching kind)
+unfolding watching_at
+watching_reader kind =
+    chosen (kind == 11) _ _ _ _ (amount_reader Reign)
+    (chosen (kind == 12) beat_at _ format.beat _ beat_reader
+    (chosen (kind == 13) alive_at _ format.alive _ alive_reader
+    (chosen (kind == 14) silence_at _ format.silence _ silence_reader refusing)))
+
 greeting_reader : (kind : ℕ) → IsReader (greeting_at kind) (format.greeting kind)
 unfolding greeting_at
 greeting_reader kind =
     chosen (kind == 7) introduction_at _ format.introduction _ introduction_reader
     (chosen (kind == 8) acceptance_at _ format.acceptance _ acceptance_reader
     (chosen (kind == 9) refusal_at _ format.refusal _ refusal_reader
-    (chosen (kind == 10) _ _ _ _ (mapped (byte_at (below 16)) (byte (below 16)) Noted (byte_reader (below 16)))
-    refusing)))
+    (chosen (kind == 10) _ (watching_at kind) _ (format.watching kind)
+    (mapped (byte_at (below 16)) (byte (below 16)) Noted (byte_reader (below 16))) (watching_reader kind))))
 
 of_kind_reader : (kind : ℕ) → IsReader (of_kind_at kind) (format.of_kind kind)
 unfolding of_kind_at

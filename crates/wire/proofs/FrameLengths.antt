@@ -21,7 +21,7 @@ use Rattle.node.specs.declared.messages.Body.{Body}
 use Rattle.node.specs.declared.messages.Body.TheVariants as bodies
 use Rattle.wire.specs.declared.fields.Stop.TheVariants.{Short, Malformed, Old}
 use Rattle.wire.specs.declared.frames.Frame.{Frame}
-use Rattle.wire.specs.declared.frames.Frame.TheVariants.{Hello, Peer, Gone, Accepted, Refused, Noted}
+use Rattle.wire.specs.declared.frames.Frame.TheVariants.{Hello, Peer, Gone, Accepted, Refused, Noted, Reign}
 use Rattle.wire.specs.declared.frames.Frame.TheVariants as frames
 use Rattle.wire.specs.declared.greetings.Reason.TheVariants as reasons
 use Rattle.wire.specs.Spellings.{IsFrame, spelling}
@@ -30,8 +30,8 @@ use Rattle.wire.specs.Grammar.{IsPartial, any, positive, at_most, below, is_key_
 use Rattle.wire.specs.Fronts.{Read, ◌>>=◌, byte_at, number_at, bytes_at, text_at, key_at, target_at, block_at}
 use Rattle.wire.specs.Fronts.{flagged_at, key_operation_at, op_at, key_reply_at, reply_at, key_change_at, change_at}
 use Rattle.wire.specs.Fronts.{op_body_at, forward_body_at, ack_body_at, query_body_at, answer_body_at, body_at}
-use Rattle.wire.specs.Fronts.{message_at, introduction_at, acceptance_at, refusal_of_at, refusal_at, greeting_at}
-use Rattle.wire.specs.Fronts.{of_kind_at, front}
+use Rattle.wire.specs.Fronts.{message_at, introduction_at, acceptance_at, refusal_of_at, refusal_at, beat_at, alive_at}
+use Rattle.wire.specs.Fronts.{silence_at, watching_at, greeting_at, of_kind_at, front}
 use Rattle.wire.proofs.Readers.{IsBytes}
 use Rattle.wire.proofs.FieldReaders.{byte_takes, judged, counted_ok, within_ok}
 use Rattle.wire.proofs.FormatReaders.{plain_front, plain_reader}
@@ -252,15 +252,48 @@ unfolding refusal_at
 within_refusal =
     within_turn 1 0 (byte_at any) refusal_of_at (within_byte any) (λ code bytes rest e. within_refusal_of code)
 
+within_beat : IsWithin 16 beat_at
+unfolding beat_at
+within_beat = within_turn 8 8 (number_at w64 any) _ (within_number w64 any)
+    (λ reign bytes rest e. within_amount (λ stamp. frames.Beat (record { reign = reign; stamp = stamp })))
+
+within_alive : IsWithin 36 alive_at
+unfolding alive_at
+within_alive =
+    within_turn 8 28 (number_at w64 any) _ (within_number w64 any)
+    (λ reign bytes rest e. within_turn 8 20 (number_at w64 any) _ (within_number w64 any)
+    (λ stamp bytes rest e. within_turn 8 12 (number_at w64 any) _ (within_number w64 any)
+    (λ end bytes rest e. within_turn 8 4 (number_at w64 any) _ (within_number w64 any)
+    (λ term bytes rest e. within_turn 2 2 (number_at w16 any) _ (within_number w16 any)
+    (λ gone bytes rest e. within_mapped 2 (number_at w16 any)
+    (λ known. frames.Alive
+    (record { reign = reign; stamp = stamp; end = end; term = term; gone = gone; known = known }))
+    (within_number w16 any))))))
+
+within_silence : IsWithin 9 silence_at
+unfolding silence_at
+within_silence = within_turn 8 1 (number_at w64 any) _ (within_number w64 any)
+    (λ reign bytes rest e. within_mapped 1 (byte_at (below 16))
+    (λ id. frames.Silent (record { reign = reign; id = id })) (within_byte (below 16)))
+
+within_watching : (kind : ℕ) → IsWithin 36 (watching_at kind)
+unfolding watching_at
+within_watching kind =
+    within_chosen 36 (kind == 11) _ _ (wider 8 36 _ (omega arith) (within_amount Reign))
+    (within_chosen 36 (kind == 12) beat_at _ (wider 16 36 beat_at (omega arith) within_beat)
+    (within_chosen 36 (kind == 13) alive_at _ within_alive
+    (within_chosen 36 (kind == 14) silence_at _ (wider 9 36 silence_at (omega arith) within_silence)
+    (within_refusing 36))))
+
 within_greeting : (kind : ℕ) → IsWithin 260 (greeting_at kind)
 unfolding greeting_at
 within_greeting kind =
     within_chosen 260 (kind == 7) introduction_at _ within_introduction
     (within_chosen 260 (kind == 8) acceptance_at _ (wider 10 260 acceptance_at (omega arith) within_acceptance)
     (within_chosen 260 (kind == 9) refusal_at _ (wider 1 260 refusal_at (omega arith) within_refusal)
-    (within_chosen 260 (kind == 10) _ _
+    (within_chosen 260 (kind == 10) _ (watching_at kind)
     (wider 1 260 _ (omega arith) (within_mapped 1 (byte_at (below 16)) Noted (within_byte (below 16))))
-    (within_refusing 260))))
+    (wider 36 260 (watching_at kind) (omega arith) (within_watching kind)))))
 
 -- ---- frames
 

@@ -2,6 +2,7 @@ pub mod Readers
 pub mod FieldReaders
 pub mod FormatReaders
 pub mod Spelled
+pub mod SpelledWatching
 pub mod SpelledGreetings
 pub mod SpelledFrames
 pub mod FrontLaws

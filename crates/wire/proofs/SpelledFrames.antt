@@ -14,18 +14,20 @@ use Rattle.versions.specs.Entries.{PutsOwn, is_clear, is_flushed}
 use Rattle.node.specs.declared.messages.Body.{Body}
 use Rattle.node.specs.declared.messages.Body.TheVariants as bodies
 use Rattle.wire.specs.declared.frames.Frame.{Frame}
-use Rattle.wire.specs.declared.frames.Frame.TheVariants.{Hello, Peer, Gone, Accepted, Refused, Noted}
+use Rattle.wire.specs.declared.frames.Frame.TheVariants.{Hello, Peer, Gone, Accepted, Refused, Noted, Reign}
 use Rattle.wire.specs.declared.frames.Frame.TheVariants as frames
 use Rattle.wire.specs.Spellings.{four_bytes, eight_bytes, key_spelling, target_spelling, block_spelling, op_spelling}
 use Rattle.wire.specs.Spellings.{reply_spelling, change_spelling, body_spelling, kind_of, spelling, HasReplyWidth}
 use Rattle.wire.specs.Spellings.{HasChangeWidth, IsBody, IsFrame, introduction_spelling, acceptance_spelling, code_of}
+use Rattle.wire.specs.Spellings.{beat_spelling, alive_spelling, silent_spelling}
 use Rattle.wire.specs.Parts.{followed, makes, byte, number}
 use Rattle.wire.specs.Grammar as format
 use Rattle.wire.specs.Grammar.{any, positive, at_most, below}
 use Rattle.wire.proofs.Spelled.{by_test, from_made, to_made, at_most_is, below_is, joined, key_from, key_to}
 use Rattle.wire.proofs.Spelled.{target_from, target_to, flagged_from, flagged_to, by_part, by_value, by_code, with_code}
 use Rattle.wire.proofs.Spelled.{op_from, op_to, amount_to}
-use Rattle.wire.proofs.SpelledGreetings.{SentFrame, greeting_from, introduction_to, acceptance_to, refusal_to}
+use Rattle.wire.proofs.SpelledWatching.{SentFrame, beat_to, alive_to, silence_to}
+use Rattle.wire.proofs.SpelledGreetings.{greeting_from, introduction_to, acceptance_to, refusal_to}
 
 -- ---- replies
 
@@ -449,6 +451,10 @@ of_kind_to (frames.Introduction opener) h = (7, introduction_spelling opener, in
 of_kind_to (Accepted answer) h = (8, acceptance_spelling answer, acceptance_to answer h, refl)
 of_kind_to (Refused reason) h = (9, code_of reason ∷ [], refusal_to reason, refl)
 of_kind_to (Noted id) h = (10, id ∷ [], to_made (byte (below 16)) Noted id (id ∷ []) (lt-ltb id 16 h, refl), refl)
+of_kind_to (Reign reign) h = (11, eight_bytes reign, amount_to Reign reign h, refl)
+of_kind_to (frames.Beat beat) h = (12, beat_spelling beat, beat_to beat h, refl)
+of_kind_to (frames.Alive alive) h = (13, alive_spelling alive, alive_to alive h, refl)
+of_kind_to (frames.Silent silent) h = (14, silent_spelling silent, silence_to silent h, refl)
 of_kind_to (Peer peer) h =
     let s : (format.message (kind_of peer.body)).Spells (Peer peer)
     (to_be_bytes w16 peer.view ++ body_spelling peer.body) = (

@@ -1,8 +1,8 @@
 -- The same of the frames of greetings.
-use Rattle.std.proofs.Common.{◌≡◌, ℕ, true, List, [], ◌∷◌, ◌++◌, refl, sym, ap, subst, ◌∙◌, inl, inr}
+use Rattle.std.proofs.Common.{◌≡◌, ℕ, List, [], ◌∷◌, ◌++◌, refl, sym, ap, subst, ◌∙◌, inl, inr}
 use Rattle.std.specs.Prelude.{nat_le, ◌==◌}
-use Rattle.std.specs.Int.{w16, w64, to_be_bytes}
-use Rattle.std.proofs.lemmas.Bool.{leb-true, le-leb, and_parts, and_from, eqb-true}
+use Rattle.std.specs.Int.{w16, to_be_bytes}
+use Rattle.std.proofs.lemmas.Bool.{leb-true, le-leb, and_parts, and_from}
 use Rattle.wire.specs.declared.frames.Frame.{Frame}
 use Rattle.wire.specs.declared.frames.Frame.TheVariants.{Accepted, Refused, Noted}
 use Rattle.wire.specs.declared.frames.Frame.TheVariants as frames
@@ -10,16 +10,13 @@ use Rattle.wire.specs.declared.greetings.Introduction.{Introduction}
 use Rattle.wire.specs.declared.greetings.Acceptance.{Acceptance}
 use Rattle.wire.specs.declared.greetings.Reason.{Reason}
 use Rattle.wire.specs.declared.greetings.Reason.TheVariants as reasons
-use Rattle.wire.specs.Spellings.{eight_bytes, key_spelling, introduction_spelling, acceptance_spelling, code_of, spelling}
-use Rattle.wire.specs.Spellings.{IsIntroduction, IsAcceptance, IsFrame}
+use Rattle.wire.specs.Spellings.{eight_bytes, key_spelling, introduction_spelling, acceptance_spelling, code_of}
+use Rattle.wire.specs.Spellings.{IsIntroduction, IsAcceptance}
 use Rattle.wire.specs.Parts.{followed, makes, byte, number}
 use Rattle.wire.specs.Grammar as format
 use Rattle.wire.specs.Grammar.{any, below}
 use Rattle.wire.proofs.Spelled.{by_test, from_made, to_made, below_is, joined, key_from, key_to, by_value}
-
--- a frame in its ranges, and what stands after its kind
-abbrev pub SentFrame : ℕ → Frame → List ℕ → Type 0
-SentFrame kind f text = IsFrame f × (2 ∷ kind ∷ text ≡ spelling f)
+use Rattle.wire.proofs.SpelledWatching.{SentFrame, at_kind, watching_from}
 
 -- ---- the opener
 
@@ -134,12 +131,6 @@ noted_from f text s =
 
 -- ---- by kinds
 
-pub at_kind : (n kind : ℕ) (f : Frame) (text : List ℕ)
-    → (kind == n) ≡ true
-    → SentFrame n f text
-    → SentFrame kind f text
-at_kind n kind f text e h = subst (λ k. SentFrame k f text) (sym (eqb-true kind n e)) h
-
 pub greeting_from : (kind : ℕ) (f : Frame) (text : List ℕ)
     → (format.greeting kind).Spells f text
     → SentFrame kind f text
@@ -150,9 +141,9 @@ greeting_from kind f text s0 =
         | inl h ↦ at_kind 8 kind f text h.0 (acceptance_from f text h.1)
         | inr s2 ↦ elim (by_test (kind == 9) format.refusal _ f text s2.1) [
           | inl h ↦ at_kind 9 kind f text h.0 (refusal_from f text h.1)
-          | inr s3 ↦ elim (by_test (kind == 10) _ _ f text s3.1) [
+          | inr s3 ↦ elim (by_test (kind == 10) _ (format.watching kind) f text s3.1) [
             | inl h ↦ at_kind 10 kind f text h.0 (noted_from f text h.1)
-            | inr s4 ↦ absurd s4.1
+            | inr s4 ↦ watching_from kind f text s4.1
           ]
         ]
       ]

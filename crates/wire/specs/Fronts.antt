@@ -23,7 +23,7 @@ use Rattle.wire.specs.declared.fields.Stop.TheVariants.{Short, Malformed, Old}
 use Rattle.wire.specs.declared.reading.ReadFault.{ReadFault}
 use Rattle.wire.specs.declared.reading.ReadFault.TheVariants as faults
 use Rattle.wire.specs.declared.frames.Frame.{Frame}
-use Rattle.wire.specs.declared.frames.Frame.TheVariants.{Hello, Peer, Gone, Accepted, Refused, Noted}
+use Rattle.wire.specs.declared.frames.Frame.TheVariants.{Hello, Peer, Gone, Accepted, Refused, Noted, Reign}
 use Rattle.wire.specs.declared.frames.Frame.TheVariants as frames
 use Rattle.wire.specs.declared.greetings.Reason.TheVariants as reasons
 use Rattle.wire.specs.Grammar.{any, positive, at_most, below, is_key_length, is_server_count}
@@ -263,6 +263,51 @@ refusal_at bytes = do
   code ← byte_at any bytes
   refusal_of_at code.0 code.1
 
+-- a beat
+unfoldable pub beat_at : List ℕ → Read Frame
+beat_at bytes = do
+  reign ← number_at w64 any bytes
+  stamp ← number_at w64 any reign.1
+  Ok (frames.Beat (record { reign = reign.0; stamp = stamp.0 }), stamp.1)
+
+-- how a server is
+unfoldable pub alive_at : List ℕ → Read Frame
+alive_at bytes = do
+  reign ← number_at w64 any bytes
+  stamp ← number_at w64 any reign.1
+  end ← number_at w64 any stamp.1
+  term ← number_at w64 any end.1
+  gone ← number_at w16 any term.1
+  known ← number_at w16 any gone.1
+  Ok (
+    frames.Alive
+        (record {
+          reign = reign.0;
+          stamp = stamp.0;
+          end = end.0;
+          term = term.0;
+          gone = gone.0;
+          known = known.0;
+        }),
+    known.1,
+  )
+
+-- a notice of silence
+unfoldable pub silence_at : List ℕ → Read Frame
+silence_at bytes = do
+  reign ← number_at w64 any bytes
+  id ← byte_at (below 16) reign.1
+  Ok (frames.Silent (record { reign = reign.0; id = id.0 }), id.1)
+
+-- what is read after a kind from 11 on
+unfoldable pub watching_at : ℕ → List ℕ → Read Frame
+watching_at kind bytes =
+    if kind == 11 then (number_at w64 any bytes >>= λ reign. Ok (Reign reign.0, reign.1))
+    else if kind == 12 then beat_at bytes
+    else if kind == 13 then alive_at bytes
+    else if kind == 14 then silence_at bytes
+    else Err Malformed
+
 -- what is read after a kind from 7 on
 unfoldable pub greeting_at : ℕ → List ℕ → Read Frame
 greeting_at kind bytes =
@@ -270,7 +315,7 @@ greeting_at kind bytes =
     else if kind == 8 then acceptance_at bytes
     else if kind == 9 then refusal_at bytes
     else if kind == 10 then (byte_at (below 16) bytes >>= λ id. Ok (Noted id.0, id.1))
-    else Err Malformed
+    else watching_at kind bytes
 
 -- what is read after a kind
 unfoldable pub of_kind_at : ℕ → List ℕ → Read Frame

@@ -17,7 +17,7 @@ use Rattle.table.specs.declared.operations.Change.TheVariants.{Keep, Put, Drop, 
 use Rattle.node.specs.declared.messages.Body.{Body}
 use Rattle.node.specs.declared.messages.Body.TheVariants as bodies
 use Rattle.wire.specs.declared.frames.Frame.{Frame}
-use Rattle.wire.specs.declared.frames.Frame.TheVariants.{Hello, Peer, Gone, Accepted, Refused, Noted}
+use Rattle.wire.specs.declared.frames.Frame.TheVariants.{Hello, Peer, Gone, Accepted, Refused, Noted, Reign}
 use Rattle.wire.specs.declared.frames.Frame.TheVariants as frames
 use Rattle.wire.specs.declared.greetings.Reason.TheVariants as reasons
 use Rattle.wire.specs.Spellings.{IsFrame, spelling}
@@ -203,15 +203,49 @@ refusal_of code =
 abbrev pub refusal : Part Frame
 refusal = byte any >>= λ code. refusal_of code
 
--- what stands after a kind from 7 on: 7 introduces, 8 and 9 answer that, 10 answers a notice
+-- a beat: the master's reign, and the stamp that it brings back
+abbrev pub beat : Part Frame
+beat = do
+  reign ← number w64 any
+  stamp ← number w64 any
+  makes (frames.Beat (record { reign = reign; stamp = stamp }))
+
+-- how a server is: its reign, its stamp, its lease's end and term, who is gone, and who was while the lease held
+abbrev pub alive : Part Frame
+alive = do
+  reign ← number w64 any
+  stamp ← number w64 any
+  end ← number w64 any
+  term ← number w64 any
+  gone ← number w16 any
+  known ← number w16 any
+  makes (frames.Alive
+      (record { reign = reign; stamp = stamp; end = end; term = term; gone = gone; known = known }))
+
+-- a notice of silence: the master's reign, and the server
+abbrev pub silence : Part Frame
+silence = do
+  reign ← number w64 any
+  id ← byte (below 16)
+  makes (frames.Silent (record { reign = reign; id = id }))
+
+-- what stands after a kind from 11 on: 11 greets in a reign, 12 is a beat, 13 answers both, 14 is a notice of silence
+abbrev pub watching : ℕ → Part Frame
+watching kind =
+    either (kind == 11) (number w64 any >>= λ reign. makes (Reign reign))
+    (either (kind == 12) beat
+    (either (kind == 13) alive
+    (either (kind == 14) silence refused)))
+
+-- what stands after a kind from 7 on: 7 introduces, 8 and 9 answer that, 10 answers a notice, and the others watch
 abbrev pub greeting : ℕ → Part Frame
 greeting kind =
     either (kind == 7) introduction
     (either (kind == 8) acceptance
     (either (kind == 9) refusal
-    (either (kind == 10) (byte (below 16) >>= λ id. makes (Noted id)) refused)))
+    (either (kind == 10) (byte (below 16) >>= λ id. makes (Noted id)) (watching kind))))
 
--- what stands after a kind: 0 greets, 1 to 5 are messages, 6 is a notice, and the others belong to greetings
+-- what stands after a kind: 0 greets, 1 to 5 are messages, 6 is a notice, and the others belong to greetings or watch
 abbrev pub of_kind : ℕ → Part Frame
 of_kind kind =
     either (kind == 0) (byte (at_most 16) >>= λ id. makes (Hello id))

@@ -18,12 +18,15 @@ use Rattle.node.specs.Lawful.{IsCall, IsSendable}
 use Rattle.node.specs.declared.messages.Body.{Body}
 use Rattle.node.specs.declared.messages.Body.TheVariants as bodies
 use Rattle.wire.specs.declared.frames.Frame.{Frame}
-use Rattle.wire.specs.declared.frames.Frame.TheVariants.{Hello, Peer, Gone, Accepted, Refused, Noted}
+use Rattle.wire.specs.declared.frames.Frame.TheVariants.{Hello, Peer, Gone, Accepted, Refused, Noted, Reign}
 use Rattle.wire.specs.declared.frames.Frame.TheVariants as frames
 use Rattle.wire.specs.declared.greetings.Introduction.{Introduction}
 use Rattle.wire.specs.declared.greetings.Acceptance.{Acceptance}
 use Rattle.wire.specs.declared.greetings.Reason.{Reason}
 use Rattle.wire.specs.declared.greetings.Reason.TheVariants as reasons
+use Rattle.wire.specs.declared.watching.Beat.{Beat}
+use Rattle.wire.specs.declared.watching.Alive.{Alive}
+use Rattle.wire.specs.declared.watching.Silent.{Silent}
 
 -- a number of eight bytes, the most significant byte first
 abbrev pub eight_bytes : ℕ → List ℕ
@@ -111,6 +114,22 @@ introduction_spelling opener = opener.servers ∷ (eight_bytes opener.start ++ k
 abbrev pub acceptance_spelling : Acceptance → List ℕ
 acceptance_spelling answer = eight_bytes answer.start ++ to_be_bytes w16 answer.gone
 
+-- a beat: the reign, and the stamp that it brings back
+abbrev pub beat_spelling : Beat → List ℕ
+beat_spelling beat = eight_bytes beat.reign ++ eight_bytes beat.stamp
+
+-- how a server is: its reign, its stamp, its lease's end and term, who is gone, and who was while the lease held
+abbrev pub alive_spelling : Alive → List ℕ
+alive_spelling alive =
+    eight_bytes alive.reign
+    ++ (eight_bytes alive.stamp
+    ++ (eight_bytes alive.end
+    ++ (eight_bytes alive.term ++ (to_be_bytes w16 alive.gone ++ to_be_bytes w16 alive.known))))
+
+-- a notice of silence: the reign, and the server
+abbrev pub silent_spelling : Silent → List ℕ
+silent_spelling silent = eight_bytes silent.reign ++ silent.id ∷ []
+
 -- the code of a reason
 abbrev pub code_of : Reason → ℕ
 code_of reasons.Servers = 1
@@ -128,6 +147,10 @@ spelling (frames.Introduction opener) = 2 ∷ 7 ∷ introduction_spelling opener
 spelling (Accepted answer) = 2 ∷ 8 ∷ acceptance_spelling answer
 spelling (Refused reason) = 2 ∷ 9 ∷ code_of reason ∷ []
 spelling (Noted id) = 2 ∷ 10 ∷ id ∷ []
+spelling (Reign reign) = 2 ∷ 11 ∷ eight_bytes reign
+spelling (frames.Beat beat) = 2 ∷ 12 ∷ beat_spelling beat
+spelling (frames.Alive alive) = 2 ∷ 13 ∷ alive_spelling alive
+spelling (frames.Silent silent) = 2 ∷ 14 ∷ silent_spelling silent
 
 -- A frame whose fields are in the ranges that no type keeps: a server has an id below 16, and 16 is the master, who may
 -- greet and is never gone; a message is one that may be sent; a chain has 1 to 16 servers.
@@ -139,6 +162,10 @@ IsInRange (frames.Introduction opener) = (1 ≤ opener.servers) × (opener.serve
 IsInRange (Accepted answer) = Unit {0}
 IsInRange (Refused reason) = Unit {0}
 IsInRange (Noted id) = id < 16
+IsInRange (Reign reign) = Unit {0}
+IsInRange (frames.Beat beat) = Unit {0}
+IsInRange (frames.Alive alive) = Unit {0}
+IsInRange (frames.Silent silent) = silent.id < 16
 
 -- a target, if a frame is seen as plain data: its key is one, as the type of keys keeps it
 abbrev pub IsTarget : Target → Type 0
@@ -196,6 +223,20 @@ IsIntroduction opener =
 abbrev pub IsAcceptance : Acceptance → Type 0
 IsAcceptance answer = (answer.start < 2 ^ 64) × (answer.gone < 2 ^ 16)
 
+-- and of a beat
+abbrev pub IsBeat : Beat → Type 0
+IsBeat beat = (beat.reign < 2 ^ 64) × (beat.stamp < 2 ^ 64)
+
+-- of how a server is
+abbrev pub IsAlive : Alive → Type 0
+IsAlive alive =
+    (alive.reign < 2 ^ 64) × (alive.stamp < 2 ^ 64) × (alive.end < 2 ^ 64) × (alive.term < 2 ^ 64)
+    × (alive.gone < 2 ^ 16) × (alive.known < 2 ^ 16)
+
+-- of a notice of silence
+abbrev pub IsSilent : Silent → Type 0
+IsSilent silent = (silent.reign < 2 ^ 64) × (silent.id < 16)
+
 -- a frame all of whose fields are in their ranges
 abbrev pub IsFrame : Frame → Type 0
 IsFrame (Hello id) = id ≤ 16
@@ -205,3 +246,7 @@ IsFrame (frames.Introduction opener) = IsIntroduction opener
 IsFrame (Accepted answer) = IsAcceptance answer
 IsFrame (Refused reason) = Unit {0}
 IsFrame (Noted id) = id < 16
+IsFrame (Reign reign) = reign < 2 ^ 64
+IsFrame (frames.Beat beat) = IsBeat beat
+IsFrame (frames.Alive alive) = IsAlive alive
+IsFrame (frames.Silent silent) = IsSilent silent

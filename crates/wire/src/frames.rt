@@ -2,7 +2,7 @@
 ghost use Rattle.std.specs.Prelude.{◌↔◌, IsTrue};
 ghost use Rattle.wire.specs.Spellings.{IsInRange};
 
-use crate::{Acceptance, Introduction, Reason};
+use crate::{Acceptance, Alive, Beat, Introduction, Reason, Silent};
 use node::{Peer, SERVERS};
 
 /// The format's number, which is each frame's first byte.
@@ -31,6 +31,14 @@ pub enum Frame {
     Refused(Reason),
     /// The answer to the master's notice of the server of this id, below 16.
     Noted(u8),
+    /// A master of this reign greets; 0 stands for none.
+    Reign(u64),
+    /// A master's beat.
+    Beat(Beat),
+    /// How a server is: the answer to the two before.
+    Alive(Alive),
+    /// A master's notice that a server was silent.
+    Silent(Silent),
 }
 
 impl Frame {
@@ -44,6 +52,8 @@ impl Frame {
             Frame::Gone(id) | Frame::Noted(id) => *id < SERVERS,
             Frame::Introduction(opener) => 1 <= opener.servers && opener.servers <= SERVERS,
             Frame::Accepted(_) | Frame::Refused(_) => true,
+            Frame::Reign(_) | Frame::Beat(_) | Frame::Alive(_) => true,
+            Frame::Silent(silent) => silent.id < SERVERS,
         }
     }
 }

@@ -6,6 +6,7 @@ ghost use Rattle.wire.specs.Grammar.{is_server_count};
 use crate::fields::{Stop, byte_at, key_at, server_at, u16_at, u64_at};
 use crate::reading::ReadFault;
 use crate::targets::owned_key;
+use crate::watching_fronts::watching_at;
 use crate::{Acceptance, Frame, Introduction, Reason};
 use node::SERVERS;
 use std::alloc::Global;
@@ -23,7 +24,7 @@ pub fn greeting_at(alloc: Global, kind: u8, bytes: &[u8]) -> Result<(Frame, &[u8
             let (id, rest) = server_at(bytes)?;
             Ok((Frame::Noted(id), rest))
         }
-        _ => Err(ReadFault::Stopped(Stop::Malformed)),
+        _ => Ok(watching_at(kind, bytes)?),
     }
 }
 

@@ -18,6 +18,8 @@ mod sizes;
 mod spelling;
 mod streams;
 mod targets;
+mod watching;
+mod watching_fronts;
 
 pub use ends::PeerEnd;
 pub use faults::WireFault;
@@ -33,3 +35,4 @@ pub use serving::{
 };
 pub use spelling::{encode, encode_onto};
 pub use streams::Frames;
+pub use watching::{Alive, Beat, Silent};

@@ -2,10 +2,10 @@
 ghost use Rattle.std.specs.Prelude.{◌<◌, ◌^◌};
 ghost use Rattle.table.specs.Keys.{IsKey};
 ghost use Rattle.node.specs.Lawful.{IsSendable};
-ghost use Rattle.wire.specs.Spellings.{HasChangeWidth, HasReplyWidth, HasWidths, IsBody, IsFrame, IsInRange, IsTarget};
-ghost use Rattle.wire.specs.Spellings.{IsWireEntry};
+ghost use Rattle.wire.specs.Spellings.{HasChangeWidth, HasReplyWidth, HasWidths, IsAlive, IsBody, IsFrame, IsInRange};
+ghost use Rattle.wire.specs.Spellings.{IsTarget, IsWireEntry};
 
-use crate::Frame;
+use crate::{Alive, Frame};
 use node::Body;
 use table::{Change, Key, Op, Reply, Target};
 use versions::Entry;
@@ -29,7 +29,25 @@ pub fn hold_ranges(frame: &Frame)
             hold_number(answer.start);
             hold_view(answer.gone);
         }
+        Frame::Reign(reign) => hold_number(*reign),
+        Frame::Beat(beat) => {
+            hold_number(beat.reign);
+            hold_number(beat.stamp);
+        }
+        Frame::Alive(alive) => hold_alive(alive),
+        Frame::Silent(silent) => hold_number(silent.reign),
     }
+}
+
+fn hold_alive(alive: &Alive)
+    ensures { IsAlive alive.now }
+{
+    hold_number(alive.reign);
+    hold_number(alive.stamp);
+    hold_number(alive.end);
+    hold_number(alive.term);
+    hold_view(alive.gone);
+    hold_view(alive.known);
 }
 
 fn hold_body(body: &Body)

@@ -21,6 +21,10 @@ pub fn size(frame: &Frame) -> usize
         Frame::Peer(peer) => 4 + body_size(&peer.body),
         Frame::Introduction(opener) => 12 + opener.chain.bytes().len(),
         Frame::Accepted(_) => 12,
+        Frame::Reign(_) => 10,
+        Frame::Beat(_) => 18,
+        Frame::Alive(_) => 38,
+        Frame::Silent(_) => 11,
     }
 }
 

@@ -4,15 +4,15 @@ ghost use Rattle.std.specs.Prelude.{◌≡◌, ◌+◌, ◌≤◌, ◌++◌, ◌
 ghost use Rattle.table.specs.Items.{limit};
 ghost use Rattle.table.specs.Operations.{Fits, is_value};
 ghost use Rattle.node.specs.Lawful.{IsSendable};
-ghost use Rattle.wire.specs.Spellings.{IsFrame, IsInRange, acceptance_spelling, block_spelling, body_spelling};
-ghost use Rattle.wire.specs.Spellings.{change_spelling, code_of, eight_bytes, entry_spelling, four_bytes};
-ghost use Rattle.wire.specs.Spellings.{introduction_spelling, key_spelling, kind_of, op_spelling, reply_spelling};
-ghost use Rattle.wire.specs.Spellings.{spelling, target_spelling};
+ghost use Rattle.wire.specs.Spellings.{IsFrame, IsInRange, acceptance_spelling, alive_spelling, beat_spelling};
+ghost use Rattle.wire.specs.Spellings.{block_spelling, body_spelling, change_spelling, code_of, eight_bytes};
+ghost use Rattle.wire.specs.Spellings.{entry_spelling, four_bytes, introduction_spelling, key_spelling, kind_of};
+ghost use Rattle.wire.specs.Spellings.{op_spelling, reply_spelling, silent_spelling, spelling, target_spelling};
 
 use crate::frames::FORMAT;
 use crate::ranges::hold_ranges;
 use crate::sizes::size;
-use crate::{Acceptance, Frame, Introduction, Reason, WireFault};
+use crate::{Acceptance, Alive, Beat, Frame, Introduction, Reason, Silent, WireFault};
 use bytes::{Bytes, BytesMut};
 use node::Body;
 use std::alloc::Global;
@@ -71,6 +71,22 @@ fn put(out: &mut BytesMut, frame: &Frame)
         }
         Frame::Refused(reason) => put_short(out, 9, code_of(*reason)),
         Frame::Noted(id) => put_short(out, 10, *id),
+        Frame::Reign(reign) => {
+            put_head(out, 11);
+            put_reign(out, *reign);
+        }
+        Frame::Beat(beat) => {
+            put_head(out, 12);
+            put_beat(out, beat);
+        }
+        Frame::Alive(alive) => {
+            put_head(out, 13);
+            put_alive(out, alive);
+        }
+        Frame::Silent(silent) => {
+            put_head(out, 14);
+            put_silent(out, silent);
+        }
     }
 }
 
@@ -106,6 +122,41 @@ fn put_acceptance(out: &mut BytesMut, answer: &Acceptance)
 {
     out.extend_reserved(&answer.start.to_be_bytes());
     out.extend_reserved(&answer.gone.to_be_bytes());
+}
+
+fn put_reign(out: &mut BytesMut, reign: u64)
+    requires room { 8 ≤ out.old.spare }
+    ensures { out.new.items ≡ out.old.items ++ eight_bytes reign }
+{
+    out.extend_reserved(&reign.to_be_bytes());
+}
+
+fn put_beat(out: &mut BytesMut, beat: &Beat)
+    requires room { 16 ≤ out.old.spare }
+    ensures { out.new.items ≡ out.old.items ++ beat_spelling beat.now }
+{
+    out.extend_reserved(&beat.reign.to_be_bytes());
+    out.extend_reserved(&beat.stamp.to_be_bytes());
+}
+
+fn put_alive(out: &mut BytesMut, alive: &Alive)
+    requires room { 36 ≤ out.old.spare }
+    ensures { out.new.items ≡ out.old.items ++ alive_spelling alive.now }
+{
+    out.extend_reserved(&alive.reign.to_be_bytes());
+    out.extend_reserved(&alive.stamp.to_be_bytes());
+    out.extend_reserved(&alive.end.to_be_bytes());
+    out.extend_reserved(&alive.term.to_be_bytes());
+    out.extend_reserved(&alive.gone.to_be_bytes());
+    out.extend_reserved(&alive.known.to_be_bytes());
+}
+
+fn put_silent(out: &mut BytesMut, silent: &Silent)
+    requires room { 9 ≤ out.old.spare }
+    ensures { out.new.items ≡ out.old.items ++ silent_spelling silent.now }
+{
+    out.extend_reserved(&silent.reign.to_be_bytes());
+    out.extend_reserved(&[silent.id]);
 }
 
 fn code_of(reason: Reason) -> u8

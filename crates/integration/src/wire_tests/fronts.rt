@@ -68,7 +68,7 @@ fn found_after(alloc: Global, frames: &mut Frames, bytes: &[u8]) -> Result<Found
 // A stream that ends in any of a frame's fields holds no frame yet, and nothing bad.
 #[test]
 fn cut_vectors_are_nothing(rt: HostRuntime) -> Result<(), Fail> {
-    for place in 0..13 {
+    for place in 0..17 {
         for end in 0..vector(place).len() {
             let front = vector(place).get(..end).unwrap_or_default();
             let first = first_found(rt.alloc(), front)?;
@@ -111,7 +111,7 @@ fn front_row(place: usize) -> (&'static [u8], Found) {
         5 => (b"\x00", Found::Malformed),
         6 => (b"\x03", Found::Malformed),
         7 => (b"\xff", Found::Malformed),
-        8 => (b"\x02\x0b", Found::Malformed),
+        8 => (b"\x02\x0f", Found::Malformed),
         9 => (b"\x02\x00\x10", Found::Frame),
         10 => (b"\x02\x00\x11", Found::Malformed),
         11 => (b"\x02\x06\x0f", Found::Frame),

@@ -13,7 +13,7 @@ use wire::Frames;
 // The vectors one after another.
 fn all_vectors(alloc: Global) -> Result<Vec<u8>, Fail> {
     let mut stream = Vec::new(alloc);
-    for place in 0..13 {
+    for place in 0..17 {
         stream.extend_from_slice(vector(place))?;
     }
     Ok(stream)
@@ -28,7 +28,7 @@ fn read_next(alloc: Global, frames: &mut Frames, read: &mut Vec<u8>) -> Result<(
     Ok(())
 }
 
-// Writes the spellings of up to 13 frames that are read once a piece more has come.
+// Writes the spellings of up to 17 frames that are read once a piece more has come.
 fn read_after(
     alloc: Global,
     frames: &mut Frames,
@@ -36,7 +36,7 @@ fn read_after(
     read: &mut Vec<u8>,
 ) -> Result<(), Fail> {
     frames.feed(piece)?;
-    for _ in 0..13 {
+    for _ in 0..17 {
         read_next(alloc, frames, read)?;
     }
     Ok(())

@@ -94,7 +94,7 @@ fn length_row(place: usize) -> (u8, &'static [u8], Found) {
     }
 }
 
-// Bytes of a greeting, and what stands at the front then.
+// Bytes of a greeting or of watching, and what stands at the front then.
 fn greeting_row(place: usize) -> (&'static [u8], Found) {
     match place {
         0 => (b"\x02\x07\x00", Found::Malformed),
@@ -119,7 +119,16 @@ fn greeting_row(place: usize) -> (&'static [u8], Found) {
         7 => (b"\x02\x09\x05", Found::Frame),
         8 => (b"\x02\x09\x06", Found::Malformed),
         9 => (b"\x02\x0a\x0f", Found::Frame),
-        _ => (b"\x02\x0a\x10", Found::Malformed),
+        10 => (b"\x02\x0a\x10", Found::Malformed),
+        11 => (
+            b"\x02\x0e\xff\xff\xff\xff\xff\xff\xff\xff\x0f",
+            Found::Frame,
+        ),
+        12 => (
+            b"\x02\x0e\xff\xff\xff\xff\xff\xff\xff\xff\x10",
+            Found::Malformed,
+        ),
+        _ => (b"\x02\x0b\xff\xff\xff\xff\xff\xff\xff\xff", Found::Frame),
     }
 }
 
@@ -161,7 +170,7 @@ fn entries_out_of_range(rt: HostRuntime) -> Result<(), Fail> {
 
 #[test]
 fn greetings_out_of_range(rt: HostRuntime) -> Result<(), Fail> {
-    for place in 0..11 {
+    for place in 0..14 {
         let (text, wanted) = greeting_row(place);
         let first = first_found(rt.alloc(), text)?;
         assert!(rt; first == wanted, "row {place}");

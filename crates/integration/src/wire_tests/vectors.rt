@@ -1,4 +1,4 @@
-//! The thirteen vectors, both ways.
+//! The seventeen vectors, both ways.
 
 use crate::making::{key, on};
 use bytes::{Bytes, BytesMut};
@@ -7,7 +7,9 @@ use std::alloc::Global;
 use std::test::Fail;
 use table::{Call, Change, Item, Op, Reply, Target};
 use versions::Entry;
-use wire::{Acceptance, Frame, Frames, Introduction, Reason, encode, encode_onto};
+use wire::{
+    Acceptance, Alive, Beat, Frame, Frames, Introduction, Reason, Silent, encode, encode_onto,
+};
 
 pub(super) fn says(view: u16, body: Body) -> Frame {
     Frame::Peer(Peer {
@@ -42,7 +44,12 @@ pub(super) fn vector(place: usize) -> &'static [u8] {
         9 => b"\x02\x07\x03\x00\x00\x00\x00\x00\x00\x01\x02\x05cache",
         10 => b"\x02\x08\x00\x00\x00\x00\x00\x00\x01\x02\x02\x01",
         11 => b"\x02\x09\x03",
-        _ => b"\x02\x0a\x05",
+        12 => b"\x02\x0a\x05",
+        13 => b"\x02\x0b\x00\x00\x00\x00\x00\x00\x01\x02",
+        14 => b"\x02\x0c\x00\x00\x00\x00\x00\x00\x01\x02\x00\x00\x00\x00\x00\x00\x02\x03",
+        15 =>
+            b"\x02\x0d\x00\x00\x00\x00\x00\x00\x01\x02\x00\x00\x00\x00\x00\x00\x02\x03\x00\x00\x00\x00\x00\x00\x03\x04\x00\x00\x00\x00\x00\x00\x04\x05\x02\x01\x02\x00",
+        _ => b"\x02\x0e\x00\x00\x00\x00\x00\x00\x01\x02\x05",
     }
 }
 
@@ -61,7 +68,29 @@ fn frame_at(alloc: Global, place: usize) -> Result<Frame, Fail> {
         9 => introduced(alloc),
         10 => Ok(accepted()),
         11 => Ok(Frame::Refused(Reason::Taken)),
-        _ => Ok(Frame::Noted(5)),
+        12 => Ok(Frame::Noted(5)),
+        _ => Ok(watching_at(place)),
+    }
+}
+
+// Of reign 258 and server 5, and of a server whose clock shows 515, and whose lease of 1,029 ends at 772, when servers 0
+// and 9 have failed: of server 9 it knew that while its lease held.
+fn watching_at(place: usize) -> Frame {
+    match place {
+        13 => Frame::Reign(258),
+        14 => Frame::Beat(Beat {
+            reign: 258,
+            stamp: 515,
+        }),
+        15 => Frame::Alive(Alive {
+            reign: 258,
+            stamp: 515,
+            end: 772,
+            term: 1029,
+            gone: 513,
+            known: 512,
+        }),
+        _ => Frame::Silent(Silent { reign: 258, id: 5 }),
     }
 }
 
@@ -135,7 +164,7 @@ fn is_vector_written(alloc: Global, place: usize) -> Result<bool, Fail> {
 
 #[test]
 fn vectors_are_written(rt: HostRuntime) -> Result<(), Fail> {
-    for place in 0..13 {
+    for place in 0..17 {
         assert!(rt; is_vector_written(rt.alloc(), place)?, "vector {place}");
     }
     Ok(())

@@ -1,5 +1,6 @@
 use Rattle.std.proofs.Common.{◌++◌, ◌∷◌, [], ap, sym, ◌∙◌}
-use Rattle.wire.specs.Spellings.{acceptance_spelling, introduction_spelling, spelling}
+use Rattle.wire.specs.Spellings.{acceptance_spelling, alive_spelling, beat_spelling, eight_bytes}
+use Rattle.wire.specs.Spellings.{introduction_spelling, silent_spelling, spelling}
 use Rattle.wire.proofs.Appends.{then_more}
 use Rattle.wire.proofs.spelling.put.Goals as goal
 
@@ -20,3 +21,39 @@ returns-in-Accepted c =
     then_more old marked done (2 ∷ 8 ∷ []) (acceptance_spelling c.in-Accepted.answer)
     c.put_head-in-Accepted.ensures.text c.put_acceptance.ensures
     ∙ ap (λ frame. old ++ spelling frame) (sym c.in-Accepted.is)
+
+pub returns-in-Reign : goal.returns-in-Reign
+returns-in-Reign c =
+    let old = c.args.out.now.items in
+    let marked = c.put_head-in-Reign.new.out.items in
+    let done = c.put_reign.new.out.items in
+    then_more old marked done (2 ∷ 11 ∷ []) (eight_bytes c.in-Reign.reign)
+    c.put_head-in-Reign.ensures.text c.put_reign.ensures
+    ∙ ap (λ frame. old ++ spelling frame) (sym c.in-Reign.is)
+
+pub returns-in-Beat : goal.returns-in-Beat
+returns-in-Beat c =
+    let old = c.args.out.now.items in
+    let marked = c.put_head-in-Beat.new.out.items in
+    let done = c.put_beat.new.out.items in
+    then_more old marked done (2 ∷ 12 ∷ []) (beat_spelling c.in-Beat.beat)
+    c.put_head-in-Beat.ensures.text c.put_beat.ensures
+    ∙ ap (λ frame. old ++ spelling frame) (sym c.in-Beat.is)
+
+pub returns-in-Alive : goal.returns-in-Alive
+returns-in-Alive c =
+    let old = c.args.out.now.items in
+    let marked = c.put_head-in-Alive.new.out.items in
+    let done = c.put_alive.new.out.items in
+    then_more old marked done (2 ∷ 13 ∷ []) (alive_spelling c.in-Alive.alive)
+    c.put_head-in-Alive.ensures.text c.put_alive.ensures
+    ∙ ap (λ frame. old ++ spelling frame) (sym c.in-Alive.is)
+
+pub returns-in-Silent : goal.returns-in-Silent
+returns-in-Silent c =
+    let old = c.args.out.now.items in
+    let marked = c.put_head-in-Silent.new.out.items in
+    let done = c.put_silent.new.out.items in
+    then_more old marked done (2 ∷ 14 ∷ []) (silent_spelling c.in-Silent.silent)
+    c.put_head-in-Silent.ensures.text c.put_silent.ensures
+    ∙ ap (λ frame. old ++ spelling frame) (sym c.in-Silent.is)

@@ -1,0 +1,17 @@
+use Rattle.wire.specs.Spellings.{eight_bytes}
+use Rattle.wire.proofs.Appends.{then_more, spelled_so}
+use Rattle.wire.proofs.spelling.put_beat.Goals as goal
+
+pub returns : goal.returns
+returns c =
+    let beat = c.args.beat.now in
+    let old = c.args.out.now.items in
+    let reigning = c.extend_reserved.new.self.items in
+    let done = c.extend_reserved-2.new.self.items in
+    let reign = eight_bytes beat.reign in
+    let stamp = eight_bytes beat.stamp in
+    let reign_put = spelled_so old reigning c.to_be_bytes.result reign c.extend_reserved.ensures.items
+    c.to_be_bytes.ensures in
+    let stamp_put = spelled_so reigning done c.to_be_bytes-2.result stamp c.extend_reserved-2.ensures.items
+    c.to_be_bytes-2.ensures in
+    then_more old reigning done reign stamp reign_put stamp_put
