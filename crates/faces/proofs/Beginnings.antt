@@ -8,7 +8,7 @@ use Rattle.node.specs.declared.messages.Input.{Input}
 use Rattle.faces.specs.declared.logs.Entry.{Entry}
 use Rattle.faces.specs.declared.logs.Entry.TheVariants.{Began, Took}
 use Rattle.faces.specs.Logs.{IsBegun, start_of, inputs_of}
-use Rattle.faces.specs.Courses.{IsLater, with_next, course_of}
+use Rattle.faces.specs.Courses.{Course, IsLater, with_next, course_of}
 
 -- each list begins with itself
 pub prefix_self : {A : Type 0} (xs : List A) → IsPrefix xs xs
@@ -16,6 +16,15 @@ prefix_self xs = ([], append-nil xs)
 
 pub prefix_trans : {A : Type 0} (xs ys zs : List A) → IsPrefix xs ys → IsPrefix ys zs → IsPrefix xs zs
 prefix_trans xs ys zs p q = (p.0 ++ q.0, sym (append_assoc xs p.0 q.0) ∙ (ap (λ w. w ++ q.0) p.1 ∙ q.1))
+
+-- a course is no earlier than itself
+pub later_same : (c : Course) → IsLater c c
+later_same c = record { origin = refl; inputs = prefix_self c.inputs }
+
+-- what is later than a later course is later
+pub later_then : (first second third : Course) → IsLater first second → IsLater second third → IsLater first third
+later_then first second third p q =
+    record { origin = q.origin ∙ p.origin; inputs = prefix_trans _ _ _ p.inputs q.inputs }
 
 -- of two beginnings of one list the shorter begins the longer
 pub prefix_shorter : {A : Type 0} (xs ys zs : List A)

@@ -4,3 +4,4 @@ pub mod Waiting
 pub mod Weighing
 pub mod Posting
 pub mod Stepping
+pub mod Looks

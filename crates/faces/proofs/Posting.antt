@@ -2,6 +2,7 @@
 use Rattle.std.proofs.Common.{◌≡◌, ◌≢◌, ℕ, true, true≢false, List, [], ◌∷◌, ◌++◌, set, sym, refl, ap, ◌∙◌, subst}
 use Rattle.std.proofs.Common.{⊎_elim, fold}
 use Rattle.std.proofs.Common.{Ok, Err, MatchResult}
+use Rattle.std.proofs.lemmas.List.Elements.{All-nil, All-push, All-weaker}
 use Rattle.std.specs.declared.result.Result.{Result}
 use mathlib.Core.Option.{some, some-ne-none}
 use lib.ListN.{get_elem?}
@@ -14,61 +15,86 @@ use Rattle.faces.specs.declared.faces.Face.{Face}
 use Rattle.faces.specs.declared.acts.Act.{Act}
 use Rattle.faces.specs.declared.acts.Act.TheVariants.{Set, Clear}
 use Rattle.faces.specs.declared.boards.Knowledge.{Knowledge}
-use Rattle.faces.specs.Courses.{Origin, Course, shown_after}
+use Rattle.faces.specs.Courses.{Course, IsLater, shown_after}
 use Rattle.faces.specs.Shown.{Shown, applied, acts_of, shown_first}
-use Rattle.faces.specs.Boards.{known, newcomer, IsShownBy, Keeps, Tells}
+use Rattle.faces.specs.Boards.{newcomer, seated, IsShownBy, Fits, Keeps, Tells}
+use Rattle.faces.proofs.Beginnings.{later_same, later_then}
 
--- each place that has looked knows this server
-abbrev pub AllKnow : Origin → List Knowledge → Type 0
-AllKnow o views = (seat : ℕ) (v : Knowledge) → get_elem? views seat ≡ some v → v.knows ≡ true → v.origin ≡ o
+-- this course fits each place
+abbrev pub AllFit : Course → List Knowledge → Type 0
+AllFit c views = (seat : ℕ) (v : Knowledge) → get_elem? views seat ≡ some v → Fits c v
 
-know_set : (o : Origin) (views : List Knowledge) (seat : ℕ) (w : Knowledge)
-    → (w.knows ≡ true → w.origin ≡ o)
-    → AllKnow o views
-    → AllKnow o (set views seat w)
-know_set o views seat w mine h j u e knows =
-    ⊎_elim (λ (x : (j ≡ seat) × (w ≡ u)). sym (ap (λ (y : Knowledge). y.origin) x.1)
-    ∙ mine (ap (λ (y : Knowledge). y.knows) x.1 ∙ knows))
-    (λ (x : (j ≢ seat) × (get_elem? views j ≡ some u)). h j u x.1 knows) (at_set views seat j w u e)
+fit_set : (c : Course) (views : List Knowledge) (seat : ℕ) (w : Knowledge)
+    → Fits c w
+    → AllFit c views
+    → AllFit c (set views seat w)
+fit_set c views seat w mine h j u e =
+    ⊎_elim (λ (x : (j ≡ seat) × (w ≡ u)). subst (λ (y : Knowledge). Fits c y) x.1 mine)
+    (λ (x : (j ≢ seat) × (get_elem? views j ≡ some u)). h j u x.1) (at_set views seat j w u e)
 
-know_more : (o : Origin) (views : List Knowledge) (w : Knowledge)
-    → (w.knows ≡ true → w.origin ≡ o)
-    → AllKnow o views
-    → AllKnow o (views ++ w ∷ [])
-know_more o views w new h j u e knows = ⊎_elim (λ (x : get_elem? views j ≡ some u). h j u x knows)
-    (λ (is : w ≡ u). sym (ap (λ (y : Knowledge). y.origin) is) ∙ new (ap (λ (y : Knowledge). y.knows) is ∙ knows))
-    (at_snoc views w u j e)
+fit_more : (c : Course) (views : List Knowledge) (w : Knowledge)
+    → Fits c w
+    → AllFit c views
+    → AllFit c (views ++ w ∷ [])
+fit_more c views w new h j u e = ⊎_elim (λ (x : get_elem? views j ≡ some u). h j u x)
+    (λ (is : w ≡ u). subst (λ (y : Knowledge). Fits c y) is new) (at_snoc views w u j e)
 
-know_none : (o : Origin) → AllKnow o []
-know_none o j u e knows = absurd (some-ne-none u (sym e))
+fit_none : (c : Course) → AllFit c []
+fit_none c j u e = absurd (some-ne-none u (sym e))
 
-unknowing : (o : Origin) → newcomer.knows ≡ true → newcomer.origin ≡ o
-unknowing o k = absurd (true≢false (sym k))
+-- a place that knows nothing, and one that has seen nothing
+newcomer_fits : (c : Course) → Fits c newcomer
+newcomer_fits c = record { server = λ k. absurd (true≢false (sym k)); seen = All-nil (λ (d : Course). IsLater d c) }
+
+seated_fits : (c : Course) (v : Knowledge) → v.knows ≡ true → Fits c v → Fits c (seated v.origin)
+seated_fits c v knows fits =
+    record { server = λ k. fits.server knows; seen = All-nil (λ (d : Course). IsLater d c) }
+
+-- what fits a place still does once it is later
+later_fits : (c d : Course) (v : Knowledge) → IsLater c d → Fits c v → Fits d v
+later_fits c d v later fits = record {
+  server = λ k. fits.server k ∙ sym later.origin;
+  seen = All-weaker (λ (e : Course). IsLater e c) (λ (e : Course). IsLater e d)
+      (λ (e : Course) (before : IsLater e c). later_then e c d before later) v.courses fits.seen;
+}
 
 pub begins : (x : Face) → IsShownBy x → Keeps x (newcomer ∷ [])
-begins x is = (is, know_more x.course.origin [] newcomer (unknowing x.course.origin) (know_none x.course.origin))
+begins x is = (is, fit_more x.course [] newcomer (newcomer_fits x.course) (fit_none x.course))
 
 pub admits : Admits Keeps newcomer
-admits x views h = (h.0, know_more x.course.origin views newcomer (unknowing x.course.origin) h.1)
+admits x views h = (h.0, fit_more x.course views newcomer (newcomer_fits x.course) h.1)
 
--- the face changes, of the same server
+-- the place has seen this course, once more
+abbrev pub having_seen : Knowledge → Course → Knowledge
+having_seen v c = record { knows = true; origin = c.origin; courses = v.courses ++ c ∷ [] }
+
+-- the face changes, to a later one of the same server
 pub turns : (seat : ℕ) (v : Knowledge) (x y : Face)
     → IsShownBy y
-    → y.course.origin ≡ x.course.origin
+    → IsLater x.course y.course
     → TurnsAt Keeps seat v x y Tells
-turns seat v x y shown same views h at =
-    let w = known y.course.origin in (
-      w,
-      (shown, know_set y.course.origin views seat w (λ k. refl) (λ j u e k. h.1 j u e k ∙ sym same)),
-      (refl, (λ k. λ i. record { knows = sym k i; origin = (same ∙ sym (h.1 seat v at k)) i }), shown),
+turns seat v x y shown later views h at =
+    let c = y.course in
+    let was : Fits c v = later_fits x.course c v later (h.1 seat v at) in
+    let now : Fits c (having_seen v c) = record {
+      server = λ k. refl;
+      seen = All-push (λ (d : Course). IsLater d c) v.courses c was.seen (later_same c);
+    } in (
+      having_seen v c,
+      (
+        shown,
+        fit_set c views seat (having_seen v c) now (λ j u e. later_fits x.course c u later (h.1 j u e)),
+      ),
+      record { shown = shown; server = (refl, refl); same = was.server; courses = refl; later = was.seen },
     )
 
 pub enters : (seat : ℕ) (v : Knowledge) (x : Face) → TurnsAt Keeps seat v x x Tells
-enters seat v x views h at = turns seat v x x h.0 refl views h at
+enters seat v x views h at = turns seat v x x h.0 (later_same x.course) views h at
 
-pub forks : (seat : ℕ) (v : Knowledge) → Forks Keeps seat v v v
-forks seat v x views h at = subst (λ (vs : List Knowledge). Keeps x (vs ++ v ∷ [])) (sym (set_again views seat v at))
-    (h.0, know_more x.course.origin views v (h.1 seat v at) h.1)
+pub forks : (seat : ℕ) (v : Knowledge) → v.knows ≡ true → Forks Keeps seat v v (seated v.origin)
+forks seat v knows x views h at =
+    subst (λ (vs : List Knowledge). Keeps x (vs ++ seated v.origin ∷ [])) (sym (set_again views seat v at))
+    (h.0, fit_more x.course views (seated v.origin) (seated_fits x.course v knows (h.1 seat v at)) h.1)
 
 pub merges : (seat : ℕ) (v : Knowledge) (other : ℕ) (w : Knowledge) → Merges Keeps seat v other w w newcomer
 merges seat v other w x views h at apart there =
@@ -76,8 +102,8 @@ merges seat v other w x views h at apart there =
     ⊎_elim (λ (t : (other ≡ seat) × (w ≡ w)). absurd (apart t.0))
     (λ (t : (other ≢ seat) × (get_elem? views other ≡ some w)). t.1) (at_set views seat other w w there) in (
       h.0,
-      know_set x.course.origin (set views seat w) other newcomer (unknowing x.course.origin)
-          (know_set x.course.origin views seat w (h.1 other w was) h.1),
+      fit_set x.course (set views seat w) other newcomer (newcomer_fits x.course)
+          (fit_set x.course views seat w (h.1 other w was) h.1),
     )
 
 -- the acts of a change, one after another, do it
@@ -102,15 +128,15 @@ filled_by x acts steps n course is done =
     is ∙ (ap (fold applied (record { face = no_face; course = course })) done
     ∙ folded (record { face = no_face; course = course }) steps n course)
 
--- what is pending makes the face of the same server after the inputs that it says
+-- what is pending makes the face of the same server after the inputs that it says, no fewer than before
 pub shows : (seat : ℕ) (v : Knowledge) (x y : Face) (pending : List Act)
-    → (fold applied x pending).course.origin ≡ x.course.origin
+    → IsLater x.course (fold applied x pending).course
     → IsShownBy (fold applied x pending)
     → y ≡ fold applied x pending
     → TurnsAt Keeps seat v x y Tells
-shows seat v x y pending same is next =
+shows seat v x y pending later is next =
     turns seat v x y (subst (λ (z : Shown). IsShownBy z) (sym next) is)
-    (ap (λ (z : Shown). z.course.origin) next ∙ same)
+    (subst (λ (z : Shown). IsLater x.course z.course) (sym next) later)
 
 pub when_ok : {E T : Type 0} (r : Result T E) (t : T) (P : T → Type 0) (Q : E → Type 0)
     → r ≡ Ok t
@@ -126,6 +152,20 @@ pub changed_face : (x z : Face) (pending : List Act) (steps : List FaceStep) (n 
 changed_face x z pending steps n course same acts is =
     subst (λ (s : Shown). IsShownBy s) (sym (folded_by x pending steps n course acts))
     (ap (λ (y : Shown). face_changed y.face steps n) same ∙ is)
+
+pub changed_later : (x z : Face) (pending : List Act) (steps : List FaceStep) (n : ℕ) (course : Course)
+    → x ≡ z
+    → pending ≡ acts_of steps n course
+    → IsLater z.course course
+    → IsLater x.course (fold applied x pending).course
+changed_later x z pending steps n course same acts later =
+    subst (λ (s : Shown). IsLater x.course s.course) (sym (folded_by x pending steps n course acts))
+    (subst (λ (s : Shown). IsLater s.course course) (sym same) later)
+
+-- with nothing pending, what stands is no earlier
+pub unchanged_later : (x : Face) (pending : List Act) → pending ≡ [] → IsLater x.course (fold applied x pending).course
+unchanged_later x pending none =
+    subst (λ (acts : List Act). IsLater x.course (fold applied x acts).course) (sym none) (later_same x.course)
 
 -- with the course that a publish was asked for
 pub published_as : {E : Type 0} (r : Result Course E) (F : Course → Type 0) (b c : Course)

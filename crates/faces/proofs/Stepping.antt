@@ -1,5 +1,5 @@
 -- One input more.
-use Rattle.std.proofs.Common.{◌≡◌, ◌∙◌, ap, sym, refl, ℕ, List, [], ◌∷◌, ◌++◌}
+use Rattle.std.proofs.Common.{◌≡◌, ◌∙◌, ap, sym, subst, refl, ℕ, List, [], ◌∷◌, ◌++◌}
 use Rattle.node.specs.declared.messages.Input.{Input}
 use Rattle.node.specs.declared.messages.Output.{Output}
 use Rattle.node.specs.Servers.{ServerState}
@@ -7,7 +7,7 @@ use Rattle.node.specs.Steps.{step}
 use Rattle.node.specs.Faces.{FaceState, face_of, face_changed}
 use Rattle.node.specs.declared.faces.FaceStep.{FaceStep}
 use Rattle.node.specs.Nodes.{NodeState, running}
-use Rattle.faces.specs.Courses.{Course, after, server_after, shown_after, with_next}
+use Rattle.faces.specs.Courses.{Course, IsLater, after, server_after, shown_after, with_next}
 use Rattle.faces.specs.Outputs.{last_outputs}
 
 pub after_next : (s : ServerState) (is : List Input) (i : Input) → after s (is ++ i ∷ []) ≡ (step (after s is) i).state
@@ -22,6 +22,12 @@ outputs_next s (j ∷ (k ∷ ks)) i = outputs_next (step s j).state (k ∷ ks) i
 
 pub server_next : (c : Course) (i : Input) → server_after (with_next c i) ≡ (step (server_after c) i).state
 server_next c i = after_next c.origin.start c.inputs i
+
+-- a course with one input more is later
+pub later_next : (c d f : Course) (i : Input) → d ≡ c → f ≡ with_next c i → IsLater d f
+later_next c d f i same next =
+    subst (λ (x : Course). IsLater d x) (sym next)
+    (subst (λ (x : Course). IsLater x (with_next c i)) (sym same) (record { origin = refl; inputs = (i ∷ [], refl) }))
 
 pub face_next : (c f : Course) (n : NodeState) (i : Input) (shown : FaceState) (steps : List FaceStep) (acked : ℕ)
     → n ≡ running (server_after c)

@@ -1,5 +1,5 @@
 -- Readers.
-use Rattle.std.specs.Prelude.{◌≡◌, ℕ, List, Option, None, Some}
+use Rattle.std.specs.Prelude.{◌≡◌, ℕ, List, [], Option, None, Some}
 use Rattle.left_right.specs.declared.reader.Reader.{Reader as Place}
 use Rattle.left_right.specs.Sides.{view}
 use Rattle.table.specs.declared.items.Item.{Item}
@@ -7,8 +7,18 @@ use Rattle.node.specs.Faces.{FaceState, look_at}
 use Rattle.node.specs.declared.looks.Look.TheVariants.{Clean}
 use Rattle.faces.specs.declared.faces.Face.{Face}
 use Rattle.faces.specs.declared.boards.Knowledge.{Knowledge}
-use Rattle.faces.specs.Courses.{Origin}
-use Rattle.faces.specs.Boards.{known}
+use Rattle.faces.specs.Courses.{Course, Origin}
+use Rattle.faces.specs.Boards.{Knows}
+
+-- What a reader has seen or was told of; and each course whose face stood when it looked, in order. Only a look at what
+-- stands lengthens these.
+pub record Looking : Type 0 where
+  pub seen : Course
+  pub looks : List Course
+
+-- a reader that has seen or was told of this, and hasn't looked yet
+abbrev pub yet_to_look : Course → Looking
+yet_to_look seen = record { seen = seen; looks = [] }
 
 -- a look at this key of a face finds an item
 abbrev pub ShowsItem : FaceState → List ℕ → Type 0
@@ -18,4 +28,9 @@ module _ {P A : Type 0} where
   -- there is a place, at this server's board
   abbrev pub IsPlaceOf : Option (Place Face Knowledge P A) → Origin → Type 0
   IsPlaceOf None origin = ⊥
-  IsPlaceOf (Some place) origin = view place.place ≡ known origin
+  IsPlaceOf (Some place) origin = Knows (view place.place) origin
+
+  -- the courses whose faces stood when it looked
+  abbrev pub looks_of : Option (Place Face Knowledge P A) → List Course
+  looks_of None = []
+  looks_of (Some place) = (view place.place).courses

@@ -7,7 +7,7 @@ use Rattle.faces.specs.declared.faces.Face.{Face}
 use Rattle.faces.specs.declared.acts.Act.{Act}
 use Rattle.faces.specs.declared.boards.Knowledge.{Knowledge}
 use Rattle.faces.specs.Courses.{Course, shown_after}
-use Rattle.faces.specs.Boards.{known}
+use Rattle.faces.specs.Boards.{Knows}
 
 module _ {P A S : Type 0} {g : Ghosts Face Act S} where
   -- the acts that readers don't see yet
@@ -19,4 +19,4 @@ module _ {P A S : Type 0} {g : Ghosts Face Act S} where
     pub course : w.desk.shown.value.course ≡ c
     pub face : w.desk.shown.value.face ≡ shown_after c
     pub nothing : pending w ≡ []
-    pub knows : view w.desk.place ≡ known c.origin
+    pub knows : Knows (view w.desk.place) c.origin

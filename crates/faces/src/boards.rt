@@ -1,9 +1,10 @@
-//! The face that readers take, under the rule that it is the server's face after the inputs that it says.
-ghost use Rattle.std.specs.Prelude.{◌≡◌, [], fold, MatchResult, IfOk};
+//! The face that readers take, under the rule that it is the server's face after the inputs that it says, and that
+//! these begin with all that any place has seen.
+ghost use Rattle.std.specs.Prelude.{◌≡◌, [], true, fold, MatchResult, IfOk};
 ghost use Rattle.left_right.specs.Sides.{view};
-ghost use Rattle.faces.specs.Boards.{IsShownBy};
+ghost use Rattle.faces.specs.Boards.{IsShownBy, seated};
 ghost use Rattle.faces.specs.Showing.{pending, Shows};
-ghost use Rattle.faces.specs.Courses.{shown_after};
+ghost use Rattle.faces.specs.Courses.{IsLater, shown_after};
 ghost use Rattle.faces.specs.Shown.{acts_of, applied};
 ghost use Rattle.node.specs.Faces.{face_changed};
 
@@ -17,6 +18,7 @@ use left_right::reader::Reader as Place;
 use left_right::writer::Writer;
 use node::FaceChange;
 use std::alloc::{AllocError, Global};
+use std::collections::LinkedList;
 use std::marker::Model;
 use std::sync::Wait;
 
@@ -38,10 +40,12 @@ impl Model for Name {
     ghost view = { λ n. nowhere };
 }
 
-/// What a place at the board knows: the server, once it has looked. No value of it is made.
+/// What a place at the board knows: the server, once it has looked; and what it has seen, look by look: the course
+/// whose face stood then. The writer's place has seen what it showed. No value of it is made.
 pub struct Knowledge {
     pub knows: bool,
     pub origin: Name,
+    pub courses: LinkedList<Front>,
 }
 
 /// The rule of the board.
@@ -61,16 +65,18 @@ pub struct Takes;
 impl Outcome<Face, Knowledge> for Takes {
     ghost use Rattle.faces.specs.Boards.{Tells};
 
-    ghost then = { Tells };
+    ghost then = { λ v x y w. Tells v x y w };
 }
 
-/// A reader's place learns what the writer's knows.
+/// A reader's place learns from the writer's whose face stands. It hasn't seen it.
 pub struct Notes;
 
 impl Split<Knowledge> for Notes {
+    ghost use Rattle.faces.specs.Boards.{seated};
+
     ghost left = { λ v. v };
 
-    ghost right = { λ v. v };
+    ghost right = { λ v. seated v.origin };
 }
 
 impl Join<Knowledge> for Notes {
@@ -94,9 +100,10 @@ pub fn begin<R: Wait>(rt: &R, writer: FaceWriter) -> (FaceWriter, Result<Publish
     show(rt, writer)
 }
 
-/// A place for one more reader, which knows what the writer knows.
+/// A place for one more reader, which knows the server that the writer knows.
 pub fn place(writer: &mut FaceWriter) -> Result<FacePlace, AllocError>
-    ensures place { IfOk result (λ place. view place.place ≡ view writer.old.desk.place) }
+    requires knows { (view writer.old.desk.place).knows ≡ true }
+    ensures place { IfOk result (λ place. view place.place ≡ seated (view writer.old.desk.place).origin) }
     ensures kept { (writer.new.desk.shown ≡ writer.old.desk.shown)
         × (pending writer.new ≡ pending writer.old)
         × (view writer.new.desk.place ≡ view writer.old.desk.place) }
@@ -115,7 +122,7 @@ pub fn publish<R: Wait>(
     front: Front,
 ) -> (FaceWriter, Result<Published, AllocError>)
     requires nothing { pending writer ≡ [] }
-    requires server { front.origin ≡ writer.desk.shown.value.course.origin }
+    requires later { IsLater writer.desk.shown.value.course front }
     requires face { face_changed writer.desk.shown.value.face change.steps.items change.acked ≡ shown_after front }
     ensures { MatchResult result.1 (λ p. Shows result.0 p × (p ≡ front)) (λ _. Unit {0}) }
 {
@@ -126,10 +133,10 @@ pub fn publish<R: Wait>(
     }
 }
 
-// Shows what is pending, which makes the face of the same server after the inputs that it says.
+// Shows what is pending, which makes the face of the same server after the inputs that it says: no fewer than before.
 fn show<R: Wait>(rt: &R, writer: FaceWriter) -> (FaceWriter, Result<Published, AllocError>)
-    requires server { (fold applied writer.desk.shown.value (pending writer)).course.origin
-        ≡ writer.desk.shown.value.course.origin }
+    requires later { IsLater writer.desk.shown.value.course
+        (fold applied writer.desk.shown.value (pending writer)).course }
     requires face { IsShownBy (fold applied writer.desk.shown.value (pending writer)) }
     ensures { MatchResult result.1
         (λ p. Shows result.0 p × (p ≡ (fold applied writer.desk.shown.value (pending writer)).course))

@@ -4,6 +4,7 @@ ghost use Rattle.node.specs.Lawful.{IsInput, AreFit};
 ghost use Rattle.faces.specs.Boards.{IsShownBy};
 ghost use Rattle.faces.specs.Courses.{shown_after, with_next};
 ghost use Rattle.faces.specs.Outputs.{last_outputs};
+ghost use Rattle.faces.specs.Readers.{yet_to_look};
 ghost use Rattle.faces.specs.Showing.{pending};
 ghost use Rattle.faces.specs.Weights.{weight_of};
 
@@ -100,10 +101,10 @@ impl Publisher {
         self.published.weight()
     }
 
-    /// One more reader, which has seen what is published. Refused with Memory if memory is out or there is no room for
-    /// it, and with Closed exactly after an input was refused.
+    /// One more reader, which has seen what is published, and hasn't looked yet. Refused with Memory if memory is out
+    /// or there is no room for it, and with Closed exactly after an input was refused.
     pub fn reader(&mut self) -> Result<Reader, FaceFault>
-        ensures reader { IfOk result (λ reader. reader ≡ self.old.published) }
+        ensures reader { IfOk result (λ reader. reader ≡ yet_to_look self.old.published) }
         ensures closed { IsErrOf result FaceFault.Closed ↔ (self.old.goes ≡ false) }
         ensures unchanged { self.new ≡ self.old }
     {

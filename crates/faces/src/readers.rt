@@ -1,10 +1,10 @@
 //! Readers beside a server: they look at its face, and wait for nobody.
-ghost use Rattle.std.specs.Prelude.{◌≡◌, IfOk, OnErr, IsErrOf};
+ghost use Rattle.std.specs.Prelude.{◌≡◌, ◌++◌, ◌∷◌, [], IfOk, OnOk, OnErr, IsErrOf};
 ghost use Rattle.left_right.specs.Sides.{view};
 ghost use Rattle.node.specs.Faces.{look_at};
-ghost use Rattle.faces.specs.Boards.{known, IsShownBy};
+ghost use Rattle.faces.specs.Boards.{Knows, seated};
 ghost use Rattle.faces.specs.Courses.{Course, IsLater, shown_after};
-ghost use Rattle.faces.specs.Readers.{ShowsItem};
+ghost use Rattle.faces.specs.Readers.{ShowsItem, yet_to_look};
 
 use crate::FaceFault;
 use crate::boards::{FacePlace, Takes};
@@ -15,8 +15,8 @@ use node::Look;
 use std::marker::Model;
 use table::{Item, Key};
 
-/// A reader of one server. Contracts see what it has seen or was told of: a beginning of the inputs that the server
-/// published (`Course`).
+/// A reader of one server. Contracts see what it has seen or was told of, a beginning of the inputs that the server
+/// published; and at which faces it has looked (`Looking`).
 #[derive(Drop)]
 pub struct Reader {
     // None only while it looks.
@@ -28,14 +28,13 @@ impl Model for Reader {
     ghost use Rattle.std.specs.Coded.{codes};
     ghost use Rattle.logbook.specs.Pages.{book_coded};
     ghost use Rattle.versions.specs.Stores.{coded_items};
-    ghost use Rattle.faces.specs.Courses.{Course};
-    ghost use Rattle.faces.specs.Readers.{IsPlaceOf};
+    ghost use Rattle.faces.specs.Readers.{Looking, IsPlaceOf, looks_of};
 
-    ghost Value = { Course };
+    ghost Value = { Looking };
 
     ghost coded = { Prim.hlevel (codes, coded_items, book_coded) };
 
-    ghost view = { λ r. r.front };
+    ghost view = { λ r. record { seen = r.front; looks = looks_of r.place } };
 
     ghost invariant = { λ r. IsPlaceOf r.place r.front.origin };
 }
@@ -43,8 +42,8 @@ impl Model for Reader {
 impl Reader {
     /// A reader that has seen nothing, or what it is told of here.
     pub(crate) fn new(place: FacePlace, front: Front) -> Reader
-        requires server { view place.place ≡ known front.origin }
-        ensures { result ≡ front }
+        requires server { view place.place ≡ seated front.origin }
+        ensures { result ≡ yet_to_look front }
     {
         Reader {
             place: Some(place),
@@ -52,51 +51,74 @@ impl Reader {
         }
     }
 
-    /// A look at a key, in the server's face after some of the inputs that it published. They begin with all that this
-    /// reader has seen or was told of, and it has then seen them. Refused with Memory if memory is out for the item, or
-    /// with Closed if it finds no such face: either way it has seen no more than before. It waits for nobody. Time is
-    /// logarithmic in the number of keys; the item shares its data.
+    /// A look at a key, in the server's face that stands at one instant of this call, after some of the inputs that it
+    /// published. They begin with all that any reader's look had found by then, and with all that this one has seen or
+    /// was told of, and it has then seen them. Refused with Memory if memory is out for the item, or with Closed if it
+    /// finds no such face: either way it has seen no more than before. It waits for nobody. Time is logarithmic in the
+    /// number of keys; the item shares its data.
     pub fn look(&mut self, key: &Key) -> Result<Look<Item>, FaceFault>
-        ensures found { IfOk result (λ look. look ≡ look_at (shown_after self.new) key.now) }
-        ensures later { IsLater self.old self.new }
-        ensures unchanged { OnErr result (self.new ≡ self.old) }
-        // Memory comes only at an item, in a face after no fewer inputs than it has seen.
-        ensures memory { IsErrOf result FaceFault.Memory →
-            (found : Course) × IsLater self.old found × ShowsItem (shown_after found) key.now }
+        ensures found { IfOk result (λ look. look ≡ look_at (shown_after self.new.seen) key.now) }
+        // That face is the one that stood: the reader looked once, and at it.
+        ensures looked { OnOk result (self.new.looks ≡ self.old.looks ++ self.new.seen ∷ []) }
+        ensures later { IsLater self.old.seen self.new.seen }
+        ensures unchanged { OnErr result (self.new.seen ≡ self.old.seen) }
+        // Memory comes only at an item, in a face that stood, after no fewer inputs than it has seen.
+        ensures memory { IsErrOf result FaceFault.Memory → (stood : Course)
+            × (self.new.looks ≡ self.old.looks ++ stood ∷ []) × IsLater self.old.seen stood
+            × ShowsItem (shown_after stood) key.now }
     {
         let Some(place) = self.place.take() else {
             unreachable!();
         };
-        match place.enter_as::<Takes>() {
-            Ok(reading) => {
-                let found = see(&mut self.front, reading.get(), key);
-                self.place = Some(reading.leave());
-                found
-            }
-            Err(place) => {
-                self.place = Some(place);
-                Err(FaceFault::Closed)
-            }
-        }
+        let (place, found) = look_from(place, &mut self.front, key);
+        self.place = Some(place);
+        found
     }
 
     /// A note of what it has seen or was told of.
     pub fn tell(&self) -> Told
-        ensures { result ≡ self.now }
+        ensures { result ≡ self.now.seen }
     {
         Told::of(self.front.again())
     }
 
-    /// From now on it sees no less than what was told of.
+    /// From now on it sees no less than what was told of. It doesn't look.
     pub fn learn(&mut self, told: Told)
-        requires server { told.origin ≡ self.old.origin }
-        ensures later { IsLater self.old self.new }
-        ensures told { IsLater told self.new }
+        requires server { told.origin ≡ self.old.seen.origin }
+        ensures later { IsLater self.old.seen self.new.seen }
+        ensures told { IsLater told self.new.seen }
+        ensures looks { self.new.looks ≡ self.old.looks }
     {
         let front = told.into_front();
         if front.has_all_of(&self.front) {
             self.front = front;
         }
+    }
+}
+
+// A look from a place, at the face that stands when it enters, unless more was seen already.
+fn look_from(
+    place: FacePlace,
+    front: &mut Front,
+    key: &Key,
+) -> (FacePlace, Result<Look<Item>, FaceFault>)
+    requires server { Knows (view place.place) front.old.origin }
+    ensures server { Knows (view result.0.place) front.new.origin }
+    ensures found { IfOk result.1 (λ look. look ≡ look_at (shown_after front.new) key.now) }
+    ensures looked { OnOk result.1
+        ((view result.0.place).courses ≡ (view place.place).courses ++ front.new ∷ []) }
+    ensures later { IsLater front.old front.new }
+    ensures unchanged { OnErr result.1 (front.new ≡ front.old) }
+    ensures memory { IsErrOf result.1 FaceFault.Memory → (stood : Course)
+        × ((view result.0.place).courses ≡ (view place.place).courses ++ stood ∷ []) × IsLater front.old stood
+        × ShowsItem (shown_after stood) key.now }
+{
+    match place.enter_as::<Takes>() {
+        Ok(reading) => {
+            let found = see(front, reading.get(), key);
+            (reading.leave(), found)
+        }
+        Err(place) => (place, Err(FaceFault::Closed)),
     }
 }
 

@@ -132,7 +132,7 @@ fn is_over<R: Wait + Copy + Drop>(
     pool: &mut SeatPool,
     client: &mut Client<Socket<'_>>,
 ) -> bool
-    requires known { IsLater client.old.talk.seen pool.old }
+    requires known { IsLater client.old.talk.seen pool.old.seen }
 {
     let mut piece = [0u8; 64];
     for _ in 0..STEPS {
@@ -158,8 +158,8 @@ fn hears<R: Wait + Copy + Drop>(
     pool: &mut SeatPool,
     client: &mut Client<Socket<'_>>,
 ) -> bool
-    requires known { IsLater client.old.talk.seen pool.old }
-    ensures known { IsLater client.new.talk.seen pool.new }
+    requires known { IsLater client.old.talk.seen pool.old.seen }
+    ensures known { IsLater client.new.talk.seen pool.new.seen }
 {
     takes_a_turn(rt, alloc, worker) && client.hear(&rt, pool) == Some(true)
 }

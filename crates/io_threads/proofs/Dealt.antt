@@ -2,7 +2,8 @@
 use Rattle.std.proofs.Common.{◌≡◌, ◌∙◌, ◌∷◌, ◌++◌, ◌+◌, ℕ, zero, suc, List, [], All, refl, subst, sym}
 use Rattle.std.proofs.lemmas.List.Elements.{All-nil, All-append, All-cons, All-head, All-tail, All-weaker}
 use Rattle.node.specs.Nodes.{NodeState}
-use Rattle.faces.specs.Courses.{Course, Origin}
+use Rattle.faces.specs.Courses.{Origin}
+use Rattle.faces.specs.Readers.{Looking}
 use Rattle.rail.specs.declared.events.Event.{Event}
 use Rattle.rail.specs.declared.stands.Stand.{Stand}
 use Rattle.rail.specs.Servers.{IsOpened, stand_at, stands_from}
@@ -25,36 +26,37 @@ opened_of_one node readers inlets w beside brought opened =
       origin = opened.origin;
       stands = subst (All (λ (stand : Stand). stand.seat.origin ≡ opened.origin)) (sym opened.stands)
           (all_at opened.origin 0 readers);
-      pools = All-nil (λ (pool : Course). pool.origin ≡ opened.origin);
+      pools = All-nil (λ (pool : Looking). pool.seen.origin ≡ opened.origin);
     }
 
 -- one more pool of this server
-pub one_more : (o : Origin) (pools after : List Course) (pool : Course)
-    → All (λ (p : Course). p.origin ≡ o) pools → pool.origin ≡ o → after ≡ pools ++ pool ∷ []
-    → All (λ (p : Course). p.origin ≡ o) after
+pub one_more : (o : Origin) (pools after : List Looking) (pool : Looking)
+    → All (λ (p : Looking). p.seen.origin ≡ o) pools → pool.seen.origin ≡ o → after ≡ pools ++ pool ∷ []
+    → All (λ (p : Looking). p.seen.origin ≡ o) after
 one_more o pools after pool all new same =
-    subst (All (λ (p : Course). p.origin ≡ o)) (sym same)
-    (All-append (λ (p : Course). p.origin ≡ o) pools (pool ∷ []) all
-    (All-cons (λ (p : Course). p.origin ≡ o) pool [] new (All-nil (λ (p : Course). p.origin ≡ o))))
+    subst (All (λ (p : Looking). p.seen.origin ≡ o)) (sym same)
+    (All-append (λ (p : Looking). p.seen.origin ≡ o) pools (pool ∷ []) all
+    (All-cons (λ (p : Looking). p.seen.origin ≡ o) pool [] new (All-nil (λ (p : Looking). p.seen.origin ≡ o))))
 
 -- the next stand may be given to these pools
-pub may_be_given : (stand : Stand) (rest : List Stand) (pools : List Course)
-    → AreOfOne (stand ∷ rest) pools → All (λ (pool : Course). pool.origin ≡ stand.seat.origin) pools
+pub may_be_given : (stand : Stand) (rest : List Stand) (pools : List Looking)
+    → AreOfOne (stand ∷ rest) pools → All (λ (pool : Looking). pool.seen.origin ≡ stand.seat.origin) pools
 may_be_given stand rest pools are =
-    All-weaker (λ (pool : Course). pool.origin ≡ are.origin) (λ (pool : Course). pool.origin ≡ stand.seat.origin)
+    All-weaker (λ (pool : Looking). pool.seen.origin ≡ are.origin)
+    (λ (pool : Looking). pool.seen.origin ≡ stand.seat.origin)
     (λ pool same. same ∙ sym (All-head (λ (s : Stand). s.seat.origin ≡ are.origin) stand rest are.stands))
     pools are.pools
 
 -- and once it was given, those that are left and the pools are of one server
-pub was_given : (stand : Stand) (rest : List Stand) (pools after : List Course)
-    → AreOfOne (stand ∷ rest) pools → All (λ (pool : Course). pool.origin ≡ stand.seat.origin) after
+pub was_given : (stand : Stand) (rest : List Stand) (pools after : List Looking)
+    → AreOfOne (stand ∷ rest) pools → All (λ (pool : Looking). pool.seen.origin ≡ stand.seat.origin) after
     → AreOfOne rest after
 was_given stand rest pools after are given =
     record {
       origin = are.origin;
       stands = All-tail (λ (s : Stand). s.seat.origin ≡ are.origin) stand rest are.stands;
-      pools = All-weaker (λ (pool : Course). pool.origin ≡ stand.seat.origin)
-          (λ (pool : Course). pool.origin ≡ are.origin)
+      pools = All-weaker (λ (pool : Looking). pool.seen.origin ≡ stand.seat.origin)
+          (λ (pool : Looking). pool.seen.origin ≡ are.origin)
           (λ pool same. same ∙ All-head (λ (s : Stand). s.seat.origin ≡ are.origin) stand rest are.stands)
           after given;
     }

@@ -91,7 +91,7 @@ impl<S: Read + Write> Client<S> {
 
     /// A client that has said nothing. It allocates nothing.
     pub fn new(alloc: Global, socket: S, pool: &SeatPool) -> Client<S>
-        ensures talk { result.talk ≡ begun pool.now }
+        ensures talk { result.talk ≡ begun pool.now.seen }
         ensures given { result.given ≡ [] }
         ensures taken { result.taken ≡ [] }
         ensures whole { result.refused ≡ false }
@@ -134,9 +134,9 @@ impl<S: Read + Write> Client<S> {
     /// room for what is read.
     #[tactic(auto, using(crate::proofs::Later::seeing, crate::proofs::Pausing::passed, crate::proofs::Pausing::ending))]
     pub fn go<R: Wait>(&mut self, rt: &R, pool: &mut SeatPool, piece: &mut [u8]) -> Pause
-        requires known { IsLater self.old.talk.seen pool.old }
-        ensures known { IsLater self.new.talk.seen pool.new }
-        ensures later { IsLater pool.old pool.new }
+        requires known { IsLater self.old.talk.seen pool.old.seen }
+        ensures known { IsLater self.new.talk.seen pool.new.seen }
+        ensures later { IsLater pool.old.seen pool.new.seen }
         ensures first { self.new.talk.first ≡ self.old.talk.first }
         ensures given { HasPassed self.old.given self.new.given }
         ensures taken { HasPassed self.old.taken self.new.taken }
@@ -158,10 +158,10 @@ impl<S: Read + Write> Client<S> {
     // Takes a few steps.
     #[tactic(auto, using(crate::proofs::Later::seeing, crate::proofs::Pausing::passed, crate::proofs::Pausing::ending))]
     fn go_on<R: Wait>(&mut self, rt: &R, pool: &mut SeatPool, piece: &mut [u8]) -> Pause
-        requires known { IsLater self.old.talk.seen pool.old }
+        requires known { IsLater self.old.talk.seen pool.old.seen }
         requires whole { self.old.refused ≡ false }
-        ensures known { IsLater self.new.talk.seen pool.new }
-        ensures later { IsLater pool.old pool.new }
+        ensures known { IsLater self.new.talk.seen pool.new.seen }
+        ensures later { IsLater pool.old.seen pool.new.seen }
         ensures first { self.new.talk.first ≡ self.old.talk.first }
         ensures given { HasPassed self.old.given self.new.given }
         ensures taken { HasPassed self.old.taken self.new.taken }
@@ -179,10 +179,10 @@ impl<S: Read + Write> Client<S> {
     // Goes on until it has to read or write, and does so once.
     #[tactic(auto, using(crate::proofs::Later::seeing, crate::proofs::Pausing::passed, crate::proofs::Pausing::ending))]
     fn step<R: Wait>(&mut self, rt: &R, pool: &mut SeatPool, piece: &mut [u8]) -> Option<Pause>
-        requires known { IsLater self.old.talk.seen pool.old }
+        requires known { IsLater self.old.talk.seen pool.old.seen }
         requires whole { self.old.refused ≡ false }
-        ensures known { IsLater self.new.talk.seen pool.new }
-        ensures later { IsLater pool.old pool.new }
+        ensures known { IsLater self.new.talk.seen pool.new.seen }
+        ensures later { IsLater pool.old.seen pool.new.seen }
         ensures first { self.new.talk.first ≡ self.old.talk.first }
         ensures given { HasPassed self.old.given self.new.given }
         ensures taken { HasPassed self.old.taken self.new.taken }
@@ -266,9 +266,9 @@ impl<S: Read + Write> Client<S> {
     /// Takes the reply to the call that was sent, if it has come, and says whether it did. Some(false) if not; None if
     /// it never will, or memory is out. Nothing is read or written.
     pub fn hear<R: Wait>(&mut self, rt: &R, pool: &mut SeatPool) -> Option<bool>
-        requires known { IsLater self.old.talk.seen pool.old }
-        ensures known { IsLater self.new.talk.seen pool.new }
-        ensures later { IsLater pool.old pool.new }
+        requires known { IsLater self.old.talk.seen pool.old.seen }
+        ensures known { IsLater self.new.talk.seen pool.new.seen }
+        ensures later { IsLater pool.old.seen pool.new.seen }
         ensures same { self.new ≡ record self.old { talk = self.new.talk } }
         ensures first { self.new.talk.first ≡ self.old.talk.first }
         ensures further { IsFurther self.old.talk.connected self.new.talk.connected }
@@ -288,7 +288,7 @@ impl<S: Read + Write> Client<S> {
     pub fn leave(self, pool: &mut SeatPool)
     where
         S: Drop,
-        requires known { IsLater self.talk.seen pool.old }
+        requires known { IsLater self.talk.seen pool.old.seen }
         ensures { pool.new ≡ pool.old }
     {
         let Client { wire, talk, .. } = self;

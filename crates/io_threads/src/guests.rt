@@ -52,9 +52,9 @@ impl Model for Guests {
 
     ghost coded = { Prim.hlevel (codes, coded_items, book_coded) };
 
-    ghost view = { λ g. g.pool };
+    ghost view = { λ g. g.pool.seen };
 
-    ghost invariant = { λ g. KnowsAll g.pool g.clients };
+    ghost invariant = { λ g. KnowsAll g.pool.seen g.clients };
 }
 
 impl Guests {
@@ -126,8 +126,8 @@ impl Guests {
 // One more.
 #[tactic(auto, using(crate::proofs::Knowing::knowing))]
 fn add(alloc: Global, pool: &SeatPool, clients: &mut Slab<Guest>, stream: TcpStream, entry: Entry)
-    requires known { KnowsAll pool.now clients.old }
-    ensures known { KnowsAll pool.now clients.new }
+    requires known { KnowsAll pool.now.seen clients.old }
+    ensures known { KnowsAll pool.now.seen clients.new }
 {
     let client = Client::new(alloc, stream, pool);
     let guest = Guest {
@@ -146,8 +146,8 @@ fn is_ready_for(
     key: usize,
     ready: Ready,
 ) -> Option<Waits>
-    requires known { KnowsAll pool.now clients.old }
-    ensures known { KnowsAll pool.now clients.new }
+    requires known { KnowsAll pool.now.seen clients.old }
+    ensures known { KnowsAll pool.now.seen clients.new }
 {
     match clients.get_mut(key) {
         Some(guest) => {
@@ -167,8 +167,8 @@ fn go<R: Wait>(
     key: usize,
     piece: &mut [u8],
 ) -> Pause
-    requires known { KnowsAll pool.old clients.old }
-    ensures known { KnowsAll pool.new clients.new }
+    requires known { KnowsAll pool.old.seen clients.old }
+    ensures known { KnowsAll pool.new.seen clients.new }
 {
     match clients.get_mut(key) {
         Some(guest) => {
@@ -193,8 +193,8 @@ fn waits_after(pause: Pause) -> Waits {
 // Takes the replies for which nobody waits any more.
 #[tactic(auto, using(crate::proofs::Knowing::knowing))]
 fn collect<R: Wait>(rt: &R, pool: &mut SeatPool, clients: &Slab<Guest>)
-    requires known { KnowsAll pool.old clients.now }
-    ensures known { KnowsAll pool.new clients.now }
+    requires known { KnowsAll pool.old.seen clients.now }
+    ensures known { KnowsAll pool.new.seen clients.now }
 {
     pool.collect(rt);
 }
@@ -202,8 +202,8 @@ fn collect<R: Wait>(rt: &R, pool: &mut SeatPool, clients: &Slab<Guest>)
 // A client that waited for its socket is to have its turn.
 #[tactic(auto, using(crate::proofs::Knowing::knowing))]
 fn has_turn(pool: &SeatPool, clients: &mut Slab<Guest>, key: usize)
-    requires known { KnowsAll pool.now clients.old }
-    ensures known { KnowsAll pool.now clients.new }
+    requires known { KnowsAll pool.now.seen clients.old }
+    ensures known { KnowsAll pool.now.seen clients.new }
 {
     if let Some(guest) = clients.get_mut(key) {
         guest.waits = Waits::Turn;
@@ -213,8 +213,8 @@ fn has_turn(pool: &SeatPool, clients: &mut Slab<Guest>, key: usize)
 // Takes the reply to a client's call.
 #[tactic(auto, using(crate::proofs::Knowing::knowing))]
 fn hear<R: Wait>(rt: &R, pool: &mut SeatPool, clients: &mut Slab<Guest>, key: usize) -> Option<bool>
-    requires known { KnowsAll pool.old clients.old }
-    ensures known { KnowsAll pool.new clients.new }
+    requires known { KnowsAll pool.old.seen clients.old }
+    ensures known { KnowsAll pool.new.seen clients.new }
 {
     match clients.get_mut(key) {
         Some(guest) => guest.client.hear(rt, pool),
@@ -225,8 +225,8 @@ fn hear<R: Wait>(rt: &R, pool: &mut SeatPool, clients: &mut Slab<Guest>, key: us
 // Closes a client.
 #[tactic(auto, using(crate::proofs::Knowing::knowing))]
 fn close(pool: &mut SeatPool, clients: &mut Slab<Guest>, key: usize)
-    requires known { KnowsAll pool.old clients.old }
-    ensures known { KnowsAll pool.new clients.new }
+    requires known { KnowsAll pool.old.seen clients.old }
+    ensures known { KnowsAll pool.new.seen clients.new }
 {
     if let Some(guest) = clients.try_remove(key) {
         guest.client.leave(pool);
@@ -236,7 +236,7 @@ fn close(pool: &mut SeatPool, clients: &mut Slab<Guest>, key: usize)
 // Closes all.
 #[tactic(auto, using(crate::proofs::Knowing::none_known))]
 fn close_all(pool: &SeatPool, clients: &mut Slab<Guest>)
-    ensures known { KnowsAll pool.now clients.new }
+    ensures known { KnowsAll pool.now.seen clients.new }
 {
     clients.clear();
 }

@@ -91,8 +91,8 @@ fn give(
     mark: &Mark,
     gauge: &Gauge,
 ) -> Result<(), AllocError>
-    requires { All (λ pool. pool.origin ≡ stand.seat.origin) pools.old.items }
-    ensures { All (λ pool. pool.origin ≡ stand.seat.origin) pools.new.items }
+    requires { All (λ pool. pool.seen.origin ≡ stand.seat.origin) pools.old.items }
+    ensures { All (λ pool. pool.seen.origin ≡ stand.seat.origin) pools.new.items }
 {
     if let Some(pool) = pools.get_mut(place) {
         let Stand { reader, seat } = stand;
@@ -106,7 +106,7 @@ fn give(
 
 // A pool with this stand's reader and seat.
 fn pool_of(alloc: Global, stand: Stand, mark: &Mark, gauge: &Gauge) -> Result<SeatPool, AllocError>
-    ensures { IfOk result (λ pool. pool.origin ≡ stand.seat.origin) }
+    ensures { IfOk result (λ pool. pool.seen.origin ≡ stand.seat.origin) }
 {
     let Stand { reader, seat } = stand;
     match share(mark, gauge) {
@@ -133,7 +133,7 @@ fn share(mark: &Mark, gauge: &Gauge) -> Result<(Mark, Gauge), AllocError> {
 
 // A pool with one seat more.
 fn with_seat(pool: SeatPool, seat: Seat) -> Result<SeatPool, AllocError>
-    requires { seat.origin ≡ pool.origin }
+    requires { seat.origin ≡ pool.seen.origin }
     ensures { IfOk result (λ grown. grown ≡ pool) }
 {
     let mut pool = pool;

@@ -1,13 +1,18 @@
 -- What a server is opened with.
 use Rattle.std.proofs.Common.{◌≡◌, ◌∙◌, ap, refl, ℕ, ◌+◌, zero, suc, List, [], ◌∷◌, ◌++◌, length, true, arith}
+use Rattle.std.specs.Coded.{codes}
+use mathlib.Core.HLevel.{is_prop→PathP}
+use Rattle.logbook.specs.Pages.{book_coded}
+use Rattle.versions.specs.Stores.{coded_items}
 use Rattle.node.specs.Nodes.{NodeState, is_idle}
 use Rattle.node.specs.Replies.{AreOpenBelow}
 use Rattle.node.proofs.PortLaws.{idle-none_open}
 use Rattle.faces.specs.Courses.{Origin}
+use Rattle.faces.specs.Readers.{yet_to_look}
 use Rattle.rail.specs.declared.stands.Stand.{Stand}
 use Rattle.rail.specs.Letters.{PostState, post_at}
 use Rattle.rail.specs.Turns.{ArePosts}
-use Rattle.rail.specs.Servers.{posts_from, stand_at, stands_from}
+use Rattle.rail.specs.Servers.{course_at, posts_from, stand_at, stands_from}
 
 pub posts_more : (o : Origin) (k n m : ℕ) → m ≡ k + n → posts_from o k (n + 1) ≡ posts_from o k n ++ post_at o m ∷ []
 posts_more o k zero m is = ap (λ (j : ℕ). post_at o j ∷ []) (let e : k ≡ m = omega (arith, is) in e)
@@ -35,3 +40,15 @@ length_opened o k (suc n) = ap suc (length_opened o (k + 1) n)
 -- an idle server has no open call
 pub idle_below : (n : NodeState) (ports : ℕ) → is_idle n ≡ true → AreOpenBelow ports n.server
 idle_below n ports idle = λ port reads above. idle-none_open n port reads idle
+
+-- a reader that hasn't looked and a seat before any call make that stand
+pub is_stand_at : (o : Origin) (k : ℕ) (s : Stand)
+    → s.reader ≡ yet_to_look (course_at o)
+    → s.seat ≡ record { origin = o; port = k; sent = []; got = [] }
+    → s ≡ stand_at o k
+is_stand_at o k s reader seat = λ i. record {
+  reader = reader i;
+  seat = seat i;
+  together = is_prop→PathP (λ j. (seat j).origin ≡ (reader j).seen.origin)
+      (λ j. hlevel (codes, coded_items, book_coded)) s.together refl i;
+}

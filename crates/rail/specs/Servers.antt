@@ -2,6 +2,7 @@
 use Rattle.std.specs.Prelude.{◌≡◌, ℕ, zero, suc, ◌+◌, true, List, [], ◌∷◌, replicate, refl}
 use Rattle.node.specs.Nodes.{NodeState}
 use Rattle.faces.specs.Courses.{Origin, Course}
+use Rattle.faces.specs.Readers.{yet_to_look}
 use Rattle.rail.specs.declared.events.Event.{Event}
 use Rattle.rail.specs.declared.stands.Stand.{Stand}
 use Rattle.rail.specs.Letters.{PostState, post_at}
@@ -16,10 +17,14 @@ abbrev pub posts_from : Origin → ℕ → ℕ → List PostState
 posts_from o k zero = []
 posts_from o k (suc n) = post_at o k ∷ posts_from o (k + 1) n
 
--- a reader that has seen no input, and the seat of port k before any call
+-- a reader that has seen no input and hasn't looked, and the seat of port k before any call
 abbrev pub stand_at : Origin → ℕ → Stand
 stand_at o k =
-    record { reader = course_at o; seat = record { origin = o; port = k; sent = []; got = [] }; together = refl }
+    record {
+      reader = yet_to_look (course_at o);
+      seat = record { origin = o; port = k; sent = []; got = [] };
+      together = refl;
+    }
 
 -- the stands of n ports, from port k on
 abbrev pub stands_from : Origin → ℕ → ℕ → List Stand

@@ -1,6 +1,7 @@
 //! A running server: its worker, and those who sit beside it.
 ghost use Rattle.std.specs.Prelude.{◌≡◌, ◌⊎◌, ◌<◌, ◌≤◌, ◌+◌, [], true, false, replicate, IfOk, IfErr, MatchResult};
 ghost use Rattle.crossbeam_channel.specs.Claims.{view};
+ghost use Rattle.faces.specs.Readers.{yet_to_look};
 ghost use Rattle.node.specs.Nodes.{is_idle};
 ghost use Rattle.node.specs.Lawful.{IsLawful};
 ghost use Rattle.rail.specs.Inbox.{taker};
@@ -148,7 +149,7 @@ fn one_stand(
 
 // One more reader.
 fn one_reader(publisher: &mut Publisher) -> Result<Reader, RailFault>
-    ensures reader { IfOk result (λ reader. reader ≡ publisher.old.published) }
+    ensures reader { IfOk result (λ reader. reader ≡ yet_to_look publisher.old.published) }
     ensures publisher { publisher.new ≡ publisher.old }
     ensures fault { IfErr result (λ fault. fault ≡ RailFault.NoReader) }
 {
@@ -168,7 +169,7 @@ fn stand_of(
 ) -> Result<(Stand, Post), AllocError>
     requires gate { view gate.old.pass ≡ taker port port [] }
     requires few { port < 16 }
-    requires reader { reader ≡ published.now }
+    requires reader { reader ≡ yet_to_look published.now }
     requires first { published.now.inputs ≡ [] }
     ensures gate { IfOk result (λ _. view gate.new.pass ≡ taker (port + 1) (port + 1) []) }
     ensures stand { IfOk result (λ r. r.0 ≡ stand_at published.now.origin port) }

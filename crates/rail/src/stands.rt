@@ -12,5 +12,5 @@ use faces::Reader;
 pub struct Stand {
     pub reader: Reader,
     pub seat: Seat,
-    pub ghost together: { seat.origin ≡ reader.origin } by { Prim.hlevel (codes, coded_items, book_coded) },
+    pub ghost together: { seat.origin ≡ reader.seen.origin } by { Prim.hlevel (codes, coded_items, book_coded) },
 }

@@ -28,9 +28,9 @@ pub(crate) fn settle(
     call: &Call,
 ) -> Result<bool, ServeFault>
     requires asking { IsAsking call.now.target call.now.op connection.old }
-    requires known { IsLater seen.old pool.old }
-    ensures known { IsLater seen.new pool.new }
-    ensures later { IsLater pool.old pool.new }
+    requires known { IsLater seen.old pool.old.seen }
+    ensures known { IsLater seen.new pool.new.seen }
+    ensures later { IsLater pool.old.seen pool.new.seen }
     ensures ok { IfOk result (λ settled. MatchBool settled
         ((outcome : Outcome) × CameTo IsReplied seen.old call.now outcome seen.new ×
         HasOutcome outcome connection.old connection.new)
@@ -61,7 +61,7 @@ pub(crate) fn hand_on(
     reply: Reply,
 ) -> Result<(), ServeFault>
     requires may_have { MayHave connection.old.waiting reply }
-    ensures ok { OnOk result (HasOutcome (Replied reply) connection.old connection.new × (seen.new ≡ pool.now)) }
+    ensures ok { OnOk result (HasOutcome (Replied reply) connection.old connection.new × (seen.new ≡ pool.now.seen)) }
     ensures err { OnErr result ((seen.new ≡ seen.old) × (connection.new ≡ record connection.old { failed = true })) }
 {
     let answered = connection.answer(&reply);

@@ -15,7 +15,7 @@ use std::sync::Wait;
 use table::{Call, Reply};
 
 /// What one thread has at one server: a reader, and seats that its connections take in turn. Contracts see what the
-/// reader has seen or was told of (`Course`).
+/// reader has seen or was told of, and at which faces it has looked (`Looking`).
 #[derive(Drop)]
 pub struct SeatPool {
     reader: Reader,
@@ -37,21 +37,22 @@ impl Model for SeatPool {
     ghost use Rattle.versions.specs.Stores.{coded_items};
     ghost use Rattle.std.specs.Prelude.{vec_capacity};
     ghost use Rattle.std.specs.VecDeque.{deque_capacity};
-    ghost use Rattle.faces.specs.Courses.{Course};
+    ghost use Rattle.faces.specs.Readers.{Looking};
     ghost use Rattle.seats.specs.SeatPools.{IsPool};
 
-    ghost Value = { Course };
+    ghost Value = { Looking };
 
     ghost coded = { Prim.hlevel (codes, coded_items, book_coded) };
 
     ghost view = { λ p. p.reader };
 
     ghost invariant = { λ p.
-        IsPool p.reader.origin p.seats p.free.items p.left.items (vec_capacity p.free) (deque_capacity p.left) };
+        IsPool p.reader.seen.origin p.seats p.free.items p.left.items (vec_capacity p.free) (deque_capacity p.left) };
 }
 
 impl SeatPool {
-    ghost use Rattle.std.specs.Prelude.{◌≡◌, None, Option, IfOk, IfSome, MatchOption, OnErr};
+    ghost use Rattle.std.specs.Prelude.{◌≡◌, ◌++◌, ◌∷◌, [], None, Option};
+    ghost use Rattle.std.specs.Prelude.{IfOk, IfSome, MatchOption, OnErr, OnSome};
     ghost use Rattle.table.specs.declared.items.Item.{Item};
     ghost use Rattle.table.specs.declared.operations.Reply.TheVariants.{Value};
     ghost use Rattle.faces.specs.Courses.{IsLater};
@@ -76,7 +77,7 @@ impl SeatPool {
     /// Adds a seat of the same server, and makes room for whatever may become of it later. If it is refused, memory is
     /// out, and the seat is dropped.
     pub fn add(&mut self, seat: Seat) -> Result<(), AllocError>
-        requires server { seat.origin ≡ self.old.origin }
+        requires server { seat.origin ≡ self.old.seen.origin }
         ensures same { self.new ≡ self.old }
     {
         let seats = self.seats.saturating_add(1);
@@ -105,9 +106,10 @@ impl SeatPool {
 
     /// The reply to a call by a look alone, as `peek` says. Refused if the server is marked.
     pub fn peek(&mut self, call: &Call) -> Result<Option<Reply>, CallFault>
-        ensures later { IsLater self.old self.new }
+        ensures later { IsLater self.old.seen self.new.seen }
         ensures clean { IfOk result (λ found. IfSome found
-            (λ reply. (item : Option Item) × (reply ≡ Value item) × ShowsClean self.new call.now item)) }
+            (λ reply. (item : Option Item) × (reply ≡ Value item) × ShowsClean self.new.seen call.now item)) }
+        ensures looked { IfOk result (λ found. OnSome found (self.new.looks ≡ self.old.looks ++ self.new.seen ∷ [])) }
     {
         let found = peek(&mut self.reader, call);
         if self.mark.is_set() {
@@ -119,14 +121,15 @@ impl SeatPool {
 
     /// A note of what its reader has seen.
     pub fn tell(&self) -> Told
-        ensures { result ≡ self.now }
+        ensures { result ≡ self.now.seen }
     {
         self.reader.tell()
     }
 
     /// Takes the replies for which nobody waits any more: their seats are free then.
     pub fn collect<R: Wait>(&mut self, rt: &R)
-        ensures { IsLater self.old self.new }
+        ensures later { IsLater self.old.seen self.new.seen }
+        ensures looks { self.new.looks ≡ self.old.looks }
     {
         for _ in 0..self.left.len() {
             self.collect_one(rt);
@@ -135,7 +138,8 @@ impl SeatPool {
 
     // Takes such a reply, if it has come.
     fn collect_one<R: Wait>(&mut self, rt: &R)
-        ensures { IsLater self.old self.new }
+        ensures later { IsLater self.old.seen self.new.seen }
+        ensures looks { self.new.looks ≡ self.old.looks }
     {
         if let Some(mut submitter) = self.left.pop_front() {
             drop(submitter.take(rt, &mut self.reader));
@@ -150,14 +154,14 @@ impl SeatPool {
     /// Takes a free seat out, if there is one.
     pub(crate) fn take_free(&mut self) -> Option<Submitter>
         ensures same { self.new ≡ self.old }
-        ensures free { IfSome result (IsFreeAt self.old.origin) }
+        ensures free { IfSome result (IsFreeAt self.old.seen.origin) }
     {
         self.free.pop()
     }
 
     /// Takes a seat back at which no call is open.
     pub(crate) fn put(&mut self, submitter: Submitter)
-        requires { IsFreeAt self.old.origin submitter }
+        requires { IsFreeAt self.old.seen.origin submitter }
         ensures { self.new ≡ self.old }
     {
         // There is room for each seat.
@@ -166,7 +170,7 @@ impl SeatPool {
 
     /// Takes a seat back, for whose reply nobody waits any more.
     pub(crate) fn leave(&mut self, submitter: Submitter)
-        requires { IsAt self.old.origin submitter }
+        requires { IsAt self.old.seen.origin submitter }
         ensures { self.new ≡ self.old }
     {
         // There is room for each seat.
@@ -179,12 +183,13 @@ impl SeatPool {
         rt: &R,
         submitter: &mut Submitter,
     ) -> Result<Option<Reply>, CallFault>
-        requires server { IsAt self.old.origin submitter.old }
-        ensures server { IsAt self.new.origin submitter.new }
-        ensures later { IsLater self.old self.new }
+        requires server { IsAt self.old.seen.origin submitter.old }
+        ensures server { IsAt self.new.seen.origin submitter.new }
+        ensures later { IsLater self.old.seen self.new.seen }
+        ensures looks { self.new.looks ≡ self.old.looks }
         ensures taken { IfOk result (λ found. MatchOption found
             ((submitter.new ≡ submitter.old) × (self.new ≡ self.old))
-            (λ reply. IsAnswered self.old self.new submitter.old submitter.new reply)) }
+            (λ reply. IsAnswered self.old.seen self.new.seen submitter.old submitter.new reply)) }
         ensures lost { OnErr result (submitter.new.waiting ≡ None) }
     {
         submitter.take(rt, &mut self.reader)

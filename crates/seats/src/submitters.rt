@@ -107,12 +107,13 @@ impl Submitter {
     /// isn't one to such a call, or if it is lost. After a refusal it is lost, and no call is open. It waits for
     /// nobody.
     pub fn take<R: Wait>(&mut self, rt: &R, reader: &mut Reader) -> Result<Option<Reply>, CallFault>
-        requires together { self.old.seat.origin ≡ reader.old.origin }
-        ensures together { self.new.seat.origin ≡ reader.new.origin }
-        ensures later { IsLater reader.old reader.new }
+        requires together { self.old.seat.origin ≡ reader.old.seen.origin }
+        ensures together { self.new.seat.origin ≡ reader.new.seen.origin }
+        ensures later { IsLater reader.old.seen reader.new.seen }
+        ensures looks { reader.new.looks ≡ reader.old.looks }
         ensures taken { IfOk result (λ found. MatchOption found
             ((self.new ≡ self.old) × (reader.new ≡ reader.old))
-            (λ reply. IsAnswered reader.old reader.new self.old self.new reply)) }
+            (λ reply. IsAnswered reader.old.seen reader.new.seen self.old self.new reply)) }
         ensures lost { OnErr result ((self.new.lost ≡ true) × (self.new.waiting ≡ None)) }
         // Nothing more was sent.
         ensures sent { all_sent self.new ≡ all_sent self.old }
@@ -155,9 +156,10 @@ fn hear(
     reply: Reply,
     told: Told,
 ) -> Result<Reply, CallFault>
-    requires server { told.origin ≡ reader.old.origin }
-    ensures later { IsLater reader.old reader.new }
-    ensures told { IsLater told reader.new }
+    requires server { told.origin ≡ reader.old.seen.origin }
+    ensures later { IsLater reader.old.seen reader.new.seen }
+    ensures told { IsLater told reader.new.seen }
+    ensures looks { reader.new.looks ≡ reader.old.looks }
     ensures reply { IfOk result (λ given. given ≡ reply) }
     ensures kind { OnOk result (IsReplyAt stage.old reply) }
     ensures stage { MatchResult result (λ _. stage.new ≡ Stage.Free) (λ _. stage.new ≡ Stage.Lost) }

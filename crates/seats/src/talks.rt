@@ -100,7 +100,7 @@ impl Talk {
 
     /// The talk of a connection of which nothing was read. It allocates nothing.
     pub fn new(alloc: Global, pool: &SeatPool) -> Talk
-        ensures { result ≡ begun pool.now }
+        ensures { result ≡ begun pool.now.seen }
     {
         Talk {
             connection: Connection::new(alloc),
@@ -157,9 +157,9 @@ impl Talk {
     /// and isn't made then. A call gets no reply if the server is marked or gone. After a fault no further call is
     /// made, and it answers a fault from then on; what is due may still be written.
     pub fn go<R: Wait>(&mut self, rt: &R, pool: &mut SeatPool) -> Result<Went, ServeFault>
-        requires known { IsLater self.old.seen pool.old }
-        ensures known { IsLater self.new.seen pool.new }
-        ensures later { IsLater pool.old pool.new }
+        requires known { IsLater self.old.seen pool.old.seen }
+        ensures known { IsLater self.new.seen pool.new.seen }
+        ensures later { IsLater pool.old.seen pool.new.seen }
         ensures first { self.new.first ≡ self.old.first }
         ensures further { IsFurther self.old.connected self.new.connected }
         ensures went { IfOk result (λ went. HasGone went self.new) }
@@ -184,9 +184,9 @@ impl Talk {
     /// Takes the reply to the call that was sent, if it has come, and says whether it did: no call waits then, and its
     /// seat is free.
     pub fn hear<R: Wait>(&mut self, rt: &R, pool: &mut SeatPool) -> Result<bool, ServeFault>
-        requires known { IsLater self.old.seen pool.old }
-        ensures known { IsLater self.new.seen pool.new }
-        ensures later { IsLater pool.old pool.new }
+        requires known { IsLater self.old.seen pool.old.seen }
+        ensures known { IsLater self.new.seen pool.new.seen }
+        ensures later { IsLater pool.old.seen pool.new.seen }
         ensures first { self.new.first ≡ self.old.first }
         ensures further { IsFurther self.old.connected self.new.connected }
         ensures heard { IfOk result (λ heard. MatchBool heard (self.new.standing ≡ Idle) (self.new ≡ self.old)) }
@@ -232,7 +232,7 @@ impl Talk {
 
     /// Ends it. Its seat, if it has one, goes back to the pool, which takes the reply that nobody waits for any more.
     pub fn leave(self, pool: &mut SeatPool)
-        requires known { IsLater self.seen pool.old }
+        requires known { IsLater self.seen pool.old.seen }
         ensures { pool.new ≡ pool.old }
     {
         let Talk {
@@ -255,9 +255,9 @@ impl Talk {
     // Makes calls while no call waits.
     fn go_on<R: Wait>(&mut self, rt: &R, pool: &mut SeatPool) -> Result<Went, ServeFault>
         requires idle { self.old.standing ≡ Idle }
-        requires known { IsLater self.old.seen pool.old }
-        ensures known { IsLater self.new.seen pool.new }
-        ensures later { IsLater pool.old pool.new }
+        requires known { IsLater self.old.seen pool.old.seen }
+        ensures known { IsLater self.new.seen pool.new.seen }
+        ensures later { IsLater pool.old.seen pool.new.seen }
         ensures first { self.new.first ≡ self.old.first }
         ensures further { IsFurther self.old.connected self.new.connected }
         ensures went { IfOk result (λ went. HasGone went self.new) }
@@ -276,9 +276,9 @@ impl Talk {
     // Refuses the call that waits for a seat, and goes on.
     fn pass_over<R: Wait>(&mut self, rt: &R, pool: &mut SeatPool) -> Result<Went, ServeFault>
         requires store { HoldsStore self.old.standing }
-        requires known { IsLater self.old.seen pool.old }
-        ensures known { IsLater self.new.seen pool.new }
-        ensures later { IsLater pool.old pool.new }
+        requires known { IsLater self.old.seen pool.old.seen }
+        ensures known { IsLater self.new.seen pool.new.seen }
+        ensures later { IsLater pool.old.seen pool.new.seen }
         ensures first { self.new.first ≡ self.old.first }
         ensures further { IsFurther self.old.connected self.new.connected }
         ensures went { IfOk result (λ went. HasGone went self.new) }
@@ -291,9 +291,9 @@ impl Talk {
     // The connection's next step. None if it was a call that a look answered, or that was refused.
     fn step(&mut self, pool: &mut SeatPool) -> Result<Option<Went>, ServeFault>
         requires idle { self.old.standing ≡ Idle }
-        requires known { IsLater self.old.seen pool.old }
-        ensures known { IsLater self.new.seen pool.new }
-        ensures later { IsLater pool.old pool.new }
+        requires known { IsLater self.old.seen pool.old.seen }
+        ensures known { IsLater self.new.seen pool.new.seen }
+        ensures later { IsLater pool.old.seen pool.new.seen }
         ensures first { self.new.first ≡ self.old.first }
         ensures further { IsFurther self.old.connected self.new.connected }
         ensures went { IfOk result
@@ -324,7 +324,7 @@ impl Talk {
     // Sends the call that waits at a free seat, if there is one.
     fn send<R: Wait>(&mut self, rt: &R, pool: &mut SeatPool) -> Result<Went, ServeFault>
         requires unsent { HasGone Went.Seat self.old }
-        requires known { IsLater self.old.seen pool.old }
+        requires known { IsLater self.old.seen pool.old.seen }
         ensures same { self.new ≡ record self.old { standing = self.new.standing } }
         ensures pool { pool.new ≡ pool.old }
         ensures went { IfOk result (λ went. HasGone went self.new) }
@@ -375,9 +375,9 @@ fn ask(
     call: Call,
 ) -> Result<Option<Went>, ServeFault>
     requires asking { IsAsking call.target call.op connection.old }
-    requires known { IsLater seen.old pool.old }
-    ensures known { IsLater seen.new pool.new }
-    ensures later { IsLater pool.old pool.new }
+    requires known { IsLater seen.old pool.old.seen }
+    ensures known { IsLater seen.new pool.new.seen }
+    ensures later { IsLater pool.old.seen pool.new.seen }
     ensures ok { IfOk result (λ found. MatchOption found
         ((outcome : Outcome) × CameTo IsReplied seen.old call outcome seen.new ×
         HasOutcome outcome connection.old connection.new × (standing.new ≡ Idle))
@@ -427,7 +427,7 @@ fn stand_at(standing: &mut Standing, next: Standing)
 
 // Gives the seat back to the pool, if it has one.
 fn give_back(standing: &mut Standing, pool: &mut SeatPool)
-    requires { HoldsFree pool.old.origin standing.old }
+    requires { HoldsFree pool.old.seen.origin standing.old }
     ensures standing { standing.new ≡ Over }
     ensures pool { pool.new ≡ pool.old }
 {

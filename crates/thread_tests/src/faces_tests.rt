@@ -67,7 +67,7 @@ fn shown_by(look: Look<Item>) -> Shown {
 }
 
 fn look(beside: &mut Reader, key: &Key) -> Shown
-    ensures { beside.new.origin ≡ beside.old.origin }
+    ensures { beside.new.seen.origin ≡ beside.old.seen.origin }
 {
     match beside.look(key) {
         Ok(look) => shown_by(look),
@@ -100,7 +100,7 @@ fn take<R: Wait>(rt: &R, publisher: &mut Publisher, input: Input) -> Result<(), 
 
 // A reader is told of what is published. Whether it then tells of all that.
 fn tells(publisher: &Publisher, beside: &mut Reader) -> bool
-    requires { beside.old.origin ≡ publisher.now.published.origin }
+    requires { beside.old.seen.origin ≡ publisher.now.published.origin }
 {
     let told = publisher.published().again().tell();
     beside.learn(told.again());
@@ -115,7 +115,7 @@ fn looks<R: Wait>(
     input: Input,
     key: &Key,
 ) -> Result<bool, FaceFault>
-    requires { beside.old.origin ≡ publisher.old.published.origin }
+    requires { beside.old.seen.origin ≡ publisher.old.published.origin }
 {
     let none = look(beside, key) == Shown::Nothing;
     feed(rt, publisher, input)?;

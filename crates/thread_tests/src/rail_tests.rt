@@ -128,7 +128,7 @@ fn is_v(look: Look<Item>) -> bool {
 
 // Whether a reader finds a key's item.
 pub(crate) fn finds_v(reader: &mut Reader, key: &Key) -> Result<bool, RailFault>
-    ensures { reader.new.origin ≡ reader.old.origin }
+    ensures { reader.new.seen.origin ≡ reader.old.seen.origin }
 {
     match reader.look(key) {
         Ok(look) => Ok(is_v(look)),
@@ -139,7 +139,7 @@ pub(crate) fn finds_v(reader: &mut Reader, key: &Key) -> Result<bool, RailFault>
 
 // Whether a reader finds that a key has no item.
 fn finds_none(reader: &mut Reader, key: &Key) -> bool
-    ensures { reader.new.origin ≡ reader.old.origin }
+    ensures { reader.new.seen.origin ≡ reader.old.seen.origin }
 {
     match reader.look(key) {
         Ok(Look::Clean(found)) => found.is_none(),

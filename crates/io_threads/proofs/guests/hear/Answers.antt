@@ -6,6 +6,7 @@ use Rattle.io_threads.proofs.guests.hear.Goals as goal
 pub returns-in-Some : goal.returns-in-Some
 returns-in-Some g c =
     record {
-      known = known_written c.args.pool.now c.hear.new.pool c.args.clients.now c.args.key _ c.hear.ensures.later
-          c.requires.known (subst (λ (o : Option Guest). IsSome o) c.in-Some.ensures.value refl) c.hear.ensures.known;
+      known = known_written c.args.pool.now.seen c.hear.new.pool.seen c.args.clients.now c.args.key _
+          c.hear.ensures.later c.requires.known
+          (subst (λ (o : Option Guest). IsSome o) c.in-Some.ensures.value refl) c.hear.ensures.known;
     }

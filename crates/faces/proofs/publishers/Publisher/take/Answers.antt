@@ -2,8 +2,15 @@ use Rattle.std.proofs.Common.{◌≡◌, ◌∙◌, ap, sym, subst}
 use Rattle.faces.specs.Courses.{Course, with_next}
 use Rattle.faces.specs.Publishers.{IsShowing}
 use Rattle.faces.proofs.Posting.{when_ok}
-use Rattle.faces.proofs.Stepping.{face_next, node_next, outputs_of}
+use Rattle.faces.proofs.Stepping.{face_next, later_next, node_next, outputs_of}
 use Rattle.faces.proofs.publishers.Publisher.take.Goals as goal
+
+pub publish-writer-requires-clause-later : goal.publish-writer-requires-clause-later
+publish-writer-requires-clause-later g c =
+    let me = c.self.inside in
+    let kept = subst (λ o. IsShowing o me.node me.log me.published) (sym c.in-Some.ensures.value) c.self.invariant in
+    later_next me.published c.in-Some.writer.desk.shown.value.course c.in-Some-next.front c.args.input kept.1.course
+    (c.in-Some-next.ensures ∙ ap (λ (x : Course). with_next x c.args.input) c.front.ensures)
 
 pub publish-writer-requires-clause-face : goal.publish-writer-requires-clause-face
 publish-writer-requires-clause-face g c =

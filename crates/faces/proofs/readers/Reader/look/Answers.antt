@@ -1,8 +1,5 @@
 use Rattle.std.proofs.Common.{◌≡◌, None, subst, rules}
-use Rattle.node.specs.Faces.{FaceState}
-use Rattle.faces.specs.Boards.{IsShownBy}
-use Rattle.faces.specs.Readers.{IsPlaceOf, ShowsItem}
-use Rattle.faces.proofs.Posting.{enters}
+use Rattle.faces.specs.Readers.{IsPlaceOf}
 use Rattle.faces.proofs.readers.Reader.look.Goals as goal
 
 pub unreachable-requires : goal.unreachable-requires
@@ -11,14 +8,8 @@ unreachable-requires c =
     let none : me.place ≡ None = search rules in
     subst (λ o. IsPlaceOf o me.front.origin) none c.self.invariant
 
-pub enter_as-requires : goal.enter_as-requires
-enter_as-requires c x = enters _ _ x
+pub returns-clause-looked : goal.returns-clause-looked
+returns-clause-looked c = rw (← c.self.view_is, ← c.in-Some.ensures.value) c.look_from-place.ensures.looked
 
-pub returns-in-Ok-clause-memory : goal.returns-in-Ok-clause-memory
-returns-in-Ok-clause-memory c =
-    λ refused.
-    let found = c.see-found.ensures.memory refused in
-    let face = c.get.result.now in
-    let shown : IsShownBy face = search rules in
-    rw (← c.self.view_is)
-    (face.course, found.0, subst (λ (f : FaceState). ShowsItem f c.args.key.now) shown found.1)
+pub returns-clause-memory : goal.returns-clause-memory
+returns-clause-memory c = rw (← c.self.view_is, ← c.in-Some.ensures.value) c.look_from-place.ensures.memory

@@ -7,8 +7,8 @@ use Rattle.io_threads.proofs.clients.Client.go_on.Given as goal
 abbrev pub invariant-loop : goal.invariant-loop
 invariant-loop g l =
     record {
-      known : IsLater l.self.talk.seen l.pool;
-      later : IsLater l.fn.pool l.pool;
+      known : IsLater l.self.talk.seen l.pool.seen;
+      later : IsLater l.fn.pool.seen l.pool.seen;
       whole : l.self.refused ≡ false;
       first : l.self.talk.first ≡ l.fn.self.talk.first;
       given : HasPassed l.fn.self.given l.self.given;

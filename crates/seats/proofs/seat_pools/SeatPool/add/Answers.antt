@@ -1,5 +1,6 @@
 use Rattle.std.proofs.Common.{◌∷◌, ◌++◌, ◌∙◌, [], List, ap, arith}
 use Rattle.std.proofs.lemmas.List.Elements.{All-push, All-same}
+use Rattle.faces.specs.Readers.{Looking}
 use Rattle.seats.specs.SeatPools.{IsAt, IsFreeAt}
 use Rattle.seats.specs.Submitters.{Submitting}
 use Rattle.seats.proofs.Pooled.{added}
@@ -11,11 +12,12 @@ invariant_of-self c =
     let pushed = c.push_reserved.ensures.items
     ∙ ap (λ (xs : List Submitting). xs ++ c.new.result ∷ []) c.make_room.ensures.free in
     record {
-      are_free = All-same (IsFreeAt s.reader.origin) c.push_reserved.new.self.items (s.free.items ++ c.new.result ∷ [])
-          pushed
-          (All-push (IsFreeAt s.reader.origin) s.free.items c.new.result c.self.invariant.are_free
-          (added s.reader c.args.self.now c.args.seat c.new.result c.new.ensures c.requires.server c.self.view_is));
-      are_left = All-same (IsAt s.reader.origin) c.make_room.new.left.items s.left.items c.make_room.ensures.left
+      are_free = All-same (IsFreeAt s.reader.seen.origin) c.push_reserved.new.self.items
+          (s.free.items ++ c.new.result ∷ []) pushed
+          (All-push (IsFreeAt s.reader.seen.origin) s.free.items c.new.result c.self.invariant.are_free
+          (added s.reader.seen c.args.self.now.seen c.args.seat c.new.result c.new.ensures c.requires.server
+          (ap (λ (l : Looking). l.seen) c.self.view_is)));
+      are_left = All-same (IsAt s.reader.seen.origin) c.make_room.new.left.items s.left.items c.make_room.ensures.left
           c.self.invariant.are_left;
       frees = omega (arith, c.in-Ok.ensures.all, c.push_reserved.ensures.capacity);
       leaves = c.in-Ok.ensures.all.1;

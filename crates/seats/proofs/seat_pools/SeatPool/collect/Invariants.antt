@@ -1,6 +1,10 @@
+use Rattle.std.proofs.Common.{◌≡◌}
 use Rattle.faces.specs.Courses.{IsLater}
 use Rattle.seats.proofs.seat_pools.SeatPool.collect.Given as goal
 
--- the reader has seen no less
+-- the reader has seen no less, and hasn't looked
 abbrev pub invariant-loop : goal.invariant-loop
-invariant-loop g l = IsLater l.fn.self l.self
+invariant-loop g l = record {
+  later : IsLater l.fn.self.seen l.self.seen;
+  looks : l.self.looks ≡ l.fn.self.looks;
+}

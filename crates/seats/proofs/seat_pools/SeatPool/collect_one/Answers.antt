@@ -6,14 +6,14 @@ use Rattle.seats.proofs.seat_pools.SeatPool.collect_one.Goals as goal
 pub invariant_of-self : goal.invariant_of-self
 invariant_of-self g c =
     let s = c.self.inside in
-    let now = c.take.new.reader in
+    let now = c.take.new.reader.seen in
     record {
       are_free = all_pushed (IsFreeAt now.origin) (is_ok c.push.result) s.free.items c.push.new.self.items
           c.take.new.self c.push.ensures.items
-          (all_later IsFreeAt s.reader now s.free.items c.take.ensures.later c.self.invariant.are_free)
+          (all_later IsFreeAt s.reader.seen now s.free.items c.take.ensures.later c.self.invariant.are_free)
           (c.take.ensures.together, c.if-is_free.ensures);
-      are_left = all_later IsAt s.reader now c.pop_front.new.self.items c.take.ensures.later
-          (all_without (IsAt s.reader.origin) s.left.items c.pop_front.new.self.items c.in-Some.submitter
+      are_left = all_later IsAt s.reader.seen now c.pop_front.new.self.items c.take.ensures.later
+          (all_without (IsAt s.reader.seen.origin) s.left.items c.pop_front.new.self.items c.in-Some.submitter
           c.in-Some.ensures.items c.self.invariant.are_left);
       frees = omega (arith, c.self.invariant.frees, c.push.ensures.capacity);
       leaves = omega (arith, c.self.invariant.leaves, c.in-Some.ensures.capacity);
@@ -22,13 +22,13 @@ invariant_of-self g c =
 pub invariant_of-self-else-is_free : goal.invariant_of-self-else-is_free
 invariant_of-self-else-is_free g c =
     let s = c.self.inside in
-    let now = c.take.new.reader in
+    let now = c.take.new.reader.seen in
     record {
-      are_free = all_later IsFreeAt s.reader now s.free.items c.take.ensures.later c.self.invariant.are_free;
+      are_free = all_later IsFreeAt s.reader.seen now s.free.items c.take.ensures.later c.self.invariant.are_free;
       are_left = all_pushed (IsAt now.origin) (is_ok c.push_back.result) c.pop_front.new.self.items
           c.push_back.new.self.items c.take.new.self c.push_back.ensures.items
-          (all_later IsAt s.reader now c.pop_front.new.self.items c.take.ensures.later
-          (all_without (IsAt s.reader.origin) s.left.items c.pop_front.new.self.items c.in-Some.submitter
+          (all_later IsAt s.reader.seen now c.pop_front.new.self.items c.take.ensures.later
+          (all_without (IsAt s.reader.seen.origin) s.left.items c.pop_front.new.self.items c.in-Some.submitter
           c.in-Some.ensures.items c.self.invariant.are_left))
           c.take.ensures.together;
       frees = c.self.invariant.frees;

@@ -8,8 +8,8 @@ abbrev pub invariant-loop : goal.invariant-loop
 invariant-loop g l =
     record {
       idle : l.self.standing ≡ Idle;
-      known : IsLater l.self.seen l.pool;
-      later : IsLater l.fn.pool l.pool;
+      known : IsLater l.self.seen l.pool.seen;
+      later : IsLater l.fn.pool.seen l.pool.seen;
       first : l.self.first ≡ l.fn.self.first;
       further : IsFurther l.fn.self.connected l.self.connected;
     }

@@ -1,6 +1,7 @@
 use Rattle.std.proofs.Common.{◌∙◌, true, ap, sym, subst}
 use Rattle.proto.specs.Turns.{Replied}
 use Rattle.faces.specs.Courses.{IsLater}
+use Rattle.faces.specs.Readers.{Looking}
 use Rattle.seats.specs.Talks.{IsTalk, Talking}
 use Rattle.seats.specs.declared.talks.Standing.{Standing}
 use Rattle.seats.proofs.Seated.{later_same}
@@ -10,7 +11,7 @@ use Rattle.seats.proofs.talks.Talk.hear.Goals as goal
 pub returns-in_default : goal.returns-in_default
 returns-in_default g c =
     record {
-      known = subst (λ (t : Talking). IsLater t.seen c.args.pool.now) (sym c.self.view_is) c.requires.known;
+      known = subst (λ (t : Talking). IsLater t.seen c.args.pool.now.seen) (sym c.self.view_is) c.requires.known;
       later = later_same _;
       first = ap (λ (t : Talking). t.first) c.self.view_is;
       further = as_shown c.args.self.now _ _ (ap (λ (t : Talking). t.connected) c.self.view_is) (further_same _);
@@ -30,7 +31,7 @@ returns-in-Ok-None-clause-further g c =
 
 pub returns-in_ok-hand_on-in-Ok-Some-clause-known : goal.returns-in_ok-hand_on-in-Ok-Some-clause-known
 returns-in_ok-hand_on-in-Ok-Some-clause-known g c =
-    known_now c.hand_on.new.seen c.give_back.new.pool c.in_ok-hand_on-in-Ok-Some.ensures.ok.1
+    known_now c.hand_on.new.seen c.give_back.new.pool.seen c.in_ok-hand_on-in-Ok-Some.ensures.ok.1
 
 pub returns-in_ok-hand_on-in-Ok-Some-clause-further : goal.returns-in_ok-hand_on-in-Ok-Some-clause-further
 returns-in_ok-hand_on-in-Ok-Some-clause-further g c =
@@ -48,7 +49,9 @@ invariant_of-self-in-Ok-Some g c =
     let s = c.self.inside in
     let found = rw c.in-Ok-Some.field-0-is at c.in-Ok-Some.ensures in
     subst (λ (x : Standing). IsTalk c.hand_on.new.connection x s.first c.hand_on.new.seen) (sym c.stand_at.ensures)
-    (hear_talk s.connection c.hand_on.new.connection s.standing s.first s.seen c.args.pool.now c.take_reply.new.self
-    c.hand_on.new.seen c.in-Sent.submitter c.take_reply.new.submitter c.in-Ok-Some.reply c.self.invariant c.in-Sent.is
-    (subst (λ (t : Talking). IsLater t.seen c.args.pool.now) (sym c.self.view_is) c.requires.known) found.taken
-    c.in_ok-hand_on-in-Ok-Some.ensures.ok.0 (c.in_ok-hand_on-in-Ok-Some.ensures.ok.1 ∙ c.give_back.ensures.pool))
+    (hear_talk s.connection c.hand_on.new.connection s.standing s.first s.seen c.args.pool.now.seen
+    c.take_reply.new.self.seen c.hand_on.new.seen c.in-Sent.submitter c.take_reply.new.submitter c.in-Ok-Some.reply
+    c.self.invariant c.in-Sent.is
+    (subst (λ (t : Talking). IsLater t.seen c.args.pool.now.seen) (sym c.self.view_is) c.requires.known) found.taken
+    c.in_ok-hand_on-in-Ok-Some.ensures.ok.0
+    (c.in_ok-hand_on-in-Ok-Some.ensures.ok.1 ∙ ap (λ (l : Looking). l.seen) c.give_back.ensures.pool))

@@ -1,0 +1,10 @@
+use Rattle.std.proofs.Common.{ap}
+use Rattle.faces.specs.declared.boards.Knowledge.{Knowledge}
+use Rattle.faces.proofs.readers.Reader.new.Goals as goal
+
+pub invariant_of-result : goal.invariant_of-result
+invariant_of-result c =
+    (ap (λ (v : Knowledge). v.knows) c.requires.server, ap (λ (v : Knowledge). v.origin) c.requires.server)
+
+pub returns : goal.returns
+returns c = ap (λ (v : Knowledge). record { seen = c.args.front; looks = v.courses }) c.requires.server
