@@ -55,8 +55,8 @@ pub fn server_named(line: &[u8], word: &[u8], count: u8) -> Option<u8>
 fn behind<'a>(line: &'a [u8], word: &[u8]) -> Option<&'a [u8]>
     ensures { IfSome result (λ rest. line.now ≡ word.now ++ 32 ∷ rest.now) }
 {
-    let rest = line.strip_prefix(word)?;
-    let rest = rest.strip_prefix(b" ".as_slice())?;
+    let after = line.strip_prefix(word)?;
+    let rest = after.strip_prefix(b" ".as_slice())?;
     Some(rest)
 }
 
