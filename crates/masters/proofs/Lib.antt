@@ -1,1 +1,1 @@
-mod Beginnings
+mod Naming

@@ -1,5 +1,5 @@
 //! Lines of the input, each of which names a server.
-ghost use Rattle.std.specs.Prelude.{◌≡◌, ◌↔◌, ◌<◌, ◌++◌, ◌∷◌, [], IfOk, IfSome, decimal, true};
+ghost use Rattle.std.specs.Prelude.{◌≡◌, ◌≢◌, ◌↔◌, ◌<◌, ◌++◌, ◌∷◌, [], ℕ, List, IfOk, MatchOption, decimal, true};
 
 use ends::Source;
 use itoa::Buffer;
@@ -39,10 +39,10 @@ pub fn next_line<S: Source>(input: &mut S, line: &mut Vec<u8>) -> Result<bool, A
 
 /// The server that a line names after this word and a space: below `count`, and without leading zeros.
 pub fn server_named(line: &[u8], word: &[u8], count: u8) -> Option<u8>
-    ensures named { IfSome result (λ j. line.now ≡ word.now ++ 32 ∷ decimal j) }
-    ensures below { IfSome result (λ j. j < count) }
+    ensures { MatchOption result ((j : ℕ) → j < count → line.now ≢ word.now ++ 32 ∷ decimal j)
+        (λ j. (j < count) × (line.now ≡ word.now ++ 32 ∷ decimal j)) }
 {
-    let named = behind(line, word)?;
+    let named = behind_word(line, word)?;
     for j in 0..count {
         if is_number(named, j) {
             return Some(j);
@@ -52,12 +52,20 @@ pub fn server_named(line: &[u8], word: &[u8], count: u8) -> Option<u8>
 }
 
 // What stands behind a word and a space, if they stand at the front.
-fn behind<'a>(line: &'a [u8], word: &[u8]) -> Option<&'a [u8]>
-    ensures { IfSome result (λ rest. line.now ≡ word.now ++ 32 ∷ rest.now) }
+fn behind_word<'a>(line: &'a [u8], word: &[u8]) -> Option<&'a [u8]>
+    ensures { MatchOption result ((rest : List ℕ) → line.now ≢ word.now ++ 32 ∷ rest)
+        (λ rest. line.now ≡ word.now ++ 32 ∷ rest.now) }
 {
-    let after = line.strip_prefix(word)?;
-    let rest = after.strip_prefix(b" ".as_slice())?;
-    Some(rest)
+    let after = behind(line, word)?;
+    behind(after, b" ".as_slice())
+}
+
+// What stands behind these bytes, if they stand at the front.
+fn behind<'a>(bytes: &'a [u8], first: &[u8]) -> Option<&'a [u8]>
+    ensures { MatchOption result ((rest : List ℕ) → bytes.now ≢ first.now ++ rest)
+        (λ rest. bytes.now ≡ first.now ++ rest.now) }
+{
+    bytes.strip_prefix(first)
 }
 
 // Whether a text is this number.

@@ -1,10 +1,7 @@
-use Rattle.std.proofs.Common.{sym}
-use Rattle.masters.proofs.Beginnings.{behind_word}
+use Rattle.std.proofs.lemmas.Bool.Decides.{Decides-eqb}
+use Rattle.std.proofs.lemmas.Slice.Eq.{strip_prefix_is}
 use Rattle.masters.proofs.input_lines.behind.Goals as goal
 
 pub returns : goal.returns
 returns c =
-    let word = c.in_ok-after.ensures.cases in
-    let space = c.in_ok-rest.ensures.cases in
-    behind_word c.args.line.now c.args.word.now c.in_ok-after.after.now c.in_ok-rest.rest.now
-    (sym word.0) word.1 (sym space.0) space.1
+    strip_prefix_is Decides-eqb c.args.bytes.now c.args.first.now c.strip_prefix.result c.strip_prefix.ensures.cases
