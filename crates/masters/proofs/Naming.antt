@@ -9,8 +9,8 @@ pub word_and_space : (line word after : List ℕ) (r : Option (Bor (List ℕ)))
     → line ≡ word ++ after
     → MatchOption r ((rest : List ℕ) → after ≢ 32 ∷ rest) (λ x. after ≡ 32 ∷ x.now)
     → MatchOption r ((rest : List ℕ) → line ≢ word ++ 32 ∷ rest) (λ x. line ≡ word ++ 32 ∷ x.now)
-word_and_space line word after None cut no = λ rest e. no rest (append_cancel_left word after (32 ∷ rest) (sym cut ∙ e))
-word_and_space line word after (Some x) cut is = cut ∙ ap (λ xs. word ++ xs) is
+word_and_space line word after None cut absent = λ rest e. absent rest (append_cancel_left word after (32 ∷ rest) (sym cut ∙ e))
+word_and_space line word after (Some x) cut found = cut ∙ ap (λ xs. word ++ xs) found
 
 -- the text is none of the numbers so far, and not the next one
 pub none_so_far : (text : List ℕ) (j : ℕ)

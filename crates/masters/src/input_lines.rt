@@ -57,7 +57,7 @@ fn behind_word<'a>(line: &'a [u8], word: &[u8]) -> Option<&'a [u8]>
         (λ rest. line.now ≡ word.now ++ 32 ∷ rest.now) }
 {
     let after = behind(line, word)?;
-    behind(after, b" ".as_slice())
+    behind(after, b" ")
 }
 
 // What stands behind these bytes, if they stand at the front.

@@ -3,5 +3,5 @@ use Rattle.masters.proofs.input_lines.behind_word.Goals as goal
 
 pub returns : goal.returns
 returns c =
-    word_and_space c.args.line.now c.args.word.now c.in_ok-after.after.now c.behind.result c.in_ok-after.ensures
-    c.behind.ensures
+    word_and_space c.args.line.now c.args.word.now c.in_ok-after.after.now c.behind-2.result c.in_ok-after.ensures
+    c.behind-2.ensures
