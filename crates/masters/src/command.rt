@@ -1,4 +1,6 @@
 //! The command `master`: tells the servers of a chain which of them has failed.
+ghost use Rattle.std.specs.Prelude.{◌≡◌, MatchResult};
+ghost use Rattle.masters.specs.Statuses.{IsMasterStatus, status_of};
 
 use crate::answers::Answers;
 use crate::input_lines::{empty_line, next_line, server_named};
@@ -60,7 +62,9 @@ pub fn master<
     input: &mut S,
     output: &mut W,
     errors: &mut X,
-) -> u8 {
+) -> u8
+    ensures { IsMasterStatus result }
+{
     let end = tell_all(rt, alloc, settings, input, output, errors);
     status_of(errors, settings, end)
 }
@@ -70,7 +74,10 @@ pub(crate) fn status_of<X: Sink>(
     errors: &mut X,
     settings: &MasterSettings,
     end: Result<(), TellFault>,
-) -> u8 {
+) -> u8
+    ensures status { MatchResult end (λ _. result ≡ 0) (λ fault. result ≡ status_of fault) }
+    ensures some { IsMasterStatus result }
+{
     match end {
         Ok(()) => DONE,
         Err(TellFault::Memory) => {

@@ -1,4 +1,5 @@
 //! Connections to the servers of a chain, each of which begins with a greeting and its answer.
+ghost use Rattle.std.specs.Prelude.{◌≢◌, IfOk};
 ghost use Rattle.wire.specs.Spellings.{IsInRange};
 
 use crate::keepalive::keep_alive;
@@ -82,7 +83,9 @@ pub fn reach<R: Clock + Net<Listener = TcpListener, Stream = TcpStream>>(
     host: &str,
     port: u16,
     identity: &Identity,
-) -> Result<Greeted, AllocError> {
+) -> Result<Greeted, AllocError>
+    ensures { IfOk result (λ greeted. greeted ≢ Greeted.NoListener) }
+{
     let begun = Instant::now(rt).ok();
     let mut is_known = false;
     for tried in 0..TRIES {

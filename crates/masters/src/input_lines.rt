@@ -1,4 +1,5 @@
 //! Lines of the input, each of which names a server.
+ghost use Rattle.std.specs.Prelude.{◌≡◌, ◌≢◌, ◌↔◌, ◌<◌, ◌++◌, ◌∷◌, [], ℕ, List, IfOk, MatchOption, decimal, true};
 
 use ends::Source;
 use itoa::Buffer;
@@ -8,7 +9,9 @@ use std::alloc::{AllocError, Global};
 const KEPT: usize = 16;
 
 /// An empty line, with room for all that is kept of one: `next_line` needs no memory for it.
-pub fn empty_line(alloc: Global) -> Result<Vec<u8>, AllocError> {
+pub fn empty_line(alloc: Global) -> Result<Vec<u8>, AllocError>
+    ensures { IfOk result (λ line. line.items ≡ []) }
+{
     Vec::with_capacity(alloc, KEPT)
 }
 
@@ -35,13 +38,40 @@ pub fn next_line<S: Source>(input: &mut S, line: &mut Vec<u8>) -> Result<bool, A
 }
 
 /// The server that a line names after this word and a space: below `count`, and without leading zeros.
-pub fn server_named(line: &[u8], word: &[u8], count: u8) -> Option<u8> {
-    let named = line.strip_prefix(word)?.strip_prefix(b" ".as_slice())?;
+pub fn server_named(line: &[u8], word: &[u8], count: u8) -> Option<u8>
+    ensures { MatchOption result ((j : ℕ) → j < count → line.now ≢ word.now ++ 32 ∷ decimal j)
+        (λ j. (j < count) × (line.now ≡ word.now ++ 32 ∷ decimal j)) }
+{
+    let named = behind_word(line, word)?;
     for j in 0..count {
-        let mut digits = Buffer::new();
-        if named == digits.format(j).as_bytes() {
+        if is_number(named, j) {
             return Some(j);
         }
     }
     None
+}
+
+// What stands behind a word and a space, if they stand at the front.
+fn behind_word<'a>(line: &'a [u8], word: &[u8]) -> Option<&'a [u8]>
+    ensures { MatchOption result ((rest : List ℕ) → line.now ≢ word.now ++ 32 ∷ rest)
+        (λ rest. line.now ≡ word.now ++ 32 ∷ rest.now) }
+{
+    let after = behind(line, word)?;
+    behind(after, b" ")
+}
+
+// What stands behind these bytes, if they stand at the front.
+fn behind<'a>(bytes: &'a [u8], first: &[u8]) -> Option<&'a [u8]>
+    ensures { MatchOption result ((rest : List ℕ) → bytes.now ≢ first.now ++ rest)
+        (λ rest. bytes.now ≡ first.now ++ rest.now) }
+{
+    bytes.strip_prefix(first)
+}
+
+// Whether a text is this number.
+fn is_number(text: &[u8], number: u8) -> bool
+    ensures { (result ≡ true) ↔ (text.now ≡ decimal number) }
+{
+    let mut digits = Buffer::new();
+    text == digits.format(number).as_bytes()
 }

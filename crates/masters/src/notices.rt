@@ -1,7 +1,7 @@
 //! Whom a master tells that a server has failed, and what came of it.
-ghost use Rattle.std.specs.Prelude.{◌≡◌, ◌<◌, ◌≤◌, IfOk};
+ghost use Rattle.std.specs.Prelude.{◌≡◌, ◌&&◌, ◌<◌, ◌≤◌, IfOk, nat_lt};
 ghost use Rattle.node.specs.Masters.{notices_from};
-ghost use Rattle.node.specs.Views.{single, union};
+ghost use Rattle.node.specs.Views.{has, single, union};
 ghost use Rattle.masters.specs.Notices.{done_in};
 
 use node::{SERVERS, View};
@@ -92,12 +92,17 @@ pub(crate) fn beside(these: View, those: View) -> View {
 }
 
 /// Whether this server is one of these.
-pub(crate) fn is_among(these: View, i: u8) -> bool {
+pub(crate) fn is_among(these: View, i: u8) -> bool
+    ensures { result ≡ (nat_lt i 16 && has these i) }
+{
     i < SERVERS && these.has(i)
 }
 
 /// These servers, and this one, if a chain can have it.
-pub(crate) fn and_one(these: View, i: u8) -> View {
+pub(crate) fn and_one(these: View, i: u8) -> View
+    ensures one { i < 16 → result ≡ union these (single i) }
+    ensures beyond { 16 ≤ i → result ≡ these }
+{
     if i < SERVERS {
         these.union(View::single(i))
     } else {

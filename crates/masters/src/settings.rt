@@ -1,5 +1,5 @@
 //! What a server, or the master, of a chain in several processes is told.
-ghost use Rattle.std.specs.Prelude.{◌≡◌, ◌<◌, length, IfOk, string_bytes};
+ghost use Rattle.std.specs.Prelude.{◌≡◌, ◌<◌, ◌+◌, length, IfOk, string_bytes};
 
 use command_line::{Hosts, MasterNumbers, ServerNumbers, UsageFault};
 use std::alloc::{AllocError, Global};
@@ -92,7 +92,9 @@ impl MasterSettings {
 }
 
 /// The port of server i, if this is the port of server 0.
-pub fn port_of(first: u16, i: u8) -> u16 {
+pub fn port_of(first: u16, i: u8) -> u16
+    ensures { first + i < 65536 → result ≡ first + i }
+{
     first.wrapping_add(u16::from(i))
 }
 

@@ -1,4 +1,5 @@
 //! The command `master` with `--watch`: it tells by itself that a server is gone whose process has ended.
+ghost use Rattle.masters.specs.Statuses.{IsMasterStatus};
 
 use crate::answers::Answers;
 use crate::command::{TellFault, WHO, status_of};
@@ -39,7 +40,9 @@ pub fn watch<
     input: Stdin,
     output: &mut W,
     errors: &mut X,
-) -> u8 {
+) -> u8
+    ensures { IsMasterStatus result }
+{
     let end = match begin(rt, alloc, settings, input, errors) {
         Ok(master) => {
             let mut master = master;

@@ -1,4 +1,6 @@
 //! Why a chain of servers in one process can't be run.
+ghost use Rattle.std.specs.Prelude.{◌≡◌, ◌⊎◌, ◌↔◌};
+
 use command_line::{FAILED, MEMORY};
 use ends::{Sink, write_all};
 use io_threads::FrontFault;
@@ -22,7 +24,10 @@ pub enum ClusterFault {
 
 impl ClusterFault {
     /// The exit status: 3 if memory is out, else 1.
-    pub(crate) fn status(self) -> u8 {
+    pub(crate) fn status(self) -> u8
+        ensures some { (result ≡ FAILED) ⊎ (result ≡ MEMORY) }
+        ensures memory { (result ≡ MEMORY) ↔ (self ≡ ClusterFault.Memory) }
+    {
         match self {
             ClusterFault::Memory => MEMORY,
             _ => FAILED,

@@ -1,4 +1,5 @@
 //! Why one server of a chain ends.
+ghost use Rattle.std.specs.Prelude.{◌≡◌, ◌⊎◌, ◌↔◌};
 
 use crate::cluster_faults::ClusterFault;
 use crate::link_lines::words_of;
@@ -40,7 +41,11 @@ pub(crate) enum ServerFault {
 
 impl ServerFault {
     /// The exit status: 3 if memory is out, 4 if the server was called gone, else 1.
-    pub(crate) fn status(self) -> u8 {
+    pub(crate) fn status(self) -> u8
+        ensures some { (result ≡ FAILED) ⊎ ((result ≡ MEMORY) ⊎ (result ≡ GONE)) }
+        ensures memory { (result ≡ MEMORY) ↔ (self ≡ ServerFault.Memory) }
+        ensures gone { (result ≡ GONE) ↔ (self ≡ ServerFault.Gone) }
+    {
         match self {
             ServerFault::Memory => MEMORY,
             ServerFault::Gone => GONE,

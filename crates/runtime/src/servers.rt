@@ -1,4 +1,5 @@
 //! The command `server`: one server of a chain in a process of its own.
+ghost use Rattle.std.specs.Prelude.{◌≡◌, ◌⊎◌};
 
 use crate::banners::tell_server;
 use crate::file_limits::warn_of_files;
@@ -8,6 +9,7 @@ use crate::server_faults::{ServerFault, tell};
 use crate::shapes::Shape;
 use crate::sides::{Opened, idle_node, open_server};
 use crate::working::{Rest, Surroundings, work};
+use command_line::{FAILED, GONE, MEMORY};
 use ends::{Sink, write_all};
 use io_threads::{Desks, Elsewhere, FrontSettings, Gate, Pooled, open_desks, open_front};
 use links::PeerLinks;
@@ -48,7 +50,9 @@ pub fn server<
     machine: Option<u64>,
     output: &mut W,
     errors: &mut X,
-) -> u8 {
+) -> u8
+    ensures { (result ≡ FAILED) ⊎ ((result ≡ MEMORY) ⊎ (result ≡ GONE)) }
+{
     let fault = match Running::open(rt, alloc, settings, machine, errors) {
         Ok(running) => running.work(rt, alloc, output),
         Err(fault) => fault,

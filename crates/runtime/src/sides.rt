@@ -1,5 +1,5 @@
 //! The parts of a chain of servers in one process, before their threads are started.
-ghost use Rattle.std.specs.Prelude.{◌≡◌, ◌≤◌, true, IfOk};
+ghost use Rattle.std.specs.Prelude.{◌≡◌, ◌≤◌, true, vec_len, IfOk};
 ghost use Rattle.node.specs.Nodes.{fresh, is_idle};
 
 use crate::cluster_faults::ClusterFault;
@@ -43,6 +43,7 @@ pub fn all_servers<R: Wait + Copy + Drop>(
     allowance: Allowance,
 ) -> Result<Vec<Opened<R>>, ClusterFault>
     requires chain { (1 ≤ count) × (count ≤ 16) }
+    ensures { IfOk result (λ servers. vec_len servers ≡ count) }
 {
     let mut servers = Vec::new(alloc);
     for id in 0..count {
@@ -114,7 +115,9 @@ pub fn all_links<R: Wait + Copy + Drop>(
     alloc: Global,
     count: u8,
     servers: &mut Vec<Opened<R>>,
-) -> Result<Vec<InProcessLinks<R>>, ClusterFault> {
+) -> Result<Vec<InProcessLinks<R>>, ClusterFault>
+    ensures { IfOk result (λ all. vec_len all ≡ count) }
+{
     let mut all = Vec::new(alloc);
     for id in 0..count {
         let mut links = Vec::new(alloc);
@@ -139,7 +142,9 @@ pub fn all_sides<R: Wait + Drop>(
     desks: &Arc<Desks, Global>,
     servers: Vec<Opened<R>>,
     links: Vec<InProcessLinks<R>>,
-) -> Result<(Hall<R>, Vec<Side>), ClusterFault> {
+) -> Result<(Hall<R>, Vec<Side>), ClusterFault>
+    ensures { IfOk result (λ all. vec_len all.1 ≡ vec_len servers) }
+{
     let mut hall = Hall::new(alloc, Arc::try_clone(desks)?);
     let mut sides = Vec::new(alloc);
     let mut links = links.into_iter();

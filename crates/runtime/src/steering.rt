@@ -1,4 +1,5 @@
 //! The command `cluster`: runs a chain, and fails the servers that its input names.
+ghost use Rattle.std.specs.Prelude.{◌≡◌, ◌⊎◌};
 
 use crate::banners::tell_cluster;
 use crate::cluster_faults::ClusterFault;
@@ -6,7 +7,7 @@ use crate::clusters::Cluster;
 use crate::file_limits::warn_of_files;
 use crate::homes::StopFault;
 use crate::shapes::Shape;
-use command_line::{DONE, Numbers};
+use command_line::{DONE, FAILED, MEMORY, Numbers};
 use ends::{Sink, Source, write_all};
 use masters::{Answers, empty_line, next_line, server_named};
 use std::alloc::Global;
@@ -45,7 +46,9 @@ pub fn cluster<
     input: &mut S,
     output: &mut W,
     errors: &mut X,
-) -> u8 {
+) -> u8
+    ensures { (result ≡ DONE) ⊎ ((result ≡ FAILED) ⊎ (result ≡ MEMORY)) }
+{
     match steer(rt, alloc, numbers, machine, input, output, errors) {
         Ok(()) => DONE,
         Err(fault) => {
