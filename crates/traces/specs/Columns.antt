@@ -1,5 +1,5 @@
 -- Where the lanes of a picture stand, and its rows.
-use Rattle.std.specs.Prelude.{ℕ, ◌+◌, ◌-◌, ◌*◌, ◌^◌, min, List, slice_index_or}
+use Rattle.std.specs.Prelude.{ℕ, ◌+◌, ◌-◌, ◌*◌, ◌^◌, min, List, Option, None, Some, slice_get}
 use Rattle.traces.specs.declared.passings.Lane.{Lane}
 use Rattle.traces.specs.declared.passings.Lane.TheVariants.{Server, Connection}
 use Rattle.traces.specs.declared.strokes.Place.{Place}
@@ -10,9 +10,14 @@ pub record Columns : Type 0 where
   pub connections : List ℕ
   pub width : ℕ
 
+-- a number if there is one, or that of the first lane
+abbrev pub or_first : Option ℕ → ℕ
+or_first None = 370
+or_first (Some x) = x
+
 -- the number that has a place among some, or that of the first lane
 abbrev pub number_at : List ℕ → ℕ → ℕ
-number_at numbers k = slice_index_or numbers k 370
+number_at numbers k = or_first (slice_get numbers k)
 
 -- how far from the left edge a lane stands
 unfoldable pub column : Columns → Lane → ℕ

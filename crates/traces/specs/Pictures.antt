@@ -31,7 +31,8 @@ arrow_text columns a =
 
 -- the form of a picture
 unfoldable pub form_text : List ℕ
-form_text = codes "<?xml version=\"1.0\" encoding=\"UTF-8\"?>\n<svg xmlns=\"http://www.w3.org/2000/svg\" version=\"1.1\""
+form_text =
+    codes "<?xml version=\"1.0\" encoding=\"UTF-8\"?>\n<svg xmlns=\"http://www.w3.org/2000/svg\" version=\"1.1\""
 
 -- how large a picture is
 unfoldable pub size_text : ℕ → ℕ → List ℕ

@@ -18,8 +18,8 @@ point_text at = labelled (codes " ") at.x ++ labelled (codes ",") at.y
 unfoldable pub place_text : Place → List ℕ
 place_text at = labelled (codes "<text x=\"") at.x ++ labelled (codes "\" y=\"") at.y
 
--- A byte in the text of an element: what XML gives a meaning is spelled by its entity, and what XML 1.0 has no character
--- for, or no single byte in UTF-8, is a question mark.
+-- A byte in the text of an element: what XML gives a meaning is spelled by its entity, and what XML 1.0 has no
+-- character for, or no single byte in UTF-8, is a question mark.
 unfoldable pub marked_up : ℕ → List ℕ
 marked_up b =
     if b == 38 then codes "&amp;"

@@ -7,6 +7,7 @@ use crate::passings::Lane;
 use crate::strokes::{Place, put_ends, put_place, put_point, put_shown};
 use crate::texts::Text;
 use std::alloc::{AllocError, Global};
+use std::marker::Model;
 
 /// The colors of a mark.
 #[derive(Clone, Copy)]
@@ -56,27 +57,44 @@ pub enum Mark {
     Name(Place, Lane),
 }
 
-/// Marks, in the order in which they are drawn.
+/// Marks, in the order in which they are drawn. Contracts see a list.
 #[derive(Drop)]
 pub struct Marks {
     marks: Vec<Mark>,
 }
 
+impl Model for Marks {
+    ghost use Rattle.std.specs.Prelude.{List};
+    ghost use Rattle.traces.specs.declared.marks.Mark.{Mark};
+
+    ghost Value = { List Mark };
+
+    ghost view = { λ m. m.marks.items };
+}
+
 impl Marks {
+    ghost use Rattle.std.specs.Prelude.{◌≡◌, [], ◌∷◌, ◌++◌, OnOk};
+
     /// No mark.
-    pub fn new(alloc: Global) -> Marks {
+    pub fn new(alloc: Global) -> Marks
+        ensures { result ≡ [] }
+    {
         Marks {
             marks: Vec::new(alloc),
         }
     }
 
     /// Adds a mark.
-    pub fn push(&mut self, mark: Mark) -> Result<(), AllocError> {
+    pub fn push(&mut self, mark: Mark) -> Result<(), AllocError>
+        ensures { OnOk result (self.new ≡ self.old ++ mark ∷ []) }
+    {
         Ok(self.marks.push(mark)?)
     }
 
     /// All of them.
-    pub fn as_slice(&self) -> &[Mark] {
+    pub fn as_slice(&self) -> &[Mark]
+        ensures { result.now ≡ self.now }
+    {
         self.marks.as_slice()
     }
 }

@@ -120,11 +120,11 @@ pub fn row_behind(row: usize, deed: &Deed) -> usize
 pub fn row_behind_all(deeds: &[Deed]) -> usize
     ensures { result ≡ row_behind_all 0 deeds.now }
 {
-    let mut row: usize = 0;
+    let mut behind: usize = 0;
     for deed in deeds {
-        row = row_behind(row, deed);
+        behind = row_behind(behind, deed);
     }
-    row
+    behind
 }
 
 /// All that the deeds of a trace put.

@@ -16,16 +16,24 @@ pub struct Place {
 }
 
 impl Place {
-    /// The place so much further to the right and below.
-    pub fn moved(self, right: usize, down: usize) -> Place {
+    ghost use Rattle.std.specs.Prelude.{◌≡◌, ◌+◌, ◌-◌, ◌^◌, min};
+
+    /// The place so much further to the right and below, as far as 64 bits count.
+    pub fn moved(self, right: usize, down: usize) -> Place
+        ensures x { result.x ≡ min (self.x + right) (2 ^ 64 - 1) }
+        ensures y { result.y ≡ min (self.y + down) (2 ^ 64 - 1) }
+    {
         Place {
             x: self.x.saturating_add(right),
             y: self.y.saturating_add(down),
         }
     }
 
-    /// The place so much further to the left and above.
-    pub fn moved_back(self, left: usize, up: usize) -> Place {
+    /// The place so much further to the left and above, or else at the edge.
+    pub fn moved_back(self, left: usize, up: usize) -> Place
+        ensures x { result.x ≡ self.x - left }
+        ensures y { result.y ≡ self.y - up }
+    {
         Place {
             x: self.x.saturating_sub(left),
             y: self.y.saturating_sub(up),

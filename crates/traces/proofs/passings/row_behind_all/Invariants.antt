@@ -4,4 +4,4 @@ use Rattle.traces.proofs.passings.row_behind_all.Given as goal
 
 abbrev pub invariant-loop-deed : goal.invariant-loop-deed
 invariant-loop-deed l =
-    passings.row_behind_all l.row (drop l.deed-index l.deeds) ≡ passings.row_behind_all 0 l.deeds
+    passings.row_behind_all l.behind (drop l.deed-index l.deeds) ≡ passings.row_behind_all 0 l.deeds
