@@ -98,7 +98,7 @@ input_taken row i (From j message) = passing_at row (Server j) (Server i) ∷ []
 input_taken row i (Gone j) = []
 
 -- a connection takes a reply of its home, if it has one
-abbrev pub reply_taken : ℕ → ℕ → Option ℕ → List Passing
+unfoldable pub reply_taken : ℕ → ℕ → Option ℕ → List Passing
 reply_taken row c None = []
 reply_taken row c (Some home) = passing_at row (Server home) (Connection c) ∷ []
 
@@ -108,7 +108,7 @@ handed_by row homes (Hand c) = reply_taken row c (slice_get homes c)
 handed_by row homes event = []
 
 -- the same if there is an event
-abbrev pub hand_taken : ℕ → List ℕ → Option Event → List Passing
+unfoldable pub hand_taken : ℕ → List ℕ → Option Event → List Passing
 hand_taken row homes None = []
 hand_taken row homes (Some event) = handed_by row homes event
 

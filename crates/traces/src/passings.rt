@@ -257,6 +257,7 @@ fn push_input_taken(
     }
 }
 
+#[tactic(auto, unfolding(crate::specs::Passings::hand_taken))]
 fn push_hand_taken(
     takes: &mut Vec<Passing>,
     row: usize,
@@ -287,6 +288,7 @@ fn push_handed(
     }
 }
 
+#[tactic(auto, unfolding(crate::specs::Passings::reply_taken))]
 fn push_reply_taken(
     takes: &mut Vec<Passing>,
     row: usize,
