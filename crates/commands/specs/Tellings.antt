@@ -5,6 +5,8 @@ use Rattle.command_line.specs.declared.commands.Telling.TheVariants.{Trace, Draw
 use Rattle.ends.specs.Ends.{WritesBeginning}
 use Rattle.schedules.specs.Schedules.{ScheduleShown, schedule_of}
 use Rattle.world.specs.Deeds.{trace_of}
+use Rattle.traces.specs.Arrows.{arrows_of}
+use Rattle.traces.specs.Pictures.{Draws}
 use Rattle.traces.specs.Printing.{trace_text}
 
 -- the text is a schedule, and these bytes are the text of the trace of its run
@@ -12,9 +14,11 @@ abbrev pub Traces : List ℕ → List ℕ → Type 0
 Traces text shown =
     (s : ScheduleShown) × (schedule_of text ≡ Ok s) × (shown ≡ trace_text s.events (trace_of s.count s.homes s.events))
 
--- the text is a schedule (what its picture shows isn't said)
+-- the text is a schedule, and these bytes are a picture of its run, with exactly the arrows of its trace
 abbrev pub Pictures : List ℕ → List ℕ → Type 0
-Pictures text shown = (s : ScheduleShown) × (schedule_of text ≡ Ok s)
+Pictures text shown =
+    (s : ScheduleShown) × (schedule_of text ≡ Ok s)
+    × Draws (arrows_of s.homes s.events (trace_of s.count s.homes s.events)) shown
 
 -- the one or the other, as was asked for
 abbrev pub Tells : Telling → List ℕ → List ℕ → Type 0

@@ -110,7 +110,8 @@ fn tell<R: Source, W: Sink>(
 }
 
 fn told(alloc: Global, telling: Telling, text: &[u8]) -> Result<Vec<u8>, ScenarioFault>
-    // A trace is the text of what each event of the schedule did, of how its run ends, and of its transcript.
+    // A trace is the text of what each event of the schedule did, of how its run ends, and of its transcript; a picture
+    // has the arrows of that trace.
     ensures told { IfOk result (λ shown. Tells telling text.now shown.items) }
     ensures bad_line { IfErr result (NamesLine text.now) }
     ensures readable { IfErr result (λ fault. fault ≢ ScenarioFault.Unreadable) }

@@ -1,8 +1,9 @@
 -- Texts that grow at their end, piece by piece.
 use Rattle.std.proofs.Common.{◌≡◌, ℕ, zero, suc, ◌+◌, ◌≤◌, List, [], ◌∷◌, ◌++◌, length, take, None, Some, refl, ap, sym}
 use Rattle.std.proofs.Common.{◌∙◌, arith, append_assoc, append-nil}
-use Rattle.std.specs.Prelude.{flat_map, slice_get}
+use Rattle.std.specs.Prelude.{flat_map, map, slice_get}
 use Rattle.std.proofs.lemmas.List.{flat_map_more, take_more}
+use Rattle.std.proofs.lemmas.List.FromFn.{map-range_with_len_more}
 use Rattle.std.proofs.lemmas.Option.{slice_get_within, get_or_from_slice_get}
 use Rattle.schedules.specs.Settling.{first_numbers}
 use Rattle.schedules.proofs.Rounds as rounds
@@ -12,6 +13,13 @@ pub one_more : {X : Type 0} (front : List X) (f : ℕ → List X) (n : ℕ)
     → front ++ flat_map f (first_numbers (n + 1)) ≡ (front ++ flat_map f (first_numbers n)) ++ f n
 one_more front f n =
     ap (λ text. front ++ text) (rounds.one_more f n) ∙ sym (append_assoc front (flat_map f (first_numbers n)) (f n))
+
+-- the same where each number gives one
+pub one_mapped_more : {X : Type 0} (front : List X) (f : ℕ → X) (n : ℕ)
+    → front ++ map f (first_numbers (n + 1)) ≡ (front ++ map f (first_numbers n)) ++ f n ∷ []
+one_mapped_more front f n =
+    ap (λ xs. front ++ xs) (map-range_with_len_more f 0 n n (omega arith))
+    ∙ sym (append_assoc front (map f (first_numbers n)) (f n ∷ []))
 
 -- what a further element adds
 pub first_more : {X : Type 0} (front : List ℕ) (f : X → List ℕ) (xs : List X) (k : ℕ) (x : X)

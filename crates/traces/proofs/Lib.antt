@@ -1,2 +1,3 @@
+pub mod ArrowLaws
 pub mod Blocks
 pub mod Growing

@@ -3,3 +3,9 @@ pub mod EventLines
 pub mod Deeds
 pub mod Ends
 pub mod Printing
+pub mod Passings
+pub mod Arrows
+pub mod Strokes
+pub mod Marks
+pub mod Columns
+pub mod Pictures

@@ -1,15 +1,20 @@
 //! The picture of a trace: a lane for each server and each connection, time downward.
-ghost use Rattle.std.specs.Prelude.{◌≤◌};
+ghost use Rattle.std.specs.Prelude.{IfOk, IsPermutation};
+ghost use Rattle.traces.specs.Arrows.{arrows_of};
+ghost use Rattle.traces.specs.Pictures.{Draws, HasArrows};
 
+use crate::arrows::{Arrow, arrows_of};
 use crate::deeds::{is_tail, put_taken};
 use crate::event_lines::put_event;
 use crate::lanes::{Lanes, row_height};
-use crate::strokes::{Place, put_circle, put_cross, put_diamond, put_label, put_line, put_text};
+use crate::marks::{Mark, Marks, Paint};
+use crate::passings::{Lane, Way, is_same_way, is_shown, next, row_behind_all};
+use crate::pictures::picture;
+use crate::strokes::Place;
 use crate::texts::Text;
 use crate::words::{put_body, put_call, put_value};
 use node::{Input, Output};
 use std::alloc::{AllocError, Global};
-use std::collections::VecDeque;
 use table::{Call, Reply};
 use world::{Deed, Event, ServerStep, Trace};
 
@@ -19,111 +24,188 @@ const LINE_BYTES: usize = 44;
 /// The most bytes of a label at a lane.
 const LABEL_BYTES: usize = 21;
 
-const MESSAGE: &[u8] = b"stroke=\"#1f5fa8\" marker-end=\"url(#arrow)\"";
-
-const MESSAGE_IN_FLIGHT: &[u8] =
-    b"stroke=\"#1f5fa8\" stroke-dasharray=\"6 4\" marker-end=\"url(#arrow)\"";
-
-const ANSWER: &[u8] = b"stroke=\"#2e7d32\" marker-end=\"url(#arrow)\"";
-
-const ANSWER_IN_FLIGHT: &[u8] =
-    b"stroke=\"#2e7d32\" stroke-dasharray=\"6 4\" marker-end=\"url(#arrow)\"";
-
-const LANE: &[u8] = b"stroke=\"#bbbbbb\"";
-
-const SERVER_LANE: &[u8] = b"stroke=\"#777777\" stroke-width=\"2\"";
-
-const FAILED_LANE: &[u8] = b"stroke=\"#cccccc\" stroke-dasharray=\"2 5\"";
-
-const FAILURE: &[u8] = b"stroke=\"#c62828\" stroke-width=\"3\"";
-
-const NOTICE: &[u8] = b"fill=\"#c62828\"";
-
-const BEGUN: &[u8] = b"fill=\"white\" stroke=\"black\"";
-
-const CAME: &[u8] = b"fill=\"#777777\"";
-
-const ANSWERED: &[u8] = b"fill=\"#2e7d32\"";
-
-const COMMITTED: &[u8] = b"fill=\"#ef6c00\"";
-
-const PLAIN: &[u8] = b"fill=\"black\"";
-
-const PALE: &[u8] = b"fill=\"#999999\"";
-
-const VALUE: &[u8] = b"fill=\"#2e7d32\" font-weight=\"bold\"";
-
-/// The picture of a run of these events over a chain whose connections have these homes: SVG 1.1 without script, in
-/// time linear in what the events did. An event that had no effect has no row. It is well-formed for any bytes in keys
-/// and data, which it shows in the escapes of transcripts.
+/// The picture of a run of these events over a chain whose connections have these homes: SVG 1.1 without script. An
+/// event that had no effect has no row. It is well-formed for any bytes in keys and data, which it shows in the escapes
+/// of transcripts. It looks once at what the events did, and once for each two lanes at what passes between them.
 pub fn draw(
     alloc: Global,
     homes: &[usize],
     events: &[Event],
     trace: &Trace,
-) -> Result<Vec<u8>, AllocError> {
-    let count = trace.count();
-    let mut drawing = Drawing::new(alloc, count, homes)?;
+) -> Result<Vec<u8>, AllocError>
+    // Its arrows stand for what the trace put, each for one thing: the law `each_put_has_its_arrow`.
+    ensures { IfOk result (λ text. Draws (arrows_of homes.now events.now trace.now) text.items) }
+{
+    let arrows = ordered_arrows(alloc, homes, events, trace)?;
+    drawing(alloc, homes, events, trace, arrows.as_slice())
+}
+
+// The arrows of a trace, in the order in which their things were taken; those in flight stand last.
+fn ordered_arrows(
+    alloc: Global,
+    homes: &[usize],
+    events: &[Event],
+    trace: &Trace,
+) -> Result<Vec<Arrow>, AllocError>
+    ensures { IfOk result (λ arrows. IsPermutation (arrows_of homes.now events.now trace.now) arrows.items) }
+{
+    let arrows = arrows_of(alloc, homes, events, trace)?;
+    in_order(arrows)
+}
+
+// By the rows at which they end.
+fn in_order(arrows: Vec<Arrow>) -> Result<Vec<Arrow>, AllocError>
+    ensures { IfOk result (λ ordered. IsPermutation arrows.items ordered.items) }
+{
+    let mut ordered = arrows;
+    ordered.sort_by_key(|arrow| arrow.row)?;
+    Ok(ordered)
+}
+
+// The picture with these arrows.
+fn drawing(
+    alloc: Global,
+    homes: &[usize],
+    events: &[Event],
+    trace: &Trace,
+    arrows: &[Arrow],
+) -> Result<Vec<u8>, AllocError>
+    ensures { IfOk result (λ text. HasArrows arrows.now text.items) }
+{
+    let rows = row_behind_arrows(arrows, row_behind_all(trace.deeds()));
+    let lanes = Lanes::new(alloc, trace.count(), homes)?;
+    let under = lane_marks(alloc, &lanes, homes, events, trace, rows)?;
+    let over = all_marks(alloc, &lanes, events, trace, arrows)?;
+    let height = row_height(rows).saturating_add(20);
+    picture(
+        alloc,
+        &lanes,
+        height,
+        under.as_slice(),
+        arrows,
+        over.as_slice(),
+    )
+}
+
+// The row behind all arrows: behind the last one in flight, or else this one.
+fn row_behind_arrows(arrows: &[Arrow], row: usize) -> usize {
+    match arrows.last() {
+        Some(arrow) if !arrow.came => next(arrow.row),
+        _ => row,
+    }
+}
+
+// The lanes with their names, down to a row.
+fn lane_marks(
+    alloc: Global,
+    lanes: &Lanes,
+    homes: &[usize],
+    events: &[Event],
+    trace: &Trace,
+    rows: usize,
+) -> Result<Marks, AllocError> {
+    let mut marks = Marks::new(alloc);
+    for c in 0..homes.len() {
+        put_connection_lane(&mut marks, lanes, c, rows)?;
+    }
+    for i in 0..trace.count() {
+        let end = failure_of(i, events, trace.deeds());
+        put_server_lane(&mut marks, lanes, i, end, rows)?;
+    }
+    Ok(marks)
+}
+
+fn put_connection_lane(
+    marks: &mut Marks,
+    lanes: &Lanes,
+    c: usize,
+    rows: usize,
+) -> Result<(), AllocError> {
+    let lane = Lane::Connection(c);
+    let top = lanes.place(lane, 0);
+    marks.push(Mark::Line(top.moved_back(0, 25), lanes.place(lane, rows), Paint::Lane))?;
+    marks.push(Mark::Name(top.moved_back(30, 35), lane))
+}
+
+// A server's lane, which is dotted from its failure on.
+fn put_server_lane(
+    marks: &mut Marks,
+    lanes: &Lanes,
+    i: usize,
+    failure: Option<usize>,
+    rows: usize,
+) -> Result<(), AllocError> {
+    let lane = Lane::Server(i);
+    let top = lanes.place(lane, 0);
+    let bottom = lanes.place(lane, rows);
+    let end = match failure {
+        Some(row) => lanes.place(lane, row),
+        None => bottom,
+    };
+    marks.push(Mark::Line(top.moved_back(0, 25), end, Paint::ServerLane))?;
+    if end.y < bottom.y {
+        marks.push(Mark::Line(end, bottom, Paint::FailedLane))?;
+    }
+    marks.push(Mark::Name(top.moved_back(30, 35), lane))
+}
+
+// The row at which server i failed, if it did.
+fn failure_of(i: usize, events: &[Event], deeds: &[Deed]) -> Option<usize> {
+    let mut row: usize = 0;
+    for (event, deed) in events.iter().zip(deeds) {
+        if is_failure_of(i, event, deed) {
+            return Some(row);
+        }
+        if is_shown(deed) {
+            row = next(row);
+        }
+    }
+    None
+}
+
+fn is_failure_of(i: usize, event: &Event, deed: &Deed) -> bool {
+    match (event, deed) {
+        (Event::Fail(j), Deed::Failed) => *j == i,
+        _ => false,
+    }
+}
+
+// The marks of all events, and of the messages that stay in flight.
+fn all_marks(
+    alloc: Global,
+    lanes: &Lanes,
+    events: &[Event],
+    trace: &Trace,
+    arrows: &[Arrow],
+) -> Result<Marks, AllocError> {
+    let mut sketch = Sketch {
+        alloc,
+        count: trace.count(),
+        lanes,
+        marks: Marks::new(alloc),
+    };
     let mut row: usize = 0;
     for (event, deed) in events.iter().zip(trace.deeds()) {
         if is_shown(deed) {
-            drawing.put_event_line(row, event)?;
-            drawing.put_deed(row, event, deed)?;
-            row = row.saturating_add(1);
+            sketch.put_event_line(row, event)?;
+            sketch.put_deed(row, event, deed)?;
+            row = next(row);
         }
     }
-    let rows = drawing.put_rest(row, trace)?;
-    drawing.finished(homes, rows)
+    sketch.put_flights(arrows, trace)?;
+    Ok(sketch.marks)
 }
 
-// An event that didn't apply has no row, nor has a notice that was known.
-fn is_shown(deed: &Deed) -> bool {
-    match deed {
-        Deed::Nothing => false,
-        Deed::Stepped(_, step) => !is_known_notice(step),
-        Deed::Came | Deed::Began(..) | Deed::Failed | Deed::Handed(..) => true,
-    }
-}
-
-fn is_known_notice(step: &ServerStep) -> bool {
-    matches!(step.input, Input::Gone(_)) && step.after.view == step.before.view
-}
-
-// A picture that is being drawn.
+// The marks so far of a picture.
 #[derive(Drop)]
-struct Drawing {
+struct Sketch<'a> {
     alloc: Global,
     count: usize,
-    lanes: Lanes,
-    // The lines between lanes, and over them the marks and their labels.
-    lines: Text,
-    labels: Text,
-    // The events at which the messages on each link were sent, those of link i to j at i * count + j.
-    flights: Vec<VecDeque<usize>>,
-    // The server and the event at which the reply was put out that waits for each connection.
-    waiting: Vec<Option<(usize, usize)>>,
-    // The event at which each server failed.
-    failures: Vec<Option<usize>>,
+    lanes: &'a Lanes,
+    marks: Marks,
 }
 
-impl Drawing {
-    fn new(alloc: Global, count: usize, homes: &[usize]) -> Result<Drawing, AllocError> {
-        let mut flights = Vec::new(alloc);
-        for _ in 0..count.saturating_mul(count) {
-            flights.push(VecDeque::new(alloc))?;
-        }
-        Ok(Drawing {
-            alloc,
-            count,
-            lanes: Lanes::new(alloc, count, homes)?,
-            lines: Text::new(alloc),
-            labels: Text::new(alloc),
-            flights,
-            waiting: vec![in alloc; None; homes.len()]?,
-            failures: vec![in alloc; None; count]?,
-        })
-    }
-
+impl Sketch<'_> {
     // The event's line at the left.
     fn put_event_line(&mut self, row: usize, event: &Event) -> Result<(), AllocError> {
         let mut line = Text::new(self.alloc);
@@ -132,77 +214,74 @@ impl Drawing {
             x: 10,
             y: row_height(row).saturating_add(4),
         };
-        put_text(&mut self.labels, at, PLAIN, line.as_slice(), LINE_BYTES)
+        self.marks
+            .push(Mark::Words(at, Paint::Plain, line, LINE_BYTES))
     }
 
     fn put_deed(&mut self, row: usize, event: &Event, deed: &Deed) -> Result<(), AllocError> {
         match (event, deed) {
             (Event::Piece(c, _), Deed::Came) => {
-                put_circle(&mut self.labels, self.lanes.connection(*c, row), 3, CAME)
+                self.put_circle(Lane::Connection(*c), row, 3, Paint::Came)
             }
             (Event::Begin(c), Deed::Began(call, _)) => self.put_begun(row, *c, call.as_ref()),
-            (Event::Work(c), Deed::Stepped(i, step)) => {
-                let from = self.lanes.connection(*c, row);
-                put_line(&mut self.lines, from, self.lanes.server(*i, row), MESSAGE)?;
-                self.put_step(row, *i, step)
-            }
-            (Event::Deliver(i, j), Deed::Stepped(_, step)) => {
-                self.put_delivery(row, *i, *j)?;
-                self.put_step(row, *j, step)
-            }
             (Event::Tell(i, _), Deed::Stepped(_, step)) => {
-                put_circle(&mut self.labels, self.lanes.server(*i, row), 4, NOTICE)?;
+                self.put_circle(Lane::Server(*i), row, 4, Paint::Notice)?;
                 self.put_step(row, *i, step)
             }
-            (Event::Fail(i), Deed::Failed) => self.put_failure(row, *i),
+            (_, Deed::Stepped(i, step)) => self.put_step(row, *i, step),
+            (Event::Fail(i), Deed::Failed) => {
+                self.put_cross(self.lanes.place(Lane::Server(*i), row))
+            }
             (Event::Hand(c), Deed::Handed(reply, _)) => self.put_answer(row, *c, reply),
             _ => Ok(()),
         }
     }
 
+    fn put_circle(
+        &mut self,
+        lane: Lane,
+        row: usize,
+        radius: usize,
+        paint: Paint,
+    ) -> Result<(), AllocError> {
+        let at = self.lanes.place(lane, row);
+        self.marks.push(Mark::Circle(at, radius, paint))
+    }
+
+    fn put_cross(&mut self, at: Place) -> Result<(), AllocError> {
+        let (left, right) = (at.moved_back(7, 0), at.moved(7, 0));
+        self.marks.push(Mark::Line(at.moved_back(7, 7), at.moved(7, 7), Paint::Failure))?;
+        self.marks.push(Mark::Line(left.moved(0, 7), right.moved_back(0, 7), Paint::Failure))
+    }
+
+    // Words beside a lane, so far to the right of it and below its row.
+    fn put_label(
+        &mut self,
+        lane: Lane,
+        row: usize,
+        down: usize,
+        paint: Paint,
+        words: Text,
+    ) -> Result<(), AllocError> {
+        let at = self.lanes.place(lane, row).moved(9, down);
+        self.marks.push(Mark::Label(at, paint, words, LABEL_BYTES))
+    }
+
     fn put_begun(&mut self, row: usize, c: usize, call: Option<&Call>) -> Result<(), AllocError> {
-        let at = self.lanes.connection(c, row);
-        put_circle(&mut self.labels, at, 5, BEGUN)?;
+        self.put_circle(Lane::Connection(c), row, 5, Paint::Begun)?;
         let mut label = Text::new(self.alloc);
         match call {
             Some(call) => put_call(&mut label, call)?,
             None => label.put(b"no call")?,
         }
-        put_label(
-            &mut self.labels,
-            at.moved(9, 4),
-            PLAIN,
-            label.as_slice(),
-            LABEL_BYTES,
-        )
+        self.put_label(Lane::Connection(c), row, 4, Paint::Plain, label)
     }
 
-    // From where the first message of the link was sent.
-    fn put_delivery(&mut self, row: usize, i: usize, j: usize) -> Result<(), AllocError> {
-        if let Some(flight) = self
-            .flights
-            .get_mut(i.saturating_mul(self.count).saturating_add(j))
-            && let Some(sent) = flight.pop_front()
-        {
-            let from = self.lanes.server(i, sent);
-            return put_line(&mut self.lines, from, self.lanes.server(j, row), MESSAGE);
-        }
-        Ok(())
-    }
-
-    fn put_failure(&mut self, row: usize, i: usize) -> Result<(), AllocError> {
-        if let Some(failure) = self.failures.get_mut(i) {
-            *failure = Some(row);
-        }
-        put_cross(&mut self.labels, self.lanes.server(i, row), FAILURE)
-    }
-
-    // What server i took, and what it committed; what it put out is on its way from here.
+    // What server i put out, took and committed.
     fn put_step(&mut self, row: usize, i: usize, step: &ServerStep) -> Result<(), AllocError> {
         for output in step.outputs.iter() {
-            self.send(row, i, output)?;
+            self.put_output(row, i, output)?;
         }
-        let at = self.lanes.server(i, row);
         let mut label = Text::new(self.alloc);
         if !matches!(step.input, Input::Call(..)) {
             put_taken(&mut label, &step.input)?;
@@ -210,7 +289,8 @@ impl Drawing {
         if step.before.acked < step.after.acked
             && is_tail(self.count.min(16) as u8, i, step.after)
         {
-            put_diamond(&mut self.labels, at, COMMITTED)?;
+            self.marks
+                .push(diamond(self.lanes.place(Lane::Server(i), row)))?;
             let words = if label.as_slice().is_empty() {
                 b"commit ".as_slice()
             } else {
@@ -218,170 +298,68 @@ impl Drawing {
             };
             label.labelled(words, step.after.acked)?;
         }
-        put_label(
-            &mut self.labels,
-            at.moved(9, 12),
-            PLAIN,
-            label.as_slice(),
-            LABEL_BYTES,
-        )
+        self.put_label(Lane::Server(i), row, 12, Paint::Plain, label)
     }
 
-    fn send(&mut self, row: usize, i: usize, output: &Output) -> Result<(), AllocError> {
+    // A reply that server i put out.
+    fn put_output(&mut self, row: usize, i: usize, output: &Output) -> Result<(), AllocError> {
         match output {
-            Output::To(j, _) => {
-                let link = i.saturating_mul(self.count).saturating_add(usize::from(*j));
-                if let Some(flight) = self.flights.get_mut(link) {
-                    flight.push_back(row)?;
-                }
-            }
-            Output::Reply(c, _) => {
-                if let Some(waiting) = self.waiting.get_mut(*c) {
-                    *waiting = Some((i, row));
-                }
-                put_circle(&mut self.labels, self.lanes.server(i, row), 4, ANSWERED)?;
+            Output::To(..) => Ok(()),
+            Output::Reply(..) => self.put_circle(Lane::Server(i), row, 4, Paint::Answered),
+        }
+    }
+
+    // The reply that comes to its connection.
+    fn put_answer(&mut self, row: usize, c: usize, reply: &Reply) -> Result<(), AllocError> {
+        self.put_circle(Lane::Connection(c), row, 4, Paint::Answered)?;
+        let mut label = Text::new(self.alloc);
+        put_value(&mut label, reply)?;
+        self.put_label(Lane::Connection(c), row, 12, Paint::Value, label)
+    }
+
+    // What the messages say that stay in flight, each where its arrow ends.
+    fn put_flights(&mut self, arrows: &[Arrow], trace: &Trace) -> Result<(), AllocError> {
+        let mut k: usize = 0;
+        let mut last: Option<Way> = None;
+        for arrow in arrows {
+            if !arrow.came {
+                k = place_behind(k, last, arrow.put.way);
+                last = Some(arrow.put.way);
+                self.put_flight(*arrow, k, trace)?;
             }
         }
         Ok(())
     }
 
-    // The reply comes to its connection, from where the server put it out.
-    fn put_answer(&mut self, row: usize, c: usize, reply: &Reply) -> Result<(), AllocError> {
-        let at = self.lanes.connection(c, row);
-        if let Some(waiting) = self.waiting.get_mut(c)
-            && let Some((i, put)) = *waiting
-        {
-            *waiting = None;
-            put_line(&mut self.lines, self.lanes.server(i, put), at, ANSWER)?;
-        }
-        put_circle(&mut self.labels, at, 4, ANSWERED)?;
-        let mut label = Text::new(self.alloc);
-        put_value(&mut label, reply)?;
-        put_label(
-            &mut self.labels,
-            at.moved(9, 12),
-            VALUE,
-            label.as_slice(),
-            LABEL_BYTES,
-        )
-    }
-
-    // What stays in flight, each in a row of its own; and how many rows there are then.
-    fn put_rest(&mut self, rows: usize, trace: &Trace) -> Result<usize, AllocError> {
-        let mut row = rows;
-        for i in 0..self.count {
-            for j in 0..self.count {
-                row = self.put_flights(row, i, j, trace)?;
-            }
-        }
-        for c in 0..self.waiting.len() {
-            if let Some(Some((i, put))) = self.waiting.get(c).copied() {
-                let from = self.lanes.server(i, put);
-                let to = self.lanes.connection(c, row);
-                put_line(&mut self.lines, from, to, ANSWER_IN_FLIGHT)?;
-                row = row.saturating_add(1);
-            }
-        }
-        Ok(row)
-    }
-
-    // The messages that stay on the link from server i to server j, from this row on.
-    fn put_flights(
-        &mut self,
-        row: usize,
-        i: usize,
-        j: usize,
-        trace: &Trace,
-    ) -> Result<usize, AllocError> {
-        let mut row = row;
-        let link = i.saturating_mul(self.count).saturating_add(j);
-        for k in 0..usize::MAX {
-            let (Some(flight), Some(message)) = (self.flights.get_mut(link), trace.message(i, j, k))
-            else {
-                return Ok(row);
-            };
-            if let Some(sent) = flight.pop_front() {
-                let from = self.lanes.server(i, sent);
-                let to = self.lanes.server(j, row);
-                put_line(&mut self.lines, from, to, MESSAGE_IN_FLIGHT)?;
-                let mut label = Text::new(self.alloc);
-                put_body(&mut label, &message.body)?;
-                put_label(
-                    &mut self.labels,
-                    to.moved(9, 12),
-                    PALE,
-                    label.as_slice(),
-                    LABEL_BYTES,
-                )?;
-            }
-            row = row.saturating_add(1);
-        }
-        Ok(row)
-    }
-
-    // The whole picture, of this number of rows.
-    fn finished(self, homes: &[usize], rows: usize) -> Result<Vec<u8>, AllocError> {
-        let mut out = Text::new(self.alloc);
-        put_head(
-            &mut out,
-            self.lanes.width(),
-            row_height(rows).saturating_add(20),
-        )?;
-        for c in 0..homes.len() {
-            let top = self.lanes.connection(c, 0);
-            put_line(
-                &mut out,
-                top.moved_back(0, 25),
-                self.lanes.connection(c, rows),
-                LANE,
-            )?;
-            put_name(&mut out, top, b"connection ", c)?;
-        }
-        for i in 0..self.count {
-            self.put_server_lane(&mut out, i, rows)?;
-        }
-        out.put(self.lines.as_slice())?;
-        out.put(self.labels.as_slice())?;
-        out.put(b"</svg>\n")?;
-        Ok(out.into_bytes())
-    }
-
-    // A server's lane, which is dotted from its failure on.
-    fn put_server_lane(&self, out: &mut Text, i: usize, rows: usize) -> Result<(), AllocError> {
-        let top = self.lanes.server(i, 0);
-        let bottom = self.lanes.server(i, rows);
-        let end = match self.failures.get(i) {
-            Some(Some(row)) => self.lanes.server(i, *row),
-            _ => bottom,
+    // The k-th message in flight on the way of an arrow, if it is a link.
+    fn put_flight(&mut self, arrow: Arrow, k: usize, trace: &Trace) -> Result<(), AllocError> {
+        let (Lane::Server(i), Lane::Server(j)) = (arrow.put.way.from, arrow.put.way.to) else {
+            return Ok(());
         };
-        put_line(out, top.moved_back(0, 25), end, SERVER_LANE)?;
-        if end.y < bottom.y {
-            put_line(out, end, bottom, FAILED_LANE)?;
-        }
-        put_name(out, top, b"server ", i)
+        let Some(message) = trace.message(i, j, k) else {
+            return Ok(());
+        };
+        let mut label = Text::new(self.alloc);
+        put_body(&mut label, &message.body)?;
+        self.put_label(Lane::Server(j), arrow.row, 12, Paint::Pale, label)
     }
 }
 
-fn put_name(out: &mut Text, top: Place, words: &[u8], number: usize) -> Result<(), AllocError> {
-    let at = top.moved_back(30, 35);
-    out.numbered(b"<text x=\"", at.x)?;
-    out.numbered(b"\" y=\"", at.y)?;
-    out.put(b"\" font-weight=\"bold\">")?;
-    out.numbered(words, number)?;
-    out.put(b"</text>\n")
+// A commit at this place.
+fn diamond(at: Place) -> Mark {
+    Mark::Diamond(
+        at.moved_back(0, 6),
+        at.moved(6, 0),
+        at.moved(0, 6),
+        at.moved_back(6, 0),
+        Paint::Committed,
+    )
 }
 
-fn put_head(out: &mut Text, width: usize, height: usize) -> Result<(), AllocError> {
-    out.put(b"<?xml version=\"1.0\" encoding=\"UTF-8\"?>\n")?;
-    out.put(b"<svg xmlns=\"http://www.w3.org/2000/svg\" version=\"1.1\"")?;
-    out.numbered(b" width=\"", width)?;
-    out.numbered(b"\" height=\"", height)?;
-    out.numbered(b"\" viewBox=\"0 0 ", width)?;
-    out.numbered(b" ", height)?;
-    out.put(b"\" font-family=\"monospace\" font-size=\"12\">\n")?;
-    out.put(
-        b"<defs><marker id=\"arrow\" markerWidth=\"9\" markerHeight=\"8\" refX=\"8\" refY=\"4\" orient=\"auto\">",
-    )?;
-    out.put(b"<path d=\"M0,0 L9,4 L0,8 z\" fill=\"#444444\"/></marker></defs>\n")?;
-    out.put(b"<rect width=\"100%\" height=\"100%\" fill=\"white\"/>\n")
+// The place among those on one way, after the one of this place on the last way.
+fn place_behind(k: usize, last: Option<Way>, way: Way) -> usize {
+    match last {
+        Some(last) if is_same_way(last, way) => next(k),
+        _ => 0,
+    }
 }

@@ -1,7 +1,11 @@
-//! Lanes: where each server and each connection of a picture stands, and each event.
+//! Where the lanes of a picture stand, and its rows.
+ghost use Rattle.std.specs.Prelude.{◌≡◌};
+ghost use Rattle.traces.specs.Columns.{number_at, row_height};
 
+use crate::passings::Lane;
 use crate::strokes::Place;
 use std::alloc::{AllocError, Global};
+use std::marker::Model;
 
 /// From the left edge to the first lane: there stand the events' lines.
 const MARGIN: usize = 370;
@@ -26,7 +30,18 @@ pub struct Lanes {
     width: usize,
 }
 
+impl Model for Lanes {
+    ghost use Rattle.traces.specs.Columns.{Columns};
+
+    ghost Value = { Columns };
+
+    ghost view = { λ l. record { servers = l.servers.items; connections = l.connections.items; width = l.width } };
+}
+
 impl Lanes {
+    ghost use Rattle.std.specs.Prelude.{◌≡◌};
+    ghost use Rattle.traces.specs.Columns.{column, place};
+
     /// The lanes of a chain of `count` servers, with a connection at each of these homes.
     pub fn new(alloc: Global, count: usize, homes: &[usize]) -> Result<Lanes, AllocError> {
         let mut lanes = Lanes {
@@ -54,29 +69,48 @@ impl Lanes {
         }
     }
 
-    /// Server i at an event of this number, from 0 on.
-    pub fn server(&self, i: usize, row: usize) -> Place {
+    /// A lane at the row of an event.
+    pub fn place(&self, lane: Lane, row: usize) -> Place
+        ensures { result ≡ place self.now lane row }
+    {
         Place {
-            x: self.servers.get(i).copied().unwrap_or(MARGIN),
+            x: self.column(lane),
             y: row_height(row),
         }
     }
 
-    /// Connection c at an event of this number.
-    pub fn connection(&self, c: usize, row: usize) -> Place {
-        Place {
-            x: self.connections.get(c).copied().unwrap_or(MARGIN),
-            y: row_height(row),
+    // From the left edge to a lane.
+    #[tactic(auto, unfolding(crate::specs::Columns::column))]
+    fn column(&self, lane: Lane) -> usize
+        ensures { result ≡ column self.now lane }
+    {
+        match lane {
+            Lane::Server(i) => number_at(self.servers.as_slice(), i),
+            Lane::Connection(c) => number_at(self.connections.as_slice(), c),
         }
     }
 
     /// The width of all of them.
-    pub fn width(&self) -> usize {
+    pub fn width(&self) -> usize
+        ensures { result ≡ self.now.width }
+    {
         self.width
     }
 }
 
+fn number_at(numbers: &[usize], place: usize) -> usize
+    ensures { result ≡ number_at numbers.now place }
+{
+    match numbers.get(place) {
+        Some(x) => *x,
+        None => MARGIN,
+    }
+}
+
 /// From the top edge to the event of this number, from 0 on.
-pub fn row_height(row: usize) -> usize {
+#[tactic(auto, unfolding(crate::specs::Columns::row_height))]
+pub fn row_height(row: usize) -> usize
+    ensures { result ≡ row_height row }
+{
     row.saturating_mul(ROW).saturating_add(HEAD)
 }

@@ -1,9 +1,10 @@
-//! The strokes of a picture, as elements of SVG 1.1.
+//! Places in a picture, and the parts of its elements, in SVG 1.1.
+ghost use Rattle.std.specs.Prelude.{◌≡◌, ◌≤◌, ◌++◌, OnOk, length};
+ghost use Rattle.traces.specs.Strokes.{cut_text, ends_text, marked_up, marked_up_all, place_text, point_text};
+ghost use Rattle.traces.specs.Strokes.{shown_text};
 
 use crate::texts::Text;
 use std::alloc::AllocError;
-
-const EDGE: &[u8] = b"fill=\"white\" stroke=\"white\" stroke-width=\"4\" stroke-linejoin=\"round\"";
 
 /// A place in a picture, in its units from the left and from the top.
 #[derive(Clone, Copy, Debug, PartialEq, Eq)]
@@ -15,16 +16,24 @@ pub struct Place {
 }
 
 impl Place {
-    /// The place so much further to the right and below.
-    pub fn moved(self, right: usize, down: usize) -> Place {
+    ghost use Rattle.std.specs.Prelude.{◌≡◌, ◌+◌, ◌-◌, ◌^◌, min};
+
+    /// The place so much further to the right and below, as far as 64 bits count.
+    pub fn moved(self, right: usize, down: usize) -> Place
+        ensures x { result.x ≡ min (self.x + right) (2 ^ 64 - 1) }
+        ensures y { result.y ≡ min (self.y + down) (2 ^ 64 - 1) }
+    {
         Place {
             x: self.x.saturating_add(right),
             y: self.y.saturating_add(down),
         }
     }
 
-    /// The place so much further to the left and above.
-    pub fn moved_back(self, left: usize, up: usize) -> Place {
+    /// The place so much further to the left and above, or else at the edge.
+    pub fn moved_back(self, left: usize, up: usize) -> Place
+        ensures x { result.x ≡ self.x - left }
+        ensures y { result.y ≡ self.y - up }
+    {
         Place {
             x: self.x.saturating_sub(left),
             y: self.y.saturating_sub(up),
@@ -32,110 +41,86 @@ impl Place {
     }
 }
 
-/// Adds a line between two places, with these attributes.
-pub fn put_line(
-    out: &mut Text,
-    from: Place,
-    to: Place,
-    attributes: &[u8],
-) -> Result<(), AllocError> {
+/// Adds the ends of a line.
+#[tactic(auto, unfolding(crate::specs::Strokes::ends_text))]
+pub fn put_ends(out: &mut Text, from: Place, to: Place) -> Result<(), AllocError>
+    ensures { OnOk result (out.new ≡ out.old ++ ends_text from to) }
+{
     out.numbered(b"<line x1=\"", from.x)?;
     out.numbered(b"\" y1=\"", from.y)?;
     out.numbered(b"\" x2=\"", to.x)?;
-    out.numbered(b"\" y2=\"", to.y)?;
-    out.put(b"\" ")?;
-    out.put(attributes)?;
-    out.put(b"/>\n")
+    out.numbered(b"\" y2=\"", to.y)
 }
 
-/// Adds a circle round a place, with these attributes.
-pub fn put_circle(
-    out: &mut Text,
-    at: Place,
-    radius: usize,
-    attributes: &[u8],
-) -> Result<(), AllocError> {
-    out.numbered(b"<circle cx=\"", at.x)?;
-    out.numbered(b"\" cy=\"", at.y)?;
-    out.numbered(b"\" r=\"", radius)?;
-    out.put(b"\" ")?;
-    out.put(attributes)?;
-    out.put(b"/>\n")
-}
-
-/// Adds a diamond round a place, with these attributes.
-pub fn put_diamond(out: &mut Text, at: Place, attributes: &[u8]) -> Result<(), AllocError> {
-    out.put(b"<polygon points=\"")?;
-    put_point(out, at.moved_back(0, 6))?;
-    put_point(out, at.moved(6, 0))?;
-    put_point(out, at.moved(0, 6))?;
-    put_point(out, at.moved_back(6, 0))?;
-    out.put(b"\" ")?;
-    out.put(attributes)?;
-    out.put(b"/>\n")
-}
-
-fn put_point(out: &mut Text, at: Place) -> Result<(), AllocError> {
+/// Adds a place among the points of a polygon.
+#[tactic(auto, unfolding(crate::specs::Strokes::point_text))]
+pub fn put_point(out: &mut Text, at: Place) -> Result<(), AllocError>
+    ensures { OnOk result (out.new ≡ out.old ++ point_text at) }
+{
     out.numbered(b" ", at.x)?;
     out.numbered(b",", at.y)
 }
 
-/// Adds a cross at a place, with these attributes.
-pub fn put_cross(out: &mut Text, at: Place, attributes: &[u8]) -> Result<(), AllocError> {
-    put_line(out, at.moved_back(7, 7), at.moved(7, 7), attributes)?;
-    let (left, right) = (at.moved_back(7, 0), at.moved(7, 0));
-    put_line(out, left.moved(0, 7), right.moved_back(0, 7), attributes)
-}
-
-/// Adds a text that begins at a place, with these attributes: at most so many of its bytes, and two dots if there are
-/// more.
-pub fn put_text(
-    out: &mut Text,
-    at: Place,
-    attributes: &[u8],
-    words: &[u8],
-    most: usize,
-) -> Result<(), AllocError> {
+/// Adds the place of a text.
+#[tactic(auto, unfolding(crate::specs::Strokes::place_text))]
+pub fn put_place(out: &mut Text, at: Place) -> Result<(), AllocError>
+    ensures { OnOk result (out.new ≡ out.old ++ place_text at) }
+{
     out.numbered(b"<text x=\"", at.x)?;
-    out.numbered(b"\" y=\"", at.y)?;
-    out.put(b"\" ")?;
-    out.put(attributes)?;
-    out.put(b">")?;
-    match words.get(..most) {
-        Some(first) if words.len() > most => {
-            put_marked_up(out, first)?;
-            out.put(b"..")?;
-        }
-        _ => put_marked_up(out, words)?,
-    }
-    out.put(b"</text>\n")
+    out.numbered(b"\" y=\"", at.y)
 }
 
-/// The same over a white edge, which keeps it readable over lines.
-pub fn put_label(
-    out: &mut Text,
-    at: Place,
-    attributes: &[u8],
-    words: &[u8],
-    most: usize,
-) -> Result<(), AllocError> {
-    put_text(out, at, EDGE, words, most)?;
-    put_text(out, at, attributes, words, most)
+/// Adds a text: at most so many of its bytes, and two dots if there are more.
+pub fn put_shown(out: &mut Text, words: &Text, most: usize) -> Result<(), AllocError>
+    ensures { OnOk result (out.new ≡ out.old ++ shown_text words.now most) }
+{
+    put_shown_bytes(out, words.as_slice(), most)
+}
+
+#[tactic(auto, unfolding(crate::specs::Strokes::shown_text))]
+fn put_shown_bytes(out: &mut Text, words: &[u8], most: usize) -> Result<(), AllocError>
+    ensures { OnOk result (out.new ≡ out.old ++ shown_text words.now most) }
+{
+    if words.len() <= most {
+        put_marked_up_all(out, words)
+    } else {
+        put_cut(out, words, most)
+    }
+}
+
+#[tactic(auto, unfolding(crate::specs::Strokes::cut_text))]
+fn put_cut(out: &mut Text, words: &[u8], most: usize) -> Result<(), AllocError>
+    requires within { most ≤ length words.now }
+    ensures { OnOk result (out.new ≡ out.old ++ cut_text words.now most) }
+{
+    let (first, _) = words.split_at(most);
+    put_marked_up_all(out, first)?;
+    out.put(b"..")
 }
 
 // Bytes as the text of an element: what XML gives a meaning is spelled by its entity, and what XML 1.0 has no character
 // for, or no single byte in UTF-8, is a question mark. Texts in the escapes of transcripts have none of these.
-fn put_marked_up(out: &mut Text, words: &[u8]) -> Result<(), AllocError> {
+#[tactic(auto, unfolding(crate::specs::Strokes::marked_up_all))]
+fn put_marked_up_all(out: &mut Text, words: &[u8]) -> Result<(), AllocError>
+    ensures { OnOk result (out.new ≡ out.old ++ marked_up_all words.now) }
+{
     for b in words {
-        match *b {
-            b'&' => out.put(b"&amp;")?,
-            b'<' => out.put(b"&lt;")?,
-            b'>' => out.put(b"&gt;")?,
-            b'"' => out.put(b"&quot;")?,
-            b'\'' => out.put(b"&apos;")?,
-            b' '..=b'~' => out.put(&[*b])?,
-            _ => out.put(b"?")?,
-        }
+        put_marked_up(out, *b)?;
     }
     Ok(())
+}
+
+#[tactic(auto, unfolding(crate::specs::Strokes::marked_up))]
+fn put_marked_up(out: &mut Text, b: u8) -> Result<(), AllocError>
+    ensures { OnOk result (out.new ≡ out.old ++ marked_up b) }
+{
+    match b {
+        b'&' => out.put(b"&amp;"),
+        b'<' => out.put(b"&lt;"),
+        b'>' => out.put(b"&gt;"),
+        b'"' => out.put(b"&quot;"),
+        b'\'' => out.put(b"&apos;"),
+        b' '..=b'~' => out.put(&[b]),
+        _ => out.put(b"?"),
+    }
 }

@@ -59,20 +59,20 @@ impl Text {
 
     /// Adds words and a place: a server's or a connection's number.
     #[tactic(auto, unfolding(crate::specs::Words::labelled))]
-    pub fn numbered(&mut self, words: &[u8], number: usize) -> Result<(), AllocError>
-        ensures { OnOk result (self.new ≡ self.old ++ labelled words.now number) }
+    pub fn numbered(&mut self, words: &[u8], place: usize) -> Result<(), AllocError>
+        ensures { OnOk result (self.new ≡ self.old ++ labelled words.now place) }
     {
         self.put(words)?;
-        self.put(Buffer::new().format(number).as_bytes())
+        self.put(Buffer::new().format(place).as_bytes())
     }
 
     /// Adds words and a server's number.
     #[tactic(auto, unfolding(crate::specs::Words::labelled))]
-    pub fn server(&mut self, words: &[u8], number: u8) -> Result<(), AllocError>
-        ensures { OnOk result (self.new ≡ self.old ++ labelled words.now number) }
+    pub fn server(&mut self, words: &[u8], server: u8) -> Result<(), AllocError>
+        ensures { OnOk result (self.new ≡ self.old ++ labelled words.now server) }
     {
         self.put(words)?;
-        self.put(Buffer::new().format(number).as_bytes())
+        self.put(Buffer::new().format(server).as_bytes())
     }
 
     /// Adds any bytes, escaped as a transcript does.

@@ -1,0 +1,12 @@
+use Rattle.std.proofs.lemmas.Result.{on_ok_weaker}
+use Rattle.traces.proofs.Growing.{five_more}
+use Rattle.traces.specs.Pictures.{picture_text}
+use Rattle.traces.proofs.pictures.put_picture.Goals as goal
+
+pub returns : goal.returns
+unfolding picture_text
+returns c =
+    on_ok_weaker c.put.result
+    (five_more _ _ _ _ _ _ _ _ _ _ _
+    c.in_ok-put_head.ensures c.in_ok-put_marks.ensures c.in_ok-put_arrows.ensures c.in_ok-put_marks-2.ensures)
+    c.put.ensures

@@ -1,0 +1,84 @@
+-- The arrows of a picture: one for each thing that was put, from where it was put to where it was taken.
+use Rattle.std.specs.Prelude.{ℕ, ◌+◌, true, false, List, [], ◌∷◌, ◌++◌, length, map, flat_map, slice_get}
+use Rattle.std.specs.Prelude.{Option, None, Some}
+use Rattle.world.specs.declared.events.Event.{Event}
+use Rattle.world.specs.declared.deeds.Deed.{Deed}
+use Rattle.world.specs.Deeds.{TraceShown}
+use Rattle.schedules.specs.Settling.{first_numbers}
+use Rattle.traces.specs.declared.passings.Lane.{Lane}
+use Rattle.traces.specs.declared.passings.Lane.TheVariants.{Server, Connection}
+use Rattle.traces.specs.declared.passings.Way.{Way}
+use Rattle.traces.specs.declared.passings.Passing.{Passing}
+use Rattle.traces.specs.declared.arrows.Arrow.{Arrow}
+use Rattle.traces.specs.Passings.{from_to, next, only_on, puts_of, takes_of, row_behind_all}
+
+-- the arrow of what was put: it ends where that was taken, or in flight at this row
+unfoldable pub arrow_of : ℕ → Passing → Option Passing → Arrow
+arrow_of row put None = record { put = put; row = row; came = false }
+arrow_of row put (Some taken) = record { put = put; row = taken.row; came = true }
+
+-- an arrow in flight has a row of its own
+unfoldable pub row_laid : ℕ → Option Passing → ℕ
+row_laid row None = next row
+row_laid row (Some taken) = row
+
+-- The arrows of one way: what is put on it first is taken first. The first of these puts is the one of this place among
+-- all on the way.
+abbrev pub laid : ℕ → List Passing → ℕ → List Passing → List Arrow
+laid row takes place [] = []
+laid row takes place (p ∷ ps) =
+    arrow_of row p (slice_get takes place) ∷ laid (row_laid row (slice_get takes place)) takes (place + 1) ps
+
+-- the row behind them
+abbrev pub row_laid_all : ℕ → List Passing → ℕ → List Passing → ℕ
+row_laid_all row takes place [] = row
+row_laid_all row takes place (p ∷ ps) = row_laid_all (row_laid row (slice_get takes place)) takes (place + 1) ps
+
+-- the arrows of a way, of what was put and what was taken
+unfoldable pub laid_on : List Passing → List Passing → ℕ → Way → List Arrow
+laid_on puts takes row w = laid row (only_on w takes) 0 (only_on w puts)
+
+-- the row behind them
+unfoldable pub row_laid_on : List Passing → List Passing → ℕ → Way → ℕ
+row_laid_on puts takes row w = row_laid_all row (only_on w takes) 0 (only_on w puts)
+
+-- the arrows of ways, one way after another
+abbrev pub laid_from : List Passing → List Passing → ℕ → List Way → List Arrow
+laid_from puts takes row [] = []
+laid_from puts takes row (w ∷ ws) =
+    laid_on puts takes row w ++ laid_from puts takes (row_laid_on puts takes row w) ws
+
+-- the calls of connections to their homes, of which the first has this number
+abbrev pub calls_from : ℕ → List ℕ → List Way
+calls_from c [] = []
+calls_from c (home ∷ homes) = from_to (Connection c) (Server home) ∷ calls_from (c + 1) homes
+
+-- the replies to them
+abbrev pub replies_from : ℕ → List ℕ → List Way
+replies_from c [] = []
+replies_from c (home ∷ homes) = from_to (Server home) (Connection c) ∷ replies_from (c + 1) homes
+
+-- the link from server i to server j
+abbrev pub link_way : ℕ → ℕ → Way
+link_way i j = from_to (Server i) (Server j)
+
+-- those from server i to the servers below a count
+unfoldable pub links_from : ℕ → ℕ → List Way
+links_from count i = map (link_way i) (first_numbers count)
+
+-- those from each server of a chain of so many to each
+unfoldable pub links_of : ℕ → List Way
+links_of count = flat_map (links_from count) (first_numbers count)
+
+-- all ways between the lanes of a picture
+unfoldable pub ways_of : ℕ → List ℕ → List Way
+ways_of count homes = calls_from 0 homes ++ links_of count ++ replies_from 0 homes
+
+-- the arrows of deeds of these events, over a chain of so many servers whose connections have these homes
+unfoldable pub arrows_among : ℕ → List ℕ → List Event → List Deed → List Arrow
+arrows_among count homes events deeds =
+    laid_from (puts_of deeds) (takes_of homes events deeds) (row_behind_all 0 deeds) (ways_of count homes)
+
+-- the arrows of a trace of these events, whose connections have these homes: one for each thing that was put on a way
+unfoldable pub arrows_of : List ℕ → List Event → TraceShown → List Arrow
+arrows_of homes events t = arrows_among (length t.world.servers) homes events t.deeds
