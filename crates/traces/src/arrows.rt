@@ -215,8 +215,8 @@ fn push_way(ways: &mut Vec<Way>, from: Lane, to: Lane) -> Result<(), AllocError>
     Ok(ways.push(from_to(from, to))?)
 }
 
-/// Each thing that a trace put has one arrow, and each arrow is of one: way after way, the arrows are those of what was
-/// put on it, in order.
+/// Each thing that a trace put on a way of the picture has one arrow, and each arrow is of one: way after way, the
+/// arrows are those of what was put on it, in order.
 pub fn each_put_has_its_arrow()
     ensures { (homes : List ℕ) (events : List Event) (trace : TraceShown)
         → map (λ arrow. arrow.put) (arrows_of homes events trace)
