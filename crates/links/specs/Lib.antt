@@ -1,5 +1,5 @@
 pub mod Greetings
-pub mod Orders
+pub mod Notices
 pub mod PeerLinks
 pub mod Places
 pub mod Speakers

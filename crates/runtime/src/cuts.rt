@@ -116,9 +116,4 @@ impl Cuts for Connections {
     fn end(&self) {
         self.ended.set();
     }
-
-    // Masters give no orders yet, so nobody reads a clock for them.
-    fn now(&self) -> Option<u64> {
-        None
-    }
 }

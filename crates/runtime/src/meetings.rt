@@ -6,7 +6,6 @@ use crate::outgoing::{LinkSink, Outgoing};
 use crate::peer_doors::open_peer_door;
 use crate::server_faults::ServerFault;
 use command_line::ServerNumbers;
-use leases::SharedLease;
 use links::{Lobby, PeerLinks, Places};
 use masters::{ServerSettings, start_number};
 use peers::Identity;
@@ -35,8 +34,7 @@ pub(crate) fn new_lobby<R: Clock>(
     };
     let (places, notices) = all_places(alloc, settings, inlets)?;
     let connections = Connections::new(alloc, id, servers, failed.share()?)?;
-    let lease = Arc::new(alloc, SharedLease::new(None))?;
-    let lobby = Lobby::new(host, places, notices, None, lease, connections);
+    let lobby = Lobby::new(host, places, notices, connections);
     Ok(Arc::new(alloc, lobby)?)
 }
 
