@@ -4,7 +4,7 @@ use Rattle.std.proofs.Common.{Option, None, Some, MatchOption}
 use Rattle.std.proofs.lemmas.List.{append_cancel_left}
 use Rattle.std.proofs.lemmas.Bool.Decides.{eqb_tells}
 
--- the space is cut off behind the word
+-- the space is cut off after the word
 pub word_and_space : (line word after : List ℕ) (r : Option (Bor (List ℕ)))
     → line ≡ word ++ after
     → MatchOption r ((rest : List ℕ) → after ≢ 32 ∷ rest) (λ x. after ≡ 32 ∷ x.now)

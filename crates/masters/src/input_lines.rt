@@ -42,7 +42,7 @@ pub fn server_named(line: &[u8], word: &[u8], count: u8) -> Option<u8>
     ensures { MatchOption result ((j : ℕ) → j < count → line.now ≢ word.now ++ 32 ∷ decimal j)
         (λ j. (j < count) × (line.now ≡ word.now ++ 32 ∷ decimal j)) }
 {
-    let named = behind_word(line, word)?;
+    let named = rest_after_word(line, word)?;
     for j in 0..count {
         if is_number(named, j) {
             return Some(j);
@@ -51,17 +51,17 @@ pub fn server_named(line: &[u8], word: &[u8], count: u8) -> Option<u8>
     None
 }
 
-// What stands behind a word and a space, if they stand at the front.
-fn behind_word<'a>(line: &'a [u8], word: &[u8]) -> Option<&'a [u8]>
+// What follows a word and a space, if they stand at the front.
+fn rest_after_word<'a>(line: &'a [u8], word: &[u8]) -> Option<&'a [u8]>
     ensures { MatchOption result ((rest : List ℕ) → line.now ≢ word.now ++ 32 ∷ rest)
         (λ rest. line.now ≡ word.now ++ 32 ∷ rest.now) }
 {
-    let after = behind(line, word)?;
-    behind(after, b" ")
+    let after = rest_after(line, word)?;
+    rest_after(after, b" ")
 }
 
-// What stands behind these bytes, if they stand at the front.
-fn behind<'a>(bytes: &'a [u8], first: &[u8]) -> Option<&'a [u8]>
+// What follows these bytes, if they stand at the front.
+fn rest_after<'a>(bytes: &'a [u8], first: &[u8]) -> Option<&'a [u8]>
     ensures { MatchOption result ((rest : List ℕ) → bytes.now ≢ first.now ++ rest)
         (λ rest. bytes.now ≡ first.now ++ rest.now) }
 {

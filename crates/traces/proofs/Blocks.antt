@@ -31,7 +31,7 @@ one_more count (e ∷ es) (d ∷ ds) (suc k) =
 one_above : (k : ℕ) → k + 1 ≡ suc k
 one_above k = omega arith
 
--- the same behind a text
+-- the same after a text
 pub block_more : (front : List ℕ) (count : ℕ) (events : List Event) (deeds : List Deed) (k : ℕ)
     → front ++ flat_map (block count) (take (k + 1) (zip events deeds))
     ≡ (front ++ flat_map (block count) (take k (zip events deeds)))
@@ -42,7 +42,7 @@ block_more front count events deeds k =
     ∙ sym (append_assoc front (flat_map (block count) (take k (zip events deeds)))
     (block_at count (slice_get events k) (slice_get deeds k)))
 
--- behind the last event there are no more
+-- after the last event there are no more
 pub all_blocks : (events : List Event) (deeds : List Deed) (n : ℕ)
     → n ≡ length events
     → take n (zip events deeds) ≡ zip events deeds

@@ -10,7 +10,7 @@ use Rattle.traces.specs.declared.passings.Lane.TheVariants.{Server, Connection}
 use Rattle.traces.specs.declared.passings.Way.{Way}
 use Rattle.traces.specs.declared.passings.Passing.{Passing}
 use Rattle.traces.specs.declared.arrows.Arrow.{Arrow}
-use Rattle.traces.specs.Passings.{from_to, next, only_on, puts_of, takes_of, row_behind_all}
+use Rattle.traces.specs.Passings.{from_to, next, only_on, puts_of, takes_of, row_after_all}
 
 -- the arrow of what was put: it ends where that was taken, or in flight at this row
 unfoldable pub arrow_of : ℕ → Passing → Option Passing → Arrow
@@ -29,7 +29,7 @@ laid row takes place [] = []
 laid row takes place (p ∷ ps) =
     arrow_of row p (slice_get takes place) ∷ laid (row_laid row (slice_get takes place)) takes (place + 1) ps
 
--- the row behind them
+-- the row after them
 abbrev pub row_laid_all : ℕ → List Passing → ℕ → List Passing → ℕ
 row_laid_all row takes place [] = row
 row_laid_all row takes place (p ∷ ps) = row_laid_all (row_laid row (slice_get takes place)) takes (place + 1) ps
@@ -38,7 +38,7 @@ row_laid_all row takes place (p ∷ ps) = row_laid_all (row_laid row (slice_get 
 unfoldable pub laid_on : List Passing → List Passing → ℕ → Way → List Arrow
 laid_on puts takes row w = laid row (only_on w takes) 0 (only_on w puts)
 
--- the row behind them
+-- the row after them
 unfoldable pub row_laid_on : List Passing → List Passing → ℕ → Way → ℕ
 row_laid_on puts takes row w = row_laid_all row (only_on w takes) 0 (only_on w puts)
 
@@ -66,7 +66,7 @@ link_way i j = from_to (Server i) (Server j)
 unfoldable pub links_from : ℕ → ℕ → List Way
 links_from count i = map (link_way i) (first_numbers count)
 
--- those from each server of a chain of so many to each
+-- those from each server of a chain of n to each
 unfoldable pub links_of : ℕ → List Way
 links_of count = flat_map (links_from count) (first_numbers count)
 
@@ -74,10 +74,10 @@ links_of count = flat_map (links_from count) (first_numbers count)
 unfoldable pub ways_of : ℕ → List ℕ → List Way
 ways_of count homes = calls_from 0 homes ++ links_of count ++ replies_from 0 homes
 
--- the arrows of deeds of these events, over a chain of so many servers whose connections have these homes
+-- the arrows of deeds of these events, over a chain of n servers whose connections have these homes
 unfoldable pub arrows_among : ℕ → List ℕ → List Event → List Deed → List Arrow
 arrows_among count homes events deeds =
-    laid_from (puts_of deeds) (takes_of homes events deeds) (row_behind_all 0 deeds) (ways_of count homes)
+    laid_from (puts_of deeds) (takes_of homes events deeds) (row_after_all 0 deeds) (ways_of count homes)
 
 -- the arrows of a trace of these events, whose connections have these homes: one for each thing that was put on a way
 unfoldable pub arrows_of : List ℕ → List Event → TraceShown → List Arrow

@@ -65,7 +65,7 @@ message_line i j message =
     labelled (codes "  link from server ") i ++ labelled (codes " to server ") j ++ codes ": " ++ message_text message
     ++ codes "\n"
 
--- the first messages, at most so many, on the link from server i to server j
+-- the first messages, at most n, on the link from server i to server j
 unfoldable pub link_lines : World → ℕ → ℕ → ℕ → List ℕ
 link_lines w i j most = flat_map (message_line i j) (take most (link w i j))
 

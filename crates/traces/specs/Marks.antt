@@ -53,7 +53,7 @@ diamond_text top right bottom left paint =
 unfoldable pub text_paint : Paint → List ℕ
 text_paint paint = codes "\" " ++ paint_text paint ++ codes ">"
 
--- words that begin at a place: at most so many bytes of them
+-- words that begin at a place: at most n bytes of them
 unfoldable pub words_text : Place → Paint → List ℕ → ℕ → List ℕ
 words_text at paint words most =
     place_text at ++ text_paint paint ++ shown_text words most ++ codes "</text>\n"

@@ -53,14 +53,14 @@ is_shown (Stepped i step) = not (is_known_notice step)
 is_shown Failed = true
 is_shown (Handed reply sent) = true
 
--- the row behind a deed that has this one, or would have it
-unfoldable pub row_behind : ℕ → Deed → ℕ
-row_behind row deed = if is_shown deed then next row else row
+-- the row after a deed that has this one, or would have it
+unfoldable pub row_after : ℕ → Deed → ℕ
+row_after row deed = if is_shown deed then next row else row
 
--- the row behind all of these deeds
-abbrev pub row_behind_all : ℕ → List Deed → ℕ
-row_behind_all row [] = row
-row_behind_all row (d ∷ ds) = row_behind_all (row_behind row d) ds
+-- the row after all of these deeds
+abbrev pub row_after_all : ℕ → List Deed → ℕ
+row_after_all row [] = row
+row_after_all row (d ∷ ds) = row_after_all (row_after row d) ds
 
 -- at this row something stands on the way from one lane to another
 abbrev pub passing_at : ℕ → Lane → Lane → Passing
@@ -85,7 +85,7 @@ puts_by row deed = []
 -- what these deeds put, the first of them at this row
 abbrev pub puts_from : ℕ → List Deed → List Passing
 puts_from row [] = []
-puts_from row (d ∷ ds) = puts_by row d ++ puts_from (row_behind row d) ds
+puts_from row (d ∷ ds) = puts_by row d ++ puts_from (row_after row d) ds
 
 -- all that the deeds of a trace put
 abbrev pub puts_of : List Deed → List Passing
@@ -122,7 +122,7 @@ takes_by row homes event deed = []
 abbrev pub takes_from : List ℕ → List Event → ℕ → ℕ → List Deed → List Passing
 takes_from homes events place row [] = []
 takes_from homes events place row (d ∷ ds) =
-    takes_by row homes (slice_get events place) d ++ takes_from homes events (place + 1) (row_behind row d) ds
+    takes_by row homes (slice_get events place) d ++ takes_from homes events (place + 1) (row_after row d) ds
 
 -- all that the deeds of a trace take
 abbrev pub takes_of : List ℕ → List Event → List Deed → List Passing

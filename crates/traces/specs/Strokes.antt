@@ -34,10 +34,10 @@ marked_up b =
 unfoldable pub marked_up_all : List ℕ → List ℕ
 marked_up_all words = flat_map marked_up words
 
--- the first so many bytes of a text, and two dots
+-- the first n bytes of a text, and two dots
 unfoldable pub cut_text : List ℕ → ℕ → List ℕ
 cut_text words most = marked_up_all (take most words) ++ codes ".."
 
--- a text: at most so many of its bytes, and two dots if there are more
+-- a text: at most n of its bytes, and two dots if there are more
 unfoldable pub shown_text : List ℕ → ℕ → List ℕ
 shown_text words most = if nat_le (length words) most then marked_up_all words else cut_text words most

@@ -7,7 +7,7 @@ ghost use Rattle.world.specs.declared.events.Event.{Event};
 ghost use Rattle.world.specs.Deeds.{TraceShown};
 
 use crate::passings::{
-    Lane, Passing, Way, from_to, next, only_on, puts_of, row_behind_all, takes_of,
+    Lane, Passing, Way, from_to, next, only_on, puts_of, row_after_all, takes_of,
 };
 use std::alloc::{AllocError, Global};
 use world::{Deed, Event, Trace};
@@ -50,7 +50,7 @@ fn arrows_among(
     let puts = puts_of(alloc, deeds)?;
     let takes = takes_of(alloc, homes, events, deeds)?;
     let ways = ways_of(alloc, count, homes)?;
-    let first = row_behind_all(deeds);
+    let first = row_after_all(deeds);
     lay_all(
         alloc,
         first,
@@ -78,7 +78,7 @@ fn lay_all(
     Ok(arrows)
 }
 
-// The arrows of a way, and the row behind them.
+// The arrows of a way, and the row after them.
 #[tactic(auto, unfolding(crate::specs::Arrows::laid_on, crate::specs::Arrows::row_laid_on))]
 fn lay_on(
     alloc: Global,
@@ -89,7 +89,7 @@ fn lay_on(
     takes: &[Passing],
 ) -> Result<usize, AllocError>
     ensures laid { OnOk result (arrows.new.items ≡ arrows.old.items ++ laid_on puts.now takes.now row way) }
-    ensures behind { IfOk result (λ after. after ≡ row_laid_on puts.now takes.now row way) }
+    ensures after { IfOk result (λ after. after ≡ row_laid_on puts.now takes.now row way) }
 {
     let here = only_on(alloc, way, puts)?;
     let there = only_on(alloc, way, takes)?;
@@ -104,7 +104,7 @@ fn lay(
     takes: &[Passing],
 ) -> Result<usize, AllocError>
     ensures laid { OnOk result (arrows.new.items ≡ arrows.old.items ++ laid first takes.now 0 puts.now) }
-    ensures behind { IfOk result (λ after. after ≡ row_laid_all first takes.now 0 puts.now) }
+    ensures after { IfOk result (λ after. after ≡ row_laid_all first takes.now 0 puts.now) }
 {
     let mut row = first;
     for (place, put) in puts.iter().enumerate() {

@@ -8,7 +8,7 @@ use crate::deeds::{is_tail, put_taken};
 use crate::event_lines::put_event;
 use crate::lanes::{Lanes, row_height};
 use crate::marks::{Mark, Marks, Paint};
-use crate::passings::{Lane, Way, is_same_way, is_shown, next, row_behind_all};
+use crate::passings::{Lane, Way, is_same_way, is_shown, next, row_after_all};
 use crate::pictures::picture;
 use crate::strokes::Place;
 use crate::texts::Text;
@@ -72,7 +72,7 @@ fn drawing(
 ) -> Result<Vec<u8>, AllocError>
     ensures { IfOk result (λ text. HasArrows arrows.now text.items) }
 {
-    let rows = row_behind_arrows(arrows, row_behind_all(trace.deeds()));
+    let rows = row_after_arrows(arrows, row_after_all(trace.deeds()));
     let lanes = Lanes::new(alloc, trace.count(), homes)?;
     let under = lane_marks(alloc, &lanes, homes, events, trace, rows)?;
     let over = all_marks(alloc, &lanes, events, trace, arrows)?;
@@ -87,8 +87,8 @@ fn drawing(
     )
 }
 
-// The row behind all arrows: behind the last one in flight, or else this one.
-fn row_behind_arrows(arrows: &[Arrow], row: usize) -> usize {
+// The row after all arrows: after the last one in flight, or else this one.
+fn row_after_arrows(arrows: &[Arrow], row: usize) -> usize {
     match arrows.last() {
         Some(arrow) if !arrow.came => next(arrow.row),
         _ => row,
@@ -323,7 +323,7 @@ impl Sketch<'_> {
         let mut last: Option<Way> = None;
         for arrow in arrows {
             if !arrow.came {
-                k = place_behind(k, last, arrow.put.way);
+                k = place_after(k, last, arrow.put.way);
                 last = Some(arrow.put.way);
                 self.put_flight(*arrow, k, trace)?;
             }
@@ -357,7 +357,7 @@ fn diamond(at: Place) -> Mark {
 }
 
 // The place among those on one way, after the one of this place on the last way.
-fn place_behind(k: usize, last: Option<Way>, way: Way) -> usize {
+fn place_after(k: usize, last: Option<Way>, way: Way) -> usize {
     match last {
         Some(last) if is_same_way(last, way) => next(k),
         _ => 0,

@@ -49,7 +49,7 @@ pub enum Mark {
     Circle(Place, usize, Paint),
     /// A diamond of these points: the top, the right, the bottom and the left.
     Diamond(Place, Place, Place, Place, Paint),
-    /// Words that begin at a place: at most so many bytes of them.
+    /// Words that begin at a place: at most n bytes of them.
     Words(Place, Paint, Text, usize),
     /// The same over a white edge.
     Label(Place, Paint, Text, usize),

@@ -2,7 +2,7 @@
 ghost use Rattle.std.specs.Prelude.{◌≡◌, [], ◌∷◌, ◌++◌, IfOk, OnOk, map, slice_get};
 ghost use Rattle.traces.specs.Passings.{call_put, from_to, hand_taken, handed_by, if_on, input_taken, is_known_notice};
 ghost use Rattle.traces.specs.Passings.{is_notice, is_same_lane, is_same_way, is_shown, next, only_on, output_put};
-ghost use Rattle.traces.specs.Passings.{passing_at, puts_by, puts_of, reply_taken, row_behind, row_behind_all};
+ghost use Rattle.traces.specs.Passings.{passing_at, puts_by, puts_of, reply_taken, row_after, row_after_all};
 ghost use Rattle.traces.specs.Passings.{takes_by, takes_of};
 
 use node::{Input, Output};
@@ -108,23 +108,23 @@ pub fn next(row: usize) -> usize
     row.saturating_add(1)
 }
 
-/// The row behind a deed that has this one, or would have it.
-#[tactic(auto, unfolding(crate::specs::Passings::row_behind))]
-pub fn row_behind(row: usize, deed: &Deed) -> usize
-    ensures { result ≡ row_behind row deed.now }
+/// The row after a deed that has this one, or would have it.
+#[tactic(auto, unfolding(crate::specs::Passings::row_after))]
+pub fn row_after(row: usize, deed: &Deed) -> usize
+    ensures { result ≡ row_after row deed.now }
 {
     if is_shown(deed) { next(row) } else { row }
 }
 
-/// The row behind all of these deeds.
-pub fn row_behind_all(deeds: &[Deed]) -> usize
-    ensures { result ≡ row_behind_all 0 deeds.now }
+/// The row after all of these deeds.
+pub fn row_after_all(deeds: &[Deed]) -> usize
+    ensures { result ≡ row_after_all 0 deeds.now }
 {
-    let mut behind: usize = 0;
+    let mut after: usize = 0;
     for deed in deeds {
-        behind = row_behind(behind, deed);
+        after = row_after(after, deed);
     }
-    behind
+    after
 }
 
 /// All that the deeds of a trace put.
@@ -135,7 +135,7 @@ pub fn puts_of(alloc: Global, deeds: &[Deed]) -> Result<Vec<Passing>, AllocError
     let mut row: usize = 0;
     for deed in deeds {
         push_puts(&mut puts, row, deed)?;
-        row = row_behind(row, deed);
+        row = row_after(row, deed);
     }
     Ok(puts)
 }
@@ -209,7 +209,7 @@ pub fn takes_of(
     let mut row: usize = 0;
     for (place, deed) in deeds.iter().enumerate() {
         push_takes(&mut takes, row, homes, events, place, deed)?;
-        row = row_behind(row, deed);
+        row = row_after(row, deed);
     }
     Ok(takes)
 }

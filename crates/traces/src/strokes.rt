@@ -70,7 +70,7 @@ pub fn put_place(out: &mut Text, at: Place) -> Result<(), AllocError>
     out.numbered(b"\" y=\"", at.y)
 }
 
-/// Adds a text: at most so many of its bytes, and two dots if there are more.
+/// Adds a text: at most n of its bytes, and two dots if there are more.
 pub fn put_shown(out: &mut Text, words: &Text, most: usize) -> Result<(), AllocError>
     ensures { OnOk result (out.new ≡ out.old ++ shown_text words.now most) }
 {

@@ -1,6 +1,6 @@
 use Rattle.std.proofs.lemmas.Bool.Decides.{Decides-eqb}
 use Rattle.std.proofs.lemmas.Slice.Eq.{strip_prefix_is}
-use Rattle.masters.proofs.input_lines.behind.Goals as goal
+use Rattle.masters.proofs.input_lines.rest_after.Goals as goal
 
 pub returns : goal.returns
 returns c =
