@@ -41,6 +41,9 @@ first_all (x ∷ xs) zero most none less = absurd cc
 first_all (x ∷ xs) (suc k) zero none less = absurd (omega arith)
 first_all (x ∷ xs) (suc k) (suc most) none less = ap (λ ys. x ∷ ys) (first_all xs k most none (omega arith))
 
+-- what a loop over the first elements adds
+pub ruleset firsts = (first_more, first_all)
+
 -- a text is whole once the first element's is added to what is done
 pub rest_more : {X : Type 0} (f : X → List ℕ) (rest xs : List X) (x : X) (whole done after : List ℕ)
     → rest ≡ x ∷ xs

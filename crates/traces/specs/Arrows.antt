@@ -1,5 +1,5 @@
 -- The arrows of a picture: one for each thing that was put, from where it was put to where it was taken.
-use Rattle.std.specs.Prelude.{ℕ, ◌+◌, true, false, List, [], ◌∷◌, ◌++◌, length, map, flat_map, slice_get}
+use Rattle.std.specs.Prelude.{◌≡◌, ℕ, ◌+◌, ◌<◌, true, false, List, [], ◌∷◌, ◌++◌, length, map, flat_map, slice_get}
 use Rattle.std.specs.Prelude.{Option, None, Some}
 use Rattle.world.specs.declared.events.Event.{Event}
 use Rattle.world.specs.declared.deeds.Deed.{Deed}
@@ -73,6 +73,18 @@ links_of count = flat_map (links_from count) (first_numbers count)
 -- all ways between the lanes of a picture
 unfoldable pub ways_of : ℕ → List ℕ → List Way
 ways_of count homes = calls_from 0 homes ++ links_of count ++ replies_from 0 homes
+
+-- A picture of a chain of n servers, whose connections have these homes, has a way between these lanes: from each
+-- server to each, from a connection to its home, and from its home back to it.
+abbrev pub IsWay : ℕ → List ℕ → Lane → Lane → Type 0
+IsWay count homes (Server i) (Server j) = (i < count) × (j < count)
+IsWay count homes (Connection c) (Server home) = slice_get homes c ≡ Some home
+IsWay count homes (Server home) (Connection c) = slice_get homes c ≡ Some home
+IsWay count homes (Connection c) (Connection d) = ⊥
+
+-- what was put stands on such a way
+abbrev pub IsOnWay : ℕ → List ℕ → Passing → Type 0
+IsOnWay count homes p = IsWay count homes p.way.from p.way.to
 
 -- the arrows of deeds of these events, over a chain of n servers whose connections have these homes
 unfoldable pub arrows_among : ℕ → List ℕ → List Event → List Deed → List Arrow

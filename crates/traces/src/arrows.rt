@@ -1,10 +1,8 @@
 //! The arrows of a picture: one for each thing that was put, from where it was put to where it was taken.
-ghost use Rattle.std.specs.Prelude.{◌≡◌, ◌++◌, ◌∷◌, [], ℕ, List, IfOk, OnOk, length, map, flat_map, slice_get};
+ghost use Rattle.std.specs.Prelude.{◌≡◌, ◌++◌, ◌∷◌, [], IfOk, OnOk, slice_get};
 ghost use Rattle.traces.specs.Arrows.{arrow_of, arrows_among, arrows_of, calls_from, laid, laid_from, laid_on};
 ghost use Rattle.traces.specs.Arrows.{links_from, links_of, replies_from, row_laid, row_laid_all, row_laid_on, ways_of};
-ghost use Rattle.traces.specs.Passings.{from_to, only_on, puts_of};
-ghost use Rattle.world.specs.declared.events.Event.{Event};
-ghost use Rattle.world.specs.Deeds.{TraceShown};
+ghost use Rattle.traces.specs.Passings.{from_to, only_on};
 
 use crate::passings::{
     Lane, Passing, Way, from_to, next, only_on, puts_of, row_after_all, takes_of,
@@ -214,11 +212,3 @@ fn push_way(ways: &mut Vec<Way>, from: Lane, to: Lane) -> Result<(), AllocError>
 {
     Ok(ways.push(from_to(from, to))?)
 }
-
-/// Each thing that a trace put on a way of the picture has one arrow, and each arrow is of one: way after way, the
-/// arrows are those of what was put on it, in order.
-pub fn each_put_has_its_arrow()
-    ensures { (homes : List ℕ) (events : List Event) (trace : TraceShown)
-        → map (λ arrow. arrow.put) (arrows_of homes events trace)
-        ≡ flat_map (λ way. only_on way (puts_of trace.deeds)) (ways_of (length trace.world.servers) homes) }
-{}

@@ -33,7 +33,7 @@ pub fn draw(
     events: &[Event],
     trace: &Trace,
 ) -> Result<Vec<u8>, AllocError>
-    // Its arrows stand for what the trace put, each for one thing: the law `each_put_has_its_arrow`.
+    // Its arrows stand for what the trace put, each for one thing: the laws of `laws.rt`.
     ensures { IfOk result (λ text. Draws (arrows_of homes.now events.now trace.now) text.items) }
 {
     let arrows = ordered_arrows(alloc, homes, events, trace)?;

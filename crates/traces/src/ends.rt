@@ -160,7 +160,7 @@ fn put_links_below(text: &mut Text, trace: &Trace, count: usize, i: usize) -> Re
 }
 
 // The first messages of a link, at most n.
-#[tactic(auto, unfolding(crate::specs::Ends::link_lines), using(crate::proofs::Growing::first_more, crate::proofs::Growing::first_all))]
+#[tactic(auto, unfolding(crate::specs::Ends::link_lines), using(crate::proofs::Growing::firsts))]
 fn put_link(
     text: &mut Text,
     trace: &Trace,

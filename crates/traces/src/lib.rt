@@ -7,6 +7,7 @@ mod drawings;
 mod ends;
 mod event_lines;
 mod lanes;
+mod laws;
 mod marks;
 mod passings;
 mod pictures;
@@ -15,6 +16,6 @@ mod strokes;
 mod texts;
 mod words;
 
-pub use arrows::each_put_has_its_arrow;
 pub use drawings::draw;
+pub use laws::{each_put_has_its_arrow, each_put_of_a_run_has_one_arrow, each_way_is_drawn_once};
 pub use printing::print_trace;

@@ -2,7 +2,7 @@ use Rattle.std.proofs.Common.{length}
 use Rattle.traces.specs.Passings.{puts_of, takes_of, row_after_all}
 use Rattle.traces.specs.Arrows.{arrows_among, arrows_of, ways_of}
 use Rattle.traces.proofs.ArrowLaws.{laid_from_puts}
-use Rattle.traces.proofs.arrows.each_put_has_its_arrow.Goals as goal
+use Rattle.traces.proofs.laws.each_put_has_its_arrow.Goals as goal
 
 pub returns : goal.returns
 unfolding arrows_of arrows_among

@@ -1,0 +1,374 @@
+-- A run puts things on ways of its picture alone: so each of them has one arrow.
+use Rattle.std.proofs.Common.{◌≡◌, ℕ, zero, suc, ◌<◌, ◌≤◌, true, ◌&&◌, List, [], ◌∷◌, ◌++◌, length, Option, Some, None}
+use Rattle.std.proofs.Common.{refl, ap, sym, ◌∙◌, subst, arith}
+use Rattle.std.specs.Prelude.{map, slice_get, IsPermutation}
+use Rattle.std.specs.List.{AllByRecursion}
+use Rattle.std.proofs.lemmas.Bool.{and_parts, cond_both}
+use Rattle.std.proofs.lemmas.List.{take_all}
+use Rattle.std.proofs.lemmas.Option.{same_Some}
+use Rattle.table.specs.declared.operations.Call.{Call}
+use Rattle.table.specs.declared.operations.Reply.{Reply}
+use Rattle.node.specs.declared.messages.Peer.{Peer}
+use Rattle.node.specs.declared.messages.Input.{Input}
+use Rattle.node.specs.declared.messages.Input.TheVariants.{Call as Called, From, Gone}
+use Rattle.node.specs.declared.messages.Output.{Output}
+use Rattle.node.specs.declared.messages.Output.TheVariants.{To, Reply as Answered}
+use Rattle.node.specs.Lawful.{IsLawful, AreToOthers}
+use Rattle.node.specs.Steps.{step}
+use Rattle.node.specs.Views.{union, single}
+use Rattle.node.proofs.Addresses.{others_taken_in}
+use Rattle.proto.specs.Turns.{Faulty, Calls}
+use Rattle.proto.specs.Sessions.{Given}
+use Rattle.world.specs.declared.connections.Stage.{Stage}
+use Rattle.world.specs.declared.connections.Stage.TheVariants.{Idle, Begun, Asked, Replied}
+use Rattle.world.specs.declared.deeds.Deed.{Deed}
+use Rattle.world.specs.declared.deeds.Deed.TheVariants.{Nothing, Came, Failed}
+use Rattle.world.specs.declared.events.Event.{Event}
+use Rattle.world.specs.declared.events.Event.TheVariants.{Piece, Begin, Work, Deliver, Fail, Tell, Hand}
+use Rattle.world.specs.Awaited.{AreAwaited}
+use Rattle.world.specs.Connections.{Connection, fresh, came, begun_by, past_faults, begun, to_work, open_call, asked}
+use Rattle.world.specs.Connections.{may_have, replied, handed, changed_at}
+use Rattle.world.specs.Deeds.{piece_deed, begin_deed, hand_deed, deed_at, took, call_deed, work_deed, deliver_deed}
+use Rattle.world.specs.Deeds.{deed, deeds_from, deeds_of, trace_of}
+use Rattle.world.specs.Worlds.{World, server, link, with_server, with_link, with_connection, opening_world, lives}
+use Rattle.world.specs.Worlds.{has_failed, put, put_all, takes, where_home_lives, sent_in, worked, delivered, happens}
+use Rattle.world.specs.Worlds.{run_from, run_of}
+use Rattle.world.proofs.trace.Traces.{Traced, count}
+use Rattle.world.proofs.trace.IdLaws.{living_parts}
+use Rattle.world.proofs.trace.Outsets.{count_outset}
+use Rattle.world.proofs.moments.Moments.{run-append}
+use Rattle.world.proofs.order.OneOrder.{all}
+use Rattle.world.proofs.shown.Awaiting.{works_awaited, delivers_awaited, tells_awaited}
+use Rattle.traces.specs.declared.passings.Passing.{Passing}
+use Rattle.traces.specs.Passings.{call_put, output_put, puts_by, puts_from, puts_of, row_after}
+use Rattle.traces.specs.Arrows.{IsOnWay, arrows_of}
+use Rattle.traces.proofs.WayLaws.{each_has_one}
+
+-- ---- no event changes a connection's home
+
+abbrev homes_of : List Connection → List ℕ
+homes_of ks = map (λ k. k.home) ks
+
+home_at : (ks : List Connection) (c : ℕ) (k : Connection)
+    → slice_get ks c ≡ Some k
+    → slice_get (homes_of ks) c ≡ Some k.home
+home_at [] zero k here = absurd cc
+home_at [] (suc c) k here = absurd cc
+home_at (l ∷ ks) zero k here = ap (λ (x : Connection). Some x.home) (same_Some l k here)
+home_at (l ∷ ks) (suc c) k here = home_at ks c k here
+
+fresh_homes : (homes : List ℕ) → homes_of (map fresh homes) ≡ homes
+fresh_homes [] = refl
+fresh_homes (home ∷ homes) = ap (λ hs. home ∷ hs) (fresh_homes homes)
+
+changed_homes : (ks : List Connection) (c : ℕ) (change : Connection → Connection)
+    → ((k : Connection) → (change k).home ≡ k.home)
+    → homes_of (changed_at ks c change) ≡ homes_of ks
+changed_homes [] c change keeps = refl
+changed_homes (k ∷ ks) zero change keeps = ap (λ h. h ∷ homes_of ks) (keeps k)
+changed_homes (k ∷ ks) (suc c) change keeps = ap (λ hs. k.home ∷ hs) (changed_homes ks c change keeps)
+
+connection_homes : (w : World) (c : ℕ) (change : Connection → Connection)
+    → ((k : Connection) → (change k).home ≡ k.home)
+    → homes_of (with_connection w c change).connections ≡ homes_of w.connections
+unfolding with_connection
+connection_homes w c change keeps = changed_homes w.connections c change keeps
+
+replied_home : (s : Stage) (reply : Reply) (k : Connection) → (replied s reply k).home ≡ k.home
+replied_home Idle reply k = refl
+replied_home Begun reply k = refl
+replied_home Asked reply k =
+    cond_both (may_have (open_call k) reply) (record k { stage = Replied reply }) k
+    (λ (l : Connection). l.home ≡ k.home) (λ t. refl) (λ f. refl)
+replied_home (Replied first) reply k = refl
+
+begun_by_home : (g : Given) (k : Connection) → (begun_by g k).home ≡ k.home
+begun_by_home (None, left) k = refl
+begun_by_home (Some (Faulty fault), left) k = refl
+begun_by_home (Some (Calls call form), left) k = refl
+
+begun_home : (s : Stage) (k : Connection) → (begun s k).home ≡ k.home
+begun_home Idle k = begun_by_home (past_faults k.session) k
+begun_home Begun k = refl
+begun_home Asked k = refl
+begun_home (Replied reply) k = refl
+
+handed_home : (s : Stage) (k : Connection) → (handed s k).home ≡ k.home
+handed_home Idle k = refl
+handed_home Begun k = refl
+handed_home Asked k = refl
+handed_home (Replied reply) k = refl
+
+-- at a home that lives or not
+there_home : (w : World) (change : Connection → Connection)
+    → ((k : Connection) → (change k).home ≡ k.home)
+    → (k : Connection)
+    → (where_home_lives w change k).home ≡ k.home
+there_home w change keeps k =
+    cond_both (lives w k.home) (change k) k (λ (l : Connection). l.home ≡ k.home) (λ t. keeps k) (λ f. refl)
+
+put_homes : (w : World) (i : ℕ) (o : Output) → homes_of (put w i o).connections ≡ homes_of w.connections
+unfolding with_link
+put_homes w i (To j peer) = refl
+put_homes w i (Answered c reply) =
+    connection_homes w c (λ k. replied k.stage reply k) (λ k. replied_home k.stage reply k)
+
+put_all_homes : (w : World) (i : ℕ) (os : List Output)
+    → homes_of (put_all w i os).connections ≡ homes_of w.connections
+unfolding put_all
+put_all_homes w i [] = refl
+put_all_homes w i (o ∷ os) = put_all_homes (put w i o) i os ∙ put_homes w i o
+
+takes_homes : (w : World) (i : ℕ) (input : Input) → homes_of (takes w i input).connections ≡ homes_of w.connections
+unfolding with_server
+takes_homes w i input =
+    put_all_homes (with_server w i (step (server w i) input).state) i (step (server w i) input).outputs
+
+sent_homes : (w : World) (c home : ℕ) (o : Option Call)
+    → homes_of (sent_in w c home o).connections ≡ homes_of w.connections
+sent_homes w c home None = refl
+sent_homes w c home (Some call) =
+    takes_homes (with_connection w c asked) home (Called c call) ∙ connection_homes w c asked (λ k. refl)
+
+worked_homes : (w : World) (c : ℕ) (o : Option Connection)
+    → homes_of (worked w c o).connections ≡ homes_of w.connections
+worked_homes w c None = refl
+worked_homes w c (Some k) =
+    cond_both (lives w k.home) (sent_in w c k.home (to_work k.stage k)) w
+    (λ (v : World). homes_of v.connections ≡ homes_of w.connections)
+    (λ t. sent_homes w c k.home (to_work k.stage k)) (λ f. refl)
+
+link_homes : (w : World) (i j : ℕ) (ms : List Peer)
+    → homes_of (with_link w i j ms).connections ≡ homes_of w.connections
+unfolding with_link
+link_homes w i j ms = refl
+
+delivered_homes : (w : World) (i j : ℕ) (ms : List Peer)
+    → homes_of (delivered w i j ms).connections ≡ homes_of w.connections
+delivered_homes w i j [] = refl
+delivered_homes w i j (m ∷ ms) =
+    cond_both (lives w j) (takes (with_link w i j ms) j (From i m)) w
+    (λ (v : World). homes_of v.connections ≡ homes_of w.connections)
+    (λ t. takes_homes (with_link w i j ms) j (From i m) ∙ link_homes w i j ms) (λ f. refl)
+
+happens_homes : (w : World) (e : Event) → homes_of (happens w e).connections ≡ homes_of w.connections
+happens_homes w (Piece c bytes) =
+    connection_homes w c (where_home_lives w (came bytes)) (there_home w (came bytes) (λ k. refl))
+happens_homes w (Begin c) =
+    connection_homes w c (where_home_lives w (λ k. begun k.stage k))
+    (there_home w (λ k. begun k.stage k) (λ k. begun_home k.stage k))
+happens_homes w (Work c) = worked_homes w c (slice_get w.connections c)
+happens_homes w (Deliver i j) = delivered_homes w i j (link w i j)
+happens_homes w (Fail i) =
+    cond_both (lives w i) (record w { failed = union w.failed (single i) }) w
+    (λ (v : World). homes_of v.connections ≡ homes_of w.connections) (λ t. refl) (λ f. refl)
+happens_homes w (Tell i j) =
+    cond_both (lives w i && has_failed w j) (takes w i (Gone j)) w
+    (λ (v : World). homes_of v.connections ≡ homes_of w.connections) (λ t. takes_homes w i (Gone j)) (λ f. refl)
+happens_homes w (Hand c) =
+    connection_homes w c (where_home_lives w (λ k. handed k.stage k))
+    (there_home w (λ k. handed k.stage k) (λ k. handed_home k.stage k))
+
+run_homes : (w : World) (es : List Event) → homes_of (run_from w es).connections ≡ homes_of w.connections
+run_homes w [] = refl
+run_homes w (e ∷ es) = run_homes (happens w e) es ∙ happens_homes w e
+
+-- ---- one server's outputs
+
+all_append : {X : Type 0} (P : X → Type 0) (xs ys : List X)
+    → AllByRecursion P xs
+    → AllByRecursion P ys
+    → AllByRecursion P (xs ++ ys)
+all_append P [] ys all more = more
+all_append P (x ∷ xs) ys all more = (all.0, all_append P xs ys all.1 more)
+
+outputs_on : (n : ℕ) (homes : List ℕ) (row i id : ℕ) (ks : List Connection) (os : List Output)
+    → homes_of ks ≡ homes
+    → i < n
+    → AreAwaited ks i os
+    → AreToOthers id n os
+    → AllByRecursion (IsOnWay n homes) (map (output_put row i) os)
+outputs_on n homes row i id ks [] same low awaited others = tt
+outputs_on n homes row i id ks (To j peer ∷ os) same low awaited others =
+    ((low, others.0.0), outputs_on n homes row i id ks os same low awaited others.1)
+outputs_on n homes row i id ks (Answered c reply ∷ os) same low awaited others =
+    let here = home_at ks c awaited.0.connection awaited.0.here in
+    (subst (λ hs. slice_get hs c ≡ Some i) same
+    (subst (λ h. slice_get (homes_of ks) c ≡ Some h) awaited.0.home here),
+    outputs_on n homes row i id (changed_at ks c (λ k. replied k.stage reply k)) os
+    (changed_homes ks c (λ k. replied k.stage reply k) (λ k. replied_home k.stage reply k) ∙ same) low awaited.1
+    others.1)
+
+-- ---- an event of a run
+
+module _ (n : ℕ) (homes : List ℕ) (few : n ≤ 16) (events : List Event) where
+  abbrev now : World
+  now = run_of n homes events
+
+  abbrev last : Traced
+  last = (all n homes events few).at (length events)
+
+  is_now : last.world ≡ now
+  is_now = (all n homes events few).world (length events)
+      ∙ ap (run_of n homes) (take_all (length events) events (omega arith))
+
+  last_count : count last ≡ n
+  last_count = ((all n homes events few).goes 0 (length events) (omega arith) None).later.count
+      ∙ ap count (all n homes events few).start ∙ count_outset n homes
+
+  abbrev IsPlaced : World → Type 0
+  IsPlaced w = (i : ℕ) → lives w i ≡ true
+      → (i < n) × ((server w i).count ≡ n) × IsLawful (server w i)
+
+  -- a living server is one of the chain, and lawful
+  placed : IsPlaced now
+  placed = subst IsPlaced is_now (λ i living.
+      let low : i < count last = (living_parts last.world i living).0 in
+      (subst (λ m. i < m) last_count low,
+      ((all n homes events few).lawful (length events)).framed.chain i low ∙ last_count,
+      (all n homes events few).all (length events) i low))
+
+  now_homes : homes_of now.connections ≡ homes
+  now_homes = run_homes (opening_world n homes) events ∙ fresh_homes homes
+
+  -- what a deed puts is on ways
+  abbrev On : ℕ → Deed → Type 0
+  On row d = AllByRecursion (IsOnWay n homes) (puts_by row d)
+
+  others : (i : ℕ) (input : Input)
+      → lives now i ≡ true
+      → AreToOthers (server now i).id n (step (server now i) input).outputs
+  others i input living =
+      let p = placed i living in
+      subst (λ m. AreToOthers (server now i).id m (step (server now i) input).outputs) p.1
+      (others_taken_in (server now i) input p.2.sound p.2.settled)
+
+  took_on : (row i : ℕ) (input : Input) (ks : List Connection)
+      → homes_of ks ≡ homes
+      → lives now i ≡ true
+      → AllByRecursion (IsOnWay n homes) (call_put row i input)
+      → AreAwaited ks i (step (server now i) input).outputs
+      → On row (took now i input)
+  unfolding puts_by
+  took_on row i input ks same living called awaited =
+      all_append (IsOnWay n homes) (call_put row i input) (map (output_put row i) (step (server now i) input).outputs)
+      called
+      (outputs_on n homes row i (server now i).id ks (step (server now i) input).outputs same (placed i living).0
+      awaited (others i input living))
+
+  nothing_on : (row : ℕ) → On row Nothing
+  unfolding puts_by
+  nothing_on row = tt
+
+  piece_on : (row : ℕ) (k : Connection) → On row (piece_deed k)
+  unfolding puts_by
+  piece_on row k = cond_both k.session.closed Nothing Came (On row) (λ t. tt) (λ f. tt)
+
+  begin_on : (row : ℕ) (s : Stage) (k : Connection) → On row (begin_deed s k)
+  unfolding puts_by
+  begin_on row Idle k = tt
+  begin_on row Begun k = tt
+  begin_on row Asked k = tt
+  begin_on row (Replied reply) k = tt
+
+  hand_on : (row : ℕ) (s : Stage) (k : Connection) → On row (hand_deed s k)
+  unfolding puts_by
+  hand_on row Idle k = tt
+  hand_on row Begun k = tt
+  hand_on row Asked k = tt
+  hand_on row (Replied reply) k = tt
+
+  fail_on : (row i : ℕ) → On row (deed now (Fail i))
+  unfolding puts_by
+  fail_on row i = cond_both (lives now i) Failed Nothing (On row) (λ t. tt) (λ f. tt)
+
+  there_on : (row : ℕ) (does : Connection → Deed) (o : Option Connection)
+      → ((k : Connection) → On row (does k))
+      → On row (deed_at now does o)
+  there_on row does None each = nothing_on row
+  there_on row does (Some k) each =
+      cond_both (lives now k.home) (does k) Nothing (On row) (λ t. each k) (λ f. nothing_on row)
+
+  -- a call goes from its connection to its home
+  call_on : (row c : ℕ) (k : Connection) (o : Option Call)
+      → slice_get now.connections c ≡ Some k
+      → lives now k.home ≡ true
+      → to_work k.stage k ≡ o
+      → On row (call_deed now c k.home o)
+  unfolding with_connection server
+  call_on row c k None here living work = nothing_on row
+  call_on row c k (Some call) here living work =
+      took_on row k.home (Called c call) (with_connection now c asked).connections
+      (connection_homes now c asked (λ l. refl) ∙ now_homes) living
+      (subst (λ hs. slice_get hs c ≡ Some k.home) now_homes (home_at now.connections c k here), tt)
+      (works_awaited n homes events few c k call here living work)
+
+  work_on : (row c : ℕ) (o : Option Connection) → slice_get now.connections c ≡ o → On row (work_deed now c o)
+  work_on row c None here = nothing_on row
+  work_on row c (Some k) here =
+      cond_both (lives now k.home) (call_deed now c k.home (to_work k.stage k)) Nothing (On row)
+      (λ living. call_on row c k (to_work k.stage k) here living refl) (λ f. nothing_on row)
+
+  deliver_on : (row i j : ℕ) (ms : List Peer) → link now i j ≡ ms → On row (deliver_deed now i j ms)
+  deliver_on row i j [] here = nothing_on row
+  deliver_on row i j (m ∷ ms) here =
+      cond_both (lives now j) (took now j (From i m)) Nothing (On row)
+      (λ living. took_on row j (From i m) now.connections now_homes living tt
+      (delivers_awaited n homes events few i j m ms here living))
+      (λ f. nothing_on row)
+
+  tell_on : (row i j : ℕ) → On row (deed now (Tell i j))
+  tell_on row i j =
+      cond_both (lives now i && has_failed now j) (took now i (Gone j)) Nothing (On row)
+      (λ both.
+      let p = and_parts (lives now i) (has_failed now j) both in
+      took_on row i (Gone j) now.connections now_homes p.0 tt (tells_awaited n homes events few i j p.0 p.1))
+      (λ f. nothing_on row)
+
+  deed_on : (row : ℕ) (e : Event) → On row (deed now e)
+  deed_on row (Piece c bytes) = there_on row piece_deed (slice_get now.connections c) (piece_on row)
+  deed_on row (Begin c) =
+      there_on row (λ k. begin_deed k.stage k) (slice_get now.connections c) (λ k. begin_on row k.stage k)
+  deed_on row (Work c) = work_on row c (slice_get now.connections c) refl
+  deed_on row (Deliver i j) = deliver_on row i j (link now i j) refl
+  deed_on row (Fail i) = fail_on row i
+  deed_on row (Tell i j) = tell_on row i j
+  deed_on row (Hand c) =
+      there_on row (λ k. hand_deed k.stage k) (slice_get now.connections c) (λ k. hand_on row k.stage k)
+
+-- ---- a run
+
+after_one : (n : ℕ) (homes : List ℕ) (before : List Event) (e : Event)
+    → run_of n homes (before ++ e ∷ []) ≡ happens (run_of n homes before) e
+after_one n homes before e = run-append before (e ∷ []) (opening_world n homes)
+
+-- the events after some first ones
+rest_on : (n : ℕ) (homes : List ℕ) (few : n ≤ 16) (row : ℕ) (before events : List Event)
+    → AllByRecursion (IsOnWay n homes) (puts_from row (deeds_from (run_of n homes before) events))
+rest_on n homes few row before [] = tt
+rest_on n homes few row before (e ∷ es) =
+    let d = deed (run_of n homes before) e in
+    all_append (IsOnWay n homes) (puts_by row d)
+    (puts_from (row_after row d) (deeds_from (happens (run_of n homes before) e) es))
+    (deed_on n homes few before row e)
+    (subst (λ w. AllByRecursion (IsOnWay n homes) (puts_from (row_after row d) (deeds_from w es)))
+    (after_one n homes before e) (rest_on n homes few (row_after row d) (before ++ e ∷ []) es))
+
+run_on : (n : ℕ) (homes : List ℕ) (events : List Event)
+    → n ≤ 16
+    → AllByRecursion (IsOnWay n homes) (puts_of (deeds_of n homes events))
+run_on n homes events few = rest_on n homes few 0 [] events
+
+run_count : (n : ℕ) (homes : List ℕ) (events : List Event) → n ≤ 16 → length (run_of n homes events).servers ≡ n
+run_count n homes events few =
+    ap (λ (w : World). length w.servers) (sym (is_now n homes few events)) ∙ last_count n homes few events
+
+-- the arrows of its picture stand for all that it put, each for one thing
+pub each_of_run : (n : ℕ) (homes : List ℕ) (events : List Event)
+    → n ≤ 16
+    → IsPermutation (puts_of (deeds_of n homes events))
+    (map (λ arrow. arrow.put) (arrows_of homes events (trace_of n homes events)))
+each_of_run n homes events few =
+    each_has_one homes events (trace_of n homes events)
+    (subst (λ m. AllByRecursion (IsOnWay m homes) (puts_of (deeds_of n homes events)))
+    (sym (run_count n homes events few)) (run_on n homes events few))
