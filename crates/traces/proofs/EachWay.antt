@@ -50,7 +50,7 @@ calls_later : {X : Type 0} (c h : ℕ) (xs : List X) (k : ℕ) (homes : List ℕ
 calls_later c h xs k [] less = refl
 calls_later c h xs k (home ∷ homes) less =
     ap (λ (t : Bool). (if t && nat_eq home h then xs else [])
-        ++ hits (from_to (Connection c) (Server h)) xs (calls_from (k + 1) homes))
+    ++ hits (from_to (Connection c) (Server h)) xs (calls_from (k + 1) homes))
     (ne_eqb k c (λ same. omega (arith, same, less)))
     ∙ calls_later c h xs (k + 1) homes (omega (arith, less))
 
@@ -63,16 +63,16 @@ calls_hit k zero c h xs [] sum found = absurd cc
 calls_hit k (suc m) c h xs [] sum found = absurd cc
 calls_hit k zero c h xs (home ∷ homes) sum found =
     ap (λ (t : Bool). (if t && nat_eq home h then xs else [])
-        ++ hits (from_to (Connection c) (Server h)) xs (calls_from (k + 1) homes))
+    ++ hits (from_to (Connection c) (Server h)) xs (calls_from (k + 1) homes))
     (eq-eqb k c (omega (arith, sum)))
     ∙ ap (λ (t : Bool). (if t then xs else [])
-        ++ hits (from_to (Connection c) (Server h)) xs (calls_from (k + 1) homes))
+    ++ hits (from_to (Connection c) (Server h)) xs (calls_from (k + 1) homes))
     (eq-eqb home h (same_Some home h found))
     ∙ ap (λ rest. xs ++ rest) (calls_later c h xs (k + 1) homes (omega (arith, sum)))
     ∙ append-nil xs
 calls_hit k (suc m) c h xs (home ∷ homes) sum found =
     ap (λ (t : Bool). (if t && nat_eq home h then xs else [])
-        ++ hits (from_to (Connection c) (Server h)) xs (calls_from (k + 1) homes))
+    ++ hits (from_to (Connection c) (Server h)) xs (calls_from (k + 1) homes))
     (ne_eqb k c (λ same. omega (arith, same, sum)))
     ∙ calls_hit (k + 1) m c h xs homes (omega (arith, sum)) found
 
@@ -87,7 +87,7 @@ replies_to_servers : {X : Type 0} (i j : ℕ) (xs : List X) (k : ℕ) (homes : L
 replies_to_servers i j xs k [] = refl
 replies_to_servers i j xs k (home ∷ homes) =
     ap (λ (t : Bool). (if t then xs else [])
-        ++ hits (from_to (Server i) (Server j)) xs (replies_from (k + 1) homes))
+    ++ hits (from_to (Server i) (Server j)) xs (replies_from (k + 1) homes))
     (and_right (nat_eq home i) false refl)
     ∙ replies_to_servers i j xs (k + 1) homes
 
@@ -97,10 +97,10 @@ replies_later : {X : Type 0} (c h : ℕ) (xs : List X) (k : ℕ) (homes : List �
 replies_later c h xs k [] less = refl
 replies_later c h xs k (home ∷ homes) less =
     ap (λ (t : Bool). (if nat_eq home h && t then xs else [])
-        ++ hits (from_to (Server h) (Connection c)) xs (replies_from (k + 1) homes))
+    ++ hits (from_to (Server h) (Connection c)) xs (replies_from (k + 1) homes))
     (ne_eqb k c (λ same. omega (arith, same, less)))
     ∙ ap (λ (t : Bool). (if t then xs else [])
-        ++ hits (from_to (Server h) (Connection c)) xs (replies_from (k + 1) homes))
+    ++ hits (from_to (Server h) (Connection c)) xs (replies_from (k + 1) homes))
     (and_right (nat_eq home h) false refl)
     ∙ replies_later c h xs (k + 1) homes (omega (arith, less))
 
@@ -113,19 +113,19 @@ replies_hit k zero c h xs [] sum found = absurd cc
 replies_hit k (suc m) c h xs [] sum found = absurd cc
 replies_hit k zero c h xs (home ∷ homes) sum found =
     ap (λ (t : Bool). (if t && nat_eq k c then xs else [])
-        ++ hits (from_to (Server h) (Connection c)) xs (replies_from (k + 1) homes))
+    ++ hits (from_to (Server h) (Connection c)) xs (replies_from (k + 1) homes))
     (eq-eqb home h (same_Some home h found))
     ∙ ap (λ (t : Bool). (if t then xs else [])
-        ++ hits (from_to (Server h) (Connection c)) xs (replies_from (k + 1) homes))
+    ++ hits (from_to (Server h) (Connection c)) xs (replies_from (k + 1) homes))
     (eq-eqb k c (omega (arith, sum)))
     ∙ ap (λ rest. xs ++ rest) (replies_later c h xs (k + 1) homes (omega (arith, sum)))
     ∙ append-nil xs
 replies_hit k (suc m) c h xs (home ∷ homes) sum found =
     ap (λ (t : Bool). (if nat_eq home h && t then xs else [])
-        ++ hits (from_to (Server h) (Connection c)) xs (replies_from (k + 1) homes))
+    ++ hits (from_to (Server h) (Connection c)) xs (replies_from (k + 1) homes))
     (ne_eqb k c (λ same. omega (arith, same, sum)))
     ∙ ap (λ (t : Bool). (if t then xs else [])
-        ++ hits (from_to (Server h) (Connection c)) xs (replies_from (k + 1) homes))
+    ++ hits (from_to (Server h) (Connection c)) xs (replies_from (k + 1) homes))
     (and_right (nat_eq home h) false refl)
     ∙ replies_hit (k + 1) m c h xs homes (omega (arith, sum)) found
 
@@ -170,7 +170,7 @@ row_other : {X : Type 0} (i j : ℕ) (xs : List X) (k : ℕ) (ns : List ℕ)
 row_other i j xs k [] other = refl
 row_other i j xs k (n ∷ ns) other =
     ap (λ (t : Bool). (if t && nat_eq n j then xs else [])
-        ++ hits (from_to (Server i) (Server j)) xs (map (link_way k) ns)) other
+    ++ hits (from_to (Server i) (Server j)) xs (map (link_way k) ns)) other
     ∙ row_other i j xs k ns other
 
 row_later : {X : Type 0} (i j : ℕ) (xs : List X) (k a n : ℕ)
@@ -179,10 +179,10 @@ row_later : {X : Type 0} (i j : ℕ) (xs : List X) (k a n : ℕ)
 row_later i j xs k a zero less = refl
 row_later i j xs k a (suc n) less =
     ap (λ (t : Bool). (if nat_eq k i && t then xs else [])
-        ++ hits (from_to (Server i) (Server j)) xs (map (link_way k) (range_with_len (a + 1) n)))
+    ++ hits (from_to (Server i) (Server j)) xs (map (link_way k) (range_with_len (a + 1) n)))
     (ne_eqb a j (λ same. omega (arith, same, less)))
     ∙ ap (λ (t : Bool). (if t then xs else [])
-        ++ hits (from_to (Server i) (Server j)) xs (map (link_way k) (range_with_len (a + 1) n)))
+    ++ hits (from_to (Server i) (Server j)) xs (map (link_way k) (range_with_len (a + 1) n)))
     (and_right (nat_eq k i) false refl)
     ∙ row_later i j xs k (a + 1) n (omega (arith, less))
 
@@ -193,19 +193,19 @@ row_hit : {X : Type 0} (i j : ℕ) (xs : List X) (a m n : ℕ)
 row_hit i j xs a m zero sum less = absurd (omega (arith, less))
 row_hit i j xs a zero (suc n) sum less =
     ap (λ (t : Bool). (if t && nat_eq a j then xs else [])
-        ++ hits (from_to (Server i) (Server j)) xs (map (link_way i) (range_with_len (a + 1) n)))
+    ++ hits (from_to (Server i) (Server j)) xs (map (link_way i) (range_with_len (a + 1) n)))
     (eq-eqb i i refl)
     ∙ ap (λ (t : Bool). (if t then xs else [])
-        ++ hits (from_to (Server i) (Server j)) xs (map (link_way i) (range_with_len (a + 1) n)))
+    ++ hits (from_to (Server i) (Server j)) xs (map (link_way i) (range_with_len (a + 1) n)))
     (eq-eqb a j (omega (arith, sum)))
     ∙ ap (λ rest. xs ++ rest) (row_later i j xs i (a + 1) n (omega (arith, sum)))
     ∙ append-nil xs
 row_hit i j xs a (suc m) (suc n) sum less =
     ap (λ (t : Bool). (if nat_eq i i && t then xs else [])
-        ++ hits (from_to (Server i) (Server j)) xs (map (link_way i) (range_with_len (a + 1) n)))
+    ++ hits (from_to (Server i) (Server j)) xs (map (link_way i) (range_with_len (a + 1) n)))
     (ne_eqb a j (λ same. omega (arith, same, sum)))
     ∙ ap (λ (t : Bool). (if t then xs else [])
-        ++ hits (from_to (Server i) (Server j)) xs (map (link_way i) (range_with_len (a + 1) n)))
+    ++ hits (from_to (Server i) (Server j)) xs (map (link_way i) (range_with_len (a + 1) n)))
     (and_right (nat_eq i i) false refl)
     ∙ row_hit i j xs (a + 1) m n (omega (arith, sum)) (omega (arith, less))
 
@@ -218,7 +218,7 @@ rows_later i j xs count a (suc n) less =
     hits_append (from_to (Server i) (Server j)) xs (links_from count a)
     (flat_map (links_from count) (range_with_len (a + 1) n))
     ∙ ap (λ front. front
-        ++ hits (from_to (Server i) (Server j)) xs (flat_map (links_from count) (range_with_len (a + 1) n)))
+    ++ hits (from_to (Server i) (Server j)) xs (flat_map (links_from count) (range_with_len (a + 1) n)))
     (row_other i j xs a (first_numbers count) (ne_eqb a i (λ same. omega (arith, same, less))))
     ∙ rows_later i j xs count (a + 1) n (omega (arith, less))
 
@@ -235,7 +235,7 @@ rows_hit i j xs count a zero (suc n) sum less within =
     hits_append (from_to (Server i) (Server j)) xs (links_from count a)
     (flat_map (links_from count) (range_with_len (a + 1) n))
     ∙ ap (λ front. front
-        ++ hits (from_to (Server i) (Server j)) xs (flat_map (links_from count) (range_with_len (a + 1) n)))
+    ++ hits (from_to (Server i) (Server j)) xs (flat_map (links_from count) (range_with_len (a + 1) n)))
     (ap (λ k. hits (from_to (Server i) (Server j)) xs (map (link_way k) (first_numbers count))) same
     ∙ row_hit i j xs 0 j count (omega arith) within)
     ∙ ap (λ rest. xs ++ rest) (rows_later i j xs count (a + 1) n (omega (arith, sum)))
@@ -244,7 +244,7 @@ rows_hit i j xs count a (suc m) (suc n) sum less within =
     hits_append (from_to (Server i) (Server j)) xs (links_from count a)
     (flat_map (links_from count) (range_with_len (a + 1) n))
     ∙ ap (λ front. front
-        ++ hits (from_to (Server i) (Server j)) xs (flat_map (links_from count) (range_with_len (a + 1) n)))
+    ++ hits (from_to (Server i) (Server j)) xs (flat_map (links_from count) (range_with_len (a + 1) n)))
     (row_other i j xs a (first_numbers count) (ne_eqb a i (λ same. omega (arith, same, sum))))
     ∙ rows_hit i j xs count (a + 1) m n (omega (arith, sum)) (omega (arith, less)) within
 

@@ -43,8 +43,8 @@ all_append : {X : Type 0} (P : X → Type 0) (xs ys : List X)
     → AllByRecursion P xs
     → AllByRecursion P ys
     → AllByRecursion P (xs ++ ys)
-all_append P [] ys all more = more
-all_append P (x ∷ xs) ys all more = (all.0, all_append P xs ys all.1 more)
+all_append P [] ys first more = more
+all_append P (x ∷ xs) ys first more = (first.0, all_append P xs ys first.1 more)
 
 outputs_on : (n : ℕ) (homes : List ℕ) (row i id : ℕ) (ks : List Connection) (os : List Output)
     → homes_of ks ≡ homes
@@ -56,12 +56,13 @@ outputs_on n homes row i id ks [] same low awaited others = tt
 outputs_on n homes row i id ks (To j peer ∷ os) same low awaited others =
     ((low, others.0.0), outputs_on n homes row i id ks os same low awaited others.1)
 outputs_on n homes row i id ks (Answered c reply ∷ os) same low awaited others =
-    let here = home_at ks c awaited.0.connection awaited.0.here in
-    (subst (λ hs. slice_get hs c ≡ Some i) same
-    (subst (λ h. slice_get (homes_of ks) c ≡ Some h) awaited.0.home here),
-    outputs_on n homes row i id (changed_at ks c (λ k. replied k.stage reply k)) os
-    (changed_homes ks c (λ k. replied k.stage reply k) (λ k. replied_home k.stage reply k) ∙ same) low awaited.1
-    others.1)
+    let here = home_at ks c awaited.0.connection awaited.0.here in (
+      subst (λ hs. slice_get hs c ≡ Some i) same
+          (subst (λ h. slice_get (homes_of ks) c ≡ Some h) awaited.0.home here),
+      outputs_on n homes row i id (changed_at ks c (λ k. replied k.stage reply k)) os
+          (changed_homes ks c (λ k. replied k.stage reply k) (λ k. replied_home k.stage reply k) ∙ same) low awaited.1
+          others.1,
+    )
 
 -- ---- an event of a run
 
@@ -87,10 +88,11 @@ module _ (n : ℕ) (homes : List ℕ) (few : n ≤ 16) (events : List Event) whe
   -- a living server is one of the chain, and lawful
   placed : IsPlaced now
   placed = subst IsPlaced is_now (λ i living.
-      let low : i < count last = (living_parts last.world i living).0 in
-      (subst (λ m. i < m) last_count low,
-      ((all n homes events few).lawful (length events)).framed.chain i low ∙ last_count,
-      (all n homes events few).all (length events) i low))
+      let low : i < count last = (living_parts last.world i living).0 in (
+        subst (λ m. i < m) last_count low,
+        ((all n homes events few).lawful (length events)).framed.chain i low ∙ last_count,
+        (all n homes events few).all (length events) i low,
+      ))
 
   now_homes : homes_of now.connections ≡ homes
   now_homes = run_homes (opening_world n homes) events ∙ fresh_homes homes
