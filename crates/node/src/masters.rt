@@ -52,7 +52,7 @@ impl Model for Master {
 }
 
 impl Master {
-    /// The master of a chain of so many servers, 1 to 16. It allocates nothing.
+    /// The master of a chain of `count` servers, 1 to 16. It allocates nothing.
     pub fn new(count: u8) -> Master
         requires chain { (1 ≤ count) × (count ≤ 16) }
         ensures { result ≡ record { count = count; gone = 0 } }
@@ -81,7 +81,7 @@ impl Master {
     }
 }
 
-// A notice (i, j) for each of so many servers that lives.
+// A notice (i, j) for each of `count` servers that lives.
 #[tactic(auto, using(crate::proofs::NoticeShapes::notices_within, crate::proofs::NoticeShapes::notices_past))]
 fn notices(alloc: Global, gone: View, j: u8, count: u8) -> Result<Vec<(u8, u8)>, MasterFault>
     requires chain { count ≤ 16 }

@@ -115,7 +115,7 @@ pub struct Gate {
 }
 
 impl Gate {
-    /// An empty inbox with room for so many messages.
+    /// An empty inbox with room for this many messages.
     pub fn new(alloc: Global, room: usize) -> Result<Gate, AllocError>
         requires { 0 < room }
         ensures { IfOk result (λ g. view g.pass ≡ taker 0 0 []) }

@@ -23,7 +23,7 @@ pub enum Wants {
     End(End),
 }
 
-/// So much output is written before a further call begins: 64 KiB.
+/// If this much output is due, it is written before a further call begins: 64 KiB.
 pub const OUTPUT: usize = 65_536;
 
 /// One client's connection. It is fed with what was read, says what it wants next, is handed the replies to its calls

@@ -14,7 +14,7 @@ pub total_low : (f g : ℕ → ℕ) (n : ℕ) → ((o : ℕ) → o < n → f o �
 total_low f g zero h = omega arith
 total_low f g (suc n) h = omega (arith, total_low f g n (λ o l. h o (omega (arith, l))), h n (omega arith))
 
--- where one is less by so much, the sum is
+-- if one is less by some number, so is the sum
 pub total_one : (f g : ℕ → ℕ) (n i : ℕ) → i < n → ((o : ℕ) → o < n → f o ≤ g o) → total f n + g i ≤ total g n + f i
 total_one f g zero i l h = absurd (omega (arith, l))
 total_one f g (suc n) i l h = elim (cases_eq i n) [
