@@ -64,7 +64,7 @@ impl Master {
     }
 
     /// Server `j` has failed. The notices (i, j) to give: one for each other server i that lives, in the order of their
-    /// ids; none where `j` was known to have failed already or isn't of the chain. Refused for want of memory, it
+    /// ids; none if `j` was known to have failed already or isn't of the chain. Refused if memory is out, it
     /// leaves the master as it was. At most 16 looks.
     pub fn gone(&mut self, alloc: Global, j: u8) -> Result<Vec<(u8, u8)>, MasterFault>
         ensures notices { IfOk result (λ given. given.items ≡ notices self.old j) }

@@ -106,7 +106,7 @@ impl View {
         None
     }
 
-    /// The greatest server outside it below this one, or `None` where there is none.
+    /// The greatest server outside it below this one, or `None` if there is none.
     #[tactic(auto, using(crate::proofs::ViewShapes::previous_more, crate::proofs::ViewShapes::previous_zero))]
     pub fn predecessor(self, i: u8) -> Option<u8>
         requires server { i ≤ 16 }

@@ -30,7 +30,7 @@ pub struct Server<R: Wait + Drop> {
 }
 
 /// Opens a server that begins as this node: a worker, a reader and a seat for each of n threads, at ports 0, 1
-/// and so on, and m inlets. Its node may hold items already. Refused with NoReader where its publisher could make
+/// and so on, and m inlets. Its node may hold items already. Refused with NoReader if its publisher could make
 /// no reader, and otherwise with Memory.
 pub fn open<R: Wait + Drop>(
     rt: R,

@@ -83,7 +83,7 @@ impl Connection {
         let _ = &self.session;
     }
 
-    /// Takes a piece of input, which is copied once. It may be fed where it wants to read. Refused if memory is out,
+    /// Takes a piece of input, which is copied once. It may be fed if it wants to read. Refused if memory is out,
     /// and then the piece counts as not read.
     pub fn feed(&mut self, piece: &[u8]) -> Result<(), AllocError>
         requires idle { self.old.waiting ≡ [] }

@@ -6,7 +6,7 @@ use std::process::Abort;
 use std::test::Fail;
 use world::Event;
 
-// The number of the first bad line, or 0 where there is none.
+// The number of the first bad line, or 0 if there is none.
 fn bad_line(alloc: Global, text: &[u8]) -> Result<u64, Fail> {
     match read_schedule(alloc, text) {
         Ok(_) => Ok(0),
