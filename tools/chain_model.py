@@ -3,7 +3,7 @@
 
 usage: tools/chain_model.py FILE
 
-It is written from docs/CHAIN.md, docs/PROTOCOL.md and docs/FORMATS.md alone, with their words: the schedule, the
+It is written from docs/DESIGN.md, docs/PROTOCOL.md and docs/FORMATS.md alone, with their words: the schedule, the
 protocol, the operations, one server of the chain, a connection, the world of all of them, the transcript.
 tools/random_schedules compares the program with it.
 """
@@ -283,7 +283,7 @@ def decide_counted(item, upwards, amount, number):
     return value, Item(item.flags, value, number)
 
 
-# One server of the chain (CHAIN.md). It keeps its whole log.
+# One server of the chain (DESIGN.md, "The chain"). It keeps its whole log.
 
 class Entry(NamedTuple):
     number: int
@@ -619,7 +619,7 @@ class Connection:
         return self.call is not None and not self.is_worked or self.reply is not None
 
 
-# The world: servers, links and connections (CHAIN.md, "How a world joins servers"). Each event is a method.
+# The world: servers, links and connections (DESIGN.md, "The model"). Each event is a method.
 
 class World:
     def __init__(self, count, homes):

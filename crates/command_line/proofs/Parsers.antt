@@ -144,7 +144,7 @@ module _ (parser : Command) (words : List (List ℕ)) (same : app_of parser ≡ 
   parse_refused (Err e) kinds =
       refused-by parser words (kind_of e) same (kinds (ap is_simple_and_free same ∙ program_is_free))
 
--- an error of the kind for a version comes where the account finds it
+-- an error of the kind for a version comes if the account finds it
 pub version_asked : (kinds : List ErrorKind) (kind : ErrorKind)
     → IsRefusedFor kinds kind
     → kind ≡ DisplayVersion

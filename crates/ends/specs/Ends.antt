@@ -12,13 +12,13 @@ passed (Err e) bytes = []
 abbrev pub is_none_of : ℕ → List ℕ → Bool
 is_none_of n bytes = n == 0 && nat_le 1 (length bytes)
 
--- the failures of a sink after a write: one more where it answers an error, or takes no byte of a slice that isn't
+-- the failures of a sink after a write: one more if it answers an error, or takes no byte of a slice that isn't
 -- empty
 abbrev pub failures_after_write : {E : Type 0} → Result ℕ E → List ℕ → ℕ → ℕ
 failures_after_write (Ok n) bytes failures = if is_none_of n bytes then failures + 1 else failures
 failures_after_write (Err e) bytes failures = failures + 1
 
--- the failures of a source after a read: one more where it answers an error
+-- the failures of a source after a read: one more if it answers an error
 abbrev pub failures_after_read : {E : Type 0} → Result ℕ E → ℕ → ℕ
 failures_after_read (Ok n) failures = failures
 failures_after_read (Err e) failures = failures + 1

@@ -18,7 +18,7 @@ pub trait Sink {
     ghost failures: { Self → ℕ };
 
     /// Takes some of the bytes, and answers how many. It fails if it answers an error,
-    /// and where it takes none of a slice that isn't empty.
+    /// and if it takes none of a slice that isn't empty.
     fn write(&mut self, bytes: &[u8]) -> io::Result<usize>
         ensures bound { WritesAtMost result bytes.now }
         ensures written { written self.new ≡ written self.old ++ passed result bytes.now }

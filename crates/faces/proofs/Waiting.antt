@@ -122,7 +122,7 @@ queued_none = record { rising = tt; waits = λ q w e none. absurd (none_there w 
 
 -- ---- the versions that go
 
--- each key has its version or, where that one is to go, none
+-- each key has its version or, if that one is to go, none
 abbrev pub IsBetween : ℕ → Versions → Versions → Type 0
 IsBetween n before now = (q : List ℕ) → (maps.get now q ≡ maps.get before q)
     ⊎ ((maps.get now q ≡ None) × (is_removed n (maps.get before q) ≡ true))
@@ -310,7 +310,7 @@ ends_above n before now bs d front above queued between =
     all_taken n before now bs between queued
     (above_by n bs d (λ some. subst (λ (x : Tombstone). n < x.number) front above) queued.rising)
 
--- or where the queue is empty
+-- or if the queue is empty
 pub ends_empty : (n : ℕ) (before now : Versions) (bs : List Tombstone)
     → length bs ≡ 0
     → IsQueued now bs

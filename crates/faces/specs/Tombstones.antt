@@ -1,4 +1,4 @@
--- What goes from a face where a number is acknowledged.
+-- What goes from a face if a number is acknowledged.
 use Rattle.std.specs.Prelude.{ℕ, List, not, if◌then◌else◌}
 use Rattle.std.specs.FinMap as maps
 use Rattle.node.specs.declared.faces.Version.{Version}
@@ -12,6 +12,6 @@ map_of entries = maps.from_entries entries
 abbrev pub without_removed : ℕ → Versions → Versions
 without_removed n versions = maps.retain_keys versions (λ key. not (is_removed n (maps.get versions key)))
 
--- the versions without a key's own, where that one is to go
+-- the versions without a key's own, if that one is to go
 abbrev pub taken_at : ℕ → List ℕ → Versions → Versions
 taken_at n key versions = if is_removed n (maps.get versions key) then maps.remove versions key else versions

@@ -88,7 +88,7 @@ impl Face {
         Ok(face)
     }
 
-    // Some of these acts are done where it is refused.
+    // Some of these acts are done if it is refused.
     fn act_all(&mut self, acts: &[Act]) -> Result<(), AllocError>
         ensures { OnOk result (self.new ≡ fold applied self.old acts.now) }
     {
@@ -112,7 +112,7 @@ impl Face {
         self.versions.weight()
     }
 
-    /// A look at a key. Its item shares the data. Refused, for want of memory, only if it finds an item. Time is
+    /// A look at a key. Its item shares the data. Refused, if memory is out, only if it finds an item. Time is
     /// logarithmic in the number of keys.
     pub fn look(&self, key: &Key) -> Result<Look<Item>, AllocError>
         ensures { MatchResult result (λ look. look ≡ look_at self.now.face key.now)

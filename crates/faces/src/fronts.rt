@@ -54,7 +54,7 @@ impl Front {
         }
     }
 
-    /// The beginning that is longer by this input, which is added to the log. It isn't where the log is longer already.
+    /// The beginning that is longer by this input, which is added to the log. It isn't if the log is longer already.
     pub(crate) fn next(&self, log: &Log, input: &Input) -> Option<Front>
         requires log { self.now.origin.book ≡ log.now.head.book }
         ensures { IfSome result (λ front. front ≡ with_next self.now input.now) }

@@ -49,7 +49,7 @@ impl Model for Publisher {
 }
 
 impl Publisher {
-    /// A server that has published no input, with room for so many readers beside it. It shows the face of its node,
+    /// A server that has published no input, with room for this many readers beside it. It shows the face of its node,
     /// whatever that has taken before. Refused if memory is out. Time is linear in what the node holds.
     pub fn open<R: Wait>(
         rt: &R,

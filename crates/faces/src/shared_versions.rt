@@ -62,7 +62,7 @@ impl SharedVersion {
         self.block.has_item
     }
 
-    /// Its item, which shares the data, or none. Refused, for want of memory, only if it has one.
+    /// Its item, which shares the data, or none. Refused, if memory is out, only if it has one.
     pub fn item(&self) -> Result<Option<Item>, AllocError>
         ensures { MatchResult result (λ item. item ≡ self.now.item) (λ _. IsSome self.now.item) }
     {

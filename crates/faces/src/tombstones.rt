@@ -71,7 +71,7 @@ pub fn take_away(versions: &mut VersionTree, tombstones: &mut VecDeque<Tombstone
     }
 }
 
-// Takes the key's version away, where it has no item and its number is at most this one.
+// Takes the key's version away, if it has no item and its number is at most this one.
 fn take_away_at(versions: &mut VersionTree, key: &Key, acked: u64)
     ensures { versions.new ≡ taken_at acked key.now versions.old }
 {

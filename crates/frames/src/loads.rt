@@ -21,7 +21,7 @@ pub enum Work {
     Copy,
 }
 
-/// So many rounds of frames with data of so many bytes, read in pieces of so many.
+/// This many rounds of frames with data of `bytes` bytes, read in pieces of `piece`.
 #[derive(Clone, Copy, Debug)]
 pub struct Load {
     pub work: Work,
@@ -55,7 +55,7 @@ pub enum LoadFault {
     Missed,
 }
 
-/// A set of so many bytes on its way to the head.
+/// A set of this many bytes on its way to the head.
 pub fn message(alloc: Global, size: u32) -> Result<Frame, LoadFault> {
     let data = vec![in alloc; b'x'; size as usize]?;
     let Some(key) = Key::new(alloc, b"key0000001")? else {

@@ -13,7 +13,7 @@ use std::rt::Env;
 fn main(rt: HostRuntime) -> ExitCode {
     let Some(load) = asked(&rt) else {
         let _ = eprintln!(rt;
-            "usage: frames write|read|copy BYTES ROUNDS PIECE: rounds of 64 frames with so many bytes of data, read in pieces of so many"
+            "usage: frames write|read|copy BYTES ROUNDS PIECE: rounds of 64 frames with BYTES bytes of data, read in pieces of PIECE"
         );
         return ExitCode::from(2);
     };

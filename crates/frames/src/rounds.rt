@@ -96,7 +96,7 @@ fn read(alloc: Global, stream: &[u8], rounds: u32, piece: usize) -> Result<Done,
     Ok(done)
 }
 
-// Takes off the frames that are whole now. Each of them ends in the piece of so many bytes that came last.
+// Takes off the frames that are whole now. Each of them ends in the piece of that length that came last.
 fn take_whole(frames: &mut Frames, piece: usize, done: &mut Done) -> Result<(), LoadFault> {
     for _ in 0..piece {
         let Some(frame) = frames.next()? else {

@@ -41,7 +41,7 @@ impl Seen {
     }
 }
 
-// A socket that gives and takes so many bytes in all, a few at a time, and then fails.
+// A socket that gives and takes n bytes in all, a few at a time, and then fails.
 #[derive(Drop)]
 struct Socket<'a> {
     bytes: &'a [u8],
@@ -227,7 +227,7 @@ fn served<R: Wait + Copy + Drop>(
     })
 }
 
-// A client that is over, was sent the first so many bytes of the replies, and has had so many failures.
+// A client that is over, was sent the first n bytes of the replies, and has had this many failures.
 fn over(sent: usize, failed: usize) -> Came {
     Came {
         is_over: true,
@@ -251,7 +251,7 @@ fn a_first_read_that_fails(rt: HostRuntime) -> Result<(), Fail> {
     Ok(())
 }
 
-// Whether a client whose input ends after so many bytes is sent a beginning of the replies, and one whose read fails
+// Whether a client whose input ends after n bytes is sent a beginning of the replies, and one whose read fails
 // there the same.
 fn is_same_if_read_fails<R: Wait + Copy + Drop>(rt: R, alloc: Global, n: usize) -> Option<bool> {
     let front = REQUESTS.get(..n).unwrap_or_default();

@@ -311,7 +311,7 @@ fn read_back<R: Net<Listener = TcpListener, Stream = TcpStream>>(
     set.is_some() && got.is_some()
 }
 
-// Some hundred connections, served by so many threads.
+// Some hundred connections, served by n threads.
 fn some_hundred_read_back<
     R: Wait
         + Threads

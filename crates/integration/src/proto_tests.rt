@@ -161,7 +161,7 @@ fn written_by(
     Ok(written)
 }
 
-// What is written where the input comes in pieces of `piece` bytes. A closed session takes no more of them.
+// What is written if the input comes in pieces of `piece` bytes. A closed session takes no more of them.
 fn written(alloc: Global, input: &[u8], piece: usize) -> Result<Vec<u8>, Fail>
     requires { 0 < piece }
 {

@@ -44,7 +44,7 @@ fn a_key_has_1_to_250_bytes_and_no_blank(rt: HostRuntime) -> Result<(), Fail> {
     Ok(())
 }
 
-// A set of so many bytes.
+// A set of n bytes.
 fn set_of_size(alloc: Global, size: usize) -> Result<Op, Fail> {
     let data = vec![in alloc; b'x'; size]?;
     Ok(Op::Set(0, block(alloc, data.as_slice())?))
@@ -339,7 +339,7 @@ fn add_and_replace(rt: HostRuntime) -> Result<(), Fail> {
     holds(new_table_adds_and_replaces(rt.alloc()))
 }
 
-// Whether a set of so many bytes is stored.
+// Whether a set of n bytes is stored.
 fn stores_size(alloc: Global, table: &mut Table, size: usize) -> Result<bool, Fail> {
     let op = set_of_size(alloc, size)?;
     answers_once(alloc, table, op, Answer::Stored)

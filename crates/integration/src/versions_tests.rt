@@ -230,7 +230,7 @@ fn same(a: Option<&Item>, b: Option<&Item>) -> bool {
     }
 }
 
-// So many sets of one key, none of them acknowledged, and then each acknowledged and dropped.
+// This many sets of one key, none of them acknowledged, and then each acknowledged and dropped.
 fn one_key(pair: &mut Pair, key: &Key, count: u64) -> Result<bool, Fail> {
     let mut agreed = true;
     for i in 0..count {

@@ -111,7 +111,7 @@ pub record ComesBefore (does : Doing) (count : ℕ) (homes : List ℕ) (moves : 
   pub answered : IsSome (reply_got (served does count homes (take k moves)) x)
   pub not_made : call_made (served does count homes (take k moves)) y ≡ None
 
--- The order h is one of all connections' calls, where a move of the running chain does this:
+-- The order h is one of all connections' calls, if a move of the running chain does this:
 pub record IsOneOrder (does : Doing) (count : ℕ) (homes : List ℕ) (moves : List ServingMove) (h : List ServedEntry) :
     Type 0 where
   -- each reply in it is that of a single table, after all calls before it;

@@ -39,7 +39,7 @@ pub data AwaitsSocket (v : Visiting) : Type 0 where
   -- or output is due.
   Output : 0 < length v.talk.connected.due → AwaitsSocket v
 
--- A client, of whose reads and writes so many had failed before, goes no further
+-- A client, of whose reads and writes this number had failed before, goes no further
 pub data IsPast (faults : ℕ) (v : Visiting) : Type 0 where
   -- once memory was refused to what its socket gave,
   Refused : v.refused ≡ true → IsPast faults v
@@ -52,7 +52,7 @@ pub data IsPast (faults : ℕ) (v : Visiting) : Type 0 where
   -- or at its end: all is answered and written, and nothing more is wanted.
   Ended : (end : End) → IsWanted (Ends end) v.talk.connected → IsPast faults v
 
--- It paused for this reason, and so many of its reads and writes had failed before: others are to have their turn; it
+-- It paused for this reason, and n of its reads and writes had failed before: others are to have their turn; it
 -- waits for its socket; its call waits for a seat; its call was sent; or it goes no further.
 abbrev pub HasPaused : Pause → ℕ → Visiting → Type 0
 HasPaused Turn faults v = Unit {0}

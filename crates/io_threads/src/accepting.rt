@@ -63,7 +63,7 @@ pub(crate) struct Acceptor<R: Wait + Drop> {
 }
 
 impl Entrance {
-    /// Accepts from this listener, so many connections, or with 0 all, of which so many may be open at once.
+    /// Accepts this many connections from this listener, or with 0 all, of which `room` may be open at once.
     pub(crate) fn new(
         alloc: Global,
         listener: TcpListener,
@@ -115,7 +115,7 @@ impl Entrance {
 }
 
 impl<R: Wait + Drop> Acceptor<R> {
-    /// Accepts at these entrances, for so many threads. Refused if the system or memory refuses.
+    /// Accepts at these entrances, for this many threads. Refused if the system or memory refuses.
     pub(crate) fn new(
         rt: R,
         alloc: Global,

@@ -13,7 +13,7 @@ use std::sync::{Arc, Mutex};
 /// The token of a thread's waker.
 pub(crate) const WAKE: usize = usize::MAX;
 
-/// The ports of a server: it has at most so many.
+/// The most ports of a server.
 const PORTS: usize = 16;
 
 /// A connection on its way to the thread that serves it.
@@ -49,7 +49,7 @@ pub struct Desks {
     finished: AtomicBool,
 }
 
-/// The desks of so many serving threads, and what each of these waits at. Refused if the system or memory refuses.
+/// The desks of this many serving threads, and what each of these waits at. Refused if the system or memory refuses.
 pub fn open_desks<R: Net>(
     rt: &R,
     alloc: Global,

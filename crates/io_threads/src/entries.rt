@@ -23,7 +23,7 @@ pub(crate) struct Entry {
 }
 
 impl Porter {
-    /// Room for so many connections.
+    /// Room for this many connections.
     pub(crate) fn new(alloc: Global, most: u64) -> Result<Porter, AllocError> {
         let taken = AtomicU64::new(0);
         let room = Arc::new(alloc, Room { most, taken })?;

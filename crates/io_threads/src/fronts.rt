@@ -171,7 +171,7 @@ fn furnish(
     Ok((entrances, quarters))
 }
 
-// None yet for each of so many threads.
+// None yet for each of the threads.
 fn no_quarters(alloc: Global, threads: usize) -> Result<Vec<Vec<Quarters>>, AllocError> {
     let mut quarters = Vec::new(alloc);
     for _ in 0..threads {

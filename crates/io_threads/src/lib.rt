@@ -1,5 +1,5 @@
 //! Few threads that serve many client connections of the servers of one process. One more accepts them. Each serving
-//! thread waits for its sockets, has seats of its own at each server, and takes the workers' turns itself where it may.
+//! thread waits for its sockets, has seats of its own at each server, and takes the workers' turns itself if it may.
 #![tactic(auto)]
 
 mod accepting;

@@ -40,7 +40,7 @@ pub fn open_files() -> Option<u64> {
     }
 }
 
-/// How many files are open at most in a process with so many servers, so many connections of each, and so many serving
+/// How many files are open at most in a process with n servers, c connections of each, and this many serving
 /// threads: one for each connection and listener, two for each thread, and 64 others.
 pub fn most_files(servers: u8, connections: u32, threads: u8) -> u64
     ensures { result ≡ servers * (connections + 1) + 2 * threads + 64 }

@@ -20,10 +20,10 @@ pub struct Pooled<R: Wait + Drop> {
     pub inlets: Vec<Inlet>,
 }
 
-/// Opens a server that begins as this node, with so many seats, which are dealt out to so many threads in turn: that of
+/// Opens a server that begins as this node, with these many seats, which are dealt out to the threads in turn: that of
 /// port 0 to the first thread, that of port 1 to the second, and so on. Each thread has one reader. The mark is set as
-/// soon as the server answers no more calls, and the gauge tells whether its items may take more memory. Refused for
-/// want of memory, or where no reader could be made.
+/// soon as the server answers no more calls, and the gauge tells whether its items may take more memory. Refused if
+/// memory is out, or no reader could be made.
 pub fn open_pools<R: Wait + Drop>(
     rt: R,
     alloc: Global,
@@ -58,7 +58,7 @@ pub fn open_pools<R: Wait + Drop>(
     }
 }
 
-// Deals the stands of one server out to so many threads, in turn.
+// Deals the stands of one server out to the threads, in turn.
 #[tactic(auto, using(crate::proofs::Dealt::may_be_given))]
 fn deal(
     alloc: Global,

@@ -34,7 +34,7 @@ pub trait Stations {
     /// A call was put into the inbox of server `id`, where turns will be taken.
     fn expect(&self, id: u8);
 
-    /// Takes up to so many turns of server `id`, if no other thread is at it.
+    /// Takes up to this many turns of server `id`, if no other thread is at it.
     fn take_turns(&self, id: u8, most: usize) -> Visit;
 
     /// The servers where a turn may be due.

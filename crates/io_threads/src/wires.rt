@@ -8,7 +8,7 @@ use std::io::{ErrorKind, Read, Write};
 /// What came of a read.
 #[derive(Clone, Copy, PartialEq, Eq)]
 pub enum Came {
-    /// So many bytes.
+    /// This many bytes.
     Bytes(usize),
     /// Nothing: no byte stands there now.
     Nothing,
@@ -21,7 +21,7 @@ pub enum Came {
 /// What came of a write.
 #[derive(Clone, Copy, PartialEq, Eq)]
 pub enum Gone {
-    /// So many bytes were taken.
+    /// This many bytes were taken.
     Bytes(usize),
     /// None: the socket takes none now.
     Nothing,

@@ -6,7 +6,7 @@ use Rattle.leases.specs.Clocks.{Clock, NeverFalls, passed, IsHardlyFaster}
 use Rattle.leases.specs.Leases.{Beat, Look, Notice, Pair, IsSound, IsNoticeByRule, IsAnswered, IsBeat, IsBeatByRule}
 use Rattle.leases.specs.Leases.{Entered, Ended}
 
--- if x comes after y, so much as the term has passed on the slower clock
+-- if x comes after y, the term has passed on the slower clock
 pub term_has_passed : (term grain fast slow : ℕ)
     → 11 * (term + grain) ≤ 10 * fast
     → 10 * fast ≤ 11 * (slow + grain)

@@ -29,7 +29,7 @@ first_is x y xs ys e = cc
 rest_is : (x y : Hearing) (xs ys : List Hearing) → x ∷ xs ≡ y ∷ ys → xs ≡ ys
 rest_is x y xs ys e = cc
 
--- where what was heard stands among the events
+-- if what was heard stands among the events
 pub record Placed (clock : Clock) (es : List Event) (before : List Hearing) (order : Order) (gone read : ℕ)
     : Type 0 where
   pub front : List Event

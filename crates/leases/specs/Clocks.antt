@@ -19,7 +19,7 @@ passed clock a b = clock b - clock a
 abbrev pub IsHardlyFaster : Clock → Clock → Type 0
 IsHardlyFaster fast slow = (a b : ℕ) → a ≤ b → 10 * passed fast a b ≤ 11 * (passed slow a b + GRAIN)
 
--- so much has passed on a clock that a term has passed on each clock than which it is hardly faster
+-- enough has passed on a clock that a term has passed on each clock than which it is hardly faster
 abbrev pub IsSurelyOver : ℕ → ℕ → Type 0
 IsSurelyOver term passed = 11 * (term + GRAIN) ≤ 10 * passed
 

@@ -52,7 +52,7 @@ pub record IsSound (pair : Pair) : Type 0 where
 pub record IsNoticeByRule (pair : Pair) (term : ℕ) (clock : Clock) (notice : Notice) : Type 0 where
   -- When the master heard the server for the last time, that one was in its reign,
   pub entered : (x : ℕ) × ((pair.reign x ≡ notice.reign) × (x ≤ notice.heard))
-  -- since then so much has passed on the master's clock that the term is surely over,
+  -- since then enough has passed on the master's clock that the term is surely over,
   pub over : IsSurelyOver term (passed clock notice.heard notice.decided)
   pub decided : notice.decided ≤ notice.told
   -- and a server takes notices of the reign that it is in, as long as it goes on.

@@ -18,7 +18,7 @@ pub record WardState : Type 0 where
   -- the server itself, and the other servers of the chain
   pub own : ℕ
   pub others : ℕ
-  -- so much lies between two beats, and for so long it may be silent
+  -- the time between two beats, and for how long it may be silent
   pub beat : ℕ
   pub after : ℕ
   -- the master's reign, or 0 if it has none

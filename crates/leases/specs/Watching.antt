@@ -11,7 +11,7 @@ use Rattle.leases.specs.Clocks.{wait_for}
 pub record WatchState : Type 0 where
   -- the term of the server's lease, or none
   pub term : Option ℕ
-  -- so much lies between two beats
+  -- the time between two beats
   pub beat : ℕ
   -- a server that wasn't heard for so long is told that it is gone
   pub after : ℕ
@@ -35,7 +35,7 @@ begun_watch term beat after stamp now = record {
   standing = Watched;
 }
 
--- the server isn't in the reign: a beat is due each time that so much has passed, and nothing else
+-- the server isn't in the reign: a beat is due each time that a pace has passed, and nothing else
 abbrev pub idle_watch : ℕ → ℕ → WatchState
 idle_watch beat after = record {
   term = None;
@@ -64,7 +64,7 @@ abbrev pub brought : Bool → ℕ → Option ℕ
 brought true stamp = Some stamp
 brought false stamp = None
 
--- what is due for a server that is watched, if so much has passed since it was heard and since the last beat
+-- what is due for a server that is watched, by the times since it was heard and since the last beat
 abbrev pub watched_due : WatchState → Bool → ℕ → ℕ → Deed
 watched_due w whole silence pause =
     if is_silent w.term w.after silence then TellServer

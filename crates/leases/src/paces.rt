@@ -18,7 +18,7 @@ pub const SLOWEST: u64 = 3_600_000;
 /// How often a master sends beats, and for how long a server may be silent, in nanoseconds.
 #[derive(Clone, Copy, Debug, PartialEq, Eq)]
 pub struct Paces {
-    /// So much lies between two beats.
+    /// The time between two beats.
     pub beat: u64,
     /// A server that wasn't heard for so long is told that it is gone.
     pub after: u64,

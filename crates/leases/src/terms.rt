@@ -7,7 +7,7 @@ use std::marker::Model;
 /// How many nanoseconds a second has.
 pub const SECOND: u64 = 1_000_000_000;
 
-/// By so much a clock may move at once: a hundredth of a second, in nanoseconds.
+/// The most that a clock may move at once: a hundredth of a second, in nanoseconds.
 pub const GRAIN: u64 = 10_000_000;
 
 /// The longest term, in seconds.
@@ -32,7 +32,7 @@ impl Model for Term {
 }
 
 impl Term {
-    /// The term of so many seconds, if they are 1 to 3,600.
+    /// The term of this many seconds, if they are 1 to 3,600.
     pub fn of_seconds(seconds: u64) -> Option<Term>
         ensures allowed { IsSome result ↔ ((1 ≤ seconds) × (seconds ≤ LONGEST)) }
         ensures exact { IfSome result (λ term. term ≡ seconds * SECOND) }

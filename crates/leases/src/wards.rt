@@ -14,7 +14,7 @@ use std::marker::Model;
 /// What is due for a server.
 #[derive(Clone, Copy, Debug, PartialEq, Eq)]
 pub enum Due {
-    /// Nothing, for so many nanoseconds at most.
+    /// Nothing, for this many nanoseconds at most.
     Wait(u64),
     /// This is sent to the server.
     Server(Order),

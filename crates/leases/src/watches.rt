@@ -23,7 +23,7 @@ pub enum Standing {
 /// What is due.
 #[derive(Clone, Copy, Debug, PartialEq, Eq)]
 pub enum Deed {
-    /// Nothing, for so many nanoseconds at most.
+    /// Nothing, for this many nanoseconds at most.
     Wait(u64),
     /// A beat, which brings back this stamp. A beat without a stamp is answered, and prolongs nothing.
     Beat(Option<u64>),
@@ -84,7 +84,7 @@ impl Watch {
         }
     }
 
-    /// The watch over a server that isn't in the reign: a beat is due each time that so much has passed, and nothing
+    /// The watch over a server that isn't in the reign: a beat is due each time that a pace has passed, and nothing
     /// else.
     pub(crate) fn idle(paces: Paces) -> Watch
         ensures { result ≡ idle_watch paces.beat paces.after }
@@ -157,7 +157,7 @@ impl Watch {
         }
     }
 
-    // What is due for a server that is watched, if so much has passed since it was heard and since the last beat.
+    // What is due for a server that is watched, by the times since it was heard and since the last beat.
     fn watched_due(&self, whole: bool, silence: u64, pause: u64) -> Deed
         ensures { result ≡ watched_due self.now whole silence pause }
     {

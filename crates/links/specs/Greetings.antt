@@ -16,7 +16,7 @@ use Rattle.links.specs.Places.{waiting}
 abbrev pub is_same_chain : Identity → Introduction → Bool
 is_same_chain host opener = pointwise nat_eq host.chain opener.chain
 
--- the opener's chain has so many servers, and this is the id of one of them or the master's, which is 16
+-- the opener's chain has n servers, and this is the id of one of them or the master's, which is 16
 abbrev pub is_same_size : ℕ → ℕ → ℕ → Bool
 is_same_size servers id others = nat_eq others servers && (nat_eq id 16 || (nat_lt id servers && nat_lt id 16))
 

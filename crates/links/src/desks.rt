@@ -109,7 +109,7 @@ impl Desk {
     }
 }
 
-// Whether a chain of so many servers has the other's number, and this is the id of one of them or the master's.
+// Whether a chain of n servers has the other's number, and this is the id of one of them or the master's.
 fn is_same_size(servers: u8, id: u8, others: u8) -> bool
     ensures { result ≡ is_same_size servers id others }
 {

@@ -13,7 +13,7 @@ use std::rt::Env;
 fn main(rt: HostRuntime) -> ExitCode {
     let Some(load) = asked(&rt) else {
         let _ = eprintln!(rt;
-            "usage: lone sets|gets BYTES ROUNDS: rounds of 64 requests with values of so many bytes"
+            "usage: lone sets|gets BYTES ROUNDS: rounds of 64 requests with values of BYTES bytes"
         );
         return ExitCode::from(2);
     };

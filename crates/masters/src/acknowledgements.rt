@@ -11,7 +11,7 @@ use wire::Frame;
 /// How many answers to earlier notices may stand before the one that is waited for.
 const MOST: u8 = 64;
 
-/// A wait that ends so many milliseconds before its time or later has ended by its time.
+/// A wait that ends less than this many milliseconds before its time, or later, has ended by its time.
 const NEARLY: u64 = 100;
 
 /// What came of waiting for an answer.
@@ -48,7 +48,7 @@ fn put_if_in_range(alloc: Global, stream: &TcpStream, notice: &Frame) -> Result<
     }
 }
 
-/// Waits so many seconds for the answer to the notice of server `j`. Answers to earlier ones are passed over. Fails
+/// Waits this many seconds for the answer to the notice of server `j`. Answers to earlier ones are passed over. Fails
 /// only if memory runs out.
 pub(crate) fn wait_for_noted<R: Clock>(
     rt: &R,
@@ -74,7 +74,7 @@ pub(crate) fn wait_for_noted<R: Clock>(
     Ok(Heard::Broken)
 }
 
-// The server that the next frame notes, if one comes within so many seconds, and it notes one.
+// The server that the next frame notes, if one comes within this many seconds, and it notes one.
 fn noted_on<R: Clock>(
     rt: &R,
     alloc: Global,
@@ -99,7 +99,7 @@ fn noted_by(frame: &Frame) -> Option<u8> {
     }
 }
 
-// How many seconds are left of so many, rounded up. None if hardly any time is.
+// How many seconds are left of these, rounded up. None if hardly any time is.
 fn time_left<R: Clock>(rt: &R, begun: Instant, seconds: u64) -> Option<u64> {
     let passed = begun.elapsed(rt).ok()?;
     let left = Duration::from_secs(seconds).checked_sub(passed)?;

@@ -48,7 +48,7 @@ impl<T: Drop> From<AllocFailed<T>> for TellFault {
 /// told that it has failed, and then each other server that isn't known to have failed; `gone J told K` is printed, K
 /// being how many of these others have noted it. Any other line prints `bad line`. An answer that can't be written is
 /// told once on `errors`, and so is each server that doesn't do what it is asked. It answers the exit status: 0, or,
-/// after a line on `errors`, 1 if a server refuses the master when it starts or no chain has so many servers, or 3 if
+/// after a line on `errors`, 1 if a server refuses the master when it starts or no chain has that many servers, or 3 if
 /// memory is out.
 pub fn master<
     R: Wait + Threads + Clock + Net<Listener = TcpListener, Stream = TcpStream> + Sync,

@@ -19,7 +19,7 @@ pub(crate) enum Errand {
     Nothing,
     /// That it accepts the master.
     Greet,
-    /// That it notes that this server has failed, within so many seconds.
+    /// That it notes that this server has failed, within this many seconds.
     Tell(u8, u64),
 }
 

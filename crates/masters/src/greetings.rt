@@ -284,7 +284,7 @@ fn is_to_itself(stream: &TcpStream) -> bool {
 }
 
 /// The next frame on a connection, if it has at most 12 bytes, as an answer to a greeting or to a notice has, and
-/// comes within so many seconds; none otherwise. It reads nothing beyond it. Fails only if memory runs out.
+/// comes within this many seconds; none otherwise. It reads nothing beyond it. Fails only if memory runs out.
 pub(crate) fn next_small_frame<R: Clock>(
     rt: &R,
     alloc: Global,

@@ -12,7 +12,7 @@ const PAUSE: i32 = 10;
 const QUESTIONS: i32 = 5;
 
 /// Has the system ask the other side of a quiet connection whether it is still there, and break the connection if it
-/// doesn't answer. It is left as it is where the system refuses. What a listener accepts is watched as the listener is.
+/// doesn't answer. It is left as it is if the system refuses. What a listener accepts is watched as the listener is.
 pub fn keep_alive<S: AsRawFd>(socket: &S) {
     let socket = socket.as_raw_fd();
     let (on, idle, pause, questions) = (value(1), value(IDLE), value(PAUSE), value(QUESTIONS));

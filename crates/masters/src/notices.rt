@@ -41,7 +41,7 @@ pub(crate) fn notices(
     notices_beside(alloc, known.union(View::single(j)), j, count)
 }
 
-// A notice (i, j) for each of so many servers that isn't among these.
+// A notice (i, j) for each of n servers that isn't among these.
 fn notices_beside(alloc: Global, gone: View, j: u8, count: u8) -> Result<Vec<(u8, u8)>, AllocError>
     requires chain { count ≤ 16 }
     ensures { IfOk result (λ given. given.items ≡ notices_from gone j 0 count) }

@@ -14,7 +14,7 @@ pub struct Deadline {
 }
 
 impl Deadline {
-    /// So many seconds from now on. None if the clock can't be read.
+    /// This many seconds from now on. None if the clock can't be read.
     pub fn after<R: Clock>(rt: &R, seconds: u64) -> Option<Deadline> {
         let begun = Instant::now(rt).ok()?;
         let patience = Duration::from_secs(seconds);

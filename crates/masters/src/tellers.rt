@@ -34,7 +34,7 @@ pub(crate) struct Teller {
 }
 
 impl Teller {
-    /// A master that hasn't spoken to its servers. Refused with Run if no chain has so many.
+    /// A master that hasn't spoken to its servers. Refused with Run if no chain has that many.
     pub(crate) fn new<R: Clock>(
         rt: &R,
         alloc: Global,

@@ -58,7 +58,7 @@ one-read port p item = one-reply port true p (Value item)
 -- ---- updates
 
 module _ (port : ℕ) where
-  -- so many of these are of this port
+  -- how many of these updates are of this port
   abbrev pub updates_of : List OpenUpdate → ℕ
   updates_of us = count_by (λ (u : OpenUpdate). u.port == port) us
 
@@ -115,7 +115,7 @@ module _ (port : ℕ) where
 
   -- ---- reads
 
-  -- so many of these are of this port
+  -- how many of these reads are of this port
   abbrev pub reads_of : List OpenRead → ℕ
   reads_of rs = count_by (λ (r : OpenRead). r.port == port) rs
 

@@ -23,7 +23,7 @@ use Rattle.table.specs.declared.operations.Reply.TheVariants.{Stored, Exists}
 use Rattle.table.specs.declared.operations.Change.TheVariants.{Keep}
 use Rattle.versions.specs.Entries.{PutsOwn, is_clear, is_flushed}
 
--- a decision whose reply and change may stand in an entry of this number; a clear exactly where all is flushed
+-- a decision whose reply and change may stand in an entry of this number; a clear exactly if all is flushed
 pub record IsDecided (flush : Bool) (number : ℕ) (d : Decision) : Type 0 where
   pub answered : is_value d.0 ≡ false
   pub put : PutsOwn number d.1

@@ -38,7 +38,7 @@ use Rattle.node.proofs.Growth.{last-grown}
 
 -- ---- what is due on the way
 
--- What holds between the steps of a join, where the successor is to be sent the entries above `from`, and `owed` says
+-- What holds between the steps of a join, if the successor is to be sent the entries above `from`, and `owed` says
 -- what is known of the predecessor; who is the tail has acknowledged the `whole` log. `old` is the view before the
 -- join.
 pub record IsUnderway (old : View) (from : ℕ) (owed whole : Type 0) (s : ServerState) (d : Due) : Type 0 where

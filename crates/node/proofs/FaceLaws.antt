@@ -186,7 +186,7 @@ newer q low acked (e ∷ es) s le log =
     ∙ newer_step (is_clear e.change) (sets q e.target e.change) e.number (item_put e.change) acked s
     (list_any (touches q) es) (omega (arith, log.1))
 
--- the newest version is acknowledged exactly where no entry above the acknowledged number touches the key
+-- the newest version is acknowledged exactly if no entry above the acknowledged number touches the key
 pub acked-all : (q : List ℕ) (k low acked : ℕ) (es : List LogEntry) (s : Slot)
     → acked ≡ low + k
     → IsLog low es

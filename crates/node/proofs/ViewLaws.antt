@@ -90,7 +90,7 @@ next_within_many v k zero j h = absurd cc
 next_within_many v k (suc many) j h =
     within_step k many j (has v k) (next_from v (suc k) many) (next_within_many v (suc k) many j) h
 
--- where there is none, all are in the view
+-- if there is none, all are in the view
 all_step : (v : View) (k many : ℕ) (b : Bool) (rest : Option ℕ)
     → has v k ≡ b
     → (rest ≡ None → (x : ℕ) → suc k ≤ x → x < suc k + many → has v x ≡ true)

@@ -1,5 +1,5 @@
--- A server's step as a list of single guarded actions, as a TLA+ specification has them (docs/CHAIN.md has the rules in
--- words; CRAQ, "Chain Replication with Apportioned Queries" and "Failure Recovery in CRAQ"). `meaning` says of each
+-- A server's step as a list of single guarded actions, as a TLA+ specification has them (docs/DESIGN.md has the rules
+-- in words; CRAQ, "Chain Replication with Apportioned Queries" and "Failure Recovery in CRAQ"). `meaning` says of each
 -- action what is known when it is done, and what it makes of the server. The law `steps_are_actions` says that each
 -- step of a lawful server is such a list.
 use Rattle.std.specs.Prelude.{◌≡◌, ◌≢◌, ℕ, ◌+◌, ◌<◌, ◌≤◌, nat_lt, Bool, true, false, not, List, [], ◌∷◌, ◌++◌}

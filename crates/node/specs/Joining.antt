@@ -51,7 +51,7 @@ unfoldable pub forwarded : ServerState → List LogEntry → List Output
 forwarded s [] = []
 forwarded s (e ∷ es) = message_to s (next s) (Forward e) ++ forwarded s es
 
--- the number above which the successor needs this server's entries: the acknowledged one where the successor changed,
+-- the number above which the successor needs this server's entries: the acknowledged one if the successor changed,
 -- and otherwise the last one before the join
 abbrev pub needed_above : View → ℕ → ServerState → ℕ
 needed_above old last_before s = if is_same (successor old s.count s.id) (next s) then last_before else s.store.acked

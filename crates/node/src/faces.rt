@@ -16,7 +16,7 @@ use versions::Entry;
 pub struct Version {
     /// The number of the entry that made it.
     pub number: u64,
-    /// The item, or none where the key was dropped.
+    /// The item, or none if the key was dropped.
     pub item: Option<Item>,
 }
 

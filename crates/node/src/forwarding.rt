@@ -37,7 +37,7 @@ fn settle(
     Ok(())
 }
 
-// The same of the first entries, so many of them, in order.
+// The same of the first `count` entries, in order.
 fn settle_first(
     id: u8,
     pend: &mut VecDeque<OpenUpdate>,

@@ -69,7 +69,7 @@ impl Server {
         self.view = self.view.union(v);
     }
 
-    // Second: a new head takes its own open calls; another server sends them to the head, where that changed.
+    // Second: a new head takes its own open calls; another server sends them to the head, if that changed.
     #[tactic(auto, unfolding(crate::specs::Joining::promoted_to_head))]
     fn promote_to_head(&mut self, old: View, outputs: &mut Vec<Output>) -> Result<(), AllocError>
         requires chain { IsSound self.old }
@@ -201,7 +201,7 @@ impl Server {
         self.send(previous, Body::Ack(acked), outputs)
     }
 
-    // Sixth: where the tail changed, the open reads are closed at the tail, and asked again elsewhere.
+    // Sixth: if the tail changed, the open reads are closed at the tail, and asked again elsewhere.
     #[tactic(auto, unfolding(crate::specs::Joining::asks_renewed))]
     fn renew_asks(&mut self, old: View, outputs: &mut Vec<Output>) -> Result<(), AllocError>
         requires chain { IsSound self.old }

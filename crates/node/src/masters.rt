@@ -52,7 +52,7 @@ impl Model for Master {
 }
 
 impl Master {
-    /// The master of a chain of so many servers, 1 to 16. It allocates nothing.
+    /// The master of a chain of `count` servers, 1 to 16. It allocates nothing.
     pub fn new(count: u8) -> Master
         requires chain { (1 ≤ count) × (count ≤ 16) }
         ensures { result ≡ record { count = count; gone = 0 } }
@@ -64,7 +64,7 @@ impl Master {
     }
 
     /// Server `j` has failed. The notices (i, j) to give: one for each other server i that lives, in the order of their
-    /// ids; none where `j` was known to have failed already or isn't of the chain. Refused for want of memory, it
+    /// ids; none if `j` was known to have failed already or isn't of the chain. Refused if memory is out, it
     /// leaves the master as it was. At most 16 looks.
     pub fn gone(&mut self, alloc: Global, j: u8) -> Result<Vec<(u8, u8)>, MasterFault>
         ensures notices { IfOk result (λ given. given.items ≡ notices self.old j) }
@@ -81,7 +81,7 @@ impl Master {
     }
 }
 
-// A notice (i, j) for each of so many servers that lives.
+// A notice (i, j) for each of `count` servers that lives.
 #[tactic(auto, using(crate::proofs::NoticeShapes::notices_within, crate::proofs::NoticeShapes::notices_past))]
 fn notices(alloc: Global, gone: View, j: u8, count: u8) -> Result<Vec<(u8, u8)>, MasterFault>
     requires chain { count ≤ 16 }

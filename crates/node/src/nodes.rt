@@ -39,7 +39,7 @@ impl From<AllocError> for NodeFault {
     }
 }
 
-/// One server of a chain (CRAQ, "Basic System Model"). A step that is refused for want of memory stops it for good.
+/// One server of a chain (CRAQ, "Basic System Model"). A step that finds memory out stops it for good.
 /// Contracts see a `ServerState`, and whether it is stopped (`NodeState`).
 #[derive(Drop)]
 pub struct Node {
@@ -82,7 +82,7 @@ impl Node {
     }
 
     /// One step. Its outputs stand in the order in which the rules give them. Refused with Memory, and the node is
-    /// stopped from then on; with Stopped, exactly from then on. It copies an item's data only where the head joins two
+    /// stopped from then on; with Stopped, exactly from then on. It copies an item's data only if the head joins two
     /// pieces for an append or a prepend. Each entry that it appends, acknowledges, puts out or moves to the base takes
     /// time logarithmic in the number of keys; a flush that the floor passes takes time linear in it, and a join time
     /// linear in the open calls. An own open call is found by a binary search. Answers come in order from servers that
@@ -116,7 +116,7 @@ impl Node {
 
     /// The same step, and how it changes the face that readers beside the node see: the steps in order, and then the
     /// acknowledged number, with which the versions without item up to it are taken away. Refused with Memory, and the
-    /// node is stopped from then on; with Stopped, exactly from then on. It copies an item's data only where the head
+    /// node is stopped from then on; with Stopped, exactly from then on. It copies an item's data only if the head
     /// joins two pieces for an append or a prepend. Besides the time of `step` it takes time linear in the entries that
     /// it appends.
     pub fn step_face(&mut self, input: Input) -> Result<(Vec<Output>, FaceChange), NodeFault>

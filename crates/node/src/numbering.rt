@@ -42,7 +42,7 @@ impl Server {
         seen < id && id - seen == 1 && self.store.last() < u64::MAX
     }
 
-    /// Takes an update without sending and without rising, where it is the origin's next one.
+    /// Takes an update without sending and without rising, if it is the origin's next one.
     #[tactic(auto, unfolding(crate::specs::Numbering::taken))]
     pub(crate) fn take_quietly(
         &mut self,
@@ -63,7 +63,7 @@ impl Server {
         self.append(entry)
     }
 
-    /// Takes an update at the head, where it is the origin's next one: its entry is appended and passed on.
+    /// Takes an update at the head, if it is the origin's next one: its entry is appended and passed on.
     #[tactic(auto, unfolding(crate::specs::Numbering::take_update))]
     pub(crate) fn take_update(
         &mut self,
@@ -86,7 +86,7 @@ impl Server {
     }
 
     /// An own update call: it enters the open ones; at the head it is taken, elsewhere it goes to the head.
-    /// It has no effect where no id is left, or at the head no number.
+    /// It has no effect if no id is left, or at the head no number.
     pub(crate) fn update(
         &mut self,
         port: usize,

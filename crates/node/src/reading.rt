@@ -35,7 +35,7 @@ fn put_value(port: usize, item: Option<&Item>, outputs: &mut Vec<Output>) -> Res
 }
 
 impl Server {
-    /// A read: a clean key's newest version is the answer; of a dirty key the tail is asked, where an ask is left.
+    /// A read: a clean key's newest version is the answer; of a dirty key the tail is asked, if an ask is left.
     pub(crate) fn read(
         &mut self,
         port: usize,
@@ -56,7 +56,7 @@ impl Server {
         self.ask(port, key, outputs)
     }
 
-    // A read of a dirty key, where an ask is left: the tail is asked.
+    // A read of a dirty key, if an ask is left: the tail is asked.
     #[tactic(auto, unfolding(crate::specs::Servers::most, crate::specs::Reading::dirty_read, crate::specs::Reading::asked))]
     fn ask(&mut self, port: usize, key: Key, outputs: &mut Vec<Output>) -> Result<(), AllocError>
         requires chain { IsSound self.old }

@@ -82,7 +82,7 @@ impl View {
         self.union(other).bits != self.bits
     }
 
-    /// Whether it names only servers of a chain of so many.
+    /// Whether it names only servers of a chain of `count`.
     #[tactic(auto, unfolding(crate::specs::Views::is_below))]
     pub fn is_below(self, count: u8) -> bool
         requires chain { count ≤ 16 }
@@ -91,7 +91,7 @@ impl View {
         u32::from(self.bits) < 1 << count
     }
 
-    // The least server outside it from `k` on, in a chain of so many.
+    // The least server outside it from `k` on, in a chain of `count`.
     #[tactic(auto, using(crate::proofs::ViewShapes::next_within, crate::proofs::ViewShapes::next_past))]
     fn next_from(self, k: u8, count: u8) -> Option<u8>
         requires chain { count ≤ 16 }
@@ -106,7 +106,7 @@ impl View {
         None
     }
 
-    /// The greatest server outside it below this one, or `None` where there is none.
+    /// The greatest server outside it below this one, or `None` if there is none.
     #[tactic(auto, using(crate::proofs::ViewShapes::previous_more, crate::proofs::ViewShapes::previous_zero))]
     pub fn predecessor(self, i: u8) -> Option<u8>
         requires server { i ≤ 16 }
@@ -123,7 +123,7 @@ impl View {
         None
     }
 
-    /// The least server outside it above this one, in a chain of so many, or `None` where there is none.
+    /// The least server outside it above this one, in a chain of `count`, or `None` if there is none.
     pub fn successor(self, count: u8, i: u8) -> Option<u8>
         requires chain { count ≤ 16 }
         requires server { i < count }
@@ -133,7 +133,7 @@ impl View {
         self.next_from(i + 1, count)
     }
 
-    /// The least server outside it, in a chain of so many, or `None` where there is none.
+    /// The least server outside it, in a chain of `count`, or `None` if there is none.
     pub fn head(self, count: u8) -> Option<u8>
         requires chain { count ≤ 16 }
         ensures first { result ≡ views.head self count }
@@ -142,7 +142,7 @@ impl View {
         self.next_from(0, count)
     }
 
-    /// The greatest server outside it, in a chain of so many, or `None` where there is none.
+    /// The greatest server outside it, in a chain of `count`, or `None` if there is none.
     pub fn tail(self, count: u8) -> Option<u8>
         requires chain { count ≤ 16 }
         ensures last { result ≡ views.tail self count }

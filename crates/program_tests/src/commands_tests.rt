@@ -118,7 +118,7 @@ fn a_fault_is_one_line_and_no_output(rt: HostRuntime) {
     );
 }
 
-// Whether a scenario whose reader fails after so many bytes has no output, and says that the file can't be read.
+// Whether a scenario whose reader fails after n bytes has no output, and says that the file can't be read.
 fn is_unreadable_after(alloc: Global, reads: usize) -> bool {
     let left = replayed(alloc, SET_THEN_GETS, reads, 4096);
     has_left(&left, 1, b"", b"craq: cannot read a.schedule\n")
@@ -131,7 +131,7 @@ fn a_reader_that_fails(rt: HostRuntime) {
     }
 }
 
-// Whether a scenario whose writer fails after so many bytes has put out these, and says that its run failed.
+// Whether a scenario whose writer fails after n bytes has put out these, and says that its run failed.
 fn is_cut_after(alloc: Global, writes: usize) -> bool {
     let left = replayed(alloc, SET_THEN_GETS, 4096, writes);
     match SHOWN.get(..writes) {

@@ -155,7 +155,7 @@ finished_at bytes block n inside h =
     (slice_range bytes (n + b.size) (n + b.size + 2))) (take (n + b.size + 2) bytes)) h.block_is
     (λ come. made_spelled h.key h.line _ _ _ (block_at bytes block n h come)) inside
 
--- what is found is spelled by so many bytes
+-- what is found is spelled by that number of bytes
 pub record IsFound (bytes : List ℕ) (found : Request × ℕ) : Type 0 where
   pub inside : found.1 ≤ length bytes
   pub some : 1 ≤ found.1

@@ -58,7 +58,7 @@ text_asks bytes text n h =
           (inl (record { text = text; ends = h.text_is; single = h.single; bare = bare.0; short = count }))
     ]
 
--- so many bytes, which are there, ask for this
+-- this number of bytes, which are there, ask for this
 pub record AsksAt (bytes : List ℕ) (line : Asked × ℕ) : Type 0 where
   pub inside : line.1 ≤ length bytes
   pub some : 1 ≤ line.1

@@ -25,7 +25,7 @@ prefix_up_to p (x ∷ t) y rest all stop =
     let parts = and_parts (p x) (list_all p t) all in
     rw (parts.0, prefix_up_to p t y rest parts.1 stop) (omega arith)
 
--- all pass, if so many do
+-- all pass, if this many do
 all_by_prefix : (p : ℕ → Bool) (t : List ℕ) → length t ≤ prefix_len p t → list_all p t ≡ true
 all_by_prefix p [] h = refl
 all_by_prefix p (x ∷ t) h = by_head (p x) refl h (λ more. all_by_prefix p t more)

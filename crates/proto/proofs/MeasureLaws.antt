@@ -1,4 +1,4 @@
--- Each turn that a session gives takes a byte, a key or a refused block: so there are only so many.
+-- Each turn that a session gives takes a byte, a key or a refused block: so their number is bounded.
 use Rattle.std.proofs.Common.{◌≡◌, ℕ, ◌+◌, ◌<◌, ◌≤◌, Bool, true, false, List, [], ◌∷◌, length, take, Option, None, Some}
 use Rattle.std.proofs.Common.{refl, ap, ◌∙◌, arith, length-append, length-drop, length-take}
 use Rattle.std.specs.Prelude.{◌==◌, Result, Ok, Err, IfOk, OnOk}

@@ -116,14 +116,14 @@ requests_more bytes more found e =
     let cut = drop-append-le found.1 bytes more s.most in
     rw (← cut) (requests_some (bytes ++ more) found (whole_stays_whole bytes more found e))
 
--- what is left of two lists after so many of their first items
+-- what is left of two lists after the same number of first items
 pub drop_two : (n : ℕ) (xs ys : List ℕ) → drop n (xs ++ ys) ≡ drop n xs ++ drop (n - length xs) ys
 drop_two zero xs ys = let none : 0 - length xs ≡ 0 = omega arith in rw none refl
 drop_two (suc n) [] ys = let all : suc n - 0 ≡ suc n = omega arith in rw all refl
 drop_two (suc n) (x ∷ xs) ys =
     let rest : suc n - length (x ∷ xs) ≡ n - length xs = omega arith in rw rest (drop_two n xs ys)
 
--- a refused block that ends after so many bytes, if this many have come
+-- a refused block that ends after some number of bytes, if this many have come
 abbrev whole_at : ℕ → ℕ → Fault → Front
 whole_at come end fault = cond (nat_lt come end) None (Some (Bad fault, end))
 

@@ -77,7 +77,7 @@ with_turn None turns = turns
 with_turn (Some turn) turns = turn ∷ turns
 
 -- The session gives its first turn and leaves the others, whatever bytes may follow, and however they will be cut;
--- and where it gives none, there was none.
+-- and if it gives none, there was none.
 pub record GivesFirst (h : Held) (given : Option Turn) (left : Held) : Type 0 where
   pub first : (more : List ℕ) → to_come (fed h more) ≡ with_turn given (to_come (fed left more))
   pub none : given ≡ None → to_come h ≡ []

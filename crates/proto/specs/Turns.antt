@@ -52,7 +52,7 @@ abbrev pub looks : List (List ℕ) → Bool → List Turn
 looks [] unique = []
 looks (key ∷ keys) unique = look key unique keys ∷ looks keys unique
 
--- how an update is answered: by a line, or by nothing where its line said `noreply` (protocol.txt, "Storage commands")
+-- how an update is answered: by a line, or by nothing if its line said `noreply` (protocol.txt, "Storage commands")
 abbrev pub form_of : Bool → Form
 form_of silent = if silent then Silent else Status
 
@@ -83,7 +83,7 @@ fault_text Expiry = codes "CLIENT_ERROR expiry is not supported\r\n"
 abbrev pub number_text : ℕ → List ℕ
 number_text n = space ∷ decimal n
 
--- the unique, where it is shown
+-- the unique, if it is shown
 abbrev pub unique_text : Bool → ℕ → List ℕ
 unique_text unique n = if unique then number_text n else []
 

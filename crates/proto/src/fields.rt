@@ -98,7 +98,7 @@ fn first_field(text: &[u8]) -> (&[u8], Option<&[u8]>)
     }
 }
 
-/// The number that a field spells, where it is below 2^32.
+/// The number that a field spells, if it is below 2^32.
 pub fn number_32(field: &[u8]) -> Option<u32>
     ensures { result ≡ number_of (2 ^ 32) field.now }
 {

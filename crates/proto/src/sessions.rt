@@ -85,8 +85,8 @@ impl Session {
     }
 
     /// Adds a piece at the end of the unread bytes, copied once; what lies inside a refused block is only counted.
-    /// `Closed` exactly once `next` has met `quit` or a line that is too long; `Memory` where the piece finds no room,
-    /// never where it lies wholly inside a refused block. A refusal changes nothing.
+    /// `Closed` exactly once `next` has met `quit` or a line that is too long; `Memory` if the piece finds no room,
+    /// never if it lies wholly inside a refused block. A refusal changes nothing.
     pub fn feed(&mut self, piece: &[u8]) -> Result<(), ProtoFault>
         ensures ok { OnOk result (self.new ≡ fed self.old piece.now) }
         ensures closed { IsErrOf result ProtoFault.Closed ↔ (self.old.closed ≡ true) }

@@ -23,7 +23,7 @@ module _ {C : Type 0} (w w' : WorkerState) (l l' : LinksState C) where
   turn_fault (Err LinkDown) t = absurd t
   turn_fault (Err NoReader) t = absurd t
 
-  -- a turn is refused with Closed exactly where it took nothing
+  -- a turn is refused with Closed exactly if it took nothing
   pub turn_closed : (r : Result Turn RailFault) → IsTurn w w' l l' r → IsErrOf r Closed ↔ (w'.taken ≡ w.taken)
   turn_closed (Ok turn) t =
       (λ is. absurd (cc (is)), λ same. absurd (longer w.taken t.message (sym t.taken ∙ same)))
@@ -33,7 +33,7 @@ module _ {C : Type 0} (w w' : WorkerState) (l l' : LinksState C) where
   turn_closed (Err LinkDown) t = absurd t
   turn_closed (Err NoReader) t = absurd t
 
-  -- and with Memory only where the server went on before
+  -- and with Memory only if the server went on before
   pub turn_memory : (r : Result Turn RailFault) → IsTurn w w' l l' r → IsErrOf r Memory → w.goes ≡ true
   turn_memory (Ok turn) t is = absurd (cc (is))
   turn_memory (Err Memory) t is = t.did.2.going

@@ -68,7 +68,7 @@ module _ {C : Type 0} (w w' : WorkerState) (l l' : LinksState C) where
     pub stopped : IsStopped w w'
     pub messages : l' ≡ l
 
-  -- An input was refused for want of memory, and the server is stopped from now on. Nothing was published or put; or
+  -- An input was refused, as memory was out, and the server is stopped from now on. Nothing was published or put; or
   -- the published list grew by the input, and then some of the first messages of its step were put. Nothing was
   -- replied, and no seat's end is held.
   pub record WasCut (input : Input) : Type 0 where

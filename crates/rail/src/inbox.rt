@@ -115,7 +115,7 @@ pub struct Gate {
 }
 
 impl Gate {
-    /// An empty inbox with room for so many messages.
+    /// An empty inbox with room for this many messages.
     pub fn new(alloc: Global, room: usize) -> Result<Gate, AllocError>
         requires { 0 < room }
         ensures { IfOk result (λ g. view g.pass ≡ taker 0 0 []) }
@@ -187,7 +187,7 @@ impl Slot {
 
 impl Inbox {
     /// The next message, if one stands there, which is added to what was taken. While others are inside a call it may
-    /// find none although one stands there. Refused with Closed where every sender is gone.
+    /// find none although one stands there. Refused with Closed if every sender is gone.
     pub fn try_take<R: Wait>(&mut self, rt: &R) -> Result<Option<Message>, RailFault>
         ensures taken { IsTry HasGot (view self.old.pass) (view self.new.pass) result }
         ensures fault { IfErr result (λ fault. fault ≡ RailFault.Closed) }
@@ -200,7 +200,7 @@ impl Inbox {
     }
 
     /// The next message, which is added to what was taken. It tries a few times, and then sleeps until one comes.
-    /// Refused with Closed where every sender is gone.
+    /// Refused with Closed if every sender is gone.
     pub fn take<R: Wait>(&mut self, rt: &R) -> Result<Message, RailFault>
         ensures taken { IsTake HasGot (view self.old.pass) (view self.new.pass) result }
         ensures fault { IfErr result (λ fault. fault ≡ RailFault.Closed) }

@@ -39,7 +39,7 @@ impl Inlet {
         Inlet { slot }
     }
 
-    /// Brings a message from server `i`. Refused with Closed where the worker is gone. It may wait, as may the others.
+    /// Brings a message from server `i`. Refused with Closed if the worker is gone. It may wait, as may the others.
     pub fn bring<R: Wait>(&mut self, rt: &R, i: u8, peer: Peer) -> Result<(), RailFault>
         requires { IsBody peer.body }
         ensures ok { OnOk result (self.new ≡ self.old ++ Took (From i peer) ∷ []) }
@@ -49,7 +49,7 @@ impl Inlet {
         self.send(rt, Event::Took(FitInput::new(Input::From(i, peer))))
     }
 
-    /// Brings the notice that server `j` has failed. Refused with Closed where the worker is gone.
+    /// Brings the notice that server `j` has failed. Refused with Closed if the worker is gone.
     pub fn gone<R: Wait>(&mut self, rt: &R, j: u8) -> Result<(), RailFault>
         ensures ok { OnOk result (self.new ≡ self.old ++ Took (Gone j) ∷ []) }
         ensures err { OnErr result (self.new ≡ self.old) }
@@ -59,7 +59,7 @@ impl Inlet {
     }
 
     /// Fails the server: from then on its worker puts out nothing, and each seat that waits there gets Closed. Refused
-    /// with Closed where the worker is gone.
+    /// with Closed if the worker is gone.
     pub fn stop<R: Wait>(&mut self, rt: &R) -> Result<(), RailFault>
         ensures ok { OnOk result (self.new ≡ self.old ++ Stop ∷ []) }
         ensures err { OnErr result (self.new ≡ self.old) }
@@ -68,7 +68,7 @@ impl Inlet {
         self.send(rt, Event::Stop)
     }
 
-    /// Ends the worker's loop. Refused with Closed where the worker is gone.
+    /// Ends the worker's loop. Refused with Closed if the worker is gone.
     pub fn end<R: Wait>(&mut self, rt: &R) -> Result<(), RailFault>
         ensures ok { OnOk result (self.new ≡ self.old ++ End ∷ []) }
         ensures err { OnErr result (self.new ≡ self.old) }

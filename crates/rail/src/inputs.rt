@@ -16,7 +16,7 @@ use std::alloc::AllocError;
 use std::sync::Wait;
 
 /// The node makes its step, the face after it is published, and only then its messages are put, and its replies.
-/// Refused for want of memory; the publisher is to be ended then. It adds the replies' ports to those that were replied
+/// Refused if memory is out; the publisher is to be ended then. It adds the replies' ports to those that were replied
 /// to.
 #[tactic(auto, using(crate::proofs::Carrying::carried_none))]
 pub fn advance<R: Wait, L: Links>(

@@ -24,7 +24,7 @@ pub trait Links {
     fn failed(&self, to: u8) -> bool
         ensures { result ≡ nat_lt 0 ((state self.now).failures to) };
 
-    /// Puts a message, after the input that made it was published. It may wait. Refused for want of memory, or because
+    /// Puts a message, after the input that made it was published. It may wait. Refused if memory is out, or because
     /// the link fails, which then has failed from now on. Nothing is put on a link that has failed.
     fn put(&mut self, published: &Published, to: u8, peer: &Peer) -> Result<(), RailFault>
         // The step of the last input that was published put it out.

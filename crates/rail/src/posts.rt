@@ -216,7 +216,7 @@ impl Post {
 
 impl Letters {
     /// The next reply, if one stands there, which is added to what was taken. It doesn't wait for one. Refused with
-    /// Closed where the worker has gone or stopped.
+    /// Closed if the worker has gone or stopped.
     pub fn try_take<R: Wait>(&mut self, rt: &R) -> Result<Option<Mail>, RailFault>
         ensures taken { IsTry HasGot (view self.old.pass) (view self.new.pass) result }
         ensures fault { IfErr result (λ fault. fault ≡ RailFault.Closed) }
@@ -229,7 +229,7 @@ impl Letters {
     }
 
     /// The next reply, which is added to what was taken. It tries a few times, and then sleeps until one comes. Refused
-    /// with Closed where the worker has gone or stopped.
+    /// with Closed if the worker has gone or stopped.
     pub fn take<R: Wait>(&mut self, rt: &R) -> Result<Mail, RailFault>
         ensures taken { IsTake HasGot (view self.old.pass) (view self.new.pass) result }
         ensures fault { IfErr result (λ fault. fault ≡ RailFault.Closed) }

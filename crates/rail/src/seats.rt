@@ -73,7 +73,7 @@ impl Seat {
         }
     }
 
-    /// The next reply, with a note of what the server had published by then. Refused with Closed where the worker has
+    /// The next reply, with a note of what the server had published by then. Refused with Closed if the worker has
     /// gone or stopped. It may wait.
     pub fn reply<R: Wait>(&mut self, rt: &R) -> Result<(Reply, Told), RailFault>
         ensures got { MatchResult result (λ r. self.new ≡ with_reply self.old r.0 r.1) (λ _. self.new ≡ self.old) }

@@ -29,8 +29,8 @@ pub struct Server<R: Wait + Drop> {
     pub inlets: Vec<Inlet>,
 }
 
-/// Opens a server that begins as this node: a worker, a reader and a seat for each of so many threads, at ports 0, 1
-/// and so on, and so many inlets. Its node may hold items already. Refused with NoReader where its publisher could make
+/// Opens a server that begins as this node: a worker, a reader and a seat for each of n threads, at ports 0, 1
+/// and so on, and m inlets. Its node may hold items already. Refused with NoReader if its publisher could make
 /// no reader, and otherwise with Memory.
 pub fn open<R: Wait + Drop>(
     rt: R,
@@ -100,7 +100,7 @@ fn beside(
     Ok((stands, posts, inlets))
 }
 
-// The stands of so many ports, and their posts.
+// The stands of the first n ports, and their posts.
 fn all_stands(
     alloc: Global,
     publisher: &mut Publisher,
@@ -180,7 +180,7 @@ fn stand_of(
     Ok((Stand { reader, seat }, post))
 }
 
-// So many inlets.
+// Inlets, as many as asked for.
 fn all_inlets(alloc: Global, gate: &mut Gate, count: usize) -> Result<Vec<Inlet>, AllocError>
     requires few { ((view gate.old.pass).made ≤ 16) × (count ≤ 16) }
     requires gate { view gate.old.pass ≡ taker (view gate.old.pass).made (view gate.old.pass).ports [] }

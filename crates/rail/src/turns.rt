@@ -19,7 +19,7 @@ use node::{Output, Peer};
 use std::sync::Wait;
 use table::Reply;
 
-/// Puts the messages among these, in order, save those on links that have failed. Refused for want of memory alone.
+/// Puts the messages among these, in order, save those on links that have failed. Refused only if memory is out.
 pub fn put_messages<L: Links>(
     links: &mut L,
     published: &Published,

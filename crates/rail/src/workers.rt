@@ -137,7 +137,7 @@ impl<R: Wait + Drop> Worker<R> {
 
     /// Takes the first message of the inbox that wasn't taken, and waits until there is one. An input is given to the
     /// node, the face after it is published, and only then its messages are put, and its replies. Refused with Closed
-    /// where every sender is gone: nothing was taken then; and with Memory after it took an input. Both stop the
+    /// if every sender is gone: nothing was taken then; and with Memory after it took an input. Both stop the
     /// server.
     pub fn turn<L: Links>(&mut self, links: &mut L) -> Result<Turn, RailFault>
         ensures turn { IsTurn self.old self.new (L.state links.old) (L.state links.new) result }

@@ -47,7 +47,7 @@ enum Meeting {
 }
 
 impl Arrivals {
-    /// Before anyone has connected, in a chain of so many.
+    /// Before anyone has connected, in a chain of n servers.
     pub(crate) fn new(alloc: Global, servers: u8) -> Result<Arrivals, AllocError> {
         let mut links = Vec::new(alloc);
         for _ in 0..servers {

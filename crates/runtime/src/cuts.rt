@@ -21,7 +21,7 @@ pub(crate) struct Connections {
 }
 
 impl Connections {
-    /// No connection yet, in a chain of so many servers. The mark is set if the server itself is called gone.
+    /// No connection yet, in a chain of n servers. The mark is set if the server itself is called gone.
     pub(crate) fn new(
         alloc: Global,
         id: u8,

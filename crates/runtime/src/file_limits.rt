@@ -5,7 +5,7 @@ use ends::{Sink, write_all};
 use io_threads::{most_files, open_files};
 use itoa::Buffer;
 
-/// Warns if fewer files may be open at once than so many servers with so many connections each need.
+/// Warns if fewer files may be open at once than n servers with c connections each need.
 pub(crate) fn warn_of_files<X: Sink>(servers: u8, connections: u32, shape: Shape, errors: &mut X) {
     let threads = u8::try_from(shape.threads).unwrap_or(16);
     let wanted = most_files(servers, connections, threads);

@@ -74,7 +74,7 @@ enum Found {
 }
 
 impl<R: Wait + Drop> Station<R> {
-    // Takes up to so many turns if no other thread is at the worker.
+    // Takes up to this many turns if no other thread is at the worker.
     fn try_turns(&self, most: usize, alarm: &Alarm) -> Option<Taken> {
         let mut bench = self.bench.try_lock()?;
         if self.ended.load(Ordering::SeqCst) {

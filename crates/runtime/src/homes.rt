@@ -144,7 +144,7 @@ impl Homes {
     }
 
     /// Tells the others of each failure that was noted and that they weren't told of. It answers false if it has to be
-    /// tried again, for want of memory.
+    /// tried again, as memory was out.
     pub(crate) fn tell<R: Wait + Drop>(&mut self, rt: &R, hall: &Hall<R>) -> bool {
         let mut left = self.untold;
         for _ in 0..self.homes.len() {

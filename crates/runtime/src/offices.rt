@@ -19,9 +19,9 @@ pub(crate) struct Office<R: Wait + Drop> {
 // What a look at the servers found.
 #[derive(Clone, Copy)]
 enum Found {
-    // This server has stopped by itself, and so many others haven't failed.
+    // This server has stopped by itself, and this many others haven't failed.
     Fallen(u8, usize),
-    // The others couldn't be told, for want of memory.
+    // The others couldn't be told, as memory was out.
     Untold,
     // Nothing is left to do.
     Nothing,

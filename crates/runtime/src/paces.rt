@@ -2,7 +2,7 @@
 
 use std::time::{Clock, Instant};
 
-/// Lets one line pass in so many seconds.
+/// Lets one line pass in this many seconds.
 #[derive(Clone, Copy)]
 pub(crate) struct Pace {
     seconds: u64,

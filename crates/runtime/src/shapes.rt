@@ -18,7 +18,7 @@ pub struct Shape {
 }
 
 impl Shape {
-    /// So many threads, or as many as usual; and so many seats, but one for each thread at least.
+    /// This many threads, or as many as usual; and this many seats, but one for each thread at least.
     pub fn new<R: Threads>(rt: &R, threads: Option<u32>, seats: u8) -> Shape
         ensures threads { IfSome threads (λ wanted. (1 ≤ wanted) → (wanted ≤ 16) → result.threads ≡ wanted) }
         ensures seats { (seats ≤ 16) → (result.threads ≤ seats) → result.seats ≡ seats }

@@ -68,7 +68,7 @@ pub lines_at : (text : List ℕ) (p : List ℕ × List ℕ)
     → lines text ≡ p.0 ∷ lines p.1
 lines_at text p some is = rw (← is) at (lines_by_cut text some)
 
--- where there is no LF, all is one line
+-- if there is no LF, all is one line
 pub lines_whole : (text : List ℕ) → 0 < length text → None ≡ cut lf text → lines text ≡ text ∷ []
 lines_whole text some is = rw (← is) at (lines_by_cut text some)
 
@@ -84,7 +84,7 @@ parts_at (b ∷ bs) (suc k) low before here =
     let no : nat_eq b lf ≡ false = before 0 (omega arith) in
     rw no (rw (parts_at bs k (omega arith) (λ j h. before (suc j) (omega arith)) here) refl)
 
--- where there is no LF, all is one part
+-- if there is no LF, all is one part
 pub parts_whole : (bytes : List ℕ)
     → 0 < length bytes
     → ((j : ℕ) → j < length bytes → nat_eq (get_or bytes j 0) lf ≡ false)

@@ -14,7 +14,7 @@ one_more f n = ap (flat_map f)
     (sym (map-id (first_numbers (n + 1))) ∙ map-range_with_len_more (λ i. i) 0 n n (omega arith)
     ∙ ap (λ front. front ++ n ∷ []) (map-id (first_numbers n))) ∙ sym (flat_map_more f [] (first_numbers n) n)
 
--- what a further server adds: a pair where it is another one, and nothing where it is the same
+-- what a further server adds: a pair if it is another one, and nothing if it is the same
 one_pair_more : (front : List (ℕ × ℕ)) (i j : ℕ)
     → front ++ pairs_with (j + 1) i ≡ (front ++ pairs_with j i) ++ cond (not (nat_eq i j)) ((i, j) ∷ []) []
 one_pair_more front i j =

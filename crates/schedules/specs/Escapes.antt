@@ -9,7 +9,7 @@ use Rattle.schedules.specs.Cuts.{lf, cr}
 abbrev pub backslash : ℕ
 backslash = 92
 
--- a byte that stands for itself where it is no backslash
+-- a byte that stands for itself if it is no backslash
 abbrev pub is_printable : ℕ → Bool
 is_printable b = nat_le 32 b && nat_le b 126
 

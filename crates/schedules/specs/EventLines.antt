@@ -87,6 +87,6 @@ abbrev pub events_in : ℕ → ℕ → EventLine → List Event
 events_in count connections (One event) = event ∷ []
 events_in count connections (Settle rounds) = settled rounds count connections
 
--- the events that a line stands for, where it is a line of events
+-- the events that a line stands for, if it is a line of events
 abbrev pub events_line : ℕ → ℕ → List ℕ → Option (List Event)
 events_line count connections line = option_map (events_in count connections) (event_line line)

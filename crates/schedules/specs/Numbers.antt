@@ -8,7 +8,7 @@ abbrev pub has_leading_zero : List ℕ → Bool
 has_leading_zero [] = false
 has_leading_zero (c ∷ cs) = c == 48 && nat_lt 0 (length cs)
 
--- the number that a field spells, where it is at least `low` and below `high`
+-- the number that a field spells, if it is at least `low` and below `high`
 abbrev pub number_in : ℕ → ℕ → List ℕ → Option ℕ
 number_in low high field =
     option_and_then (λ n. if nat_le low n && not (has_leading_zero field) then Some n else None) (number_of high field)

@@ -13,12 +13,12 @@ pub record ScheduleShown : Type 0 where
   pub homes : List ℕ
   pub events : List Event
 
--- what the first of some numbered lines says; else the number of the bad line: its own, or `end` where there is none
+-- what the first of some numbered lines says; else the number of the bad line: its own, or `end` if there is none
 abbrev pub first_says : {X : Type 0} → (List ℕ → Option X) → ℕ → List (ℕ × List ℕ) → Result X ℕ
 first_says says end [] = Err end
 first_says says end (line ∷ later) = ok_or (says line.1) line.0
 
--- what follows where nothing was bad
+-- what follows if nothing was bad
 infixl 10 ◌>>=◌
 abbrev pub ◌>>=◌ : {X Y : Type 0} → Result X ℕ → (X → Result Y ℕ) → Result Y ℕ
 (Ok x) >>= next = next x

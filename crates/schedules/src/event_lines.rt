@@ -28,7 +28,7 @@ const MOST_ROUNDS: usize = 500;
 pub enum EventLine {
     /// An event.
     One(Event),
-    /// So many rounds of settling.
+    /// This many rounds of settling.
     Settle(usize),
 }
 

@@ -4,7 +4,7 @@ ghost use Rattle.schedules.specs.Numbers.{has_leading_zero, number_in};
 
 use table::number;
 
-/// The number that a field spells, where it is at least `low` and below `high`.
+/// The number that a field spells, if it is at least `low` and below `high`.
 pub fn number_in(low: usize, high: usize, field: &[u8]) -> Option<usize>
     ensures { result ≡ number_in low high field.now }
 {

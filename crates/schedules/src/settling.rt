@@ -6,7 +6,7 @@ ghost use Rattle.schedules.specs.Settling.{first_numbers, pairs, pairs_with, rou
 use std::alloc::{AllocError, Global};
 use world::Event;
 
-/// Adds so many rounds of a chain of `count` servers with so many connections, in time linear in
+/// Adds this many rounds of a chain of `count` servers with this many connections, in time linear in
 /// their events.
 #[tactic(auto, unfolding(crate::specs::Settling::settled), using(crate::proofs::Rounds::one_copy_more))]
 pub fn push_rounds(

@@ -227,7 +227,7 @@ pub take_unsent : (stage next : Stage) (seat last : SeatState) (s : Submitting) 
 take_unsent stage next seat last s view is opens same =
     sent_at next last opens ∙ (same ∙ (sym (sent_at stage seat is) ∙ ap all_sent view))
 
--- where none is open
+-- if none is open
 pub free_opens : (next : Stage) (seat : SeatState) → next ≡ Free → IsOpen next seat
 free_opens next seat e = subst (λ x. IsOpen x seat) (sym e) tt
 

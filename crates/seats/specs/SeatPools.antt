@@ -11,7 +11,7 @@ IsAt origin s = s.seat.origin ≡ origin
 abbrev pub IsFreeAt : Origin → Submitting → Type 0
 IsFreeAt origin s = (s.seat.origin ≡ origin) × (s.waiting ≡ None)
 
--- What a pool of so many seats holds: those that are free, and those that were left, are of this server. There is room
+-- What a pool of n seats holds: those that are free, and those that were left, are of this server. There is room
 -- for each seat among either.
 pub record IsPool (origin : Origin) (seats : ℕ) (free left : List Submitting) (room space : ℕ) : Type 0 where
   pub are_free : All (IsFreeAt origin) free

@@ -53,7 +53,7 @@ impl Allowance {
     }
 }
 
-// Whether the estimate is below the limit, if each item takes so much beside its key and its data.
+// Whether the estimate is below the limit, if each item takes this much beside its key and its data.
 fn is_below(weight: Weight, item: u64, limit: u64) -> bool
     ensures { (result ≡ true) ↔ (weight.bytes + weight.items * item < limit) }
 {

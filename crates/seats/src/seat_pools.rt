@@ -196,7 +196,7 @@ impl SeatPool {
     }
 }
 
-// Makes room for one more free seat, and for so many in all among those that are free, and among those that were left.
+// Makes room for one more free seat, and for n in all among those that are free, and among those that were left.
 fn make_room(
     free: &mut Vec<Submitter>,
     left: &mut VecDeque<Submitter>,

@@ -54,7 +54,7 @@ pub enum Standing {
     Over,
 }
 
-/// So many calls are answered by looks or refused at most in one go, so that others' connections aren't held for long.
+/// The most calls that are answered by looks or refused in one go, so that others' connections aren't held for long.
 pub const MOST_CALLS: usize = 32;
 
 /// A connection at a server's seats: it is fed with input, makes the calls of that, one after another, and says what it

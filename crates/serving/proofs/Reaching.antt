@@ -57,11 +57,11 @@ module _ (read : List ℕ) (given : List Turn) (outcomes : List Outcome) (writte
       ap (λ cs. take (open_calls held.asked) cs) rest_are
       ∙ take_at (drop (length outcomes) (calls_of given)) (calls_of (to_come held)) (open_calls held.asked) rest_count
 
--- where none is open, none waits
+-- if none is open, none waits
 pub none_waits : (asked : Option Form) (cs : List Call) → asked ≡ None → take (open_calls asked) cs ≡ []
 none_waits asked cs idle = ap (λ o. take (open_calls o) cs) idle
 
--- where none waits, none is open
+-- if none waits, none is open
 pub idle_asked : (read : List ℕ) (outcomes : List Outcome) (written : List ℕ) (held : Held)
     → IsReached read outcomes written held
     → take (open_calls held.asked) (drop (length outcomes) (calls_of (turns read))) ≡ []

@@ -10,7 +10,7 @@ use thiserror::Error;
 #[error("a call got no reply")]
 pub struct CallFault;
 
-/// Whether an operation stores the data that comes with it. Only such a call is refused where there is no room.
+/// Whether an operation stores the data that comes with it. Only such a call is refused if there is no room.
 pub fn stores(op: &Op) -> bool
     ensures { result ≡ is_store op.now }
 {

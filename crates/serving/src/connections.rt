@@ -23,7 +23,7 @@ pub enum Wants {
     End(End),
 }
 
-/// So much output is written before a further call begins: 64 KiB.
+/// If this much output is due, it is written before a further call begins: 64 KiB.
 pub const OUTPUT: usize = 65_536;
 
 /// One client's connection. It is fed with what was read, says what it wants next, is handed the replies to its calls
@@ -83,7 +83,7 @@ impl Connection {
         let _ = &self.session;
     }
 
-    /// Takes a piece of input, which is copied once. It may be fed where it wants to read. Refused if memory is out,
+    /// Takes a piece of input, which is copied once. It may be fed if it wants to read. Refused if memory is out,
     /// and then the piece counts as not read.
     pub fn feed(&mut self, piece: &[u8]) -> Result<(), AllocError>
         requires idle { self.old.waiting ≡ [] }

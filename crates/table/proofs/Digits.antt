@@ -14,7 +14,7 @@ abbrev pub read_on : ℕ → ℕ → List ℕ → Option ℕ
 read_on bound n [] = Some n
 read_on bound n (c ∷ cs) = option_and_then (λ m. read_on bound m cs) (with_digit bound n c)
 
--- what the digits give, where they are below the bound
+-- what the digits give, if they are below the bound
 abbrev below : ℕ → ℕ → List ℕ → Option ℕ
 below bound n cs = cond (list_all is_ascii_digit cs && nat_lt (digits_value_after 10 n cs) bound)
     (Some (digits_value_after 10 n cs)) None
@@ -56,7 +56,7 @@ pub number_from_front : (bound : ℕ) (field : List ℕ)
 number_from_front bound [] some positive = absurd (omega arith)
 number_from_front bound (c ∷ cs) some positive = read_on_is bound 0 (c ∷ cs) (grind (arith, nat_tests))
 
--- where a digit can't be added, there is no number
+-- if a digit can't be added, there is no number
 pub read_on-stop : (bound n : ℕ) (cs : List ℕ) (i : ℕ)
     → i < length cs
     → with_digit bound n (get_or cs i 0) ≡ None

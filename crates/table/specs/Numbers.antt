@@ -5,7 +5,7 @@ use Rattle.std.specs.Char.{digit_value, is_ascii_digit}
 use Rattle.std.specs.List.{list_all}
 use Rattle.std.specs.Str.Parse.{digits_value}
 
--- the number that these bytes spell, where it is below the bound: digits, leading zeros allowed
+-- the number that these bytes spell, if it is below the bound: digits, leading zeros allowed
 abbrev pub number_of : ℕ → List ℕ → Option ℕ
 number_of bound [] = None
 number_of bound (c ∷ cs) =

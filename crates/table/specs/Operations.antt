@@ -33,7 +33,7 @@ abbrev pub is_all : Target → Bool
 is_all (One key) = false
 is_all All = true
 
--- the operation aims at all keys exactly where it is a flush (this project's rule)
+-- the operation aims at all keys exactly if it is a flush (this project's rule)
 abbrev pub Suits : Target → Op → Type 0
 Suits target op = is_flush op ≡ is_all target
 

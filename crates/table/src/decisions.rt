@@ -13,7 +13,7 @@ use itoa::Buffer;
 use std::alloc::{AllocError, AllocFailed, Global};
 
 /// The reply to an operation at a key that has this item or none, and the change that it makes.
-/// An item that is put has the number as its unique. The operation's data is not copied, save where it is joined with
+/// An item that is put has the number as its unique. The operation's data is not copied, save if it is joined with
 /// the item's. Refused only when out of memory.
 pub fn decide(
     alloc: Global,

@@ -84,7 +84,7 @@ impl Key {
         &self.place
     }
 
-    /// A copy of the key as a tree holds it, which shares the bytes. Refused only for want of memory.
+    /// A copy of the key as a tree holds it, which shares the bytes. Refused only if memory is out.
     pub fn to_place(&self) -> Result<Place, AllocError>
         ensures { IfOk result (λ place. place ≡ self.now) }
     {

@@ -5,7 +5,7 @@ ghost use Rattle.table.specs.Numbers.{number_of, with_digit, counter_of};
 // The most digits that a counter may have.
 const MOST_DIGITS: usize = 20;
 
-/// The number that bytes spell, where it is below 2^64: digits, leading zeros allowed (this project's rule).
+/// The number that bytes spell, if it is below 2^64: digits, leading zeros allowed (this project's rule).
 pub fn number(bytes: &[u8]) -> Option<u64>
     ensures { result ≡ number_of (2 ^ 64) bytes.now }
 {

@@ -13,7 +13,7 @@ const REQUESTS: &[u8] = b"set a 5 0 3\r\nxyz\r\ngets a\r\nbad\r\nget a b\r\nquit
 const REPLIES: &[u8] =
     b"STORED\r\nVALUE a 5 3 1\r\nxyz\r\nEND\r\nERROR\r\nVALUE a 5 3\r\nxyz\r\nEND\r\n";
 
-// What is beside a connection: its input, of which so many bytes are read at once, its output, of which so many are
+// What is beside a connection: its input, of which a few bytes are read at once, its output, of which a few are
 // written at once, and a table, which has room for what stores, or not.
 #[derive(Drop)]
 struct Beside<'a> {

@@ -301,7 +301,7 @@ fn fill_and_delete<R: Wait>(
     delete_each(rt, publisher, &mut beside, deletes)
 }
 
-// The same with so many keys, the first 1,000 of which are deleted.
+// The same with n keys, the first 1,000 of which are deleted.
 fn many<R: Wait>(rt: &R, alloc: Global, count: u32) -> Result<bool, Fail> {
     let keys = keys(alloc, count)?;
     let some = keys.as_slice().get(..1_000).ok_or("a thousand keys")?;
@@ -331,7 +331,7 @@ fn to_weigh(input: Input, items: u64, bytes: u64) -> Weighing {
     Weighing { input, weight }
 }
 
-// A set of so many bytes.
+// A set of n bytes.
 fn set_of(alloc: Global, key: &Key, size: usize) -> Result<Input, FaceFault> {
     match b"0123456789".as_slice().get(..size) {
         Some(data) => on(key, Op::Set(0, Bytes::copy_from_slice(alloc, data)?)),
@@ -371,7 +371,7 @@ fn deletes_to_weigh(alloc: Global, a: &Key, bcd: &Key) -> Result<Vec<Weighing>, 
     Ok(steps)
 }
 
-// Whether the face weighs so much after an input, and the other copy as much after one that changes nothing.
+// Whether the face weighs this much after an input, and the other copy as much after one that changes nothing.
 fn weighs<R: Wait>(rt: &R, publisher: &mut Publisher, step: Weighing) -> Result<bool, FaceFault> {
     let Weighing { input, weight } = step;
     feed(rt, publisher, input)?;
@@ -418,7 +418,7 @@ fn a_face_weighs_its_keys_and_data(rt: HostRuntime) -> Result<(), Fail> {
     Ok(())
 }
 
-// Whether a node that has taken an input opens with a face that weighs so much.
+// Whether a node that has taken an input opens with a face that weighs this much.
 fn opens_weighing<R: Wait>(
     rt: &R,
     alloc: Global,

@@ -226,7 +226,7 @@ fn ends_after_two_frames(rt: HostRuntime) -> Result<(), Fail> {
     Ok(())
 }
 
-// How many bytes the whole frames have among so many bytes of the forward and the acknowledgement.
+// How many bytes the whole frames have among the first n bytes of the forward and the acknowledgement.
 fn whole_among(bytes: usize) -> usize {
     if bytes < FORWARD.len() {
         0
@@ -237,7 +237,7 @@ fn whole_among(bytes: usize) -> usize {
     }
 }
 
-// Whether a link whose reads fail after so many bytes has handed on what is whole among them.
+// Whether a link whose reads fail after n bytes has handed on what is whole among them.
 fn reads_fail(
     rt: &impl Wait,
     alloc: Global,
@@ -296,7 +296,7 @@ fn both_put(alloc: Global, left: usize) -> Result<Put, WireFault> {
     Ok(Put { end, writer })
 }
 
-// Whether a put into a writer that fails after so many bytes ends so, and has written these bytes.
+// Whether a put into a writer that fails after n bytes ends so, and has written these bytes.
 fn has_put(
     alloc: Global,
     left: usize,

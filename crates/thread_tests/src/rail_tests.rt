@@ -80,7 +80,7 @@ fn idle_node(alloc: Global, count: u8) -> Result<Node, RailFault>
     }
 }
 
-// The first of so many servers, with stands for so many threads and one inlet.
+// The first of n servers, with stands for this many threads and one inlet.
 pub(crate) fn first_of<R: Wait + Drop>(
     rt: R,
     alloc: Global,
@@ -351,7 +351,7 @@ fn reader_beside_a_waiting_worker(rt: HostRuntime) -> Result<(), Fail> {
 // More calls than a seat has room for replies.
 const CALLS: u64 = 70;
 
-// Sends so many calls, and takes no reply.
+// Sends n calls, and takes no reply.
 fn submits_all<R: Wait>(rt: &R, alloc: Global, stand: &mut Stand) -> Result<bool, RailFault> {
     let mut sent = true;
     for _ in 0..CALLS {

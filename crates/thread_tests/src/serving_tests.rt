@@ -16,7 +16,7 @@ const FEW: usize = 7;
 // What a writer has room for.
 const MANY: usize = 4096;
 
-// A reader that gives these bytes, so many at once. It gives nothing beyond the cut before it has given all that comes
+// A reader that gives these bytes, n at once. It gives nothing beyond the cut before it has given all that comes
 // before that.
 #[derive(Drop)]
 struct CutReader<'a> {
@@ -40,7 +40,7 @@ impl Read for CutReader<'_> {
     }
 }
 
-// A writer that takes so many bytes at once.
+// A writer that takes at most n bytes at once.
 #[derive(Drop)]
 struct Writer {
     held: Vec<u8>,
@@ -185,7 +185,7 @@ struct Left {
     counts: Counts,
 }
 
-// A connection over this reader and a writer with room for so many bytes, which takes so many at once. Refused if
+// A connection over this reader and a writer with room for some bytes, which takes a few at once. Refused if
 // memory is out: a plain table refuses a call for nothing else.
 fn served_over(
     alloc: Global,
@@ -224,7 +224,7 @@ fn served_over(
     })
 }
 
-// A connection of which few bytes are read and written at once, to a table that has room for so many items.
+// A connection of which few bytes are read and written at once, to a table that has room for few items.
 fn served(alloc: Global, bytes: &[u8], most_items: usize) -> Result<Left, AllocError> {
     let reader = CutReader {
         bytes,
@@ -239,7 +239,7 @@ fn came_to(left: &Left, end: End, output: &[u8]) -> bool {
     left.end == Some(end) && left.output.as_slice() == output && left.counts.written == output.len()
 }
 
-// Whether so many calls were made, and so many refused.
+// Whether this many calls were made, and that many refused.
 fn has_made(left: &Left, calls: usize, refused: usize) -> bool {
     left.counts.calls == calls && left.counts.refused == refused
 }
@@ -285,7 +285,7 @@ const LARGE_SHOWN: &[u8] = b"VALUE c 7 65600\r\n";
 
 const LARGE_END: &[u8] = b"\r\nEND\r\n";
 
-// A block of so many bytes, with what comes before and after it.
+// A block of n bytes, with what comes before and after it.
 fn around_block(
     alloc: Global,
     before: &[u8],
@@ -338,7 +338,7 @@ fn is_same_if_cut(alloc: Global, exchange: Exchange<'_>, n: usize) -> Result<boo
     )
 }
 
-// Whether that holds of so many cuts, each one so many bytes after the one before it.
+// Whether that holds of n cuts, each one step after the one before it.
 fn is_same_at_each(
     alloc: Global,
     exchange: Exchange<'_>,

@@ -14,7 +14,7 @@ pub one_more : {X : Type 0} (front : List X) (f : ℕ → List X) (n : ℕ)
 one_more front f n =
     ap (λ text. front ++ text) (rounds.one_more f n) ∙ sym (append_assoc front (flat_map f (first_numbers n)) (f n))
 
--- the same where each number gives one
+-- the same if each number gives one
 pub one_mapped_more : {X : Type 0} (front : List X) (f : ℕ → X) (n : ℕ)
     → front ++ map f (first_numbers (n + 1)) ≡ (front ++ map f (first_numbers n)) ++ f n ∷ []
 one_mapped_more front f n =

@@ -62,7 +62,7 @@ taken_text (Gone j) = labelled (codes "told of ") j
 abbrev pub taking_line : ℕ → Input → List ℕ
 taking_line i input = labelled (codes "  server ") i ++ input_text input ++ codes "\n"
 
--- the ends of a chain of so many in a view
+-- the ends of a chain of n servers in a view
 unfoldable pub ends_text : ℕ → View → List ℕ
 ends_text count view =
     neighbour_text (codes ": head ") (head view count) ++ neighbour_text (codes ", tail ") (tail view count)
@@ -140,7 +140,7 @@ step_lines count i step =
     ++ flat_map appended_line step.entries ++ acknowledged_line count i step.before step.after
     ++ flat_map (output_line step.input) step.outputs
 
--- the lines that say what an event did, in a chain of so many
+-- the lines that say what an event did, in a chain of n servers
 abbrev pub deed_lines : ℕ → Event → Deed → List ℕ
 deed_lines count event Nothing = codes "  no effect\n"
 deed_lines count event Came = codes "  the bytes come\n"

@@ -9,7 +9,7 @@ use Rattle.traces.specs.EventLines.{event_line}
 use Rattle.traces.specs.Deeds.{deed_lines}
 use Rattle.traces.specs.Ends.{end_text}
 
--- the block of an event and its deed in a chain of so many: the event's line, and the lines of what it did
+-- the block of an event and its deed in a chain of n servers: the event's line, and the lines of what it did
 unfoldable pub block : ℕ → Event × Deed → List ℕ
 block count p = event_line p.0 ++ codes "\n" ++ deed_lines count p.0 p.1
 

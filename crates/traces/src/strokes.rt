@@ -18,7 +18,7 @@ pub struct Place {
 impl Place {
     ghost use Rattle.std.specs.Prelude.{◌≡◌, ◌+◌, ◌-◌, ◌^◌, min};
 
-    /// The place so much further to the right and below, as far as 64 bits count.
+    /// The place further to the right and below by this much, as far as 64 bits count.
     pub fn moved(self, right: usize, down: usize) -> Place
         ensures x { result.x ≡ min (self.x + right) (2 ^ 64 - 1) }
         ensures y { result.y ≡ min (self.y + down) (2 ^ 64 - 1) }
@@ -29,7 +29,7 @@ impl Place {
         }
     }
 
-    /// The place so much further to the left and above, or else at the edge.
+    /// The place further to the left and above by this much, or else at the edge.
     pub fn moved_back(self, left: usize, up: usize) -> Place
         ensures x { result.x ≡ self.x - left }
         ensures y { result.y ≡ self.y - up }

@@ -148,7 +148,7 @@ module _ {F : Type 0} (T : F → List ℕ → Record → Bool → Record → F �
   no_numbers true v o p is none h = h ∙ ap numbers_in (none refl) ∙ sym is
   no_numbers false v o p is none h = h
 
-  -- what `retain` leaves, where the closure takes the item out and keeps what has numbers
+  -- what `retain` leaves, if the closure takes the item out and keeps what has numbers
   pub cleared : (es kept : List (List ℕ × Record)) (f : F)
       → RetainsPairs T f es kept
       → IsDistinct (eq_by_cmp place_cmp) (keys_of es)

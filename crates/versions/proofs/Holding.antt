@@ -186,7 +186,7 @@ dirty-held rs cl es floor acked last h key =
 
 -- ---- changes
 
--- the same numbers are held where nothing changed
+-- the same numbers are held if nothing changed
 pub held-same : (rs ss : Records) (cl dl : List ℕ) (es fs : List LogEntry) (floor acked last : ℕ)
     → IsHeld rs cl es floor acked last
     → ((q : List ℕ) → numbers_in (record_at ss q) ≡ numbers_in (record_at rs q))

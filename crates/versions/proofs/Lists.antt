@@ -160,7 +160,7 @@ skip_step : (b : Bool) (n m : ℕ) (ns : List ℕ)
 skip_step true n m ns le = not_above n m (last_of ns) le
 skip_step false n m ns le = refl
 
--- an entry above a number passes the test exactly where the last that passes it is above that number
+-- an entry above a number passes the test exactly if the last that passes it is above that number
 pub any-above : (test : LogEntry → Bool) (floor k n : ℕ) (es : List LogEntry)
     → IsLog floor es
     → n ≡ floor + k

@@ -25,7 +25,7 @@ pub record StoreState : Type 0 where
 abbrev pub coded_items : Coded Items
 coded_items = map.code (coded_list coded_ℕ) coded_item
 
--- the number of the last entry, or the floor where there is none above it
+-- the number of the last entry, or the floor if there is none above it
 abbrev pub last_number : StoreState → ℕ
 last_number s = s.floor + length s.rest
 

@@ -77,7 +77,7 @@ fn settle_next(
     settle(records, clears, litter, &target, change, entries.is_empty());
 }
 
-// Makes the change in the base, and drops its number where one was noted. The last entry leaves no numbers if it
+// Makes the change in the base, and drops its number if one was noted. The last entry leaves no numbers if it
 // clears.
 fn settle(
     records: &mut BTreeMap<Place, Record>,

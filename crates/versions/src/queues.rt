@@ -3,7 +3,7 @@ ghost use Rattle.std.specs.Prelude.{◌≡◌};
 
 use std::collections::VecDeque;
 
-/// Gives back the buffer of a queue that is empty, where it has room for more than `kept`. It takes no memory.
+/// Gives back the buffer of a queue that is empty, if it has room for more than `kept`. It takes no memory.
 pub(crate) fn give_back<T: Drop>(queue: &mut VecDeque<T>, kept: usize)
     ensures { queue.new.items ≡ queue.old.items }
 {

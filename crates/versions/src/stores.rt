@@ -22,7 +22,7 @@ use std::marker::Model;
 use table::{Item, Key, Place};
 use thiserror::Error;
 
-// The room that the entries keep where none is left: enough for a chain under load, without a block of memory each
+// The room that the entries keep if none is left: enough for a chain under load, without a block of memory each
 // time.
 const KEPT: usize = 1_024;
 
@@ -110,7 +110,7 @@ impl Store {
         self.acked
     }
 
-    /// The number of the last entry, or the floor where there is none above it.
+    /// The number of the last entry, or the floor if there is none above it.
     pub fn last(&self) -> u64
         ensures last { result ≡ last_number self.now }
         ensures store { IsStore self.now }
@@ -227,7 +227,7 @@ impl Store {
         self.clean_version(key).is_some()
     }
 
-    /// The newest version of a clean key: its item, or none. `None` exactly where an entry above the acknowledged
+    /// The newest version of a clean key: its item, or none. `None` exactly if an entry above the acknowledged
     /// number puts, drops or clears the key (CRAQ, "Chain Replication with Apportioned Queries"). One search: time is
     /// logarithmic in the number of keys.
     pub fn clean_version(&self, key: &Key) -> Option<Option<&Item>>

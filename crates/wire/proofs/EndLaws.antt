@@ -65,7 +65,7 @@ rest_some bytes f rest e = by_length (length bytes) refl
 end_some : (bytes : List ℕ) (f : Frame) (rest : List ℕ) → front bytes ≡ Ok (f, rest) → end_in bytes ≡ end_in rest
 end_some bytes f rest e = ap (λ (r : List ℕ). end_at (front r)) (rest_some bytes f rest e)
 
--- where reading stops the stream ends so
+-- if reading stops the stream ends so
 pub ends_there : (bytes : List ℕ) (s : Stop) → front bytes ≡ Err s → IsEnd bytes (end_at (Err s))
 ends_there bytes s e = record {
   no_frames = frames_none bytes s e;

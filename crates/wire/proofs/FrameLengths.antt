@@ -323,7 +323,7 @@ within_frame =
     (λ b bytes rest e. within_turn 1 (288 + limit) (byte_at any) of_kind_at (within_byte any)
     (λ kind bytes rest e. within_kind kind))
 
--- where more bytes are missing
+-- if more bytes are missing
 pub short_front : (bytes : List ℕ) (k : ℕ) → front bytes ≡ Err (Short k) → length bytes < longest
 short_front bytes k e = within_frame.waits bytes k (plain_short bytes k e)
 

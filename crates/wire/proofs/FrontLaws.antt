@@ -115,7 +115,7 @@ partial_from bytes k e = record {
   not_old = λ h. short_not_old (front bytes) k e (old_to bytes h);
 }
 
--- where more is waited for it is so too without telling formats apart
+-- if more is waited for it is so too without telling formats apart
 pub plain_short : (bytes : List ℕ) (k : ℕ) → front bytes ≡ Err (Short k) → plain_front bytes ≡ Err (Short k)
 plain_short bytes k e =
     elim (by_format bytes) [
@@ -123,7 +123,7 @@ plain_short bytes k e =
       | inr other ↦ sym other.1 ∙ e
     ]
 
--- where a frame is read nothing else stands
+-- if a frame is read nothing else stands
 pub frame_not_malformed : (bytes : List ℕ) (x : Frame × List ℕ) → front bytes ≡ Ok x → IsMalformed bytes → ⊥
 frame_not_malformed bytes x e h = ok_not_err (front bytes) x Malformed e (malformed_to bytes h)
 
@@ -263,7 +263,7 @@ pub stopped_is : (fault : ReadFault) (stop other : Stop) (r : Read Frame)
     → r ≡ Err other
 stopped_is fault stop other r e f h = subst (λ fault. Fails fault r) e h ∙ ap (λ (s : Stop). Err s) f
 
--- where memory was wanted a frame stands
+-- if memory was wanted a frame stands
 no_error : (r : Read Frame) (s : Stop) → IsOk r → r ≡ Err s → ⊥
 no_error (Ok x) s h e = cc
 no_error (Err t) s h e = cc

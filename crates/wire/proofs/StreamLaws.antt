@@ -37,7 +37,7 @@ fuel (suc k) (suc j) bytes hk hj = by_front (front bytes) refl (λ rest below lo
     by_front (Ok x) e ih = let less = front_takes bytes x.0 x.1 e in ap (λ (fs : List Frame). x.0 ∷ fs)
         (ih x.1 (omega arith) (omega arith))
 
--- nothing is read where reading stops
+-- nothing is read if reading stops
 pub frames_none : (bytes : List ℕ) (s : Stop) → front bytes ≡ Err s → frames_in bytes ≡ []
 frames_none bytes s e = by_length (length bytes)
   where

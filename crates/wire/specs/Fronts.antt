@@ -33,7 +33,7 @@ abbrev pub Read : Type 0 → Type 0
 Read A = Result (A × List ℕ) Stop
 
 infixl 10 ◌>>=◌
--- what was read is handed to what follows; where reading stops, it stops there
+-- what was read is handed to what follows; if reading stops, it stops there
 abbrev pub ◌>>=◌ : {A B : Type 0} → Result A Stop → (A → Result B Stop) → Result B Stop
 (Ok x) >>= f = f x
 (Err e) >>= f = Err e

@@ -12,7 +12,7 @@ use table::{Key, LIMIT, are_key_bytes};
 /// Why no value is read from the front.
 #[derive(Clone, Copy)]
 pub enum Stop {
-    /// So many bytes more have to come, before anything else can be told.
+    /// This many bytes more have to come, before anything else can be told.
     Short(usize),
     /// A field is out of its range.
     Malformed,

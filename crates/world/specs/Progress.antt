@@ -30,5 +30,5 @@ pub record IsAt (k : Connection) (course : Course) : Type 0 where
   -- session has still to give;
   pub whole : (more : List ℕ)
       → turns (course.stream ++ more) ≡ past course ++ (open_turn k ++ to_come (fed k.session more))
-  -- and its session is closed, or will be by the bytes that it has, exactly where the stream ends in its last request.
+  -- and its session is closed, or will be by the bytes that it has, exactly if the stream ends in its last request.
   pub end : (more : List ℕ) → will_close (fed k.session more) ≡ ends (course.stream ++ more)

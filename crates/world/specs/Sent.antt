@@ -33,14 +33,14 @@ faults_next (Calls call form ∷ ts) = zero
 abbrev pub on_piece : List ℕ → Bool → Course → Course
 on_piece bytes closed course = if closed then course else record course { stream = course.stream ++ bytes }
 
--- a begin where no call is open moves the place over the faults that stand next among the turns of what has come
+-- a begin if no call is open moves the place over the faults that stand next among the turns of what has come
 abbrev pub on_begin : Stage → Course → Course
 on_begin Idle course = record course { place = course.place + faults_next (drop course.place (turns course.stream)) }
 on_begin Begun course = course
 on_begin Asked course = course
 on_begin (Replied reply) course = course
 
--- a hand where a reply waits moves it over one call
+-- a hand if a reply waits moves it over one call
 abbrev pub on_hand : Stage → Course → Course
 on_hand Idle course = course
 on_hand Begun course = course

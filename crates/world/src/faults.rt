@@ -18,7 +18,7 @@ pub enum SceneFault {
     #[error("more than 64 homes, or one that is no server")]
     BadHomes,
     /// An earlier event ran out of memory.
-    #[error("an earlier event was refused for want of memory")]
+    #[error("an earlier event ran out of memory")]
     Spoiled,
 }
 

@@ -1,4 +1,4 @@
-//! Calls that are forgotten: what `none_forgotten` denies is possible in a world, and comes where servers take a wrong
+//! Calls that are forgotten: what `none_forgotten` denies is possible in a world, and comes if servers take a wrong
 //! step.
 ghost use Rattle.std.specs.Prelude.{◌≡◌, ℕ, List, false};
 ghost use Rattle.node.specs.declared.messages.Input.{Input};

@@ -72,7 +72,7 @@ pub fn no_turn_is_left_out()
 }
 
 /// A `begin` at a living home after which no call is open has passed all turns of the stream: so it leaves no whole
-/// request there. And its session is closed exactly where the stream has come to a request after which there is none:
+/// request there. And its session is closed exactly if the stream has come to a request after which there is none:
 /// `quit`, or a line that is too long.
 pub fn begin_leaves_no_request()
     ensures passed { (count : ℕ) (homes : List ℕ) (events : List Event) (c : ℕ) (k : Connection)

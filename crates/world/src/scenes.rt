@@ -74,7 +74,7 @@ impl Scene {
 
     /// One event. A piece costs its bytes, which are copied once; a begin, the bytes that it reads; a hand, the reply's
     /// text; a call, message or notice, the server's step, whose outputs are moved. None costs more because the world
-    /// has run long, but where a buffer grows. Refused with `Memory`, which spoils the scene, and with `Spoiled` from
+    /// has run long, but if a buffer grows. Refused with `Memory`, which spoils the scene, and with `Spoiled` from
     /// then on.
     pub fn event(&mut self, event: &Event) -> Result<(), SceneFault>
         ensures ok { OnOk result (self.new ≡ going (happens self.old.world event.now)) }
@@ -137,7 +137,7 @@ pub fn run(
 ) -> Result<Transcript, SceneFault>
     ensures transcript { IfOk result (λ t. t ≡ transcript_of (run_of count homes.now events.now)) }
     // One order of calls, each with the reply of a single table, whatever servers fail and when. It holds of the
-    // schedule, also where this run is refused.
+    // schedule, also if this run is refused.
     ensures order { count ≤ 16 → (h : List Entry) × IsLinearization count homes.now events.now h }
     // Each begun call is shown under its name.
     ensures shown_calls { IfOk result

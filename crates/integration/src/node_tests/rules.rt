@@ -108,7 +108,7 @@ fn expect_dirty(chain: &Chain, a: &Key) -> Result<(), Fail> {
     }
 }
 
-// So many sets of one key at node 0. Nothing is delivered.
+// This many sets of one key at node 0. Nothing is delivered.
 fn set_many(alloc: Global, chain: &mut Chain, a: &Key, count: usize) -> Result<(), Fail> {
     for port in 0..count {
         set_at(alloc, chain, 0, port)?;
@@ -128,7 +128,7 @@ fn deliver_many(chain: &mut Chain, a: &Key, count: usize) -> Result<(), Fail> {
     Ok(())
 }
 
-// So many calls were answered, in the order of their ports.
+// This many calls were answered, in the order of their ports.
 fn are_stored_in_order(chain: &Chain, count: usize) -> bool {
     let mut next: usize = 0;
     for (port, reply) in &chain.replies {
@@ -147,7 +147,7 @@ fn settle_sets(alloc: Global, chain: &mut Chain, a: &Key, count: usize) -> Resul
     deliver_many(chain, a, count)
 }
 
-// Whether so many sets are answered in order, the last is shown, and no message is left.
+// Whether n sets are answered in order, the last is shown, and no message is left.
 fn settles_sets(
     alloc: Global,
     chain: &mut Chain,

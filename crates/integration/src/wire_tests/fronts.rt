@@ -78,7 +78,7 @@ fn cut_vectors_are_nothing(rt: HostRuntime) -> Result<(), Fail> {
     Ok(())
 }
 
-// What stands there where this byte of the put's vector is 255, by the format.
+// What stands there if this byte of the put's vector is 255, by the format.
 fn with_255(place: usize) -> Found {
     match place {
         0 | 1 | 12 | 21 | 23 | 24 | 29 | 30 => Found::Malformed,

@@ -127,7 +127,7 @@ fn count_in(frames: &mut Frames, stream: &[u8], size: usize) -> Result<usize, Fa
     Ok(count)
 }
 
-// How many frames are read, in pieces of so many bytes.
+// How many frames are read, in pieces of n bytes.
 fn count_of(alloc: Global, stream: &[u8], size: usize) -> Result<usize, Fail>
     requires { 0 < size }
 {

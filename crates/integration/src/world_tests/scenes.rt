@@ -201,7 +201,7 @@ fn a_run_over_two_servers(rt: HostRuntime) -> Result<(), Fail> {
     holds(delete_is_not_found(rt.alloc()))
 }
 
-// Why there is no scene with so many connections at this home, if there is none.
+// Why there is no scene with n connections at this home, if there is none.
 fn refusal(
     alloc: Global,
     count: usize,

@@ -6,7 +6,7 @@ use std::process::Abort;
 use std::test::Fail;
 use world::Event;
 
-// The number of the first bad line, or 0 where there is none.
+// The number of the first bad line, or 0 if there is none.
 fn bad_line(alloc: Global, text: &[u8]) -> Result<u64, Fail> {
     match read_schedule(alloc, text) {
         Ok(_) => Ok(0),
@@ -46,7 +46,7 @@ fn has_events(alloc: Global, text: &[u8], wanted: &[Event]) -> Result<bool, Fail
     Ok(schedule.events.as_slice() == wanted)
 }
 
-// Whether a text is read as so many servers and these homes.
+// Whether a text is read as n servers and these homes.
 fn has_homes(alloc: Global, text: &[u8], count: usize, wanted: &[usize]) -> Result<bool, Fail> {
     let schedule = read_schedule(alloc, text)?;
     Ok(schedule.count == count && schedule.homes.as_slice() == wanted)
@@ -198,7 +198,7 @@ fn bad_head_lines(rt: HostRuntime) -> Result<(), Fail> {
     )
 }
 
-// A schedule's first two lines, with so many homes.
+// A schedule's first two lines, with n homes.
 fn text_of_homes(alloc: Global, count: usize) -> Result<Vec<u8>, Fail> {
     let mut text = Vec::from_slice(alloc, b"servers 1\nhomes")?;
     for _ in 0..count {

@@ -26,7 +26,7 @@ use Rattle.interleavings.proofs.served.Along.{served_from-append}
 abbrev talked : ServingChain
 talked = served done 2 talk_homes talk_moves
 
--- the first connection then, where the get found this
+-- the first connection then, if the get found this
 abbrev talked_with : Option Item → Connection
 talked_with found = record {
   read = codes "set a 0 0 1\r\np\r\nget a\r\n";

@@ -24,7 +24,7 @@ use Rattle.interleavings.specs.WorkedServing.{talk_homes, refused_moves}
 abbrev talked : ServingChain
 talked = served done 2 talk_homes refused_moves
 
--- what is due, where the get found this
+-- what is due, if the get found this
 abbrev due_with : Option Item → List ℕ
 due_with found =
     codes "SERVER_ERROR out of memory storing object\r\n" ++ item_text key false found ++ codes "END\r\n"

@@ -94,7 +94,7 @@ Reaches w l = (events : List Event) × (length events ≤ 4) × StandsFor l (run
 pub lives_on : (l : Chain) (w : World) (i : ℕ) → StandsFor l w → (l.servers i).stopped ≡ false → lives w i ≡ true
 lives_on l w i h going = h.lives i ∙ ap not going
 
--- a seat sits as before where the same servers have stopped
+-- a seat sits as before if the same servers have stopped
 pub sits_still : (w : World) (l m : Chain) → ((k : ℕ) → (m.servers k).stopped ≡ (l.servers k).stopped)
     → (o : Option Connection) (s : Seat)
     → Sits l w o s

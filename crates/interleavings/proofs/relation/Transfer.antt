@@ -39,7 +39,7 @@ none_of None p f h = refl
 none_of (Some x) p f h = absurd (let no : Some x ≡ None = sym (f x refl) ∙ h in cc)
 
 module _ (count : ℕ) (homes : List ℕ) (moves : List Move) (f : Follows count homes moves) where
-  -- behind all moves, also where k is more than there are
+  -- behind all moves, also if k is more than there are
   run_all : (k : ℕ) → length moves ≤ k → moved count homes (take k moves) ≡ moved count homes moves
   run_all k l = ap (moved count homes) (take_all k moves l)
 

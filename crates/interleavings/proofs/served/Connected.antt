@@ -85,7 +85,7 @@ none_due : (due : Option Call) (r c : ℕ) → r + 0 ≡ c + length (as_list due
 none_due None r c e few = refl
 none_due (Some call) r c e few = absurd (omega (arith, e, few))
 
--- where no call is open, none is to be made
+-- if no call is open, none is to be made
 pub nothing_due : (k : Connection) → IsConnected k → k.session.asked ≡ None → k.due ≡ None
 nothing_due k t idle =
     none_due k.due (length k.replies) (length k.calls)

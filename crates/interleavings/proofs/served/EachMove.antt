@@ -137,7 +137,7 @@ open_below : (o : Option Form) → open_calls o ≤ 1
 open_below None = omega arith
 open_below (Some form) = omega arith
 
--- where a call is to be made, all others have their replies
+-- if a call is to be made, all others have their replies
 even : (k : Connection) (call : Call) → IsConnected k → k.due ≡ Some call → length k.replies ≡ length k.calls
 even k call t e =
     let n : length k.replies + open_calls k.session.asked ≡ length k.calls + 1 =

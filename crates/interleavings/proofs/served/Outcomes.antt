@@ -25,7 +25,7 @@ pub unrefused_none : (cs : List Call) → unrefused cs [] ≡ cs
 unrefused_none [] = refl
 unrefused_none (c ∷ cs) = refl
 
--- where all is replied, all are
+-- if all is replied, all are
 pub unrefused_all : (cs : List Call) (rs : List Reply) → unrefused cs (map Replied rs) ≡ cs
 unrefused_all [] [] = refl
 unrefused_all [] (r ∷ rs) = refl

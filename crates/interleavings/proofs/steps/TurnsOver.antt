@@ -68,7 +68,7 @@ module _ (l : Chain) (i : ℕ) (input : Input) (turn : (l.servers i).turn ≡ So
     | inr other ↦ subst (λ q. In x q) (queue_other k other) g
   ]
 
-  -- the messages of server x that wait at each server, where the input is none of them
+  -- the messages of server x that wait at each server, if the input is none of them
   from_kept : (x : ℕ)
       → messages_from x (input ∷ (l.servers i).inbox) ≡ messages_from x (l.servers i).inbox
       → (y : ℕ)

@@ -62,7 +62,7 @@ served_changed v w same c change old new served at_c is =
     rw (← same) (ap (λ ks. record v { connections = ks })
     (written_served v v.connections c change old new (rw (← same) at served) at_c is))
 
--- the world with no change, where the connection isn't served
+-- the world with no change, if the connection isn't served
 pub unserved_kept : (w : World) (c : ℕ) (change : Connection → Connection)
     → home_lives w (slice_get w.connections c) ≡ false
     → w ≡ with_connection w c (where_home_lives w change)
@@ -142,7 +142,7 @@ one_unworked w c old new served at_c none is =
     ap (λ ks. record w { connections = ks }) kept ∙ ap (sent_in w c old.home) none
     ∙ sym (worked_one w c (slice_get w.connections c) old (served_at w w.connections c old served at_c) served)
 
--- where none waits, none is worked
+-- if none waits, none is worked
 pub none_worked : (v w : World)
     → v ≡ w
     → (c : ℕ) (old new : Connection)

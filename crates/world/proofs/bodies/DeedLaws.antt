@@ -1,4 +1,4 @@
--- What events do, where they apply and where they don't.
+-- What events do, if they apply and if they don't.
 use Rattle.std.proofs.Common.{◌≡◌, ℕ, Bool, true, cond, List, [], ◌∷◌, get_or, Option, None, Some, refl, sym, ◌∙◌, ap}
 use Rattle.std.proofs.Common.{subst}
 use Rattle.std.specs.Prelude.{slice_get}

@@ -96,7 +96,7 @@ with_other t i cause a j c call g other h =
     let one : h.connection ≡ r.asked.connection = same_Some _ _ (sym h.here ∙ r.asked.here) in
     other (sym h.home ∙ ap (λ (k : Connection). k.home) one ∙ r.asked.home))
 
--- an open update's call is, where it is open still
+-- an open update's call is, if it is open still
 pub with_update : (t : Traced) (i : ℕ) (cause : Cause) (a : Action) (u : OpenUpdate)
     → IsStep t i cause a
     → In u (act (server t.world i) a).state.pend

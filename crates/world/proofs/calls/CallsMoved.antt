@@ -65,7 +65,7 @@ progress_if : (b : Bool) (k l : Connection) → Progress k l → Progress k (con
 progress_if true k l c = c
 progress_if false k l c = stays_self k
 
--- where its home lives
+-- if its home lives
 at_home : (w : World) (change : Connection → Connection) (k : Connection)
     → Progress k (change k)
     → Progress k (where_home_lives w change k)

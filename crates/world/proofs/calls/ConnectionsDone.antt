@@ -69,7 +69,7 @@ out_done t i a o x h =
       out_kept _ x.connection x.place h.1 k.0 k.2 h.6,
     )
 
--- what is known where an update enters
+-- what is known if an update enters
 entered_known : (t : Traced) (i : ℕ) (cause : Cause) (a : Action) (o k : ℕ) (x : CallId)
     → IsStep t i cause a
     → (e : IsEntered t i a o k x)

@@ -1,4 +1,4 @@
--- What is known where a server does one action.
+-- What is known if a server does one action.
 use Rattle.std.proofs.Common.{◌≡◌, ℕ, ◌-◌, ◌<◌, ◌≤◌, true, Some, arith, subst}
 use Rattle.std.specs.Prelude.{slice_get}
 use Rattle.versions.specs.Entries.{LogEntry, IsEntry}

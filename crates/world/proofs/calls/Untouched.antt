@@ -29,7 +29,7 @@ none_behind key zero es h = h
 none_behind key (suc n) [] h = h
 none_behind key (suc n) (e ∷ es) h = none_behind key n es (or_parts (touches key e) (list_any (touches key) es) h).1
 
--- where none above a number touches the key, none above a greater one does
+-- if none above a number touches the key, none above a greater one does
 pub untouched_later : (key : List ℕ) (m n : ℕ) (es : List LogEntry)
     → m ≤ n
     → list_any (touches key) (drop m es) ≡ false

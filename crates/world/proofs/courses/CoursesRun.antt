@@ -27,11 +27,11 @@ use Rattle.world.proofs.lists.Standing.{changed_cases, stood_before}
 use Rattle.world.proofs.courses.CoursesAlong.{SessionLaws, Along, along_piece, along_begin, along_hand, along_asked}
 use Rattle.world.proofs.courses.CoursesAlong.{along_replied, sent_along, answered_along, begun_along}
 
--- the c-th connection, where there is one, is along this course
+-- the c-th connection, if there is one, is along this course
 abbrev IsAlong : ℕ → World → Course → Type 0
 IsAlong c w m = (k : Connection) → slice_get w.connections c ≡ Some k → Along k m
 
--- where there is a c-th connection after, there was one before, and it is along its course
+-- if there is a c-th connection after, there was one before, and it is along its course
 record Goes (c : ℕ) (u w : World) (m : Course) : Type 0 where
   was : (new : Connection)
       → slice_get w.connections c ≡ Some new
@@ -138,7 +138,7 @@ work_along c d w m (Some k) is all = cond_both (lives w k.home) (sent_in w d k.h
     by_stage Asked e = stays c w m all
     by_stage (Replied reply) e = stays c w m all
 
--- an event at connection d, where its home lives, that moves its course on
+-- an event at connection d, if its home lives, that moves its course on
 at_living : (c d : ℕ) (w : World) (m : Course) (change : Connection → Connection) (goes : Connection → Course → Course)
     (after : Connection → Course)
     → ((k : Connection) → c ≡ d → after k ≡ goes k m) → ((k : Connection) → c ≢ d → after k ≡ m)

@@ -37,14 +37,14 @@ first_behind [] x (suc n) e = absurd (omega (arith, e))
 first_behind (y ∷ xs) x zero e = absurd (omega (arith, e))
 first_behind (y ∷ xs) x (suc n) e = first_behind xs x n (omega (arith, e))
 
--- where no turn is open, no call is
+-- if no turn is open, no call is
 none_open : (k : Connection) (m : Course) (a : Along k m) → a.open_turn ≡ [] → open_call k ≡ None
 none_open k m a none =
     let called : k.calls ≡ calls_of a.past = a.called ∙ ap (λ ts. calls_of a.past ++ calls_of ts) none
     ∙ append-nil (calls_of a.past) in
     none_at_end k.calls (length k.replies) (a.answered ∙ ap length (sym called))
 
--- where one is open, it is the turn of the open call
+-- if one is open, it is the turn of the open call
 some_open : (k : Connection) (m : Course) (a : Along k m) (call : Call) (form : Form)
     → a.open_turn ≡ Calls call form ∷ []
     → open_call k ≡ Some call
@@ -52,7 +52,7 @@ some_open k m a call form one =
     ap (λ calls. slice_get calls (length k.replies)) (a.called ∙ ap (λ ts. calls_of a.past ++ calls_of ts) one)
     ∙ first_behind (calls_of a.past) call (length k.replies) a.answered
 
--- where a turn is open, a call is
+-- if a turn is open, a call is
 one_and_none : (k : Connection) (m : Course) (a : Along k m)
     → IsOpenTurn k.session.asked a.open_turn
     → open_call k ≡ None
@@ -84,7 +84,7 @@ at_along k m a = record {
 
 -- ---- what a begin leaves
 
--- where no call is open, no turn is
+-- if no call is open, no turn is
 no_turn_open : (s : Stage) (k : Connection) (m : Course) (a : Along k m)
     → IsOpen s k.session.asked a.open_turn
     → open_call k ≡ None
@@ -94,7 +94,7 @@ no_turn_open Begun k m a o none = absurd (one_and_none k m a o none)
 no_turn_open Asked k m a o none = absurd (one_and_none k m a o none)
 no_turn_open (Replied reply) k m a o none = absurd (one_and_none k m a o none)
 
--- where nothing is open and nothing is to come, all turns are past
+-- if nothing is open and nothing is to come, all turns are past
 all_past : (k : Connection) (m : Course)
     → Along k m
     → open_call k ≡ None
@@ -106,7 +106,7 @@ all_past k m a none left =
     ∙ ap (λ h. a.past ++ to_come h) (fed_none k.session) ∙ ap (λ ts. a.past ++ ts) left ∙ append-nil a.past in
     rw whole (sym a.place)
 
--- nothing is to come of what a session has, and it is closed exactly where it has come to the end
+-- nothing is to come of what a session has, and it is closed exactly if it has come to the end
 record IsSpent (h : Held) : Type 0 where
   none : to_come h ≡ []
   closed : h.closed ≡ will_close h
@@ -116,7 +116,7 @@ abbrev OpensNone : Given → Type 0
 OpensNone r = (call : Call) (form : Form) → r.0 ≡ Some (Calls call form) → ⊥
 
 module _ (law : SessionLaws) (takes : FaultsTakeBytes) where
-  -- where no call stands behind the faults that stand next, nothing is to come
+  -- if no call stands behind the faults that stand next, nothing is to come
   nothing_left : (n : ℕ) (h : Held)
       → most_faults h < n
       → OpensNone (past_faults_upto n h)
@@ -184,7 +184,7 @@ module _ (law : SessionLaws) (takes : FaultsTakeBytes) where
         | inr same ↦ left_where_it_lives w (lives w same.0.home) same.0 new m refl same.3 alive a none
       ]
 
-  -- a connection after a begin at a living home, where no call is open
+  -- a connection after a begin at a living home, if no call is open
   abbrev Begins : (count : ℕ) (homes : List ℕ) (events : List Event) (c : ℕ) (k : Connection) → Type 0
   Begins count homes events c k =
       (slice_get (run_of count homes events).connections c ≡ Some k)

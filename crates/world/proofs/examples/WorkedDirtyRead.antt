@@ -21,7 +21,7 @@ use Rattle.world.specs.Transcripts.{TranscriptShown, transcript_of}
 use Rattle.world.specs.WorkedSchedules.{set_of, get_of, dirty_homes, dirty_events, dirty_transcript}
 use Rattle.world.proofs.examples.WorkedOrders.{calls_in, replies_in}
 
--- what is shown, where the read found this
+-- what is shown, if the read found this
 abbrev shown_with : Option Item → TranscriptShown
 shown_with found = record {
   connections =

@@ -61,7 +61,7 @@ eight = eight_with (decimal 8)
 abbrev pub one_put : Items
 one_put = insert empty key seven
 
--- a head's entry of the incr, where it finds this
+-- a head's entry of the incr, if it finds this
 abbrev pub entry_on : Option Item → LogEntry
 entry_on found = record {
   number = 2;
@@ -150,7 +150,7 @@ found_eight = get-insert nat_list_cmp_total one_put key eight key
 abbrev last : World
 last = run_from (taken_twice (entry_on (Some seven))) resent_behind
 
--- where the next head takes it, and these events follow
+-- if the next head takes it, and these events follow
 pub ends_with : (es : List Event)
     → run_of 3 resent_homes (resent_before ++ Deliver 2 1 ∷ es) ≡ run_from (taken_twice (entry_on (Some seven))) es
 ends_with es =
@@ -161,7 +161,7 @@ ends_with es =
 ends : run_of 3 resent_homes resent_events ≡ last
 ends = ends_with resent_behind
 
--- what is shown, where the get found this
+-- what is shown, if the get found this
 abbrev shown_with : List ℕ → Option Item → List ℕ → TranscriptShown
 shown_with digits found text = record {
   connections =

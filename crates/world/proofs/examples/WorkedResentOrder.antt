@@ -46,7 +46,7 @@ incr_once h order i j e f here there first second =
     one_place 3 resent_homes resent_events h order i j e f here there
     (λ k. record { connection = (one.0 ∙ sym two.0) k; place = (one.1 ∙ sym two.1) k })
 
--- what follows the first incr, where that found this
+-- what follows the first incr, if that found this
 abbrev behind_incr : Option Item → Type 0
 behind_incr found = IsLegalFrom (record { items = changed one_put (One key) (decision found (Incr 1) 2).1; count = 2 })
     ((get, Value (Some (eight_with (codes "8")))) ∷ (incr, Number 9) ∷ [])

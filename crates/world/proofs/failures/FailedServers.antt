@@ -1,4 +1,4 @@
--- A server of the chain lives exactly where no event has failed it.
+-- A server of the chain lives exactly if no event has failed it.
 use Rattle.std.proofs.Common.{◌≡◌, ℕ, Bool, true, false, not, ◌&&◌, ◌||◌, List, [], ◌∷◌, length, Option, Some, None}
 use Rattle.std.proofs.Common.{refl, ap, ◌∙◌, arith, inl, inr, length-set, eq-eqb}
 use Rattle.std.specs.Prelude.{slice_get, nat_lt, ◌==◌}

@@ -43,7 +43,7 @@ get-blanked x t [] i = sym (cond_same (t i) x)
 get-blanked x t (y ∷ ys) zero = refl
 get-blanked x t (y ∷ ys) (suc i) = get-blanked x (λ i. t (suc i)) ys i
 
--- the first test passes where the second does
+-- the first test passes if the second does
 abbrev Within : (ℕ → Bool) → (ℕ → Bool) → Type 0
 Within u t = (i : ℕ) → u i ≡ true → t i ≡ true
 
@@ -235,7 +235,7 @@ part-put_all w i (o ∷ os) =
 
 -- ---- steps
 
--- alike worlds stay so where the same server, which lives, takes the same input
+-- alike worlds stay so if the same server, which lives, takes the same input
 part-takes : (w : World) (i : ℕ) (input : Input) → lives w i ≡ true
     → living_part (takes (living_part w) i input) ≡ living_part (takes w i input)
 part-takes w i input h =

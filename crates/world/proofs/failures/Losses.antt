@@ -171,7 +171,7 @@ one_lost w c home old call ss served at_c home_is call_is state =
           ∙ lost_here w home (ap (lives w) home_is ∙ home_alive w (slice_get w.connections c) old here served),
     )
 
--- the same, where the step is refused
+-- the same, if the step is refused
 pub worked_lost : (v w : World) → v ≡ w → (c home : ℕ) (old : Connection) (call : Call) (ss : List ServerState)
     → home_lives w (slice_get w.connections c) ≡ true → old ≡ get_or v.connections c old → home ≡ old.home
     → Some call ≡ to_work old.stage old
@@ -182,7 +182,7 @@ worked_lost v w same c home old call ss served at_c home_is call_is state =
     (record v { servers = ss; failed = union v.failed (single home) })) same
     (λ served. one_lost v c home old call ss served at_c home_is call_is state) served
 
--- where none waits, none is worked
+-- if none waits, none is worked
 pub unworked : (v w : World) → v ≡ w → (c : ℕ) (old : Connection) → home_lives w (slice_get w.connections c) ≡ true
     → old ≡ get_or v.connections c old → None ≡ to_work old.stage old
     → w ≡ worked w c (slice_get w.connections c)

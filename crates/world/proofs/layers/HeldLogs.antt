@@ -63,7 +63,7 @@ holds-acked_to es s n h low high =
       numbered = h.numbered;
     }
 
--- the items at a number are those after so many entries
+-- the items at a number are those after that number of entries
 pub held_items : (es : List LogEntry) (s : StoreState) (n : ℕ)
     → Holds es s
     → s.floor ≤ n

@@ -75,7 +75,7 @@ tail_log t i f l h tail =
     let lt = (alive t.world i h).within in
     held_last (log t i) (server t.world i).store (l.holds i lt) ∙ ap length (sym (l.last i (tail_is_last t i f h tail)))
 
--- ---- where the store stays
+-- ---- if the store stays
 
 fit_alike : (t : Traced) (i : ℕ) (a : Action) → Logged t → i < count t
     → (act (server t.world i) a).state.store ≡ (server t.world i).store

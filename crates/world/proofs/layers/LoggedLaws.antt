@@ -87,7 +87,7 @@ logged_from t u l later f k = record {
       [ inl old ↦ carries_later t u later i m.view m.body (l.carries i j m old) | inr new ↦ new ];
 }
 
--- where all servers and logs stay
+-- if all servers and logs stay
 pub kept_alike : (t u : Traced)
     → Logged t
     → Later t u

@@ -78,7 +78,7 @@ all_taken w i input l fit all same k low =
       | inr other ↦ rw (server-acted_other w i k (step (server w i) input) other) (all k (rw same at low))
     ]
 
--- behind t, where server i takes this input, stands a traced world
+-- behind t, if server i takes this input, stands a traced world
 record Took (t : Traced) (i : ℕ) (input : Input) : Type 0 where
   after : Traced
   goes : (before : Memory) → IsOf before i (Some input) → GoesOn before t after

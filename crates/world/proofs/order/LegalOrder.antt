@@ -1,4 +1,4 @@
--- The list of updates and reads is legal, where each update is decided at its number, and each read answered at its
+-- The list of updates and reads is legal, if each update is decided at its number, and each read answered at its
 -- own.
 use Rattle.std.proofs.Common.{◌≡◌, ℕ, suc, ◌+◌, List, [], ◌∷◌, ◌++◌, map, Some, refl, sym, ap, arith, subst, append-nil}
 use Rattle.std.specs.Prelude.{slice_get, ◌==◌}

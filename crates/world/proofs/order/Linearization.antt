@@ -349,7 +349,7 @@ in_time count homes events t l moment x y j before at_j =
       },
     )
 
--- The order of a traced world is a linearization, where each moment of the schedule was one of its past.
+-- The order of a traced world is a linearization, if each moment of the schedule was one of its past.
 pub linearization : (count : ℕ) (homes : List ℕ) (events : List Event) (t : Traced)
     → t.world ≡ run_of count homes events
     → Lawful t

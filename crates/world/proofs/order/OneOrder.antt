@@ -32,7 +32,7 @@ module _ (n : ℕ) (homes : List ℕ) (events : List Event) (few : n ≤ 16) whe
   abbrev last : Traced
   last = all.at (length events)
 
-  -- behind the first k events, where there are no more than k
+  -- behind the first k events, if there are no more than k
   run_all : (k : ℕ) → length events ≤ k → run_of n homes (take k events) ≡ run_of n homes events
   run_all k l = ap (run_of n homes) (take_all k events l)
 

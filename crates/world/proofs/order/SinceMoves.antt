@@ -127,7 +127,7 @@ entries_done t u i cause a later s g x k e lt h = elim (cases_eq x i) [
   | inr other ↦ s.entries x k e (rw (count_done u i a) at lt) (rw (log_other u i a x other) at h)
 ]
 
--- the number that answers an open read, where that asks under a number that wasn't given at t
+-- the number that answers an open read, if that asks under a number that wasn't given at t
 answered_since : (t u : Traced) (i : ℕ) (cause : Cause) (r : OpenRead) (n : ℕ)
     → Later t u
     → IsKnownSince t u i cause

@@ -91,7 +91,7 @@ open_begun : (t : Traced)
     → IsSome (begun_call t.world (open_id t.world r.port))
 open_begun t l i r low h = let w = l.calling.asks i r low h in rw (with_begun t i r.port w.0 w.1) refl
 
--- from any moment on, where the outset was one
+-- from any moment on, if the outset was one
 pub since_moment : Laws → (z t : Traced) → Goes z t → Lawful z → Lawful t → Since z z → Since t t
 since_moment laws z t goes l lawful s =
     since_itself z t lawful (since_on laws z z t goes l (later_same z) s) (open_begun t lawful)

@@ -48,7 +48,7 @@ replies_are [] (reply ∷ replies) few = absurd (omega (arith, few))
 replies_are (call ∷ calls) (reply ∷ replies) few =
     ap (λ rs. reply ∷ rs) (replies_are calls replies (omega (arith, few)))
 
--- a call that is shown has a reply exactly where it is one of the first
+-- a call that is shown has a reply exactly if it is one of the first
 has_reply : (calls : List Call) (replies : List Reply) (p : ℕ) (s : CallTranscript)
     → slice_get (calls_shown calls replies) p ≡ Some s
     → IsSome s.reply ↔ p < length replies
@@ -163,7 +163,7 @@ module _ (count : ℕ) (homes : List ℕ) (events : List Event) (t : TranscriptS
       let s = of c k here in
       omega (arith, law c s.connection s.here, length_of_shown c k s, ap length (replies_of_shown c k s))
 
-  -- a call that is shown was begun, and is answered where its reply is shown
+  -- a call that is shown was begun, and is answered if its reply is shown
   begun_there : (c p : ℕ) (k : ConnectionShown) (call : CallTranscript)
       → slice_get k.calls p ≡ Some call
       → Of c k
@@ -189,7 +189,7 @@ module _ (count : ℕ) (homes : List ℕ) (events : List Event) (t : TranscriptS
       let within = slice_get_within s.connection.replies p reply.0 reply.1 in
       (has_reply_there c p k call there s).1 within
 
-  -- where it says quiet, each call that it shows at a living home has its reply
+  -- if it says quiet, each call that it shows at a living home has its reply
   pub none_forgotten_shown : NoneForgotten (run_of count homes events)
       → t.quiet ≡ true
       → EachShown t (λ c k. lives (run_of count homes events) k.home ≡ true

@@ -1,4 +1,4 @@
--- What is left of a traced world where a connection changes, a link loses its first message, or a server fails.
+-- What is left of a traced world if a connection changes, a link loses its first message, or a server fails.
 use Rattle.std.proofs.Common.{◌≡◌, ℕ, suc, List, ◌∷◌, Some, None, refl, inl, inr}
 use Rattle.std.specs.Prelude.{slice_get}
 use Rattle.node.specs.declared.messages.Peer.{Peer}

@@ -41,6 +41,6 @@ found_last w i None h e =
     absurd (let p = living_parts w i h in both_ways _ p.1 (no_previous w.failed (length w.servers) e i p.0))
 found_last w i (Some k) h e = (k, refl)
 
--- where one lives there is a last one
+-- if one lives there is a last one
 pub has_last : (w : World) (i : ℕ) → lives w i ≡ true → (k : ℕ) × (last_living w ≡ Some k)
 has_last w i h = found_last w i (last_living w) h refl

@@ -87,7 +87,7 @@ pub server_other : (t : Traced) (i : ℕ) (a : Action) (k : ℕ) → k ≢ i →
 unfolding done
 server_other t i a k other = server-put_all _ i _ k ∙ server_apart t.world i k _ other
 
--- what an action puts out is a message only where it is sent
+-- what an action puts out is a message only if it is sent
 no_message : (reply : Reply) (o : Option OpenUpdate) (j : ℕ) (m : Peer) → In (To j m) (answered reply o) → ⊥
 no_message reply None j m (k, h) = absurd cc
 no_message reply (Some u) j m (zero, h) = absurd cc
@@ -210,7 +210,7 @@ reads_done t i (Enter port call) = sym (append-nil t.reads)
 reads_done t i (Ask port key) = sym (append-nil t.reads)
 reads_done t i (Show port key) = refl
 
--- where servers live, the committed entries are the log of the last of them, as it is then; where none lives, what they
+-- if servers live, the committed entries are the log of the last of them, as it is then; if none lives, what they
 -- were
 pub committed_done : (t : Traced) (i : ℕ) (a : Action) (k : ℕ)
     → last_living t.world ≡ Some k

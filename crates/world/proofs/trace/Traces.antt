@@ -44,7 +44,7 @@ count t = length t.world.servers
 abbrev pub last_living : World → Option ℕ
 last_living w = predecessor w.failed (length w.servers)
 
--- the committed entries: the log of the greatest living server; where none lives, what they were last
+-- the committed entries: the log of the greatest living server; if none lives, what they were last
 abbrev pub committed_by : Option ℕ → List (List LogEntry) → List LogEntry → List LogEntry
 committed_by None logs before = before
 committed_by (Some i) logs before = slice_index_or logs i []

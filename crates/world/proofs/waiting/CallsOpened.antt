@@ -1,4 +1,4 @@
--- An own call that is taken in is open behind the step, or answered by it, where numbers are left.
+-- An own call that is taken in is open behind the step, or answered by it, if numbers are left.
 use Rattle.std.proofs.Common.{◌≡◌, ℕ, ◌<◌, Bool, true, false, not, List, [], ◌∷◌, None, refl, sym, subst, ◌⊎◌, inl, inr}
 use Rattle.std.proofs.lemmas.Bool.{cond_both, and_from, lt-ltb, or_right}
 use Rattle.table.specs.Operations.{is_update, Suits}

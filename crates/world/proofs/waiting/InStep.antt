@@ -51,7 +51,7 @@ in_step_handed Begun k e h = h
 in_step_handed Asked k e h = h
 in_step_handed (Replied reply) k e h = omega (arith, h, ap open_calls e, length-append k.replies (reply ∷ []))
 
--- where one connection changes
+-- if one connection changes
 in_step_changed : (w : World) (c : ℕ) (change : Connection → Connection)
     → ((k : Connection) → slice_get w.connections c ≡ Some k → InStep k → InStep (change k))
     → AllInStep w
@@ -74,7 +74,7 @@ at_home w c change kept all =
     (λ k here h. cond_both (lives w k.home) (change k) k (λ (x : Connection). InStep x) (λ t. kept k h)
     (λ f. h)) all
 
--- where a server takes an input
+-- if a server takes an input
 in_step_taken : (w : World) (i : ℕ) (input : Input) → AllInStep w → AllInStep (takes w i input)
 unfolding with_server
 in_step_taken w i input all c k' here =

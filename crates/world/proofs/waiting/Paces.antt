@@ -1,4 +1,4 @@
--- How many ids and asks a step takes: one where it takes in an own call, and otherwise none.
+-- How many ids and asks a step takes: one if it takes in an own call, and otherwise none.
 use Rattle.std.proofs.Common.{ℕ, ◌+◌, ◌≤◌, List, [], ◌∷◌, None, Some, arith, ap}
 use Rattle.node.specs.declared.messages.Input.TheVariants.{Call as Called, From, Gone}
 use Rattle.node.specs.Servers.{ServerState, Outcome}

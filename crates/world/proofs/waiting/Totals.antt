@@ -14,7 +14,7 @@ pub total_low : (f g : ℕ → ℕ) (n : ℕ) → ((o : ℕ) → o < n → f o �
 total_low f g zero h = omega arith
 total_low f g (suc n) h = omega (arith, total_low f g n (λ o l. h o (omega (arith, l))), h n (omega arith))
 
--- where one is less by so much, the sum is
+-- if one is less by some number, so is the sum
 pub total_one : (f g : ℕ → ℕ) (n i : ℕ) → i < n → ((o : ℕ) → o < n → f o ≤ g o) → total f n + g i ≤ total g n + f i
 total_one f g zero i l h = absurd (omega (arith, l))
 total_one f g (suc n) i l h = elim (cases_eq i n) [
@@ -23,7 +23,7 @@ total_one f g (suc n) i l h = elim (cases_eq i n) [
       (arith, total_one f g n i (omega (arith, l, other)) (λ o p. h o (omega (arith, p))), h n (omega arith))
 ]
 
--- and where two are
+-- and if two are
 pub total_two : (f g : ℕ → ℕ) (n i j : ℕ)
     → i ≢ j
     → i < n
@@ -46,7 +46,7 @@ total_two f g (suc n) i j apart l k h = elim (cases_eq i n) [
   ]
 ]
 
--- where one grows by at most one, the sum does
+-- if one grows by at most one, the sum does
 pub total_grows : (f g : ℕ → ℕ) (k n a : ℕ) → ((o : ℕ) → o ≢ a → g o ≤ f o) → g a ≤ f a + k → total g n ≤ total f n + k
 total_grows f g k zero a h one = omega arith
 total_grows f g k (suc n) a h one = elim (cases_eq n a) [

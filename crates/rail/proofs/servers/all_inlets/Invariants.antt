@@ -3,7 +3,7 @@ use Rattle.crossbeam_channel.specs.Claims.{view}
 use Rattle.rail.specs.Inbox.{taker}
 use Rattle.rail.proofs.servers.all_inlets.Given as goal
 
--- so many are made
+-- the number that was made
 abbrev pub invariant-loop : goal.invariant-loop
 invariant-loop l = record {
   inlets : l.inlets.items ≡ replicate l.counter [];

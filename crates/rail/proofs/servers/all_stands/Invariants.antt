@@ -4,7 +4,7 @@ use Rattle.rail.specs.Inbox.{taker}
 use Rattle.rail.specs.Servers.{posts_from, stands_from}
 use Rattle.rail.proofs.servers.all_stands.Given as goal
 
--- so many are made
+-- the number that was made
 abbrev pub invariant-loop-port : goal.invariant-loop-port
 invariant-loop-port l = record {
   publisher : l.publisher ≡ l.fn.publisher;
