@@ -6,7 +6,11 @@ import socket
 FIRST, LAST = 23500, 32000
 # Runs that go on at the same time begin this far apart, so that their servers don't meet.
 APART = 100
+# A run that is given a place of its own among others, as tools/test_all gives each of its tests one, begins there.
+PLACES, PLACE = 12, os.environ.get("CRAQ_PORTS_PLACE", "")
 next_port = FIRST + os.getpid() * 61 % ((LAST - FIRST) // APART) * APART
+if PLACE.isdigit():
+    next_port = FIRST + int(PLACE) % PLACES * ((LAST - FIRST) // PLACES)
 
 
 def free_ports(count):

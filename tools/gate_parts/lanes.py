@@ -7,8 +7,9 @@ bytes that the kit expects; call(given, jobs) does it with that many processes, 
 under its key from then on. A call itself looks in `given` whether what it waits for went well.
 
 The task that is ready and has the longest chain of others after it begins first. How many processes each gets is found by
-playing the whole on the clock of the costs, again and again with one change, and keeping what ends sooner. No verdict
-rests on the costs: a wrong figure costs time alone.
+playing the whole on the clock of the costs, again and again with one change, and keeping what ends sooner. It is played
+with other costs too, which differ a little: else what ends soonest by the costs ends late once one of them is wrong. No
+verdict rests on the costs: a wrong figure costs time alone.
 
   lanes.py --selftest     tries the order and the limits on made-up tasks
 """
@@ -35,8 +36,10 @@ MARGIN = 1.15
 OF_A_LINE = 0.3
 # Shorter tasks get one process.
 SHORT = 60
-# How many changes of a plan are played.
-STEPS = 1500
+# How many changes of a plan are played, with how many other costs each, and how far these are from the measured ones.
+STEPS = 1200
+OTHERS = 3
+APART = 0.2
 # Where the costs of this repository's crates stand.
 FILE = os.path.join(os.path.dirname(os.path.realpath(__file__)), "costs.txt")
 # The first lines of a file of costs.
@@ -136,13 +139,15 @@ class Plan:
         able = [it for it in self.tasks if self.seconds[it] >= SHORT and kind_of(it) not in NARROW]
         if most < 2 or not able:
             return
-        picks, best, least = random.Random(0), self.wanted, self.worth()
+        picks = random.Random(0)
+        clocks = [self.seconds, *(self.differing(picks) for _ in range(OTHERS))]
+        best, least = self.wanted, self.worth(clocks)
         for _ in range(STEPS):
             changed = dict(best)
             for it in picks.sample(able, min(len(able), picks.choice((1, 1, 2, 3)))):
                 changed[it] = picks.randint(1, most)
             self.set_wanted(changed)
-            found = self.worth()
+            found = self.worth(clocks)
             if found <= least:
                 best, least = changed, found
         self.set_wanted(best)
@@ -154,10 +159,14 @@ class Plan:
             after = max((self.behind[it] for it in self.above[key]), default=0)
             self.behind[key] = self.seconds[key] / SPEED[wanted[key]] + after
 
-    def worth(self):
-        """What this choice takes on the clock, and a little for each processor second."""
-        clock, used, _ = played(self)
-        return clock + used / (20 * self.lanes)
+    def differing(self, picks):
+        """Seconds of each task that differ from the expected ones."""
+        return {key: seconds * picks.uniform(1 - APART, 1 + APART) for key, seconds in self.seconds.items()}
+
+    def worth(self, clocks):
+        """What this choice takes on these clocks, and a little for each processor second."""
+        found = [played(self, seconds=it) for it in clocks]
+        return sum(clock + used / (20 * self.lanes) for clock, used, _ in found)
 
     def next_of(self, queue, running):
         """The task to begin now and its processes, or None. `running` has the processes of each running task."""
@@ -268,11 +277,12 @@ def in_lanes(plan, told=None):
     return given
 
 
-def played(plan, running=None, done=()):
-    """Plays the lanes on the clock of the costs: the seconds on the clock, the processor seconds and the bytes held at most
-    of all tasks, or of what is left if some are `done` and some running ({key: (jobs, seconds since it began)})."""
-    now, used, most, running = 0.0, 0.0, 0.0, running or {}
-    ends = [(max(0.0, plan.seconds[key] / SPEED[jobs] - gone), str(key), key) for key, (jobs, gone) in running.items()]
+def played(plan, running=None, done=(), seconds=None):
+    """Plays the lanes on the clock of the costs, or of these seconds: the seconds on the clock, the processor seconds and
+    the bytes held at most of all tasks, or of what is left if some are `done` and some running ({key: (jobs, seconds since
+    it began)})."""
+    now, used, most, running, seconds = 0.0, 0.0, 0.0, running or {}, seconds or plan.seconds
+    ends = [(max(0.0, seconds[key] / SPEED[jobs] - gone), str(key), key) for key, (jobs, gone) in running.items()]
     heapq.heapify(ends)
     running = {key: jobs for key, (jobs, _) in running.items()}
     queue = Queue(plan, running, done)
@@ -282,12 +292,12 @@ def played(plan, running=None, done=()):
             key, jobs = chosen
             queue.begun(key)
             running[key] = jobs
-            heapq.heappush(ends, (now + plan.seconds[key] / SPEED[jobs], str(key), key))
+            heapq.heappush(ends, (now + seconds[key] / SPEED[jobs], str(key), key))
             most = max(most, sum(plan.held(*it) for it in running.items()))
             continue
         end, _, key = heapq.heappop(ends)
         now = max(now, end)
-        used += plan.seconds[key] * WORK[running.pop(key)]
+        used += seconds[key] * WORK[running.pop(key)]
         queue.ended(key)
     return now, used, most
 
