@@ -1,5 +1,6 @@
 -- Every schedule's calls stand in one order, in which a single table would have answered them.
-use Rattle.std.proofs.Common.{◌≡◌, ℕ, zero, suc, ◌<◌, ◌≤◌, List, length, take, None, arith, inl, inr, sym, ap, ◌∙◌, subst}
+use Rattle.std.proofs.Common.{◌≡◌, ℕ, zero, suc, ◌<◌, ◌≤◌, List, length, take, None, arith, inl, inr, sym, ap, ◌∙◌}
+use Rattle.std.proofs.Common.{subst}
 use Rattle.std.proofs.lemmas.Bool.{cases_lt}
 use Rattle.std.proofs.lemmas.List.{take_all}
 use Rattle.world.specs.declared.events.Event.{Event}
@@ -52,7 +53,7 @@ module _ (n : ℕ) (homes : List ℕ) (events : List Event) (few : n ≤ 16) whe
 
   homes_there : (k : ℕ) → AtHomes homes (all.at k)
   homes_there k =
-      let first : AtHomes homes (all.at 0) = rw all.start (homes_first n homes) in
+      let first = subst (λ t. AtHomes homes t) (sym all.start) (homes_first n homes) in
       homes_on laws homes (all.at 0) (all.at k) (all.goes 0 k (omega arith)) (all.lawful 0) first
 
   follows : (k : ℕ) → Follows (all.at k) (all.at (suc k))
@@ -64,7 +65,7 @@ module _ (n : ℕ) (homes : List ℕ) (events : List Event) (few : n ≤ 16) whe
   }
 
   issued_there : (k : ℕ) → k ≤ length events → AllIssued (all.at k)
-  issued_there zero l = rw all.start (issued_first n homes)
+  issued_there zero l = subst (λ t. AllIssued t) (sym all.start) (issued_first n homes)
   issued_there (suc k) l =
       let e = found_below events k (omega (arith, l)) in
       let next = next_world (outset n homes) events all k e.0 e.1 in
