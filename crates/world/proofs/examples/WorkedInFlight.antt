@@ -32,11 +32,13 @@ replied = refl
 
 -- after four events both are begun, and none is answered
 pub called_soon : calls_in (run_of 2 flight_homes (take 4 flight_events)) ≡ (first ∷ []) ∷ (second ∷ []) ∷ []
-unfolding flight_events line_limit with_connection
+unfolding flight_events line_limit has union single is_below adds next_from predecessor most appended entered trimmed
+    left_open replies risen passed_on take_update server link with_server with_link with_connection put_all
 called_soon = refl
 
 pub replied_late : replies_in (run_of 2 flight_homes (take 4 flight_events)) ≡ [] ∷ [] ∷ []
-unfolding flight_events line_limit with_connection
+unfolding flight_events line_limit has union single is_below adds next_from predecessor most appended entered trimmed
+    left_open replies risen passed_on take_update server link with_server with_link with_connection put_all
 replied_late = refl
 
 -- after one more the first is given to its server, and the second isn't
