@@ -1,7 +1,5 @@
 -- A worked schedule: two sets on two keys, both on their way from one server to the head.
-use Rattle.std.proofs.Common.{◌≡◌, List, [], ◌∷◌, take, true, false, refl}
-use Rattle.table.specs.declared.operations.Call.{Call}
-use Rattle.table.specs.declared.operations.Reply.{Reply}
+use Rattle.std.proofs.Common.{◌≡◌, [], ◌∷◌, take, true, false, refl}
 use Rattle.table.specs.declared.operations.Reply.TheVariants.{Stored}
 use Rattle.proto.specs.Words.{line_limit}
 use Rattle.node.specs.Views.{has, union, single, is_below, adds, next_from, predecessor}

@@ -119,12 +119,11 @@ module _ (t u : Traced) (f : Follows t u) where
               ap (λ h. slice_get (issued_by u h) (waits.0.id - 1)) home ∙ p.1
                   ∙ ap (λ n. Some (open_id u.world n)) port ∙ ap Some (open_id_is u.world c k here),
             )
-        | inr x ↦ absurd (not_asked v a o c k new.here
-            (
-              x.0,
-              (x.1.0, x.1.1 ∙ ap (λ p. Some (Answered p x.0)) (sym new.port)),
-              ap (λ q. may_have q x.0) called ∙ fits_update r.call x.0 is x.2,
-            )
+        | inr x ↦ absurd (not_asked v a o c k new.here (
+          x.0,
+          (x.1.0, x.1.1 ∙ ap (λ p. Some (Answered p x.0)) (sym new.port)),
+          ap (λ q. may_have q x.0) called ∙ fits_update r.call x.0 is x.2,
+        )
             k (stood (acted v a o) u.world c k r.world here) stage)
       ]
 

@@ -1,6 +1,6 @@
 -- The order of a traced world is a linearization of its schedule.
 use Rattle.std.proofs.Common.{◌≡◌, ℕ, ◌+◌, ◌-◌, ◌<◌, ◌≤◌, List, length, take, Option, None, Some, refl, sym, ap, ◌∙◌}
-use Rattle.std.proofs.Common.{suc, false, arith, subst, ◌⊎◌, inl, inr}
+use Rattle.std.proofs.Common.{suc, arith, subst, ◌⊎◌, inl, inr}
 use Rattle.std.specs.Prelude.{slice_get, IsSome}
 use Rattle.std.proofs.lemmas.Bool.{both_ways, cases_lt, cases_order}
 use Rattle.std.proofs.lemmas.Option.{same_Some, slice_get_within}
