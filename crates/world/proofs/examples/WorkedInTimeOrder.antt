@@ -25,6 +25,7 @@ front = entry (name 1 0) second Stored
 abbrev back : Entry
 back = entry (name 0 0) first Stored
 
+-- the calls of the two connections
 abbrev pub both_calls : List (List Call)
 both_calls = (first ∷ []) ∷ (second ∷ []) ∷ []
 
@@ -59,6 +60,7 @@ exchanged_once i j x one two =
     ap (λ (y : CallId). y.connection) (one.same ∙ sym two.same) in
     omega (arith, connection_of i one.entry one.here, connection_of j two.entry two.here, same)
 
+-- their replies
 abbrev pub both_replies : List (List Reply)
 both_replies = (Stored ∷ []) ∷ (Stored ∷ []) ∷ []
 
@@ -112,6 +114,7 @@ at_two x y (inr a) (inl b) same =
     let e : 0 ≡ 1 = same_Some 0 1 (ap (slice_get sets_homes) (sym a.0) ∙ same ∙ ap (slice_get sets_homes) b.0) in
     absurd (omega (arith, e))
 
+-- so the clause on turns holds of it
 pub exchanged_in_turn : (x y : CallId) (j : ℕ)
     → GivenBefore 2 sets_homes sets_events x y
     → StandsAt sets_exchanged j y

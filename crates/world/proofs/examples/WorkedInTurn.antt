@@ -42,12 +42,14 @@ replied_still count homes events few j k l x reply h =
 
 -- ---- what a linearization asks for, but for turns
 
+-- each entry is a begun call
 pub flight_begun : (i : ℕ) (e : Entry)
     → slice_get sets_exchanged i ≡ Some e
     → begun_call (run_of 2 flight_homes flight_events) e.id ≡ Some e.call
 flight_begun i e here =
     calls_under 2 flight_homes flight_events both_calls called e.id ∙ exchanged_called i e here
 
+-- each answered call stands in it, with its reply
 pub flight_answered : (x : CallId) (reply : Reply)
     → reply_to (run_of 2 flight_homes flight_events) x ≡ Some reply
     → (i : ℕ) × (at : StandsAt sets_exchanged i x) × (at.entry.reply ≡ reply)
@@ -81,6 +83,7 @@ never_precedes x y j before at_j = elim (cases_lt before.k 4) [
       ∙ begun_still 2 flight_homes flight_events few_servers 4 before.k late y e.call soon)
 ]
 
+-- so real time allows the exchange
 pub flight_in_time : (x y : CallId) (j : ℕ)
     → Precedes 2 flight_homes flight_events x y
     → StandsAt sets_exchanged j y

@@ -13,6 +13,7 @@ use Rattle.world.proofs.trace.LaterMoves.{Kept, kept_came, kept_begun, kept_aske
 use Rattle.world.proofs.trace.Outsets.{fresh_at}
 use Rattle.world.proofs.moments.Goings.{Laws, Goes, kept_on}
 
+-- each connection is at its home
 abbrev pub AtHomes : List ℕ → Traced → Type 0
 AtHomes homes t =
     (c : ℕ) (k : Connection) → slice_get t.world.connections c ≡ Some k → slice_get homes c ≡ Some k.home
@@ -49,11 +50,13 @@ homes_moved homes t (Takes i j ms) h c k' here =
 homes_moved homes t (Fails i) h c k' here =
     h c k' (ap (λ ks. slice_get ks c) (sym (connections_failing t i)) ∙ here)
 
+-- so it is at every later moment
 pub homes_on : Laws → (homes : List ℕ) (t u : Traced) → Goes t u → Lawful t → AtHomes homes t → AtHomes homes u
 homes_on laws homes t u goes l h =
     kept_on laws (λ before. AtHomes homes) (λ before v m g r lawful later after k. homes_moved homes v m k)
     None t u (goes None) l h
 
+-- and at the first
 pub homes_first : (n : ℕ) (homes : List ℕ) → AtHomes homes (outset n homes)
 homes_first n homes c k here =
     let f = fresh_at homes c k here in

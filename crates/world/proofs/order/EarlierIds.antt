@@ -17,6 +17,7 @@ HasBelow es o id k =
 one_more : (es : List LogEntry) (o id k : ℕ) → HasBelow es o id k → HasBelow es o id (suc k)
 one_more es o id k h = (h.0, h.1, omega (arith, h.2), h.3, h.4, h.5)
 
+-- if there are more than m entries of an origin below k, one of them has the id m + 1
 pub entry_below : (o m : ℕ) (es : List LogEntry) (k : ℕ)
     → ((j : ℕ) (e : LogEntry) → slice_get es j ≡ Some e → e.id ≡ entries_of e.origin (take j es) + 1)
     → k ≤ length es

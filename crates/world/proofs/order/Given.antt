@@ -152,6 +152,7 @@ module _ (t u : Traced) (f : Follows t u) where
     | inr new ↦ new_issued c k new here stage
   ]
 
+-- and at the outset none is with a server
 pub issued_first : (n : ℕ) (homes : List ℕ) → AllIssued (outset n homes)
 issued_first n homes c k here stage =
     absurd (let f = fresh_at homes c k here in let e : Idle ≡ Asked = ap (λ (x : Connection). x.stage) (sym f.2)
@@ -165,6 +166,7 @@ pub record IsGivenAt (w : World) (x : CallId) : Type 0 where
   pub here : slice_get w.connections x.connection ≡ Some connection
   pub low : x.place < length connection.replies + given_calls connection.stage
 
+-- where the test says so
 pub given_at : (w : World) (x : CallId) → is_given w x ≡ true → IsGivenAt w x
 given_at w x h = by_connection (slice_get w.connections x.connection) refl h
   where

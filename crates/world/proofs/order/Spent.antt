@@ -85,6 +85,7 @@ full_later t u i l m later full = (
 
 -- ---- who has no room issues no update
 
+-- the server is full, and these are the updates that it has issued
 record IsSpent (i : ℕ) (xs : List CallId) (before : Memory) (t : Traced) : Type 0 where
   full : IsFull t i
   issued : issued_by t i ≡ xs
@@ -133,6 +134,7 @@ spent_moved i xs before t m g r l later lawful h = record {
   issued = none_moved t i m g l.framed h.full ∙ h.issued;
 }
 
+-- between two moments a full server issues none
 pub none_issued : Laws → (t u : Traced) (i : ℕ) → Goes t u → Lawful t → IsFull t i → issued_by u i ≡ issued_by t i
 none_issued laws t u i goes l full =
     (kept_on laws (IsSpent i (issued_by t i)) (spent_moved i (issued_by t i)) None t u (goes None) l

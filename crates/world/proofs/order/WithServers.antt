@@ -101,6 +101,7 @@ pub stood : (w u : World) (c : ℕ) (k : Connection)
     → slice_get w.connections c ≡ Some k
 stood w u c k same here = ap (λ (x : World). slice_get x.connections c) (sym same) ∙ here
 
+-- a call that is with its server behind an event was with it before, or is the one that the event gave to it
 pub asked_way : (w u : World) (c : ℕ) (k : Connection)
     → Way w u
     → slice_get u.connections c ≡ Some k
