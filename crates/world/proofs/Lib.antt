@@ -4,9 +4,9 @@ pub mod trace
 pub mod layers
 pub mod calls
 pub mod moments
-pub mod order
 pub mod streams
 pub mod waiting
+pub mod order
 pub mod courses
 pub mod shown
 pub mod failures

@@ -9,5 +9,7 @@ pub mod WorkedAlone
 pub mod WorkedAloneOrder
 pub mod WorkedInTime
 pub mod WorkedInTimeOrder
+pub mod WorkedInFlight
+pub mod WorkedInTurn
 pub mod OrdinarySteps
 pub mod WorkedForgetting

@@ -179,3 +179,32 @@ sets_transcript = record {
 abbrev pub sets_exchanged : List Entry
 sets_exchanged = entry (name 1 0) (set_of (codes "b") (codes "q")) Stored ∷ entry (name 0 0)
     (set_of (codes "a") (codes "p")) Stored ∷ []
+
+-- ---- Two servers, two clients of the tail. Each client's set, on a key of its own, is on its way to the head before the
+-- ---- other is answered.
+
+abbrev pub flight_homes : List ℕ
+flight_homes = 1 ∷ 1 ∷ []
+
+unfoldable pub flight_events : List Event
+flight_events =
+    Piece 0 (codes "set a 0 0 1\r\np\r\n") ∷ Piece 1 (codes "set b 0 0 1\r\nq\r\n") ∷ Begin 0 ∷ Begin 1 ∷ Work 0 ∷ Work 1
+    ∷ Deliver 1 0 ∷ Deliver 1 0 ∷ Deliver 0 1 ∷ Deliver 0 1 ∷ Hand 0 ∷ Hand 1 ∷ Deliver 1 0 ∷ Deliver 1 0 ∷ []
+
+-- both are answered, and nothing waits
+abbrev pub flight_transcript : TranscriptShown
+flight_transcript = record {
+  connections =
+      record {
+        home = 1;
+        calls = record { target = One (codes "a"); op = Set 0 (codes "p"); reply = Some Stored } ∷ [];
+        sent = codes "STORED\r\n";
+      }
+      ∷ record {
+        home = 1;
+        calls = record { target = One (codes "b"); op = Set 0 (codes "q"); reply = Some Stored } ∷ [];
+        sent = codes "STORED\r\n";
+      }
+      ∷ [];
+  quiet = true;
+}

@@ -3,7 +3,7 @@ ghost use Rattle.std.specs.Prelude.{◌≡◌, ◌<◌, ℕ, List, [], Some, sli
 ghost use Rattle.table.specs.Histories.{IsLegal};
 ghost use Rattle.table.specs.declared.operations.Reply.{Reply};
 ghost use Rattle.world.specs.Calls.{CallId, begun_call, reply_to};
-ghost use Rattle.world.specs.Orders.{Entry, StandsAt, IsLinearization};
+ghost use Rattle.world.specs.Orders.{Entry, StandsAt, Precedes, GivenBefore, IsLinearization};
 ghost use Rattle.world.specs.Transcripts.{transcript_of};
 ghost use Rattle.world.specs.WorkedSchedules.{name, said};
 ghost use Rattle.world.specs.WorkedSchedules.{alone_homes, alone_events, alone_transcript, alone_order};
@@ -11,6 +11,7 @@ ghost use Rattle.world.specs.WorkedSchedules.{dirty_homes, dirty_events, dirty_t
 ghost use Rattle.world.specs.WorkedSchedules.{resent_homes, resent_events, resent_transcript, resent_twice};
 ghost use Rattle.world.specs.WorkedSchedules.{resent_order};
 ghost use Rattle.world.specs.WorkedSchedules.{sets_homes, sets_events, sets_transcript, sets_exchanged};
+ghost use Rattle.world.specs.WorkedSchedules.{flight_homes, flight_events, flight_transcript};
 ghost use Rattle.world.specs.Worlds.{run_of};
 
 /// A get reads a key while the set of it is still on its way down the chain, and finds nothing.
@@ -57,5 +58,27 @@ pub fn exchanged_sets()
     ensures once { (i j : ℕ) (x : CallId) → StandsAt sets_exchanged i x → StandsAt sets_exchanged j x → i ≡ j }
     ensures answered { (x : CallId) (reply : Reply) → reply_to (run_of 2 sets_homes sets_events) x ≡ Some reply
         → (i : ℕ) × (at : StandsAt sets_exchanged i x) × (at.entry.reply ≡ reply) }
-    ensures in_time { IsLinearization 2 sets_homes sets_events sets_exchanged → ⊥ }
+    ensures in_turn { (x y : CallId) (j : ℕ)
+        → GivenBefore 2 sets_homes sets_events x y
+        → StandsAt sets_exchanged j y
+        → (i : ℕ) × (i < j) × StandsAt sets_exchanged i x }
+    ensures refused { IsLinearization 2 sets_homes sets_events sets_exchanged → ⊥ }
+{}
+
+/// Two sets on two keys, of two clients of one server, each on its way before the other is answered. Their exchanged
+/// order is refused by the server's turns alone: all else that a linearization asks for holds of it.
+pub fn sets_in_flight()
+    ensures transcript { transcript_of (run_of 2 flight_homes flight_events) ≡ flight_transcript }
+    ensures legal { IsLegal (said sets_exchanged) }
+    ensures begun { (i : ℕ) (e : Entry)
+        → slice_get sets_exchanged i ≡ Some e
+        → begun_call (run_of 2 flight_homes flight_events) e.id ≡ Some e.call }
+    ensures once { (i j : ℕ) (x : CallId) → StandsAt sets_exchanged i x → StandsAt sets_exchanged j x → i ≡ j }
+    ensures answered { (x : CallId) (reply : Reply) → reply_to (run_of 2 flight_homes flight_events) x ≡ Some reply
+        → (i : ℕ) × (at : StandsAt sets_exchanged i x) × (at.entry.reply ≡ reply) }
+    ensures in_time { (x y : CallId) (j : ℕ)
+        → Precedes 2 flight_homes flight_events x y
+        → StandsAt sets_exchanged j y
+        → (i : ℕ) × (i < j) × StandsAt sets_exchanged i x }
+    ensures refused { IsLinearization 2 flight_homes flight_events sets_exchanged → ⊥ }
 {}

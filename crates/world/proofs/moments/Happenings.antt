@@ -53,7 +53,7 @@ fits_known t i (Called port call) known = (known.0, tt)
 fits_known t i (From j m) known = (known.0.fit, known.0.entry)
 fits_known t i (Gone j) known = (tt, tt)
 
-server-acted : (w : World) (i : ℕ) (a : Outcome) → i < length w.servers → server (acted w i a) i ≡ a.state
+pub server-acted : (w : World) (i : ℕ) (a : Outcome) → i < length w.servers → server (acted w i a) i ≡ a.state
 server-acted w i a l = server-put_all (with_server w i a.state) i a.outputs i ∙ server_same w i a.state l
 
 server-acted_other : (w : World) (i k : ℕ) (a : Outcome) → k ≢ i → server (acted w i a) k ≡ server w k

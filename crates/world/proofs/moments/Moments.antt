@@ -93,6 +93,14 @@ taken_more [] k e h = absurd cc
 taken_more (x ∷ es) zero e h = ap (λ y. y ∷ []) (same_Some x e h)
 taken_more (x ∷ es) (suc k) e h = ap (λ ys. x ∷ ys) (taken_more es k e h)
 
+-- each event leads from moment to moment
+pub next_world : (t : Traced) (events : List Event) (m : Moments t events) (k : ℕ) (e : Event)
+    → slice_get events k ≡ Some e
+    → (m.at (suc k)).world ≡ happens (m.at k).world e
+next_world t events m k e at =
+    m.world (suc k) ∙ ap (λ es. run_from t.world es) (taken_more events k e at)
+    ∙ run-append (take k events) (e ∷ []) t.world ∙ ap (λ w. happens w e) (sym (m.world k))
+
 -- ---- from the outset
 
 -- each layer at the outset

@@ -1,17 +1,17 @@
 -- The order of a traced world is a linearization of its schedule.
 use Rattle.std.proofs.Common.{◌≡◌, ℕ, ◌+◌, ◌-◌, ◌<◌, ◌≤◌, List, length, take, Option, None, Some, refl, sym, ap, ◌∙◌}
-use Rattle.std.proofs.Common.{arith, subst, ◌⊎◌, inl, inr}
+use Rattle.std.proofs.Common.{suc, arith, subst, ◌⊎◌, inl, inr}
 use Rattle.std.specs.Prelude.{slice_get, IsSome}
-use Rattle.std.proofs.lemmas.Bool.{both_ways, cases_order}
+use Rattle.std.proofs.lemmas.Bool.{both_ways, cases_lt, cases_order}
 use Rattle.std.proofs.lemmas.Option.{same_Some, slice_get_within}
 use Rattle.table.specs.declared.operations.Reply.{Reply}
 use Rattle.versions.specs.Entries.{LogEntry}
 use Rattle.world.specs.declared.events.Event.{Event}
-use Rattle.world.specs.Worlds.{run_of}
-use Rattle.world.specs.Calls.{CallId, begun_call, reply_to}
-use Rattle.world.specs.Orders.{Entry, StandsAt, IsLinearization, Precedes}
+use Rattle.world.specs.Worlds.{World, run_of}
+use Rattle.world.specs.Calls.{CallId, begun_call, reply_to, IsUpdate, is_given}
+use Rattle.world.specs.Orders.{Entry, StandsAt, IsLinearization, Precedes, GivenBefore}
 use Rattle.world.proofs.lists.Standing.{some_of}
-use Rattle.world.proofs.trace.Traces.{Traced, AnsweredRead}
+use Rattle.world.proofs.trace.Traces.{Traced, AnsweredRead, issued_by}
 use Rattle.world.proofs.trace.Layers.{entries_of, IsNamed, IsAnswer, Later, Newer, Lawful}
 use Rattle.world.proofs.order.Placing.{Placed, IsBefore, of_update, of_read, sorted_places, before_places}
 use Rattle.world.proofs.order.Placing.{never_before_itself}
@@ -20,8 +20,12 @@ use Rattle.world.proofs.order.LegalOrder.{legal}
 use Rattle.world.proofs.order.Linear.{get_mapped, mapped_get, front, nothing_there, more_of, name_of, asked_of}
 use Rattle.world.proofs.order.Linear.{named_is, asked_is, ranked, order_of, decided_committed, all_make, all_show}
 use Rattle.world.proofs.order.Linear.{Sources, comes_from, stands, table_of}
-use Rattle.world.proofs.lists.Fronts.{found_below}
+use Rattle.world.proofs.lists.Fronts.{found_below, begins_back}
 use Rattle.world.proofs.order.Since.{is_some}
+use Rattle.world.proofs.order.AtHomes.{AtHomes}
+use Rattle.world.proofs.order.Spent.{IsFull}
+use Rattle.world.proofs.order.Given.{AllIssued, given_at, issued_is_given, given_is_issued}
+use Rattle.world.proofs.order.EarlierIds.{entry_below}
 
 -- the id of a committed entry counts those of its origin
 id_committed : (t : Traced)
@@ -210,6 +214,9 @@ pub record Moment (count : ℕ) (homes : List ℕ) (events : List Event) (t : Tr
   pub lawful : Lawful past
   pub later : Later past t
   pub newer : Newer past t
+  pub at_homes : AtHomes homes past
+  pub issued : AllIssued past
+  pub spent : (i : ℕ) → IsFull past i → issued_by t i ≡ issued_by past i
 
 -- an answer at a moment stands at most at what was committed then, and among the reads of then
 abbrev IsEarly : Traced → Placed → Type 0
@@ -349,17 +356,136 @@ in_time count homes events t l moment x y j before at_j =
       },
     )
 
+-- ---- in turn
+
+-- an update that stands in the order is a committed entry
+record IsUpdateThere (t : Traced) (j : ℕ) (y : CallId) : Type 0 where
+  place : ℕ
+  entry : LogEntry
+  here : slice_get t.committed place ≡ Some entry
+  named : IsNamed t entry y
+  rank : Placed
+  there : slice_get (ranked t) j ≡ Some rank
+  number : rank.number ≡ suc place
+
+update_there : (t : Traced)
+    → Lawful t
+    → (y : CallId) (j : ℕ)
+    → IsUpdate t.world y
+    → StandsAt (order_of t) j y
+    → IsUpdateThere t j y
+update_there t l y j update s =
+    let q = stands t j y s in
+    elim (comes_from t q.rank (j, q.here)) [
+      | inl u ↦ record {
+        place = u.0;
+        entry = u.1;
+        here = u.2.0;
+        named = subst (λ n. IsNamed t u.1 n) (sym (id_of u.2.1) ∙ q.same) (is_named t l u.0 u.1 u.2.0);
+        rank = q.rank;
+        there = q.here;
+        number = ap (λ (p : Placed). p.number) u.2.1;
+      }
+      | inr r ↦
+          let f = l.read.reads r.0 r.1 r.2.0 in
+          let id : r.1.id ≡ y = sym (id_of r.2.1) ∙ q.same in
+          let call : f.call ≡ update.0 =
+          same_Some f.call update.0 (sym f.begun ∙ ap (begun_call t.world) id ∙ update.1) in
+          absurd (both_ways _ f.read (rw call update.2))
+    ]
+
+-- an entry that was committed earlier stands earlier
+earlier_entry : (t : Traced) (x : CallId) (i : ℕ) (e : LogEntry) (j : ℕ) (y : CallId) (u : IsUpdateThere t j y)
+    → slice_get t.committed i ≡ Some e
+    → IsNamed t e x
+    → i < u.place
+    → (k : ℕ) × (k < j) × StandsAt (order_of t) k x
+earlier_entry t x i e j y u here named less =
+    let p = update_found (name_of t) (asked_of t) t.reads 0 t.committed i e here in
+    let rank = of_update (name_of t) (asked_of t) i e in
+    let there : slice_get (ranked t) p.0 ≡ Some rank =
+    p.1 ∙ ap (λ k. Some (of_update (name_of t) (asked_of t) k e)) (front i) in
+    let less_number : suc i < u.rank.number = omega (arith, less, u.number) in (
+      p.0,
+      before_places (ranked t) p.0 j rank u.rank (sorted_order t) (inl less_number) there u.there,
+      record {
+        entry = rank.entry;
+        here = get_mapped (λ (p : Placed). p.entry) (ranked t) p.0 rank there;
+        same = named_is t e x named;
+      },
+    )
+
+-- and so an earlier id of its origin
+earlier_id : (t : Traced)
+    → Lawful t
+    → (x y : CallId) (j n : ℕ) (u : IsUpdateThere t j y)
+    → slice_get (issued_by t u.entry.origin) n ≡ Some x
+    → n < u.entry.id - 1
+    → (i : ℕ) × (i < j) × StandsAt (order_of t) i x
+earlier_id t l x y j n u here less =
+    let id = id_committed t l u.place u.entry u.here in
+    let e = entry_below u.entry.origin n t.committed u.place (id_committed t l)
+    (omega (arith, slice_get_within t.committed u.place u.entry u.here)) (omega (arith, less, id)) in
+    let place : e.1.id - 1 ≡ n = omega (arith, e.5) in
+    let named : IsNamed t e.1 x = (
+      omega (arith, e.5),
+      ap (λ o. slice_get (issued_by t o) (e.1.id - 1)) e.4 ∙ ap (slice_get (issued_by t u.entry.origin)) place ∙ here,
+    ) in
+    earlier_entry t x e.0 e.1 j y u e.3 named e.2
+
+-- an update that was given to its server before another stands before it
+in_turn : (count : ℕ) (homes : List ℕ) (events : List Event) (t : Traced)
+    → t.world ≡ run_of count homes events
+    → Lawful t
+    → AtHomes homes t
+    → ((k : ℕ) → Moment count homes events t k)
+    → (x y : CallId) (j : ℕ)
+    → GivenBefore count homes events x y
+    → StandsAt (order_of t) j y
+    → (i : ℕ) × (i < j) × StandsAt (order_of t) i x
+in_turn count homes events t same l at_homes moment x y j before at_j =
+    let m = moment before.k in
+    let first = subst (λ w. IsUpdate w x) (sym same) before.update in
+    let u = update_there t l y j (subst (λ w. IsUpdate w y) (sym same) before.later_update) at_j in
+    let id = u.entry.id - 1 in
+    let g = given_at m.past.world x (ap (λ (w : World). is_given w x) m.same ∙ before.given) in
+    let o = g.connection.home in
+    let own = l.calling.begun u.entry.origin id y u.named.1 in
+    let home : o ≡ u.entry.origin =
+    same_Some o own.1.home
+    (sym (m.at_homes x.connection g.connection g.here) ∙ before.one_server ∙ at_homes y.connection own.1 own.4)
+    ∙ own.5 in
+    let issued : slice_get (issued_by t o) id ≡ Some y = ap (λ i. slice_get (issued_by t i) id) home ∙ u.named.1 in
+    let never : (i : ℕ) → slice_get (issued_by m.past o) i ≡ Some y → ⊥ = λ i h. both_ways (is_given m.past.world y)
+    (ap (λ (w : World). is_given w y) m.same ∙ before.not_given) (issued_is_given m.past m.lawful o i y h) in
+    elim (given_is_issued m.past m.lawful m.issued x
+    (λ call h. (let one : call ≡ first.0 = same_Some call first.0 (sym (m.later.calls x call h) ∙ first.1) in
+    rw one first.2)) g) [
+      | inr full ↦ absurd (never id (ap (λ xs. slice_get xs id) (sym (m.spent o full)) ∙ issued))
+      | inl there ↦ elim (cases_lt there.0 id) [
+        | inl less ↦ earlier_id t l x y j there.0 u
+            (ap (λ i. slice_get (issued_by t i) there.0) (sym home) ∙ m.later.issued o there.0 x there.1) less
+        | inr high ↦
+            let within = slice_get_within (issued_by m.past o) there.0 x there.1 in
+            absurd (never id
+            (begins_back (issued_by m.past o) (issued_by t o) id y (m.later.issued o) issued
+            (omega (arith, high, within))))
+      ]
+    ]
+
 -- The order of a traced world is a linearization, if each moment of the schedule was one of its past.
 pub linearization : (count : ℕ) (homes : List ℕ) (events : List Event) (t : Traced)
     → t.world ≡ run_of count homes events
     → Lawful t
+    → AtHomes homes t
     → ((k : ℕ) → Moment count homes events t k)
     → IsLinearization count homes events (order_of t)
-linearization count homes events t same l moment = record {
+linearization count homes events t same l at_homes moment = record {
   legal = legal (name_of t) (asked_of t) (table_of t) t.reads 0 t.committed (all_show t l)
       (λ k e h. rw (front k) (all_make t l k e h));
   begun = λ i e h. rw (← same) (begun t l i e h);
   once = once t l;
   answered = λ x reply h. answered t l x reply (l.calling.handed x reply (rw (← same) at h));
   in_time = in_time count homes events t l moment;
+  in_turn = in_turn count homes events t same l at_homes moment;
 }

@@ -1,5 +1,6 @@
 -- Every schedule's calls stand in one order, in which a single table would have answered them.
-use Rattle.std.proofs.Common.{◌≡◌, ℕ, ◌<◌, ◌≤◌, List, length, take, None, arith, inl, inr, sym, ap, ◌∙◌, subst}
+use Rattle.std.proofs.Common.{◌≡◌, ℕ, zero, suc, ◌<◌, ◌≤◌, List, length, take, None, arith, inl, inr, sym, ap, ◌∙◌}
+use Rattle.std.proofs.Common.{subst}
 use Rattle.std.proofs.lemmas.Bool.{cases_lt}
 use Rattle.std.proofs.lemmas.List.{take_all}
 use Rattle.world.specs.declared.events.Event.{Event}
@@ -7,9 +8,15 @@ use Rattle.world.specs.Worlds.{run_of}
 use Rattle.world.specs.Orders.{Entry, IsLinearization}
 use Rattle.world.proofs.trace.Traces.{Traced, outset}
 use Rattle.world.proofs.trace.Outsets.{count_outset, server_outset, log_outset, link_outset, nothing_in}
-use Rattle.world.proofs.moments.Moments.{Moments}
+use Rattle.world.proofs.lists.Fronts.{found_below}
+use Rattle.world.proofs.moments.Moments.{Moments, next_world}
 use Rattle.world.proofs.moments.AllLaws.{laws, all_moments}
 use Rattle.world.proofs.trace.LaterLaws.{later_same}
+use Rattle.world.proofs.streams.Stepped.{Follows}
+use Rattle.world.proofs.streams.Ways.{Way, way}
+use Rattle.world.proofs.order.AtHomes.{AtHomes, homes_on, homes_first}
+use Rattle.world.proofs.order.Spent.{none_issued}
+use Rattle.world.proofs.order.Given.{AllIssued, issued_way, issued_first}
 use Rattle.world.proofs.order.Since.{Since, newer}
 use Rattle.world.proofs.order.SinceRuns.{since_on, since_moment}
 use Rattle.world.proofs.order.Linear.{order_of}
@@ -44,6 +51,27 @@ module _ (n : ℕ) (homes : List ℕ) (events : List Event) (few : n ≤ 16) whe
       let first : Since (all.at 0) (all.at 0) = rw all.start (since_outset n homes) in
       since_moment laws (all.at 0) (all.at k) (all.goes 0 k (omega arith)) (all.lawful 0) (all.lawful k) first
 
+  homes_there : (k : ℕ) → AtHomes homes (all.at k)
+  homes_there k =
+      let first = subst (λ t. AtHomes homes t) (sym all.start) (homes_first n homes) in
+      homes_on laws homes (all.at 0) (all.at k) (all.goes 0 k (omega arith)) (all.lawful 0) first
+
+  follows : (k : ℕ) → Follows (all.at k) (all.at (suc k))
+  follows k = record {
+    before = all.lawful k;
+    after = all.lawful (suc k);
+    later = (all.goes k (suc k) (omega arith) None).later;
+    servers = all.all k;
+  }
+
+  issued_there : (k : ℕ) → k ≤ length events → AllIssued (all.at k)
+  issued_there zero l = subst (λ t. AllIssued t) (sym all.start) (issued_first n homes)
+  issued_there (suc k) l =
+      let e = found_below events k (omega (arith, l)) in
+      let next = next_world (outset n homes) events all k e.0 e.1 in
+      issued_way (all.at k) (all.at (suc k)) (follows k)
+      (subst (λ w. Way (all.at k).world w) (sym next) (way (all.at k).world e.0)) (issued_there k (omega (arith, l)))
+
   -- the k-th moment is one of the past of the last
   moment_within : (k : ℕ) → k ≤ length events → Moment n homes events last k
   moment_within k l =
@@ -55,6 +83,9 @@ module _ (n : ℕ) (homes : List ℕ) (events : List Event) (few : n ≤ 16) whe
         later = (goes None).later;
         newer = newer (all.at k) last (all.lawful (length events))
             (since_on laws (all.at k) (all.at k) last goes (all.lawful k) (later_same (all.at k)) (since_there k));
+        at_homes = homes_there k;
+        issued = issued_there k l;
+        spent = λ i full. none_issued laws (all.at k) last i goes (all.lawful k) full;
       }
 
   moment : (k : ℕ) → Moment n homes events last k
@@ -68,9 +99,15 @@ module _ (n : ℕ) (homes : List ℕ) (events : List Event) (few : n ≤ 16) whe
           lawful = m.lawful;
           later = m.later;
           newer = m.newer;
+          at_homes = m.at_homes;
+          issued = m.issued;
+          spent = m.spent;
         })
   ]
 
   -- the order of the last world is a linearization of the schedule
   pub one_order : (h : List Entry) × IsLinearization n homes events h
-  one_order = (order_of last, linearization n homes events last last_world (all.lawful (length events)) moment)
+  one_order = (
+    order_of last,
+    linearization n homes events last last_world (all.lawful (length events)) (homes_there (length events)) moment,
+  )

@@ -1,6 +1,6 @@
 -- An own call that is taken in is open behind the step, or answered by it, if numbers are left.
 use Rattle.std.proofs.Common.{◌≡◌, ℕ, ◌<◌, Bool, true, false, not, List, [], ◌∷◌, None, refl, sym, subst, ◌⊎◌, inl, inr}
-use Rattle.std.proofs.lemmas.Bool.{cond_both, and_from, lt-ltb, or_right}
+use Rattle.std.proofs.lemmas.Bool.{cond_both, both_ways, and_from, lt-ltb, or_right}
 use Rattle.table.specs.Operations.{is_update, Suits}
 use Rattle.table.specs.declared.operations.Call.{Call}
 use Rattle.table.specs.declared.operations.Op.{Op}
@@ -38,6 +38,28 @@ pub record HasRoom (s : ServerState) : Type 0 where
 abbrev pub IsTakenIn : ℕ → Bool → Outcome → Type 0
 IsTakenIn c shows o = IsOpenAt o.state c ⊎ AnswersPort c shows o.outputs
 
+-- the update of a port waits, or has its reply
+abbrev pub IsUpdateIn : ℕ → Outcome → Type 0
+IsUpdateIn c o = ((u : OpenUpdate) × In u o.state.pend × (u.port ≡ c)) ⊎ AnswersPort c false o.outputs
+
+update_taken : (s : ServerState) (port : ℕ) (made : Call)
+    → IsLawful s
+    → IsCall made
+    → is_update made.op ≡ true
+    → is_room_for_update s ≡ true
+    → IsUpdateIn port (update s port made)
+update_taken s port made h fit is may =
+    let u : OpenUpdate = record { id = s.next_id; port = port; call = made } in
+    let sound = (good-entered s port made fit is (record { sound = h.sound; settled = h.settled })).sound in
+    let kept = open_done None (entered s port made) _
+    (rule_called None (entered s port made) (record (nothing_due s) { unsent = u ∷ [] }) s.next_id port made sound
+    (clear_entered s (nothing_due s) port made (u ∷ []) (clear_paid s (nothing_due s) (paid_nothing s h.settled))) fit
+    is (entered_in s port made) refl).done in
+    rw (updated s port made may) (elim (kept.updates u (entered_in s port made)) [
+      | inl waits ↦ inl (u, waits, refl)
+      | inr x ↦ inr x
+    ])
+
 taken_update : (s : ServerState) (port : ℕ) (made : Call)
     → IsLawful s
     → IsCall made
@@ -45,17 +67,8 @@ taken_update : (s : ServerState) (port : ℕ) (made : Call)
     → HasRoom s
     → IsTakenIn port false (update s port made)
 taken_update s port made h fit is room =
-    let u : OpenUpdate = record { id = s.next_id; port = port; call = made } in
-    let sound = (good-entered s port made fit is (record { sound = h.sound; settled = h.settled })).sound in
-    let kept = open_done None (entered s port made) _
-    (rule_called None (entered s port made) (record (nothing_due s) { unsent = u ∷ [] }) s.next_id port made sound
-    (clear_entered s (nothing_due s) port made (u ∷ []) (clear_paid s (nothing_due s) (paid_nothing s h.settled))) fit
-    is (entered_in s port made) refl).done in
     let may : is_room_for_update s ≡ true = and_from _ _ (lt-ltb _ _ room.id) (or_right _ _ (lt-ltb _ _ room.number)) in
-    rw (updated s port made may) (elim (kept.updates u (entered_in s port made)) [
-      | inl waits ↦ inl (inl (u, waits, refl))
-      | inr x ↦ inr x
-    ])
+    elim (update_taken s port made h fit is may) [ inl waits ↦ inl (inl waits) | inr x ↦ inr x ]
 
 taken_dirty : (s : ServerState) (port : ℕ) (key : List ℕ) → HasRoom s → IsTakenIn port true (dirty_read s port key)
 unfolding dirty_read
@@ -98,5 +111,26 @@ call_opened s port made h fit room =
     (λ f. subst (λ b. IsTakenIn port (not b) (read_of s port made.target)) (sym f)
     (taken_read s port made.target (no_flush made.target made.op fit.1 f) room))) [
       | inl waits ↦ inl (trimmed_open _ port waits)
+      | inr x ↦ inr x
+    ]
+
+trimmed_update : (s : ServerState) (c : ℕ)
+    → (u : OpenUpdate) × In u s.pend × (u.port ≡ c)
+    → (u : OpenUpdate) × In u (trimmed s).pend × (u.port ≡ c)
+unfolding trimmed
+trimmed_update s c h = h
+
+-- an update that there is room for waits behind the step, or has its reply
+pub update_opened : (s : ServerState) (port : ℕ) (made : Call)
+    → IsLawful s
+    → IsCall made
+    → is_update made.op ≡ true
+    → is_room_for_update s ≡ true
+    → IsUpdateIn port (step s (Called port made))
+update_opened s port made h fit is may =
+    elim (cond_both (is_update made.op) (update s port made) (read_of s port made.target)
+    (λ (o : Outcome). IsUpdateIn port o) (λ t. update_taken s port made h fit is may)
+    (λ f. absurd (both_ways _ f is))) [
+      | inl waits ↦ inl (trimmed_update _ port waits)
       | inr x ↦ inr x
     ]

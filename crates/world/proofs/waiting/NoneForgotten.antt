@@ -1,6 +1,6 @@
 -- In a world at rest, and so in a quiet one, each begun call of a connection whose home lives is answered.
 use Rattle.std.proofs.Common.{◌≡◌, ℕ, zero, suc, ◌+◌, ◌-◌, ◌^◌, ◌<◌, ◌≤◌, Bool, true, false, not, ◌&&◌, ◌||◌, List, []}
-use Rattle.std.proofs.Common.{◌∷◌, length, take, Option, Some, None, refl, sym, ap, subst, ◌∙◌, arith, lit<, inl, inr}
+use Rattle.std.proofs.Common.{◌∷◌, length, Option, Some, None, refl, sym, ap, subst, ◌∙◌, arith, lit<, inl, inr}
 use Rattle.std.specs.Prelude.{slice_get, IsSome}
 use Rattle.std.specs.Option.{option_and_then}
 use Rattle.std.specs.List.{list_all}
@@ -13,14 +13,14 @@ use Rattle.world.specs.declared.events.Event.{Event}
 use Rattle.world.specs.declared.connections.Stage.{Stage}
 use Rattle.world.specs.declared.connections.Stage.TheVariants.{Idle, Begun, Asked, Replied}
 use Rattle.world.specs.Connections.{Connection}
-use Rattle.world.specs.Worlds.{World, server, lives, home_lives, happens, run_from, run_of}
+use Rattle.world.specs.Worlds.{World, server, lives, home_lives, happens, run_of}
 use Rattle.world.specs.Calls.{CallId, IsBegun, IsAnswered, has_living_home}
 use Rattle.world.specs.Quiet.{waits, is_server_quiet, all_below, is_quiet}
 use Rattle.world.proofs.lists.Fronts.{found_below}
 use Rattle.world.proofs.trace.IdLaws.{living_parts}
 use Rattle.world.proofs.trace.Traces.{Traced, count, outset}
 use Rattle.world.proofs.trace.Layers.{Lawful}
-use Rattle.world.proofs.moments.Moments.{Moments, run-append, taken_more}
+use Rattle.world.proofs.moments.Moments.{Moments, next_world}
 use Rattle.world.proofs.moments.AllLaws.{all_moments}
 use Rattle.world.proofs.lists.Standing.{some_of, get_within}
 use Rattle.world.proofs.streams.Streaming.{Streaming}
@@ -110,11 +110,6 @@ module _ (n : ℕ) (homes : List ℕ) (few : n ≤ 16) (events : List Event) (m 
     servers = m.all k;
   }
 
-  next_world : (k : ℕ) (e : Event) → slice_get events k ≡ Some e → (m.at (suc k)).world ≡ happens (m.at k).world e
-  next_world k e at =
-      m.world (suc k) ∙ ap (λ es. run_from (outset n homes).world es) (taken_more events k e at)
-      ∙ run-append (take k events) (e ∷ []) (outset n homes).world ∙ ap (λ w. happens w e) (sym (m.world k))
-
   bounded_at : (k : ℕ)
       → Effect (m.at k).world (m.at (suc k)).world
       → Running k (m.at k)
@@ -128,7 +123,7 @@ module _ (n : ℕ) (homes : List ℕ) (few : n ≤ 16) (events : List Event) (m 
   running zero l = subst (λ t. Running 0 t) (sym m.start) (running_first n homes)
   running (suc k) l =
       let e = found_below events k (omega (arith, l)) in
-      let next = next_world k e.0 e.1 in
+      let next = next_world (outset n homes) events m k e.0 e.1 in
       let before = running k (omega (arith, l)) in
       running_next k (m.at k) (m.at (suc k)) e.0 (follows k) next (omega (arith, l, short))
       (bounded_at k (effect (m.at k) (m.lawful k) (m.at (suc k)).world

@@ -25,7 +25,7 @@ abbrev pub issued_in : World → ℕ
 issued_in w = total (issued_at w) (length w.servers)
 
 -- ids that count from 1 are as many as the greatest
-taken_more : {X : Type 0} (xs : List X) (k : ℕ) (x : X)
+pub taken_more : {X : Type 0} (xs : List X) (k : ℕ) (x : X)
     → slice_get xs k ≡ Some x
     → take (suc k) xs ≡ take k xs ++ x ∷ []
 taken_more [] k x h = absurd cc

@@ -39,7 +39,7 @@ use Rattle.world.proofs.waiting.Stages.{AllOpen, Fits, IsKept, acted_open}
 
 -- ---- replies that fit
 
-fits_update : (call : Call) (reply : Reply)
+pub fits_update : (call : Call) (reply : Reply)
     → is_update call.op ≡ true
     → is_value reply ≡ false
     → may_have (Some call) reply ≡ true
@@ -64,13 +64,13 @@ never_begun (None, left) k e a = let g : Idle ≡ Asked = sym e ∙ a in cc
 never_begun (Some (Faulty fault), left) k e a = let g : Idle ≡ Asked = sym e ∙ a in cc
 never_begun (Some (Calls call form), left) k e a = let g : Begun ≡ Asked = a in cc
 
-same_begun : (s : Stage) (k : Connection) → k.stage ≡ s → (begun s k).stage ≡ Asked → begun s k ≡ k
+pub same_begun : (s : Stage) (k : Connection) → k.stage ≡ s → (begun s k).stage ≡ Asked → begun s k ≡ k
 same_begun Idle k e a = absurd (never_begun (past_faults k.session) k e a)
 same_begun Begun k e a = refl
 same_begun Asked k e a = refl
 same_begun (Replied reply) k e a = refl
 
-same_handed : (s : Stage) (k : Connection) → k.stage ≡ s → (handed s k).stage ≡ Asked → handed s k ≡ k
+pub same_handed : (s : Stage) (k : Connection) → k.stage ≡ s → (handed s k).stage ≡ Asked → handed s k ≡ k
 same_handed Idle k e a = refl
 same_handed Begun k e a = refl
 same_handed Asked k e a = refl
@@ -111,7 +111,7 @@ handed_mild k a = let same =
     same_handed k.stage k refl a in
     (ap (λ (x : Connection). x.home) same, ap (λ (x : Connection). x.stage) (sym same) ∙ a)
 
-connections_asked : (w : World) (c d : ℕ) (k' : Connection)
+pub connections_asked : (w : World) (c d : ℕ) (k' : Connection)
     → slice_get (with_connection w c asked).connections d ≡ Some k'
     → ((k : Connection) × (slice_get w.connections c ≡ Some k) × (d ≡ c) × (k' ≡ asked k))
     ⊎ (slice_get w.connections d ≡ Some k')

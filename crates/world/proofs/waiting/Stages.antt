@@ -29,7 +29,7 @@ Fits c k os = (reply : Reply) × In (Answered c reply) os × (may_have (open_cal
 
 -- ---- what outputs make of a stage
 
-still_asked : (os : List Output) (c : ℕ) (k k' : Connection) → Answers os c k k' → k'.stage ≡ Asked → k' ≡ k
+pub still_asked : (os : List Output) (c : ℕ) (k k' : Connection) → Answers os c k k' → k'.stage ≡ Asked → k' ≡ k
 still_asked os c k k' (inl e) a = e
 still_asked os c k k' (inr r) a =
     absurd (let e : Replied r.0 ≡ Asked = sym (ap (λ (x : Connection). x.stage) r.4) ∙ a in cc)
@@ -49,7 +49,7 @@ same_open os c k k' (inl e) = ap (λ x. open_call x) e
 same_open os c k k' (inr r) = ap (λ x. open_call x) r.4
 
 -- who gets such a reply isn't with its server any more
-fitting : (w : World) (i : ℕ) (os : List Output) (c : ℕ) (k : Connection)
+pub fitting : (w : World) (i : ℕ) (os : List Output) (c : ℕ) (k : Connection)
     → slice_get w.connections c ≡ Some k
     → Fits c k os
     → (k' : Connection) → slice_get (put_all w i os).connections c ≡ Some k' → k'.stage ≡ Asked → ⊥

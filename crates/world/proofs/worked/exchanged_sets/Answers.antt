@@ -1,6 +1,6 @@
 use Rattle.world.proofs.examples.WorkedInTime.{sets_are_shown}
 use Rattle.world.proofs.examples.WorkedInTimeOrder.{exchanged_legal, exchanged_begun, exchanged_once}
-use Rattle.world.proofs.examples.WorkedInTimeOrder.{exchanged_answered, exchanged_is_no_order}
+use Rattle.world.proofs.examples.WorkedInTimeOrder.{exchanged_answered, exchanged_in_turn, exchanged_is_no_order}
 use Rattle.world.proofs.worked.exchanged_sets.Goals as goal
 
 pub returns-clause-transcript : goal.returns-clause-transcript
@@ -18,5 +18,8 @@ returns-clause-once c i j x one two = exchanged_once i j x one two
 pub returns-clause-answered : goal.returns-clause-answered
 returns-clause-answered c x reply got = exchanged_answered x reply got
 
-pub returns-clause-in_time : goal.returns-clause-in_time
-returns-clause-in_time c order = exchanged_is_no_order order
+pub returns-clause-in_turn : goal.returns-clause-in_turn
+returns-clause-in_turn c x y j before there = exchanged_in_turn x y j before there
+
+pub returns-clause-refused : goal.returns-clause-refused
+returns-clause-refused c order = exchanged_is_no_order order
