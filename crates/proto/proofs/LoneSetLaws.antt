@@ -1,6 +1,6 @@
 -- A plain `set` that stands whole at a front is found there, whatever follows.
 use Rattle.std.proofs.Common.{◌≡◌, ℕ, ◌+◌, ◌-◌, ◌^◌, ◌≤◌, Bool, true, false, cond, List, [], ◌∷◌, ◌++◌, length, Some, None}
-use Rattle.std.proofs.Common.{refl, sym, ap, ◌∙◌, arith, append_assoc, length-append, drop, take-append-drop}
+use Rattle.std.proofs.Common.{refl, sym, ap, ◌∙◌, arith, append_assoc, length-append, subst, lit≤, drop, take-append-drop}
 use Rattle.std.specs.Prelude.{◌==◌, ◌&&◌, not, nat_le, nat_lt, IsTrue, codes}
 use Rattle.std.specs.Char.{is_ascii_digit}
 use Rattle.std.specs.List.{list_all, join_with_byte, IsSplitAt}
@@ -17,9 +17,9 @@ use Rattle.proto.specs.declared.words.Storing.TheVariants.{Set}
 use Rattle.proto.specs.declared.storage.Verb.TheVariants as verbs
 use Rattle.proto.specs.declared.storage.StorageLine.{StorageLine}
 use Rattle.proto.specs.Words.{lf, space, crlf, line_limit}
-use Rattle.proto.specs.Grammar.{IsBlock, IsLine, AreStorage, Spells, is_field}
+use Rattle.proto.specs.Grammar.{IsBlock, IsLine, AreStorage, Spells, is_field, noreply}
 use Rattle.proto.specs.Fronts.{front, refused_at, found_of, found_at}
-use Rattle.proto.specs.LoneSets.{IsNumberBefore, IsPlainSet}
+use Rattle.proto.specs.LoneSets.{IsAtFront, IsNumberBefore, IsPlainSet, ending}
 use Rattle.proto.proofs.GrammarLaws.{spelled_is_found}
 use Rattle.proto.proofs.LoneGetLaws.{key_fits}
 
@@ -50,53 +50,68 @@ number_fits bound n (c ∷ cs) is =
     by_test false small e none = cc
 
 -- the line of a plain set
-abbrev line_of : List ℕ → List ℕ → List ℕ → List ℕ
-line_of key flags size = join_with_byte space (codes "set" ∷ key ∷ flags ∷ codes "0" ∷ size ∷ []) ++ crlf
+abbrev line_of : List ℕ → List ℕ → List ℕ → Bool → List ℕ
+line_of key flags size silent =
+    join_with_byte space (codes "set" ∷ key ∷ flags ∷ codes "0" ∷ size ∷ noreply silent) ++ crlf
 
-line_length : (key flags size : List ℕ)
-    → length (line_of key flags size) ≡ length key + length flags + length size + 10
-line_length key flags size = omega (
-  arith,
-  length-append (115 ∷ 101 ∷ 116 ∷ 32 ∷ (key ++ 32 ∷ (flags ++ 32 ∷ 48 ∷ 32 ∷ size))) crlf,
-  length-append key (32 ∷ (flags ++ 32 ∷ 48 ∷ 32 ∷ size)),
-  length-append flags (32 ∷ 48 ∷ 32 ∷ size),
-)
+line_in_pieces : (key flags size : List ℕ) (silent : Bool)
+    → line_of key flags size silent
+    ≡ 115 ∷ 101 ∷ 116 ∷ 32 ∷ (key ++ 32 ∷ (flags ++ 32 ∷ 48 ∷ 32 ∷ (size ++ ending silent)))
+line_in_pieces key flags size true = simp append_assoc
+line_in_pieces key flags size false = simp append_assoc
 
-line_is_short : (key flags size : List ℕ)
+ending_is_short : (silent : Bool) → length (ending silent) ≤ 10
+ending_is_short true = lit≤ tt
+ending_is_short false = lit≤ tt
+
+line_is_short : (key flags size : List ℕ) (silent : Bool)
     → length key ≤ 250
     → length flags ≤ 10
     → length size ≤ 10
-    → length (line_of key flags size) ≤ line_limit
+    → length (line_of key flags size silent) ≤ line_limit
 unfolding line_limit
-line_is_short key flags size short few less = omega (arith, line_length key flags size)
+line_is_short key flags size silent short few less = omega (
+  arith,
+  ap length (line_in_pieces key flags size silent),
+  length-append key (32 ∷ (flags ++ 32 ∷ 48 ∷ 32 ∷ (size ++ ending silent))),
+  length-append flags (32 ∷ 48 ∷ 32 ∷ (size ++ ending silent)),
+  length-append size (ending silent),
+  ending_is_short silent,
+)
 
 -- all of it
-abbrev set_of : List ℕ → List ℕ → List ℕ → List ℕ → List ℕ
-set_of key flags size block = line_of key flags size ++ block ++ crlf
+abbrev set_of : List ℕ → List ℕ → List ℕ → Bool → List ℕ → List ℕ
+set_of key flags size silent block = line_of key flags size silent ++ block ++ crlf
 
--- what a plain set's line says after its key
-abbrev said : ℕ → List ℕ → StorageLine
-said flags block = record { verb = verbs.Set flags; expires = false; size = length block; silent = false }
+-- what its line says after the key
+abbrev said : ℕ → Bool → List ℕ → StorageLine
+said flags silent block = record { verb = verbs.Set flags; expires = false; size = length block; silent = silent }
 
-set_is_spelled : (bytes key : List ℕ) (flags : ℕ) (block rest : List ℕ) (set : IsPlainSet bytes key flags block rest)
+noreply_fits : (silent : Bool) → IsTrue (list_all is_field (noreply silent))
+noreply_fits true = refl
+noreply_fits false = refl
+
+set_is_spelled : (bytes key : List ℕ) (flags : ℕ) (silent : Bool) (block rest : List ℕ)
+    → (set : IsPlainSet bytes key flags silent block rest)
     → IsKey key
-    → Spells (Store key (ops.Set flags block) false) (set_of key set.flags_field set.size_field block)
-set_is_spelled bytes key flags block rest set is =
+    → Spells (Store key (ops.Set flags block) silent) (set_of key set.flags_field set.size_field silent block)
+set_is_spelled bytes key flags silent block rest set is =
     let sizes : IsTrue (nat_le 1 (length key) && nat_le (length key) 250) = (and_parts _ _ is).0 in
     let each : IsTrue (list_all is_key_byte key) = (and_parts _ _ is).1 in
     let short : length key ≤ 250 = leb-true (length key) 250 (and_parts _ _ sizes).1 in
-    let text = line_of key set.flags_field set.size_field in
-    let is_line : IsLine (codes "set" ∷ key ∷ set.flags_field ∷ codes "0" ∷ set.size_field ∷ []) text = record {
+    let fields = key ∷ set.flags_field ∷ codes "0" ∷ set.size_field ∷ noreply silent in
+    let text = line_of key set.flags_field set.size_field silent in
+    let is_line : IsLine (codes "set" ∷ fields) text = record {
       spelled = refl;
-      separate = and_from (is_field key) (is_field set.flags_field && is_field set.size_field && true)
+      separate = and_from (is_field key) _
           (key_fits key each)
-          (and_from (is_field set.flags_field) (is_field set.size_field && true)
+          (and_from (is_field set.flags_field) (is_field set.size_field && list_all is_field (noreply silent))
           (number_fits (2 ^ 32) flags set.flags_field set.flags_are)
-          (and_from (is_field set.size_field) true (number_fits (2 ^ 32) (length block) set.size_field set.size_is)
-          refl));
-      short = line_is_short key set.flags_field set.size_field short set.few_flags set.few_sizes;
+          (and_from (is_field set.size_field) (list_all is_field (noreply silent))
+          (number_fits (2 ^ 32) (length block) set.size_field set.size_is) (noreply_fits silent)));
+      short = line_is_short key set.flags_field set.size_field silent short set.few_flags set.few_sizes;
     } in
-    let are : AreStorage Set (key ∷ set.flags_field ∷ codes "0" ∷ set.size_field ∷ []) key (said flags block) =
+    let are : AreStorage Set fields key (said flags silent block) =
     record {
       flags_field = set.flags_field;
       exptime = codes "0";
@@ -111,9 +126,9 @@ set_is_spelled bytes key flags block rest set is =
       size_is = set.size_is;
       verb_is = (refl, refl);
     } in
-    let whole : IsBlock key (said flags block) block crlf (text ++ block ++ crlf) = record {
+    let whole : IsBlock key (said flags silent block) block crlf (text ++ block ++ crlf) = record {
       storing = Set;
-      fields = key ∷ set.flags_field ∷ codes "0" ∷ set.size_field ∷ [];
+      fields = fields;
       text = text;
       is_line = is_line;
       are_storage = are;
@@ -121,61 +136,77 @@ set_is_spelled bytes key flags block rest set is =
       two = refl;
       spelled = refl;
     } in
-    (said flags block, block, whole, set.fits, refl, refl, refl)
+    (said flags silent block, block, whole, set.fits, refl, refl, refl)
 
 -- it is found, as it stands
-pub lone_set_found : (bytes key : List ℕ) (flags : ℕ) (block rest : List ℕ)
-    → IsPlainSet bytes key flags block rest
+pub lone_set_found : (bytes key : List ℕ) (flags : ℕ) (silent : Bool) (block rest : List ℕ)
+    → IsPlainSet bytes key flags silent block rest
     → IsKey key
-    → found_at bytes ≡ Requested (Store key (ops.Set flags block) false) (length bytes - length rest)
-lone_set_found bytes key flags block rest set is =
-    let request = Store key (ops.Set flags block) false in
-    let whole = set_of key set.flags_field set.size_field block in
+    → found_at bytes ≡ Requested (Store key (ops.Set flags block) silent) (length bytes - length rest)
+lone_set_found bytes key flags silent block rest set is =
+    let request = Store key (ops.Set flags block) silent in
+    let whole = set_of key set.flags_field set.size_field silent block in
     let cut : bytes ≡ whole ++ rest = set.bytes_are in
     let found : front bytes ≡ Some (request, length whole) =
-    ap front cut ∙ spelled_is_found request whole rest (set_is_spelled bytes key flags block rest set is) in
+    ap front cut ∙ spelled_is_found request whole rest (set_is_spelled bytes key flags silent block rest set is) in
     let count : length whole ≡ length bytes - length rest = omega (arith, ap length cut, length-append whole rest) in
     ap (λ f. found_of f (refused_at bytes)) found ∙ ap (λ n. Requested request n) count
 
 -- and what is after it stands after it
-pub lone_set_inside : (bytes key : List ℕ) (flags : ℕ) (block rest : List ℕ)
-    → IsPlainSet bytes key flags block rest
+pub lone_set_inside : (bytes key : List ℕ) (flags : ℕ) (silent : Bool) (block rest : List ℕ)
+    → IsPlainSet bytes key flags silent block rest
     → length rest ≤ length bytes
-lone_set_inside bytes key flags block rest set =
-    let whole = set_of key set.flags_field set.size_field block in
+lone_set_inside bytes key flags silent block rest set =
+    let whole = set_of key set.flags_field set.size_field silent block in
     let cut : bytes ≡ whole ++ rest = set.bytes_are in
     omega (arith, ap length cut, length-append whole rest)
 
+-- what was made of such a set stands at the front
+pub lone_set_stands : (bytes text key : List ℕ) (flags : ℕ) (silent : Bool) (block copy rest : List ℕ) (end : ℕ)
+    → IsPlainSet bytes text flags silent block rest
+    → IsKey text
+    → key ≡ text
+    → copy ≡ block
+    → end ≡ length bytes - length rest
+    → IsAtFront (record { key = key; flags = flags; silent = silent; block = copy; end = end }) bytes
+lone_set_stands bytes text key flags silent block copy rest end set is key_is copy_is end_is = record {
+  found = rw (key_is, copy_is, end_is) (lone_set_found bytes text flags silent block rest set is);
+  within = omega arith;
+  fits = subst (λ xs. length xs ≤ limit) (sym copy_is) set.fits;
+}
+
 -- the pieces of such a set, one after another
-in_pieces : (key flags size block rest : List ℕ)
-    → set_of key flags size block ++ rest
-    ≡ 115 ∷ 101 ∷ 116 ∷ 32 ∷ (key ++ 32 ∷ (flags ++ 32 ∷ 48 ∷ 32 ∷ (size ++ 13 ∷ 10 ∷ (block ++ 13 ∷ 10 ∷ rest))))
-in_pieces key flags size block rest = simp append_assoc
+in_pieces : (key flags size : List ℕ) (silent : Bool) (block rest : List ℕ)
+    → set_of key flags size silent block ++ rest
+    ≡ 115 ∷ 101 ∷ 116 ∷ 32
+    ∷ (key ++ 32 ∷ (flags ++ 32 ∷ 48 ∷ 32 ∷ (size ++ (ending silent ++ (block ++ 13 ∷ 10 ∷ rest)))))
+in_pieces key flags size silent block rest =
+    ap (λ xs. xs ++ block ++ crlf ++ rest) (line_in_pieces key flags size silent) ∙ simp append_assoc
 
 -- pieces that were cut off one after another make a plain set
 pub plain_set_made : (bytes line key numbers : List ℕ) (flags : ℕ) (after_key sized : List ℕ) (size : ℕ)
-    (come block ends rest : List ℕ)
+    (silent : Bool) (come block ends rest : List ℕ)
     → bytes ≡ 115 ∷ 101 ∷ 116 ∷ 32 ∷ line
     → line ≡ key ++ after_key
     → after_key ≡ 32 ∷ numbers
     → IsNumberBefore (32 ∷ 48 ∷ 32 ∷ []) numbers flags sized
-    → IsNumberBefore crlf sized size come
+    → IsNumberBefore (ending silent) sized size come
     → IsSplitAt come size block ends
     → ends ≡ 13 ∷ 10 ∷ rest
     → length block ≤ limit
-    → IsPlainSet bytes key flags block rest
-plain_set_made bytes line key numbers flags after_key sized size come block ends rest word cut space_is f s split end fits =
+    → IsPlainSet bytes key flags silent block rest
+plain_set_made bytes line key numbers flags after_key sized size silent come block ends rest word cut space_is f s split end fits =
     let joined : come ≡ block ++ ends =
     sym (take-append-drop size come) ∙ ap (λ xs. xs ++ drop size come) (sym split.1) ∙ ap (λ xs. block ++ xs)
     (sym split.2) in
     let pieces : bytes
-        ≡ 115 ∷ 101 ∷ 116 ∷ 32 ∷ (key ++ 32 ∷ (f.field ++ 32 ∷ 48 ∷ 32 ∷ (s.field ++ 13 ∷ 10
-        ∷ (block ++ 13 ∷ 10 ∷ rest)))) =
+        ≡ 115 ∷ 101 ∷ 116 ∷ 32
+        ∷ (key ++ 32 ∷ (f.field ++ 32 ∷ 48 ∷ 32 ∷ (s.field ++ (ending silent ++ (block ++ 13 ∷ 10 ∷ rest))))) =
     rw (word, cut, space_is, f.bytes_are, s.bytes_are, joined, end) refl in
     record {
       flags_field = f.field;
       size_field = s.field;
-      bytes_are = pieces ∙ sym (in_pieces key f.field s.field block rest);
+      bytes_are = pieces ∙ sym (in_pieces key f.field s.field silent block rest);
       flags_are = f.number_is;
       size_is = s.number_is ∙ ap Some (sym split.3);
       few_flags = f.short;

@@ -111,10 +111,11 @@ impl Session {
         let LoneSet {
             key,
             flags,
+            silent,
             block,
             end,
         } = set;
-        self.begin_update(Target::One(key), Op::Set(flags, block), false, end)
+        self.begin_update(Target::One(key), Op::Set(flags, block), silent, end)
     }
 
     // Begins what the unread bytes spell.
