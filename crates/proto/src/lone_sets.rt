@@ -19,7 +19,7 @@ pub struct LoneSet {
     pub end: usize,
 }
 
-// A `set` as it stands in the bytes, and the bytes after it. Its key may be none.
+// A `set` as it stands in the bytes, and the bytes after it. Its key may be no valid one.
 #[derive(Drop)]
 struct PlainSet<'a> {
     key: &'a [u8],
