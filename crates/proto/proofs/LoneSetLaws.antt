@@ -200,8 +200,8 @@ plain_set_made bytes line key numbers flags after_key sized size silent come blo
     sym (take-append-drop size come) ∙ ap (λ xs. xs ++ drop size come) (sym split.1) ∙ ap (λ xs. block ++ xs)
     (sym split.2) in
     let pieces : bytes
-        ≡ 115 ∷ 101 ∷ 116 ∷ 32
-        ∷ (key ++ 32 ∷ (f.field ++ 32 ∷ 48 ∷ 32 ∷ (s.field ++ (ending silent ++ (block ++ 13 ∷ 10 ∷ rest))))) =
+    ≡ 115 ∷ 101 ∷ 116 ∷ 32
+    ∷ (key ++ 32 ∷ (f.field ++ 32 ∷ 48 ∷ 32 ∷ (s.field ++ (ending silent ++ (block ++ 13 ∷ 10 ∷ rest))))) =
     rw (word, cut, space_is, f.bytes_are, s.bytes_are, joined, end) refl in
     record {
       flags_field = f.field;

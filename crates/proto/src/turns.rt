@@ -1,9 +1,9 @@
 //! The next turn of a session.
-ghost use Rattle.std.specs.Prelude.{◌≡◌, false};
+ghost use Rattle.std.specs.Prelude.{◌≡◌, false, None};
 ghost use Rattle.proto.specs.Turns.{form_of};
 ghost use Rattle.proto.specs.Sessions.{shows};
 
-use crate::front::{Found, front, lone_key};
+use crate::front::{Found, Pending, front, lone_key};
 use crate::lone_sets::{LoneSet, lone_set};
 use crate::passing::Passing;
 use crate::sessions::rest;
@@ -56,9 +56,22 @@ impl Session {
         if self.unread.is_empty() {
             return Ok(Step::Wait);
         }
-        if let Some(key) = lone_key(self.alloc, self.unread.as_slice())? {
-            return self.begin_lone_get(key);
+        match lone_key(self.alloc, self.unread.as_slice())? {
+            Some(key) => self.begin_lone_get(key),
+            None => self.begin_other(),
         }
+    }
+
+    // Begins what stands at the front, if that isn't found to be a `get` of one key.
+    fn begin_other(&mut self) -> Result<Step, ProtoFault>
+        requires idle { self.old.asked ≡ None }
+        requires open { self.old.closed ≡ false }
+        ensures step { IfOk result (λ step. step ≡ step_of (by_found (found_at self.old.unread) self.old)) }
+        ensures left { OnOk result (self.new ≡ (by_found (found_at self.old.unread) self.old).1) }
+        ensures opens { IfOk result (λ step. IsOpen step self.new.asked) }
+        ensures only_memory { IsOkUnless result ProtoFault.Memory }
+        ensures err { OnErr result (self.new ≡ self.old) }
+    {
         match self.set_at_front()? {
             Some(set) => Ok(self.begin_lone_set(set)),
             None => self.begin_unread(),
@@ -251,9 +264,18 @@ impl Session {
         requires { n ≤ length self.old.unread }
         ensures { self.new ≡ record self.old { unread = drop n self.old.unread } }
     {
-        drop(self.pending.take());
+        forget(&mut self.pending);
         self.unread.advance(n);
         rest(self.alloc, &mut self.unread);
+    }
+}
+
+// Forgets what was found out about a front. Mostly there is nothing to forget, and then nothing is moved.
+fn forget(pending: &mut Option<Pending>)
+    ensures { pending.new ≡ None }
+{
+    if pending.is_some() {
+        drop(pending.take());
     }
 }
 
