@@ -1,6 +1,7 @@
 -- A plain `set` that stands whole at a front is found there, whatever follows.
 use Rattle.std.proofs.Common.{◌≡◌, ℕ, ◌-◌, ◌^◌, ◌≤◌, Bool, true, false, cond, List, [], ◌∷◌, ◌++◌, length, Some, None}
-use Rattle.std.proofs.Common.{refl, sym, ap, ◌∙◌, arith, append_assoc, length-append, subst, lit≤, drop, take-append-drop}
+use Rattle.std.proofs.Common.{refl, sym, ap, ◌∙◌, arith, append_assoc, length-append, subst, lit≤, drop}
+use Rattle.std.proofs.Common.{take-append-drop}
 use Rattle.std.specs.Prelude.{◌==◌, ◌&&◌, not, nat_le, nat_lt, IsTrue, codes}
 use Rattle.std.specs.Char.{is_ascii_digit}
 use Rattle.std.specs.List.{list_all, join_with_byte, IsSplitAt}
@@ -184,25 +185,25 @@ in_pieces key flags size silent block rest =
     ap (λ xs. xs ++ block ++ crlf ++ rest) (line_in_pieces key flags size silent) ∙ simp append_assoc
 
 -- pieces that were cut off one after another make a plain set
-pub plain_set_made : (bytes line key numbers : List ℕ) (flags : ℕ) (after_key sized : List ℕ) (size : ℕ)
+pub plain_set_made : (bytes line key fields : List ℕ) (flags : ℕ) (more sized : List ℕ) (size : ℕ)
     (silent : Bool) (come block ends rest : List ℕ)
     → bytes ≡ 115 ∷ 101 ∷ 116 ∷ 32 ∷ line
-    → line ≡ key ++ after_key
-    → after_key ≡ 32 ∷ numbers
-    → IsNumberBefore (32 ∷ 48 ∷ 32 ∷ []) numbers flags sized
+    → line ≡ key ++ more
+    → more ≡ 32 ∷ fields
+    → IsNumberBefore (32 ∷ 48 ∷ 32 ∷ []) fields flags sized
     → IsNumberBefore (ending silent) sized size come
     → IsSplitAt come size block ends
     → ends ≡ 13 ∷ 10 ∷ rest
     → length block ≤ limit
     → IsPlainSet bytes key flags silent block rest
-plain_set_made bytes line key numbers flags after_key sized size silent come block ends rest word cut space_is f s split end fits =
+plain_set_made bytes line key fields flags more sized size silent come block ends rest word cut gap f s split end fits =
     let joined : come ≡ block ++ ends =
     sym (take-append-drop size come) ∙ ap (λ xs. xs ++ drop size come) (sym split.1) ∙ ap (λ xs. block ++ xs)
     (sym split.2) in
     let pieces : bytes
     ≡ 115 ∷ 101 ∷ 116 ∷ 32
     ∷ (key ++ 32 ∷ (f.field ++ 32 ∷ 48 ∷ 32 ∷ (s.field ++ (ending silent ++ (block ++ 13 ∷ 10 ∷ rest))))) =
-    rw (word, cut, space_is, f.bytes_are, s.bytes_are, joined, end) refl in
+    rw (word, cut, gap, f.bytes_are, s.bytes_are, joined, end) refl in
     record {
       flags_field = f.field;
       size_field = s.field;

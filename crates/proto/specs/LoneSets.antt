@@ -1,5 +1,5 @@
--- A plain `set` at the front of a stream, which the code finds by a short way. (This serves the code; no public contract
--- needs it.)
+-- A plain `set` at the front of a stream, which the code finds by a short way. (This serves the code; no public
+-- contract needs it.)
 use Rattle.std.specs.Prelude.{◌≡◌, ℕ, ◌^◌, ◌≤◌, Bool, if◌then◌else◌, List, ◌∷◌, ◌++◌, length, Some, codes}
 use Rattle.std.specs.List.{join_with_byte}
 use Rattle.table.specs.Items.{limit}
