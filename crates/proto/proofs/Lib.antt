@@ -10,6 +10,7 @@ pub mod HoldLaws
 pub mod KnownLaws
 pub mod LineLaws
 pub mod LoneGetLaws
+pub mod LoneSetLaws
 pub mod MeasureLaws
 pub mod RequestLaws
 pub mod RestLaws

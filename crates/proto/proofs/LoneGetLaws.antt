@@ -22,7 +22,7 @@ key_byte_fits : (b : ℕ)
 key_byte_fits b is = grind (arith, nat_tests, is)
 
 -- so a key is a field
-key_fits : (key : List ℕ)
+pub key_fits : (key : List ℕ)
     → IsTrue (list_all is_key_byte key)
     → IsTrue (is_field key)
 key_fits [] each = refl

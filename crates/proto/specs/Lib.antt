@@ -3,6 +3,7 @@ pub mod Keys
 pub mod Verbs
 pub mod Requests
 pub mod Fronts
+pub mod LoneSets
 pub mod Grammar
 pub mod Turns
 pub mod Sessions

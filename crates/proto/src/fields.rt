@@ -80,8 +80,8 @@ pub fn first_end(text: &[u8]) -> usize
     first_space(text).unwrap_or(text.len())
 }
 
-// The place of the first space.
-fn first_space(text: &[u8]) -> Option<usize>
+/// The place of the first space, by a vector search.
+pub fn first_space(text: &[u8]) -> Option<usize>
     ensures place { result ≡ first_space text.now }
     ensures within { IfSome result (λ i. i < length text.now) }
 {

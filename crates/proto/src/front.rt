@@ -83,8 +83,8 @@ pub fn lone_key(alloc: Global, bytes: &[u8]) -> Result<Option<Key>, AllocError>
     }
 }
 
-// The bytes after these, if these stand at the front.
-fn after<'a>(first: &[u8], bytes: &'a [u8]) -> Option<&'a [u8]>
+/// The bytes after these, if these stand at the front.
+pub fn after<'a>(first: &[u8], bytes: &'a [u8]) -> Option<&'a [u8]>
     ensures { IfSome result (λ rest. bytes.now ≡ first.now ++ rest.now) }
 {
     let rest = bytes.strip_prefix(first)?;

@@ -7,6 +7,7 @@ mod fields;
 mod front;
 mod laws;
 mod lines;
+mod lone_sets;
 mod passing;
 mod requests;
 mod runs;

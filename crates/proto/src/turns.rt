@@ -1,23 +1,26 @@
 //! The next turn of a session.
-ghost use Rattle.std.specs.Prelude.{◌≡◌, false};
+ghost use Rattle.std.specs.Prelude.{◌≡◌, false, None};
 ghost use Rattle.proto.specs.Turns.{form_of};
 ghost use Rattle.proto.specs.Sessions.{shows};
 
-use crate::front::{Found, front, lone_key};
+use crate::front::{Found, Pending, front, lone_key};
+use crate::lone_sets::{LoneSet, lone_set};
 use crate::passing::Passing;
 use crate::sessions::rest;
 use crate::texts::write_fault;
 use crate::{Fault, Form, Keys, Look, ProtoFault, Request, Session, Step};
+use std::alloc::AllocError;
 use table::{Key, Op, Target};
 
 impl Session {
     ghost use Rattle.std.specs.Prelude.{◌≡◌, ◌≤◌, ◌+◌, [], ◌∷◌, drop, length, false, true, None, Some};
-    ghost use Rattle.std.specs.Prelude.{IfOk, OnOk, OnErr, IsOkUnless};
+    ghost use Rattle.std.specs.Prelude.{IfOk, IfSome, OnOk, OnErr, IsOkUnless};
     ghost use Rattle.table.specs.Operations.{Fits, Suits, is_update};
     ghost use Rattle.table.specs.declared.operations.Target.TheVariants.{One};
     ghost use Rattle.proto.specs.declared.front.Found.TheVariants.{Request as Requested};
     ghost use Rattle.proto.specs.declared.requests.Request.TheVariants.{Get, Bad};
     ghost use Rattle.proto.specs.Fronts.{found_at, IsWhole};
+    ghost use Rattle.proto.specs.LoneSets.{IsAtFront};
     ghost use Rattle.proto.specs.Turns.{form_of};
     ghost use Rattle.proto.specs.Sessions.{by_found, by_passing, by_request, looking, opened, step_of, IsOpen};
 
@@ -55,6 +58,22 @@ impl Session {
         }
         match lone_key(self.alloc, self.unread.as_slice())? {
             Some(key) => self.begin_lone_get(key),
+            None => self.begin_other(),
+        }
+    }
+
+    // Begins what stands at the front, if that isn't found to be a `get` of one key.
+    fn begin_other(&mut self) -> Result<Step, ProtoFault>
+        requires idle { self.old.asked ≡ None }
+        requires open { self.old.closed ≡ false }
+        ensures step { IfOk result (λ step. step ≡ step_of (by_found (found_at self.old.unread) self.old)) }
+        ensures left { OnOk result (self.new ≡ (by_found (found_at self.old.unread) self.old).1) }
+        ensures opens { IfOk result (λ step. IsOpen step self.new.asked) }
+        ensures only_memory { IsOkUnless result ProtoFault.Memory }
+        ensures err { OnErr result (self.new ≡ self.old) }
+    {
+        match self.set_at_front()? {
+            Some(set) => Ok(self.begin_lone_set(set)),
             None => self.begin_unread(),
         }
     }
@@ -83,6 +102,33 @@ impl Session {
                 Err(ProtoFault::from(fault))
             }
         }
+    }
+
+    // The plain `set` that stands whole at the front, if no line was read there before.
+    fn set_at_front(&self) -> Result<Option<LoneSet>, AllocError>
+        ensures { IfOk result (λ found. IfSome found (λ set. IsAtFront set self.now.unread)) }
+    {
+        if self.pending.is_some() {
+            return Ok(None);
+        }
+        lone_set(self.alloc, self.unread.as_slice())
+    }
+
+    // Begins this `set`, which stands at the front: the update that is met most, so it gets a short way too.
+    fn begin_lone_set(&mut self, set: LoneSet) -> Step
+        requires front { IsAtFront set self.old.unread }
+        ensures step { result ≡ step_of (by_found (found_at self.old.unread) self.old) }
+        ensures left { self.new ≡ (by_found (found_at self.old.unread) self.old).1 }
+        ensures opens { IsOpen result self.new.asked }
+    {
+        let LoneSet {
+            key,
+            flags,
+            silent,
+            block,
+            end,
+        } = set;
+        self.begin_update(Target::One(key), Op::Set(flags, block), silent, end)
     }
 
     // Begins what the unread bytes spell.
@@ -218,9 +264,18 @@ impl Session {
         requires { n ≤ length self.old.unread }
         ensures { self.new ≡ record self.old { unread = drop n self.old.unread } }
     {
-        drop(self.pending.take());
+        forget(&mut self.pending);
         self.unread.advance(n);
         rest(self.alloc, &mut self.unread);
+    }
+}
+
+// Forgets what was found out about a front. Mostly there is nothing to forget, and then nothing is moved.
+fn forget(pending: &mut Option<Pending>)
+    ensures { pending.new ≡ None }
+{
+    if pending.is_some() {
+        drop(pending.take());
     }
 }
 
