@@ -1,2 +1,3 @@
+pub mod Noting
 pub mod PeerLinked
 pub mod Waiting

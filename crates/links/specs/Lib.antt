@@ -1,5 +1,5 @@
 pub mod Greetings
-pub mod Notices
+pub mod Orders
 pub mod PeerLinks
 pub mod Places
 pub mod Speakers

@@ -1,5 +1,5 @@
 -- Who speaks at a server's peer port, and what the server hears of it.
-use Rattle.std.specs.Prelude.{ℕ, [], ◌∷◌, ◌++◌, ◌≡◌, ◌≢◌}
+use Rattle.std.specs.Prelude.{ℕ, [], ◌∷◌, ◌++◌, ◌≡◌, ◌≢◌, ◌⊎◌}
 use Rattle.node.specs.declared.messages.Input.TheVariants as inputs
 use Rattle.rail.specs.declared.events.Event.TheVariants.{Took}
 use Rattle.wire.specs.declared.frames.Frame.{Frame}
@@ -13,9 +13,9 @@ abbrev pub Greets : ℕ → Who → Type 0
 Greets id (Server j brought) = (j ≡ id) × (id ≢ 16)
 Greets id (Master told) = id ≡ 16
 
--- what a frame makes of who speaks, if it is heard: a server sends messages and a master notices, and what is brought
--- to the server are these, in order. Nobody greets twice, who has opened the connection answers nothing, and nobody
--- watches by a later release's frames
+-- what a frame makes of who speaks, if it is heard: a server sends messages, a master notices and orders, and what is
+-- brought to the server are the messages and notices, in order. A notice of silence is brought if it is of the reign
+-- that the server is in. Nobody greets twice, and who has opened the connection answers nothing
 abbrev pub Hears : Who → Frame → Who → Type 0
 Hears (Server i brought) (Hello id) now = ⊥
 Hears (Server i brought) (Peer peer) now = now ≡ Server i (brought ++ Took (inputs.From i peer) ∷ [])
@@ -35,7 +35,7 @@ Hears (Master told) (Introduction opener) now = ⊥
 Hears (Master told) (Accepted answer) now = ⊥
 Hears (Master told) (Refused reason) now = ⊥
 Hears (Master told) (Noted j) now = ⊥
-Hears (Master told) (Reign reign) now = ⊥
-Hears (Master told) (Beat beat) now = ⊥
+Hears (Master told) (Reign reign) now = now ≡ Master told
+Hears (Master told) (Beat beat) now = now ≡ Master told
 Hears (Master told) (Alive alive) now = ⊥
-Hears (Master told) (Silent silent) now = ⊥
+Hears (Master told) (Silent silent) now = (now ≡ Master (told ++ silent.id ∷ [])) ⊎ (now ≡ Master told)

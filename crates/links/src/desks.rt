@@ -1,33 +1,39 @@
 //! What a server knows of those who greet it, and whom it accepts.
 ghost use Rattle.std.specs.Prelude.{◌≡◌, ◌≢◌, ◌&&◌, ◌||◌, ℕ, None, Some, OnOk, OnErr, IfOk, IfErr};
 ghost use Rattle.node.specs.Views.{union};
+ghost use Rattle.leases.specs.Holding.{answer_to, heeded, unheld};
 ghost use Rattle.links.specs.Greetings.{HasPlace, is_same_size, refusal};
+ghost use Rattle.links.specs.Orders.{NamesServer, gone_after};
 ghost use Rattle.links.specs.Places.{waiting};
 ghost use Rattle.links.specs.Speakers.{Greets};
 
 use crate::places::Places;
 use crate::speakers::Speaker;
+use leases::{Answer, Lease, Order, Term};
 use node::{SERVERS, View};
 use peers::Identity;
 use std::alloc::Global;
 use wire::{Introduction, MASTER, Reason};
 
-/// Who may still greet, and which servers have failed.
+/// Who may still greet, which servers have failed, and the server's lease.
 #[derive(Drop)]
 pub struct Desk {
     places: Places,
     gone: View,
+    lease: Lease,
 }
 
 impl Desk {
-    /// With these places, before anyone has greeted or failed.
-    pub fn new(places: Places) -> Desk
+    /// With these places, before anyone has greeted or failed, and with a lease of this term, or one that always holds.
+    pub fn new(places: Places, term: Option<Term>) -> Desk
         ensures places { result.places ≡ places }
         ensures gone { result.gone ≡ 0 }
+        ensures lease { result.lease ≡ unheld term }
     {
         Desk {
             places,
             gone: View::empty(),
+            lease: Lease::new(term),
         }
     }
 
@@ -42,10 +48,35 @@ impl Desk {
     pub fn note(&mut self, view: View) -> bool
         ensures gone { self.new.gone ≡ union self.old.gone view }
         ensures places { self.new.places ≡ self.old.places }
+        ensures lease { self.new.lease ≡ self.old.lease }
     {
         let is_news = self.gone.adds(view);
         self.gone = self.gone.union(view);
         is_news
+    }
+
+    /// The server's lease.
+    pub fn lease(&self) -> &Lease
+        ensures { result.now ≡ self.now.lease }
+    {
+        &self.lease
+    }
+
+    /// What the server does with an order of a master and answers to it, when its clock shows `now`. A notice is noted
+    /// here before any other order is heard, so that no answer hides what the server was told.
+    #[tactic(auto, using(crate::proofs::Noting::noted_has_place))]
+    pub fn hear(&mut self, order: Order, now: u64) -> Answer
+        requires server { NamesServer order }
+        ensures answer { result ≡ answer_to self.old.lease order self.old.gone now }
+        ensures lease { self.new.lease ≡ heeded self.old.lease order self.old.gone now }
+        ensures gone { self.new.gone ≡ gone_after self.old.gone result }
+        ensures places { self.new.places ≡ self.old.places }
+    {
+        let answer = self.lease.hear(order, self.gone.bits(), now);
+        if let Answer::Notes(id) = answer {
+            self.gone = self.gone.union(View::single(id));
+        }
+        answer
     }
 
     /// Why who greets a host with this id and this introduction isn't accepted, if it isn't: the chain has another
@@ -94,6 +125,7 @@ impl Desk {
         ensures once { OnOk result (id ≢ 16 → waiting self.new.places id ≡ None) }
         ensures others { (j : ℕ) → j ≢ id → waiting self.new.places j ≡ waiting self.old.places j }
         ensures gone { self.new.gone ≡ self.old.gone }
+        ensures lease { self.new.lease ≡ self.old.lease }
         ensures stays { OnErr result (self.new ≡ self.old) }
     {
         if let Some(reason) = self.refusal(host, id, opener) {

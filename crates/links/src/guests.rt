@@ -1,12 +1,13 @@
 //! One who speaks at a server's peer port.
-ghost use Rattle.std.specs.Prelude.{◌≡◌, ◌⊎◌, ◌+◌, ◌++◌, ◌∷◌, [], OnOk, OnErr, MatchResult};
+ghost use Rattle.std.specs.Prelude.{◌≡◌, ◌⊎◌, ◌+◌, ◌++◌, ◌∷◌, [], IfOk, OnOk, OnErr, MatchResult};
 ghost use Rattle.peers.specs.Links.{MayCome};
-ghost use Rattle.links.specs.Notices.{notice_in, noted};
+ghost use Rattle.links.specs.Orders.{Answers, IsAnswered, bytes_of};
 ghost use Rattle.links.specs.Speakers.{Hears};
 ghost use Rattle.wire.specs.Spellings.{spelling};
 
 use crate::histories::History;
 use crate::lobbies::{Cuts, Lobby};
+use crate::orders::Response;
 use crate::speakers::Speaker;
 use ends::{Failures, Sink};
 use node::View;
@@ -17,8 +18,8 @@ use std::sync::{Arc, Wait};
 use wire::Frame;
 
 /// One who was accepted there. Its frames are brought to the server as long as it keeps the rules (`Speaker::hear`),
-/// and each notice is answered as soon as it was brought. If a notice or a message calls the server itself gone, the
-/// server is ended.
+/// and each notice is answered as soon as it was brought, each order as soon as the lease has heard it. If a notice or a
+/// message calls the server itself gone, the server is ended.
 #[derive(Drop)]
 pub struct Guest<C, W> {
     alloc: Global,
@@ -56,18 +57,18 @@ impl<C: Cuts + Drop, W: Sink + Drop> Guest<C, W> {
 }
 
 impl<C: Cuts + Drop, W: Sink + Drop> Taker for Guest<C, W> {
-    ghost use Rattle.std.specs.Prelude.{◌≡◌, ◌⊎◌, ◌++◌};
-    ghost use Rattle.links.specs.Notices.{notice_in, noted};
+    ghost use Rattle.std.specs.Prelude.{◌≡◌, ◌⊎◌};
+    ghost use Rattle.links.specs.Orders.{IsAnswered};
     ghost use Rattle.links.specs.Speakers.{Hears};
 
     ghost taken = { λ g. g.taken };
 
     ghost failures = { λ g. g.failures };
 
-    // The server was brought it, and if it is a notice it was answered; nothing else was.
+    // The server was brought it, and it was answered as its kind is; nothing else was.
     ghost hears = { λ before frame now.
         Hears before.speaker frame now.speaker
-        × (W.written now.sink ≡ W.written before.sink ++ noted (notice_in frame)) };
+        × IsAnswered frame (W.written before.sink) (W.written now.sink) };
 
     // The server was brought nothing, or it: then the answer couldn't be written, or memory ran out.
     ghost misses = { λ before frame now.
@@ -82,35 +83,23 @@ impl<C: Cuts + Drop, W: Sink + Drop> Taker for Guest<C, W> {
             (λ _. self.new.failures ≡ self.old.failures + 1) }
         // What it has taken was heard.
         ensures heard { OnOk result (Hears self.old.speaker frame self.new.speaker) }
-        // If that is a notice it was answered, and nothing else was.
-        ensures answered { OnOk result
-            (W.written self.new.sink ≡ W.written self.old.sink ++ noted (notice_in frame)) }
+        // It was answered as its kind is, and nothing else was.
+        ensures answered { OnOk result (IsAnswered frame (W.written self.old.sink) (W.written self.new.sink)) }
         // What it hasn't taken was not heard, or heard and not answered.
         ensures missed { OnErr result
             ((self.new.speaker ≡ self.old.speaker) ⊎ Hears self.old.speaker frame self.new.speaker) }
     {
         let snapshot = Snapshot::of(&frame);
-        let notice = notice_in(&frame);
         let heard = hear(rt, &self.lobby, &mut self.view, &mut self.speaker, frame);
-        if heard.is_ok() {
-            let answered = answer(self.alloc, &mut self.sink, notice);
-            end_if_named(rt, &self.lobby, notice);
+        if let Ok(response) = heard {
+            let answered = answer(self.alloc, &mut self.sink, response);
+            end_if_named(rt, &self.lobby, response);
             if answered.is_ok() && self.taken.add(snapshot).is_ok() {
                 return Ok(());
             }
         }
         self.failures.rise();
         Err(TakeFault)
-    }
-}
-
-// The server of whose failure a frame tells, if it is a notice.
-fn notice_in(frame: &Frame) -> Option<u8>
-    ensures { result ≡ notice_in frame.now }
-{
-    match frame {
-        Frame::Gone(j) => Some(*j),
-        _ => None,
     }
 }
 
@@ -129,9 +118,10 @@ fn hear<R: Wait, C: Cuts>(
     view: &mut View,
     speaker: &mut Speaker,
     frame: Frame,
-) -> Result<(), TakeFault>
+) -> Result<Response, TakeFault>
     requires { MayCome frame }
     ensures heard { OnOk result (Hears speaker.old frame speaker.new) }
+    ensures answered { IfOk result (λ response. Answers frame (bytes_of response)) }
     ensures refused { OnErr result (speaker.new ≡ speaker.old) }
 {
     if learn(rt, lobby, view, view_in(&frame)) {
@@ -156,21 +146,30 @@ fn learn<R: Wait, C: Cuts>(rt: &R, lobby: &Lobby<C>, before: &mut View, view: Vi
     false
 }
 
-// Ends the server if the notice names it.
-fn end_if_named<R: Wait, C: Cuts>(rt: &R, lobby: &Lobby<C>, notice: Option<u8>) {
-    if notice == Some(lobby.host().id) {
-        lobby.end(rt);
+// Ends the server if a notice that was brought names it.
+fn end_if_named<R: Wait, C: Cuts>(rt: &R, lobby: &Lobby<C>, response: Response) {
+    if let Response::Noted(j) = response {
+        if j == lobby.host().id {
+            lobby.end(rt);
+        }
     }
 }
 
-// Answers a notice, if it is one.
-fn answer<W: Sink>(alloc: Global, sink: &mut W, notice: Option<u8>) -> Result<(), TakeFault>
-    ensures { OnOk result (W.written sink.new ≡ W.written sink.old ++ noted notice) }
+// Answers, if anything is answered.
+fn answer<W: Sink>(alloc: Global, sink: &mut W, response: Response) -> Result<(), TakeFault>
+    ensures { OnOk result (W.written sink.new ≡ W.written sink.old ++ bytes_of response) }
 {
-    let Some(j) = notice else {
-        return Ok(());
-    };
-    let frame = Frame::Noted(j);
+    match response {
+        Response::Nothing => Ok(()),
+        Response::Noted(j) => put(alloc, sink, Frame::Noted(j)),
+        Response::Alive(alive) => put(alloc, sink, Frame::Alive(alive)),
+    }
+}
+
+// Puts a frame of its own, if its numbers are in range.
+fn put<W: Sink>(alloc: Global, sink: &mut W, frame: Frame) -> Result<(), TakeFault>
+    ensures { OnOk result (W.written sink.new ≡ W.written sink.old ++ spelling frame) }
+{
     let answered = put_in_range(alloc, sink, &frame);
     drop(frame);
     answered

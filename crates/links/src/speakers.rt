@@ -1,14 +1,17 @@
 //! Who speaks at a server's peer port, and what the server hears of it.
-ghost use Rattle.std.specs.Prelude.{◌≡◌, ◌++◌, ◌∷◌, [], OnOk, OnErr};
+ghost use Rattle.std.specs.Prelude.{◌≡◌, ◌++◌, ◌∷◌, ◌⊎◌, [], OnOk, OnErr, IfOk};
 ghost use Rattle.peers.specs.Links.{MayCome};
 ghost use Rattle.node.specs.Lawful.{IsBody};
 ghost use Rattle.node.specs.declared.messages.Input.TheVariants as inputs;
 ghost use Rattle.rail.specs.declared.events.Event.TheVariants.{Took};
 ghost use Rattle.links.specs.declared.speakers.Who.TheVariants.{Server, Master};
+ghost use Rattle.links.specs.Orders.{Answers, IsAnswer, NamesServer, TellsHow, bytes_of};
 ghost use Rattle.links.specs.Speakers.{Hears};
 
 use crate::histories::History;
 use crate::lobbies::{Cuts, Lobby};
+use crate::orders::{Response, alive_of, order_of};
+use leases::{Answer, Order};
 use node::{Peer, SERVERS, View};
 use peers::TakeFault;
 use rail::Inlet;
@@ -16,7 +19,7 @@ use std::alloc::Global;
 use std::marker::Model;
 use std::snapshot::Snapshot;
 use std::sync::Wait;
-use wire::Frame;
+use wire::{Beat, Frame, Silent};
 
 /// Who speaks on an accepted connection. Only `Desk::admit` makes one: that of a server has the inlet that waited for
 /// it at its place, of which there is one, and which is given once (`Places::take`). So of the places of a desk each
@@ -64,18 +67,21 @@ impl Speaker {
         }
     }
 
-    /// Does what a frame asks for, if the frame keeps the rules: a server sends messages, a master sends notices of
-    /// failures, and each is brought to the server as it is. Any other frame is refused, and so is one that can't be
-    /// brought; then nothing was brought. Before a notice is brought, the connection to the server that has failed is
-    /// ended. It may wait, also for other masters.
+    /// Does what a frame asks for, if the frame keeps the rules, and says what answers it: a server sends messages, a
+    /// master sends notices of failures, and each is brought to the server as it is. A master's orders are heard by the
+    /// server's lease, once the clock has been read; one that is a notice of silence, and is taken, is brought as
+    /// another notice is. Any other frame is refused, and so is one that can't be brought, and an order if the clock
+    /// can't be read; then nothing was brought. Before a notice is brought, the connection to the server that has
+    /// failed is ended. It may wait, also for other masters.
     pub fn hear<R: Wait, C: Cuts>(
         &mut self,
         rt: &R,
         lobby: &Lobby<C>,
         frame: Frame,
-    ) -> Result<(), TakeFault>
+    ) -> Result<Response, TakeFault>
         requires { MayCome frame }
         ensures heard { OnOk result (Hears self.old frame self.new) }
+        ensures answered { IfOk result (λ response. Answers frame (bytes_of response)) }
         ensures refused { OnErr result (self.new ≡ self.old) }
     {
         hear(rt, lobby, &mut self.who, frame)
@@ -88,35 +94,37 @@ fn hear<R: Wait, C: Cuts>(
     lobby: &Lobby<C>,
     who: &mut Who,
     frame: Frame,
-) -> Result<(), TakeFault>
+) -> Result<Response, TakeFault>
     requires { MayCome frame }
     ensures heard { OnOk result (Hears who.old frame who.new) }
+    ensures answered { IfOk result (λ response. Answers frame (bytes_of response)) }
     ensures refused { OnErr result (who.new ≡ who.old) }
 {
     match frame {
         Frame::Peer(peer) => bring(rt, who, peer),
         Frame::Gone(j) => tell(rt, lobby, who, j),
+        Frame::Reign(reign) => greet(rt, lobby, who, reign),
+        Frame::Beat(beat) => prolong(rt, lobby, who, beat),
+        Frame::Silent(silent) => silence(rt, lobby, who, silent),
         Frame::Hello(_)
         | Frame::Introduction(_)
         | Frame::Accepted(_)
         | Frame::Refused(_)
-        | Frame::Reign(_)
-        | Frame::Beat(_)
         | Frame::Alive(_)
-        | Frame::Silent(_)
         | Frame::Noted(_) => Err(TakeFault),
     }
 }
 
 // Brings a message, if a server speaks.
-fn bring<R: Wait>(rt: &R, who: &mut Who, peer: Peer) -> Result<(), TakeFault>
+fn bring<R: Wait>(rt: &R, who: &mut Who, peer: Peer) -> Result<Response, TakeFault>
     requires { IsBody peer.body }
     ensures heard { OnOk result (Hears who.old (Frame.Peer peer) who.new) }
+    ensures answered { IfOk result (λ response. Answers (Frame.Peer peer) (bytes_of response)) }
     ensures refused { OnErr result (who.new ≡ who.old) }
 {
     match who {
         Who::Server(id, inlet) => match inlet.bring(rt, *id, peer) {
-            Ok(()) => Ok(()),
+            Ok(()) => Ok(Response::Nothing),
             Err(_) => Err(TakeFault),
         },
         Who::Master(_) => {
@@ -127,8 +135,14 @@ fn bring<R: Wait>(rt: &R, who: &mut Who, peer: Peer) -> Result<(), TakeFault>
 }
 
 // Brings a notice that server `j` has failed, if a master speaks. The link to that server is cut first.
-fn tell<R: Wait, C: Cuts>(rt: &R, lobby: &Lobby<C>, who: &mut Who, j: u8) -> Result<(), TakeFault>
+fn tell<R: Wait, C: Cuts>(
+    rt: &R,
+    lobby: &Lobby<C>,
+    who: &mut Who,
+    j: u8,
+) -> Result<Response, TakeFault>
     ensures heard { OnOk result (Hears who.old (Frame.Gone j) who.new) }
+    ensures answered { IfOk result (λ response. Answers (Frame.Gone j) (bytes_of response)) }
     ensures refused { OnErr result (who.new ≡ who.old) }
 {
     match who {
@@ -137,9 +151,106 @@ fn tell<R: Wait, C: Cuts>(rt: &R, lobby: &Lobby<C>, who: &mut Who, j: u8) -> Res
                 lobby.learn(rt, View::single(j));
             }
             let mut inlet = lobby.notices().lock(rt);
-            bring_notice(rt, &mut inlet, told, j)
+            bring_notice(rt, &mut inlet, told, j)?;
+            Ok(Response::Noted(j))
         }
         Who::Server(..) => Err(TakeFault),
+    }
+}
+
+// A master of this reign greets, if a master speaks.
+fn greet<R: Wait, C: Cuts>(
+    rt: &R,
+    lobby: &Lobby<C>,
+    who: &Who,
+    reign: u64,
+) -> Result<Response, TakeFault>
+    ensures heard { OnOk result (Hears who.now (Frame.Reign reign) who.now) }
+    ensures answered { IfOk result (λ response. TellsHow (bytes_of response)) }
+{
+    match who {
+        Who::Master(_) => report(rt, lobby, Order::Reign(reign)),
+        Who::Server(..) => Err(TakeFault),
+    }
+}
+
+// A beat came, if a master speaks.
+fn prolong<R: Wait, C: Cuts>(
+    rt: &R,
+    lobby: &Lobby<C>,
+    who: &Who,
+    beat: Beat,
+) -> Result<Response, TakeFault>
+    ensures heard { OnOk result (Hears who.now (Frame.Beat beat) who.now) }
+    ensures answered { IfOk result (λ response. TellsHow (bytes_of response)) }
+{
+    match who {
+        Who::Master(_) => report(rt, lobby, order_of(beat)),
+        Who::Server(..) => Err(TakeFault),
+    }
+}
+
+// A notice of silence came, if a master speaks.
+fn silence<R: Wait, C: Cuts>(
+    rt: &R,
+    lobby: &Lobby<C>,
+    who: &mut Who,
+    silent: Silent,
+) -> Result<Response, TakeFault>
+    ensures heard { OnOk result (Hears who.old (Frame.Silent silent) who.new) }
+    ensures answered { IfOk result (λ response. Answers (Frame.Silent silent) (bytes_of response)) }
+    ensures refused { OnErr result (who.new ≡ who.old) }
+{
+    match who {
+        Who::Master(told) => silence_by(rt, lobby, told, silent),
+        Who::Server(..) => Err(TakeFault),
+    }
+}
+
+// The same of a master that has told of these. If the notice is taken, it is brought; else the server tells how it is.
+fn silence_by<R: Wait, C: Cuts>(
+    rt: &R,
+    lobby: &Lobby<C>,
+    told: &mut History<u8>,
+    silent: Silent,
+) -> Result<Response, TakeFault>
+    ensures told { OnOk result ((told.new ≡ told.old ++ silent.id ∷ []) ⊎ (told.new ≡ told.old)) }
+    ensures answered { IfOk result (λ response. Answers (Frame.Silent silent) (bytes_of response)) }
+    ensures refused { OnErr result (told.new ≡ told.old) }
+{
+    let Silent { reign, id } = silent;
+    if id >= SERVERS || id >= lobby.host().servers {
+        return Err(TakeFault);
+    }
+    match heed(rt, lobby, Order::Silent(reign, id))? {
+        Answer::Tells(report) => Ok(Response::Alive(alive_of(report))),
+        Answer::Notes(_) => {
+            let mut inlet = lobby.notices().lock(rt);
+            bring_notice(rt, &mut inlet, told, id)?;
+            Ok(Response::Noted(id))
+        }
+    }
+}
+
+// How the server is, once its lease has heard an order that is no notice.
+fn report<R: Wait, C: Cuts>(rt: &R, lobby: &Lobby<C>, order: Order) -> Result<Response, TakeFault>
+    requires server { NamesServer order }
+    ensures { IfOk result (λ response. TellsHow (bytes_of response)) }
+{
+    match heed(rt, lobby, order)? {
+        Answer::Tells(report) => Ok(Response::Alive(alive_of(report))),
+        Answer::Notes(_) => Err(TakeFault),
+    }
+}
+
+// What the server does with an order. The clock is read now that the order is here.
+fn heed<R: Wait, C: Cuts>(rt: &R, lobby: &Lobby<C>, order: Order) -> Result<Answer, TakeFault>
+    requires server { NamesServer order }
+    ensures { IfOk result (λ answer. IsAnswer order answer) }
+{
+    match lobby.cuts().now() {
+        Some(now) => Ok(lobby.hear(rt, order, now)),
+        None => Err(TakeFault),
     }
 }
 

@@ -1,5 +1,6 @@
 //! Cutting the connections to servers that have failed.
 
+use leases::Lease;
 use links::Cuts;
 use seats::Mark;
 use std::alloc::{AllocError, Global};
@@ -116,4 +117,12 @@ impl Cuts for Connections {
     fn end(&self) {
         self.ended.set();
     }
+
+    // Masters give no orders yet, so nobody reads a clock for them.
+    fn now(&self) -> Option<u64> {
+        None
+    }
+
+    // Nobody asks for it yet.
+    fn renewed(&self, _lease: &Lease) {}
 }

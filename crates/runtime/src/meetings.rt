@@ -34,7 +34,7 @@ pub(crate) fn new_lobby<R: Clock>(
     };
     let (places, notices) = all_places(alloc, settings, inlets)?;
     let connections = Connections::new(alloc, id, servers, failed.share()?)?;
-    let lobby = Lobby::new(host, places, notices, connections);
+    let lobby = Lobby::new(host, places, notices, None, connections);
     Ok(Arc::new(alloc, lobby)?)
 }
 

@@ -1,0 +1,31 @@
+-- Which notices are taken.
+use Rattle.std.proofs.Common.{◌≡◌, ℕ, ◌<◌, Bool, true, false, Some, None, subst}
+use Rattle.std.specs.Prelude.{nat_eq, if◌then◌else◌}
+use Rattle.leases.specs.declared.orders.Order.{Order}
+use Rattle.leases.specs.declared.orders.Order.TheVariants.{Reign, Beat, Silent, Gone}
+use Rattle.leases.specs.declared.orders.Report.{Report}
+use Rattle.leases.specs.declared.orders.Answer.TheVariants.{Notes}
+use Rattle.leases.specs.Holding.{LeaseState, answer_to, answer_with, heeded, report_of}
+use Rattle.links.specs.Orders.{NamesServer}
+
+same_id : (j id : ℕ) → Notes j ≡ Notes id → j ≡ id
+same_id j id e = cc
+
+-- what a notice is answered, by whether it is of the server's reign
+named_by : (own : Bool) (j id : ℕ) (report : Report)
+    → j < 16
+    → answer_with (if own then Some j else None) report ≡ Notes id
+    → id < 16
+named_by true j id report h e = subst (λ k. k < 16) (same_id j id e) h
+named_by false j id report h e = absurd cc
+
+-- whom an order's notice names, a set can have
+pub noted_has_place : (lease : LeaseState) (order : Order) (gone now id : ℕ)
+    → NamesServer order
+    → answer_to lease order gone now ≡ Notes id
+    → id < 16
+noted_has_place lease (Reign reign) gone now id h e = absurd cc
+noted_has_place lease (Beat reign stamp) gone now id h e = absurd cc
+noted_has_place lease (Silent reign j) gone now id h e =
+    named_by (nat_eq reign lease.reign) j id (report_of (heeded lease (Silent reign j) gone now) gone now) h e
+noted_has_place lease (Gone j) gone now id h e = subst (λ k. k < 16) (same_id j id e) h
