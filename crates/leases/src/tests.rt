@@ -2,8 +2,9 @@
 
 use crate::{
     Answer, AnyEnd, Claim, Deed, Due, Lease, Order, Paces, Report, Roll, SECOND, SharedLease, Term,
-    Ward, Watch, nanoseconds_of, next_reign,
+    Ward, Warden, Watch, nanoseconds_of, next_reign,
 };
+use std::alloc::Global;
 use std::time::Duration;
 
 fn two_seconds() -> Option<Term> {
@@ -50,6 +51,8 @@ fn terms_are_from_one_second_to_an_hour(rt: HostRuntime) {
     assert!(rt; Term::of_seconds(0).is_none());
     assert!(rt; Term::of_seconds(3_600).is_some());
     assert!(rt; Term::of_seconds(3_601).is_none());
+    assert!(rt; Term::of_nanoseconds(2 * SECOND) == two_seconds());
+    assert!(rt; Term::of_nanoseconds(SECOND - 1).is_none());
     // Eleven tenths of 2.01 s, and one.
     assert!(rt; two_seconds().map(|term| term.wait()) == Some(2_211_000_001));
 }
@@ -239,4 +242,43 @@ fn a_master_watches(rt: HostRuntime) {
 fn a_master_calls_a_silent_server_gone(rt: HostRuntime) {
     assert!(rt; due_for_silent(3_211_000_001) == Due::Others(Order::Silent(7, 1)));
     assert!(rt; due_for_silent(3_211_000_000) == Due::Wait(1));
+}
+
+// A master of name 3 in a chain of two servers, which both told in no reign how they are.
+fn of_two(alloc: Global) -> Option<Warden> {
+    let mut warden = Warden::new(alloc, 3, 2, Paces::usual(), SECOND).ok()?;
+    warden.told(0, &report_in(0, 0), SECOND);
+    warden.told(1, &report_in(0, 0), SECOND);
+    Some(warden)
+}
+
+// The reign that it takes, and what is due for server 1 then.
+fn taken_by_two(alloc: Global) -> Option<(u64, Due)> {
+    let mut warden = of_two(alloc)?;
+    let reign = warden.claim(SECOND)?;
+    Some((reign, warden.next(1, SECOND)))
+}
+
+// What is due for server 1 once server 0 told of this reign, in which the master isn't, or of its own.
+fn due_after(alloc: Global, reign: u64) -> Option<(bool, Due)> {
+    let mut warden = of_two(alloc)?;
+    warden.claim(SECOND)?;
+    let is_followed = warden.told(0, &report_in(reign, 0), SECOND);
+    Some((is_followed, warden.next(1, SECOND)))
+}
+
+// What is due for server 1 once somebody has seen that it does nothing more.
+fn due_for_lost(alloc: Global) -> Option<Due> {
+    let mut warden = of_two(alloc)?;
+    warden.lose(1);
+    Some(warden.next(1, SECOND))
+}
+
+#[test]
+fn a_master_decides(rt: HostRuntime) {
+    let alloc = rt.alloc();
+    assert!(rt; taken_by_two(alloc) == Some((3, Due::Server(Order::Reign(3)))));
+    assert!(rt; due_after(alloc, 3) == Some((false, Due::Server(Order::Reign(3)))));
+    assert!(rt; due_after(alloc, 9) == Some((true, Due::Server(Order::Reign(0)))));
+    assert!(rt; due_for_lost(alloc) == Some(Due::Others(Order::Gone(1))));
 }
