@@ -57,7 +57,8 @@
 //!   `--after`.
 //! - A beat's time: `Warden::next` says what is sent. A beat brings back a stamp only if the reign is whole for its
 //!   server.
-//! - Silence for `--after`: `Warden::next` has the server told, and the others once its lease is surely over.
+//! - Silence for `--after`: `Warden::next` has the server told, and the others once its lease is surely over. A master
+//!   that was stopped itself sends a beat first, and counts the silence from that on.
 //! - A refused connection, or a person's word: `Warden::lose`. Then `Warden::next` has the others told that it is gone.
 //!
 //! Two masters never take one reign, if their names differ. The one that started last reigns, if it has met each server

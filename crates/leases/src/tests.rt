@@ -32,9 +32,23 @@ fn first_due(now: u64) -> Deed {
     watch.next(true, now)
 }
 
+// The watch over it, if beats were sent at 2 s and at 3 s.
+fn unanswered() -> Watch {
+    let mut watch = Watch::new(two_seconds(), Paces::usual(), 5, SECOND);
+    watch.next(true, 2 * SECOND);
+    watch.next(true, 3 * SECOND);
+    watch
+}
+
+// What is due for it then.
+fn due_then(now: u64) -> Deed {
+    let mut watch = unanswered();
+    watch.next(true, now)
+}
+
 // What is due for it at a time, once it was told at 4 s.
 fn due_later(now: u64) -> Deed {
-    let mut watch = Watch::new(two_seconds(), Paces::usual(), 5, SECOND);
+    let mut watch = unanswered();
     watch.next(true, 4 * SECOND);
     watch.answered(6, 4 * SECOND);
     watch.next(true, now)
@@ -88,7 +102,10 @@ fn a_server_is_in_its_latest_reign(rt: HostRuntime) {
 fn a_watch_beats_and_then_tells(rt: HostRuntime) {
     assert!(rt; first_due(1_200_000_000) == Deed::Wait(100_000_000));
     assert!(rt; first_due(1_300_000_000) == Deed::Beat(Some(5)));
-    assert!(rt; first_due(4_000_000_000) == Deed::TellServer);
+    assert!(rt; due_then(4_000_000_000) == Deed::TellServer);
+    // A master that is late itself sends a beat first.
+    assert!(rt; first_due(4_000_000_000) == Deed::Beat(Some(5)));
+    assert!(rt; due_then(5_000_000_000) == Deed::Beat(Some(5)));
     assert!(rt; due_later(3_211_000_000) == Deed::Wait(1));
     assert!(rt; due_later(3_211_000_001) == Deed::TellSilent);
     assert!(rt; due_after_refusal() == Deed::TellGone);
@@ -226,6 +243,8 @@ fn due_for(reign: u64, gone: u16) -> Due {
 fn due_for_silent(now: u64) -> Due {
     let mut ward = greeted();
     ward.hear(1, &report_in(7, 0), SECOND);
+    ward.next(2 * SECOND);
+    ward.next(3 * SECOND);
     ward.next(4 * SECOND);
     ward.next(now)
 }
