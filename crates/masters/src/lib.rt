@@ -12,6 +12,7 @@ mod input_lines;
 mod keepalive;
 mod master_lines;
 mod notices;
+mod orders;
 mod settings;
 mod short_frames;
 mod standings;
