@@ -66,9 +66,16 @@ impl Warden {
         ensures followed {
             result ≡ is_followed (is_reigning self.old.claim) (heard_by self.old from report.now now).claim }
     {
-        let reigned = self.claim.is_reigning();
+        let reigned = self.is_reigning();
         self.hear(from, report, now);
         self.stand_down(reigned)
+    }
+
+    // Whether its reign is the last one, as far as it knows.
+    fn is_reigning(&self) -> bool
+        ensures { result ≡ is_reigning self.now.claim }
+    {
+        self.claim.is_reigning()
     }
 
     // A server told how it is. The claim learns it by the end of the server's lease that was known before.
@@ -87,7 +94,7 @@ impl Warden {
         ensures state { self.new ≡ stood_down self.old (is_followed reigned self.old.claim) }
         ensures followed { result ≡ is_followed reigned self.old.claim }
     {
-        if !reigned || self.claim.is_reigning() {
+        if !reigned || self.is_reigning() {
             return false;
         }
         begin_all(self.wards.as_mut_slice(), 0);
