@@ -10,9 +10,10 @@ pub written_more : {X : Type 0} (f : X → X) (xs ys : List X) (i : ℕ) (x new 
     → i < length xs
     → ys ≡ map f (take i xs) ++ drop i xs
     → x ≡ get_or ys i x
-    → new ≡ f x
+    → new ≡ f (get_or ys i x)
     → set ys i new ≡ map f (take (i + 1) xs) ++ drop (i + 1) xs
-written_more f xs ys i x new within so_far read is = ap (λ y. set ys i y) is ∙ map_over_more f xs ys i x within so_far read
+written_more f xs ys i x new within so_far read is =
+    ap (λ y. set ys i y) (is ∙ ap f (sym read)) ∙ map_over_more f xs ys i x within so_far read
 
 -- all of them are
 pub written_all : {X : Type 0} (f : X → X) (xs ys : List X) (i : ℕ)

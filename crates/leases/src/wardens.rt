@@ -63,8 +63,7 @@ impl Warden {
     pub fn told(&mut self, from: u8, report: &Report, now: u64) -> bool
         requires server { from < 16 }
         ensures state { self.new ≡ told self.old from report.now now }
-        ensures followed {
-            result ≡ is_followed (is_reigning self.old.claim) (heard_by self.old from report.now now).claim }
+        ensures followed { result ≡ is_followed (is_reigning self.old.claim) (heard_by self.old from report.now now).claim }
     {
         let reigned = self.is_reigning();
         self.hear(from, report, now);
@@ -195,11 +194,7 @@ fn others_of(servers: u8, id: u8) -> u16
 fn end_of(wards: &[Ward], id: usize) -> u64
     ensures { result ≡ (ward wards.now id).end }
 {
-    if id < wards.len() {
-        wards[id].end()
-    } else {
-        0
-    }
+    if id < wards.len() { wards[id].end() } else { 0 }
 }
 
 // Each ward hears what a server told.
