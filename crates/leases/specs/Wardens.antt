@@ -76,12 +76,15 @@ abbrev pub stood_down : WardenState → Bool → WardenState
 stood_down m false = m
 stood_down m true = record m { wards = all_begun m.wards 0 }
 
+-- it was followed by what a server told
+abbrev pub is_followed_by : WardenState → ℕ → Report → ℕ → Bool
+is_followed_by m from report now = is_followed (is_reigning m.claim) (heard_by m from report now).claim
+
 -- a server told how it is
 abbrev pub told : WardenState → ℕ → Report → ℕ → WardenState
-told m from report now =
-    stood_down (heard_by m from report now) (is_followed (is_reigning m.claim) (heard_by m from report now).claim)
+told m from report now = stood_down (heard_by m from report now) (is_followed_by m from report now)
 
--- It is to take a new reign.
+-- it is to take a new reign
 abbrev pub may_claim : WardenState → ℕ → Bool
 may_claim m now = is_due m.claim (has_all m.met m.chain) now
 

@@ -4,7 +4,8 @@ ghost use Rattle.leases.specs.Sets.{has_all};
 ghost use Rattle.leases.specs.Wards.{lost};
 ghost use Rattle.leases.specs.Claims.{is_reigning};
 ghost use Rattle.leases.specs.Wardens.{all_of, others_of, unmet_below, started, ward, all_heard, all_begun, heard_by};
-ghost use Rattle.leases.specs.Wardens.{is_followed, stood_down, told, may_claim, crowned, given_up, due_at, asked_at};
+ghost use Rattle.leases.specs.Wardens.{is_followed, is_followed_by, stood_down, told, may_claim, crowned, given_up};
+ghost use Rattle.leases.specs.Wardens.{due_at, asked_at};
 
 use crate::claims::Claim;
 use crate::orders::Report;
@@ -63,7 +64,7 @@ impl Warden {
     pub fn told(&mut self, from: u8, report: &Report, now: u64) -> bool
         requires server { from < 16 }
         ensures state { self.new ≡ told self.old from report.now now }
-        ensures followed { result ≡ is_followed (is_reigning self.old.claim) (heard_by self.old from report.now now).claim }
+        ensures followed { result ≡ is_followed_by self.old from report.now now }
     {
         let reigned = self.is_reigning();
         self.hear(from, report, now);

@@ -46,12 +46,12 @@ pub(crate) fn report_of(alive: Alive) -> Option<Report>
 // What it says, if this is the term.
 fn report_with(alive: Alive, term: Option<Term>) -> Report
     ensures { result ≡ record {
-        reign = alive.reign;
-        stamp = alive.stamp;
-        end = alive.end;
-        term = term;
-        gone = alive.gone;
-        known = alive.known;
+      reign = alive.reign;
+      stamp = alive.stamp;
+      end = alive.end;
+      term = term;
+      gone = alive.gone;
+      known = alive.known;
     } }
 {
     Report {

@@ -404,7 +404,7 @@ impl WatchingMaster {
         event: Event,
     ) -> Result<(), TellFault> {
         let Event { milliseconds, news } = event;
-        if let Some((i, what)) = step_of(news) {
+        if let Some((i, what)) = step_of(&news) {
             self.answers
                 .step(output, errors, WHO, milliseconds, i, what);
         }
@@ -498,15 +498,15 @@ impl WatchingMaster {
 }
 
 // The line that tells what is new of a server.
-fn step_of(news: News) -> Option<(u8, &'static [u8])> {
+fn step_of(news: &News) -> Option<(u8, &'static [u8])> {
     match news {
-        News::Met(i, _, _) => Some((i, b"connected".as_slice())),
-        News::Broken(i) => Some((i, b"connection lost".as_slice())),
+        News::Met(i, _, _) => Some((*i, b"connected".as_slice())),
+        News::Broken(i) => Some((*i, b"connection lost".as_slice())),
         News::Lost(i) => Some((
-            i,
+            *i,
             b"not reached; it may live, so nobody is told that it is gone".as_slice(),
         )),
-        News::Ended(i) => Some((i, b"its process has ended".as_slice())),
+        News::Ended(i) => Some((*i, b"its process has ended".as_slice())),
         News::Typed(_) | News::BadLine | News::Told(_, _, _) | News::Memory => None,
     }
 }
