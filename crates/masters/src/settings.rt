@@ -1,5 +1,5 @@
 //! What a server, or the master, of a chain in several processes is told.
-ghost use Rattle.std.specs.Prelude.{◌≡◌, ◌<◌, ◌+◌, ◌*◌, None, length, IfOk, IfSome, string_bytes};
+ghost use Rattle.std.specs.Prelude.{◌≡◌, ◌<◌, ◌+◌, ◌*◌, None, length, IfOk, IfSome, IsSome, string_bytes};
 ghost use Rattle.leases.specs.declared.paces.TheConstants.{MILLISECOND};
 
 use command_line::{Hosts, MasterNumbers, ServerNumbers, UsageFault};
@@ -110,6 +110,7 @@ impl MasterSettings {
         ensures numbers { IfOk result (λ settings. settings.numbers ≡ self.numbers) }
         ensures hosts { IfOk result (λ settings. settings.hosts ≡ self.hosts) }
         ensures chain { IfOk result (λ settings. settings.chain ≡ self.chain) }
+        ensures on { IfOk result (λ settings. IsSome settings.beats) }
         ensures beat { IfOk result
             (λ settings. IfSome settings.beats (λ paces. paces.beat ≡ self.numbers.beat * MILLISECOND)) }
         ensures after { IfOk result (λ settings. IfSome settings.beats (λ paces. paces.after ≡ after * MILLISECOND)) }
