@@ -7,3 +7,4 @@ pub mod Warding
 pub mod Runs
 pub mod Served
 pub mod Late
+pub mod Passes

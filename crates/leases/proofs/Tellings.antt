@@ -8,7 +8,7 @@ use Rattle.leases.specs.declared.watches.Standing.TheVariants.{Watched, Told, Ov
 use Rattle.leases.specs.declared.watches.Deed.{Deed}
 use Rattle.leases.specs.declared.watches.Deed.TheVariants.{Wait, Beat, TellServer, TellSilent, TellGone}
 use Rattle.leases.specs.Clocks.{IsSurelyOver, wait_for}
-use Rattle.leases.specs.Watching.{WatchState, due, done, watched_due, told_due, standing_due, is_silent, brought}
+use Rattle.leases.specs.Watching.{WatchState, due, done, watched_due, told_due, standing_due, gives_up, brought}
 use Rattle.leases.specs.Watching.{heard_at, answered, happen, happens, Happening, Answers, Refuses, Asks, IsRefused}
 
 -- who waits so long has waited long enough
@@ -37,7 +37,7 @@ quiet_not_gone any TellsServer says = cc
 -- of a server that is watched others are told nothing
 watched_quiet : (w : WatchState) (whole : Bool) (silence pause : ℕ) → IsQuiet (watched_due w whole silence pause)
 watched_quiet w whole silence pause =
-    by_tests (is_silent w.term w.after silence) (nat_le w.beat pause) (brought whole w.stamp) (w.beat - pause)
+    by_tests (gives_up w silence pause) (nat_le w.beat pause) (brought whole w.stamp) (w.beat - pause)
   where
     by_tests : (silent beats : Bool) (stamp : Option ℕ) (span : ℕ)
         → IsQuiet (if silent then TellServer else (if beats then Beat stamp else Wait span))
@@ -77,8 +77,8 @@ tells_by_rule w whole now = by_standing w.standing w whole now
         → standing_due standing w whole now ≡ TellSilent
         → (t : ℕ) × ((w.term ≡ Some t) × IsSurelyOver t (now - w.heard))
     by_standing Watched w whole now going says =
-        absurd (quiet_not_silent (watched_due w whole (now - w.heard) (now - w.sent))
-        (watched_quiet w whole (now - w.heard) (now - w.sent)) says)
+        absurd (quiet_not_silent (watched_due w whole (now - w.since) (now - w.sent))
+        (watched_quiet w whole (now - w.since) (now - w.sent)) says)
     by_standing Told w whole now going says = told_others w.term w.beat (now - w.heard) says
     by_standing Over w whole now going says = absurd (going refl)
     by_standing Gone w whole now going says = absurd (let no : ⊥ = cc in no)
@@ -88,8 +88,8 @@ gone_if_told : (standing : Standing) (w : WatchState) (whole : Bool) (now : ℕ)
     → standing_due standing w whole now ≡ TellGone
     → standing ≡ Gone
 gone_if_told Watched w whole now says =
-    absurd (quiet_not_gone (watched_due w whole (now - w.heard) (now - w.sent))
-    (watched_quiet w whole (now - w.heard) (now - w.sent)) says)
+    absurd (quiet_not_gone (watched_due w whole (now - w.since) (now - w.sent))
+    (watched_quiet w whole (now - w.since) (now - w.sent)) says)
 gone_if_told Told w whole now says = absurd (told_not_gone w.term w.beat (now - w.heard) says)
 gone_if_told Over w whole now says = absurd (let no : ⊥ = cc in no)
 gone_if_told Gone w whole now says = refl
@@ -232,7 +232,7 @@ brings_last w whole now stamp = by_standing w.standing w whole now stamp
         → standing_due standing w whole now ≡ Beat (Some stamp)
         → (whole ≡ true) × (stamp ≡ w.stamp)
     by_standing Watched w whole now stamp says =
-        by_tests (is_silent w.term w.after (now - w.heard)) (nat_le w.beat (now - w.sent)) whole w.stamp stamp
+        by_tests (gives_up w (now - w.since) (now - w.sent)) (nat_le w.beat (now - w.sent)) whole w.stamp stamp
         (w.beat - (now - w.sent)) says
     by_standing Told w whole now stamp says =
         absurd (no_beat Told w whole now (Some stamp) (λ same. let no : ⊥ = cc in no) says)

@@ -6,6 +6,7 @@ pub mod Watching
 pub mod Rolls
 pub mod Wards
 pub mod Claims
+pub mod Wardens
 pub mod Runs
 pub mod Serving
 pub mod Shared

@@ -1,5 +1,5 @@
 -- The master's side: what it knows of one server, and what is due.
-use Rattle.std.specs.Prelude.{◌≡◌, ℕ, ◌-◌, max, nat_le, Bool, true, false, List, [], ◌∷◌, ◌++◌}
+use Rattle.std.specs.Prelude.{◌≡◌, ℕ, ◌-◌, ◌/◌, max, nat_le, Bool, true, false, not, ◌&&◌, List, [], ◌∷◌, ◌++◌}
 use Rattle.std.specs.Prelude.{Option, None, Some, if◌then◌else◌}
 use Rattle.leases.specs.declared.watches.Standing.{Standing}
 use Rattle.leases.specs.declared.watches.Standing.TheVariants.{Watched, Told, Over, Gone}
@@ -17,6 +17,8 @@ pub record WatchState : Type 0 where
   pub after : ℕ
   -- when it was heard for the last time
   pub heard : ℕ
+  -- its silence counts from then on
+  pub since : ℕ
   -- the stamp that it answered then
   pub stamp : ℕ
   -- when the last beat was sent
@@ -30,6 +32,7 @@ begun_watch term beat after stamp now = record {
   beat = beat;
   after = after;
   heard = now;
+  since = now;
   stamp = stamp;
   sent = now;
   standing = Watched;
@@ -42,6 +45,7 @@ idle_watch beat after = record {
   beat = beat;
   after = after;
   heard = 0;
+  since = 0;
   stamp = 0;
   sent = 0;
   standing = Watched;
@@ -59,15 +63,24 @@ abbrev pub is_silent : Option ℕ → ℕ → ℕ → Bool
 is_silent None after silence = false
 is_silent (Some term) after silence = nat_le after silence
 
+-- So much has passed since the last beat that the master is late with the next: half of what a silence is longer than a
+-- pause. Nobody answers beats that aren't sent.
+abbrev pub is_late : WatchState → ℕ → Bool
+is_late w pause = nat_le ((w.after - w.beat) / 2) (pause - w.beat)
+
+-- it is called silent
+abbrev pub gives_up : WatchState → ℕ → ℕ → Bool
+gives_up w silence pause = is_silent w.term w.after silence && not (is_late w pause)
+
 -- the stamp that a beat brings back, if the reign is whole: if each other server that isn't gone has entered it
 abbrev pub brought : Bool → ℕ → Option ℕ
 brought true stamp = Some stamp
 brought false stamp = None
 
--- what is due for a server that is watched, by the times since it was heard and since the last beat
+-- what is due for a server that is watched, if it was silent for so long, and this much has passed since the last beat
 abbrev pub watched_due : WatchState → Bool → ℕ → ℕ → Deed
 watched_due w whole silence pause =
-    if is_silent w.term w.after silence then TellServer
+    if gives_up w silence pause then TellServer
     else (if nat_le w.beat pause then Beat (brought whole w.stamp) else Wait (w.beat - pause))
 
 -- what is due for a server that was told
@@ -77,7 +90,7 @@ told_due (Some term) beat silence =
     if nat_le (wait_for term) silence then TellSilent else Wait (wait_for term - silence)
 
 abbrev pub standing_due : Standing → WatchState → Bool → ℕ → Deed
-standing_due Watched w whole now = watched_due w whole (now - w.heard) (now - w.sent)
+standing_due Watched w whole now = watched_due w whole (now - w.since) (now - w.sent)
 standing_due Told w whole now = told_due w.term w.beat (now - w.heard)
 standing_due Over w whole now = TellSilent
 standing_due Gone w whole now = TellGone
@@ -86,17 +99,21 @@ standing_due Gone w whole now = TellGone
 abbrev pub due : WatchState → Bool → ℕ → Deed
 due w whole now = standing_due w.standing w whole now
 
+-- from when on its silence counts once a beat is sent: from now on if the beat is late
+abbrev pub since_beat : WatchState → ℕ → ℕ
+since_beat w now = if is_late w (now - w.sent) then now else w.since
+
 -- what it knows once that was done
 abbrev pub done : WatchState → ℕ → Deed → WatchState
 done w now (Wait span) = w
-done w now (Beat stamp) = record w { sent = now }
+done w now (Beat stamp) = record w { since = since_beat w now; sent = now }
 done w now TellServer = record w { standing = Told }
 done w now TellSilent = record w { standing = Over }
 done w now TellGone = w
 
 -- an answer counts as long as the server is watched
 abbrev pub heard_at : Standing → WatchState → ℕ → ℕ → WatchState
-heard_at Watched w stamp now = record w { heard = max w.heard now; stamp = stamp }
+heard_at Watched w stamp now = record w { heard = max w.heard now; since = max w.since now; stamp = stamp }
 heard_at Told w stamp now = w
 heard_at Over w stamp now = w
 heard_at Gone w stamp now = w

@@ -30,7 +30,8 @@
 //!
 //! So there are machines that read no clock and send nothing; times are nanoseconds since a start, as each one's own
 //! clock shows them (`nanoseconds_of`). A server has a `Lease`, under a lock; its other threads ask a `SharedLease`. A
-//! master has a `Claim` to a reign, and for each server a `Ward`: a `Watch` and a `Roll` in that reign.
+//! master has a `Warden`: its `Claim` to a reign, and for each server a `Ward`, which is a `Watch` and a `Roll` in that
+//! reign.
 //!
 //! **What a server does** is `Lease::hear`:
 //!
@@ -43,20 +44,22 @@
 //! - Its lease runs out: it puts nothing out, and goes on otherwise. A beat after that is as any other: if the stamp
 //!   that it brings back isn't older than the term, the lease holds again.
 //!
-//! **What a master does**, while its caller moves the bytes and reads the clock:
+//! **What a master does**, while its caller moves the bytes and reads the clock, is `Warden`:
 //!
 //! - It starts: each server is greeted with reign 0, which changes nothing there, and tells how it is.
-//! - A server told how it is: `Claim::informed`, and `Ward::hear` of each ward. So a server that enters the reign is
-//!   watched from then on, the others' rolls know that it has entered, and who is named as gone gets no beat any more.
-//! - `Claim::is_due`: the master takes a reign (`Claim::claim`), and each ward begins anew in it (`Ward::begin`), with
-//!   greetings.
+//! - A server told how it is: `Warden::told`. The claim is told, and then each ward. So a server that enters the reign
+//!   is watched from then on, the others' rolls know that it has entered, and who is named as gone gets no beat any
+//!   more.
+//! - `Warden::claim`: the master takes a reign if that is due (`Claim::is_due`), and each ward begins anew in it
+//!   (`Ward::begin`), with greetings.
 //! - A server told of a later reign, so that the master isn't reigning any more: each ward begins anew in reign 0. It
 //!   sends greetings of reign 0, calls nobody silent, and takes a new reign once it saw no lease prolonged for
 //!   `--after`.
-//! - A beat's time: `Ward::next` says what is sent. A beat brings back a stamp only if the reign is whole for its
+//! - A beat's time: `Warden::next` says what is sent. A beat brings back a stamp only if the reign is whole for its
 //!   server.
-//! - Silence for `--after`: `Ward::next` has the server told, and the others once its lease is surely over.
-//! - A refused connection, or a person's word: `Ward::lose`. Then `Ward::next` has the others told that it is gone.
+//! - Silence for `--after`: `Warden::next` has the server told, and the others once its lease is surely over. A master
+//!   that was stopped itself sends a beat first, and counts the silence from that on.
+//! - A refused connection, or a person's word: `Warden::lose`. Then `Warden::next` has the others told that it is gone.
 //!
 //! Two masters never take one reign, if their names differ. The one that started last reigns, if it has met each server
 //! that isn't gone; the others stand by.
@@ -99,6 +102,7 @@ mod shared_leases;
 mod terms;
 #[cfg(test)]
 mod tests;
+mod wardens;
 mod wards;
 mod watches;
 
@@ -115,5 +119,6 @@ pub use reigns::next_reign;
 pub use rolls::Roll;
 pub use shared_leases::{AnyEnd, SharedLease};
 pub use terms::{GRAIN, LONGEST, SECOND, Term};
+pub use wardens::Warden;
 pub use wards::{Due, Ward};
 pub use watches::{Deed, Standing, Watch};

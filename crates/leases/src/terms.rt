@@ -45,6 +45,17 @@ impl Term {
         })
     }
 
+    /// The term of this many nanoseconds, if they are those of 1 to 3,600 seconds. A frame carries a term so.
+    pub fn of_nanoseconds(nanoseconds: u64) -> Option<Term>
+        ensures allowed { IsSome result ↔ ((SECOND ≤ nanoseconds) × (nanoseconds ≤ LONGEST * SECOND)) }
+        ensures exact { IfSome result (λ term. term ≡ nanoseconds) }
+    {
+        if nanoseconds < SECOND || nanoseconds > LONGEST * SECOND {
+            return None;
+        }
+        Some(Term { nanoseconds })
+    }
+
     /// How many nanoseconds it is.
     pub fn nanoseconds(self) -> u64
         ensures { result ≡ self }

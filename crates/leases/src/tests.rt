@@ -2,8 +2,9 @@
 
 use crate::{
     Answer, AnyEnd, Claim, Deed, Due, Lease, Order, Paces, Report, Roll, SECOND, SharedLease, Term,
-    Ward, Watch, nanoseconds_of, next_reign,
+    Ward, Warden, Watch, nanoseconds_of, next_reign,
 };
+use std::alloc::Global;
 use std::time::Duration;
 
 fn two_seconds() -> Option<Term> {
@@ -31,9 +32,23 @@ fn first_due(now: u64) -> Deed {
     watch.next(true, now)
 }
 
+// The watch over it, if beats were sent at 2 s and at 3 s.
+fn unanswered() -> Watch {
+    let mut watch = Watch::new(two_seconds(), Paces::usual(), 5, SECOND);
+    watch.next(true, 2 * SECOND);
+    watch.next(true, 3 * SECOND);
+    watch
+}
+
+// What is due for it then.
+fn due_then(now: u64) -> Deed {
+    let mut watch = unanswered();
+    watch.next(true, now)
+}
+
 // What is due for it at a time, once it was told at 4 s.
 fn due_later(now: u64) -> Deed {
-    let mut watch = Watch::new(two_seconds(), Paces::usual(), 5, SECOND);
+    let mut watch = unanswered();
     watch.next(true, 4 * SECOND);
     watch.answered(6, 4 * SECOND);
     watch.next(true, now)
@@ -50,6 +65,8 @@ fn terms_are_from_one_second_to_an_hour(rt: HostRuntime) {
     assert!(rt; Term::of_seconds(0).is_none());
     assert!(rt; Term::of_seconds(3_600).is_some());
     assert!(rt; Term::of_seconds(3_601).is_none());
+    assert!(rt; Term::of_nanoseconds(2 * SECOND) == two_seconds());
+    assert!(rt; Term::of_nanoseconds(SECOND - 1).is_none());
     // Eleven tenths of 2.01 s, and one.
     assert!(rt; two_seconds().map(|term| term.wait()) == Some(2_211_000_001));
 }
@@ -85,7 +102,10 @@ fn a_server_is_in_its_latest_reign(rt: HostRuntime) {
 fn a_watch_beats_and_then_tells(rt: HostRuntime) {
     assert!(rt; first_due(1_200_000_000) == Deed::Wait(100_000_000));
     assert!(rt; first_due(1_300_000_000) == Deed::Beat(Some(5)));
-    assert!(rt; first_due(4_000_000_000) == Deed::TellServer);
+    assert!(rt; due_then(4_000_000_000) == Deed::TellServer);
+    // A master that is late itself sends a beat first.
+    assert!(rt; first_due(4_000_000_000) == Deed::Beat(Some(5)));
+    assert!(rt; due_then(5_000_000_000) == Deed::Beat(Some(5)));
     assert!(rt; due_later(3_211_000_000) == Deed::Wait(1));
     assert!(rt; due_later(3_211_000_001) == Deed::TellSilent);
     assert!(rt; due_after_refusal() == Deed::TellGone);
@@ -223,6 +243,8 @@ fn due_for(reign: u64, gone: u16) -> Due {
 fn due_for_silent(now: u64) -> Due {
     let mut ward = greeted();
     ward.hear(1, &report_in(7, 0), SECOND);
+    ward.next(2 * SECOND);
+    ward.next(3 * SECOND);
     ward.next(4 * SECOND);
     ward.next(now)
 }
@@ -239,4 +261,43 @@ fn a_master_watches(rt: HostRuntime) {
 fn a_master_calls_a_silent_server_gone(rt: HostRuntime) {
     assert!(rt; due_for_silent(3_211_000_001) == Due::Others(Order::Silent(7, 1)));
     assert!(rt; due_for_silent(3_211_000_000) == Due::Wait(1));
+}
+
+// A master of name 3 in a chain of two servers, which both told in no reign how they are.
+fn of_two(alloc: Global) -> Option<Warden> {
+    let mut warden = Warden::new(alloc, 3, 2, Paces::usual(), SECOND).ok()?;
+    warden.told(0, &report_in(0, 0), SECOND);
+    warden.told(1, &report_in(0, 0), SECOND);
+    Some(warden)
+}
+
+// The reign that it takes, and what is due for server 1 then.
+fn taken_by_two(alloc: Global) -> Option<(u64, Due)> {
+    let mut warden = of_two(alloc)?;
+    let reign = warden.claim(SECOND)?;
+    Some((reign, warden.next(1, SECOND)))
+}
+
+// What is due for server 1 once server 0 told of this reign, in which the master isn't, or of its own.
+fn due_after(alloc: Global, reign: u64) -> Option<(bool, Due)> {
+    let mut warden = of_two(alloc)?;
+    warden.claim(SECOND)?;
+    let is_followed = warden.told(0, &report_in(reign, 0), SECOND);
+    Some((is_followed, warden.next(1, SECOND)))
+}
+
+// What is due for server 1 once somebody has seen that it does nothing more.
+fn due_for_lost(alloc: Global) -> Option<Due> {
+    let mut warden = of_two(alloc)?;
+    warden.lose(1);
+    Some(warden.next(1, SECOND))
+}
+
+#[test]
+fn a_master_decides(rt: HostRuntime) {
+    let alloc = rt.alloc();
+    assert!(rt; taken_by_two(alloc) == Some((3, Due::Server(Order::Reign(3)))));
+    assert!(rt; due_after(alloc, 3) == Some((false, Due::Server(Order::Reign(3)))));
+    assert!(rt; due_after(alloc, 9) == Some((true, Due::Server(Order::Reign(0)))));
+    assert!(rt; due_for_lost(alloc) == Some(Due::Others(Order::Gone(1))));
 }

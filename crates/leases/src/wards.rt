@@ -203,8 +203,8 @@ impl Ward {
     }
 }
 
-// The bit of this server.
-fn bit_of(id: u8) -> u16
+/// The bit of this server.
+pub(crate) fn bit_of(id: u8) -> u16
     requires { id < 16 }
     ensures { result ≡ 2 ^ id }
 {

@@ -1,7 +1,7 @@
 //! The master's side: a watch over one server.
 ghost use Rattle.std.specs.Prelude.{◌≡◌, ℕ};
 ghost use Rattle.leases.specs.Watching.{due, done, answered, watched_due, told_due, is_silent, is_gone};
-ghost use Rattle.leases.specs.Watching.{begun_watch, idle_watch};
+ghost use Rattle.leases.specs.Watching.{begun_watch, idle_watch, gives_up, is_late, since_beat};
 
 use crate::paces::Paces;
 use crate::terms::Term;
@@ -44,6 +44,8 @@ pub struct Watch {
     beat: u64,
     after: u64,
     heard: u64,
+    // Its silence counts from then on: when it was heard, or when a beat was sent too late.
+    since: u64,
     stamp: u64,
     sent: u64,
     standing: Standing,
@@ -59,6 +61,7 @@ impl Model for Watch {
       beat = w.beat;
       after = w.after;
       heard = w.heard;
+      since = w.since;
       stamp = w.stamp;
       sent = w.sent;
       standing = w.standing;
@@ -78,6 +81,7 @@ impl Watch {
             beat: paces.beat,
             after: paces.after,
             heard: now,
+            since: now,
             stamp,
             sent: now,
             standing: Standing::Watched,
@@ -94,6 +98,7 @@ impl Watch {
             beat: paces.beat,
             after: paces.after,
             heard: 0,
+            since: 0,
             stamp: 0,
             sent: 0,
             standing: Standing::Watched,
@@ -107,6 +112,7 @@ impl Watch {
     {
         if self.standing == Standing::Watched {
             self.heard = self.heard.max(now);
+            self.since = self.since.max(now);
             self.stamp = stamp;
         }
     }
@@ -128,7 +134,8 @@ impl Watch {
 
     /// What is due when the clock shows `now`. It counts as done. `whole` says whether the master's reign is whole for
     /// this server (`Roll::is_whole`): only then may a beat prolong its lease. Silence is noticed whenever this is
-    /// called.
+    /// called, but if the master itself is late with a beat, as one that was stopped: then the silence counts from that
+    /// beat on, since nobody answers beats that aren't sent.
     pub fn next(&mut self, whole: bool, now: u64) -> Deed
         ensures deed { result ≡ due self.old whole now }
         ensures state { self.new ≡ done self.old now result }
@@ -136,7 +143,10 @@ impl Watch {
         let deed = self.due(whole, now);
         match deed {
             Deed::Wait(_) => {}
-            Deed::Beat(_) => self.sent = now,
+            Deed::Beat(_) => {
+                self.since = self.since_beat(now);
+                self.sent = now;
+            }
             Deed::TellServer => self.standing = Standing::Told,
             Deed::TellSilent => self.standing = Standing::Over,
             Deed::TellGone => {}
@@ -148,20 +158,24 @@ impl Watch {
     fn due(&self, whole: bool, now: u64) -> Deed
         ensures { result ≡ due self.now whole now }
     {
-        let silence = now.saturating_sub(self.heard);
         match self.standing {
-            Standing::Watched => self.watched_due(whole, silence, now.saturating_sub(self.sent)),
-            Standing::Told => self.told_due(silence),
+            Standing::Watched => self.watched_due(
+                whole,
+                now.saturating_sub(self.since),
+                now.saturating_sub(self.sent),
+            ),
+            Standing::Told => self.told_due(now.saturating_sub(self.heard)),
             Standing::Over => Deed::TellSilent,
             Standing::Gone => Deed::TellGone,
         }
     }
 
-    // What is due for a server that is watched, by the times since it was heard and since the last beat.
+    // What is due for a server that is watched, if it was silent for so long, and this much has passed since the last
+    // beat.
     fn watched_due(&self, whole: bool, silence: u64, pause: u64) -> Deed
         ensures { result ≡ watched_due self.now whole silence pause }
     {
-        if self.is_silent(silence) {
+        if self.gives_up(silence, pause) {
             Deed::TellServer
         } else if self.beat <= pause {
             Deed::Beat(if whole { Some(self.stamp) } else { None })
@@ -184,6 +198,31 @@ impl Watch {
                     Deed::Wait(wait - silence)
                 }
             }
+        }
+    }
+
+    // Whether it is called silent.
+    fn gives_up(&self, silence: u64, pause: u64) -> bool
+        ensures { result ≡ gives_up self.now silence pause }
+    {
+        self.is_silent(silence) && !self.is_late(pause)
+    }
+
+    // Whether the master is late with a beat, if this much has passed since the last one.
+    fn is_late(&self, pause: u64) -> bool
+        ensures { result ≡ is_late self.now pause }
+    {
+        self.after.saturating_sub(self.beat) / 2 <= pause.saturating_sub(self.beat)
+    }
+
+    // From when on its silence counts once a beat is sent.
+    fn since_beat(&self, now: u64) -> u64
+        ensures { result ≡ since_beat self.now now }
+    {
+        if self.is_late(now.saturating_sub(self.sent)) {
+            now
+        } else {
+            self.since
         }
     }
 

@@ -1,3 +1,4 @@
 pub mod Notices
+pub mod Orders
 pub mod Standings
 pub mod Statuses

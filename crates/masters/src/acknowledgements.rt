@@ -1,7 +1,9 @@
 //! A notice on a connection, and the answer that it was noted.
 
 use crate::greetings::next_small_frame;
+use crate::orders::frame_of;
 use ends::TrackedWriter;
+use leases::Order;
 use peers::{LinkFault, put_frame};
 use std::alloc::{AllocError, Global};
 use std::net::TcpStream;
@@ -19,27 +21,33 @@ const NEARLY: u64 = 100;
 pub(crate) enum Heard {
     /// The answer.
     Noted,
+    /// The server told how it is: it is in another reign, and doesn't take the notice.
+    Untaken,
     /// Nothing in time. The connection may stand.
     Late,
     /// Nothing, and nothing more will come.
     Broken,
 }
 
-/// Writes the notice that server `j` has failed. It answers whether it was written: no chain has a server beyond 15.
-pub(crate) fn put_notice(alloc: Global, stream: &TcpStream, j: u8) -> Result<bool, AllocError> {
-    let notice = Frame::Gone(j);
-    let is_put = put_if_in_range(alloc, stream, &notice);
-    drop(notice);
+/// Writes an order. It answers whether it was written: no chain has a server beyond 15.
+pub(crate) fn put_order(
+    alloc: Global,
+    stream: &TcpStream,
+    order: Order,
+) -> Result<bool, AllocError> {
+    let frame = frame_of(order);
+    let is_put = put_if_in_range(alloc, stream, &frame);
+    drop(frame);
     is_put
 }
 
 // Writes a frame, if it is in its range.
-fn put_if_in_range(alloc: Global, stream: &TcpStream, notice: &Frame) -> Result<bool, AllocError> {
-    if !notice.is_in_range() {
+fn put_if_in_range(alloc: Global, stream: &TcpStream, frame: &Frame) -> Result<bool, AllocError> {
+    if !frame.is_in_range() {
         return Ok(false);
     }
     let mut sink = TrackedWriter::new(stream);
-    let put = put_frame(alloc, &mut sink, notice);
+    let put = put_frame(alloc, &mut sink, frame);
     drop(sink);
     match put {
         Ok(()) => Ok(true),
@@ -64,9 +72,10 @@ pub(crate) fn wait_for_noted<R: Clock>(
         let Some(left) = time_left(rt, begun, seconds) else {
             return Ok(Heard::Late);
         };
-        match noted_on(rt, alloc, stream, left)? {
-            Some(id) if id == j => return Ok(Heard::Noted),
-            Some(_) => {}
+        match reply_on(rt, alloc, stream, left)? {
+            Some(Reply::Noted(id)) if id == j => return Ok(Heard::Noted),
+            Some(Reply::Noted(_)) => {}
+            Some(Reply::Alive) => return Ok(Heard::Untaken),
             None if time_left(rt, begun, seconds).is_none() => return Ok(Heard::Late),
             None => return Ok(Heard::Broken),
         }
@@ -74,27 +83,37 @@ pub(crate) fn wait_for_noted<R: Clock>(
     Ok(Heard::Broken)
 }
 
-// The server that the next frame notes, if one comes within this many seconds, and it notes one.
-fn noted_on<R: Clock>(
+// What a server answers to a notice.
+#[derive(Clone, Copy)]
+enum Reply {
+    // It has noted that this server is gone.
+    Noted(u8),
+    // How it is.
+    Alive,
+}
+
+// What the next frame answers to a notice, if one comes within this many seconds, and it answers one.
+fn reply_on<R: Clock>(
     rt: &R,
     alloc: Global,
     stream: &TcpStream,
     seconds: u64,
-) -> Result<Option<u8>, AllocError> {
+) -> Result<Option<Reply>, AllocError> {
     match next_small_frame(rt, alloc, stream, seconds) {
         Ok(Some(frame)) => {
-            let noted = noted_by(&frame);
+            let reply = reply_in(&frame);
             drop(frame);
-            Ok(noted)
+            Ok(reply)
         }
         Ok(None) => Ok(None),
         Err(AllocError) => Err(AllocError),
     }
 }
 
-fn noted_by(frame: &Frame) -> Option<u8> {
+fn reply_in(frame: &Frame) -> Option<Reply> {
     match frame {
-        Frame::Noted(id) => Some(*id),
+        Frame::Noted(id) => Some(Reply::Noted(*id)),
+        Frame::Alive(_) => Some(Reply::Alive),
         _ => None,
     }
 }

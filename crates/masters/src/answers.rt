@@ -85,8 +85,61 @@ impl Answers {
         i: u8,
         what: &[u8],
     ) {
+        self.begin_step(milliseconds);
+        self.add(b" server ");
+        self.add(Buffer::new().format(i).as_bytes());
+        self.add(b": ");
+        self.add(what);
+        self.give(output, errors, who);
+    }
+
+    /// Writes `+T s server I: no answer for A s; it is told that it is gone`, A being the seconds of its silence, of
+    /// which these are the milliseconds.
+    pub(crate) fn silent<W: Sink, X: Sink>(
+        &mut self,
+        output: &mut W,
+        errors: &mut X,
+        who: &str,
+        milliseconds: u64,
+        i: u8,
+        silence: u64,
+    ) {
+        self.begin_step(milliseconds);
+        self.add(b" server ");
+        self.add(Buffer::new().format(i).as_bytes());
+        self.add(b": no answer for ");
+        self.add_seconds(silence);
+        self.add(b"; it is told that it is gone");
+        self.give(output, errors, who);
+    }
+
+    /// Writes `+T s .. R`, R being the number of a reign.
+    pub(crate) fn reign<W: Sink, X: Sink>(
+        &mut self,
+        output: &mut W,
+        errors: &mut X,
+        who: &str,
+        milliseconds: u64,
+        what: &[u8],
+        reign: u64,
+    ) {
+        self.begin_step(milliseconds);
+        self.add(b" ");
+        self.add(what);
+        self.add(b" ");
+        self.add(Buffer::new().format(reign).as_bytes());
+        self.give(output, errors, who);
+    }
+
+    // Begins a line with the time since the start.
+    fn begin_step(&mut self, milliseconds: u64) {
         self.line.clear();
         self.add(b"+");
+        self.add_seconds(milliseconds);
+    }
+
+    // Adds a time in seconds, with three digits behind the point.
+    fn add_seconds(&mut self, milliseconds: u64) {
         self.add(Buffer::new().format(milliseconds / SECOND).as_bytes());
         self.add(b".");
         let rest = milliseconds % SECOND;
@@ -97,11 +150,7 @@ impl Answers {
             self.add(b"0");
         }
         self.add(Buffer::new().format(rest).as_bytes());
-        self.add(b" s server ");
-        self.add(Buffer::new().format(i).as_bytes());
-        self.add(b": ");
-        self.add(what);
-        self.give(output, errors, who);
+        self.add(b" s");
     }
 
     // There is room.

@@ -1,11 +1,13 @@
 //! What a master has to do with one server: the connection, and what is asked there.
 
-use crate::acknowledgements::{Heard, put_notice, wait_for_noted};
+use crate::acknowledgements::{Heard, put_order, wait_for_noted};
 use crate::greetings::{Channel, Greeted, greet};
 use crate::notices::{Answer, and_one, is_among};
+use crate::orders::named_in;
 use crate::settings::{MasterSettings, port_of};
 use crate::standings::{Sight, seen_as};
 use ends::TrackedWriter;
+use leases::Order;
 use node::View;
 use peers::Identity;
 use std::alloc::{AllocError, Global};
@@ -19,8 +21,8 @@ pub(crate) enum Errand {
     Nothing,
     /// That it accepts the master.
     Greet,
-    /// That it notes that this server has failed, within this many seconds.
-    Tell(u8, u64),
+    /// That it notes this, within this many seconds: that a server has failed, or was silent.
+    Tell(Order, u64),
 }
 
 /// One server, as a master knows it.
@@ -90,11 +92,16 @@ impl Contact {
         }
     }
 
+    /// It told who has failed as far as it knows.
+    pub(crate) fn told(&mut self, gone: u16) {
+        self.gone |= gone;
+    }
+
     /// Gives it an errand. If that is a notice and the connection stands, the notice is written: this waits for nobody.
     pub(crate) fn ask(&mut self, errand: Errand) -> Result<(), AllocError> {
         self.errand = errand;
         match errand {
-            Errand::Tell(j, _) => self.put(j),
+            Errand::Tell(order, _) => self.put(order),
             Errand::Nothing | Errand::Greet => Ok(()),
         }
     }
@@ -122,8 +129,11 @@ impl Contact {
         match errand {
             Errand::Nothing => Ok(Answer::Unasked),
             Errand::Greet => self.open(rt, settings, identity),
-            Errand::Tell(j, seconds) => {
-                let answer = self.tell(rt, settings, identity, j, seconds)?;
+            Errand::Tell(order, seconds) => {
+                let Some(j) = named_in(order) else {
+                    return Ok(Answer::Unasked);
+                };
+                let answer = self.tell(rt, settings, identity, order, j, seconds)?;
                 if answer == Answer::Done {
                     self.gone = and_one(View::from_bits(self.gone), j).bits();
                 }
@@ -143,11 +153,13 @@ impl Contact {
         rt: &R,
         settings: &MasterSettings,
         identity: &Identity,
+        order: Order,
         j: u8,
         seconds: u64,
     ) -> Result<Answer, AllocError> {
         match self.hear(rt, j, seconds)? {
             Heard::Noted => return Ok(Answer::Done),
+            Heard::Untaken => return Ok(Answer::Untaken),
             Heard::Late => return Ok(Answer::Silent),
             Heard::Broken => {}
         }
@@ -156,9 +168,10 @@ impl Contact {
             self.close();
             return Ok(answer);
         }
-        self.put(j)?;
+        self.put(order)?;
         match self.hear(rt, j, seconds)? {
             Heard::Noted => Ok(Answer::Done),
+            Heard::Untaken => Ok(Answer::Untaken),
             Heard::Late | Heard::Broken => Ok(Answer::Silent),
         }
     }
@@ -200,10 +213,10 @@ impl Contact {
         }
     }
 
-    // Writes the notice that server j has failed, if the connection stands. It is closed if that fails.
-    fn put(&mut self, j: u8) -> Result<(), AllocError> {
+    // Writes a notice, if the connection stands. It is closed if that fails.
+    fn put(&mut self, order: Order) -> Result<(), AllocError> {
         self.is_put = match &self.stream {
-            Some(stream) => put_notice(self.alloc, stream, j)?,
+            Some(stream) => put_order(self.alloc, stream, order)?,
             None => false,
         };
         if !self.is_put {

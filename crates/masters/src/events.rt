@@ -1,6 +1,7 @@
 //! What a master that watches hears: of servers from those who watch them, and of its input.
 
 use crossbeam_channel::Sender;
+use leases::Report;
 use std::alloc::AllocError;
 use std::sync::Wait;
 use std::time::{Clock, Duration, Instant};
@@ -26,6 +27,8 @@ pub(crate) enum News {
     Lost(u8),
     /// The process of this server has ended.
     Ended(u8),
+    /// This server told how it is, and then the clock showed this many nanoseconds.
+    Told(u8, Report, u64),
     /// Who watches goes on no more: memory is out.
     Memory,
 }
@@ -68,7 +71,8 @@ impl Post {
     }
 }
 
-fn milliseconds_of(time: Duration) -> u64 {
+/// How many milliseconds a time has.
+pub(crate) fn milliseconds_of(time: Duration) -> u64 {
     let rest = u64::from(time.subsec_nanos() / NANOSECONDS);
     time.as_secs().saturating_mul(SECOND).saturating_add(rest)
 }

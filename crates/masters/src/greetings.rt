@@ -29,8 +29,8 @@ const PATIENCE: u64 = 5;
 /// How many seconds the answer to a greeting may take.
 const ANSWER: u64 = 10;
 
-/// The most bytes of an answer.
-const SMALL: usize = 12;
+/// The most bytes of an answer: those of a frame that tells how a server is.
+const SMALL: usize = 38;
 
 /// Where frames for a peer go.
 pub type PeerSink = TrackedWriter<TcpStream>;
@@ -283,7 +283,7 @@ fn is_to_itself(stream: &TcpStream) -> bool {
     }
 }
 
-/// The next frame on a connection, if it has at most 12 bytes, as an answer to a greeting or to a notice has, and
+/// The next frame on a connection, if it has at most 38 bytes, as an answer to a greeting or to a notice has, and
 /// comes within this many seconds; none otherwise. It reads nothing beyond it. Fails only if memory runs out.
 pub(crate) fn next_small_frame<R: Clock>(
     rt: &R,

@@ -4,14 +4,17 @@
 
 mod acknowledgements;
 mod answers;
+mod beats;
 mod command;
 mod contacts;
+mod conversations;
 mod events;
 mod greetings;
 mod input_lines;
 mod keepalive;
 mod master_lines;
 mod notices;
+mod orders;
 mod settings;
 mod short_frames;
 mod standings;
@@ -26,7 +29,7 @@ pub use command::master;
 pub use greetings::{Channel, Greeted, PeerSink, reach};
 pub use input_lines::{empty_line, next_line, server_named};
 pub use keepalive::keep_alive;
-pub use settings::{MasterSettings, ServerSettings, port_of};
+pub use settings::{AFTER, MasterSettings, ServerSettings, port_of};
 pub use short_frames::{Deadline, Heard, next_frame};
 pub use starts::start_number;
 pub use watching::watch;

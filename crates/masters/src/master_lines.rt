@@ -80,7 +80,7 @@ pub(crate) fn tell_untold<X: Sink>(
                 say_untold(errors, settings, i, j);
                 say_anew(errors, i);
             }
-            Some(Answer::Unasked | Answer::Done | Answer::Silent) | None => {}
+            Some(Answer::Unasked | Answer::Done | Answer::Silent | Answer::Untaken) | None => {}
         }
     }
 }
@@ -101,6 +101,16 @@ pub(crate) fn tell_silent<X: Sink>(errors: &mut X, answers: &[Answer], j: u8) {
     }
     say_number(errors, u16::from(j));
     say(errors, " again\n");
+}
+
+/// The lease of server `i` is too short for the master's beats.
+pub(crate) fn tell_short_term<X: Sink>(errors: &mut X, i: u8) {
+    say(errors, "craq: the lease of server ");
+    say_number(errors, u16::from(i));
+    say(
+        errors,
+        " is not longer than two beats, so it serves by fits; give a shorter --beat\n",
+    );
 }
 
 // The host of server i has no address.

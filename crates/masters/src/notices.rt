@@ -23,6 +23,8 @@ pub(crate) enum Answer {
     Refused(Reason),
     /// It is another start of the server than the master knew, and wasn't asked.
     Anew,
+    /// It doesn't take the notice, since it is in another reign.
+    Untaken,
 }
 
 /// The notices (i, j) that server `j` has failed, if the servers of `known` are known to have failed: one for each

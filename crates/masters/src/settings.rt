@@ -1,7 +1,9 @@
 //! What a server, or the master, of a chain in several processes is told.
-ghost use Rattle.std.specs.Prelude.{◌≡◌, ◌<◌, ◌+◌, length, IfOk, string_bytes};
+ghost use Rattle.std.specs.Prelude.{◌≡◌, ◌<◌, ◌+◌, ◌*◌, None, length, IfOk, IfSome, IsSome, string_bytes};
+ghost use Rattle.leases.specs.declared.paces.TheConstants.{MILLISECOND};
 
 use command_line::{Hosts, MasterNumbers, ServerNumbers, UsageFault};
+use leases::Paces;
 use std::alloc::{AllocError, Global};
 use table::Key;
 
@@ -16,6 +18,12 @@ const NO_ADDRESS: &str = "error: --address names no host\n";
 
 /// What is printed if the chain's name isn't one.
 const NO_CHAIN: &str = "error: --chain names no chain: 1 to 250 bytes, none of them blank\n";
+
+/// What is printed if a master that beats is to call a server silent before the next beat, or after more than an hour.
+const NO_AFTER: &str = "error: --after is not above --beat\n";
+
+/// For how many milliseconds a server may usually be silent, if its master beats.
+pub const AFTER: u32 = 3_000;
 
 /// Which server of a chain runs, where it listens, and where the others are.
 #[derive(Drop)]
@@ -39,6 +47,9 @@ pub struct MasterSettings {
     pub hosts: Vec<String>,
     /// The chain's name.
     pub chain: Key,
+    /// How often it beats, and for how long a server may be silent, if it beats; it does so only while it watches. A
+    /// server that knows no leases closes the connection at the first beat, so nobody beats yet.
+    pub beats: Option<Paces>,
 }
 
 impl ServerSettings {
@@ -70,8 +81,8 @@ impl ServerSettings {
 }
 
 impl MasterSettings {
-    /// What these words tell a master. It is refused if there isn't one host for each server, or the chain's name isn't
-    /// one.
+    /// What these words tell a master, which doesn't beat. It is refused if there isn't one host for each server, or
+    /// the chain's name isn't one.
     pub fn new(
         alloc: Global,
         numbers: MasterNumbers,
@@ -80,6 +91,7 @@ impl MasterSettings {
         ensures numbers { IfOk result (λ settings. settings.numbers ≡ numbers) }
         ensures hosts { IfOk result (λ settings. length settings.hosts.items ≡ settings.numbers.servers) }
         ensures chain { IfOk result (λ settings. settings.chain ≡ string_bytes hosts.chain) }
+        ensures beats { IfOk result (λ settings. settings.beats ≡ None) }
     {
         let chain = chain_of(alloc, &hosts)?;
         let hosts = hosts_of(alloc, &hosts, numbers.servers)?;
@@ -87,6 +99,37 @@ impl MasterSettings {
             numbers,
             hosts,
             chain,
+            beats: None,
+        })
+    }
+
+    /// The same of a master that beats as often as it looks, and for which a server may be silent for this many
+    /// milliseconds, usually `AFTER`. It is refused if that isn't more than a beat, or more than an hour. No command
+    /// asks for it yet.
+    pub fn with_beats(self, alloc: Global, after: u32) -> Result<MasterSettings, UsageFault>
+        ensures numbers { IfOk result (λ settings. settings.numbers ≡ self.numbers) }
+        ensures hosts { IfOk result (λ settings. settings.hosts ≡ self.hosts) }
+        ensures chain { IfOk result (λ settings. settings.chain ≡ self.chain) }
+        ensures on { IfOk result (λ settings. IsSome settings.beats) }
+        ensures beat { IfOk result
+            (λ settings. IfSome settings.beats (λ paces. paces.beat ≡ self.numbers.beat * MILLISECOND)) }
+        ensures after { IfOk result (λ settings. IfSome settings.beats (λ paces. paces.after ≡ after * MILLISECOND)) }
+    {
+        let beats = Paces::of_milliseconds(u64::from(self.numbers.beat), u64::from(after));
+        if beats.is_none() {
+            return Err(usage(alloc, NO_AFTER));
+        }
+        let MasterSettings {
+            numbers,
+            hosts,
+            chain,
+            ..
+        } = self;
+        Ok(MasterSettings {
+            numbers,
+            hosts,
+            chain,
+            beats,
         })
     }
 }

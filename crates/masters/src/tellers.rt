@@ -4,9 +4,11 @@ use crate::command::TellFault;
 use crate::contacts::{Contact, Errand, Visit};
 use crate::master_lines::{tell_silent, tell_unmet, tell_untold};
 use crate::notices::{Answer, done_in, is_among, notices, refusal_in};
+use crate::orders::named_in;
 use crate::settings::MasterSettings;
 use crate::starts::start_number;
 use ends::Sink;
+use leases::Order;
 use node::{SERVERS, View};
 use peers::Identity;
 use std::alloc::{AllocError, Global};
@@ -21,6 +23,9 @@ const PATIENCE: u64 = 5;
 
 /// How many seconds the failed one may take, whose answer doesn't count.
 const OWN_PATIENCE: u64 = 1;
+
+/// How many names of masters there are, by which their reigns are told apart: 2^32.
+const NAMES: u64 = 0x1_0000_0000;
 
 /// What a master knows, and its connections.
 #[derive(Drop)]
@@ -84,12 +89,14 @@ impl Teller {
         if j >= self.identity.servers {
             return Err(TellFault::Run);
         }
-        self.ask(j, Errand::Tell(j, OWN_PATIENCE))?;
-        self.tell_others(rt, settings, errors, j)
+        self.ask(j, Errand::Tell(Order::Gone(j), OWN_PATIENCE))?;
+        self.tell_others(rt, settings, errors, Order::Gone(j))
     }
 
-    /// Tells each other server that isn't known to have failed that server `j` has. It answers how many of these have
-    /// noted it. Who hasn't is told on `errors`.
+    /// Gives this notice, that a server has failed or was silent, to each other server that isn't known to have failed.
+    /// It answers how many of these have noted it. A server that was silent is known to have failed only once one of
+    /// them has. Who hasn't noted a failure is told on `errors`. Refused with Run if it is no notice of a server of the
+    /// chain.
     pub(crate) fn tell_others<
         R: Threads + Clock + Net<Listener = TcpListener, Stream = TcpStream> + Sync,
         X: Sink,
@@ -98,20 +105,28 @@ impl Teller {
         rt: &R,
         settings: &MasterSettings,
         errors: &mut X,
-        j: u8,
+        order: Order,
     ) -> Result<usize, TellFault> {
+        let Some(j) = named_in(order) else {
+            return Err(TellFault::Run);
+        };
         if j >= self.identity.servers || self.identity.servers > SERVERS {
             return Err(TellFault::Run);
         }
         let given = notices(self.alloc, self.gone, j, self.identity.servers)?;
-        self.gone = self.gone.union(View::single(j));
+        let is_failure = matches!(order, Order::Gone(_));
+        if is_failure {
+            self.gone = self.gone.union(View::single(j));
+        }
         for notice in given {
-            let (i, j) = notice;
-            self.ask(i, Errand::Tell(j, PATIENCE))?;
+            let (i, _) = notice;
+            self.ask(i, Errand::Tell(order, PATIENCE))?;
         }
         let answers = self.visit_all(rt, settings)?;
-        tell_untold(errors, settings, answers.as_slice(), j);
-        tell_silent(errors, answers.as_slice(), j);
+        if is_failure {
+            tell_untold(errors, settings, answers.as_slice(), j);
+            tell_silent(errors, answers.as_slice(), j);
+        }
         Ok(done_in(answers.as_slice()))
     }
 
@@ -141,6 +156,22 @@ impl Teller {
             contact.met(start, gone);
             self.gone = self.gone.union(View::from_bits(contact.gone()));
         }
+    }
+
+    /// Server `i` told who has failed as far as it knows. It tells whether that is news.
+    pub(crate) fn told(&mut self, i: u8, gone: u16) -> bool {
+        let known = self.gone.bits();
+        if let Some(contact) = self.contacts.get_mut(usize::from(i)) {
+            contact.told(gone);
+            self.gone = self.gone.union(View::from_bits(contact.gone()));
+        }
+        self.gone.bits() != known
+    }
+
+    /// The master's name, which no other has: it is made of the number of its start.
+    pub(crate) fn name(&self) -> u32 {
+        let start = self.identity.start;
+        ((start ^ (start / NAMES)) % NAMES) as u32
     }
 
     /// Whether server `j` is known to have failed, and a server that was reached and hasn't failed didn't say that it

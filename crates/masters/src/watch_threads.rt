@@ -6,8 +6,9 @@ use crate::input_lines::{empty_line, next_line, server_named};
 use crate::settings::{MasterSettings, port_of};
 use crate::tellers::{Teller, identity_of};
 use crate::watchers::{Place, Watcher};
-use crossbeam_channel::{Receiver, bounded};
+use crossbeam_channel::{Receiver, Sender, bounded};
 use ends::TrackedReader;
+use leases::Order;
 use std::alloc::{AllocError, Global};
 use std::io::Stdin;
 use std::net::{Net, TcpListener, TcpStream};
@@ -19,8 +20,15 @@ use std::time::{Clock, Duration, Instant};
 /// How many events may wait.
 const EVENTS: usize = 64;
 
+/// How many orders for a server may wait.
+const ORDERS: usize = 4;
+
+/// Where orders for each server go, by its id: to none that is gone, and nowhere if the master doesn't beat.
+pub(crate) type Posts = Vec<Option<Sender<Order>>>;
+
 /// Starts the threads that watch the servers, but those that are gone, and the one that reads the input. What they hear
-/// comes there. Fails only if memory or threads run out, or the clock can't be read.
+/// comes there; each event tells how long the master runs, which began then. Where orders for those who watch go is put
+/// to `posts`. Fails only if memory or threads run out.
 pub(crate) fn start_threads<
     R: Wait
         + Threads
@@ -36,13 +44,12 @@ pub(crate) fn start_threads<
     settings: &MasterSettings,
     teller: &Teller,
     input: Stdin,
+    begun: Instant,
+    posts: &mut Posts,
 ) -> Result<Receiver<Event>, TellFault> {
-    let Ok(begun) = Instant::now(&rt) else {
-        return Err(TellFault::Run);
-    };
     let (sender, events) = bounded(alloc, EVENTS)?;
     let post = Post::new(sender, begun);
-    match start_all(rt, alloc, settings, teller, input, post) {
+    match start_all(rt, alloc, settings, teller, input, post, posts) {
         Ok(()) => Ok(events),
         Err(AllocError) => {
             drop(events);
@@ -68,8 +75,9 @@ fn start_all<
     teller: &Teller,
     input: Stdin,
     post: Post,
+    posts: &mut Posts,
 ) -> Result<(), AllocError> {
-    match start_watchers(rt, alloc, settings, teller, &post) {
+    match start_watchers(rt, alloc, settings, teller, &post, posts) {
         Ok(()) => start_reading(rt, alloc, settings.numbers.servers, input, post),
         Err(AllocError) => {
             drop(post);
@@ -94,14 +102,66 @@ fn start_watchers<
     settings: &MasterSettings,
     teller: &Teller,
     post: &Post,
+    posts: &mut Posts,
 ) -> Result<(), AllocError> {
     for i in 0..settings.numbers.servers {
-        if !teller.is_gone(i) {
-            let place = place_of(&rt, alloc, settings, i)?;
-            watch_place(rt, alloc, settings, place, post, teller.start(i))?;
+        if teller.is_gone(i) {
+            posts.push(None)?;
+        } else {
+            let orders = orders_for(alloc, settings, posts)?;
+            watch_server(rt, alloc, settings, i, post, teller.start(i), orders)?;
         }
     }
     Ok(())
+}
+
+// What is ordered for the next server, if the master beats. Where it goes is put to `posts`.
+fn orders_for(
+    alloc: Global,
+    settings: &MasterSettings,
+    posts: &mut Posts,
+) -> Result<Option<Receiver<Order>>, AllocError> {
+    if settings.beats.is_none() {
+        posts.push(None)?;
+        return Ok(None);
+    }
+    let (sender, orders) = bounded(alloc, ORDERS)?;
+    match posts.push(Some(sender)) {
+        Ok(()) => Ok(Some(orders)),
+        Err(refused) => {
+            drop(refused);
+            drop(orders);
+            Err(AllocError)
+        }
+    }
+}
+
+// Starts the thread that watches server i, which puts what it hears there too.
+fn watch_server<
+    R: Wait
+        + Threads
+        + Clock
+        + Net<Listener = TcpListener, Stream = TcpStream>
+        + Copy
+        + Drop
+        + Send
+        + 'static,
+>(
+    rt: R,
+    alloc: Global,
+    settings: &MasterSettings,
+    i: u8,
+    post: &Post,
+    start: Option<u64>,
+    orders: Option<Receiver<Order>>,
+) -> Result<(), AllocError> {
+    match place_of(&rt, alloc, settings, i) {
+        Ok(place) => watch_place(rt, alloc, settings, place, post, start, orders),
+        Err(AllocError) => {
+            drop(orders);
+            Err(AllocError)
+        }
+    }
 }
 
 // Where server i is.
@@ -140,11 +200,13 @@ fn watch_place<
     place: Place,
     post: &Post,
     start: Option<u64>,
+    orders: Option<Receiver<Order>>,
 ) -> Result<(), AllocError> {
     match post.another() {
-        Ok(post) => start_watcher(rt, alloc, settings, place, post, start),
+        Ok(post) => start_watcher(rt, alloc, settings, place, post, start, orders),
         Err(AllocError) => {
             drop(place);
+            drop(orders);
             Err(AllocError)
         }
     }
@@ -167,9 +229,10 @@ fn start_watcher<
     place: Place,
     post: Post,
     start: Option<u64>,
+    orders: Option<Receiver<Order>>,
 ) -> Result<(), AllocError> {
     let beat = Duration::from_millis(u64::from(settings.numbers.beat));
-    let watcher = Watcher::new(alloc, place, post, beat, start);
+    let watcher = Watcher::new(alloc, place, post, beat, start, orders);
     match thread::spawn(&rt, move || run(&rt, watcher)) {
         Ok(thread) => {
             drop(thread);

@@ -1,16 +1,21 @@
-//! Who watches one server for a master: it keeps a connection to it, as a master of its own.
+//! Who watches one server for a master: it keeps a connection to it, as a master of its own. If the master beats,
+//! orders go there and reports come back.
 
+use crate::conversations::converse;
 use crate::events::{News, Post};
 use crate::greetings::{Channel, Greeted, greet};
 use crate::standings::{Deed, Sight, Standing, due, seen_as, standing_after};
+use crossbeam_channel::Receiver;
 use ends::TrackedWriter;
+use leases::Order;
 use peers::Identity;
 use std::alloc::{AllocError, Global};
 use std::io::{ErrorKind, Read};
 use std::net::{Net, TcpListener, TcpStream};
 use std::sync::Wait;
-use std::thread;
 use std::time::{Clock, Duration, Instant};
+use std::{mem, thread};
+use wire::Frames;
 
 /// How often it tries to connect at once after a connection has ended, if that doesn't take a second.
 const TRIES: u8 = 10;
@@ -45,16 +50,20 @@ pub(crate) struct Watcher {
     gone: u16,
     // The connection, if it stands.
     stream: Option<TcpStream>,
+    // What the master orders, if it beats.
+    orders: Option<Receiver<Order>>,
 }
 
 impl Watcher {
-    /// Who watches the server there, of which this start was reached, if one was.
+    /// Who watches the server there, of which this start was reached, if one was, and sends what the master orders, if
+    /// it beats.
     pub(crate) fn new(
         alloc: Global,
         place: Place,
         post: Post,
         beat: Duration,
         start: Option<u64>,
+        orders: Option<Receiver<Order>>,
     ) -> Watcher {
         Watcher {
             alloc,
@@ -68,6 +77,7 @@ impl Watcher {
             start,
             gone: 0,
             stream: None,
+            orders,
         }
     }
 
@@ -76,8 +86,18 @@ impl Watcher {
         &mut self,
         rt: &R,
     ) {
+        let mut frames = Frames::new(self.alloc);
+        self.watch_by(rt, &mut frames);
+    }
+
+    // The same. What came on the connection and is no whole frame yet stays there.
+    fn watch_by<R: Wait + Clock + Net<Listener = TcpListener, Stream = TcpStream>>(
+        &mut self,
+        rt: &R,
+        frames: &mut Frames,
+    ) {
         for _ in rt.forever() {
-            match self.look(rt) {
+            match self.look(rt, frames) {
                 Ok(sight) => self.act(rt, due(self.standing, sight)),
                 Err(AllocError) => {
                     self.post.put(rt, News::Memory);
@@ -113,17 +133,39 @@ impl Watcher {
     fn look<R: Wait + Clock + Net<Listener = TcpListener, Stream = TcpStream>>(
         &mut self,
         rt: &R,
+        frames: &mut Frames,
     ) -> Result<Sight, AllocError> {
-        if let Some(stream) = &self.stream {
-            if stands(stream, self.beat) {
+        if self.stream.is_some() {
+            if self.attend(rt, frames)? {
                 return Ok(Sight::Stands);
             }
             self.post.put(rt, News::Broken(self.place.id));
         }
+        drop(mem::replace(frames, Frames::new(self.alloc)));
         if self.standing == Standing::Watched {
             self.open_soon(rt)
         } else {
             self.open(rt)
+        }
+    }
+
+    // Waits for the connection's end, a beat at most; or, if the master beats, sends what it orders, and waits a moment
+    // for what the server tells. It tells whether the connection stands.
+    fn attend<R: Wait + Clock>(&self, rt: &R, frames: &mut Frames) -> Result<bool, AllocError> {
+        let Some(stream) = &self.stream else {
+            return Ok(false);
+        };
+        match &self.orders {
+            Some(orders) => converse(
+                rt,
+                self.alloc,
+                stream,
+                orders,
+                frames,
+                &self.post,
+                self.place.id,
+            ),
+            None => Ok(stands(stream, self.beat)),
         }
     }
 

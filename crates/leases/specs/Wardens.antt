@@ -1,0 +1,111 @@
+-- The master's side: all that it decides, by its claim to a reign and a ward for each server.
+use Rattle.std.specs.Prelude.{ℕ, ◌-◌, ◌^◌, bit_or, Bool, true, false, not, ◌&&◌, List, map, slice_index_or, slice_set}
+use Rattle.std.specs.List.{range_with_len}
+use Rattle.leases.specs.declared.orders.Report.{Report}
+use Rattle.leases.specs.declared.wards.Due.{Due}
+use Rattle.leases.specs.Sets.{has_all}
+use Rattle.leases.specs.Watching.{done}
+use Rattle.leases.specs.Wards.{WardState, unmet, begun, lost, heard_from, deed_of, due_for}
+use Rattle.leases.specs.Claims.{ClaimState, unclaimed, informed, is_reigning, is_due, claimed}
+
+-- What a master knows. Server i is the bit of value 2^i; times are what the master's clock shows.
+pub record WardenState : Type 0 where
+  pub claim : ClaimState
+  -- one for each server, by its id
+  pub wards : List WardState
+  -- all servers of the chain
+  pub chain : ℕ
+  -- those that told how they are, or are gone
+  pub met : ℕ
+
+-- all servers of a chain of n servers
+abbrev pub all_of : ℕ → ℕ
+all_of servers = 2 ^ servers - 1
+
+-- all of them but this one
+abbrev pub others_of : ℕ → ℕ → ℕ
+others_of servers id = all_of servers - 2 ^ id
+
+-- what is known of a server of a chain of n servers at first: nothing
+abbrev pub unmet_in : ℕ → ℕ → ℕ → ℕ → WardState
+unmet_in servers beat after id = unmet id (others_of servers id) beat after
+
+-- a ward for each of the n servers of the chain
+abbrev pub unmet_below : ℕ → ℕ → ℕ → ℕ → List WardState
+unmet_below servers beat after count = map (unmet_in servers beat after) (range_with_len 0 count)
+
+-- it has just started
+abbrev pub started : ℕ → ℕ → ℕ → ℕ → ℕ → WardenState
+started name servers beat after now = record {
+  claim = unclaimed name after now;
+  wards = unmet_below servers beat after servers;
+  chain = all_of servers;
+  met = 0;
+}
+
+-- what is known of a server that the chain hasn't
+abbrev pub nobody : WardState
+nobody = unmet 0 0 0 0
+
+-- the ward of a server
+abbrev pub ward : List WardState → ℕ → WardState
+ward wards id = slice_index_or wards id nobody
+
+-- each ward hears what a server told
+abbrev pub all_heard : List WardState → ℕ → Report → ℕ → List WardState
+all_heard wards from report now = map (λ w. heard_from w from report now) wards
+
+-- in each ward another reign begins
+abbrev pub all_begun : List WardState → ℕ → List WardState
+all_begun wards reign = map (λ w. begun w reign) wards
+
+-- a server told how it is: the claim learns it by the end of the lease that was known before
+abbrev pub heard_by : WardenState → ℕ → Report → ℕ → WardenState
+heard_by m from report now = record m {
+  claim = informed m.claim report (ward m.wards from).end now;
+  wards = all_heard m.wards from report now;
+  met = bit_or m.met (bit_or (2 ^ from) report.gone);
+}
+
+-- another reign has followed that of a master which reigned, or didn't, before it learned that
+abbrev pub is_followed : Bool → ClaimState → Bool
+is_followed reigned claim = reigned && not (is_reigning claim)
+
+-- if it was followed, each ward begins anew, without a reign
+abbrev pub stood_down : WardenState → Bool → WardenState
+stood_down m false = m
+stood_down m true = record m { wards = all_begun m.wards 0 }
+
+-- it was followed by what a server told
+abbrev pub is_followed_by : WardenState → ℕ → Report → ℕ → Bool
+is_followed_by m from report now = is_followed (is_reigning m.claim) (heard_by m from report now).claim
+
+-- a server told how it is
+abbrev pub told : WardenState → ℕ → Report → ℕ → WardenState
+told m from report now = stood_down (heard_by m from report now) (is_followed_by m from report now)
+
+-- it is to take a new reign
+abbrev pub may_claim : WardenState → ℕ → Bool
+may_claim m now = is_due m.claim (has_all m.met m.chain) now
+
+-- it has taken this reign, and each ward begins anew in it
+abbrev pub crowned : WardenState → ℕ → ℕ → WardenState
+crowned m reign now = record m { claim = claimed m.claim reign now; wards = all_begun m.wards reign }
+
+-- a server does nothing more
+abbrev pub given_up : WardenState → ℕ → WardenState
+given_up m id = record m {
+  wards = slice_set m.wards id (lost (ward m.wards id));
+  met = bit_or m.met (2 ^ id);
+}
+
+-- what is due for a server
+abbrev pub due_at : List WardState → ℕ → ℕ → Due
+due_at wards id now = due_for (ward wards id) (deed_of (ward wards id) now)
+
+-- it counts as done
+abbrev pub asked : WardState → ℕ → WardState
+asked w now = record w { watch = done w.watch now (deed_of w now) }
+
+abbrev pub asked_at : List WardState → ℕ → ℕ → List WardState
+asked_at wards id now = slice_set wards id (asked (ward wards id) now)

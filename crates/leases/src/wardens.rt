@@ -1,0 +1,239 @@
+//! The master's side: all that it decides.
+ghost use Rattle.std.specs.Prelude.{◌≡◌, ◌<◌, ◌≤◌, ◌+◌, ◌%◌, ◌^◌, true, length, slice_set, IfOk, IfSome, IfNone};
+ghost use Rattle.leases.specs.Sets.{has_all};
+ghost use Rattle.leases.specs.Wards.{lost};
+ghost use Rattle.leases.specs.Claims.{is_reigning};
+ghost use Rattle.leases.specs.Wardens.{all_of, others_of, unmet_below, started, ward, all_heard, all_begun, heard_by};
+ghost use Rattle.leases.specs.Wardens.{is_followed, is_followed_by, stood_down, told, may_claim, crowned, given_up};
+ghost use Rattle.leases.specs.Wardens.{due_at, asked_at};
+
+use crate::claims::Claim;
+use crate::orders::Report;
+use crate::paces::Paces;
+use crate::wards::{Due, Ward, bit_of};
+use std::alloc::{AllocError, Global};
+use std::marker::Model;
+
+/// All that a master decides: which reign is its own, and what is due for each server. Who has it hands it what servers
+/// tell and what the clock shows, and sends what is due. Times are nanoseconds of the master's own clock, which never
+/// goes back.
+#[derive(Drop)]
+pub struct Warden {
+    claim: Claim,
+    // One for each server, by its id.
+    wards: Vec<Ward>,
+    // All servers: server i is the bit of value 2^i.
+    chain: u16,
+    // Those that told how they are, or are gone.
+    met: u16,
+}
+
+impl Model for Warden {
+    ghost use Rattle.leases.specs.Wardens.{WardenState};
+
+    ghost Value = { WardenState };
+
+    ghost view = { λ m. record { claim = m.claim; wards = m.wards.items; chain = m.chain; met = m.met } };
+}
+
+impl Warden {
+    /// A master of this name that has just started, in a chain of n servers, when its clock shows `now`. Nothing
+    /// is known of the servers, and it has no reign. No two masters have the same name. Fails only if memory runs out.
+    pub fn new(
+        alloc: Global,
+        name: u32,
+        servers: u8,
+        paces: Paces,
+        now: u64,
+    ) -> Result<Warden, AllocError>
+        requires chain { servers ≤ 16 }
+        ensures { IfOk result (λ warden. warden ≡ started name servers paces.beat paces.after now) }
+    {
+        let wards = new_wards(alloc, servers, paces)?;
+        Ok(Warden {
+            claim: Claim::new(name, paces, now),
+            wards,
+            chain: all_of(servers),
+            met: 0,
+        })
+    }
+
+    /// A server told how it is, and then the clock showed `now`. Each ward hears it, so they hear all that servers tell
+    /// in the order in which it came. If the master reigned before and doesn't any more, each ward begins anew without
+    /// a reign; the answer says whether that is so.
+    pub fn told(&mut self, from: u8, report: &Report, now: u64) -> bool
+        requires server { from < 16 }
+        ensures state { self.new ≡ told self.old from report.now now }
+        ensures followed { result ≡ is_followed_by self.old from report.now now }
+    {
+        let reigned = self.is_reigning();
+        self.hear(from, report, now);
+        self.stand_down(reigned)
+    }
+
+    // Whether its reign is the last one, as far as it knows.
+    fn is_reigning(&self) -> bool
+        ensures { result ≡ is_reigning self.now.claim }
+    {
+        self.claim.is_reigning()
+    }
+
+    // A server told how it is. The claim learns it by the end of the server's lease that was known before.
+    fn hear(&mut self, from: u8, report: &Report, now: u64)
+        requires server { from < 16 }
+        ensures { self.new ≡ heard_by self.old from report.now now }
+    {
+        let last = end_of(self.wards.as_slice(), usize::from(from));
+        self.claim.informed(report, last, now);
+        hear_all(self.wards.as_mut_slice(), from, report, now);
+        self.met |= bit_of(from) | report.gone;
+    }
+
+    // If it reigned before, and doesn't now, each ward begins anew without a reign. It tells whether that is so.
+    fn stand_down(&mut self, reigned: bool) -> bool
+        ensures state { self.new ≡ stood_down self.old (is_followed reigned self.old.claim) }
+        ensures followed { result ≡ is_followed reigned self.old.claim }
+    {
+        if !reigned || self.is_reigning() {
+            return false;
+        }
+        begin_all(self.wards.as_mut_slice(), 0);
+        true
+    }
+
+    /// Takes a new reign if it is to when the clock shows `now`: then each ward begins anew in it. None if it isn't to,
+    /// or if there is no such number below 2^64; then nothing changes.
+    pub fn claim(&mut self, now: u64) -> Option<u64>
+        ensures due { IfSome result (λ reign. may_claim self.old now ≡ true) }
+        ensures above { IfSome result (λ reign. self.old.claim.highest < reign) }
+        ensures own { IfSome result (λ reign. reign % 2 ^ 32 ≡ self.old.claim.name) }
+        ensures state { IfSome result (λ reign. self.new ≡ crowned self.old reign now) }
+        ensures none { IfNone result (self.new ≡ self.old) }
+        ensures missed { IfNone result (may_claim self.old now ≡ true → 2 ^ 64 ≤ self.old.claim.highest + 2 ^ 32) }
+    {
+        if !self.is_due(now) {
+            return None;
+        }
+        match self.claim.claim(now) {
+            Some(reign) => {
+                begin_all(self.wards.as_mut_slice(), reign);
+                Some(reign)
+            }
+            None => None,
+        }
+    }
+
+    // Whether it is to take a new reign.
+    fn is_due(&self, now: u64) -> bool
+        ensures { result ≡ may_claim self.now now }
+    {
+        self.claim.is_due(self.has_met_all(), now)
+    }
+
+    // Whether it has met each server that isn't gone.
+    fn has_met_all(&self) -> bool
+        ensures { result ≡ has_all self.now.met self.now.chain }
+    {
+        self.met & self.chain == self.chain
+    }
+
+    /// This server does nothing more: its host refused a new connection at once, or a person says so.
+    pub fn lose(&mut self, id: u8)
+        requires server { id < 16 }
+        ensures { self.new ≡ given_up self.old id }
+    {
+        lose_one(self.wards.as_mut_slice(), usize::from(id));
+        self.met |= bit_of(id);
+    }
+
+    /// What is due for this server when the clock shows `now`. It counts as done. For a server that the chain hasn't
+    /// nothing ever is.
+    pub fn next(&mut self, id: u8, now: u64) -> Due
+        ensures due { id < length self.old.wards → result ≡ due_at self.old.wards id now }
+        ensures state { self.new ≡ record self.old { wards = asked_at self.old.wards id now } }
+    {
+        next_of(self.wards.as_mut_slice(), usize::from(id), now)
+    }
+}
+
+// A ward for each server of a chain of n servers, by its id.
+fn new_wards(alloc: Global, servers: u8, paces: Paces) -> Result<Vec<Ward>, AllocError>
+    requires chain { servers ≤ 16 }
+    ensures { IfOk result (λ wards. wards.items ≡ unmet_below servers paces.beat paces.after servers) }
+{
+    let mut wards = Vec::new(alloc);
+    for id in 0..servers {
+        wards.push(Ward::new(id, others_of(servers, id), paces))?;
+    }
+    Ok(wards)
+}
+
+// All servers of a chain of n servers.
+#[tactic(auto, using(std::proofs::lemmas::Nat::pow_pos))]
+fn all_of(servers: u8) -> u16
+    requires chain { servers ≤ 16 }
+    ensures { result ≡ all_of servers }
+{
+    if servers < 16 {
+        bit_of(servers) - 1
+    } else {
+        u16::MAX
+    }
+}
+
+// All of them but this one.
+#[tactic(auto, using(std::proofs::lemmas::Nat::pow_below))]
+fn others_of(servers: u8, id: u8) -> u16
+    requires chain { servers ≤ 16 }
+    requires server { id < servers }
+    ensures { result ≡ others_of servers id }
+{
+    all_of(servers) - bit_of(id)
+}
+
+// When a server's lease ends, as far as it told.
+fn end_of(wards: &[Ward], id: usize) -> u64
+    ensures { result ≡ (ward wards.now id).end }
+{
+    if id < wards.len() { wards[id].end() } else { 0 }
+}
+
+// Each ward hears what a server told.
+fn hear_all(wards: &mut [Ward], from: u8, report: &Report, now: u64)
+    requires server { from < 16 }
+    ensures { wards.new ≡ all_heard wards.old from report.now now }
+{
+    for ward in wards.iter_mut() {
+        ward.hear(from, report, now);
+    }
+}
+
+// In each ward another reign begins.
+fn begin_all(wards: &mut [Ward], reign: u64)
+    ensures { wards.new ≡ all_begun wards.old reign }
+{
+    for ward in wards.iter_mut() {
+        ward.begin(reign);
+    }
+}
+
+// A server does nothing more.
+fn lose_one(wards: &mut [Ward], id: usize)
+    ensures { wards.new ≡ slice_set wards.old id (lost (ward wards.old id)) }
+{
+    if id < wards.len() {
+        wards[id].lose();
+    }
+}
+
+// What is due for a server. It counts as done.
+fn next_of(wards: &mut [Ward], id: usize, now: u64) -> Due
+    ensures due { id < length wards.old → result ≡ due_at wards.old id now }
+    ensures state { wards.new ≡ asked_at wards.old id now }
+{
+    if id < wards.len() {
+        wards[id].next(now)
+    } else {
+        Due::Wait(u64::MAX)
+    }
+}

@@ -1,0 +1,177 @@
+//! What stands on the connection of one who watches a server, if the master beats: orders on the way there, and on the
+//! way back how the server is.
+
+use crate::acknowledgements::put_order;
+use crate::events::{News, Post};
+use crate::orders::report_of;
+use crossbeam_channel::Receiver;
+use leases::{Order, nanoseconds_of};
+use std::alloc::{AllocError, Global};
+use std::io::{ErrorKind, Read};
+use std::net::TcpStream;
+use std::sync::Wait;
+use std::time::{Clock, Duration};
+use wire::{Alive, Frame, Frames, WireFault};
+
+/// For this many milliseconds it waits for a frame before it looks for an order again. That much later than it could, an
+/// order goes out.
+const TICK: u64 = 10;
+
+/// How many orders go out before it looks for a frame again.
+const ORDERS: u8 = 4;
+
+/// How many bytes it reads at once, at most.
+const PIECE: usize = 256;
+
+/// What came on a connection.
+#[derive(Clone, Copy)]
+enum Came {
+    // So many bytes.
+    Bytes(usize),
+    // Nothing yet.
+    Nothing,
+    // Nothing, and nothing more will come.
+    End,
+}
+
+/// Sends what the master ordered, and waits a moment for what the server with this id tells. It tells whether the
+/// connection stands. Of each report the clock is read once it is here, as the master's wait counts from then. Fails
+/// only if memory runs out.
+pub(crate) fn converse<R: Wait + Clock>(
+    rt: &R,
+    alloc: Global,
+    stream: &TcpStream,
+    orders: &Receiver<Order>,
+    frames: &mut Frames,
+    post: &Post,
+    id: u8,
+) -> Result<bool, AllocError> {
+    if !send_orders(rt, alloc, stream, orders)? {
+        return Ok(false);
+    }
+    let mut piece = [0u8; PIECE];
+    match read_soon(stream, piece.as_mut_slice()) {
+        Came::Bytes(count) => match piece.get(..count) {
+            Some(bytes) => hear(rt, frames, bytes, post, id),
+            None => Ok(false),
+        },
+        Came::Nothing => Ok(true),
+        Came::End => Ok(false),
+    }
+}
+
+// Sends what the master ordered. It tells whether all of it was written.
+fn send_orders<R: Wait>(
+    rt: &R,
+    alloc: Global,
+    stream: &TcpStream,
+    orders: &Receiver<Order>,
+) -> Result<bool, AllocError> {
+    for _ in 0..ORDERS {
+        let Ok(order) = orders.try_recv(rt) else {
+            return Ok(true);
+        };
+        if !put_order(alloc, stream, order)? {
+            return Ok(false);
+        }
+    }
+    Ok(true)
+}
+
+// Reads what is there, or comes soon.
+fn read_soon(stream: &TcpStream, piece: &mut [u8]) -> Came {
+    if stream
+        .set_read_timeout(Some(Duration::from_millis(TICK)))
+        .is_err()
+    {
+        return Came::End;
+    }
+    let mut source = stream;
+    match source.read(piece) {
+        Ok(0) => Came::End,
+        Ok(count) => Came::Bytes(count),
+        Err(fault) => match fault.kind() {
+            ErrorKind::WouldBlock | ErrorKind::TimedOut | ErrorKind::Interrupted => Came::Nothing,
+            _ => Came::End,
+        },
+    }
+}
+
+// Hears what these bytes tell. It tells whether each frame that they end is a report.
+fn hear<R: Wait + Clock>(
+    rt: &R,
+    frames: &mut Frames,
+    bytes: &[u8],
+    post: &Post,
+    id: u8,
+) -> Result<bool, AllocError> {
+    match frames.feed(bytes) {
+        Ok(()) => hear_frames(rt, frames, post, id),
+        Err(WireFault::Memory) => Err(AllocError),
+        Err(_) => Ok(false),
+    }
+}
+
+// Hears each frame that is whole.
+fn hear_frames<R: Wait + Clock>(
+    rt: &R,
+    frames: &mut Frames,
+    post: &Post,
+    id: u8,
+) -> Result<bool, AllocError> {
+    for _ in 0..PIECE {
+        match next_report(frames)? {
+            Next::Report(alive) => {
+                if !tell(rt, post, id, alive) {
+                    return Ok(false);
+                }
+            }
+            Next::Nothing => return Ok(true),
+            Next::Bad => return Ok(false),
+        }
+    }
+    Ok(true)
+}
+
+// What the next frame is.
+#[derive(Clone, Copy)]
+enum Next {
+    // A report.
+    Report(Alive),
+    // Not whole yet.
+    Nothing,
+    // None that belongs there.
+    Bad,
+}
+
+fn next_report(frames: &mut Frames) -> Result<Next, AllocError> {
+    match frames.next() {
+        Ok(Some(frame)) => {
+            let next = next_of(&frame);
+            drop(frame);
+            Ok(next)
+        }
+        Ok(None) => Ok(Next::Nothing),
+        Err(WireFault::Memory) => Err(AllocError),
+        Err(_) => Ok(Next::Bad),
+    }
+}
+
+fn next_of(frame: &Frame) -> Next {
+    match frame {
+        Frame::Alive(alive) => Next::Report(*alive),
+        _ => Next::Bad,
+    }
+}
+
+// Puts a report, with what the clock shows now that it is here. It tells whether it is one. If the clock can't be read,
+// it is as if nothing had come.
+fn tell<R: Wait + Clock>(rt: &R, post: &Post, id: u8, alive: Alive) -> bool {
+    let Some(report) = report_of(alive) else {
+        return false;
+    };
+    if let Ok(reading) = rt.monotonic() {
+        post.put(rt, News::Told(id, report, nanoseconds_of(reading)));
+    }
+    true
+}
