@@ -63,8 +63,8 @@ abbrev pub is_silent : Option ℕ → ℕ → ℕ → Bool
 is_silent None after silence = false
 is_silent (Some term) after silence = nat_le after silence
 
--- So much has passed since the last beat that the master is late with the next: half of what a silence is longer than a
--- pause. Nobody answers beats that aren't sent.
+-- The master is late with a beat: since the last one a pause has passed, and half of what a silence is longer
+-- than that. Nobody answers beats that aren't sent.
 abbrev pub is_late : WatchState → ℕ → Bool
 is_late w pause = nat_le ((w.after - w.beat) / 2) (pause - w.beat)
 

@@ -23,8 +23,8 @@ pub(crate) struct Beats {
 }
 
 impl Beats {
-    /// Before the first order. Who is gone as far as the teller knows is lost. Refused with Run if no chain has that many
-    /// servers, or the clock can't be read.
+    /// Before the first order. Who is gone as far as the teller knows is lost. Refused with Run if no chain has that
+    /// many servers, or the clock can't be read.
     pub(crate) fn new<R: Clock>(
         rt: &R,
         alloc: Global,

@@ -13,8 +13,8 @@ use std::sync::Wait;
 use std::time::{Clock, Duration};
 use wire::{Alive, Frame, Frames, WireFault};
 
-/// For this many milliseconds it waits for a frame before it looks for an order again. That much later than it could, an
-/// order goes out.
+/// For this many milliseconds it waits for a frame before it looks for an order again. An order goes out later than it
+/// could by as much.
 const TICK: u64 = 10;
 
 /// How many orders go out before it looks for a frame again.
