@@ -1,13 +1,14 @@
--- The stands of a server that was opened.
-use Rattle.std.proofs.Common.{◌≡◌, ◌∙◌, ◌∷◌, ◌++◌, ◌+◌, ℕ, zero, suc, List, [], All, refl, subst, sym}
-use Rattle.std.proofs.lemmas.List.Elements.{All-nil, All-append, All-cons, All-head, All-tail, All-weaker}
+-- The stands and the seats of a server that was opened.
+use Rattle.std.proofs.Common.{◌≡◌, ◌∙◌, ◌∷◌, ◌++◌, ◌+◌, ℕ, zero, suc, List, [], All, refl, set, subst, sym}
+use Rattle.std.proofs.lemmas.List.Elements.{All-nil, All-append, All-cons, All-head, All-set, All-tail, All-weaker}
 use Rattle.node.specs.Nodes.{NodeState}
 use Rattle.faces.specs.Courses.{Origin}
-use Rattle.faces.specs.Readers.{Looking}
 use Rattle.rail.specs.declared.events.Event.{Event}
 use Rattle.rail.specs.declared.stands.Stand.{Stand}
-use Rattle.rail.specs.Servers.{IsOpened, stand_at, stands_from}
+use Rattle.rail.specs.Seats.{SeatState}
+use Rattle.rail.specs.Servers.{IsOpened, seat_at, seats_from, stand_at, stands_from}
 use Rattle.rail.specs.Workers.{WorkerState}
+use Rattle.seats.specs.SeatPools.{Pooling}
 use Rattle.io_threads.specs.Pools.{AreOfOne}
 
 -- all are of this server
@@ -17,46 +18,95 @@ all_at o k (suc n) =
     All-cons (λ (stand : Stand). stand.seat.origin ≡ o) (stand_at o k) (stands_from o (k + 1) n) refl
     (all_at o (k + 1) n)
 
--- the stands of a server that was opened are all of that server, and no pool is of another
-pub opened_of_one : (node : NodeState) (readers inlets : ℕ) (w : WorkerState) (beside : List Stand)
-    (brought : List (List Event))
-    → IsOpened node readers inlets w beside brought → AreOfOne beside []
-opened_of_one node readers inlets w beside brought opened =
+all_seats_at : (o : Origin) (k n : ℕ) → All (λ (seat : SeatState). seat.origin ≡ o) (seats_from o k n)
+all_seats_at o k zero = All-nil (λ (seat : SeatState). seat.origin ≡ o)
+all_seats_at o k (suc n) =
+    All-cons (λ (seat : SeatState). seat.origin ≡ o) (seat_at o k) (seats_from o (k + 1) n) refl
+    (all_seats_at o (k + 1) n)
+
+-- the stands and the seats of a server that was opened are all of that server, and no pool is of another
+pub opened_of_one : (node : NodeState) (readers more inlets : ℕ) (w : WorkerState) (beside : List Stand)
+    (others : List SeatState) (brought : List (List Event))
+    → IsOpened node readers more inlets w beside others brought → AreOfOne beside others []
+opened_of_one node readers more inlets w beside others brought opened =
     record {
       origin = opened.origin;
       stands = subst (All (λ (stand : Stand). stand.seat.origin ≡ opened.origin)) (sym opened.stands)
           (all_at opened.origin 0 readers);
-      pools = All-nil (λ (pool : Looking). pool.seen.origin ≡ opened.origin);
+      seats = subst (All (λ (seat : SeatState). seat.origin ≡ opened.origin)) (sym opened.seats)
+          (all_seats_at opened.origin readers more);
+      pools = All-nil (λ (pool : Pooling). pool.seen.origin ≡ opened.origin);
     }
 
 -- one more pool of this server
-pub one_more : (o : Origin) (pools after : List Looking) (pool : Looking)
-    → All (λ (p : Looking). p.seen.origin ≡ o) pools → pool.seen.origin ≡ o → after ≡ pools ++ pool ∷ []
-    → All (λ (p : Looking). p.seen.origin ≡ o) after
+pub one_more : (o : Origin) (pools after : List Pooling) (pool : Pooling)
+    → All (λ (p : Pooling). p.seen.origin ≡ o) pools → pool.seen.origin ≡ o → after ≡ pools ++ pool ∷ []
+    → All (λ (p : Pooling). p.seen.origin ≡ o) after
 one_more o pools after pool all new same =
-    subst (All (λ (p : Looking). p.seen.origin ≡ o)) (sym same)
-    (All-append (λ (p : Looking). p.seen.origin ≡ o) pools (pool ∷ []) all
-    (All-cons (λ (p : Looking). p.seen.origin ≡ o) pool [] new (All-nil (λ (p : Looking). p.seen.origin ≡ o))))
+    subst (All (λ (p : Pooling). p.seen.origin ≡ o)) (sym same)
+    (All-append (λ (p : Pooling). p.seen.origin ≡ o) pools (pool ∷ []) all
+    (All-cons (λ (p : Pooling). p.seen.origin ≡ o) pool [] new (All-nil (λ (p : Pooling). p.seen.origin ≡ o))))
 
--- the next stand may be given to these pools
-pub may_be_given : (stand : Stand) (rest : List Stand) (pools : List Looking)
-    → AreOfOne (stand ∷ rest) pools → All (λ (pool : Looking). pool.seen.origin ≡ stand.seat.origin) pools
-may_be_given stand rest pools are =
-    All-weaker (λ (pool : Looking). pool.seen.origin ≡ are.origin)
-    (λ (pool : Looking). pool.seen.origin ≡ stand.seat.origin)
+-- one pool has changed
+pub one_changed : (o : Origin) (pools after : List Pooling) (place : ℕ) (pool : Pooling)
+    → All (λ (p : Pooling). p.seen.origin ≡ o) pools → pool.seen.origin ≡ o → after ≡ set pools place pool
+    → All (λ (p : Pooling). p.seen.origin ≡ o) after
+one_changed o pools after place pool all new same =
+    subst (All (λ (p : Pooling). p.seen.origin ≡ o)) (sym same)
+    (All-set (λ (p : Pooling). p.seen.origin ≡ o) pools place pool new all)
+
+-- the pools are of the server of the next stand
+pub may_be_made : (stand : Stand) (rest : List Stand) (more : List SeatState) (pools : List Pooling)
+    → AreOfOne (stand ∷ rest) more pools → All (λ (pool : Pooling). pool.seen.origin ≡ stand.seat.origin) pools
+may_be_made stand rest more pools are =
+    All-weaker (λ (pool : Pooling). pool.seen.origin ≡ are.origin)
+    (λ (pool : Pooling). pool.seen.origin ≡ stand.seat.origin)
     (λ pool same. same ∙ sym (All-head (λ (s : Stand). s.seat.origin ≡ are.origin) stand rest are.stands))
     pools are.pools
 
--- and once it was given, those that are left and the pools are of one server
-pub was_given : (stand : Stand) (rest : List Stand) (pools after : List Looking)
-    → AreOfOne (stand ∷ rest) pools → All (λ (pool : Looking). pool.seen.origin ≡ stand.seat.origin) after
-    → AreOfOne rest after
-was_given stand rest pools after are given =
+-- and once its pool was made, all that are left are of one server
+pub was_made : (stand : Stand) (rest : List Stand) (more : List SeatState) (pools after : List Pooling)
+    → AreOfOne (stand ∷ rest) more pools → All (λ (pool : Pooling). pool.seen.origin ≡ stand.seat.origin) after
+    → AreOfOne rest more after
+was_made stand rest more pools after are given =
     record {
       origin = are.origin;
       stands = All-tail (λ (s : Stand). s.seat.origin ≡ are.origin) stand rest are.stands;
-      pools = All-weaker (λ (pool : Looking). pool.seen.origin ≡ stand.seat.origin)
-          (λ (pool : Looking). pool.seen.origin ≡ are.origin)
+      seats = are.seats;
+      pools = All-weaker (λ (pool : Pooling). pool.seen.origin ≡ stand.seat.origin)
+          (λ (pool : Pooling). pool.seen.origin ≡ are.origin)
           (λ pool same. same ∙ All-head (λ (s : Stand). s.seat.origin ≡ are.origin) stand rest are.stands)
           after given;
+    }
+
+-- all stands have their pools: what is left are seats
+pub all_made : (left : List Stand) (more rest : List SeatState) (pools : List Pooling)
+    → AreOfOne left more pools → rest ≡ more → AreOfOne [] rest pools
+all_made left more rest pools are same =
+    record {
+      origin = are.origin;
+      stands = All-nil (λ (s : Stand). s.seat.origin ≡ are.origin);
+      seats = subst (All (λ (s : SeatState). s.origin ≡ are.origin)) (sym same) are.seats;
+      pools = are.pools;
+    }
+
+-- the pools are of the next seat's server
+pub may_be_given : (left : List Stand) (seat : SeatState) (rest : List SeatState) (pools : List Pooling)
+    → AreOfOne left (seat ∷ rest) pools → All (λ (pool : Pooling). pool.seen.origin ≡ seat.origin) pools
+may_be_given left seat rest pools are =
+    All-weaker (λ (pool : Pooling). pool.seen.origin ≡ are.origin) (λ (pool : Pooling). pool.seen.origin ≡ seat.origin)
+    (λ pool same. same ∙ sym (All-head (λ (s : SeatState). s.origin ≡ are.origin) seat rest are.seats)) pools are.pools
+
+-- and once it was given, all that are left are of one server
+pub was_given : (left : List Stand) (seat : SeatState) (rest : List SeatState) (pools after : List Pooling)
+    → AreOfOne left (seat ∷ rest) pools → All (λ (pool : Pooling). pool.seen.origin ≡ seat.origin) after
+    → AreOfOne left rest after
+was_given left seat rest pools after are given =
+    record {
+      origin = are.origin;
+      stands = are.stands;
+      seats = All-tail (λ (s : SeatState). s.origin ≡ are.origin) seat rest are.seats;
+      pools = All-weaker (λ (pool : Pooling). pool.seen.origin ≡ seat.origin)
+          (λ (pool : Pooling). pool.seen.origin ≡ are.origin)
+          (λ pool same. same ∙ All-head (λ (s : SeatState). s.origin ≡ are.origin) seat rest are.seats) after given;
     }

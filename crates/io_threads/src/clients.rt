@@ -85,6 +85,7 @@ impl<S: Read + Write> Client<S> {
     ghost use Rattle.std.specs.Prelude.{IfNone, IfSome, MatchBool};
     ghost use Rattle.faces.specs.Courses.{IsLater};
     ghost use Rattle.serving.specs.Connections.{IsBegun};
+    ghost use Rattle.seats.specs.SeatPools.{HasSameReader};
     ghost use Rattle.seats.specs.Talks.{IsFurther, begun};
     ghost use Rattle.seats.specs.declared.talks.Standing.TheVariants.{Idle, Reading, Over as Spent};
     ghost use Rattle.io_threads.specs.Clients.{HasPassed, HasPaused};
@@ -289,7 +290,7 @@ impl<S: Read + Write> Client<S> {
     where
         S: Drop,
         requires known { IsLater self.talk.seen pool.old.seen }
-        ensures { pool.new ≡ pool.old }
+        ensures { HasSameReader pool.old pool.new }
     {
         let Client { wire, talk, .. } = self;
         drop(wire);

@@ -1,6 +1,8 @@
 //! Opens a server whose seats are dealt out to serving threads.
 ghost use Rattle.std.specs.Prelude.{◌≡◌, ◌≤◌, [], true, All, IfOk};
 ghost use Rattle.node.specs.Nodes.{is_idle};
+ghost use Rattle.seats.specs.SeatPools.{with_free};
+ghost use Rattle.seats.specs.Submitters.{unused};
 ghost use Rattle.io_threads.specs.Pools.{AreOfOne};
 
 use node::Node;
@@ -21,9 +23,9 @@ pub struct Pooled<R: Wait + Drop> {
 }
 
 /// Opens a server that begins as this node, with these many seats, which are dealt out to the threads in turn: that of
-/// port 0 to the first thread, that of port 1 to the second, and so on. Each thread has one reader. The mark is set as
-/// soon as the server answers no more calls, and the gauge tells whether its items may take more memory. Refused if
-/// memory is out, or no reader could be made.
+/// port 0 to the first thread, that of port 1 to the second, and so on. Each thread has one reader, and the face has
+/// room for no more. The mark is set as soon as the server answers no more calls, and the gauge tells whether its items
+/// may take more memory. Refused if memory is out, or no reader could be made.
 pub fn open_pools<R: Wait + Drop>(
     rt: R,
     alloc: Global,
@@ -42,9 +44,10 @@ pub fn open_pools<R: Wait + Drop>(
     let Server {
         worker,
         stands,
+        seats: others,
         inlets,
-    } = open(rt, alloc, node, seats, inlets)?;
-    match deal(alloc, stands, threads, mark, gauge) {
+    } = open(rt, alloc, node, threads, seats - threads, inlets)?;
+    match deal(alloc, stands, others, mark, gauge) {
         Ok(pools) => Ok(Pooled {
             worker,
             pools,
@@ -58,35 +61,39 @@ pub fn open_pools<R: Wait + Drop>(
     }
 }
 
-// Deals the stands of one server out to the threads, in turn.
-#[tactic(auto, using(crate::proofs::Dealt::may_be_given))]
+// Makes a pool of each of these stands of one server, and deals its other seats out to them, in turn.
 fn deal(
     alloc: Global,
     stands: Vec<Stand>,
-    threads: usize,
+    others: Vec<Seat>,
     mark: &Mark,
     gauge: &Gauge,
 ) -> Result<Vec<SeatPool>, AllocError>
-    requires { AreOfOne stands.items [] }
+    requires { AreOfOne stands.items others.items [] }
 {
     let mut pools = Vec::new(alloc);
-    let mut next = 0usize;
     for stand in stands {
-        give(alloc, &mut pools, next, stand, mark, gauge)?;
-        next = next.wrapping_add(1);
-        if next >= threads {
-            next = 0;
-        }
+        add_pool(alloc, &mut pools, stand, mark, gauge)?;
+    }
+    let mut next = 0usize;
+    for seat in others {
+        give(&mut pools, next, seat)?;
+        next = place_after(next, pools.len());
     }
     Ok(pools)
 }
 
-// Gives a stand to the pool at this place, or makes that pool.
+// The place after this one of n; after the last one the first.
+fn place_after(place: usize, count: usize) -> usize {
+    let next = place.wrapping_add(1);
+    if next < count { next } else { 0 }
+}
+
+// One more pool, of this stand.
 #[tactic(auto, using(crate::proofs::Dealt::one_more))]
-fn give(
+fn add_pool(
     alloc: Global,
     pools: &mut Vec<SeatPool>,
-    place: usize,
     stand: Stand,
     mark: &Mark,
     gauge: &Gauge,
@@ -94,14 +101,24 @@ fn give(
     requires { All (λ pool. pool.seen.origin ≡ stand.seat.origin) pools.old.items }
     ensures { All (λ pool. pool.seen.origin ≡ stand.seat.origin) pools.new.items }
 {
-    if let Some(pool) = pools.get_mut(place) {
-        let Stand { reader, seat } = stand;
-        drop(reader);
-        return pool.add(seat);
-    }
     let pool = pool_of(alloc, stand, mark, gauge)?;
     pools.push(pool)?;
     Ok(())
+}
+
+// Gives a seat to the pool at this place, if there is one.
+#[tactic(auto, using(crate::proofs::Dealt::one_changed))]
+fn give(pools: &mut Vec<SeatPool>, place: usize, seat: Seat) -> Result<(), AllocError>
+    requires { All (λ pool. pool.seen.origin ≡ seat.origin) pools.old.items }
+    ensures { All (λ pool. pool.seen.origin ≡ seat.origin) pools.new.items }
+{
+    match pools.get_mut(place) {
+        Some(pool) => pool.add(seat),
+        None => {
+            drop(seat);
+            Ok(())
+        }
+    }
 }
 
 // A pool with this stand's reader and seat.
@@ -134,7 +151,7 @@ fn share(mark: &Mark, gauge: &Gauge) -> Result<(Mark, Gauge), AllocError> {
 // A pool with one seat more.
 fn with_seat(pool: SeatPool, seat: Seat) -> Result<SeatPool, AllocError>
     requires { seat.origin ≡ pool.seen.origin }
-    ensures { IfOk result (λ grown. grown ≡ pool) }
+    ensures { IfOk result (λ grown. grown ≡ with_free pool (unused seat)) }
 {
     let mut pool = pool;
     match pool.add(seat) {

@@ -11,8 +11,9 @@ use Rattle.faces.specs.Courses.{Origin}
 use Rattle.faces.specs.Readers.{yet_to_look}
 use Rattle.rail.specs.declared.stands.Stand.{Stand}
 use Rattle.rail.specs.Letters.{PostState, post_at}
+use Rattle.rail.specs.Seats.{SeatState}
 use Rattle.rail.specs.Turns.{ArePosts}
-use Rattle.rail.specs.Servers.{course_at, posts_from, stand_at, stands_from}
+use Rattle.rail.specs.Servers.{course_at, posts_from, seat_at, seats_from, stand_at, stands_from}
 
 pub posts_more : (o : Origin) (k n m : ℕ) → m ≡ k + n → posts_from o k (n + 1) ≡ posts_from o k n ++ post_at o m ∷ []
 posts_more o k zero m is = ap (λ (j : ℕ). post_at o j ∷ []) (let e : k ≡ m = omega (arith, is) in e)
@@ -29,6 +30,21 @@ stands_more o k (suc n) m is =
     let e : suc n + 1 ≡ suc (n + 1) = omega arith in
     ap (stands_from o k) e ∙ ap (λ (ps : List Stand). stand_at o k ∷ ps) (stands_more o (k + 1) n m (omega (arith, is)))
 
+pub seats_more : (o : Origin) (k n m : ℕ) → m ≡ k + n → seats_from o k (n + 1) ≡ seats_from o k n ++ seat_at o m ∷ []
+seats_more o k zero m is = ap (λ (j : ℕ). seat_at o j ∷ []) (let e : k ≡ m = omega (arith, is) in e)
+seats_more o k (suc n) m is =
+    let e : suc n + 1 ≡ suc (n + 1) = omega arith in
+    ap (seats_from o k) e ∙ ap (λ (ss : List SeatState). seat_at o k ∷ ss)
+    (seats_more o (k + 1) n m (omega (arith, is)))
+
+-- the posts of the first n ports and of one more
+pub posts_next : (o : Origin) (k n m : ℕ)
+    → m ≡ k + n
+    → posts_from o 0 (k + (n + 1)) ≡ posts_from o 0 m ++ post_at o m ∷ []
+posts_next o k n m is =
+    let e : k + (n + 1) ≡ m + 1 = omega (arith, is) in
+    ap (posts_from o 0) e ∙ posts_more o 0 m m (omega arith)
+
 pub are_opened : (o : Origin) (k n : ℕ) → ArePosts o k (posts_from o k n)
 are_opened o k zero = tt
 are_opened o k (suc n) = (refl, are_opened o (k + 1) n)
@@ -44,7 +60,7 @@ idle_below n ports idle = λ port reads above. idle-none_open n port reads idle
 -- a reader that hasn't looked and a seat before any call make that stand
 pub is_stand_at : (o : Origin) (k : ℕ) (s : Stand)
     → s.reader ≡ yet_to_look (course_at o)
-    → s.seat ≡ record { origin = o; port = k; sent = []; got = [] }
+    → s.seat ≡ seat_at o k
     → s ≡ stand_at o k
 is_stand_at o k s reader seat = λ i. record {
   reader = reader i;

@@ -1,10 +1,10 @@
 -- Which bits sets of ports have.
 use Rattle.std.proofs.Common.{◌≡◌, ◌≢◌, ◌∙◌, ℕ, suc, zero, ◌*◌, ◌<◌, ◌/◌, ◌^◌, ◌%◌, ◌==◌, max}
-use Rattle.std.proofs.Common.{Bool, true, false, ◌||◌, refl, ap, sym, subst, arith, bit_and, bit_or, w64}
+use Rattle.std.proofs.Common.{Bool, true, false, true≢false, ◌||◌, refl, ap, sym, subst, arith, bit_and, bit_or, w64}
 use Rattle.std.proofs.lemmas.Bool.Decides.{nat_tests}
 use Rattle.std.specs.Int.{bit_at}
 use Rattle.std.proofs.lemmas.Nat.Bits.{shr_and_one, bit_at_or, bit_at_set_same, bit_at_set_other, bit_at-zero}
-use Rattle.std.proofs.lemmas.Nat.Bits.{bit_at-lt}
+use Rattle.std.proofs.lemmas.Nat.Bits.{bit_at-lt, same_from_bits_below}
 
 -- whether a number has a bit
 abbrev pub has_bit : ℕ → ℕ → Bool
@@ -51,3 +51,18 @@ more_by false n p q low is = bit_is (bit_or n (1 * 2 ^ p % 2 ^ 64)) q
 -- with one more bit
 pub one_more_bit : (n p q : ℕ) → p < 64 → has_bit (bit_or n (1 * 2 ^ p % 2 ^ 64)) q ≡ ((q == p) || has_bit n q)
 one_more_bit n p q low = more_by (q == p) n p q low refl
+
+unset : (b : ℕ) → b < 2 → (b == 1) ≡ false → b ≡ 0
+unset zero p is = refl
+unset (suc zero) p is = absurd (true≢false is)
+unset (suc (suc b)) p is = absurd (omega (arith, p))
+
+-- a number without any of its bits
+pub none_set : (n : ℕ) → n < 2 ^ 64 → ((port : ℕ) → has_bit n (port % 64) ≡ false) → n ≡ 0
+none_set n low none =
+    same_from_bits_below 64 n 0 low (omega arith)
+    (λ k below.
+    let is : k % 64 ≡ k = omega (arith, below) in
+    unset (bit_at n k) (bit_at-lt n k)
+    (sym (bit_is n k) ∙ subst (λ j. has_bit n j ≡ false) is (none k))
+    ∙ sym (bit_at-zero k))

@@ -6,6 +6,7 @@ use Rattle.faces.specs.Readers.{yet_to_look}
 use Rattle.rail.specs.declared.events.Event.{Event}
 use Rattle.rail.specs.declared.stands.Stand.{Stand}
 use Rattle.rail.specs.Letters.{PostState, post_at}
+use Rattle.rail.specs.Seats.{SeatState}
 use Rattle.rail.specs.Workers.{WorkerState}
 
 -- a server's course before any input
@@ -17,25 +18,32 @@ abbrev pub posts_from : Origin → ℕ → ℕ → List PostState
 posts_from o k zero = []
 posts_from o k (suc n) = post_at o k ∷ posts_from o (k + 1) n
 
+-- the seat of port k before any call
+abbrev pub seat_at : Origin → ℕ → SeatState
+seat_at o k = record { origin = o; port = k; sent = []; got = [] }
+
+-- the seats of n ports, from port k on
+abbrev pub seats_from : Origin → ℕ → ℕ → List SeatState
+seats_from o k zero = []
+seats_from o k (suc n) = seat_at o k ∷ seats_from o (k + 1) n
+
 -- a reader that has seen no input and hasn't looked, and the seat of port k before any call
 abbrev pub stand_at : Origin → ℕ → Stand
-stand_at o k =
-    record {
-      reader = yet_to_look (course_at o);
-      seat = record { origin = o; port = k; sent = []; got = [] };
-      together = refl;
-    }
+stand_at o k = record { reader = yet_to_look (course_at o); seat = seat_at o k; together = refl }
 
 -- the stands of n ports, from port k on
 abbrev pub stands_from : Origin → ℕ → ℕ → List Stand
 stands_from o k zero = []
 stands_from o k (suc n) = stand_at o k ∷ stands_from o (k + 1) n
 
--- A worker, stands and inlets of one running server, which begins as this node, before any input.
-pub record IsOpened (node : NodeState) (readers inlets : ℕ) (w : WorkerState) (beside : List Stand)
-    (brought : List (List Event)) : Type 0 where
+-- A worker, stands, more seats and inlets of one running server, which begins as this node, before any input. The seats
+-- have the ports after those of the stands.
+pub record IsOpened (node : NodeState) (readers more inlets : ℕ) (w : WorkerState) (beside : List Stand)
+    (others : List SeatState) (brought : List (List Event)) : Type 0 where
   pub origin : Origin
   pub start : origin.start ≡ node.server
-  pub worker : w ≡ record { taken = []; published = course_at origin; goes = true; posts = posts_from origin 0 readers }
+  pub worker :
+      w ≡ record { taken = []; published = course_at origin; goes = true; posts = posts_from origin 0 (readers + more) }
   pub stands : beside ≡ stands_from origin 0 readers
+  pub seats : others ≡ seats_from origin readers more
   pub brought_by : brought ≡ replicate inlets []

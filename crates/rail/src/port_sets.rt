@@ -1,5 +1,5 @@
 //! Sets of ports.
-ghost use Rattle.std.specs.Prelude.{◌≡◌, ◌%◌, ◌==◌, ◌||◌, ℕ, false, IsTrue};
+ghost use Rattle.std.specs.Prelude.{◌≡◌, ◌↔◌, ◌%◌, ◌==◌, ◌||◌, ℕ, false, IsTrue};
 ghost use Rattle.rail.specs.Ports.{has_port};
 
 /// A set of ports of one server, which has 16 ports at most. Ports that lie 64 apart are one to it: with more than 64
@@ -41,7 +41,7 @@ impl PortSet {
 
     /// Whether it has none.
     pub fn is_empty(&self) -> bool
-        ensures { IsTrue result → (port : ℕ) → has_port self.now port ≡ false }
+        ensures { IsTrue result ↔ ((port : ℕ) → has_port self.now port ≡ false) }
     {
         self.bits == 0
     }

@@ -6,7 +6,7 @@ ghost use Rattle.node.specs.Nodes.{is_idle};
 ghost use Rattle.node.specs.Lawful.{IsLawful};
 ghost use Rattle.rail.specs.Inbox.{taker};
 ghost use Rattle.rail.specs.Letters.{post_at};
-ghost use Rattle.rail.specs.Servers.{IsOpened, course_at, posts_from, stand_at, stands_from};
+ghost use Rattle.rail.specs.Servers.{IsOpened, course_at, posts_from, seat_at, seats_from, stand_at, stands_from};
 
 use crate::RailFault;
 use crate::inbox::Gate;
@@ -21,29 +21,33 @@ use node::Node;
 use std::alloc::{AllocError, Global};
 use std::sync::Wait;
 
-/// A running server: its worker, a stand for each reader, and inlets.
+/// A running server: its worker, a stand for each reader, seats of threads that have a stand, and inlets.
 #[derive(Drop)]
 pub struct Server<R: Wait + Drop> {
     pub worker: Worker<R>,
     pub stands: Vec<Stand>,
+    pub seats: Vec<Seat>,
     pub inlets: Vec<Inlet>,
 }
 
-/// Opens a server that begins as this node: a worker, a reader and a seat for each of n threads, at ports 0, 1
-/// and so on, and m inlets. Its node may hold items already. Refused with NoReader if its publisher could make
-/// no reader, and otherwise with Memory.
+/// Opens a server that begins as this node: a worker, a reader and a seat for each of n threads, at ports 0, 1 and so
+/// on, further seats at the ports after those, and inlets. Its node may hold items already. Refused with NoReader if
+/// its publisher could make no reader, and otherwise with Memory. Each publish takes time linear in the readers, and not
+/// in the seats.
 pub fn open<R: Wait + Drop>(
     rt: R,
     alloc: Global,
     node: Node,
     readers: usize,
+    more: usize,
     inlets: usize,
 ) -> Result<Server<R>, RailFault>
-    requires readers { (1 ≤ readers) × (readers ≤ 16) }
+    requires readers { 1 ≤ readers }
+    requires seats { readers + more ≤ 16 }
     requires inlets { (1 ≤ inlets) × (inlets ≤ 16) }
     requires idle { is_idle node ≡ true }
     ensures { MatchResult result
-        (λ s. IsOpened node readers inlets s.worker s.stands.items s.inlets.items)
+        (λ s. IsOpened node readers more inlets s.worker s.stands.items s.seats.items s.inlets.items)
         (λ fault. (fault ≡ RailFault.Memory) ⊎ (fault ≡ RailFault.NoReader)) }
 {
     hold_lawful(&node);
@@ -52,12 +56,13 @@ pub fn open<R: Wait + Drop>(
         drop(gate);
         return Err(RailFault::Memory);
     };
-    match beside(alloc, &mut publisher, &mut gate, readers, inlets) {
-        Ok((stands, posts, inlets)) => {
+    match beside(alloc, &mut publisher, &mut gate, readers, more, inlets) {
+        Ok((stands, seats, posts, inlets)) => {
             let worker = Worker::new(rt, gate.close(), publisher, posts);
             Ok(Server {
                 worker,
                 stands,
+                seats,
                 inlets,
             })
         }
@@ -83,21 +88,32 @@ fn beside(
     publisher: &mut Publisher,
     gate: &mut Gate,
     readers: usize,
+    more: usize,
     inlets: usize,
-) -> Result<(Vec<Stand>, Vec<Post>, Vec<Inlet>), RailFault>
+) -> Result<(Vec<Stand>, Vec<Seat>, Vec<Post>, Vec<Inlet>), RailFault>
     requires gate { view gate.old.pass ≡ taker 0 0 [] }
-    requires few { (readers ≤ 16) × (inlets ≤ 16) }
+    requires few { (readers + more ≤ 16) × (inlets ≤ 16) }
     requires first { publisher.old.published.inputs ≡ [] }
     ensures publisher { publisher.new ≡ publisher.old }
-    ensures gate { IfOk result (λ _. ((view gate.new.pass).ports ≡ readers) × ((view gate.new.pass).got ≡ [])) }
+    ensures gate { IfOk result
+        (λ _. ((view gate.new.pass).ports ≡ readers + more) × ((view gate.new.pass).got ≡ [])) }
     ensures stands { IfOk result (λ r. r.0.items ≡ stands_from publisher.old.published.origin 0 readers) }
-    ensures posts { IfOk result (λ r. r.1.items ≡ posts_from publisher.old.published.origin 0 readers) }
-    ensures inlets { IfOk result (λ r. r.2.items ≡ replicate inlets []) }
+    ensures seats { IfOk result (λ r. r.1.items ≡ seats_from publisher.old.published.origin readers more) }
+    ensures posts { IfOk result (λ r. r.2.items ≡ posts_from publisher.old.published.origin 0 (readers + more)) }
+    ensures inlets { IfOk result (λ r. r.3.items ≡ replicate inlets []) }
     ensures fault { IfErr result (λ fault. (fault ≡ RailFault.Memory) ⊎ (fault ≡ RailFault.NoReader)) }
 {
-    let (stands, posts) = all_stands(alloc, publisher, gate, readers)?;
+    let (stands, mut posts) = all_stands(alloc, publisher, gate, readers)?;
+    let seats = more_seats(
+        alloc,
+        publisher.published(),
+        gate,
+        &mut posts,
+        readers,
+        more,
+    )?;
     let inlets = all_inlets(alloc, gate, inlets)?;
-    Ok((stands, posts, inlets))
+    Ok((stands, seats, posts, inlets))
 }
 
 // The stands of the first n ports, and their posts.
@@ -175,9 +191,51 @@ fn stand_of(
     ensures stand { IfOk result (λ r. r.0 ≡ stand_at published.now.origin port) }
     ensures post { IfOk result (λ r. r.1 ≡ post_at published.now.origin port) }
 {
+    let (seat, post) = one_seat(alloc, published, gate, port)?;
+    Ok((Stand { reader, seat }, post))
+}
+
+// The seat of a port, and its post.
+fn one_seat(
+    alloc: Global,
+    published: &Published,
+    gate: &mut Gate,
+    port: usize,
+) -> Result<(Seat, Post), AllocError>
+    requires gate { view gate.old.pass ≡ taker port port [] }
+    requires few { port < 16 }
+    ensures gate { IfOk result (λ _. view gate.new.pass ≡ taker (port + 1) (port + 1) []) }
+    ensures seat { IfOk result (λ r. r.0 ≡ seat_at published.now.origin port) }
+    ensures post { IfOk result (λ r. r.1 ≡ post_at published.now.origin port) }
+{
     let (post, letters) = open_queue(alloc, REPLIES, published, port)?;
     let seat = Seat::new(port, gate.seat()?, letters);
-    Ok((Stand { reader, seat }, post))
+    Ok((seat, post))
+}
+
+// Further seats, from port `first` on. Their posts come after those so far.
+fn more_seats(
+    alloc: Global,
+    published: &Published,
+    gate: &mut Gate,
+    posts: &mut Vec<Post>,
+    first: usize,
+    count: usize,
+) -> Result<Vec<Seat>, AllocError>
+    requires gate { view gate.old.pass ≡ taker first first [] }
+    requires few { first + count ≤ 16 }
+    requires posts { posts.old.items ≡ posts_from published.now.origin 0 first }
+    ensures gate { IfOk result (λ _. view gate.new.pass ≡ taker (first + count) (first + count) []) }
+    ensures seats { IfOk result (λ seats. seats.items ≡ seats_from published.now.origin first count) }
+    ensures posts { IfOk result (λ _. posts.new.items ≡ posts_from published.now.origin 0 (first + count)) }
+{
+    let mut seats = Vec::new(alloc);
+    for k in 0..count {
+        let (seat, post) = one_seat(alloc, published, gate, first + k)?;
+        seats.push(seat)?;
+        posts.push(post)?;
+    }
+    Ok(seats)
 }
 
 // Inlets, as many as asked for.

@@ -1,9 +1,10 @@
 -- The seats of a pool.
-use Rattle.std.proofs.Common.{◌≡◌, ◌∙◌, ◌∷◌, ◌++◌, [], Bool, true, false, if◌then◌else◌, List, All, ap, sym, subst}
+use Rattle.std.proofs.Common.{◌≡◌, ◌∙◌, ◌∷◌, ◌++◌, ◌+◌, [], Bool, true, false, if◌then◌else◌, List, All, ap, sym}
+use Rattle.std.proofs.Common.{subst, append-nil, arith, length, refl, MatchOption, None, Option, option_to_list, Some}
 use Rattle.std.proofs.lemmas.List.Elements.{All-push, All-same, All-tail}
 use Rattle.faces.specs.Courses.{Course, IsLater, Origin}
 use Rattle.rail.specs.Seats.{SeatState}
-use Rattle.seats.specs.SeatPools.{IsFreeAt}
+use Rattle.seats.specs.SeatPools.{IsFreeAt, Pooling, with_free}
 use Rattle.seats.specs.Submitters.{Submitting, unused}
 
 -- one more, or not
@@ -39,3 +40,24 @@ all_without P xs rest s e all = All-tail P s rest (All-same P (s ∷ rest) xs (s
 pub at_reader : (P : Origin → Submitting → Type 0) (seen now : Course) (s : Submitting) → seen ≡ now → P now.origin s
     → P seen.origin s
 at_reader P seen now s same at = subst (λ (x : Course). P x.origin s) (sym same) at
+
+nothing_in : (xs : List Submitting) → length xs ≡ 0 → xs ≡ []
+nothing_in [] none = refl
+nothing_in (x ∷ xs) none = absurd (omega (arith, none))
+
+-- a free seat was taken out, or there was none
+pub taken_out : (p q : Pooling) (found : Option Submitting) → q.seen ≡ p.seen → q.looks ≡ p.looks → q.left ≡ p.left
+    → p.free ≡ q.free ++ option_to_list found
+    → MatchOption found ((length p.free ≡ 0) × (length q.free ≡ 0)) (λ _. length q.free + 1 ≡ length p.free)
+    → MatchOption found ((q ≡ p) × (p.free ≡ [])) (λ seat. p ≡ with_free q seat)
+taken_out p q None seen looks left free cases = (
+  λ i. record {
+    seen = seen i;
+    looks = looks i;
+    free = sym (free ∙ append-nil q.free) i;
+    left = left i;
+  },
+  nothing_in p.free cases.0,
+)
+taken_out p q (Some seat) seen looks left free cases =
+    λ i. record { seen = sym seen i; looks = sym looks i; free = free i; left = sym left i }

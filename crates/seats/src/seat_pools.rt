@@ -15,7 +15,7 @@ use std::sync::Wait;
 use table::{Call, Reply};
 
 /// What one thread has at one server: a reader, and seats that its connections take in turn. Contracts see what the
-/// reader has seen or was told of, and at which faces it has looked (`Looking`).
+/// reader has seen or was told of, at which faces it has looked, and the seats that are here (`Pooling`).
 #[derive(Drop)]
 pub struct SeatPool {
     reader: Reader,
@@ -37,32 +37,36 @@ impl Model for SeatPool {
     ghost use Rattle.versions.specs.Stores.{coded_items};
     ghost use Rattle.std.specs.Prelude.{vec_capacity};
     ghost use Rattle.std.specs.VecDeque.{deque_capacity};
-    ghost use Rattle.faces.specs.Readers.{Looking};
-    ghost use Rattle.seats.specs.SeatPools.{IsPool};
+    ghost use Rattle.seats.specs.SeatPools.{IsPool, Pooling};
 
-    ghost Value = { Looking };
+    ghost Value = { Pooling };
 
     ghost coded = { Prim.hlevel (codes, coded_items, book_coded) };
 
-    ghost view = { λ p. p.reader };
+    ghost view = { λ p. record {
+      seen = p.reader.seen;
+      looks = p.reader.looks;
+      free = p.free.items;
+      left = p.left.items;
+    } };
 
     ghost invariant = { λ p.
         IsPool p.reader.seen.origin p.seats p.free.items p.left.items (vec_capacity p.free) (deque_capacity p.left) };
 }
 
 impl SeatPool {
-    ghost use Rattle.std.specs.Prelude.{◌≡◌, ◌++◌, ◌∷◌, [], None, Option};
-    ghost use Rattle.std.specs.Prelude.{IfOk, IfSome, MatchOption, OnErr, OnSome};
+    ghost use Rattle.std.specs.Prelude.{◌≡◌, ◌↔◌, ◌<◌, ◌++◌, ◌∷◌, [], None, Option, length};
+    ghost use Rattle.std.specs.Prelude.{IfOk, IfSome, IsTrue, MatchOption, OnErr, OnOk, OnSome};
     ghost use Rattle.table.specs.declared.items.Item.{Item};
     ghost use Rattle.table.specs.declared.operations.Reply.TheVariants.{Value};
     ghost use Rattle.faces.specs.Courses.{IsLater};
     ghost use Rattle.seats.specs.Replies.{ShowsClean};
-    ghost use Rattle.seats.specs.SeatPools.{IsAt, IsFreeAt};
-    ghost use Rattle.seats.specs.Submitters.{IsAnswered};
+    ghost use Rattle.seats.specs.SeatPools.{HasSameReader, HasSameSeats, IsAt, IsFreeAt, with_free, without_seats};
+    ghost use Rattle.seats.specs.Submitters.{IsAnswered, unused};
 
     /// A pool without seats, at the reader's server, which has this mark and this gauge.
     pub fn new(alloc: Global, reader: Reader, mark: Mark, gauge: Gauge) -> SeatPool
-        ensures { result ≡ reader }
+        ensures { result ≡ without_seats reader }
     {
         SeatPool {
             reader,
@@ -74,11 +78,14 @@ impl SeatPool {
         }
     }
 
-    /// Adds a seat of the same server, and makes room for whatever may become of it later. If it is refused, memory is
-    /// out, and the seat is dropped.
+    /// Adds a seat of the same server, which is free then, and makes room for whatever may become of it later. If it is
+    /// refused, memory is out, and the seat is dropped.
     pub fn add(&mut self, seat: Seat) -> Result<(), AllocError>
         requires server { seat.origin ≡ self.old.seen.origin }
-        ensures same { self.new ≡ self.old }
+        ensures added { OnOk result (self.new ≡ with_free self.old (unused seat)) }
+        ensures refused { OnErr result (self.new ≡ self.old) }
+        // Whatever the answer.
+        ensures reader { HasSameReader self.old self.new }
     {
         let seats = self.seats.saturating_add(1);
         match make_room(&mut self.free, &mut self.left, seats) {
@@ -100,7 +107,9 @@ impl SeatPool {
     }
 
     /// Whether a seat is free.
-    pub fn has_free(&self) -> bool {
+    pub fn has_free(&self) -> bool
+        ensures { IsTrue result ↔ (0 < length self.now.free) }
+    {
         !self.free.is_empty()
     }
 
@@ -110,6 +119,7 @@ impl SeatPool {
         ensures clean { IfOk result (λ found. IfSome found
             (λ reply. (item : Option Item) × (reply ≡ Value item) × ShowsClean self.new.seen call.now item)) }
         ensures looked { IfOk result (λ found. OnSome found (self.new.looks ≡ self.old.looks ++ self.new.seen ∷ [])) }
+        ensures seats { HasSameSeats self.old self.new }
     {
         let found = peek(&mut self.reader, call);
         if self.mark.is_set() {
@@ -153,7 +163,9 @@ impl SeatPool {
 
     /// Takes a free seat out, if there is one.
     pub(crate) fn take_free(&mut self) -> Option<Submitter>
-        ensures same { self.new ≡ self.old }
+        ensures reader { HasSameReader self.old self.new }
+        ensures taken { MatchOption result ((self.new ≡ self.old) × (self.old.free ≡ []))
+            (λ seat. self.old ≡ with_free self.new seat) }
         ensures free { IfSome result (IsFreeAt self.old.seen.origin) }
     {
         self.free.pop()
@@ -162,7 +174,7 @@ impl SeatPool {
     /// Takes a seat back at which no call is open.
     pub(crate) fn put(&mut self, submitter: Submitter)
         requires { IsFreeAt self.old.seen.origin submitter }
-        ensures { self.new ≡ self.old }
+        ensures { HasSameReader self.old self.new }
     {
         // There is room for each seat.
         drop(self.free.push(submitter));
@@ -171,7 +183,7 @@ impl SeatPool {
     /// Takes a seat back, for whose reply nobody waits any more.
     pub(crate) fn leave(&mut self, submitter: Submitter)
         requires { IsAt self.old.seen.origin submitter }
-        ensures { self.new ≡ self.old }
+        ensures { HasSameReader self.old self.new }
     {
         // There is room for each seat.
         drop(self.left.push_back(submitter));
@@ -187,6 +199,7 @@ impl SeatPool {
         ensures server { IsAt self.new.seen.origin submitter.new }
         ensures later { IsLater self.old.seen self.new.seen }
         ensures looks { self.new.looks ≡ self.old.looks }
+        ensures seats { HasSameSeats self.old self.new }
         ensures taken { IfOk result (λ found. MatchOption found
             ((submitter.new ≡ submitter.old) × (self.new ≡ self.old))
             (λ reply. IsAnswered self.old.seen self.new.seen submitter.old submitter.new reply)) }

@@ -9,6 +9,7 @@ ghost use Rattle.serving.specs.Serving.{CameTo};
 ghost use Rattle.serving.specs.Wanted.{IsAsking};
 ghost use Rattle.seats.specs.declared.talks.Standing.TheVariants.{Idle, Over, Unsent};
 ghost use Rattle.seats.specs.declared.talks.Went.TheVariants.{Seat};
+ghost use Rattle.seats.specs.SeatPools.{HasSameReader};
 ghost use Rattle.seats.specs.Talks.{HoldsFree, IsReplied};
 
 use crate::outcomes::{hand_on, is_refused, settle};
@@ -95,6 +96,7 @@ impl Talk {
     ghost use Rattle.faces.specs.Courses.{IsLater};
     ghost use Rattle.serving.specs.Connections.{IsBegun};
     ghost use Rattle.serving.specs.Serving.{AreAnswered};
+    ghost use Rattle.seats.specs.SeatPools.{HasSameReader};
     ghost use Rattle.seats.specs.Talks.{HasGone, HoldsStore, IsFurther, IsReplied, StandsAt, begun, fed};
     ghost use Rattle.seats.specs.declared.talks.Standing.TheVariants.{Idle, Reading, Over};
 
@@ -233,7 +235,7 @@ impl Talk {
     /// Ends it. Its seat, if it has one, goes back to the pool, which takes the reply that nobody waits for any more.
     pub fn leave(self, pool: &mut SeatPool)
         requires known { IsLater self.seen pool.old.seen }
-        ensures { pool.new ≡ pool.old }
+        ensures { HasSameReader pool.old pool.new }
     {
         let Talk {
             connection,
@@ -326,7 +328,7 @@ impl Talk {
         requires unsent { HasGone Went.Seat self.old }
         requires known { IsLater self.old.seen pool.old.seen }
         ensures same { self.new ≡ record self.old { standing = self.new.standing } }
-        ensures pool { pool.new ≡ pool.old }
+        ensures pool { HasSameReader pool.old pool.new }
         ensures went { IfOk result (λ went. HasGone went self.new) }
         ensures over { OnErr result (self.new.standing ≡ Over) }
     {
@@ -429,7 +431,7 @@ fn stand_at(standing: &mut Standing, next: Standing)
 fn give_back(standing: &mut Standing, pool: &mut SeatPool)
     requires { HoldsFree pool.old.seen.origin standing.old }
     ensures standing { standing.new ≡ Over }
-    ensures pool { pool.new ≡ pool.old }
+    ensures pool { HasSameReader pool.old pool.new }
 {
     match mem::replace(standing, Standing::Over) {
         Standing::Sent(submitter) => pool.put(submitter),

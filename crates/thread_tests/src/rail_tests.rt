@@ -90,7 +90,7 @@ pub(crate) fn first_of<R: Wait + Drop>(
     requires { (1 ≤ readers) × (readers ≤ 16) }
 {
     let node = idle_node(alloc, count)?;
-    open(rt, alloc, node, readers, 1)
+    open(rt, alloc, node, readers, 0, 1)
 }
 
 pub(crate) fn last<T>(list: &mut Vec<T>) -> Result<T, RailFault> {

@@ -1,4 +1,4 @@
-use Rattle.std.proofs.Common.{◌∙◌, sym, ap, subst, true, length, List, []}
+use Rattle.std.proofs.Common.{◌∙◌, ◌+◌, sym, ap, subst, true, length, List, []}
 use Rattle.node.specs.declared.messages.Input.{Input}
 use Rattle.node.specs.Replies.{AreOpenBelow}
 use Rattle.node.specs.Runs.{after}
@@ -13,14 +13,16 @@ pub new-worker-requires-clause-ports : goal.new-worker-requires-clause-ports
 new-worker-requires-clause-ports g c =
     let made = c.in-Ok-beside.ensures in
     ap (λ (v : Ticket). v.ports) c.close.ensures
-    ∙ (made.gate.0 ∙ sym (ap length made.posts ∙ length_opened c.in-Ok.publisher.published.origin 0 c.args.readers))
+    ∙ (made.gate.0
+    ∙ sym (ap length made.posts
+    ∙ length_opened c.in-Ok.publisher.published.origin 0 (c.args.readers + c.args.more)))
 
 pub new-worker-requires-clause-posts : goal.new-worker-requires-clause-posts
 new-worker-requires-clause-posts g c =
     let same = sym c.beside.ensures.publisher in
     let posts = sym c.in-Ok-beside.ensures.posts in
     subst (λ (x : Publishing × List PostState). ArePosts x.0.published.origin 0 x.1) (λ i. (same i, posts i))
-    (are_opened c.in-Ok.publisher.published.origin 0 c.args.readers)
+    (are_opened c.in-Ok.publisher.published.origin 0 (c.args.readers + c.args.more))
 
 pub new-worker-requires-clause-open : goal.new-worker-requires-clause-open
 new-worker-requires-clause-open g c =
@@ -47,5 +49,6 @@ returns-in-Ok-beside g c =
             posts = made.posts i;
           });
       stands = made.stands;
+      seats = made.seats;
       brought_by = made.inlets;
     }

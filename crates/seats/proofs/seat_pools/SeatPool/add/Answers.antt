@@ -1,7 +1,6 @@
 use Rattle.std.proofs.Common.{◌∷◌, ◌++◌, ◌∙◌, [], List, ap, arith}
 use Rattle.std.proofs.lemmas.List.Elements.{All-push, All-same}
-use Rattle.faces.specs.Readers.{Looking}
-use Rattle.seats.specs.SeatPools.{IsAt, IsFreeAt}
+use Rattle.seats.specs.SeatPools.{IsAt, IsFreeAt, Pooling}
 use Rattle.seats.specs.Submitters.{Submitting}
 use Rattle.seats.proofs.Pooled.{added}
 use Rattle.seats.proofs.seat_pools.SeatPool.add.Goals as goal
@@ -16,7 +15,7 @@ invariant_of-self c =
           (s.free.items ++ c.new.result ∷ []) pushed
           (All-push (IsFreeAt s.reader.seen.origin) s.free.items c.new.result c.self.invariant.are_free
           (added s.reader.seen c.args.self.now.seen c.args.seat c.new.result c.new.ensures c.requires.server
-          (ap (λ (l : Looking). l.seen) c.self.view_is)));
+          (ap (λ (p : Pooling). p.seen) c.self.view_is)));
       are_left = All-same (IsAt s.reader.seen.origin) c.make_room.new.left.items s.left.items c.make_room.ensures.left
           c.self.invariant.are_left;
       frees = omega (arith, c.in-Ok.ensures.all, c.push_reserved.ensures.capacity);

@@ -1,6 +1,5 @@
 use Rattle.std.proofs.Common.{ap, arith, is_ok}
-use Rattle.faces.specs.Readers.{Looking}
-use Rattle.seats.specs.SeatPools.{IsAt}
+use Rattle.seats.specs.SeatPools.{IsAt, Pooling}
 use Rattle.seats.proofs.Pooled.{all_pushed, at_reader}
 use Rattle.seats.proofs.seat_pools.SeatPool.leave.Goals as goal
 
@@ -12,7 +11,7 @@ invariant_of-self c =
       are_left = all_pushed (IsAt s.reader.seen.origin) (is_ok c.push_back.result) s.left.items
           c.push_back.new.self.items c.args.submitter c.push_back.ensures.items c.self.invariant.are_left
           (at_reader IsAt s.reader.seen c.args.self.now.seen c.args.submitter
-          (ap (λ (l : Looking). l.seen) c.self.view_is) c.requires);
+          (ap (λ (p : Pooling). p.seen) c.self.view_is) c.requires);
       frees = c.self.invariant.frees;
       leaves = omega (arith, c.self.invariant.leaves, c.push_back.ensures.capacity);
     }

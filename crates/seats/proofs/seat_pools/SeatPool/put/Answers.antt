@@ -1,6 +1,5 @@
 use Rattle.std.proofs.Common.{ap, arith, is_ok}
-use Rattle.faces.specs.Readers.{Looking}
-use Rattle.seats.specs.SeatPools.{IsFreeAt}
+use Rattle.seats.specs.SeatPools.{IsFreeAt, Pooling}
 use Rattle.seats.proofs.Pooled.{all_pushed, at_reader}
 use Rattle.seats.proofs.seat_pools.SeatPool.put.Goals as goal
 
@@ -11,7 +10,7 @@ invariant_of-self c =
       are_free = all_pushed (IsFreeAt s.reader.seen.origin) (is_ok c.push.result) s.free.items c.push.new.self.items
           c.args.submitter c.push.ensures.items c.self.invariant.are_free
           (at_reader IsFreeAt s.reader.seen c.args.self.now.seen c.args.submitter
-          (ap (λ (l : Looking). l.seen) c.self.view_is) c.requires);
+          (ap (λ (p : Pooling). p.seen) c.self.view_is) c.requires);
       are_left = c.self.invariant.are_left;
       frees = omega (arith, c.self.invariant.frees, c.push.ensures.capacity);
       leaves = c.self.invariant.leaves;

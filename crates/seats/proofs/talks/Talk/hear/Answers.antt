@@ -1,7 +1,6 @@
 use Rattle.std.proofs.Common.{◌∙◌, true, ap, sym, subst}
 use Rattle.proto.specs.Turns.{Replied}
 use Rattle.faces.specs.Courses.{IsLater}
-use Rattle.faces.specs.Readers.{Looking}
 use Rattle.seats.specs.Talks.{IsTalk, Talking}
 use Rattle.seats.specs.declared.talks.Standing.{Standing}
 use Rattle.seats.proofs.Seated.{later_same}
@@ -54,4 +53,4 @@ invariant_of-self-in-Ok-Some g c =
     c.self.invariant c.in-Sent.is
     (subst (λ (t : Talking). IsLater t.seen c.args.pool.now.seen) (sym c.self.view_is) c.requires.known) found.taken
     c.in_ok-hand_on-in-Ok-Some.ensures.ok.0
-    (c.in_ok-hand_on-in-Ok-Some.ensures.ok.1 ∙ ap (λ (l : Looking). l.seen) c.give_back.ensures.pool))
+    (c.in_ok-hand_on-in-Ok-Some.ensures.ok.1 ∙ c.give_back.ensures.pool.0))
