@@ -21,6 +21,7 @@ pub(crate) fn is_refused(pool: &SeatPool, call: &Call) -> bool
 
 /// Has the call that waits answered by a look, or refuses it: then it isn't looked at. Whether either came of it. It is
 /// an error if the server is marked, or memory is out.
+#[tactic(auto, using(crate::proofs::Seated::later_then, crate::proofs::TalkLaws::known_now, crate::proofs::TalkLaws::peeked_came))]
 pub(crate) fn settle(
     connection: &mut Connection,
     seen: &mut Told,
