@@ -34,12 +34,15 @@ pub struct PeerLinks<W> {
 }
 
 impl<W: Sink + Drop> PeerLink<W> {
-    ghost use Rattle.std.specs.Prelude.{◌≡◌, ◌⊎◌, ◌++◌, true, IfErr, OnOk, OnErr};
+    ghost use Rattle.std.specs.Prelude.{◌≡◌, ◌⊎◌, ◌++◌, true, is_none, IfErr, OnOk, OnErr};
     ghost use Rattle.wire.specs.Spellings.{IsInRange, spelling};
     ghost use Rattle.links.specs.PeerLinks.{written_by};
 
     /// A link that hasn't failed, or has if there is no sink.
-    pub fn new(sink: Option<W>) -> PeerLink<W> {
+    pub fn new(sink: Option<W>) -> PeerLink<W>
+        ensures sink { result.sink ≡ sink }
+        ensures failed { result.has_failed ≡ is_none sink }
+    {
         let has_failed = sink.is_none();
         PeerLink { sink, has_failed }
     }
@@ -78,8 +81,11 @@ impl<W: Sink + Drop> PeerLink<W> {
 }
 
 impl<W: Sink + Drop> PeerLinks<W> {
-    /// The links to these servers, over which nothing was put.
-    pub fn new(alloc: Global, links: Vec<PeerLink<W>>) -> PeerLinks<W> {
+    /// The links to these servers, each at the place of its server's id, over which nothing was put.
+    pub fn new(alloc: Global, links: Vec<PeerLink<W>>) -> PeerLinks<W>
+        ensures list { result.puts ≡ [] }
+        ensures links { result.links.items ≡ links.items }
+    {
         PeerLinks {
             alloc,
             links,

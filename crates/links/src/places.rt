@@ -14,7 +14,9 @@ impl Places {
     ghost use Rattle.links.specs.Places.{waiting};
 
     /// An inlet for each server by its id, and none for the server itself.
-    pub fn new(servers: Vec<Option<Inlet>>) -> Places {
+    pub fn new(servers: Vec<Option<Inlet>>) -> Places
+        ensures { (j : ℕ) → waiting result j ≡ at_place servers.items j }
+    {
         Places { servers }
     }
 

@@ -5,8 +5,9 @@ use Rattle.table.specs.declared.operations.Call.{Call}
 use Rattle.table.specs.declared.operations.Reply.{Reply}
 use Rattle.table.specs.declared.operations.Reply.TheVariants.{Value}
 use Rattle.node.specs.Lawful.{IsCall}
-use Rattle.proto.specs.Turns.{Outcome, is_store}
+use Rattle.proto.specs.Turns.{Outcome, Refused, Replied, is_store}
 use Rattle.faces.specs.Courses.{Course, IsLater, Origin}
+use Rattle.faces.specs.Readers.{Looking}
 use Rattle.rail.specs.Seats.{SeatState}
 use Rattle.serving.specs.declared.connections.Wants.TheVariants.{Read, Write, End as Ends}
 use Rattle.serving.specs.Connections.{Connected, unused}
@@ -48,6 +49,12 @@ abbrev pub IsReplied : Course → Call → Reply → Course → Type 0
 IsReplied before call reply after =
     IsPeeked before after call reply
     ⊎ ((seat : SeatState) × (then : SeatState) × IsSubmitted before after seat then call reply)
+
+-- What was looked at for a call that came to this at once: for a reply the face that stood, once, and nothing for a
+-- refusal.
+abbrev pub HasLookedFor : Outcome → Looking → Looking → Type 0
+HasLookedFor (Replied reply) before after = after.looks ≡ before.looks ++ after.seen ∷ []
+HasLookedFor Refused before after = after ≡ before
 
 -- Its connection waits for no call, and may want input; or for this one, which waits for a seat, or is open at this
 -- seat of its server.

@@ -33,14 +33,17 @@ pub struct InProcessLinks<R: Wait + Drop> {
 }
 
 impl Link {
-    ghost use Rattle.std.specs.Prelude.{◌≡◌, ◌∷◌, ◌++◌, [], true, OnOk, OnErr, IfErr};
+    ghost use Rattle.std.specs.Prelude.{◌≡◌, ◌∷◌, ◌++◌, [], true, is_none, OnOk, OnErr, IfErr};
     ghost use Rattle.node.specs.Lawful.{IsBody};
     ghost use Rattle.node.specs.declared.messages.Input.TheVariants.{From};
     ghost use Rattle.rail.specs.declared.events.Event.TheVariants.{Took};
     ghost use Rattle.seats.specs.InProcessLinks.{sent_by};
 
     /// A link that hasn't failed, or has if there is no inlet.
-    pub fn new(inlet: Option<Inlet>) -> Link {
+    pub fn new(inlet: Option<Inlet>) -> Link
+        ensures inlet { result.inlet ≡ inlet }
+        ensures failed { result.has_failed ≡ is_none inlet }
+    {
         let has_failed = inlet.is_none();
         Link { inlet, has_failed }
     }
@@ -68,8 +71,12 @@ impl Link {
 }
 
 impl<R: Wait + Drop> InProcessLinks<R> {
-    /// The links of server `id`, over which nothing was put.
-    pub fn new(rt: R, id: u8, links: Vec<Link>) -> InProcessLinks<R> {
+    /// The links of server `id`, each at the place of the id of the server it goes to, over which nothing was put.
+    pub fn new(rt: R, id: u8, links: Vec<Link>) -> InProcessLinks<R>
+        ensures id { result.id ≡ id }
+        ensures list { result.receivers ≡ [] }
+        ensures links { result.links.items ≡ links.items }
+    {
         InProcessLinks {
             rt,
             id,

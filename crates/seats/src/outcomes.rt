@@ -5,7 +5,7 @@ ghost use Rattle.faces.specs.Courses.{IsLater};
 ghost use Rattle.serving.specs.Connections.{HasOutcome, MayHave};
 ghost use Rattle.serving.specs.Serving.{CameTo};
 ghost use Rattle.serving.specs.Wanted.{IsAsking};
-ghost use Rattle.seats.specs.Talks.{IsReplied};
+ghost use Rattle.seats.specs.Talks.{HasLookedFor, IsReplied};
 
 use crate::seat_pools::SeatPool;
 use rail::Told;
@@ -21,6 +21,7 @@ pub(crate) fn is_refused(pool: &SeatPool, call: &Call) -> bool
 
 /// Has the call that waits answered by a look, or refuses it: then it isn't looked at. Whether either came of it. It is
 /// an error if the server is marked, or memory is out.
+#[tactic(auto, using(crate::proofs::Seated::later_then, crate::proofs::TalkLaws::known_now, crate::proofs::TalkLaws::peeked_came))]
 pub(crate) fn settle(
     connection: &mut Connection,
     seen: &mut Told,
@@ -35,6 +36,10 @@ pub(crate) fn settle(
         ((outcome : Outcome) × CameTo IsReplied seen.old call.now outcome seen.new ×
         HasOutcome outcome connection.old connection.new)
         ((connection.new ≡ connection.old) × (seen.new ≡ seen.old))) }
+    // A reply that is handed on here is of the face that stood, and it was looked at once.
+    ensures looked { IfOk result (λ settled. IsTrue settled →
+        (outcome : Outcome) × HasOutcome outcome connection.old connection.new ×
+        HasLookedFor outcome pool.old pool.new) }
     ensures err { OnErr result ((seen.new ≡ seen.old) ×
         (connection.new ≡ record connection.old { failed = connection.new.failed })) }
 {
