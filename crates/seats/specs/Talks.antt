@@ -7,7 +7,6 @@ use Rattle.table.specs.declared.operations.Reply.TheVariants.{Value}
 use Rattle.node.specs.Lawful.{IsCall}
 use Rattle.proto.specs.Turns.{Outcome, Refused, Replied, is_store}
 use Rattle.faces.specs.Courses.{Course, IsLater, Origin}
-use Rattle.faces.specs.Readers.{Looking}
 use Rattle.rail.specs.Seats.{SeatState}
 use Rattle.serving.specs.declared.connections.Wants.TheVariants.{Read, Write, End as Ends}
 use Rattle.serving.specs.Connections.{Connected, unused}
@@ -18,7 +17,7 @@ use Rattle.seats.specs.declared.talks.Standing.TheVariants.{Idle, Reading, Unsen
 use Rattle.seats.specs.declared.talks.Went.{Went}
 use Rattle.seats.specs.declared.talks.Went.TheVariants.{Input, Write as Writes, Seat, Reply as Waits, More, End}
 use Rattle.seats.specs.Replies.{IsSubmitted, ShowsClean}
-use Rattle.seats.specs.SeatPools.{IsFreeAt}
+use Rattle.seats.specs.SeatPools.{IsFreeAt, Pooling}
 use Rattle.seats.specs.Submitters.{Submitting}
 
 -- What has come of a connection; where it stands; and what its reader had seen at first, and when its last call had its
@@ -52,7 +51,7 @@ IsReplied before call reply after =
 
 -- What was looked at for a call that came to this at once: for a reply the face that stood, once, and nothing for a
 -- refusal.
-abbrev pub HasLookedFor : Outcome → Looking → Looking → Type 0
+abbrev pub HasLookedFor : Outcome → Pooling → Pooling → Type 0
 HasLookedFor (Replied reply) before after = after.looks ≡ before.looks ++ after.seen ∷ []
 HasLookedFor Refused before after = after ≡ before
 
