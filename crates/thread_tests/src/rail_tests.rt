@@ -501,9 +501,11 @@ fn senders_go_first(rt: HostRuntime) -> Result<(), Fail> {
     let Server {
         mut worker,
         stands,
+        seats,
         inlets,
     } = first_of(rt, rt.alloc(), 2, 1)?;
     drop(stands);
+    drop(seats);
     drop(inlets);
     assert!(rt; turn(&mut worker) == Err(RailFault::Closed));
     Ok(())
