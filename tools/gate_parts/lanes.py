@@ -278,9 +278,9 @@ def in_lanes(plan, told=None):
 
 
 def played(plan, running=None, done=(), seconds=None):
-    """Plays the lanes on the clock of the costs, or of these seconds: the seconds on the clock, the processor seconds and
-    the bytes held at most of all tasks, or of what is left if some are `done` and some running ({key: (jobs, seconds since
-    it began)})."""
+    """Plays the lanes on the clock of the costs, or of these seconds: the seconds on the clock, the processor seconds
+    and the bytes held at most of all tasks, or of what is left if some are `done` and some running ({key: (jobs,
+    seconds since it began)})."""
     now, used, most, running, seconds = 0.0, 0.0, 0.0, running or {}, seconds or plan.seconds
     ends = [(max(0.0, seconds[key] / SPEED[jobs] - gone), str(key), key) for key, (jobs, gone) in running.items()]
     heapq.heapify(ends)

@@ -18,8 +18,8 @@ use std::sync::{Arc, Wait};
 use wire::Frame;
 
 /// One who was accepted there. Its frames are brought to the server as long as it keeps the rules (`Speaker::hear`),
-/// and each notice is answered as soon as it was brought, each order as soon as the lease has heard it. If a notice or a
-/// message calls the server itself gone, the server is ended.
+/// and each notice is answered as soon as it was brought, each order as soon as the lease has heard it. If a notice or
+/// a message calls the server itself gone, the server is ended.
 #[derive(Drop)]
 pub struct Guest<C, W> {
     alloc: Global,

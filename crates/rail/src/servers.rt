@@ -32,8 +32,8 @@ pub struct Server<R: Wait + Drop> {
 
 /// Opens a server that begins as this node: a worker, a reader and a seat for each of n threads, at ports 0, 1 and so
 /// on, further seats at the ports after those, and inlets. Its node may hold items already. Refused with NoReader if
-/// its publisher could make no reader, and otherwise with Memory. Each publish takes time linear in the readers, and not
-/// in the seats.
+/// its publisher could make no reader, and otherwise with Memory. Each publish takes time linear in the readers, and
+/// not in the seats.
 pub fn open<R: Wait + Drop>(
     rt: R,
     alloc: Global,

@@ -180,8 +180,8 @@ abbrev pub sets_exchanged : List Entry
 sets_exchanged = entry (name 1 0) (set_of (codes "b") (codes "q")) Stored ∷ entry (name 0 0)
     (set_of (codes "a") (codes "p")) Stored ∷ []
 
--- ---- Two servers, two clients of the tail. Each client's set, on a key of its own, is on its way to the head before the
--- ---- other is answered.
+-- ---- Two servers, two clients of the tail. Each client's set, on a key of its own, is on its way to the head before
+-- ---- the other is answered.
 
 abbrev pub flight_homes : List ℕ
 flight_homes = 1 ∷ 1 ∷ []
