@@ -8,3 +8,4 @@ pub mod Runs
 pub mod Served
 pub mod Late
 pub mod Passes
+pub mod Sparing

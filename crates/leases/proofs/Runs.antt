@@ -14,8 +14,8 @@ use Rattle.leases.specs.Leases.{Look, Notice, Pair, IsSound, IsNoticeByRule}
 use Rattle.leases.specs.Holding.{unheld, holds, Hearing, Hears, hears, IsHeldBy}
 use Rattle.leases.specs.Watching.{WatchState, done, due, heard_at, happen}
 use Rattle.leases.specs.Runs.{Event, At, events_by, lease_after, IsRun, IsBrought}
-use Rattle.leases.specs.Runs.{Doing, Answered, Refused, Asked, doing_by, watch_after, counted, heard_by, heard_after}
-use Rattle.leases.specs.Runs.{SaysSilent, IsCalledSilent}
+use Rattle.leases.specs.Runs.{Doing, Answered, Refused, Asked, Spared, doing_by, watch_after}
+use Rattle.leases.specs.Runs.{counted, heard_by, heard_after, SaysSilent, IsCalledSilent}
 use Rattle.leases.proofs.Looks.{look_before_telling}
 use Rattle.leases.proofs.Holders.{held_by_a_beat}
 use Rattle.leases.proofs.Tellings.{tells_by_rule}
@@ -144,6 +144,7 @@ term-does : (clock : Clock) (w : WatchState) (d : Doing) → (happen w (doing_by
 term-does clock w (Answered x stamp) = term-heard w.standing w stamp (clock x)
 term-does clock w Refused = refl
 term-does clock w (Asked x whole) = term-done w (clock x) (due w whole (clock x))
+term-does clock w Spared = refl
 
 term-after : (clock : Clock) (ds : List Doing) (w : WatchState) → (watch_after clock w ds).term ≡ w.term
 term-after clock [] w = refl
@@ -187,6 +188,7 @@ heard-does : (clock : Clock) (w : WatchState) (heard : ℕ) (d : Doing)
 heard-does clock w heard (Answered x stamp) falls is = heard-counts clock w.standing w heard x stamp falls is
 heard-does clock w heard Refused falls is = is
 heard-does clock w heard (Asked x whole) falls is = heard-done w (clock x) (due w whole (clock x)) ∙ is
+heard-does clock w heard Spared falls is = is
 
 heard-after : (clock : Clock) (ds : List Doing) (w : WatchState) (heard : ℕ)
     → NeverFalls clock

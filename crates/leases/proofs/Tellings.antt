@@ -9,7 +9,8 @@ use Rattle.leases.specs.declared.watches.Deed.{Deed}
 use Rattle.leases.specs.declared.watches.Deed.TheVariants.{Wait, Beat, TellServer, TellSilent, TellGone}
 use Rattle.leases.specs.Clocks.{IsSurelyOver, wait_for}
 use Rattle.leases.specs.Watching.{WatchState, due, done, watched_due, told_due, standing_due, gives_up, brought}
-use Rattle.leases.specs.Watching.{heard_at, answered, happen, happens, Happening, Answers, Refuses, Asks, IsRefused}
+use Rattle.leases.specs.Watching.{heard_at, answered, spared_watch, happen, happens}
+use Rattle.leases.specs.Watching.{Happening, Answers, Refuses, Asks, Spares, IsRefused}
 
 -- who waits so long has waited long enough
 pub over_after : (term silence : ℕ) → wait_for term ≤ silence → IsSurelyOver term silence
@@ -124,6 +125,8 @@ gone_by_refusal (Refuses ∷ xs) w going is = record { before = []; after = xs; 
 gone_by_refusal (Asks whole now ∷ xs) w going is =
     refused_later (Asks whole now) xs
     (gone_by_refusal xs (done w now (due w whole now)) (going_done w now (due w whole now) going) is)
+gone_by_refusal (Spares ∷ xs) w going is =
+    refused_later Spares xs (gone_by_refusal xs (spared_watch w) going is)
 
 pub tells_after_refusal : (w : WatchState) (xs : List Happening) (whole : Bool) (now : ℕ)
     → w.standing ≢ Gone
@@ -152,6 +155,7 @@ heard_grows w (Answers stamp now) = by_standing w.standing w stamp now
 heard_grows w Refuses = omega arith
 heard_grows w (Asks whole now) =
     let same : (done w now (due w whole now)).heard ≡ w.heard = heard-done w now (due w whole now) in omega arith
+heard_grows w Spares = omega arith
 
 pub heard_rises : (w : WatchState) (xs : List Happening) → w.heard ≤ (happens w xs).heard
 heard_rises w [] = omega arith
@@ -179,6 +183,7 @@ stays_once w (Answers stamp now) left = by_standing w.standing w stamp now left
     by_standing Gone w stamp now left = left
 stays_once w Refuses left = λ same. let no : ⊥ = cc in no
 stays_once w (Asks whole now) left = stays_done w now (due w whole now) left
+stays_once w Spares left = left
 
 stays_left : (w : WatchState) (xs : List Happening) → w.standing ≢ Watched → (happens w xs).standing ≢ Watched
 stays_left w [] left = left

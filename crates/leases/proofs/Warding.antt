@@ -7,8 +7,9 @@ use Rattle.leases.specs.declared.watches.Deed.TheVariants.{Beat}
 use Rattle.leases.specs.Sets.{has, is_apart}
 use Rattle.leases.specs.Watching.{done}
 use Rattle.leases.specs.Rolls.{RollState, enters, is_whole}
-use Rattle.leases.specs.Wards.{WardState, begun, lost, named, is_of, reported, heard_it, heard_other, heard_from}
-use Rattle.leases.specs.Wards.{deed_of, Call, Hears, Loses, Asks, called, calls, HasReported, HasKnown}
+use Rattle.leases.specs.Wards.{WardState, begun, lost, spared, named, is_of, reported, heard_it, heard_other}
+use Rattle.leases.specs.Wards.{heard_from, deed_of, Call, Hears, Loses, Asks, Spares, called, calls}
+use Rattle.leases.specs.Wards.{HasReported, HasKnown}
 use Rattle.leases.proofs.Bits.{either_has, none_has}
 use Rattle.leases.proofs.Whole.{own-enters, others-enters, known-enters, one_of}
 use Rattle.leases.proofs.Tellings.{brings_last}
@@ -19,8 +20,9 @@ kept : (f : WardState → ℕ)
     → ((w : WardState) (report : Report) (now : ℕ) → f (heard_it w report now) ≡ f w)
     → ((w : WardState) (from : ℕ) (report : Report) → f (heard_other w from report) ≡ f w)
     → ((w : WardState) (now : ℕ) → f (record w { watch = done w.watch now (deed_of w now) }) ≡ f w)
+    → ((w : WardState) → f (spared w) ≡ f w)
     → (w : WardState) (x : Call) → f (called w x) ≡ f w
-kept f loses it other asks w (Hears from report now) = hears w from report now
+kept f loses it other asks spares w (Hears from report now) = hears w from report now
   where
     by_name : (apart : Bool) (w : WardState) → f (if apart then w else lost w) ≡ f w
     by_name true w = refl
@@ -34,8 +36,9 @@ kept f loses it other asks w (Hears from report now) = hears w from report now
     hears : (w : WardState) (from : ℕ) (report : Report) (now : ℕ) → f (heard_from w from report now) ≡ f w
     hears w from report now =
         by_mine (nat_eq from w.id) (named w report) from report now ∙ by_name (is_apart report.gone w.own) w
-kept f loses it other asks w Loses = loses w
-kept f loses it other asks w (Asks now) = asks w now
+kept f loses it other asks spares w Loses = loses w
+kept f loses it other asks spares w (Asks now) = asks w now
+kept f loses it other asks spares w Spares = spares w
 
 -- a report of the server itself changes of the roll only whom it knew
 roll_it : (f : RollState → ℕ)
@@ -91,22 +94,22 @@ field_other f same n from report = by_first (is_of n report && is_apart n.seen (
 id-called : (w : WardState) (x : Call) → (called w x).id ≡ w.id
 id-called =
     kept (λ w. w.id) (λ w. refl) (field_it (λ w. w.id) (λ w report now. refl) (λ w end. refl))
-    (field_other (λ w. w.id) (λ w seen roll. refl)) (λ w now. refl)
+    (field_other (λ w. w.id) (λ w seen roll. refl)) (λ w now. refl) (λ w. refl)
 
 reign-called : (w : WardState) (x : Call) → (called w x).reign ≡ w.reign
 reign-called =
     kept (λ w. w.reign) (λ w. refl) (field_it (λ w. w.reign) (λ w report now. refl) (λ w end. refl))
-    (field_other (λ w. w.reign) (λ w seen roll. refl)) (λ w now. refl)
+    (field_other (λ w. w.reign) (λ w seen roll. refl)) (λ w now. refl) (λ w. refl)
 
 own-called : (w : WardState) (x : Call) → (called w x).roll.own ≡ w.roll.own
 own-called =
     kept (λ w. w.roll.own) (λ w. refl) (roll_it (λ r. r.own) (λ roll known. refl))
-    (roll_other (λ r. r.own) own-enters) (λ w now. refl)
+    (roll_other (λ r. r.own) own-enters) (λ w now. refl) (λ w. refl)
 
 others-called : (w : WardState) (x : Call) → (called w x).roll.others ≡ w.roll.others
 others-called =
     kept (λ w. w.roll.others) (λ w. refl) (roll_it (λ r. r.others) (λ roll known. refl))
-    (roll_other (λ r. r.others) others-enters) (λ w now. refl)
+    (roll_other (λ r. r.others) others-enters) (λ w now. refl) (λ w. refl)
 
 others-calls : (xs : List Call) (w : WardState) → (calls w xs).roll.others ≡ w.roll.others
 others-calls [] w = refl
@@ -164,6 +167,7 @@ entered_at_first : (w : WardState) (own reign id : ℕ) (x : Call) (xs : List Ca
     → (has w.roll.entered id ≡ true) ⊎ HasReported own reign (x ∷ xs) id
 entered_at_first w own reign id Loses xs is_own is_reign entered = inl entered
 entered_at_first w own reign id (Asks now) xs is_own is_reign entered = inl entered
+entered_at_first w own reign id Spares xs is_own is_reign entered = inl entered
 entered_at_first w own reign id (Hears from report now) xs is_own is_reign entered =
     by_name (is_apart report.gone w.own) (nat_eq from w.id) entered
   where
@@ -238,6 +242,7 @@ known_at_first : (w : WardState) (me id : ℕ) (x : Call) (xs : List Call)
     → (has w.roll.known id ≡ true) ⊎ HasKnown me (x ∷ xs) id
 known_at_first w me id Loses xs is known = inl known
 known_at_first w me id (Asks now) xs is known = inl known
+known_at_first w me id Spares xs is known = inl known
 known_at_first w me id (Hears from report now) xs is known =
     by_name (is_apart report.gone w.own) (nat_eq from w.id) refl known
   where

@@ -8,7 +8,7 @@ use Rattle.leases.specs.declared.watches.Deed.TheVariants.{TellSilent}
 use Rattle.leases.specs.Clocks.{Clock}
 use Rattle.leases.specs.Leases.{Beat, Look, Pair, Notice, IsBeatByRule}
 use Rattle.leases.specs.Holding.{LeaseState, unheld, holds, Hearing, Hears, hears}
-use Rattle.leases.specs.Watching.{WatchState, Happening, Answers, Refuses, Asks, happen, due}
+use Rattle.leases.specs.Watching.{WatchState, Happening, Answers, Refuses, Asks, Spares, happen, due}
 
 -- An order that a server heard at an instant, while it knew these to be gone.
 pub data Event : Type 0 where
@@ -51,12 +51,14 @@ pub data Doing : Type 0 where
   Answered : ℕ → ℕ → Doing
   Refused : Doing
   Asked : ℕ → Bool → Doing
+  Spared : Doing
 
 -- what that is by the master's clock
 abbrev pub doing_by : Clock → Doing → Happening
 doing_by clock (Answered x stamp) = Answers stamp (clock x)
 doing_by clock Refused = Refuses
 doing_by clock (Asked x whole) = Asks whole (clock x)
+doing_by clock Spared = Spares
 
 -- what the watch knows after these
 abbrev pub watch_after : Clock → WatchState → List Doing → WatchState
@@ -74,6 +76,7 @@ abbrev pub heard_by : Standing → ℕ → Doing → ℕ
 heard_by standing heard (Answered x stamp) = counted standing heard x
 heard_by standing heard Refused = heard
 heard_by standing heard (Asked x whole) = heard
+heard_by standing heard Spared = heard
 
 abbrev pub heard_after : Clock → WatchState → ℕ → List Doing → ℕ
 heard_after clock w heard [] = heard

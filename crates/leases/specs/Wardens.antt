@@ -1,11 +1,12 @@
 -- The master's side: all that it decides, by its claim to a reign and a ward for each server.
-use Rattle.std.specs.Prelude.{ℕ, ◌-◌, ◌^◌, bit_or, Bool, true, false, not, ◌&&◌, List, map, slice_index_or, slice_set}
+use Rattle.std.specs.Prelude.{ℕ, ◌+◌, ◌-◌, ◌/◌, ◌^◌, max, bit_or, nat_le, Bool, true, false, not, ◌&&◌, if◌then◌else◌}
+use Rattle.std.specs.Prelude.{List, map, slice_index_or, slice_set}
 use Rattle.std.specs.List.{range_with_len}
 use Rattle.leases.specs.declared.orders.Report.{Report}
 use Rattle.leases.specs.declared.wards.Due.{Due}
 use Rattle.leases.specs.Sets.{has_all}
 use Rattle.leases.specs.Watching.{done}
-use Rattle.leases.specs.Wards.{WardState, unmet, begun, lost, heard_from, deed_of, due_for}
+use Rattle.leases.specs.Wards.{WardState, unmet, begun, lost, spared, heard_from, deed_of, due_for}
 use Rattle.leases.specs.Claims.{ClaimState, unclaimed, informed, is_reigning, is_due, claimed}
 
 -- What a master knows. Server i is the bit of value 2^i; times are what the master's clock shows.
@@ -17,6 +18,12 @@ pub record WardenState : Type 0 where
   pub chain : ℕ
   -- those that told how they are, or are gone
   pub met : ℕ
+  -- if nobody was heard for so long it is cut off
+  pub patience : ℕ
+  -- when anybody was heard for the last time, or it was late itself
+  pub heard : ℕ
+  -- when it asked for the last time what is due
+  pub asked : ℕ
 
 -- all servers of a chain of n servers
 abbrev pub all_of : ℕ → ℕ
@@ -34,6 +41,10 @@ unmet_in servers beat after id = unmet id (others_of servers id) beat after
 abbrev pub unmet_below : ℕ → ℕ → ℕ → ℕ → List WardState
 unmet_below servers beat after count = map (unmet_in servers beat after) (range_with_len 0 count)
 
+-- for how long nobody is heard before it is cut off: a beat, and half of what a silence is longer than that
+abbrev pub patience_of : ℕ → ℕ → ℕ
+patience_of beat after = beat + (after - beat) / 2
+
 -- it has just started
 abbrev pub started : ℕ → ℕ → ℕ → ℕ → ℕ → WardenState
 started name servers beat after now = record {
@@ -41,6 +52,9 @@ started name servers beat after now = record {
   wards = unmet_below servers beat after servers;
   chain = all_of servers;
   met = 0;
+  patience = patience_of beat after;
+  heard = now;
+  asked = now;
 }
 
 -- what is known of a server that the chain hasn't
@@ -59,12 +73,29 @@ all_heard wards from report now = map (λ w. heard_from w from report now) wards
 abbrev pub all_begun : List WardState → ℕ → List WardState
 all_begun wards reign = map (λ w. begun w reign) wards
 
+-- each server is spared: it isn't called silent before it answers once more
+abbrev pub all_spared : List WardState → List WardState
+all_spared wards = map (λ w. spared w) wards
+
+-- it asked what is due too long ago, so beats went out too late
+abbrev pub is_late : WardenState → ℕ → Bool
+is_late m now = nat_le m.patience (now - m.asked)
+
+-- It is cut off: nobody was heard for too long, though beats went out in time.
+abbrev pub is_cut_off : WardenState → ℕ → Bool
+is_cut_off m now = nat_le m.patience (now - m.heard) && not (is_late m now)
+
+-- once it is cut off, it spares each server
+abbrev pub sparing : WardenState → ℕ → WardenState
+sparing m now = record m { wards = (if is_cut_off m now then all_spared m.wards else m.wards) }
+
 -- a server told how it is: the claim learns it by the end of the lease that was known before
 abbrev pub heard_by : WardenState → ℕ → Report → ℕ → WardenState
 heard_by m from report now = record m {
   claim = informed m.claim report (ward m.wards from).end now;
   wards = all_heard m.wards from report now;
   met = bit_or m.met (bit_or (2 ^ from) report.gone);
+  heard = max m.heard now;
 }
 
 -- another reign has followed that of a master which reigned, or didn't, before it learned that
@@ -80,9 +111,10 @@ stood_down m true = record m { wards = all_begun m.wards 0 }
 abbrev pub is_followed_by : WardenState → ℕ → Report → ℕ → Bool
 is_followed_by m from report now = is_followed (is_reigning m.claim) (heard_by m from report now).claim
 
--- a server told how it is
+-- a server told how it is, once each is spared if the master was cut off
 abbrev pub told : WardenState → ℕ → Report → ℕ → WardenState
-told m from report now = stood_down (heard_by m from report now) (is_followed_by m from report now)
+told m from report now =
+    stood_down (heard_by (sparing m now) from report now) (is_followed_by (sparing m now) from report now)
 
 -- it is to take a new reign
 abbrev pub may_claim : WardenState → ℕ → Bool
@@ -103,9 +135,17 @@ given_up m id = record m {
 abbrev pub due_at : List WardState → ℕ → ℕ → Due
 due_at wards id now = due_for (ward wards id) (deed_of (ward wards id) now)
 
+-- it asks what is due; if that is late, the time for which nobody is heard counts from now on
+abbrev pub attended : WardenState → ℕ → WardenState
+attended m now = record m { heard = (if is_late m now then now else m.heard); asked = now }
+
 -- it counts as done
 abbrev pub asked : WardState → ℕ → WardState
 asked w now = record w { watch = done w.watch now (deed_of w now) }
 
 abbrev pub asked_at : List WardState → ℕ → ℕ → List WardState
 asked_at wards id now = slice_set wards id (asked (ward wards id) now)
+
+-- what it knows once it asked what is due for a server, each being spared if it is cut off
+abbrev pub after_asking : WardenState → ℕ → ℕ → WardenState
+after_asking m id now = record (attended m now) { wards = asked_at (sparing m now).wards id now }

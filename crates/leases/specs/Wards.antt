@@ -9,7 +9,7 @@ use Rattle.leases.specs.declared.watches.Deed.TheVariants.{Wait, Beat, TellServe
 use Rattle.leases.specs.declared.wards.Due.{Due}
 use Rattle.leases.specs.declared.wards.Due.TheVariants as dues
 use Rattle.leases.specs.Sets.{has, is_apart}
-use Rattle.leases.specs.Watching.{WatchState, idle_watch, begun_watch, due, done, answered, is_gone}
+use Rattle.leases.specs.Watching.{WatchState, idle_watch, begun_watch, spared_watch, due, done, answered, is_gone}
 use Rattle.leases.specs.Rolls.{RollState, unentered, enters, knows, is_whole}
 
 -- What a master knows of a server. Server i is the bit of value 2^i; times are what the master's clock shows.
@@ -61,6 +61,10 @@ begun w reign = record w {
 -- it does nothing more
 abbrev pub lost : WardState → WardState
 lost w = record w { watch = record w.watch { standing = Gone } }
+
+-- its master was cut off: it isn't called silent before it answers once more
+abbrev pub spared : WardState → WardState
+spared w = record w { watch = spared_watch w.watch }
 
 -- a report names it as gone, or doesn't
 abbrev pub named : WardState → Report → WardState
@@ -119,12 +123,14 @@ pub data Call : Type 0 where
   Hears : ℕ → Report → ℕ → Call
   Loses : Call
   Asks : ℕ → Call
+  Spares : Call
 
 -- what one of them does
 abbrev pub called : WardState → Call → WardState
 called w (Hears from report now) = heard_from w from report now
 called w Loses = lost w
 called w (Asks now) = record w { watch = done w.watch now (deed_of w now) }
+called w Spares = spared w
 
 -- what all of them do, in order
 abbrev pub calls : WardState → List Call → WardState

@@ -24,6 +24,8 @@ pub record WatchState : Type 0 where
   -- when the last beat was sent
   pub sent : ℕ
   pub standing : Standing
+  -- it isn't called silent before it answers once more
+  pub spared : Bool
 
 -- the server has entered the reign, and answered that with this stamp
 abbrev pub begun_watch : Option ℕ → ℕ → ℕ → ℕ → ℕ → WatchState
@@ -36,6 +38,7 @@ begun_watch term beat after stamp now = record {
   stamp = stamp;
   sent = now;
   standing = Watched;
+  spared = false;
 }
 
 -- the server isn't in the reign: a beat is due each time that a pace has passed, and nothing else
@@ -49,6 +52,7 @@ idle_watch beat after = record {
   stamp = 0;
   sent = 0;
   standing = Watched;
+  spared = false;
 }
 
 -- it does nothing more
@@ -70,7 +74,7 @@ is_late w pause = nat_le ((w.after - w.beat) / 2) (pause - w.beat)
 
 -- it is called silent
 abbrev pub gives_up : WatchState → ℕ → ℕ → Bool
-gives_up w silence pause = is_silent w.term w.after silence && not (is_late w pause)
+gives_up w silence pause = (is_silent w.term w.after silence && not (is_late w pause)) && not w.spared
 
 -- the stamp that a beat brings back, if the reign is whole: if each other server that isn't gone has entered it
 abbrev pub brought : Bool → ℕ → Option ℕ
@@ -113,13 +117,22 @@ done w now TellGone = w
 
 -- an answer counts as long as the server is watched
 abbrev pub heard_at : Standing → WatchState → ℕ → ℕ → WatchState
-heard_at Watched w stamp now = record w { heard = max w.heard now; since = max w.since now; stamp = stamp }
+heard_at Watched w stamp now = record w {
+  heard = max w.heard now;
+  since = max w.since now;
+  stamp = stamp;
+  spared = false;
+}
 heard_at Told w stamp now = w
 heard_at Over w stamp now = w
 heard_at Gone w stamp now = w
 
 abbrev pub answered : WatchState → ℕ → ℕ → WatchState
 answered w stamp now = heard_at w.standing w stamp now
+
+-- its master was cut off: it isn't called silent before it answers once more
+abbrev pub spared_watch : WatchState → WatchState
+spared_watch w = record w { spared = true }
 
 -- What a watch is told and asked.
 pub data Happening : Type 0 where
@@ -129,12 +142,15 @@ pub data Happening : Type 0 where
   Refuses : Happening
   -- what is due is asked for, and done
   Asks : Bool → ℕ → Happening
+  -- its master was cut off
+  Spares : Happening
 
 -- what one of them does
 abbrev pub happen : WatchState → Happening → WatchState
 happen w (Answers stamp now) = answered w stamp now
 happen w Refuses = record w { standing = Gone }
 happen w (Asks whole now) = done w now (due w whole now)
+happen w Spares = spared_watch w
 
 -- what all of them do, in order
 abbrev pub happens : WatchState → List Happening → WatchState

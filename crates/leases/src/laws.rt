@@ -1,8 +1,10 @@
 //! Laws: a server that others were told is gone by the rule had taken its last look before; and the code keeps to the
 //! rule.
-ghost use Rattle.std.specs.Prelude.{◌≡◌, ◌≢◌, ◌⊎◌, ℕ, Bool, true, List, Option, Some, ◌<◌, ◌≤◌, ◌-◌};
+ghost use Rattle.std.specs.Prelude.{◌≡◌, ◌≢◌, ◌⊎◌, ℕ, Bool, true, List, length, Option, Some, ◌<◌, ◌≤◌, ◌-◌};
+ghost use Rattle.leases.specs.declared.orders.Order.TheVariants as orders;
 ghost use Rattle.leases.specs.declared.watches.Standing.TheVariants.{Watched, Over, Gone};
 ghost use Rattle.leases.specs.declared.watches.Deed.TheVariants.{Beat, TellSilent, TellGone};
+ghost use Rattle.leases.specs.declared.wards.Due.TheVariants as dues;
 ghost use Rattle.leases.specs.Clocks.{Clock, NeverFalls, IsHardlyFaster, IsSurelyOver};
 ghost use Rattle.leases.specs.Leases as leases;
 ghost use Rattle.leases.specs.Leases.{Look, Notice, Pair, IsSound, IsBeatByRule, IsNoticeByRule, IsAnswered};
@@ -10,6 +12,7 @@ ghost use Rattle.leases.specs.Sets.{has};
 ghost use Rattle.leases.specs.Holding.{unheld, hears, Hearing, holds, IsHeldBy, IsLearnedBy};
 ghost use Rattle.leases.specs.Watching.{WatchState, Happening, due, happens, IsRefused};
 ghost use Rattle.leases.specs.Wards.{WardState, begun, Call, calls, deed_of, HasReported, HasKnown};
+ghost use Rattle.leases.specs.Wardens.{WardenState, is_cut_off, sparing, due_at};
 ghost use Rattle.leases.specs.Runs.{Event, Doing, IsCalledSilent, AnswersLook};
 ghost use Rattle.leases.specs.Serving.{IsServed};
 ghost use Rattle.leases.specs.WrongRules.{IsLateByReceipt, IsLateByTerm, IsLateByLooking};
@@ -81,6 +84,15 @@ pub fn tellings_are_by_rule()
     ensures silent { (w : WatchState) (happenings : List Happening) (whole : Bool) (now : ℕ) (stamp : Option ℕ)
         → w.standing ≢ Watched
         → due (happens w happenings) whole now ≢ Beat stamp }
+{}
+
+/// A master that is cut off, since nobody was heard for long though beats went out in time, tells no server that it is
+/// gone for its silence; so it doesn't tell the last one that is left. Later it may tell one that has answered since.
+pub fn cut_off_masters_wait()
+    ensures { (m : WardenState) (id now reign other : ℕ)
+        → is_cut_off m now ≡ true
+        → id < length m.wards
+        → due_at (sparing m now).wards id now ≢ dues.Server (orders.Silent reign other) }
 {}
 
 /// If a ward has a stamp brought back, its server is in the master's reign; and each other server has told that it is,

@@ -58,7 +58,9 @@
 //! - A beat's time: `Warden::next` says what is sent. A beat brings back a stamp only if the reign is whole for its
 //!   server.
 //! - Silence for `--after`: `Warden::next` has the server told, and the others once its lease is surely over. A master
-//!   that was stopped itself sends a beat first, and counts the silence from that on.
+//!   that was stopped itself sends a beat first, and counts the silence from that on. One that was cut off, since it
+//!   heard nobody for long though its beats went out in time, calls no server silent before that has answered once
+//!   more. So it never tells the last server that is left.
 //! - A refused connection, or a person's word: `Warden::lose`. Then `Warden::next` has the others told that it is gone.
 //!
 //! Two masters never take one reign, if their names differ. The one that started last reigns, if it has met each server
@@ -76,6 +78,9 @@
 //!   stands still its lease never ends, and the premise is broken: it may show what is old.
 //! - A lease without a term never ends: silence says nothing of that server, which is called gone after a refusal or by
 //!   a person alone.
+//! - A server that fails without a word while the master is cut off isn't called silent before it answers: a person
+//!   calls it gone. The reign stays as it is, and as whole as it was; a new one would be whole again only if no server
+//!   has ended in the cut. With an `--after` of less than three beats a cut may pass for the silence of some servers.
 //! - If the reigning master fails together with a server, and no lease holds any more when somebody says that this
 //!   server is gone, then no reign is whole ever again: nobody can know whether those two went on alone, and told each
 //!   other that the rest is gone. So a chain's masters are best on machines without a server.
@@ -83,7 +88,7 @@
 //! The law `looks_before_tellings` is about instants, on both clocks. The other laws say that the machines do what it
 //! asks of servers and masters: `leases_are_held_by_beats` of looks and beats, `tellings_are_by_rule` of notices,
 //! `wards_beat_in_whole_reigns` of when a beat may bring back a stamp. `machines_look_before_tellings` is the law for
-//! the machines as they are.
+//! the machines as they are. `cut_off_masters_wait` is about no look: it says that a chain outlives a cut.
 //!
 //! **Trusted**: that clocks never go back, and that the master's is at most a tenth faster than a server's, both also
 //! while a machine sleeps or is moved (so a clock that counts these times too); that a process reads and writes when it
@@ -108,7 +113,7 @@ mod watches;
 
 pub use claims::Claim;
 pub use laws::{
-    each_rule_is_needed, leases_are_held_by_beats, looks_before_tellings,
+    cut_off_masters_wait, each_rule_is_needed, leases_are_held_by_beats, looks_before_tellings,
     machines_look_before_tellings, tellings_are_by_rule, wards_beat_in_whole_reigns,
 };
 pub use leases::Lease;

@@ -293,6 +293,63 @@ fn due_for_lost(alloc: Global) -> Option<Due> {
     Some(warden.next(1, SECOND))
 }
 
+/// A tenth of a second.
+const STEP: u64 = 100_000_000;
+
+// Whether one of two servers is told that it is gone, if the master asks each tenth of a second what is due.
+fn tells(warden: &mut Warden, from: u64, until: u64) -> bool {
+    let mut now = from;
+    let mut has_told = false;
+    for _ in 0..100u8 {
+        if now >= until {
+            break;
+        }
+        for id in 0..2u8 {
+            if let Due::Server(Order::Silent(_, _)) = warden.next(id, now) {
+                has_told = true;
+            }
+        }
+        now = now.saturating_add(STEP);
+    }
+    has_told
+}
+
+// A master of two servers that hears nobody from 1 s to 7 s, and then server 0 alone until 8 s. At 8 s it hears both,
+// and then server 0 alone. Whether it tells one of them that it is gone, in each of these times.
+fn tells_by_turns(alloc: Global) -> Option<(bool, bool, bool)> {
+    let mut warden = of_two(alloc)?;
+    warden.claim(SECOND)?;
+    warden.told(0, &report_in(3, 0), SECOND);
+    warden.told(1, &report_in(3, 0), SECOND);
+    let in_the_cut = tells(&mut warden, SECOND, 7 * SECOND);
+    warden.told(0, &report_in(3, 0), 7 * SECOND);
+    let then = tells(&mut warden, 7 * SECOND, 8 * SECOND);
+    warden.told(0, &report_in(3, 0), 8 * SECOND);
+    warden.told(1, &report_in(3, 0), 8 * SECOND);
+    tells(&mut warden, 8 * SECOND, 9 * SECOND);
+    warden.told(0, &report_in(3, 0), 9 * SECOND);
+    tells(&mut warden, 9 * SECOND, 10 * SECOND);
+    warden.told(0, &report_in(3, 0), 10 * SECOND);
+    let later = tells(&mut warden, 10 * SECOND, 12 * SECOND);
+    Some((in_the_cut, then, later))
+}
+
+// Whether a master of two servers tells the last one that it is gone, if it hears nothing of that from 1 s to 9 s.
+fn tells_the_last(alloc: Global) -> Option<bool> {
+    let mut warden = of_two(alloc)?;
+    warden.claim(SECOND)?;
+    warden.told(0, &report_in(3, 0), SECOND);
+    warden.told(1, &report_in(3, 0), SECOND);
+    warden.lose(1);
+    Some(tells(&mut warden, SECOND, 9 * SECOND))
+}
+
+#[test]
+fn a_master_that_was_cut_off_waits(rt: HostRuntime) {
+    assert!(rt; tells_by_turns(rt.alloc()) == Some((false, false, true)));
+    assert!(rt; tells_the_last(rt.alloc()) == Some(false));
+}
+
 #[test]
 fn a_master_decides(rt: HostRuntime) {
     let alloc = rt.alloc();

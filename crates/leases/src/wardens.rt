@@ -5,7 +5,8 @@ ghost use Rattle.leases.specs.Wards.{lost};
 ghost use Rattle.leases.specs.Claims.{is_reigning};
 ghost use Rattle.leases.specs.Wardens.{all_of, others_of, unmet_below, started, ward, all_heard, all_begun, heard_by};
 ghost use Rattle.leases.specs.Wardens.{is_followed, is_followed_by, stood_down, told, may_claim, crowned, given_up};
-ghost use Rattle.leases.specs.Wardens.{due_at, asked_at};
+ghost use Rattle.leases.specs.Wardens.{all_spared, patience_of, is_late, is_cut_off, sparing, attended};
+ghost use Rattle.leases.specs.Wardens.{due_at, asked_at, after_asking};
 
 use crate::claims::Claim;
 use crate::orders::Report;
@@ -26,6 +27,12 @@ pub struct Warden {
     chain: u16,
     // Those that told how they are, or are gone.
     met: u16,
+    // If nobody was heard for so long, though beats went out in time, the master is cut off.
+    patience: u64,
+    // When anybody was heard for the last time, or the master was late itself.
+    heard: u64,
+    // When it asked for the last time what is due.
+    asked: u64,
 }
 
 impl Model for Warden {
@@ -33,7 +40,15 @@ impl Model for Warden {
 
     ghost Value = { WardenState };
 
-    ghost view = { λ m. record { claim = m.claim; wards = m.wards.items; chain = m.chain; met = m.met } };
+    ghost view = { λ m. record {
+      claim = m.claim;
+      wards = m.wards.items;
+      chain = m.chain;
+      met = m.met;
+      patience = m.patience;
+      heard = m.heard;
+      asked = m.asked;
+    } };
 }
 
 impl Warden {
@@ -55,17 +70,22 @@ impl Warden {
             wards,
             chain: all_of(servers),
             met: 0,
+            patience: patience_of(paces),
+            heard: now,
+            asked: now,
         })
     }
 
     /// A server told how it is, and then the clock showed `now`. Each ward hears it, so they hear all that servers tell
     /// in the order in which it came. If the master reigned before and doesn't any more, each ward begins anew without
-    /// a reign; the answer says whether that is so.
+    /// a reign; the answer says whether that is so. If nobody was heard for long before, though beats went out in time,
+    /// then the master was cut off, and a server isn't called silent before it answers once more.
     pub fn told(&mut self, from: u8, report: &Report, now: u64) -> bool
         requires server { from < 16 }
         ensures state { self.new ≡ told self.old from report.now now }
-        ensures followed { result ≡ is_followed_by self.old from report.now now }
+        ensures followed { result ≡ is_followed_by (sparing self.old now) from report.now now }
     {
+        self.spare_if_cut_off(now);
         let reigned = self.is_reigning();
         self.hear(from, report, now);
         self.stand_down(reigned)
@@ -87,6 +107,30 @@ impl Warden {
         self.claim.informed(report, last, now);
         hear_all(self.wards.as_mut_slice(), from, report, now);
         self.met |= bit_of(from) | report.gone;
+        self.heard = self.heard.max(now);
+    }
+
+    // Once the master is cut off no server is called silent before it answers once more.
+    fn spare_if_cut_off(&mut self, now: u64)
+        ensures { self.new ≡ sparing self.old now }
+    {
+        if self.is_cut_off(now) {
+            spare_all(self.wards.as_mut_slice());
+        }
+    }
+
+    // Whether nobody was heard for too long, though beats went out in time.
+    fn is_cut_off(&self, now: u64) -> bool
+        ensures { result ≡ is_cut_off self.now now }
+    {
+        self.patience <= now.saturating_sub(self.heard) && !self.is_late(now)
+    }
+
+    // Whether it asked too long ago what is due, so that beats went out too late.
+    fn is_late(&self, now: u64) -> bool
+        ensures { result ≡ is_late self.now now }
+    {
+        self.patience <= now.saturating_sub(self.asked)
     }
 
     // If it reigned before, and doesn't now, each ward begins anew without a reign. It tells whether that is so.
@@ -147,13 +191,34 @@ impl Warden {
     }
 
     /// What is due for this server when the clock shows `now`. It counts as done. For a server that the chain hasn't
-    /// nothing ever is.
+    /// nothing ever is. As long as the master is cut off no server is told that it is gone for its silence; so it isn't
+    /// if it is the last one.
+    #[tactic(auto, using(crate::proofs::Sparing::spared_count))]
     pub fn next(&mut self, id: u8, now: u64) -> Due
-        ensures due { id < length self.old.wards → result ≡ due_at self.old.wards id now }
-        ensures state { self.new ≡ record self.old { wards = asked_at self.old.wards id now } }
+        ensures due { id < length self.old.wards → result ≡ due_at (sparing self.old now).wards id now }
+        ensures state { self.new ≡ after_asking self.old id now }
     {
+        self.spare_if_cut_off(now);
+        self.attend(now);
         next_of(self.wards.as_mut_slice(), usize::from(id), now)
     }
+
+    // It asks what is due. If that is late, the time for which nobody is heard counts from now on.
+    fn attend(&mut self, now: u64)
+        ensures { self.new ≡ attended self.old now }
+    {
+        if self.is_late(now) {
+            self.heard = now;
+        }
+        self.asked = now;
+    }
+}
+
+// For how long nobody is heard before a master is cut off.
+fn patience_of(paces: Paces) -> u64
+    ensures { result ≡ patience_of paces.beat paces.after }
+{
+    paces.beat + (paces.after - paces.beat) / 2
 }
 
 // A ward for each server of a chain of n servers, by its id.
@@ -214,6 +279,15 @@ fn begin_all(wards: &mut [Ward], reign: u64)
 {
     for ward in wards.iter_mut() {
         ward.begin(reign);
+    }
+}
+
+// No server is called silent before it answers once more.
+fn spare_all(wards: &mut [Ward])
+    ensures { wards.new ≡ all_spared wards.old }
+{
+    for ward in wards.iter_mut() {
+        ward.spare();
     }
 }
 

@@ -2,8 +2,8 @@
 ghost use Rattle.std.specs.Prelude.{◌≡◌, ◌<◌, ◌^◌};
 ghost use Rattle.leases.specs.Sets.{is_apart};
 ghost use Rattle.leases.specs.Watching.{done};
-ghost use Rattle.leases.specs.Wards.{unmet, begun, lost, named, is_of, entered_watch, reported, heard_it, heard_other};
-ghost use Rattle.leases.specs.Wards.{heard_from, deed_of, due_for};
+ghost use Rattle.leases.specs.Wards.{unmet, begun, lost, spared, named, is_of, entered_watch, reported};
+ghost use Rattle.leases.specs.Wards.{heard_it, heard_other, heard_from, deed_of, due_for};
 
 use crate::orders::{Order, Report};
 use crate::paces::Paces;
@@ -166,6 +166,13 @@ impl Ward {
         ensures { self.new ≡ lost self.old }
     {
         self.watch.refused();
+    }
+
+    /// The master was cut off from all servers: this one isn't called silent before it answers once more.
+    pub fn spare(&mut self)
+        ensures { self.new ≡ spared self.old }
+    {
+        self.watch.spare();
     }
 
     /// When its lease ends, as far as it told; 0 at first.

@@ -1,7 +1,7 @@
 //! The master's side: a watch over one server.
 ghost use Rattle.std.specs.Prelude.{◌≡◌, ℕ};
 ghost use Rattle.leases.specs.Watching.{due, done, answered, watched_due, told_due, is_silent, is_gone};
-ghost use Rattle.leases.specs.Watching.{begun_watch, idle_watch, gives_up, is_late, since_beat};
+ghost use Rattle.leases.specs.Watching.{begun_watch, idle_watch, spared_watch, gives_up, is_late, since_beat};
 
 use crate::paces::Paces;
 use crate::terms::Term;
@@ -49,6 +49,8 @@ pub struct Watch {
     stamp: u64,
     sent: u64,
     standing: Standing,
+    // It isn't called silent before it answers once more.
+    is_spared: bool,
 }
 
 impl Model for Watch {
@@ -65,6 +67,7 @@ impl Model for Watch {
       stamp = w.stamp;
       sent = w.sent;
       standing = w.standing;
+      spared = w.is_spared;
     } };
 }
 
@@ -85,6 +88,7 @@ impl Watch {
             stamp,
             sent: now,
             standing: Standing::Watched,
+            is_spared: false,
         }
     }
 
@@ -102,6 +106,7 @@ impl Watch {
             stamp: 0,
             sent: 0,
             standing: Standing::Watched,
+            is_spared: false,
         }
     }
 
@@ -114,7 +119,15 @@ impl Watch {
             self.heard = self.heard.max(now);
             self.since = self.since.max(now);
             self.stamp = stamp;
+            self.is_spared = false;
         }
+    }
+
+    /// Its master was cut off from all servers: it isn't called silent before it answers once more.
+    pub fn spare(&mut self)
+        ensures { self.new ≡ spared_watch self.old }
+    {
+        self.is_spared = true;
     }
 
     /// Its host refused a new connection at once: its process has ended. Or a person, or another server, says that it
@@ -135,7 +148,7 @@ impl Watch {
     /// What is due when the clock shows `now`. It counts as done. `whole` says whether the master's reign is whole for
     /// this server (`Roll::is_whole`): only then may a beat prolong its lease. Silence is noticed whenever this is
     /// called, but if the master itself is late with a beat, as one that was stopped: then the silence counts from that
-    /// beat on, since nobody answers beats that aren't sent.
+    /// beat on, since nobody answers beats that aren't sent. It is not noticed of a server that is spared.
     pub fn next(&mut self, whole: bool, now: u64) -> Deed
         ensures deed { result ≡ due self.old whole now }
         ensures state { self.new ≡ done self.old now result }
@@ -205,7 +218,7 @@ impl Watch {
     fn gives_up(&self, silence: u64, pause: u64) -> bool
         ensures { result ≡ gives_up self.now silence pause }
     {
-        self.is_silent(silence) && !self.is_late(pause)
+        self.is_silent(silence) && !self.is_late(pause) && !self.is_spared
     }
 
     // Whether the master is late with a beat, if this much has passed since the last one.

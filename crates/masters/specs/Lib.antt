@@ -1,3 +1,5 @@
+pub mod Greetings
+pub mod Hosts
 pub mod Notices
 pub mod Orders
 pub mod Standings

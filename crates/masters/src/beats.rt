@@ -1,8 +1,8 @@
 //! What a master that beats has for it: the warden by which it decides, and where its orders go.
 
 use crate::command::TellFault;
+use crate::knowledge::Knowledge;
 use crate::notices::{and_one, is_among};
-use crate::tellers::Teller;
 use crate::watch_threads::Posts;
 use leases::{Due, Order, Paces, Report, Warden, nanoseconds_of};
 use node::{SERVERS, View};
@@ -23,17 +23,18 @@ pub(crate) struct Beats {
 }
 
 impl Beats {
-    /// Before the first order. Who is gone as far as the teller knows is lost. Refused with Run if no chain has that
-    /// many servers, or the clock can't be read.
+    /// Before the first order of the master of this name. Who is known to be gone is lost. Refused with Run if no chain
+    /// has that many servers, or the clock can't be read.
     pub(crate) fn new<R: Clock>(
         rt: &R,
         alloc: Global,
-        teller: &Teller,
+        knowledge: &Knowledge,
+        name: u32,
         servers: u8,
         paces: Paces,
         posts: Posts,
     ) -> Result<Beats, TellFault> {
-        match new_warden(rt, alloc, teller, servers, paces) {
+        match new_warden(rt, alloc, knowledge, name, servers, paces) {
             Ok(warden) => Ok(Beats {
                 warden,
                 paces,
@@ -129,7 +130,8 @@ impl Beats {
 fn new_warden<R: Clock>(
     rt: &R,
     alloc: Global,
-    teller: &Teller,
+    knowledge: &Knowledge,
+    name: u32,
     servers: u8,
     paces: Paces,
 ) -> Result<Warden, TellFault> {
@@ -139,15 +141,9 @@ fn new_warden<R: Clock>(
     let Ok(reading) = rt.monotonic() else {
         return Err(TellFault::Run);
     };
-    let mut warden = Warden::new(
-        alloc,
-        teller.name(),
-        servers,
-        paces,
-        nanoseconds_of(reading),
-    )?;
+    let mut warden = Warden::new(alloc, name, servers, paces, nanoseconds_of(reading))?;
     for i in 0..servers {
-        if teller.is_gone(i) {
+        if knowledge.is_gone(i) {
             warden.lose(i);
         }
     }

@@ -4,11 +4,13 @@ ghost use Rattle.masters.specs.Statuses.{IsMasterStatus, status_of};
 
 use crate::answers::Answers;
 use crate::input_lines::{empty_line, next_line, server_named};
-use crate::master_lines::tell_refusal;
+use crate::master_lines::{tell_refusal, tell_unnoted};
+use crate::notices::done_in;
 use crate::settings::MasterSettings;
 use crate::tellers::Teller;
 use command_line::{DONE, FAILED, MEMORY};
 use ends::{Sink, Source, write_all};
+use leases::Order;
 use std::alloc::{AllocError, AllocFailed, Global};
 use std::net::{Net, TcpListener, TcpStream};
 use std::sync::Wait;
@@ -167,13 +169,30 @@ impl ReadingMaster {
                 return Ok(());
             }
             match server_named(self.line.as_slice(), b"gone", settings.numbers.servers) {
-                Some(j) => {
-                    let told = self.teller.tell(rt, settings, errors, j)?;
-                    self.answers.told(output, errors, WHO, j, told);
-                }
+                Some(j) => self.tell(rt, settings, output, errors, j)?,
                 None => self.answers.bad_line(output, errors, WHO),
             }
         }
         unreachable!()
+    }
+
+    // Tells of the failure of server j.
+    fn tell<
+        R: Threads + Clock + Net<Listener = TcpListener, Stream = TcpStream> + Sync,
+        W: Sink,
+        X: Sink,
+    >(
+        &mut self,
+        rt: &R,
+        settings: &MasterSettings,
+        output: &mut W,
+        errors: &mut X,
+        j: u8,
+    ) -> Result<(), TellFault> {
+        let given = self.teller.tell(rt, j)?;
+        tell_unnoted(errors, settings, given.as_slice(), Order::Gone(j));
+        let told = done_in(given.as_slice());
+        self.answers.told(output, errors, WHO, j, told);
+        Ok(())
     }
 }

@@ -2,13 +2,12 @@
 
 use crate::acknowledgements::{Heard, put_order, wait_for_noted};
 use crate::greetings::{Channel, Greeted, greet};
-use crate::notices::{Answer, and_one, is_among};
+use crate::knowledge::Known;
+use crate::notices::Answer;
 use crate::orders::named_in;
-use crate::settings::{MasterSettings, port_of};
 use crate::standings::{Sight, seen_as};
 use ends::TrackedWriter;
 use leases::Order;
-use node::View;
 use peers::Identity;
 use std::alloc::{AllocError, Global};
 use std::net::{Net, TcpListener, TcpStream};
@@ -30,9 +29,9 @@ pub(crate) enum Errand {
 pub(crate) struct Contact {
     alloc: Global,
     id: u8,
-    // The number of its start, once it has accepted the master.
-    start: Option<u64>,
-    gone: u16,
+    host: String,
+    port: u16,
+    known: Known,
     // The connection, if it stands.
     stream: Option<TcpStream>,
     errand: Errand,
@@ -50,51 +49,29 @@ pub(crate) struct Visit {
 }
 
 impl Contact {
-    /// The server of this id. It wasn't spoken to.
-    pub(crate) fn new(alloc: Global, id: u8) -> Contact {
+    /// The server of this id, which is there. It wasn't spoken to.
+    pub(crate) fn new(alloc: Global, id: u8, host: String, port: u16) -> Contact {
         Contact {
             alloc,
             id,
-            start: None,
-            gone: 0,
+            host,
+            port,
+            known: Known::nothing(),
             stream: None,
             errand: Errand::Nothing,
             is_put: false,
         }
     }
 
-    /// Its id.
-    pub(crate) fn id(&self) -> u8 {
-        self.id
-    }
-
-    /// The servers that have failed, as far as it told or has noted: server i is the bit of value 2^i.
-    pub(crate) fn gone(&self) -> u16 {
-        self.gone
-    }
-
-    /// The number of its start, if it has accepted the master.
-    pub(crate) fn start(&self) -> Option<u64> {
-        self.start
-    }
-
-    /// Whether it has accepted the master, and neither told that it knows that server `j` has failed nor noted it.
-    pub(crate) fn is_untold(&self, j: u8) -> bool {
-        self.start.is_some() && !is_among(View::from_bits(self.gone), j)
+    /// What is known of it.
+    pub(crate) fn known(&self) -> Known {
+        self.known
     }
 
     /// This start of it has accepted another connection, and told who has failed. Another start than the master knows
     /// is passed over.
     pub(crate) fn met(&mut self, start: u64, gone: u16) {
-        if seen_as(self.start, start) == Sight::Accepted {
-            self.start = Some(start);
-            self.gone |= gone;
-        }
-    }
-
-    /// It told who has failed as far as it knows.
-    pub(crate) fn told(&mut self, gone: u16) {
-        self.gone |= gone;
+        self.known.met(start, gone);
     }
 
     /// Gives it an errand. If that is a notice and the connection stands, the notice is written: this waits for nobody.
@@ -110,32 +87,30 @@ impl Contact {
     pub(crate) fn visit<R: Clock + Net<Listener = TcpListener, Stream = TcpStream>>(
         self,
         rt: &R,
-        settings: &MasterSettings,
         identity: &Identity,
     ) -> Visit {
         let mut contact = self;
-        let answer = contact.answer(rt, settings, identity);
+        let answer = contact.answer(rt, identity);
         Visit { contact, answer }
     }
 
     fn answer<R: Clock + Net<Listener = TcpListener, Stream = TcpStream>>(
         &mut self,
         rt: &R,
-        settings: &MasterSettings,
         identity: &Identity,
     ) -> Result<Answer, AllocError> {
         let errand = self.errand;
         self.errand = Errand::Nothing;
         match errand {
             Errand::Nothing => Ok(Answer::Unasked),
-            Errand::Greet => self.open(rt, settings, identity),
+            Errand::Greet => self.open(rt, identity),
             Errand::Tell(order, seconds) => {
                 let Some(j) = named_in(order) else {
                     return Ok(Answer::Unasked);
                 };
-                let answer = self.tell(rt, settings, identity, order, j, seconds)?;
+                let answer = self.tell(rt, identity, order, j, seconds)?;
                 if answer == Answer::Done {
-                    self.gone = and_one(View::from_bits(self.gone), j).bits();
+                    self.known.noted(j);
                 }
                 Ok(if self.id == j {
                     Answer::Unasked
@@ -151,7 +126,6 @@ impl Contact {
     fn tell<R: Clock + Net<Listener = TcpListener, Stream = TcpStream>>(
         &mut self,
         rt: &R,
-        settings: &MasterSettings,
         identity: &Identity,
         order: Order,
         j: u8,
@@ -163,7 +137,7 @@ impl Contact {
             Heard::Late => return Ok(Answer::Silent),
             Heard::Broken => {}
         }
-        let answer = self.open(rt, settings, identity)?;
+        let answer = self.open(rt, identity)?;
         if answer != Answer::Done && self.id != j {
             self.close();
             return Ok(answer);
@@ -180,15 +154,10 @@ impl Contact {
     fn open<R: Clock + Net<Listener = TcpListener, Stream = TcpStream>>(
         &mut self,
         rt: &R,
-        settings: &MasterSettings,
         identity: &Identity,
     ) -> Result<Answer, AllocError> {
         self.close();
-        let Some(host) = settings.hosts.get(usize::from(self.id)) else {
-            return Ok(Answer::Silent);
-        };
-        let port = port_of(settings.numbers.peer_port, self.id);
-        match greet(rt, self.alloc, host.as_str(), port, identity)? {
+        match greet(rt, self.alloc, self.host.as_str(), self.port, identity)? {
             Greeted::Accepted(channel) => Ok(self.enter(channel)),
             Greeted::Refused(reason) => Ok(Answer::Refused(reason)),
             Greeted::NoHost => Ok(Answer::NoHost),
@@ -207,7 +176,7 @@ impl Contact {
         let TrackedWriter { inner, .. } = sink;
         drop(self.stream.replace(inner));
         self.met(start, gone);
-        match seen_as(self.start, start) {
+        match seen_as(self.known.start, start) {
             Sight::Accepted => Answer::Done,
             _ => Answer::Anew,
         }

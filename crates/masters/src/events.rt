@@ -1,5 +1,6 @@
 //! What a master that watches hears: of servers from those who watch them, and of its input.
 
+use crate::command::TellFault;
 use crossbeam_channel::Sender;
 use leases::Report;
 use std::alloc::AllocError;
@@ -29,8 +30,10 @@ pub(crate) enum News {
     Ended(u8),
     /// This server told how it is, and then the clock showed this many nanoseconds.
     Told(u8, Report, u64),
-    /// Who watches goes on no more: memory is out.
-    Memory,
+    /// Something came of a notice that was to be given.
+    Given,
+    /// One of the threads goes on no more.
+    Fault(TellFault),
 }
 
 /// What is new, and when it was: milliseconds since the master began.
@@ -40,7 +43,7 @@ pub(crate) struct Event {
     pub(crate) news: News,
 }
 
-/// Where one of those who watch puts what is new.
+/// Where one of the threads puts what is new.
 #[derive(Drop)]
 pub(crate) struct Post {
     sender: Sender<Event>,
@@ -59,6 +62,11 @@ impl Post {
             sender: self.sender.clone()?,
             begun: self.begun,
         })
+    }
+
+    /// When the master began.
+    pub(crate) fn begun(&self) -> Instant {
+        self.begun
     }
 
     /// Puts what is new, once there is room. It is lost if the master ends.

@@ -1,6 +1,8 @@
 //! Connections to the servers of a chain, each of which begins with a greeting and its answer.
-ghost use Rattle.std.specs.Prelude.{◌≢◌, IfOk};
-ghost use Rattle.wire.specs.Spellings.{IsInRange};
+ghost use Rattle.std.specs.Prelude.{◌≡◌, ◌≢◌, ◌↔◌, ◌++◌, true, IfOk, OnErr, IsTrue};
+ghost use Rattle.wire.specs.declared.frames.Frame.TheVariants as frames;
+ghost use Rattle.wire.specs.Spellings.{IsInRange, spelling};
+ghost use Rattle.masters.specs.Greetings.{added_if, greeting, introduction_of};
 
 use crate::keepalive::keep_alive;
 use crate::short_frames::{Deadline, Heard, next_frame};
@@ -179,20 +181,52 @@ fn answered<R: Clock>(
 }
 
 // Writes the Hello and the introduction. It answers whether they were written.
-fn introduce(alloc: Global, sink: &mut PeerSink, identity: &Identity) -> Result<bool, AllocError> {
-    let mut out = BytesMut::new(alloc);
-    let introduction = Frame::Introduction(Introduction {
+fn introduce(alloc: Global, sink: &mut PeerSink, identity: &Identity) -> Result<bool, AllocError>
+    ensures written { IfOk result
+        (λ is_put. is_put ≡ true → sink.new.written ≡ sink.old.written ++ greeting identity.now) }
+{
+    let introduction = introduction_of(identity)?;
+    let is_put = put_greeting(alloc, sink, identity.id, &introduction);
+    drop(introduction);
+    is_put
+}
+
+// What it says of itself.
+fn introduction_of(identity: &Identity) -> Result<Frame, AllocError>
+    ensures { IfOk result (λ frame. frame ≡ introduction_of identity.now) }
+{
+    Ok(Frame::Introduction(Introduction {
         servers: identity.servers,
         start: identity.start,
         chain: identity.chain.clone()?,
-    });
-    let is_added = add_greeting(&mut out, identity.id, &introduction);
-    drop(introduction);
-    Ok(is_added? && put_all(sink, &mut out).is_ok())
+    }))
+}
+
+// Writes both.
+fn put_greeting(
+    alloc: Global,
+    sink: &mut PeerSink,
+    id: u8,
+    introduction: &Frame,
+) -> Result<bool, AllocError>
+    ensures { IfOk result (λ is_put. is_put ≡ true
+        → sink.new.written ≡ sink.old.written ++ (spelling (frames.Hello id) ++ spelling introduction.now)) }
+{
+    let mut out = BytesMut::new(alloc);
+    if !add_greeting(&mut out, id, introduction)? {
+        return Ok(false);
+    }
+    match put_all(sink, &mut out) {
+        Ok(()) => Ok(true),
+        Err(_) => Ok(false),
+    }
 }
 
 // Adds the Hello and the introduction to a buffer, if their fields are in their ranges. It tells whether they are.
-fn add_greeting(out: &mut BytesMut, id: u8, introduction: &Frame) -> Result<bool, AllocError> {
+fn add_greeting(out: &mut BytesMut, id: u8, introduction: &Frame) -> Result<bool, AllocError>
+    ensures added { IfOk result (λ is_added. is_added ≡ true
+        → out.new.items ≡ (out.old.items ++ spelling (frames.Hello id)) ++ spelling introduction.now) }
+{
     let hello = Frame::Hello(id);
     let is_added = add(out, &hello);
     drop(hello);
@@ -200,7 +234,11 @@ fn add_greeting(out: &mut BytesMut, id: u8, introduction: &Frame) -> Result<bool
 }
 
 // Adds a frame to a buffer, if its fields are in their ranges. It tells whether they are.
-fn add(out: &mut BytesMut, frame: &Frame) -> Result<bool, AllocError> {
+fn add(out: &mut BytesMut, frame: &Frame) -> Result<bool, AllocError>
+    ensures fit { IfOk result (λ is_added. IsTrue is_added ↔ IsInRange frame.now) }
+    ensures added { IfOk result (λ is_added. out.new.items ≡ added_if is_added out.old.items frame.now) }
+    ensures kept { OnErr result (out.new.items ≡ out.old.items) }
+{
     if frame.is_in_range() {
         add_fit(out, frame)
     } else {
@@ -210,6 +248,9 @@ fn add(out: &mut BytesMut, frame: &Frame) -> Result<bool, AllocError> {
 
 fn add_fit(out: &mut BytesMut, frame: &Frame) -> Result<bool, AllocError>
     requires { IsInRange frame.now }
+    ensures added { IfOk result
+        (λ is_added. (is_added ≡ true) × (out.new.items ≡ out.old.items ++ spelling frame.now)) }
+    ensures kept { OnErr result (out.new.items ≡ out.old.items) }
 {
     match encode_onto(out, frame) {
         Ok(()) => Ok(true),

@@ -4,6 +4,7 @@ use crate::notices::{Answer, beside, only_one, silent_in};
 use crate::settings::{MasterSettings, port_of};
 use ends::{Sink, write_all};
 use itoa::Buffer;
+use leases::Order;
 use node::{SERVERS, View};
 use wire::Reason;
 
@@ -61,13 +62,21 @@ pub(crate) fn tell_unmet<X: Sink>(
     }
 }
 
-/// Who wasn't told that server `j` has failed, since it refuses the master or was started anew.
-pub(crate) fn tell_untold<X: Sink>(
+/// Who hasn't noted that a server has failed, if the notice says that.
+pub(crate) fn tell_unnoted<X: Sink>(
     errors: &mut X,
     settings: &MasterSettings,
     answers: &[Answer],
-    j: u8,
+    order: Order,
 ) {
+    if let Order::Gone(j) = order {
+        tell_untold(errors, settings, answers, j);
+        tell_silent(errors, answers, j);
+    }
+}
+
+// Who wasn't told that server j has failed, since it refuses the master or was started anew.
+fn tell_untold<X: Sink>(errors: &mut X, settings: &MasterSettings, answers: &[Answer], j: u8) {
     for i in 0..SERVERS {
         match answers.get(usize::from(i)) {
             Some(Answer::NoHost) => tell_host(errors, settings, i),
@@ -85,8 +94,8 @@ pub(crate) fn tell_untold<X: Sink>(
     }
 }
 
-/// Who gave no answer to the notice that server `j` has failed.
-pub(crate) fn tell_silent<X: Sink>(errors: &mut X, answers: &[Answer], j: u8) {
+// Who gave no answer to the notice that server j has failed.
+fn tell_silent<X: Sink>(errors: &mut X, answers: &[Answer], j: u8) {
     let silent = silent_in(answers);
     if silent.bits() == 0 {
         return;

@@ -1,5 +1,7 @@
 //! What a server, or the master, of a chain in several processes is told.
-ghost use Rattle.std.specs.Prelude.{◌≡◌, ◌<◌, ◌+◌, ◌*◌, None, length, IfOk, IfSome, IsSome, string_bytes};
+ghost use Rattle.std.specs.Prelude.{◌≡◌, ◌<◌, ◌+◌, ◌*◌, None, length, map, replicate, IfOk, IfSome, IsSome};
+ghost use Rattle.std.specs.Prelude.{string_bytes};
+ghost use Rattle.masters.specs.Hosts.{hosts_of, listed, texts};
 ghost use Rattle.leases.specs.declared.paces.TheConstants.{MILLISECOND};
 
 use command_line::{Hosts, MasterNumbers, ServerNumbers, UsageFault};
@@ -64,6 +66,7 @@ impl ServerSettings {
         ensures address { IfOk result (λ settings. settings.address ≡ hosts.address) }
         ensures id { IfOk result (λ settings. settings.numbers.id < settings.numbers.servers) }
         ensures hosts { IfOk result (λ settings. length settings.hosts.items ≡ settings.numbers.servers) }
+        ensures given { IfOk result (λ settings. texts settings.hosts.items ≡ hosts_of hosts numbers.servers) }
         ensures chain { IfOk result (λ settings. settings.chain ≡ string_bytes hosts.chain) }
     {
         if numbers.id >= numbers.servers {
@@ -90,6 +93,7 @@ impl MasterSettings {
     ) -> Result<MasterSettings, UsageFault>
         ensures numbers { IfOk result (λ settings. settings.numbers ≡ numbers) }
         ensures hosts { IfOk result (λ settings. length settings.hosts.items ≡ settings.numbers.servers) }
+        ensures given { IfOk result (λ settings. texts settings.hosts.items ≡ hosts_of hosts numbers.servers) }
         ensures chain { IfOk result (λ settings. settings.chain ≡ string_bytes hosts.chain) }
         ensures beats { IfOk result (λ settings. settings.beats ≡ None) }
     {
@@ -141,6 +145,18 @@ pub fn port_of(first: u16, i: u8) -> u16
     first.wrapping_add(u16::from(i))
 }
 
+/// The host of server i; none of this chain has an empty one.
+pub(crate) fn host_of(
+    alloc: Global,
+    settings: &MasterSettings,
+    i: u8,
+) -> Result<String, AllocError> {
+    match settings.hosts.get(usize::from(i)) {
+        Some(host) => String::from_str(alloc, host.as_str()),
+        None => Ok(String::new(alloc)),
+    }
+}
+
 // The chain's name.
 fn chain_of(alloc: Global, hosts: &Hosts) -> Result<Key, UsageFault>
     ensures { IfOk result (λ chain. chain ≡ string_bytes hosts.now.chain) }
@@ -153,7 +169,8 @@ fn chain_of(alloc: Global, hosts: &Hosts) -> Result<Key, UsageFault>
 
 // The host of each server: those of the list, else the address for each.
 fn hosts_of(alloc: Global, hosts: &Hosts, servers: u8) -> Result<Vec<String>, UsageFault>
-    ensures { IfOk result (λ all. length all.items ≡ servers) }
+    ensures count { IfOk result (λ all. length all.items ≡ servers) }
+    ensures given { IfOk result (λ all. texts all.items ≡ hosts_of hosts.now servers) }
 {
     if hosts.address.is_empty() {
         return Err(usage(alloc, NO_ADDRESS));
@@ -170,16 +187,35 @@ fn hosts_of(alloc: Global, hosts: &Hosts, servers: u8) -> Result<Vec<String>, Us
 }
 
 // The hosts of a list with commas between them.
-fn listed(alloc: Global, peers: &str) -> Result<Vec<String>, AllocError> {
-    let mut hosts = Vec::new(alloc);
-    for host in peers.split(',') {
-        hosts.push(String::from_str(alloc, host)?)?;
+fn listed(alloc: Global, peers: &str) -> Result<Vec<String>, AllocError>
+    ensures { IfOk result (λ hosts. texts hosts.items ≡ listed peers.now) }
+{
+    let parts = parts_of(alloc, peers)?;
+    copies_of(alloc, parts.as_slice())
+}
+
+// The parts of a list between its commas.
+fn parts_of(alloc: Global, peers: &str) -> Result<Vec<&str>, AllocError>
+    ensures { IfOk result (λ parts. map (λ part. part.now) parts.items ≡ listed peers.now) }
+{
+    peers.split(',').collect(alloc)
+}
+
+// Copies of these texts.
+fn copies_of(alloc: Global, parts: &[&str]) -> Result<Vec<String>, AllocError>
+    ensures { IfOk result (λ copies. texts copies.items ≡ map (λ part. part.now) parts.now) }
+{
+    let mut copies = Vec::new(alloc);
+    for part in parts {
+        copies.push(String::from_str(alloc, part)?)?;
     }
-    Ok(hosts)
+    Ok(copies)
 }
 
 // The same host for each server.
-fn repeated(alloc: Global, address: &str, servers: u8) -> Result<Vec<String>, AllocError> {
+fn repeated(alloc: Global, address: &str, servers: u8) -> Result<Vec<String>, AllocError>
+    ensures { IfOk result (λ hosts. texts hosts.items ≡ replicate servers address.now) }
+{
     let mut hosts = Vec::new(alloc);
     for _ in 0..servers {
         hosts.push(String::from_str(alloc, address)?)?;

@@ -1,11 +1,12 @@
-//! What a master knows of its chain, and how it tells the servers of a failure.
+//! How a master tells the servers of a failure, and what it learns from them.
 
 use crate::command::TellFault;
 use crate::contacts::{Contact, Errand, Visit};
-use crate::master_lines::{tell_silent, tell_unmet, tell_untold};
-use crate::notices::{Answer, done_in, is_among, notices, refusal_in};
+use crate::knowledge::{Knowledge, Known};
+use crate::master_lines::tell_unmet;
+use crate::notices::{Answer, notices, refusal_in};
 use crate::orders::named_in;
-use crate::settings::MasterSettings;
+use crate::settings::{MasterSettings, host_of, port_of};
 use crate::starts::start_number;
 use ends::Sink;
 use leases::Order;
@@ -53,7 +54,7 @@ impl Teller {
             alloc,
             identity: identity_of(rt, settings)?,
             gone: View::empty(),
-            contacts: strangers(alloc, servers)?,
+            contacts: strangers(alloc, settings)?,
         })
     }
 
@@ -66,7 +67,7 @@ impl Teller {
         for i in 0..self.identity.servers {
             self.ask(i, Errand::Greet)?;
         }
-        let answers = self.visit_all(rt, settings)?;
+        let answers = self.visit_all(rt)?;
         if let Some((id, reason)) = refusal_in(answers.as_slice()) {
             return Err(TellFault::Refused(id, reason));
         }
@@ -74,39 +75,26 @@ impl Teller {
         Ok(())
     }
 
-    /// Tells server `j` that it has failed, and then each other server that isn't known to have failed. It answers how
-    /// many of these have noted it. Who hasn't is told on `errors`.
-    pub(crate) fn tell<
-        R: Threads + Clock + Net<Listener = TcpListener, Stream = TcpStream> + Sync,
-        X: Sink,
-    >(
+    /// Tells server `j` that it has failed, and then each other server that isn't known to have failed. What these
+    /// answer, by the servers' ids.
+    pub(crate) fn tell<R: Threads + Clock + Net<Listener = TcpListener, Stream = TcpStream> + Sync>(
         &mut self,
         rt: &R,
-        settings: &MasterSettings,
-        errors: &mut X,
         j: u8,
-    ) -> Result<usize, TellFault> {
+    ) -> Result<Vec<Answer>, TellFault> {
         if j >= self.identity.servers {
             return Err(TellFault::Run);
         }
         self.ask(j, Errand::Tell(Order::Gone(j), OWN_PATIENCE))?;
-        self.tell_others(rt, settings, errors, Order::Gone(j))
+        self.tell_others(rt, Order::Gone(j))
     }
 
     /// Gives this notice, that a server has failed or was silent, to each other server that isn't known to have failed.
-    /// It answers how many of these have noted it. A server that was silent is known to have failed only once one of
-    /// them has. Who hasn't noted a failure is told on `errors`. Refused with Run if it is no notice of a server of the
-    /// chain.
+    /// What these answer, by the servers' ids. A server that was silent is known to have failed only once one of them
+    /// has noted that. Refused with Run if it is no notice of a server of the chain.
     pub(crate) fn tell_others<
         R: Threads + Clock + Net<Listener = TcpListener, Stream = TcpStream> + Sync,
-        X: Sink,
-    >(
-        &mut self,
-        rt: &R,
-        settings: &MasterSettings,
-        errors: &mut X,
-        order: Order,
-    ) -> Result<usize, TellFault> {
+    >(&mut self, rt: &R, order: Order) -> Result<Vec<Answer>, TellFault> {
         let Some(j) = named_in(order) else {
             return Err(TellFault::Run);
         };
@@ -114,78 +102,58 @@ impl Teller {
             return Err(TellFault::Run);
         }
         let given = notices(self.alloc, self.gone, j, self.identity.servers)?;
-        let is_failure = matches!(order, Order::Gone(_));
-        if is_failure {
+        if let Order::Gone(_) = order {
             self.gone = self.gone.union(View::single(j));
         }
         for notice in given {
             let (i, _) = notice;
             self.ask(i, Errand::Tell(order, PATIENCE))?;
         }
-        let answers = self.visit_all(rt, settings)?;
-        if is_failure {
-            tell_untold(errors, settings, answers.as_slice(), j);
-            tell_silent(errors, answers.as_slice(), j);
+        self.visit_all(rt)
+    }
+
+    /// What it knows of the servers.
+    pub(crate) fn knowledge(&self) -> Result<Knowledge, AllocError> {
+        Ok(Knowledge::new(self.alloc, self.gone, self.known()?))
+    }
+
+    /// What it knows of each server, by their ids.
+    pub(crate) fn known(&self) -> Result<Vec<Known>, AllocError> {
+        let mut all = Vec::new(self.alloc);
+        for contact in self.contacts.iter() {
+            all.push(contact.known())?;
         }
-        Ok(done_in(answers.as_slice()))
+        Ok(all)
     }
 
-    /// Whether server `i` is known to have failed.
-    pub(crate) fn is_gone(&self, i: u8) -> bool {
-        is_among(self.gone, i)
-    }
-
-    /// Whether a server is left that isn't known to have failed.
-    pub(crate) fn has_living(&self) -> bool {
-        for i in 0..self.identity.servers {
-            if !self.is_gone(i) {
-                return true;
+    /// These are known to have failed, and this was learned of each server, by their ids.
+    pub(crate) fn learn(&mut self, gone: View, all: &[Known]) {
+        self.gone = self.gone.union(gone);
+        for i in 0..SERVERS {
+            if let Some(known) = all.get(usize::from(i)) {
+                self.learn_of(i, *known);
             }
         }
-        false
     }
 
-    /// The number of the start of server `i`, if it has accepted the master.
-    pub(crate) fn start(&self, i: u8) -> Option<u64> {
-        self.contacts.get(usize::from(i))?.start()
-    }
-
-    /// This start of server `i` has accepted another connection, and told who has failed.
-    pub(crate) fn met(&mut self, i: u8, start: u64, gone: u16) {
+    // This was learned of server i.
+    fn learn_of(&mut self, i: u8, known: Known) {
         if let Some(contact) = self.contacts.get_mut(usize::from(i)) {
-            contact.met(start, gone);
-            self.gone = self.gone.union(View::from_bits(contact.gone()));
+            if let Some(start) = known.start {
+                contact.met(start, known.gone);
+            }
         }
     }
 
-    /// Server `i` told who has failed as far as it knows. It tells whether that is news.
-    pub(crate) fn told(&mut self, i: u8, gone: u16) -> bool {
-        let known = self.gone.bits();
-        if let Some(contact) = self.contacts.get_mut(usize::from(i)) {
-            contact.told(gone);
-            self.gone = self.gone.union(View::from_bits(contact.gone()));
-        }
-        self.gone.bits() != known
+    /// How many servers the chain has.
+    pub(crate) fn servers(&self) -> u8 {
+        self.identity.servers
     }
 
     /// The master's name, which no other has: it is made of the number of its start.
     pub(crate) fn name(&self) -> u32 {
         let start = self.identity.start;
         ((start ^ (start / NAMES)) % NAMES) as u32
-    }
-
-    /// Whether server `j` is known to have failed, and a server that was reached and hasn't failed didn't say that it
-    /// knows.
-    pub(crate) fn is_untold(&self, j: u8) -> bool {
-        if !self.is_gone(j) {
-            return false;
-        }
-        for contact in self.contacts.iter() {
-            if !self.is_gone(contact.id()) && contact.is_untold(j) {
-                return true;
-            }
-        }
-        false
     }
 
     // Gives server i an errand.
@@ -200,19 +168,18 @@ impl Teller {
     fn visit_all<R: Threads + Clock + Net<Listener = TcpListener, Stream = TcpStream> + Sync>(
         &mut self,
         rt: &R,
-        settings: &MasterSettings,
     ) -> Result<Vec<Answer>, TellFault> {
         let contacts = mem::replace(&mut self.contacts, Vec::new(self.alloc));
         let identity = &self.identity;
         let visits = thread::map_vec(
             rt,
             contacts,
-            &|contact: Contact| { contact.visit(rt, settings, identity) },
+            &|contact: Contact| { contact.visit(rt, identity) },
         )?;
         let mut answers = Vec::new(self.alloc);
         for visit in visits {
             let Visit { contact, answer } = visit;
-            self.gone = self.gone.union(View::from_bits(contact.gone()));
+            self.gone = self.gone.union(View::from_bits(contact.known().gone));
             self.contacts.push(contact)?;
             answers.push(answer?)?;
         }
@@ -234,10 +201,11 @@ pub(crate) fn identity_of<R: Clock>(
 }
 
 // All servers of a chain. None was spoken to.
-fn strangers(alloc: Global, servers: u8) -> Result<Vec<Contact>, AllocError> {
+fn strangers(alloc: Global, settings: &MasterSettings) -> Result<Vec<Contact>, AllocError> {
     let mut contacts = Vec::new(alloc);
-    for id in 0..servers {
-        contacts.push(Contact::new(alloc, id))?;
+    for id in 0..settings.numbers.servers {
+        let port = port_of(settings.numbers.peer_port, id);
+        contacts.push(Contact::new(alloc, id, host_of(alloc, settings, id)?, port))?;
     }
     Ok(contacts)
 }

@@ -1,13 +1,14 @@
 //! The threads of a master that watches: one for each server, and one for the lines of its input.
 
 use crate::command::TellFault;
-use crate::events::{Event, News, Post};
+use crate::events::{News, Post};
 use crate::input_lines::{empty_line, next_line, server_named};
-use crate::settings::{MasterSettings, port_of};
-use crate::tellers::{Teller, identity_of};
+use crate::knowledge::Knowledge;
+use crate::settings::{MasterSettings, host_of, port_of};
+use crate::tellers::identity_of;
 use crate::watchers::{Place, Watcher};
 use crossbeam_channel::{Receiver, Sender, bounded};
-use ends::TrackedReader;
+use ends::{Source, TrackedReader};
 use leases::Order;
 use std::alloc::{AllocError, Global};
 use std::io::Stdin;
@@ -15,10 +16,7 @@ use std::net::{Net, TcpListener, TcpStream};
 use std::sync::Wait;
 use std::thread;
 use std::thread::Threads;
-use std::time::{Clock, Duration, Instant};
-
-/// How many events may wait.
-const EVENTS: usize = 64;
+use std::time::{Clock, Duration};
 
 /// How many orders for a server may wait.
 const ORDERS: usize = 4;
@@ -26,10 +24,9 @@ const ORDERS: usize = 4;
 /// Where orders for each server go, by its id: to none that is gone, and nowhere if the master doesn't beat.
 pub(crate) type Posts = Vec<Option<Sender<Order>>>;
 
-/// Starts the threads that watch the servers, but those that are gone, and the one that reads the input. What they hear
-/// comes there; each event tells how long the master runs, which began then. Where orders for those who watch go is put
-/// to `posts`. Fails only if memory or threads run out.
-pub(crate) fn start_threads<
+/// Starts the threads that watch the servers, but those that are gone, which put what they hear there. Where orders for
+/// those who watch go is put to `posts`. Fails only if memory or threads run out.
+pub(crate) fn start_watchers<
     R: Wait
         + Threads
         + Clock
@@ -42,74 +39,16 @@ pub(crate) fn start_threads<
     rt: R,
     alloc: Global,
     settings: &MasterSettings,
-    teller: &Teller,
-    input: Stdin,
-    begun: Instant,
-    posts: &mut Posts,
-) -> Result<Receiver<Event>, TellFault> {
-    let (sender, events) = bounded(alloc, EVENTS)?;
-    let post = Post::new(sender, begun);
-    match start_all(rt, alloc, settings, teller, input, post, posts) {
-        Ok(()) => Ok(events),
-        Err(AllocError) => {
-            drop(events);
-            Err(TellFault::Memory)
-        }
-    }
-}
-
-// Starts them. What they hear is put there.
-fn start_all<
-    R: Wait
-        + Threads
-        + Clock
-        + Net<Listener = TcpListener, Stream = TcpStream>
-        + Copy
-        + Drop
-        + Send
-        + 'static,
->(
-    rt: R,
-    alloc: Global,
-    settings: &MasterSettings,
-    teller: &Teller,
-    input: Stdin,
-    post: Post,
-    posts: &mut Posts,
-) -> Result<(), AllocError> {
-    match start_watchers(rt, alloc, settings, teller, &post, posts) {
-        Ok(()) => start_reading(rt, alloc, settings.numbers.servers, input, post),
-        Err(AllocError) => {
-            drop(post);
-            Err(AllocError)
-        }
-    }
-}
-
-// Starts the threads that watch.
-fn start_watchers<
-    R: Wait
-        + Threads
-        + Clock
-        + Net<Listener = TcpListener, Stream = TcpStream>
-        + Copy
-        + Drop
-        + Send
-        + 'static,
->(
-    rt: R,
-    alloc: Global,
-    settings: &MasterSettings,
-    teller: &Teller,
+    knowledge: &Knowledge,
     post: &Post,
     posts: &mut Posts,
 ) -> Result<(), AllocError> {
     for i in 0..settings.numbers.servers {
-        if teller.is_gone(i) {
+        if knowledge.is_gone(i) {
             posts.push(None)?;
         } else {
             let orders = orders_for(alloc, settings, posts)?;
-            watch_server(rt, alloc, settings, i, post, teller.start(i), orders)?;
+            watch_server(rt, alloc, settings, i, post, knowledge.start(i), orders)?;
         }
     }
     Ok(())
@@ -171,13 +110,9 @@ fn place_of<R: Clock>(
     settings: &MasterSettings,
     i: u8,
 ) -> Result<Place, AllocError> {
-    let host = match settings.hosts.get(usize::from(i)) {
-        Some(host) => String::from_str(alloc, host.as_str())?,
-        None => String::new(alloc),
-    };
     Ok(Place {
         id: i,
-        host,
+        host: host_of(alloc, settings, i)?,
         port: port_of(settings.numbers.peer_port, i),
         identity: identity_of(rt, settings)?,
     })
@@ -253,14 +188,15 @@ fn run<R: Wait + Clock + Net<Listener = TcpListener, Stream = TcpStream>>(
     watcher.watch(rt);
 }
 
-// Starts the thread that reads the lines of the input. Fails only if memory or threads run out.
-fn start_reading<R: Wait + Threads + Clock + Copy + Drop + Send + 'static>(
+/// Starts the thread that reads the lines of the input. It reads the next one once it is put there that the one before
+/// was answered. Fails only if memory or threads run out.
+pub(crate) fn start_reading<R: Wait + Threads + Clock + Copy + Drop + Send + 'static>(
     rt: R,
     alloc: Global,
     servers: u8,
     input: Stdin,
     post: Post,
-) -> Result<(), AllocError> {
+) -> Result<Sender<()>, AllocError> {
     let line = match empty_line(alloc) {
         Ok(line) => line,
         Err(AllocError) => {
@@ -268,10 +204,16 @@ fn start_reading<R: Wait + Threads + Clock + Copy + Drop + Send + 'static>(
             return Err(AllocError);
         }
     };
-    match thread::spawn(&rt, move || read_lines(&rt, servers, input, line, &post)) {
+    let (answered, answers) = bounded(alloc, 1)?;
+    let reading = Reading {
+        line,
+        post,
+        answers,
+    };
+    match thread::spawn(&rt, move || read_lines(&rt, servers, input, reading)) {
         Ok(thread) => {
             drop(thread);
-            Ok(())
+            Ok(answered)
         }
         Err(refused) => {
             drop(refused);
@@ -280,22 +222,50 @@ fn start_reading<R: Wait + Threads + Clock + Copy + Drop + Send + 'static>(
     }
 }
 
+// What the thread that reads the input has.
+#[derive(Drop)]
+struct Reading {
+    // Room for a line.
+    line: Vec<u8>,
+    // What lines name goes there.
+    post: Post,
+    // It comes from there that a line was answered.
+    answers: Receiver<()>,
+}
+
 // Puts what each line of the input names, until it ends.
-fn read_lines<R: Wait + Clock>(rt: &R, servers: u8, input: Stdin, line: Vec<u8>, post: &Post) {
+fn read_lines<R: Wait + Clock>(rt: &R, servers: u8, input: Stdin, reading: Reading) {
     let mut input = TrackedReader::new(input);
-    let mut line = line;
+    let mut reading = reading;
     for _ in rt.forever() {
-        match next_line(&mut input, &mut line) {
-            Ok(true) => match server_named(line.as_slice(), b"gone", servers) {
-                Some(j) => post.put(rt, News::Typed(j)),
-                None => post.put(rt, News::BadLine),
-            },
-            Ok(false) => return,
-            Err(AllocError) => {
-                post.put(rt, News::Memory);
-                return;
-            }
+        if !reading.go_on(rt, servers, &mut input) {
+            return;
         }
     }
     unreachable!()
+}
+
+impl Reading {
+    // Puts what the next line names, and waits for its answer. It tells whether there was one.
+    fn go_on<R: Wait + Clock, S: Source>(&mut self, rt: &R, servers: u8, input: &mut S) -> bool {
+        match next_line(input, &mut self.line) {
+            Ok(true) => {
+                self.post.put(rt, named_by(self.line.as_slice(), servers));
+                self.answers.recv(rt).is_ok()
+            }
+            Ok(false) => false,
+            Err(AllocError) => {
+                self.post.put(rt, News::Fault(TellFault::Memory));
+                false
+            }
+        }
+    }
+}
+
+// What a line names.
+fn named_by(line: &[u8], servers: u8) -> News {
+    match server_named(line, b"gone", servers) {
+        Some(j) => News::Typed(j),
+        None => News::BadLine,
+    }
 }

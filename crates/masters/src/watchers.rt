@@ -1,6 +1,7 @@
 //! Who watches one server for a master: it keeps a connection to it, as a master of its own. If the master beats,
 //! orders go there and reports come back.
 
+use crate::command::TellFault;
 use crate::conversations::converse;
 use crate::events::{News, Post};
 use crate::greetings::{Channel, Greeted, greet};
@@ -100,7 +101,7 @@ impl Watcher {
             match self.look(rt, frames) {
                 Ok(sight) => self.act(rt, due(self.standing, sight)),
                 Err(AllocError) => {
-                    self.post.put(rt, News::Memory);
+                    self.post.put(rt, News::Fault(TellFault::Memory));
                     return;
                 }
             }
