@@ -1,12 +1,13 @@
 -- Which notices are taken.
-use Rattle.std.proofs.Common.{◌≡◌, ℕ, ◌<◌, Bool, true, false, Some, None, subst}
+use Rattle.std.proofs.Common.{◌≡◌, ◌∙◌, sym, ℕ, ◌<◌, Bool, true, false, Some, None, subst}
 use Rattle.std.specs.Prelude.{nat_eq, if◌then◌else◌}
 use Rattle.leases.specs.declared.orders.Order.{Order}
 use Rattle.leases.specs.declared.orders.Order.TheVariants.{Reign, Beat, Silent, Gone}
 use Rattle.leases.specs.declared.orders.Report.{Report}
+use Rattle.leases.specs.declared.orders.Answer.{Answer}
 use Rattle.leases.specs.declared.orders.Answer.TheVariants.{Notes}
 use Rattle.leases.specs.Holding.{LeaseState, answer_to, answer_with, heeded, report_of}
-use Rattle.links.specs.Orders.{NamesServer}
+use Rattle.links.specs.Orders.{IsAnswer, NamesServer}
 
 same_id : (j id : ℕ) → Notes j ≡ Notes id → j ≡ id
 same_id j id e = cc
@@ -29,3 +30,18 @@ noted_has_place lease (Beat reign stamp) gone now id h e = absurd cc
 noted_has_place lease (Silent reign j) gone now id h e =
     named_by (nat_eq reign lease.reign) j id (report_of (heeded lease (Silent reign j) gone now) gone now) h e
 noted_has_place lease (Gone j) gone now id h e = subst (λ k. k < 16) (same_id j id e) h
+
+silence_named : (own : Bool) (id j : ℕ) (report : Report)
+    → answer_with (if own then Some id else None) report ≡ Notes j
+    → id ≡ j
+silence_named true id j report e = same_id id j e
+silence_named false id j report e = absurd cc
+
+-- what a notice of silence is answered names the server that the notice names, if it is taken
+pub noted_is_named : (reign id j : ℕ) (answer : Answer)
+    → IsAnswer (Silent reign id) answer
+    → answer ≡ Notes j
+    → id ≡ j
+noted_is_named reign id j answer a e =
+    silence_named (nat_eq reign a.lease.reign) id j
+    (report_of (heeded a.lease (Silent reign id) a.gone a.now) a.gone a.now) (sym a.same ∙ e)

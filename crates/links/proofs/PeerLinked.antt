@@ -28,6 +28,26 @@ none_fewer zero (l ∷ ls) d x (suc j) within now = omega arith
 none_fewer (suc place) (l ∷ ls) d x zero within now = omega arith
 none_fewer (suc place) (l ∷ ls) d x (suc j) within now = none_fewer place ls d x j (omega (arith, within)) now
 
+-- if one is as it was, so are all
+pub same_failures : {W : Type 0} (place : ℕ) (ls : List (PeerLink W)) (d x : PeerLink W) (j : ℕ) → place < length ls
+    → x.has_failed ≡ (slice_index_or ls place d).has_failed
+    → failures_at (slice_set ls place x) j ≡ failures_at ls j
+same_failures place [] d x j within same = absurd (omega (arith, within))
+same_failures zero (l ∷ ls) d x zero within same = ap (λ b. if b then 1 else 0) same
+same_failures zero (l ∷ ls) d x (suc j) within same = refl
+same_failures (suc place) (l ∷ ls) d x zero within same = refl
+same_failures (suc place) (l ∷ ls) d x (suc j) within same = same_failures place ls d x j (omega (arith, within)) same
+
+-- the others are as they were
+pub failed_elsewhere : {W : Type 0} (place : ℕ) (ls : List (PeerLink W)) (x : PeerLink W) (j : ℕ)
+    → j ≢ place
+    → failures_at (slice_set ls place x) j ≡ failures_at ls j
+failed_elsewhere place [] x j other = refl
+failed_elsewhere zero (l ∷ ls) x zero other = absurd (other refl)
+failed_elsewhere zero (l ∷ ls) x (suc j) other = refl
+failed_elsewhere (suc place) (l ∷ ls) x zero other = refl
+failed_elsewhere (suc place) (l ∷ ls) x (suc j) other = failed_elsewhere place ls x j (λ same. other (ap suc same))
+
 -- beyond the last link each has failed
 pub beyond : {W : Type 0} (place : ℕ) (ls : List (PeerLink W)) → length ls ≤ place
     → failures_at ls place ≡ 1

@@ -3,13 +3,14 @@ use Rattle.std.specs.Prelude.{ℕ, Bool, not, ◌&&◌, ◌||◌, if◌then◌el
 use Rattle.std.specs.Prelude.{◌≡◌, []}
 use Rattle.std.specs.Cmp.Lexicographic.{pointwise}
 use Rattle.node.specs.Views.{has}
+use Rattle.wire.specs.declared.greetings.Acceptance.{Acceptance}
 use Rattle.wire.specs.declared.greetings.Introduction.{Introduction}
 use Rattle.wire.specs.declared.greetings.Reason.{Reason}
 use Rattle.wire.specs.declared.greetings.Reason.TheVariants.{Servers, Chain, Taken, Gone}
-use Rattle.links.specs.declared.desks.Desk.{Desk}
 use Rattle.peers.specs.declared.identities.Identity.{Identity}
 use Rattle.links.specs.declared.speakers.Who.{Who}
 use Rattle.links.specs.declared.speakers.Who.TheVariants.{Server, Master}
+use Rattle.links.specs.Desks.{DeskState}
 use Rattle.links.specs.Places.{waiting}
 
 -- the opener's chain has the host's name
@@ -21,7 +22,7 @@ abbrev pub is_same_size : ℕ → ℕ → ℕ → Bool
 is_same_size servers id others = nat_eq others servers && (nat_eq id 16 || (nat_lt id servers && nat_lt id 16))
 
 -- why who greets with this id isn't accepted, if it isn't: the first of these that holds. A master always is
-abbrev pub refusal : Identity → Desk → ℕ → Introduction → Option Reason
+abbrev pub refusal : Identity → DeskState → ℕ → Introduction → Option Reason
 refusal host desk id opener =
     if not (is_same_chain host opener) then Some Chain
     else if not (is_same_size host.servers id opener.servers) then Some Servers
@@ -32,17 +33,20 @@ refusal host desk id opener =
     else Some Taken
 
 -- who is accepted has the inlet that waited for it; a master has brought nothing
-abbrev pub HasPlace : Desk → ℕ → Who → Type 0
+abbrev pub HasPlace : DeskState → ℕ → Who → Type 0
 HasPlace desk id (Server j brought) = waiting desk.places id ≡ Some brought
 HasPlace desk id (Master told) = told ≡ []
 
--- At some desk who greets so is accepted, and has the inlet that waited there.
-pub record IsAdmitted (host : Identity) (id : ℕ) (opener : Introduction) (who : Who) : Type 0 where
-  pub desk : Desk
+-- At some desk who greets so is accepted, has the inlet that waited there, and is told who has failed as far as it is
+-- known there.
+pub record IsAdmitted (host : Identity) (id : ℕ) (opener : Introduction) (who : Who) (answer : Acceptance)
+    : Type 0 where
+  pub desk : DeskState
   pub accepted : refusal host desk id opener ≡ None
   pub place : HasPlace desk id who
+  pub told : answer.gone ≡ desk.gone
 
 -- At some desk who greets so is refused for this reason.
 pub record IsRefused (host : Identity) (id : ℕ) (opener : Introduction) (reason : Reason) : Type 0 where
-  pub desk : Desk
+  pub desk : DeskState
   pub refused : refusal host desk id opener ≡ Some reason

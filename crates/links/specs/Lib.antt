@@ -1,4 +1,7 @@
+pub mod Desks
 pub mod Greetings
+pub mod Guests
+pub mod Lobbies
 pub mod Orders
 pub mod PeerLinks
 pub mod Places

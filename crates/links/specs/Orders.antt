@@ -1,5 +1,5 @@
 -- What masters are answered, as frames carry it.
-use Rattle.std.specs.Prelude.{◌≡◌, ◌⊎◌, ℕ, ◌<◌, nat_eq, List, [], ◌++◌, Option, Some, None, if◌then◌else◌}
+use Rattle.std.specs.Prelude.{◌≡◌, ◌⊎◌, ℕ, ◌<◌, nat_eq, List, [], Option, Some, None, if◌then◌else◌}
 use Rattle.node.specs.Views.{single, union}
 use Rattle.leases.specs.declared.orders.Order.{Order}
 use Rattle.leases.specs.declared.orders.Order.TheVariants as orders
@@ -61,12 +61,14 @@ bytes_of responses.Nothing = []
 bytes_of (responses.Noted j) = spelling (Noted j)
 bytes_of (responses.Alive alive) = spelling (frames.Alive alive)
 
--- these bytes tell how a server is
-abbrev pub TellsHow : List ℕ → Type 0
-TellsHow bytes = (alive : Alive) × (bytes ≡ spelling (frames.Alive alive))
+-- These bytes tell how some server is once it has heard this order, which is no notice that it takes.
+pub record TellsHow (order : Order) (bytes : List ℕ) : Type 0 where
+  pub report : Report
+  pub told : IsAnswer order (Tells report)
+  pub spelled : bytes ≡ spelling (frames.Alive (alive_of report))
 
--- What answers a frame that was heard: a notice is noted, and an order of a lease is answered by how the server is. A
--- notice of silence is either: one of another reign isn't taken, and then the answer tells that.
+-- What answers a frame that was heard: a notice is noted, and an order of a lease is answered by how the server is
+-- then. A notice of silence is either: one of another reign isn't taken, and then the answer tells that.
 abbrev pub Answers : Frame → List ℕ → Type 0
 Answers (Hello id) bytes = bytes ≡ []
 Answers (Peer peer) bytes = bytes ≡ []
@@ -75,13 +77,8 @@ Answers (Introduction opener) bytes = bytes ≡ []
 Answers (Accepted answer) bytes = bytes ≡ []
 Answers (Refused reason) bytes = bytes ≡ []
 Answers (Noted j) bytes = bytes ≡ []
-Answers (Reign reign) bytes = TellsHow bytes
-Answers (Beat beat) bytes = TellsHow bytes
+Answers (Reign reign) bytes = TellsHow (orders.Reign reign) bytes
+Answers (Beat beat) bytes = TellsHow (orders.Beat beat.reign (stamp_in beat.stamp)) bytes
 Answers (frames.Alive alive) bytes = bytes ≡ []
-Answers (Silent silent) bytes = TellsHow bytes ⊎ (bytes ≡ spelling (Noted silent.id))
-
--- What was written has grown by the answer to this frame, and by nothing else.
-pub record IsAnswered (frame : Frame) (before now : List ℕ) : Type 0 where
-  pub bytes : List ℕ
-  pub answer : Answers frame bytes
-  pub written : now ≡ before ++ bytes
+Answers (Silent silent) bytes =
+    TellsHow (orders.Silent silent.reign silent.id) bytes ⊎ (bytes ≡ spelling (Noted silent.id))

@@ -1,12 +1,17 @@
 -- Links to other servers: which have failed, and what was written to each.
 use Rattle.std.specs.Prelude.{ℕ, zero, suc, List, [], ◌∷◌, Option, Some, None, if◌then◌else◌}
 use Rattle.links.specs.declared.peer_links.PeerLink.{PeerLink}
+use Rattle.links.specs.declared.peer_links.PeerLinks.{PeerLinks}
 
 -- whether each link has failed, as a count: the link to a server outside the chain has failed
 abbrev pub failures_at : {W : Type 0} → List (PeerLink W) → ℕ → ℕ
 failures_at [] j = 1
 failures_at (x ∷ xs) zero = if x.has_failed then 1 else 0
 failures_at (x ∷ xs) (suc j) = failures_at xs j
+
+-- the same of the links of one server
+abbrev pub failures_of : {W : Type 0} → PeerLinks W → ℕ → ℕ
+failures_of links = failures_at links.links.items
 
 -- the bytes that a sink took, if there is one
 abbrev pub written_by : {W : Type 0} → (W → List ℕ) → Option W → List ℕ

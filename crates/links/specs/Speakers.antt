@@ -1,12 +1,17 @@
 -- Who speaks at a server's peer port, and what the server hears of it.
-use Rattle.std.specs.Prelude.{ℕ, [], ◌∷◌, ◌++◌, ◌≡◌, ◌≢◌, ◌⊎◌}
+use Rattle.std.specs.Prelude.{ℕ, List, [], ◌∷◌, ◌++◌, ◌≡◌, ◌≢◌, ◌⊎◌, ◌<◌}
+use Rattle.ends.specs.Ends.{WritesBeginning}
 use Rattle.node.specs.declared.messages.Input.TheVariants as inputs
+use Rattle.peers.specs.declared.identities.Identity.{Identity}
 use Rattle.rail.specs.declared.events.Event.TheVariants.{Took}
 use Rattle.wire.specs.declared.frames.Frame.{Frame}
 use Rattle.wire.specs.declared.frames.Frame.TheVariants.{Hello, Peer, Gone, Introduction, Accepted, Refused, Noted}
 use Rattle.wire.specs.declared.frames.Frame.TheVariants.{Reign, Beat, Alive, Silent}
+use Rattle.links.specs.declared.orders.Response.{Response}
+use Rattle.links.specs.declared.orders.Response.TheVariants as responses
 use Rattle.links.specs.declared.speakers.Who.{Who}
 use Rattle.links.specs.declared.speakers.Who.TheVariants.{Server, Master}
+use Rattle.links.specs.Orders.{Answers, bytes_of}
 
 -- who greets with this id: a master by 16, else the server of that id
 abbrev pub Greets : ℕ → Who → Type 0
@@ -39,3 +44,38 @@ Hears (Master told) (Reign reign) now = now ≡ Master told
 Hears (Master told) (Beat beat) now = now ≡ Master told
 Hears (Master told) (Alive alive) now = ⊥
 Hears (Master told) (Silent silent) now = (now ≡ Master (told ++ silent.id ∷ [])) ⊎ (now ≡ Master told)
+
+-- what a response says of who speaks: a notice is noted exactly if it was brought
+abbrev pub Notes : Who → Response → Who → Type 0
+Notes (Server i brought) response now = response ≡ responses.Nothing
+Notes (Master told) responses.Nothing now = ⊥
+Notes (Master told) (responses.Noted j) now = now ≡ Master (told ++ j ∷ [])
+Notes (Master told) (responses.Alive alive) now = now ≡ Master told
+
+-- a notice of silence names a server of the host's chain
+abbrev pub NamesOneOf : Identity → Frame → Type 0
+NamesOneOf host (Hello id) = Unit {0}
+NamesOneOf host (Peer peer) = Unit {0}
+NamesOneOf host (Gone j) = Unit {0}
+NamesOneOf host (Introduction opener) = Unit {0}
+NamesOneOf host (Accepted answer) = Unit {0}
+NamesOneOf host (Refused reason) = Unit {0}
+NamesOneOf host (Noted j) = Unit {0}
+NamesOneOf host (Reign reign) = Unit {0}
+NamesOneOf host (Beat beat) = Unit {0}
+NamesOneOf host (Alive alive) = Unit {0}
+NamesOneOf host (Silent silent) = silent.id < host.servers
+
+-- What was written has grown by the answer to this frame, which tells what it made of who speaks, and by nothing else.
+pub record IsAnswered (who : Who) (frame : Frame) (after : Who) (before now : List ℕ) : Type 0 where
+  pub response : Response
+  pub answer : Answers frame (bytes_of response)
+  pub noted : Notes who response after
+  pub written : now ≡ before ++ bytes_of response
+
+-- The same of a beginning of that answer.
+pub record IsAnswerBegun (who : Who) (frame : Frame) (after : Who) (before now : List ℕ) : Type 0 where
+  pub response : Response
+  pub answer : Answers frame (bytes_of response)
+  pub noted : Notes who response after
+  pub begun : WritesBeginning before now (bytes_of response)

@@ -1,6 +1,6 @@
 //! What a server knows of those who greet it, and whom it accepts.
 ghost use Rattle.std.specs.Prelude.{◌≡◌, ◌≢◌, ◌&&◌, ◌||◌, ℕ, None, Some, OnOk, OnErr, IfOk, IfErr};
-ghost use Rattle.node.specs.Views.{union};
+ghost use Rattle.node.specs.Views.{adds, union};
 ghost use Rattle.leases.specs.Holding.{answer_to, heeded, unheld};
 ghost use Rattle.links.specs.Greetings.{HasPlace, is_same_size, refusal};
 ghost use Rattle.links.specs.Orders.{NamesServer, gone_after};
@@ -13,14 +13,23 @@ use leases::{Answer, Lease, Order, Term};
 use node::{SERVERS, View};
 use peers::Identity;
 use std::alloc::Global;
+use std::marker::Model;
 use wire::{Introduction, MASTER, Reason};
 
-/// Who may still greet, which servers have failed, and the server's lease.
+/// Who may still greet, which servers have failed, and the server's lease. Contracts see these three.
 #[derive(Drop)]
 pub struct Desk {
     places: Places,
     gone: View,
     lease: Lease,
+}
+
+impl Model for Desk {
+    ghost use Rattle.links.specs.Desks.{DeskState};
+
+    ghost Value = { DeskState };
+
+    ghost view = { λ d. record { places = d.places; gone = d.gone; lease = d.lease } };
 }
 
 impl Desk {
@@ -46,6 +55,7 @@ impl Desk {
 
     /// These have failed too. It tells whether that is news of one of them.
     pub fn note(&mut self, view: View) -> bool
+        ensures news { result ≡ adds self.old.gone view }
         ensures gone { self.new.gone ≡ union self.old.gone view }
         ensures places { self.new.places ≡ self.old.places }
         ensures lease { self.new.lease ≡ self.old.lease }
@@ -110,7 +120,7 @@ impl Desk {
     }
 
     /// The speaker who greets so, if it is accepted. A server's place is given once: nobody else is accepted with its
-    /// id from then on. Who is refused changes nothing.
+    /// id from then on. Who is refused changes nothing, and a master neither.
     pub fn admit(
         &mut self,
         alloc: Global,
@@ -126,6 +136,7 @@ impl Desk {
         ensures others { (j : ℕ) → j ≢ id → waiting self.new.places j ≡ waiting self.old.places j }
         ensures gone { self.new.gone ≡ self.old.gone }
         ensures lease { self.new.lease ≡ self.old.lease }
+        ensures master { OnOk result (id ≡ 16 → self.new ≡ self.old) }
         ensures stays { OnErr result (self.new ≡ self.old) }
     {
         if let Some(reason) = self.refusal(host, id, opener) {

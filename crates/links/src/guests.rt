@@ -1,8 +1,12 @@
 //! One who speaks at a server's peer port.
-ghost use Rattle.std.specs.Prelude.{◌≡◌, ◌⊎◌, ◌+◌, ◌++◌, ◌∷◌, [], IfOk, OnOk, OnErr, MatchResult};
+ghost use Rattle.std.specs.Prelude.{◌≡◌, ◌⊎◌, ◌+◌, ◌++◌, ◌∷◌, [], false, IfOk, OnOk, OnErr, MatchResult};
+ghost use Rattle.ends.specs.Ends.{WritesBeginning};
+ghost use Rattle.node.specs.Views.{union};
 ghost use Rattle.peers.specs.Links.{MayCome};
-ghost use Rattle.links.specs.Orders.{Answers, IsAnswered, bytes_of};
-ghost use Rattle.links.specs.Speakers.{Hears};
+ghost use Rattle.links.specs.Guests.{named_in};
+ghost use Rattle.links.specs.Lobbies.{IsCalledGone, host_of};
+ghost use Rattle.links.specs.Orders.{Answers, bytes_of};
+ghost use Rattle.links.specs.Speakers.{Hears, IsAnswerBegun, IsAnswered, Notes};
 ghost use Rattle.wire.specs.Spellings.{spelling};
 
 use crate::histories::History;
@@ -13,13 +17,15 @@ use ends::{Failures, Sink};
 use node::View;
 use peers::{TakeFault, Taker, put_frame};
 use std::alloc::Global;
+use std::marker::Model;
 use std::snapshot::Snapshot;
 use std::sync::{Arc, Wait};
 use wire::Frame;
 
 /// One who was accepted there. Its frames are brought to the server as long as it keeps the rules (`Speaker::hear`),
 /// and each notice is answered as soon as it was brought, each order as soon as the lease has heard it. If a notice or
-/// a message calls the server itself gone, the server is ended.
+/// a message calls the server itself gone, the server is ended. Contracts see who speaks, the sink, whom its messages
+/// have called gone, and what was taken.
 #[derive(Drop)]
 pub struct Guest<C, W> {
     alloc: Global,
@@ -33,6 +39,20 @@ pub struct Guest<C, W> {
     failures: Failures,
 }
 
+impl<C, W> Model for Guest<C, W> {
+    ghost use Rattle.links.specs.Guests.{GuestState};
+
+    ghost Value = { GuestState W };
+
+    ghost view = { λ g. record {
+      speaker = g.speaker;
+      sink = g.sink;
+      named = g.view;
+      taken = g.taken;
+      failures = g.failures;
+    } };
+}
+
 impl<C: Cuts + Drop, W: Sink + Drop> Guest<C, W> {
     /// One who was accepted as this speaker, and is answered there.
     pub fn new(
@@ -43,6 +63,9 @@ impl<C: Cuts + Drop, W: Sink + Drop> Guest<C, W> {
     ) -> Guest<C, W>
         ensures speaker { result.speaker ≡ speaker }
         ensures sink { result.sink ≡ sink }
+        ensures named { result.named ≡ 0 }
+        ensures taken { result.taken ≡ [] }
+        ensures failures { result.failures ≡ 0 }
     {
         Guest {
             alloc,
@@ -58,8 +81,7 @@ impl<C: Cuts + Drop, W: Sink + Drop> Guest<C, W> {
 
 impl<C: Cuts + Drop, W: Sink + Drop> Taker for Guest<C, W> {
     ghost use Rattle.std.specs.Prelude.{◌≡◌, ◌⊎◌};
-    ghost use Rattle.links.specs.Orders.{IsAnswered};
-    ghost use Rattle.links.specs.Speakers.{Hears};
+    ghost use Rattle.links.specs.Speakers.{Hears, IsAnswerBegun, IsAnswered};
 
     ghost taken = { λ g. g.taken };
 
@@ -68,11 +90,14 @@ impl<C: Cuts + Drop, W: Sink + Drop> Taker for Guest<C, W> {
     // The server was brought it, and it was answered as its kind is; nothing else was.
     ghost hears = { λ before frame now.
         Hears before.speaker frame now.speaker
-        × IsAnswered frame (W.written before.sink) (W.written now.sink) };
+        × IsAnswered before.speaker frame now.speaker (W.written before.sink) (W.written now.sink) };
 
-    // The server was brought nothing, or it: then the answer couldn't be written, or memory ran out.
+    // The server was brought nothing, and nothing was written; or it was brought it, and a beginning of the answer was
+    // written: then the rest couldn't be, or memory ran out.
     ghost misses = { λ before frame now.
-        (now.speaker ≡ before.speaker) ⊎ Hears before.speaker frame now.speaker };
+        ((now.speaker ≡ before.speaker) × (W.written now.sink ≡ W.written before.sink))
+        ⊎ (Hears before.speaker frame now.speaker
+        × IsAnswerBegun before.speaker frame now.speaker (W.written before.sink) (W.written now.sink)) };
 
     fn take<R: Wait>(&mut self, rt: &R, frame: Frame) -> Result<(), TakeFault>
         requires { MayCome frame }
@@ -84,27 +109,65 @@ impl<C: Cuts + Drop, W: Sink + Drop> Taker for Guest<C, W> {
         // What it has taken was heard.
         ensures heard { OnOk result (Hears self.old.speaker frame self.new.speaker) }
         // It was answered as its kind is, and nothing else was.
-        ensures answered { OnOk result (IsAnswered frame (W.written self.old.sink) (W.written self.new.sink)) }
-        // What it hasn't taken was not heard, or heard and not answered.
+        ensures answered { OnOk result (IsAnswered
+            self.old.speaker frame self.new.speaker (W.written self.old.sink) (W.written self.new.sink)) }
+        // What it hasn't taken was neither heard nor answered, or was heard and a beginning of its answer was written.
         ensures missed { OnErr result
-            ((self.new.speaker ≡ self.old.speaker) ⊎ Hears self.old.speaker frame self.new.speaker) }
+            (((self.new.speaker ≡ self.old.speaker) × (W.written self.new.sink ≡ W.written self.old.sink))
+            ⊎ (Hears self.old.speaker frame self.new.speaker × IsAnswerBegun
+            self.old.speaker frame self.new.speaker (W.written self.old.sink) (W.written self.new.sink))) }
+        ensures named { self.new.named ≡ union self.old.named (named_in frame) }
     {
         let snapshot = Snapshot::of(&frame);
-        let heard = hear(rt, &self.lobby, &mut self.view, &mut self.speaker, frame);
-        if let Ok(response) = heard {
-            let answered = answer(self.alloc, &mut self.sink, response);
-            end_if_named(rt, &self.lobby, response);
-            if answered.is_ok() && self.taken.add(snapshot).is_ok() {
-                return Ok(());
-            }
+        let lobby = &*self.lobby;
+        let view = &mut self.view;
+        let attended = attend(
+            rt,
+            self.alloc,
+            lobby,
+            view,
+            &mut self.speaker,
+            &mut self.sink,
+            frame,
+        );
+        if attended.is_ok() && self.taken.add(snapshot).is_ok() {
+            return Ok(());
         }
         self.failures.rise();
         Err(TakeFault)
     }
 }
 
+// Does what a frame asks for, and answers it. If a notice names the server itself, the server is ended after the
+// answer.
+fn attend<R: Wait, C: Cuts, W: Sink>(
+    rt: &R,
+    alloc: Global,
+    lobby: &Lobby<C>,
+    view: &mut View,
+    speaker: &mut Speaker,
+    sink: &mut W,
+    frame: Frame,
+) -> Result<(), TakeFault>
+    requires { MayCome frame }
+    ensures heard { OnOk result (Hears speaker.old frame speaker.new) }
+    ensures answered { OnOk result
+        (IsAnswered speaker.old frame speaker.new (W.written sink.old) (W.written sink.new)) }
+    ensures begun { ((speaker.new ≡ speaker.old) × (W.written sink.new ≡ W.written sink.old))
+        ⊎ (Hears speaker.old frame speaker.new
+        × IsAnswerBegun speaker.old frame speaker.new (W.written sink.old) (W.written sink.new)) }
+    ensures named { view.new ≡ union view.old (named_in frame) }
+{
+    let response = hear(rt, lobby, view, speaker, frame)?;
+    let answered = answer(alloc, sink, response);
+    end_if_named(rt, lobby, response);
+    answered
+}
+
 // Whom a message's sender calls gone.
-fn view_in(frame: &Frame) -> View {
+fn view_in(frame: &Frame) -> View
+    ensures { result ≡ named_in frame.now }
+{
     match frame {
         Frame::Peer(peer) => peer.view,
         _ => View::empty(),
@@ -122,7 +185,9 @@ fn hear<R: Wait, C: Cuts>(
     requires { MayCome frame }
     ensures heard { OnOk result (Hears speaker.old frame speaker.new) }
     ensures answered { IfOk result (λ response. Answers frame (bytes_of response)) }
+    ensures noted { IfOk result (λ response. Notes speaker.old response speaker.new) }
     ensures refused { OnErr result (speaker.new ≡ speaker.old) }
+    ensures named { view.new ≡ union view.old (named_in frame) }
 {
     if learn(rt, lobby, view, view_in(&frame)) {
         speaker.hear(rt, lobby, frame)
@@ -134,12 +199,13 @@ fn hear<R: Wait, C: Cuts>(
 
 // Learns whom a message calls gone, beside those of earlier messages. If the server itself is among them it is ended.
 // It tells whether it isn't.
-fn learn<R: Wait, C: Cuts>(rt: &R, lobby: &Lobby<C>, before: &mut View, view: View) -> bool {
-    if !before.adds(view) {
-        return true;
-    }
+fn learn<R: Wait, C: Cuts>(rt: &R, lobby: &Lobby<C>, before: &mut View, view: View) -> bool
+    ensures ended { result ≡ false → IsCalledGone (host_of lobby.now) view }
+    ensures named { before.new ≡ union before.old view }
+{
+    let is_news = before.adds(view);
     *before = before.union(view);
-    if lobby.learn(rt, view) {
+    if !is_news || lobby.learn(rt, view) {
         return true;
     }
     lobby.end(rt);
@@ -156,8 +222,10 @@ fn end_if_named<R: Wait, C: Cuts>(rt: &R, lobby: &Lobby<C>, response: Response) 
 }
 
 // Answers, if anything is answered.
+#[tactic(auto, using(crate::proofs::Answering::nothing_begun))]
 fn answer<W: Sink>(alloc: Global, sink: &mut W, response: Response) -> Result<(), TakeFault>
-    ensures { OnOk result (W.written sink.new ≡ W.written sink.old ++ bytes_of response) }
+    ensures written { OnOk result (W.written sink.new ≡ W.written sink.old ++ bytes_of response) }
+    ensures begun { WritesBeginning (W.written sink.old) (W.written sink.new) (bytes_of response) }
 {
     match response {
         Response::Nothing => Ok(()),
@@ -168,7 +236,8 @@ fn answer<W: Sink>(alloc: Global, sink: &mut W, response: Response) -> Result<()
 
 // Puts a frame of its own, if its numbers are in range.
 fn put<W: Sink>(alloc: Global, sink: &mut W, frame: Frame) -> Result<(), TakeFault>
-    ensures { OnOk result (W.written sink.new ≡ W.written sink.old ++ spelling frame) }
+    ensures written { OnOk result (W.written sink.new ≡ W.written sink.old ++ spelling frame) }
+    ensures begun { WritesBeginning (W.written sink.old) (W.written sink.new) (spelling frame) }
 {
     let answered = put_in_range(alloc, sink, &frame);
     drop(frame);
@@ -176,8 +245,10 @@ fn put<W: Sink>(alloc: Global, sink: &mut W, frame: Frame) -> Result<(), TakeFau
 }
 
 // Puts a frame, if its numbers are in range.
+#[tactic(auto, using(crate::proofs::Answering::nothing_begun, crate::proofs::Answering::whole_begun))]
 fn put_in_range<W: Sink>(alloc: Global, sink: &mut W, frame: &Frame) -> Result<(), TakeFault>
-    ensures { OnOk result (W.written sink.new ≡ W.written sink.old ++ spelling frame.now) }
+    ensures written { OnOk result (W.written sink.new ≡ W.written sink.old ++ spelling frame.now) }
+    ensures begun { WritesBeginning (W.written sink.old) (W.written sink.new) (spelling frame.now) }
 {
     if !frame.is_in_range() {
         return Err(TakeFault);

@@ -6,6 +6,7 @@ mod desks;
 mod guests;
 mod histories;
 mod lobbies;
+mod notices;
 mod orders;
 mod peer_links;
 mod places;

@@ -1,6 +1,9 @@
 //! What all who speak at a server's peer port share.
-ghost use Rattle.std.specs.Prelude.{◌≡◌, IfErr, IfOk};
-ghost use Rattle.links.specs.Greetings.{IsAdmitted, IsRefused};
+ghost use Rattle.std.specs.Prelude.{◌≡◌, None, Some, true, false, OnOk, IfErr, IfOk};
+ghost use Rattle.node.specs.Views.{adds, is_below};
+ghost use Rattle.leases.specs.Holding.{answer_to};
+ghost use Rattle.links.specs.Greetings.{HasPlace, IsAdmitted, IsRefused, refusal};
+ghost use Rattle.links.specs.Lobbies.{IsCalledGone, cuts_of, host_of};
 ghost use Rattle.links.specs.Orders.{IsAnswer, NamesServer};
 ghost use Rattle.links.specs.Speakers.{Greets};
 
@@ -54,7 +57,8 @@ impl<C: Cuts> Lobby<C> {
         term: Option<Term>,
         cuts: C,
     ) -> Lobby<C>
-        ensures { result.host ≡ host }
+        ensures host { host_of result ≡ host }
+        ensures cuts { cuts_of result ≡ cuts }
     {
         Lobby {
             host,
@@ -65,13 +69,15 @@ impl<C: Cuts> Lobby<C> {
     }
 
     /// What ends connections, and reads the clock.
-    pub fn cuts(&self) -> &C {
+    pub fn cuts(&self) -> &C
+        ensures { result.now ≡ cuts_of self.now }
+    {
         &self.cuts
     }
 
     /// What the server tells of itself.
     pub fn host(&self) -> &Identity
-        ensures { result.now ≡ self.now.host }
+        ensures { result.now ≡ host_of self.now }
     {
         &self.host
     }
@@ -92,25 +98,21 @@ impl<C: Cuts> Lobby<C> {
         opener: &Introduction,
     ) -> Result<(Speaker, Acceptance), Reason>
         // It is judged by the desk as others have left it, whom no clause can name.
-        ensures accepted { IfOk result (λ accepted. IsAdmitted self.now.host id opener.now accepted.0) }
-        ensures refused { IfErr result (λ reason. IsRefused self.now.host id opener.now reason) }
+        ensures accepted { IfOk result (λ accepted. IsAdmitted (host_of self.now) id opener.now accepted.0 accepted.1) }
+        ensures refused { IfErr result (λ reason. IsRefused (host_of self.now) id opener.now reason) }
         ensures greets { IfOk result (λ accepted. Greets id accepted.0) }
-        ensures start { IfOk result (λ accepted. accepted.1.start ≡ self.now.host.start) }
+        ensures start { IfOk result (λ accepted. accepted.1.start ≡ (host_of self.now).start) }
     {
         let mut desk = self.desk.lock(rt);
-        let gone = desk.gone().bits();
-        match desk.admit(alloc, &self.host, id, opener) {
-            Ok(speaker) => {
-                let start = self.host.start;
-                Ok((speaker, Acceptance { start, gone }))
-            }
-            Err(reason) => Err(reason),
-        }
+        greet_at(&mut desk, alloc, &self.host, id, opener)
     }
 
     /// These servers were called gone: each is cut of which this is news. Of a server that the chain hasn't nothing is
-    /// noted. It tells whether this server itself isn't among them. It may wait.
-    pub fn learn<R: Wait>(&self, rt: &R, view: View) -> bool {
+    /// noted. It tells whether this server itself isn't among them, or was known to be. It may wait.
+    pub fn learn<R: Wait>(&self, rt: &R, view: View) -> bool
+        // What was known stands under a lock, so no clause can say when this is news.
+        ensures { result ≡ false → IsCalledGone (host_of self.now) view }
+    {
         if !self.note(rt, view) {
             return true;
         }
@@ -119,7 +121,11 @@ impl<C: Cuts> Lobby<C> {
                 self.cuts.cut(rt, j);
             }
         }
-        self.host.id >= SERVERS || !view.has(self.host.id)
+        if self.host.id < SERVERS && view.has(self.host.id) {
+            false
+        } else {
+            true
+        }
     }
 
     /// What the server does with an order of a master and answers to it, when its clock shows `now`. If it is a notice
@@ -157,18 +163,56 @@ impl<C: Cuts> Lobby<C> {
         ensures { IsAnswer order result.0 }
     {
         let mut desk = self.desk.lock(rt);
-        let gone = desk.gone();
-        let answer = desk.hear(order, now);
+        let heeded = heed_at(&mut desk, order, now);
         self.cuts.renewed(desk.lease());
-        (answer, gone.adds(desk.gone()))
+        heeded
     }
 
     // Notes that these have failed. It tells whether that is news.
-    fn note<R: Wait>(&self, rt: &R, view: View) -> bool {
-        if self.host.servers > SERVERS || !view.is_below(self.host.servers) {
-            return false;
+    fn note<R: Wait>(&self, rt: &R, view: View) -> bool
+        ensures { result ≡ true → is_below view self.now.host.servers ≡ true }
+    {
+        if self.host.servers <= SERVERS && view.is_below(self.host.servers) {
+            let mut desk = self.desk.lock(rt);
+            desk.note(view)
+        } else {
+            false
         }
-        let mut desk = self.desk.lock(rt);
-        desk.note(view)
     }
+}
+
+// The speaker who greets so at this desk, and what it is answered; or why it isn't accepted.
+fn greet_at(
+    desk: &mut Desk,
+    alloc: Global,
+    host: &Identity,
+    id: u8,
+    opener: &Introduction,
+) -> Result<(Speaker, Acceptance), Reason>
+    ensures accepted { OnOk result (refusal host.now desk.old id opener.now ≡ None) }
+    ensures place { IfOk result (λ accepted. HasPlace desk.old id accepted.0) }
+    ensures greets { IfOk result (λ accepted. Greets id accepted.0) }
+    ensures start { IfOk result (λ accepted. accepted.1.start ≡ host.now.start) }
+    ensures gone { IfOk result (λ accepted. accepted.1.gone ≡ desk.old.gone) }
+    ensures refused { IfErr result (λ reason. refusal host.now desk.old id opener.now ≡ Some reason) }
+{
+    let gone = desk.gone().bits();
+    match desk.admit(alloc, host, id, opener) {
+        Ok(speaker) => {
+            let start = host.start;
+            Ok((speaker, Acceptance { start, gone }))
+        }
+        Err(reason) => Err(reason),
+    }
+}
+
+// What this desk does with an order, and whether it is news of a failure.
+fn heed_at(desk: &mut Desk, order: Order, now: u64) -> (Answer, bool)
+    requires server { NamesServer order }
+    ensures answer { result.0 ≡ answer_to desk.old.lease order desk.old.gone now }
+    ensures news { result.1 ≡ adds desk.old.gone desk.new.gone }
+{
+    let gone = desk.gone();
+    let answer = desk.hear(order, now);
+    (answer, gone.adds(desk.gone()))
 }

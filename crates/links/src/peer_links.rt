@@ -34,7 +34,7 @@ pub struct PeerLinks<W> {
 }
 
 impl<W: Sink + Drop> PeerLink<W> {
-    ghost use Rattle.std.specs.Prelude.{◌≡◌, ◌⊎◌, ◌++◌, true, is_none, IfErr, OnOk, OnErr};
+    ghost use Rattle.std.specs.Prelude.{◌≡◌, ◌⊎◌, ◌++◌, true, is_none, None, IfErr, OnOk, OnErr, IsErrOf};
     ghost use Rattle.wire.specs.Spellings.{IsInRange, spelling};
     ghost use Rattle.links.specs.PeerLinks.{written_by};
 
@@ -48,7 +48,8 @@ impl<W: Sink + Drop> PeerLink<W> {
     }
 
     /// Writes a frame, by one write if the sink takes all of it at once. If it can't be written, the link has failed,
-    /// and its sink is dropped: nothing more is written. It may wait for the sink.
+    /// and its sink is dropped: nothing more is written. If memory is out, nothing is written and the link stays as it
+    /// is. It may wait for the sink.
     pub fn put(&mut self, alloc: Global, frame: &Frame) -> Result<(), RailFault>
         requires range { IsInRange frame.now }
         ensures written { OnOk result
@@ -59,6 +60,11 @@ impl<W: Sink + Drop> PeerLink<W> {
         ensures unput { OnErr result ((self.new.has_failed ≡ true) ⊎
             (written_by W.written self.new.sink ≡ written_by W.written self.old.sink)) }
         ensures stays { (self.new.has_failed ≡ self.old.has_failed) ⊎ (self.new.has_failed ≡ true) }
+        ensures up { OnOk result (self.new.has_failed ≡ self.old.has_failed) }
+        ensures memory { IsErrOf result RailFault.Memory → (self.new.has_failed ≡ self.old.has_failed)
+            × (written_by W.written self.new.sink ≡ written_by W.written self.old.sink) }
+        ensures dropped { IsErrOf result RailFault.LinkDown → self.new.sink ≡ None }
+        ensures absent { self.old.sink ≡ None → IsErrOf result RailFault.LinkDown }
     {
         if let Some(sink) = &mut self.sink {
             match put_frame(alloc, sink, frame) {
@@ -73,7 +79,8 @@ impl<W: Sink + Drop> PeerLink<W> {
 
     // The link has failed from now on.
     fn give_up(&mut self)
-        ensures { self.new.has_failed ≡ true }
+        ensures failed { self.new.has_failed ≡ true }
+        ensures dropped { self.new.sink ≡ None }
     {
         self.sink = None;
         self.has_failed = true;
@@ -98,7 +105,7 @@ impl<W: Sink + Drop> Links for PeerLinks<W> {
     ghost use Rattle.std.specs.Prelude.{ℕ};
     ghost use Rattle.wire.specs.Spellings.{spelling};
     ghost use Rattle.wire.specs.declared.frames.Frame.TheVariants as frames;
-    ghost use Rattle.links.specs.PeerLinks.{failures_at, written_at};
+    ghost use Rattle.links.specs.PeerLinks.{failures_at, failures_of, written_at};
 
     ghost Carried = { ℕ };
 
@@ -128,6 +135,9 @@ impl<W: Sink + Drop> Links for PeerLinks<W> {
             (written_at W.written self.new.links.items to ≡ written_at W.written self.old.links.items to)) }
         ensures elsewhere { (j : ℕ) → j ≢ to →
             written_at W.written self.new.links.items j ≡ written_at W.written self.old.links.items j }
+        // A link fails only if what was to go over it couldn't be written, or noted.
+        ensures up { (j : ℕ) → OnOk result (failures_of self.new j ≡ failures_of self.old j) }
+        ensures others { (j : ℕ) → j ≢ to → failures_of self.new j ≡ failures_of self.old j }
     {
         let (snapshot, frame) = framed(to, peer.clone()?);
         let written = put_to(self.alloc, &mut self.links, to, &frame);
@@ -168,7 +178,7 @@ fn has_failed<W: Sink + Drop>(links: &[PeerLink<W>], to: u8) -> bool
 }
 
 // Puts a frame to a server whose link hasn't failed.
-#[tactic(auto, using(crate::proofs::PeerLinked::failed_at, crate::proofs::PeerLinked::none_fewer, crate::proofs::PeerLinked::beyond, crate::proofs::PeerLinked::written_there, crate::proofs::PeerLinked::written_now, crate::proofs::PeerLinked::written_elsewhere))]
+#[tactic(auto, using(crate::proofs::PeerLinked::failed_at, crate::proofs::PeerLinked::none_fewer, crate::proofs::PeerLinked::same_failures, crate::proofs::PeerLinked::failed_elsewhere, crate::proofs::PeerLinked::beyond, crate::proofs::PeerLinked::written_there, crate::proofs::PeerLinked::written_now, crate::proofs::PeerLinked::written_elsewhere))]
 fn put_to<W: Sink + Drop>(
     alloc: Global,
     links: &mut Vec<PeerLink<W>>,
@@ -185,6 +195,8 @@ fn put_to<W: Sink + Drop>(
     ensures failures { (j : ℕ) → failures_at links.old.items j ≤ failures_at links.new.items j }
     ensures fault { IfErr result (λ fault. (fault ≡ RailFault.Memory) ⊎
         ((fault ≡ RailFault.LinkDown) × (0 < failures_at links.new.items to))) }
+    ensures up { (j : ℕ) → OnOk result (failures_at links.new.items j ≡ failures_at links.old.items j) }
+    ensures others { (j : ℕ) → j ≢ to → failures_at links.new.items j ≡ failures_at links.old.items j }
 {
     let place = usize::from(to);
     if place < links.len() {
@@ -195,12 +207,13 @@ fn put_to<W: Sink + Drop>(
 }
 
 // The link to a server has failed from now on.
-#[tactic(auto, using(crate::proofs::PeerLinked::failed_at, crate::proofs::PeerLinked::none_fewer, crate::proofs::PeerLinked::beyond, crate::proofs::PeerLinked::written_elsewhere))]
+#[tactic(auto, using(crate::proofs::PeerLinked::failed_at, crate::proofs::PeerLinked::none_fewer, crate::proofs::PeerLinked::failed_elsewhere, crate::proofs::PeerLinked::beyond, crate::proofs::PeerLinked::written_elsewhere))]
 fn give_up<W: Sink + Drop>(links: &mut Vec<PeerLink<W>>, to: u8)
     ensures down { 0 < failures_at links.new.items to }
     ensures elsewhere { (j : ℕ) → j ≢ to →
         written_at W.written links.new.items j ≡ written_at W.written links.old.items j }
     ensures failures { (j : ℕ) → failures_at links.old.items j ≤ failures_at links.new.items j }
+    ensures others { (j : ℕ) → j ≢ to → failures_at links.new.items j ≡ failures_at links.old.items j }
 {
     let place = usize::from(to);
     if place < links.len() {

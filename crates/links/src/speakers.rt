@@ -1,15 +1,15 @@
 //! Who speaks at a server's peer port, and what the server hears of it.
-ghost use Rattle.std.specs.Prelude.{◌≡◌, ◌++◌, ◌∷◌, ◌⊎◌, [], OnOk, OnErr, IfOk};
+ghost use Rattle.std.specs.Prelude.{◌≡◌, ◌++◌, ◌∷◌, ◌⊎◌, ◌<◌, [], ℕ, List, OnOk, OnErr, IfOk};
 ghost use Rattle.peers.specs.Links.{MayCome};
 ghost use Rattle.node.specs.Lawful.{IsBody};
-ghost use Rattle.node.specs.declared.messages.Input.TheVariants as inputs;
-ghost use Rattle.rail.specs.declared.events.Event.TheVariants.{Took};
 ghost use Rattle.links.specs.declared.speakers.Who.TheVariants.{Server, Master};
-ghost use Rattle.links.specs.Orders.{Answers, IsAnswer, NamesServer, TellsHow, bytes_of};
-ghost use Rattle.links.specs.Speakers.{Hears};
+ghost use Rattle.leases.specs.declared.orders.Order.TheVariants as orders;
+ghost use Rattle.links.specs.Lobbies.{host_of};
+ghost use Rattle.links.specs.Orders.{Answers, IsAnswer, NamesServer, TellsHow, bytes_of, stamp_in};
+ghost use Rattle.links.specs.Speakers.{Hears, NamesOneOf, Notes};
 
-use crate::histories::History;
 use crate::lobbies::{Cuts, Lobby};
+use crate::notices::Notices;
 use crate::orders::{Response, alive_of, order_of};
 use leases::{Answer, Order};
 use node::{Peer, SERVERS, View};
@@ -17,7 +17,6 @@ use peers::TakeFault;
 use rail::Inlet;
 use std::alloc::Global;
 use std::marker::Model;
-use std::snapshot::Snapshot;
 use std::sync::Wait;
 use wire::{Beat, Frame, Silent};
 
@@ -37,7 +36,7 @@ pub enum Who {
     /// The server of this id, with the inlet by which the server hears it.
     Server(u8, Inlet),
     /// A master, with the servers of which it has brought a notice, by the inlet that all masters share.
-    Master(History<u8>),
+    Master(Notices),
 }
 
 impl Model for Speaker {
@@ -63,7 +62,7 @@ impl Speaker {
         ensures { result ≡ Master [] }
     {
         Speaker {
-            who: Who::Master(History::new(alloc)),
+            who: Who::Master(Notices::new(alloc)),
         }
     }
 
@@ -82,6 +81,8 @@ impl Speaker {
         requires { MayCome frame }
         ensures heard { OnOk result (Hears self.old frame self.new) }
         ensures answered { IfOk result (λ response. Answers frame (bytes_of response)) }
+        ensures noted { IfOk result (λ response. Notes self.old response self.new) }
+        ensures chain { OnOk result (NamesOneOf (host_of lobby.now) frame) }
         ensures refused { OnErr result (self.new ≡ self.old) }
     {
         hear(rt, lobby, &mut self.who, frame)
@@ -89,6 +90,7 @@ impl Speaker {
 }
 
 // Does what a frame asks for.
+#[tactic(auto, using(crate::proofs::Telling::any_frame))]
 fn hear<R: Wait, C: Cuts>(
     rt: &R,
     lobby: &Lobby<C>,
@@ -98,6 +100,8 @@ fn hear<R: Wait, C: Cuts>(
     requires { MayCome frame }
     ensures heard { OnOk result (Hears who.old frame who.new) }
     ensures answered { IfOk result (λ response. Answers frame (bytes_of response)) }
+    ensures noted { IfOk result (λ response. Notes who.old response who.new) }
+    ensures chain { OnOk result (NamesOneOf (host_of lobby.now) frame) }
     ensures refused { OnErr result (who.new ≡ who.old) }
 {
     match frame {
@@ -120,6 +124,7 @@ fn bring<R: Wait>(rt: &R, who: &mut Who, peer: Peer) -> Result<Response, TakeFau
     requires { IsBody peer.body }
     ensures heard { OnOk result (Hears who.old (Frame.Peer peer) who.new) }
     ensures answered { IfOk result (λ response. Answers (Frame.Peer peer) (bytes_of response)) }
+    ensures noted { IfOk result (λ response. Notes who.old response who.new) }
     ensures refused { OnErr result (who.new ≡ who.old) }
 {
     match who {
@@ -143,6 +148,7 @@ fn tell<R: Wait, C: Cuts>(
 ) -> Result<Response, TakeFault>
     ensures heard { OnOk result (Hears who.old (Frame.Gone j) who.new) }
     ensures answered { IfOk result (λ response. Answers (Frame.Gone j) (bytes_of response)) }
+    ensures noted { IfOk result (λ response. Notes who.old response who.new) }
     ensures refused { OnErr result (who.new ≡ who.old) }
 {
     match who {
@@ -151,7 +157,7 @@ fn tell<R: Wait, C: Cuts>(
                 lobby.learn(rt, View::single(j));
             }
             let mut inlet = lobby.notices().lock(rt);
-            bring_notice(rt, &mut inlet, told, j)?;
+            told.bring_notice(rt, &mut inlet, j)?;
             Ok(Response::Noted(j))
         }
         Who::Server(..) => Err(TakeFault),
@@ -166,7 +172,8 @@ fn greet<R: Wait, C: Cuts>(
     reign: u64,
 ) -> Result<Response, TakeFault>
     ensures heard { OnOk result (Hears who.now (Frame.Reign reign) who.now) }
-    ensures answered { IfOk result (λ response. TellsHow (bytes_of response)) }
+    ensures answered { IfOk result (λ response. TellsHow (orders.Reign reign) (bytes_of response)) }
+    ensures noted { IfOk result (λ response. Notes who.now response who.now) }
 {
     match who {
         Who::Master(_) => report(rt, lobby, Order::Reign(reign)),
@@ -182,7 +189,9 @@ fn prolong<R: Wait, C: Cuts>(
     beat: Beat,
 ) -> Result<Response, TakeFault>
     ensures heard { OnOk result (Hears who.now (Frame.Beat beat) who.now) }
-    ensures answered { IfOk result (λ response. TellsHow (bytes_of response)) }
+    ensures answered { IfOk result
+        (λ response. TellsHow (orders.Beat beat.reign (stamp_in beat.stamp)) (bytes_of response)) }
+    ensures noted { IfOk result (λ response. Notes who.now response who.now) }
 {
     match who {
         Who::Master(_) => report(rt, lobby, order_of(beat)),
@@ -199,6 +208,8 @@ fn silence<R: Wait, C: Cuts>(
 ) -> Result<Response, TakeFault>
     ensures heard { OnOk result (Hears who.old (Frame.Silent silent) who.new) }
     ensures answered { IfOk result (λ response. Answers (Frame.Silent silent) (bytes_of response)) }
+    ensures noted { IfOk result (λ response. Notes who.old response who.new) }
+    ensures chain { OnOk result (silent.id < (host_of lobby.now).servers) }
     ensures refused { OnErr result (who.new ≡ who.old) }
 {
     match who {
@@ -208,14 +219,17 @@ fn silence<R: Wait, C: Cuts>(
 }
 
 // The same of a master that has told of these. If the notice is taken, it is brought; else the server tells how it is.
+#[tactic(auto, using(crate::proofs::Telling::tells_how))]
 fn silence_by<R: Wait, C: Cuts>(
     rt: &R,
     lobby: &Lobby<C>,
-    told: &mut History<u8>,
+    told: &mut Notices,
     silent: Silent,
 ) -> Result<Response, TakeFault>
     ensures told { OnOk result ((told.new ≡ told.old ++ silent.id ∷ []) ⊎ (told.new ≡ told.old)) }
     ensures answered { IfOk result (λ response. Answers (Frame.Silent silent) (bytes_of response)) }
+    ensures noted { IfOk result (λ response. Notes (Master told.old) response (Master told.new)) }
+    ensures chain { OnOk result (silent.id < (host_of lobby.now).servers) }
     ensures refused { OnErr result (told.new ≡ told.old) }
 {
     let Silent { reign, id } = silent;
@@ -224,18 +238,20 @@ fn silence_by<R: Wait, C: Cuts>(
     }
     match heed(rt, lobby, Order::Silent(reign, id))? {
         Answer::Tells(report) => Ok(Response::Alive(alive_of(report))),
-        Answer::Notes(_) => {
+        Answer::Notes(named) => {
             let mut inlet = lobby.notices().lock(rt);
-            bring_notice(rt, &mut inlet, told, id)?;
-            Ok(Response::Noted(id))
+            told.bring_notice(rt, &mut inlet, named)?;
+            Ok(Response::Noted(named))
         }
     }
 }
 
 // How the server is, once its lease has heard an order that is no notice.
+#[tactic(auto, using(crate::proofs::Telling::tells_how))]
 fn report<R: Wait, C: Cuts>(rt: &R, lobby: &Lobby<C>, order: Order) -> Result<Response, TakeFault>
     requires server { NamesServer order }
-    ensures { IfOk result (λ response. TellsHow (bytes_of response)) }
+    ensures answered { IfOk result (λ response. TellsHow order (bytes_of response)) }
+    ensures noted { (told : List ℕ) → IfOk result (λ response. Notes (Master told) response (Master told)) }
 {
     match heed(rt, lobby, order)? {
         Answer::Tells(report) => Ok(Response::Alive(alive_of(report))),
@@ -252,22 +268,4 @@ fn heed<R: Wait, C: Cuts>(rt: &R, lobby: &Lobby<C>, order: Order) -> Result<Answ
         Some(now) => Ok(lobby.hear(rt, order, now)),
         None => Err(TakeFault),
     }
-}
-
-// Brings the notice that server `j` has failed by the inlet that all masters share, and adds it to what this master has
-// told.
-fn bring_notice<R: Wait>(
-    rt: &R,
-    inlet: &mut Inlet,
-    told: &mut History<u8>,
-    j: u8,
-) -> Result<(), TakeFault>
-    ensures brought { OnOk result (inlet.new ≡ inlet.old ++ Took (inputs.Gone j) ∷ []) }
-    ensures told { OnOk result (told.new ≡ told.old ++ j ∷ []) }
-    ensures refused { OnErr result (told.new ≡ told.old) }
-{
-    if inlet.gone(rt, j).is_ok() && told.add(Snapshot::of(&j)).is_ok() {
-        return Ok(());
-    }
-    Err(TakeFault)
 }
