@@ -4,3 +4,4 @@ pub mod Linked
 pub mod Pooled
 pub mod Submitted
 pub mod TalkLaws
+pub mod Sent

@@ -1,9 +1,11 @@
 //! What stands between a server's threads and its clients: seats that answer connections' calls, the links between
-//! servers of one process, the mark of a server that is stopped, and the gauge of its memory.
+//! servers of one process, the mark of a server that is stopped, the gauge of its memory, and the leash that may hold
+//! back what it puts out.
 #![tactic(auto)]
 
 mod gauges;
 mod in_process_links;
+mod leashes;
 mod marks;
 mod outcomes;
 mod peeks;
@@ -14,6 +16,7 @@ mod talks;
 
 pub use gauges::{Allowance, Gauge};
 pub use in_process_links::{InProcessLinks, Link};
+pub use leashes::Leash;
 pub use marks::Mark;
 pub use peeks::peek;
 pub use seat_pools::SeatPool;
