@@ -36,6 +36,12 @@ impl Beside<'_> {
             has_room: true,
         }
     }
+
+    fn without_room(alloc: Global, input: &[u8], reads: usize, writes: usize) -> Beside<'_> {
+        let mut beside = Beside::new(alloc, input, reads, writes);
+        beside.has_room = false;
+        beside
+    }
 }
 
 // Has a call answered, or refuses it.
@@ -52,7 +58,11 @@ fn answer(
         return connection.refuse();
     }
     match beside.table.call(target, op) {
-        Ok(reply) => connection.answer(&reply),
+        Ok(reply) => {
+            let answered = connection.answer(&reply);
+            drop(reply);
+            answered
+        }
         Err(_) => Err(AllocError),
     }
 }
@@ -64,7 +74,10 @@ fn go(connection: &mut Connection, beside: &mut Beside<'_>) -> Result<Option<End
 {
     match connection.next()? {
         Wants::Call(target, op) => {
-            answer(connection, beside, &target, &op)?;
+            let answered = answer(connection, beside, &target, &op);
+            drop(target);
+            drop(op);
+            answered?;
         }
         Wants::Write => {
             let n = connection.output().len().min(beside.writes);
@@ -88,21 +101,38 @@ fn go(connection: &mut Connection, beside: &mut Beside<'_>) -> Result<Option<End
 // How many steps a connection has to come to its end.
 const STEPS: usize = 1000;
 
-// How a connection comes to its end, if it does, and what was written.
-fn driven(alloc: Global, beside: Beside<'_>) -> Result<(Option<End>, Vec<u8>), AllocError> {
-    let mut connection = Connection::new(alloc);
-    let mut beside = beside;
+// Has a connection do what it wants, and tells how it comes to its end, if it does.
+fn driven(connection: &mut Connection, beside: &mut Beside<'_>) -> Result<Option<End>, AllocError>
+    requires idle { connection.old.waiting ≡ [] }
+{
     for _ in 0..STEPS {
-        if let Some(end) = go(&mut connection, &mut beside)? {
-            return Ok((Some(end), beside.output));
+        if let Some(end) = go(connection, beside)? {
+            return Ok(Some(end));
         }
     }
-    Ok((None, beside.output))
+    Ok(None)
+}
+
+// How a new connection comes to its end, if it does.
+fn ended(alloc: Global, beside: &mut Beside<'_>) -> Result<Option<End>, AllocError> {
+    let mut connection = Connection::new(alloc);
+    let end = driven(&mut connection, beside);
+    drop(connection);
+    end
 }
 
 // Whether a connection comes to this end, and leaves this output.
-fn comes_to(came: &(Option<End>, Vec<u8>), end: End, output: &[u8]) -> bool {
-    came.0 == Some(end) && came.1.as_slice() == output
+fn comes_to(
+    alloc: Global,
+    beside: Beside<'_>,
+    end: End,
+    output: &[u8],
+) -> Result<bool, AllocError> {
+    let mut beside = beside;
+    let came = ended(alloc, &mut beside);
+    let is_written = beside.output.as_slice() == output;
+    drop(beside);
+    Ok(came? == Some(end) && is_written)
 }
 
 // However the input is cut, and however little of the output is taken at once.
@@ -111,9 +141,8 @@ fn any_pace_writes_the_same(rt: HostRuntime) -> Result<(), Fail> {
     for reads in 1..9usize {
         for writes in 1..9usize {
             let beside = Beside::new(rt.alloc(), REQUESTS, reads, writes);
-            let came = driven(rt.alloc(), beside)?;
             assert!(rt;
-                comes_to(&came, End::Closed, REPLIES),
+                comes_to(rt.alloc(), beside, End::Closed, REPLIES)?,
                 "{reads} and {writes}"
             );
         }
@@ -124,8 +153,7 @@ fn any_pace_writes_the_same(rt: HostRuntime) -> Result<(), Fail> {
 #[test]
 fn an_input_that_ends_in_a_request(rt: HostRuntime) -> Result<(), Fail> {
     let beside = Beside::new(rt.alloc(), b"get a\r\nget b", 64, 64);
-    let came = driven(rt.alloc(), beside)?;
-    assert!(rt; comes_to(&came, End::Input, b"END\r\n"));
+    assert!(rt; comes_to(rt.alloc(), beside, End::Input, b"END\r\n")?);
     Ok(())
 }
 
@@ -135,9 +163,7 @@ fn a_refused_set_is_not_made(rt: HostRuntime) -> Result<(), Fail> {
     let requests =
         b"set a 5 0 3\r\nxyz\r\nset a 5 0 3 noreply\r\nxyz\r\nget a\r\nincr a 1\r\nquit\r\n";
     let replies = b"SERVER_ERROR out of memory storing object\r\nEND\r\nNOT_FOUND\r\n";
-    let mut beside = Beside::new(rt.alloc(), requests, 7, 5);
-    beside.has_room = false;
-    let came = driven(rt.alloc(), beside)?;
-    assert!(rt; comes_to(&came, End::Closed, replies));
+    let beside = Beside::without_room(rt.alloc(), requests, 7, 5);
+    assert!(rt; comes_to(rt.alloc(), beside, End::Closed, replies)?);
     Ok(())
 }

@@ -1,5 +1,4 @@
 //! Tests: what readers see beside a server.
-ghost use Rattle.node.specs.Lawful.{IsInput};
 ghost use Rattle.std.specs.Prelude.{◌≡◌, false, IfOk};
 
 use bytes::Bytes;
@@ -17,13 +16,27 @@ fn key(alloc: Global, name: &[u8]) -> Result<Key, FaceFault> {
     }
 }
 
-fn on(key: &Key, op: Op) -> Result<Input, FaceFault> {
-    let target = Target::One(key.clone()?);
-    Ok(Input::Call(0, Call { target, op }))
+// A call on a key that was made, or wasn't.
+fn on(key: Result<Key, FaceFault>, op: Op) -> Result<Input, FaceFault> {
+    match key {
+        Ok(key) => {
+            let target = Target::One(key);
+            Ok(Input::Call(0, Call { target, op }))
+        }
+        Err(fault) => {
+            drop(op);
+            Err(fault)
+        }
+    }
+}
+
+fn copied(key: &Key) -> Result<Key, FaceFault> {
+    Ok(key.clone()?)
 }
 
 fn set(alloc: Global, key: &Key) -> Result<Input, FaceFault> {
-    on(key, Op::Set(0, Bytes::copy_from_slice(alloc, b"v")?))
+    let op = Op::Set(0, Bytes::copy_from_slice(alloc, b"v")?);
+    on(copied(key), op)
 }
 
 fn acknowledged(n: u64) -> Input {
@@ -52,7 +65,7 @@ enum Shown {
     Other,
 }
 
-fn shown_by(look: Look<Item>) -> Shown {
+fn shown_by(look: &Look<Item>) -> Shown {
     match look {
         Look::Clean(Some(item)) => {
             if item.bytes.as_slice() == b"v".as_slice() {
@@ -70,7 +83,11 @@ fn look(beside: &mut Reader, key: &Key) -> Shown
     ensures { beside.new.seen.origin ≡ beside.old.seen.origin }
 {
     match beside.look(key) {
-        Ok(look) => shown_by(look),
+        Ok(look) => {
+            let shown = shown_by(&look);
+            drop(look);
+            shown
+        }
         Err(FaceFault::Closed) => Shown::Closed,
         Err(FaceFault::Memory) => Shown::Other,
     }
@@ -80,22 +97,23 @@ fn look(beside: &mut Reader, key: &Key) -> Shown
 fn feed<R: Wait>(rt: &R, publisher: &mut Publisher, input: Input) -> Result<(), FaceFault>
     ensures { publisher.new.published.origin ≡ publisher.old.published.origin }
 {
-    if input.is_fit() {
-        take(rt, publisher, input)
-    } else {
-        Err(FaceFault::Closed)
+    if !input.is_fit() {
+        drop(input);
+        return Err(FaceFault::Closed);
+    }
+    match publisher.take(rt, input) {
+        Ok(outputs) => {
+            drop(outputs);
+            Ok(())
+        }
+        Err(fault) => Err(fault),
     }
 }
 
-// An input is taken.
-fn take<R: Wait>(rt: &R, publisher: &mut Publisher, input: Input) -> Result<(), FaceFault>
-    requires { IsInput input }
-    ensures { publisher.new.published.origin ≡ publisher.old.published.origin }
-{
-    match publisher.take(rt, input) {
-        Ok(_) => Ok(()),
-        Err(fault) => Err(fault),
-    }
+// A first server of n that has taken nothing, with room for one reader.
+fn opened<R: Wait>(rt: &R, alloc: Global, count: u8) -> Result<Publisher, FaceFault> {
+    let node = first(alloc, count)?;
+    Publisher::open(rt, alloc, node, 1)
 }
 
 // A reader is told of what is published. Whether it then tells of all that.
@@ -124,23 +142,37 @@ fn looks<R: Wait>(
     Ok(none && told && item)
 }
 
-// The same beside a first server, whose face isn't found after the end.
-fn looks_at_first<R: Wait>(
+// The same of a server that then ends, after which no face is found.
+fn looks_until_the_end<R: Wait>(
     rt: &R,
-    alloc: Global,
+    publisher: Publisher,
     input: Input,
     key: &Key,
 ) -> Result<bool, FaceFault> {
-    let node = first(alloc, 1)?;
-    let mut publisher = Publisher::open(rt, alloc, node, 1)?;
+    let mut publisher = publisher;
     match publisher.reader() {
         Ok(mut beside) => {
             let shown = looks(rt, &mut publisher, &mut beside, input, key);
             publisher.end(rt);
-            Ok(shown? && look(&mut beside, key) == Shown::Closed)
+            let closed = look(&mut beside, key) == Shown::Closed;
+            drop(beside);
+            Ok(shown? && closed)
         }
         Err(fault) => {
+            drop(input);
             publisher.end(rt);
+            Err(fault)
+        }
+    }
+}
+
+// The same of an only server, which takes a set of the key.
+fn looks_at_first<R: Wait>(rt: &R, alloc: Global, key: &Key) -> Result<bool, FaceFault> {
+    let input = set(alloc, key)?;
+    match opened(rt, alloc, 1) {
+        Ok(publisher) => looks_until_the_end(rt, publisher, input, key),
+        Err(fault) => {
+            drop(input);
             Err(fault)
         }
     }
@@ -149,8 +181,7 @@ fn looks_at_first<R: Wait>(
 #[test]
 fn a_reader_looks_before_and_after_a_publish(rt: HostRuntime) -> Result<(), Fail> {
     let key = key(rt.alloc(), b"a")?;
-    let input = set(rt.alloc(), &key)?;
-    assert!(rt; looks_at_first(&rt, rt.alloc(), input, &key)?);
+    assert!(rt; looks_at_first(&rt, rt.alloc(), &key)?);
     Ok(())
 }
 
@@ -161,22 +192,51 @@ fn after(node: Node, input: Input) -> Result<Node, FaceFault>
 {
     let mut node = node;
     if !input.is_fit() {
+        drop(input);
+        drop(node);
         return Err(FaceFault::Closed);
     }
     match node.step(input) {
-        Ok(_) => Ok(node),
-        Err(_) => Err(FaceFault::Memory),
+        Ok(outputs) => {
+            drop(outputs);
+            Ok(node)
+        }
+        Err(_) => {
+            drop(node);
+            Err(FaceFault::Memory)
+        }
     }
 }
 
-// Whether a node that has taken an input opens with the item of a key.
-fn opens_with<R: Wait>(rt: &R, alloc: Global, input: Input, key: &Key) -> Result<bool, FaceFault> {
-    let node = after(first(alloc, 1)?, input)?;
-    let mut publisher = Publisher::open(rt, alloc, node, 1)?;
-    let found = match publisher.reader() {
-        Ok(mut beside) => Ok(look(&mut beside, key) == Shown::Item(1)),
-        Err(fault) => Err(fault),
-    };
+// The node of an only server, after this input.
+fn first_after(alloc: Global, input: Input) -> Result<Node, FaceFault>
+    ensures { IfOk result (λ node. node.stopped ≡ false) }
+{
+    match first(alloc, 1) {
+        Ok(node) => after(node, input),
+        Err(fault) => {
+            drop(input);
+            Err(fault)
+        }
+    }
+}
+
+// An only server that opens with a node which has taken a set of this key.
+fn opened_after<R: Wait>(rt: &R, alloc: Global, key: &Key) -> Result<Publisher, FaceFault> {
+    let node = first_after(alloc, set(alloc, key)?)?;
+    Publisher::open(rt, alloc, node, 1)
+}
+
+// Whether a new reader finds the first item of a key.
+fn has_item(publisher: &mut Publisher, key: &Key) -> Result<bool, FaceFault> {
+    let mut beside = publisher.reader()?;
+    Ok(look(&mut beside, key) == Shown::Item(1))
+}
+
+// Whether it opens with the item of that key.
+fn opens_with<R: Wait>(rt: &R, alloc: Global, key: &Key) -> Result<bool, FaceFault> {
+    let mut publisher = opened_after(rt, alloc, key)?;
+    let found = has_item(&mut publisher, key);
     publisher.end(rt);
     found
 }
@@ -184,17 +244,8 @@ fn opens_with<R: Wait>(rt: &R, alloc: Global, input: Input, key: &Key) -> Result
 #[test]
 fn a_node_opens_with_what_it_holds(rt: HostRuntime) -> Result<(), Fail> {
     let key = key(rt.alloc(), b"a")?;
-    let input = set(rt.alloc(), &key)?;
-    assert!(rt; opens_with(&rt, rt.alloc(), input, &key)?);
+    assert!(rt; opens_with(&rt, rt.alloc(), &key)?);
     Ok(())
-}
-
-// A key that is deleted, and the acknowledgement of that.
-#[derive(Drop)]
-struct Gone {
-    key: Key,
-    delete: Input,
-    number: u64,
 }
 
 fn add<T: Drop>(list: &mut Vec<T>, item: T) -> Result<(), AllocError> {
@@ -204,111 +255,85 @@ fn add<T: Drop>(list: &mut Vec<T>, item: T) -> Result<(), AllocError> {
     }
 }
 
+fn nth_key(alloc: Global, i: u32) -> Result<Key, Fail> {
+    let name = format!(in alloc; "key{i}")?;
+    Ok(key(alloc, name.as_bytes())?)
+}
+
 // A key for each number below the count.
 fn keys(alloc: Global, count: u32) -> Result<Vec<Key>, Fail> {
     let mut keys = Vec::new(alloc);
     for i in 0..count {
-        let name = format!(in alloc; "key{i}")?;
-        add(&mut keys, key(alloc, name.as_bytes())?)?;
+        add(&mut keys, nth_key(alloc, i)?)?;
     }
     Ok(keys)
 }
 
+// How many of many keys are deleted.
+const DELETED: usize = 1_000;
+
 // Each key is set, and all of that is acknowledged.
-fn sets(alloc: Global, keys: &[Key]) -> Result<Vec<Input>, Fail> {
-    let mut inputs = Vec::new(alloc);
-    for key in keys {
-        add(&mut inputs, set(alloc, key)?)?;
-    }
-    add(&mut inputs, acknowledged(keys.len() as u64))?;
-    Ok(inputs)
-}
-
-// The delete of a key, which has this number.
-fn delete_of(key: &Key, number: u64) -> Result<Gone, FaceFault> {
-    let delete = on(key, Op::Delete)?;
-    let key = key.clone()?;
-    Ok(Gone {
-        key,
-        delete,
-        number,
-    })
-}
-
-// Deletes of the keys that have these numbers, after this one.
-fn deletes(alloc: Global, keys: &[Key], last: u64) -> Result<Vec<Gone>, Fail> {
-    let mut deletes = Vec::new(alloc);
-    let mut number = last;
-    for key in keys {
-        number = number.wrapping_add(1);
-        add(&mut deletes, delete_of(key, number)?)?;
-    }
-    Ok(deletes)
-}
-
-fn feed_all<R: Wait>(
+fn fill<R: Wait>(
     rt: &R,
+    alloc: Global,
     publisher: &mut Publisher,
-    inputs: Vec<Input>,
+    keys: &[Key],
 ) -> Result<(), FaceFault> {
-    for input in inputs {
-        feed(rt, publisher, input)?;
+    for key in keys {
+        feed(rt, publisher, set(alloc, key)?)?;
     }
-    Ok(())
+    feed(rt, publisher, acknowledged(keys.len() as u64))
 }
 
-// A key is deleted, and that is acknowledged. Whether a look after each shows it.
+// A key is deleted, and that, which has this number, is acknowledged. Whether a look after each shows it.
 fn delete_one<R: Wait>(
     rt: &R,
     publisher: &mut Publisher,
     beside: &mut Reader,
-    gone: Gone,
+    key: &Key,
+    number: u64,
 ) -> Result<bool, FaceFault> {
-    let Gone {
-        key,
-        delete,
-        number,
-    } = gone;
-    feed(rt, publisher, delete)?;
-    let dirty = look(beside, &key) == Shown::Dirty;
+    feed(rt, publisher, on(copied(key), Op::Delete)?)?;
+    let dirty = look(beside, key) == Shown::Dirty;
     feed(rt, publisher, acknowledged(number))?;
-    Ok(dirty && look(beside, &key) == Shown::Nothing)
+    Ok(dirty && look(beside, key) == Shown::Nothing)
 }
 
-// The same for each of these.
+// The same for each of these, after the update of this number.
 fn delete_each<R: Wait>(
     rt: &R,
     publisher: &mut Publisher,
     beside: &mut Reader,
-    deletes: Vec<Gone>,
+    keys: &[Key],
+    last: u64,
 ) -> Result<bool, FaceFault> {
     let mut shown = true;
-    for gone in deletes {
-        shown &= delete_one(rt, publisher, beside, gone)?;
+    let mut number = last;
+    for key in keys {
+        number = number.wrapping_add(1);
+        shown &= delete_one(rt, publisher, beside, key, number)?;
     }
     Ok(shown)
 }
 
-// All sets are taken, and then the deletes.
+// All keys are set, and then some deleted.
 fn fill_and_delete<R: Wait>(
     rt: &R,
+    alloc: Global,
     publisher: &mut Publisher,
-    sets: Vec<Input>,
-    deletes: Vec<Gone>,
+    keys: &[Key],
 ) -> Result<bool, FaceFault> {
-    feed_all(rt, publisher, sets)?;
+    fill(rt, alloc, publisher, keys)?;
+    let some = keys.get(..DELETED).ok_or(FaceFault::Closed)?;
     let mut beside = publisher.reader()?;
-    delete_each(rt, publisher, &mut beside, deletes)
+    delete_each(rt, publisher, &mut beside, some, keys.len() as u64)
 }
 
-// The same with n keys, the first 1,000 of which are deleted.
+// The same with n keys, at a server that isn't the last one.
 fn many<R: Wait>(rt: &R, alloc: Global, count: u32) -> Result<bool, Fail> {
     let keys = keys(alloc, count)?;
-    let some = keys.as_slice().get(..1_000).ok_or("a thousand keys")?;
-    let deletes = deletes(alloc, some, u64::from(count))?;
-    let sets = sets(alloc, keys.as_slice())?;
-    let mut publisher = Publisher::open(rt, alloc, first(alloc, 2)?, 1)?;
-    let shown = fill_and_delete(rt, &mut publisher, sets, deletes);
+    let mut publisher = opened(rt, alloc, 2)?;
+    let shown = fill_and_delete(rt, alloc, &mut publisher, keys.as_slice());
     publisher.end(rt);
     Ok(shown?)
 }
@@ -319,114 +344,115 @@ fn many_keys_some_of_them_deleted(rt: HostRuntime) -> Result<(), Fail> {
     Ok(())
 }
 
-// An input, and how much the face weighs after it.
-#[derive(Drop)]
-struct Weighing {
-    input: Input,
-    weight: Weight,
-}
-
-fn to_weigh(input: Input, items: u64, bytes: u64) -> Weighing {
-    let weight = Weight { items, bytes };
-    Weighing { input, weight }
-}
-
 // A set of n bytes.
-fn set_of(alloc: Global, key: &Key, size: usize) -> Result<Input, FaceFault> {
+fn set_of(alloc: Global, name: &[u8], size: usize) -> Result<Input, FaceFault> {
     match b"0123456789".as_slice().get(..size) {
-        Some(data) => on(key, Op::Set(0, Bytes::copy_from_slice(alloc, data)?)),
+        Some(data) => {
+            let op = Op::Set(0, Bytes::copy_from_slice(alloc, data)?);
+            on(key(alloc, name), op)
+        }
         None => Err(FaceFault::Closed),
     }
 }
 
-fn flush() -> Input {
-    let call = Call {
-        target: Target::All,
-        op: Op::Flush,
-    };
-    Input::Call(0, call)
+// What a server takes, on the keys `a` and `bcd`.
+#[derive(Clone, Copy)]
+enum Taken {
+    // A set of this many bytes.
+    SetA(usize),
+    SetBcd(usize),
+    DeleteA,
+    DeleteBcd,
+    Acknowledged(u64),
+    Flush,
 }
 
-// New keys, and keys that are set again, to more and to fewer bytes.
-fn sets_to_weigh(alloc: Global, a: &Key, bcd: &Key) -> Result<Vec<Weighing>, FaceFault> {
-    let mut steps = Vec::new(alloc);
-    add(&mut steps, to_weigh(set_of(alloc, a, 1)?, 1, 2))?;
-    add(&mut steps, to_weigh(set_of(alloc, bcd, 5)?, 2, 10))?;
-    add(&mut steps, to_weigh(set_of(alloc, a, 7)?, 2, 16))?;
-    add(&mut steps, to_weigh(set_of(alloc, a, 0)?, 2, 9))?;
-    Ok(steps)
-}
-
-// A key without item counts until that is acknowledged, also if it is set again before, and nothing after a flush.
-fn deletes_to_weigh(alloc: Global, a: &Key, bcd: &Key) -> Result<Vec<Weighing>, FaceFault> {
-    let mut steps = Vec::new(alloc);
-    add(&mut steps, to_weigh(on(bcd, Op::Delete)?, 2, 4))?;
-    add(&mut steps, to_weigh(acknowledged(5), 1, 1))?;
-    add(&mut steps, to_weigh(on(a, Op::Delete)?, 1, 1))?;
-    add(&mut steps, to_weigh(set_of(alloc, a, 3)?, 1, 4))?;
-    add(&mut steps, to_weigh(acknowledged(7), 1, 4))?;
-    add(&mut steps, to_weigh(flush(), 0, 0))?;
-    add(&mut steps, to_weigh(set_of(alloc, bcd, 2)?, 1, 5))?;
-    add(&mut steps, to_weigh(acknowledged(9), 1, 5))?;
-    Ok(steps)
+fn input_of(alloc: Global, taken: Taken) -> Result<Input, FaceFault> {
+    match taken {
+        Taken::SetA(size) => set_of(alloc, b"a", size),
+        Taken::SetBcd(size) => set_of(alloc, b"bcd", size),
+        Taken::DeleteA => on(key(alloc, b"a"), Op::Delete),
+        Taken::DeleteBcd => on(key(alloc, b"bcd"), Op::Delete),
+        Taken::Acknowledged(number) => Ok(acknowledged(number)),
+        Taken::Flush => {
+            let target = Target::All;
+            let op = Op::Flush;
+            Ok(Input::Call(0, Call { target, op }))
+        }
+    }
 }
 
 // Whether the face weighs this much after an input, and the other copy as much after one that changes nothing.
-fn weighs<R: Wait>(rt: &R, publisher: &mut Publisher, step: Weighing) -> Result<bool, FaceFault> {
-    let Weighing { input, weight } = step;
+fn weighs<R: Wait>(
+    rt: &R,
+    publisher: &mut Publisher,
+    input: Input,
+    weight: Weight,
+) -> Result<bool, FaceFault> {
     feed(rt, publisher, input)?;
     let first = publisher.weight() == weight;
     feed(rt, publisher, acknowledged(0))?;
     Ok(first && publisher.weight() == weight)
 }
 
+// An input, and how many keys and how many bytes the face weighs after it.
+type Weighing = (Taken, u64, u64);
+
 // The same for each of these.
 fn all_weigh<R: Wait>(
     rt: &R,
+    alloc: Global,
     publisher: &mut Publisher,
-    steps: Vec<Weighing>,
+    steps: &[Weighing],
 ) -> Result<bool, FaceFault> {
     let mut right = true;
     for step in steps {
-        right &= weighs(rt, publisher, step)?;
+        let (taken, items, bytes) = *step;
+        let input = input_of(alloc, taken)?;
+        right &= weighs(rt, publisher, input, Weight { items, bytes })?;
     }
     Ok(right)
 }
 
 // The same for each of these, at a server that isn't the last one.
-fn weigh_at_first<R: Wait>(
-    rt: &R,
-    alloc: Global,
-    sets: Vec<Weighing>,
-    deletes: Vec<Weighing>,
-) -> Result<bool, FaceFault> {
-    let mut publisher = Publisher::open(rt, alloc, first(alloc, 2)?, 1)?;
+fn weigh_at_first<R: Wait>(rt: &R, alloc: Global, steps: &[Weighing]) -> Result<bool, FaceFault> {
+    let mut publisher = opened(rt, alloc, 2)?;
     let empty = publisher.weight() == Weight { items: 0, bytes: 0 };
-    let set = all_weigh(rt, &mut publisher, sets);
-    let deleted = all_weigh(rt, &mut publisher, deletes);
+    let right = all_weigh(rt, alloc, &mut publisher, steps);
     publisher.end(rt);
-    Ok(empty && set? && deleted?)
+    Ok(empty && right?)
 }
 
+// New keys, and keys that are set again, to more and to fewer bytes. A key without item counts until that is
+// acknowledged, also if it is set again before, and nothing after a flush.
 #[test]
 fn a_face_weighs_its_keys_and_data(rt: HostRuntime) -> Result<(), Fail> {
-    let a = key(rt.alloc(), b"a")?;
-    let bcd = key(rt.alloc(), b"bcd")?;
-    let sets = sets_to_weigh(rt.alloc(), &a, &bcd)?;
-    let deletes = deletes_to_weigh(rt.alloc(), &a, &bcd)?;
-    assert!(rt; weigh_at_first(&rt, rt.alloc(), sets, deletes)?);
+    let steps = [
+        (Taken::SetA(1), 1, 2),
+        (Taken::SetBcd(5), 2, 10),
+        (Taken::SetA(7), 2, 16),
+        (Taken::SetA(0), 2, 9),
+        (Taken::DeleteBcd, 2, 4),
+        (Taken::Acknowledged(5), 1, 1),
+        (Taken::DeleteA, 1, 1),
+        (Taken::SetA(3), 1, 4),
+        (Taken::Acknowledged(7), 1, 4),
+        (Taken::Flush, 0, 0),
+        (Taken::SetBcd(2), 1, 5),
+        (Taken::Acknowledged(9), 1, 5),
+    ];
+    assert!(rt; weigh_at_first(&rt, rt.alloc(), &steps)?);
     Ok(())
 }
 
-// Whether a node that has taken an input opens with a face that weighs this much.
+// Whether such a server opens with a face that weighs this much.
 fn opens_weighing<R: Wait>(
     rt: &R,
     alloc: Global,
-    input: Input,
+    key: &Key,
     weight: Weight,
 ) -> Result<bool, FaceFault> {
-    let node = after(first(alloc, 1)?, input)?;
-    let publisher = Publisher::open(rt, alloc, node, 1)?;
+    let publisher = opened_after(rt, alloc, key)?;
     let right = publisher.weight() == weight;
     publisher.end(rt);
     Ok(right)
@@ -435,8 +461,7 @@ fn opens_weighing<R: Wait>(
 #[test]
 fn a_node_opens_with_the_weight_of_what_it_holds(rt: HostRuntime) -> Result<(), Fail> {
     let key = key(rt.alloc(), b"a")?;
-    let input = set(rt.alloc(), &key)?;
     let weight = Weight { items: 1, bytes: 2 };
-    assert!(rt; opens_weighing(&rt, rt.alloc(), input, weight)?);
+    assert!(rt; opens_weighing(&rt, rt.alloc(), &key, weight)?);
     Ok(())
 }

@@ -1,4 +1,6 @@
 //! A link over memory: what is put, and what is handed on.
+ghost use Rattle.wire.specs.Spellings.{IsInRange};
+
 use bytes::BytesMut;
 use ends::{Failures, TrackedReader, TrackedWriter};
 use peers::{LinkFault, PeerEnd, TakeFault, Taker, put_all, put_frame, serve_peer};
@@ -82,13 +84,15 @@ impl Taker for Keeper {
 
     fn take<R: Wait>(&mut self, _rt: &R, frame: Frame) -> Result<(), TakeFault> {
         if self.left == 0 {
+            drop(frame);
             self.failures.rise();
             return Err(TakeFault);
         }
         self.left -= 1;
         match self.frames.push(frame) {
             Ok(()) => Ok(()),
-            Err(_) => {
+            Err(refused) => {
+                drop(refused);
                 self.failures.rise();
                 Err(TakeFault)
             }
@@ -119,11 +123,12 @@ fn served(
         failures: Failures::new(),
     };
     let end = serve_peer(rt, alloc, &mut source, &mut keeper);
+    let text = spelled(alloc, keeper.frames.as_slice());
+    drop(keeper);
     if end == Err(LinkFault::Memory) {
         return Err(LinkFault::Memory);
     }
-    let text = spelled(alloc, keeper.frames.as_slice())?;
-    Ok(Left { end, text })
+    Ok(Left { end, text: text? })
 }
 
 // The frames, put one after another. Each has to be in its ranges.
@@ -267,11 +272,20 @@ fn reads_and_takes_fail(rt: HostRuntime) -> Result<(), Fail> {
     Ok(())
 }
 
+// Writes a frame after a buffer's bytes.
+fn append(out: &mut BytesMut, frame: Frame) -> Result<(), WireFault>
+    requires { IsInRange frame }
+{
+    let put = encode_onto(out, &frame);
+    drop(frame);
+    put
+}
+
 // A buffer of two frames.
 fn both(alloc: Global) -> Result<BytesMut, WireFault> {
     let mut out = BytesMut::new(alloc);
-    encode_onto(&mut out, &Frame::Hello(3))?;
-    encode_onto(&mut out, &Frame::Gone(5))?;
+    append(&mut out, Frame::Hello(3))?;
+    append(&mut out, Frame::Gone(5))?;
     Ok(out)
 }
 

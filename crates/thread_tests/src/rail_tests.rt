@@ -1,14 +1,11 @@
 //! Tests over running servers.
-ghost use Rattle.std.specs.Prelude.{◌≡◌, ◌≤◌, true, IfOk};
-ghost use Rattle.node.specs.Lawful.{IsCall};
-ghost use Rattle.node.specs.Nodes.{is_idle};
+ghost use Rattle.std.specs.Prelude.{◌≡◌};
 
-use bytes::Bytes;
-use faces::FaceFault;
-use node::{Body, Look, Node, Peer, View};
-use rail::{
-    Inlet, Links, PortSet, Published, RailFault, Reader, Server, Stand, Turn, Weight, Worker, open,
-};
+pub(crate) mod running;
+
+use self::running::{News, Step, all_go, brings, first_of, go_on, is_closed, key, submits, turns};
+use node::{Look, Peer};
+use rail::{Links, PortSet, Published, RailFault, Reader, Server, Stand, Turn, Weight, Worker};
 use std::alloc::{AllocError, Global};
 use std::sync::Wait;
 use std::sync::atomic::{AtomicU64, Ordering};
@@ -16,215 +13,110 @@ use std::test::Fail;
 use std::thread;
 use std::thread::Threads;
 use std::time::{Clock, Duration};
-use table::{Call, Item, Key, Op, Reply, Target};
-
-// Links that are down.
-#[derive(Drop)]
-pub(crate) struct Down {
-    failures: u64,
-}
-
-impl Links for Down {
-    ghost use Rattle.std.specs.Prelude.{[]};
-
-    ghost Carried = { Unit {0} };
-
-    ghost state = { λ s. record {
-      list = [];
-      failures = λ j. s.failures;
-      wire = λ j. [];
-      spelled = λ peer. [];
-    } };
-
-    fn failed(&self, _to: u8) -> bool {
-        self.failures > 0
-    }
-
-    fn put(&mut self, _published: &Published, _to: u8, _peer: &Peer) -> Result<(), RailFault> {
-        self.failures = 1;
-        Err(RailFault::LinkDown)
-    }
-}
-
-pub(crate) fn no_links() -> Down {
-    Down { failures: 1 }
-}
-
-pub(crate) fn key(alloc: Global, bytes: &[u8]) -> Result<Key, RailFault> {
-    match Key::new(alloc, bytes)? {
-        Some(key) => Ok(key),
-        None => Err(RailFault::Closed),
-    }
-}
-
-fn set_of_a(alloc: Global) -> Result<Call, RailFault>
-    ensures { IfOk result (λ call. IsCall call) }
-{
-    let call = Call {
-        target: Target::One(key(alloc, b"a")?),
-        op: Op::Set(0, Bytes::copy_from_slice(alloc, b"v")?),
-    };
-    if call.op.fits() && call.op.suits(&call.target) {
-        Ok(call)
-    } else {
-        Err(RailFault::Closed)
-    }
-}
-
-fn idle_node(alloc: Global, count: u8) -> Result<Node, RailFault>
-    ensures { IfOk result (λ node. is_idle node ≡ true) }
-{
-    match Node::new(alloc, 0, count) {
-        Ok(node) if node.is_idle() => Ok(node),
-        _ => Err(RailFault::Closed),
-    }
-}
-
-// The first of n servers, with stands for this many threads and one inlet.
-pub(crate) fn first_of<R: Wait + Drop>(
-    rt: R,
-    alloc: Global,
-    count: u8,
-    readers: usize,
-) -> Result<Server<R>, RailFault>
-    requires { (1 ≤ readers) × (readers ≤ 16) }
-{
-    let node = idle_node(alloc, count)?;
-    open(rt, alloc, node, readers, 0, 1)
-}
-
-pub(crate) fn last<T>(list: &mut Vec<T>) -> Result<T, RailFault> {
-    match list.pop() {
-        Some(item) => Ok(item),
-        None => Err(RailFault::NoReader),
-    }
-}
-
-fn turn<R: Wait + Drop>(worker: &mut Worker<R>) -> Result<Turn, RailFault> {
-    worker.turn(&mut no_links())
-}
-
-fn has_turn<R: Wait + Drop>(worker: &mut Worker<R>) -> Result<bool, RailFault> {
-    Ok(worker.turn_if_any(&mut no_links())?.is_some())
-}
-
-pub(crate) fn submits<R: Wait>(
-    rt: &R,
-    alloc: Global,
-    stand: &mut Stand,
-) -> Result<bool, RailFault> {
-    let call = set_of_a(alloc)?;
-    Ok(stand.seat.submit(rt, call).is_ok())
-}
-
-fn is_v(look: Look<Item>) -> bool {
-    match look {
-        Look::Clean(Some(item)) => item.flags == 0
-            && item.bytes.as_slice() == b"v".as_slice()
-            && item.unique == 1,
-        Look::Clean(None) | Look::Dirty => false,
-    }
-}
-
-// Whether a reader finds a key's item.
-pub(crate) fn finds_v(reader: &mut Reader, key: &Key) -> Result<bool, RailFault>
-    ensures { reader.new.seen.origin ≡ reader.old.seen.origin }
-{
-    match reader.look(key) {
-        Ok(look) => Ok(is_v(look)),
-        Err(FaceFault::Memory) => Err(RailFault::Memory),
-        Err(FaceFault::Closed) => Err(RailFault::Closed),
-    }
-}
-
-// Whether a reader finds that a key has no item.
-fn finds_none(reader: &mut Reader, key: &Key) -> bool
-    ensures { reader.new.seen.origin ≡ reader.old.seen.origin }
-{
-    match reader.look(key) {
-        Ok(Look::Clean(found)) => found.is_none(),
-        _ => false,
-    }
-}
-
-// Takes the reply to a set, learns its note, and looks.
-fn sees_its_write<R: Wait>(rt: &R, stand: &mut Stand, key: &Key) -> Result<bool, RailFault> {
-    let (reply, told) = stand.seat.reply(rt)?;
-    let stored = matches!(reply, Reply::Stored);
-    stand.reader.learn(told);
-    let found = finds_v(&mut stand.reader, key)?;
-    Ok(stored && found)
-}
-
-// Whether a call at a stand takes one turn of the worker, after which the stand sees its write.
-fn writes_in_one_turn<R: Wait + Drop>(
-    rt: &R,
-    alloc: Global,
-    worker: &mut Worker<R>,
-    stand: &mut Stand,
-) -> Result<bool, RailFault> {
-    let a = key(alloc, b"a")?;
-    let sent = submits(rt, alloc, stand)?;
-    let went = turn(worker)? == Turn::Went;
-    let seen = sees_its_write(rt, stand, &a)?;
-    let more = has_turn(worker)?;
-    Ok(sent && went && seen && !more)
-}
+use table::Key;
 
 #[test]
 fn reader_sees_its_own_write(rt: HostRuntime) -> Result<(), Fail> {
-    let mut server = first_of(rt, rt.alloc(), 1, 2)?;
-    let mut stand = last(&mut server.stands)?;
-    assert!(rt; writes_in_one_turn(&rt, rt.alloc(), &mut server.worker, &mut stand)?);
+    let steps = [
+        Step::Submits,
+        Step::Turns(Turn::Went),
+        Step::SeesItsWrite,
+        Step::TurnsIfAny(None),
+    ];
+    assert!(rt; all_go(rt, rt.alloc(), 1, 2, &steps)?);
     Ok(())
-}
-
-// Whether of two ports a set has the second alone.
-fn has_second(ports: PortSet) -> bool {
-    !ports.is_empty() && !ports.has(0) && ports.has(1)
-}
-
-// Whether a worker names the port of a call that it replied to, once, and weighs what it set.
-fn names_its_port<R: Wait + Drop>(
-    rt: &R,
-    alloc: Global,
-    worker: &mut Worker<R>,
-    stand: &mut Stand,
-) -> Result<bool, RailFault> {
-    let none = worker.take_replied().is_empty();
-    let sent = submits(rt, alloc, stand)?;
-    let went = turn(worker)? == Turn::Went;
-    let named = has_second(worker.take_replied());
-    let weight = worker.weight() == Weight { items: 1, bytes: 2 };
-    Ok(none && sent && went && named && weight && worker.take_replied().is_empty())
 }
 
 #[test]
 fn worker_names_whom_it_replied_to(rt: HostRuntime) -> Result<(), Fail> {
-    let mut server = first_of(rt, rt.alloc(), 1, 2)?;
-    let mut second = last(&mut server.stands)?;
-    assert!(rt; names_its_port(&rt, rt.alloc(), &mut server.worker, &mut second)?);
+    let steps = [
+        Step::Replied(false, false),
+        Step::Submits,
+        Step::Turns(Turn::Went),
+        Step::Replied(false, true),
+        Step::Weighs(Weight { items: 1, bytes: 2 }),
+        Step::Replied(false, false),
+    ];
+    assert!(rt; all_go(rt, rt.alloc(), 1, 2, &steps)?);
     Ok(())
-}
-
-// Whether a worker that stops names each port, and weighs nothing.
-fn stops_for_all<R: Wait + Drop>(
-    rt: &R,
-    worker: &mut Worker<R>,
-    inlet: &mut Inlet,
-) -> Result<bool, RailFault> {
-    inlet.stop(rt)?;
-    let stopped = turn(worker)? == Turn::Stopped;
-    let ports = worker.take_replied();
-    let nothing = worker.weight() == Weight { items: 0, bytes: 0 };
-    Ok(stopped && nothing && ports.has(0) && ports.has(1) && !ports.has(2))
 }
 
 #[test]
 fn worker_that_stops_names_all_ports(rt: HostRuntime) -> Result<(), Fail> {
-    let mut server = first_of(rt, rt.alloc(), 1, 2)?;
-    let mut inlet = last(&mut server.inlets)?;
-    assert!(rt; stops_for_all(&rt, &mut server.worker, &mut inlet)?);
+    let steps = [
+        Step::Brings(News::Stop),
+        Step::Turns(Turn::Stopped),
+        Step::Replied(true, true),
+        Step::Weighs(Weight { items: 0, bytes: 0 }),
+    ];
+    assert!(rt; all_go(rt, rt.alloc(), 1, 2, &steps)?);
+    Ok(())
+}
+
+#[test]
+fn stop_ends_open_calls(rt: HostRuntime) -> Result<(), Fail> {
+    let steps = [
+        Step::Submits,
+        Step::Turns(Turn::Went),
+        Step::Brings(News::Stop),
+        Step::Turns(Turn::Stopped),
+        Step::IsClosed,
+    ];
+    assert!(rt; all_go(rt, rt.alloc(), 2, 1, &steps)?);
+    Ok(())
+}
+
+// Whether a worker takes these steps, and then a stand and an inlet outlive it, which are refused what they send.
+fn outlive<R: Wait + Drop + Copy>(rt: R, alloc: Global, steps: &[Step]) -> Result<bool, RailFault> {
+    let mut server = first_of(rt, alloc, 2, 1)?;
+    let went = go_on(&rt, alloc, &mut server, steps);
+    let Server {
+        worker,
+        mut stands,
+        seats,
+        mut inlets,
+    } = server;
+    drop(worker);
+    drop(seats);
+    let sent = submits(&rt, alloc, &mut stands);
+    let closed = is_closed(&rt, alloc, &mut stands);
+    let brought = brings(&rt, &mut inlets, News::Ack(0));
+    drop(stands);
+    drop(inlets);
+    Ok(went? && !sent? && closed && !brought)
+}
+
+#[test]
+fn worker_ends(rt: HostRuntime) -> Result<(), Fail> {
+    let steps = [
+        Step::Brings(News::Gone),
+        Step::Brings(News::End),
+        Step::Turns(Turn::Went),
+        Step::Turns(Turn::End),
+    ];
+    assert!(rt; outlive(rt, rt.alloc(), &steps)?);
+    Ok(())
+}
+
+// Whether a worker is told so after all who send to it are gone.
+fn is_told_alone<R: Wait + Drop + Copy>(rt: R, alloc: Global) -> Result<bool, RailFault> {
+    let Server {
+        mut worker,
+        stands,
+        seats,
+        inlets,
+    } = first_of(rt, alloc, 2, 1)?;
+    drop(stands);
+    drop(seats);
+    drop(inlets);
+    let turned = turns(&mut worker, Turn::Went);
+    drop(worker);
+    Ok(turned == Err(RailFault::Closed))
+}
+
+#[test]
+fn senders_go_first(rt: HostRuntime) -> Result<(), Fail> {
+    assert!(rt; is_told_alone(rt, rt.alloc())?);
     Ok(())
 }
 
@@ -242,6 +134,20 @@ fn merges() -> bool {
 #[test]
 fn sets_of_ports(rt: HostRuntime) {
     assert!(rt; merges());
+}
+
+// Whether a reader finds that a key has no item.
+fn finds_none(reader: &mut Reader, key: &Key) -> bool
+    ensures { reader.new.seen.origin ≡ reader.old.seen.origin }
+{
+    match reader.look(key) {
+        Ok(look) => {
+            let is_none = matches!(look, Look::Clean(None));
+            drop(look);
+            is_none
+        }
+        Err(_) => false,
+    }
 }
 
 // Waits until a flag is set, for ten seconds at most.
@@ -307,7 +213,7 @@ fn looks_beside<R: Clock>(
 }
 
 // Whether a stand looks in time at a key without item, while the worker's turn waits at a link.
-fn looks_while_held<R: Wait + Threads + Clock + Drop + Send + Sync>(
+fn looks_while_held<R: Wait + Threads + Clock + Send + Sync + Drop>(
     rt: &R,
     worker: &mut Worker<R>,
     stand: &mut Stand,
@@ -337,14 +243,32 @@ fn looks_while_held<R: Wait + Threads + Clock + Drop + Send + Sync>(
     Ok(went && held.in_time && clean)
 }
 
+// Whether the second stand of a server looks so while the call of the first is taken.
+fn second_looks<R: Wait + Threads + Clock + Send + Sync + Drop + Copy>(
+    rt: R,
+    alloc: Global,
+    b: &Key,
+) -> Result<bool, RailFault> {
+    let mut server = first_of(rt, alloc, 2, 2)?;
+    let looked = match server.stands.pop() {
+        Some(mut second) => {
+            let looked = match submits(&rt, alloc, &mut server.stands) {
+                Ok(true) => looks_while_held(&rt, &mut server.worker, &mut second, b),
+                refused => refused,
+            };
+            drop(second);
+            looked
+        }
+        None => Err(RailFault::NoReader),
+    };
+    drop(server);
+    looked
+}
+
 #[test]
 fn reader_beside_a_waiting_worker(rt: HostRuntime) -> Result<(), Fail> {
     let b = key(rt.alloc(), b"b")?;
-    let mut server = first_of(rt, rt.alloc(), 2, 2)?;
-    let mut second = last(&mut server.stands)?;
-    let mut first = last(&mut server.stands)?;
-    assert!(rt; submits(&rt, rt.alloc(), &mut first)?);
-    assert!(rt; looks_while_held(&rt, &mut server.worker, &mut second, &b)?);
+    assert!(rt; second_looks(rt, rt.alloc(), &b)?);
     Ok(())
 }
 
@@ -352,31 +276,47 @@ fn reader_beside_a_waiting_worker(rt: HostRuntime) -> Result<(), Fail> {
 const CALLS: u64 = 70;
 
 // Sends n calls, and takes no reply.
-fn submits_all<R: Wait>(rt: &R, alloc: Global, stand: &mut Stand) -> Result<bool, RailFault> {
+fn submits_all<R: Wait>(rt: &R, alloc: Global, stands: &mut Vec<Stand>) -> Result<bool, RailFault> {
     let mut sent = true;
     for _ in 0..CALLS {
-        sent &= submits(rt, alloc, stand)?;
+        sent &= submits(rt, alloc, stands)?;
     }
     Ok(sent)
 }
 
 // Takes as many turns, and counts them.
-fn turns_for_all<R: Wait + Drop>(worker: &mut Worker<R>, turns: &AtomicU64) -> bool {
+fn turns_for_all<R: Wait + Drop>(worker: &mut Worker<R>, taken: &AtomicU64) -> bool {
     for _ in 0..CALLS {
-        if turn(worker) != Ok(Turn::Went) {
+        if turns(worker, Turn::Went) != Ok(true) {
             return false;
         }
-        turns.fetch_add(1, Ordering::SeqCst);
+        taken.fetch_add(1, Ordering::SeqCst);
     }
     true
 }
 
+// Takes a reply, if one stands at the last stand.
+fn has_reply<R: Wait>(rt: &R, stands: &mut Vec<Stand>) -> Result<bool, RailFault> {
+    let Some(stand) = stands.last_mut() else {
+        return Err(RailFault::NoReader);
+    };
+    match stand.seat.reply_if_any(rt) {
+        Ok(Some((reply, told))) => {
+            drop(reply);
+            drop(told);
+            Ok(true)
+        }
+        Ok(None) => Ok(false),
+        Err(fault) => Err(fault),
+    }
+}
+
 // Takes a reply, for which it waits ten seconds at most.
-fn has_reply_soon<R: Wait + Clock>(rt: &R, stand: &mut Stand) -> bool {
+fn has_reply_soon<R: Wait + Clock>(rt: &R, stands: &mut Vec<Stand>) -> bool {
     for _ in 0..10_000 {
-        match stand.seat.reply_if_any(rt) {
-            Ok(Some(_)) => return true,
-            Ok(None) => thread::sleep(rt, Duration::from_millis(1)),
+        match has_reply(rt, stands) {
+            Ok(true) => return true,
+            Ok(false) => thread::sleep(rt, Duration::from_millis(1)),
             Err(_) => return false,
         }
     }
@@ -385,11 +325,11 @@ fn has_reply_soon<R: Wait + Clock>(rt: &R, stand: &mut Stand) -> bool {
 
 // Waits until the worker stands still, since the seat has no room for its next reply, and then takes them all. Whether
 // the worker stood still before its last turn.
-fn takes_all_late<R: Wait + Clock>(rt: &R, stand: &mut Stand, turns: &AtomicU64) -> bool {
+fn takes_all_late<R: Wait + Clock>(rt: &R, stands: &mut Vec<Stand>, turns: &AtomicU64) -> bool {
     let before = turns_when_still(rt, turns);
     let mut taken = true;
     for _ in 0..CALLS {
-        taken &= has_reply_soon(rt, stand);
+        taken &= has_reply_soon(rt, stands);
     }
     taken && before < CALLS
 }
@@ -409,104 +349,36 @@ fn turns_when_still<R: Clock>(clock: &R, turns: &AtomicU64) -> u64 {
 }
 
 // Whether a worker waits with a reply for which the seat has no room, and drops none.
-fn waits_for_room<R: Wait + Threads + Clock + Drop + Send + Sync>(
+fn waits_for_room<R: Wait + Threads + Clock + Send + Sync + Drop>(
     rt: &R,
     worker: &mut Worker<R>,
-    stand: &mut Stand,
-) -> (bool, bool) {
+    stands: &mut Vec<Stand>,
+) -> bool {
     let turns = AtomicU64::new(0);
-    thread::join(
+    let (went, taken) = thread::join(
         rt,
         || turns_for_all(worker, &turns),
-        || takes_all_late(rt, stand, &turns),
-    )
+        || takes_all_late(rt, stands, &turns),
+    );
+    went && taken
+}
+
+// Whether that is so of the replies to as many calls.
+fn replies_wait<R: Wait + Threads + Clock + Send + Sync + Drop + Copy>(
+    rt: R,
+    alloc: Global,
+) -> Result<bool, RailFault> {
+    let mut server = first_of(rt, alloc, 1, 1)?;
+    let waited = match submits_all(&rt, alloc, &mut server.stands) {
+        Ok(true) => Ok(waits_for_room(&rt, &mut server.worker, &mut server.stands)),
+        refused => refused,
+    };
+    drop(server);
+    waited
 }
 
 #[test]
 fn replies_without_room_wait(rt: HostRuntime) -> Result<(), Fail> {
-    let mut server = first_of(rt, rt.alloc(), 1, 1)?;
-    let mut stand = last(&mut server.stands)?;
-    assert!(rt; submits_all(&rt, rt.alloc(), &mut stand)?);
-    let (went, taken) = waits_for_room(&rt, &mut server.worker, &mut stand);
-    assert!(rt; went);
-    assert!(rt; taken);
-    Ok(())
-}
-
-fn is_closed<R: Wait>(rt: &R, stand: &mut Stand) -> bool {
-    matches!(stand.seat.reply(rt), Err(RailFault::Closed))
-}
-
-// Whether a worker that took a call stops after it, and the call ends.
-fn stops<R: Wait + Drop>(
-    rt: &R,
-    alloc: Global,
-    worker: &mut Worker<R>,
-    stand: &mut Stand,
-    inlet: &mut Inlet,
-) -> Result<bool, RailFault> {
-    let sent = submits(rt, alloc, stand)?;
-    let went = turn(worker)? == Turn::Went;
-    inlet.stop(rt)?;
-    let stopped = turn(worker)? == Turn::Stopped;
-    Ok(sent && went && stopped && is_closed(rt, stand))
-}
-
-#[test]
-fn stop_ends_open_calls(rt: HostRuntime) -> Result<(), Fail> {
-    let mut server = first_of(rt, rt.alloc(), 2, 1)?;
-    let mut stand = last(&mut server.stands)?;
-    let mut inlet = last(&mut server.inlets)?;
-    assert!(rt; stops(&rt, rt.alloc(), &mut server.worker, &mut stand, &mut inlet)?);
-    Ok(())
-}
-
-// Whether a worker takes a notice, and then ends.
-fn ends<R: Wait + Drop>(
-    rt: &R,
-    worker: &mut Worker<R>,
-    inlet: &mut Inlet,
-) -> Result<bool, RailFault> {
-    inlet.gone(rt, 1)?;
-    inlet.end(rt)?;
-    let went = turn(worker)? == Turn::Went;
-    let ended = turn(worker)? == Turn::End;
-    Ok(went && ended)
-}
-
-// Whether an acknowledgement is brought.
-fn brings<R: Wait>(rt: &R, inlet: &mut Inlet) -> bool {
-    let ack = Peer {
-        view: View::empty(),
-        body: Body::Ack(0),
-    };
-    inlet.bring(rt, 1, ack).is_ok()
-}
-
-#[test]
-fn worker_ends(rt: HostRuntime) -> Result<(), Fail> {
-    let mut server = first_of(rt, rt.alloc(), 2, 1)?;
-    let mut stand = last(&mut server.stands)?;
-    let mut inlet = last(&mut server.inlets)?;
-    assert!(rt; ends(&rt, &mut server.worker, &mut inlet)?);
-    drop(server);
-    assert!(rt; !submits(&rt, rt.alloc(), &mut stand)?);
-    assert!(rt; is_closed(&rt, &mut stand));
-    assert!(rt; !brings(&rt, &mut inlet));
-    Ok(())
-}
-
-#[test]
-fn senders_go_first(rt: HostRuntime) -> Result<(), Fail> {
-    let Server {
-        mut worker,
-        stands,
-        seats,
-        inlets,
-    } = first_of(rt, rt.alloc(), 2, 1)?;
-    drop(stands);
-    drop(seats);
-    drop(inlets);
-    assert!(rt; turn(&mut worker) == Err(RailFault::Closed));
+    assert!(rt; replies_wait(rt, rt.alloc())?);
     Ok(())
 }

@@ -60,7 +60,7 @@ impl Write for Writer {
 }
 
 // How many bytes were read and written, and how many calls were made and refused.
-#[derive(Clone, Copy, Debug, PartialEq, Eq)]
+#[derive(Clone, Copy)]
 struct Counts {
     read: usize,
     written: usize,
@@ -108,7 +108,9 @@ fn answer(
         Ok(reply) => {
             beside.items = items_after(beside.items, &reply);
             beside.counts.calls = beside.counts.calls.saturating_add(1);
-            connection.answer(&reply)
+            let answered = connection.answer(&reply);
+            drop(reply);
+            answered
         }
         Err(_) => Err(AllocError),
     }
@@ -143,7 +145,10 @@ fn go(connection: &mut Connection, beside: &mut Beside<'_>) -> Result<Option<End
 {
     match connection.next()? {
         Wants::Call(target, op) => {
-            answer(connection, beside, &target, &op)?;
+            let answered = answer(connection, beside, &target, &op);
+            drop(target);
+            drop(op);
+            answered?;
         }
         Wants::Write => {
             let taken = write(beside, connection.output())?;
@@ -166,15 +171,24 @@ fn go(connection: &mut Connection, beside: &mut Beside<'_>) -> Result<Option<End
 // How many steps a connection has to come to its end.
 const STEPS: usize = 1000;
 
-// How a connection comes to its end, if it does.
-fn driven(alloc: Global, beside: &mut Beside<'_>) -> Result<Option<End>, AllocError> {
-    let mut connection = Connection::new(alloc);
+// Has a connection do what it wants, and tells how it comes to its end, if it does.
+fn driven(connection: &mut Connection, beside: &mut Beside<'_>) -> Result<Option<End>, AllocError>
+    requires idle { connection.old.waiting ≡ [] }
+{
     for _ in 0..STEPS {
-        if let Some(end) = go(&mut connection, beside)? {
+        if let Some(end) = go(connection, beside)? {
             return Ok(Some(end));
         }
     }
     Ok(None)
+}
+
+// How a new connection comes to its end, if it does.
+fn ended(alloc: Global, beside: &mut Beside<'_>) -> Result<Option<End>, AllocError> {
+    let mut connection = Connection::new(alloc);
+    let end = driven(&mut connection, beside);
+    drop(connection);
+    end
 }
 
 // What a connection left: how it came to its end, what was written, and what was done.
@@ -183,6 +197,46 @@ struct Left {
     end: Option<End>,
     output: Vec<u8>,
     counts: Counts,
+}
+
+// What is beside a connection that has neither read nor written.
+fn beside_of(
+    alloc: Global,
+    reader: CutReader<'_>,
+    writer: Writer,
+    room: Vec<u8>,
+    most_items: usize,
+) -> Beside<'_> {
+    Beside {
+        reader,
+        room,
+        writer,
+        table: Table::new(alloc),
+        items: 0,
+        most_items,
+        counts: Counts {
+            read: 0,
+            written: 0,
+            calls: 0,
+            refused: 0,
+        },
+    }
+}
+
+// How a connection comes to its end, and what it leaves beside it.
+fn left_by(alloc: Global, beside: Beside<'_>) -> Result<Left, AllocError> {
+    let mut beside = beside;
+    match ended(alloc, &mut beside) {
+        Ok(end) => Ok(Left {
+            end,
+            counts: beside.counts,
+            output: beside.writer.held,
+        }),
+        Err(fault) => {
+            drop(beside);
+            Err(fault)
+        }
+    }
 }
 
 // A connection over this reader and a writer with room for some bytes, which takes a few at once. Refused if
@@ -195,33 +249,9 @@ fn served_over(
     most_items: usize,
 ) -> Result<Left, AllocError> {
     let room = Vec::from_elem(alloc, 0u8, reader.bytes.len().min(reader.most))?;
-    let writer = Writer {
-        held: Vec::with_capacity(alloc, writes)?,
-        most,
-    };
-    let counts = Counts {
-        read: 0,
-        written: 0,
-        calls: 0,
-        refused: 0,
-    };
-    let mut beside = Beside {
-        reader,
-        room,
-        writer,
-        table: Table::new(alloc),
-        items: 0,
-        most_items,
-        counts,
-    };
-    let end = driven(alloc, &mut beside)?;
-    let counts = beside.counts;
-    let output = beside.writer.held;
-    Ok(Left {
-        end,
-        output,
-        counts,
-    })
+    let held = Vec::with_capacity(alloc, writes)?;
+    let writer = Writer { held, most };
+    left_by(alloc, beside_of(alloc, reader, writer, room, most_items))
 }
 
 // A connection of which few bytes are read and written at once, to a table that has room for few items.
@@ -368,7 +398,18 @@ fn many_cuts_of_silent_requests_and_bad_blocks(rt: HostRuntime) -> Result<(), Fa
     Ok(())
 }
 
-// Wherever the input is cut before or behind the block, or a little in it, and at some places far in it.
+// Whether that holds of cuts before and behind a large block, or a little in it, and at some places far in it.
+fn is_same_around_block(alloc: Global, exchange: Exchange<'_>) -> Result<bool, AllocError> {
+    let (front, back) = (LARGE_LINE.len(), LARGE_READ.len());
+    let last = exchange.requests.len().wrapping_sub(back);
+    Ok(
+        is_same_at_each(alloc, exchange, 0, front.wrapping_add(3), 1)?
+            && is_same_at_each(alloc, exchange, front, 8, 8192)?
+            && is_same_at_each(alloc, exchange, last.wrapping_sub(3), 3, 1)?
+            && is_same_at_each(alloc, exchange, last, back, 1)?,
+    )
+}
+
 #[test]
 fn many_cuts_of_a_large_block(rt: HostRuntime) -> Result<(), Fail> {
     let requests = around_block(rt.alloc(), LARGE_LINE, LARGE, LARGE_READ)?;
@@ -378,11 +419,6 @@ fn many_cuts_of_a_large_block(rt: HostRuntime) -> Result<(), Fail> {
         replies: replies.as_slice(),
         calls: 2,
     };
-    let (front, back) = (LARGE_LINE.len(), LARGE_READ.len());
-    let last = requests.len().wrapping_sub(back);
-    assert!(rt; is_same_at_each(rt.alloc(), exchange, 0, front.wrapping_add(3), 1)?);
-    assert!(rt; is_same_at_each(rt.alloc(), exchange, front, 8, 8192)?);
-    assert!(rt; is_same_at_each(rt.alloc(), exchange, last.wrapping_sub(3), 3, 1)?);
-    assert!(rt; is_same_at_each(rt.alloc(), exchange, last, back, 1)?);
+    assert!(rt; is_same_around_block(rt.alloc(), exchange)?);
     Ok(())
 }
