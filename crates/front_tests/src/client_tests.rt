@@ -1,16 +1,16 @@
 //! A client of a server over a socket in memory, whose input ends or fails anywhere, and whose output fails anywhere.
+ghost use Rattle.std.specs.Prelude.{IfSome};
 ghost use Rattle.faces.specs.Courses.{IsLater};
 
-use io_threads::{Client, Pause, Pooled, Ready, open_pools};
-use node::Node;
+use super::servers::pooled;
+use io_threads::{Client, Pause, Pooled, Ready};
 use rail::Worker;
-use seats::{Allowance, Gauge, InProcessLinks, Mark, SeatPool};
+use seats::{InProcessLinks, Mark, SeatPool};
 use std::alloc::Global;
 use std::io;
 use std::io::{Error, ErrorKind, Read, Write};
 use std::sync::Wait;
 use std::sync::atomic::{AtomicUsize, Ordering};
-use std::test::Fail;
 
 const REQUESTS: &[u8] = b"set a 5 0 3\r\nxyz\r\ngets a\r\nbad\r\nget a b\r\nquit\r\n";
 
@@ -86,38 +86,98 @@ impl Write for Socket<'_> {
     }
 }
 
-// The only server of a chain, with one seat, in the hands of the thread that serves.
-#[derive(Drop)]
-struct Alone<R: Wait + Drop> {
+// The only server of a chain, with one seat, and a client of it, in the hands of one thread.
+struct Alone<'a, R: Wait + Drop> {
+    rt: R,
+    alloc: Global,
     worker: Worker<R>,
     pool: SeatPool,
+    client: Client<Socket<'a>>,
 }
 
-fn open_alone<R: Wait + Drop>(rt: R, alloc: Global) -> Option<Alone<R>> {
+// The client's socket is ready for all, and its input will end.
+#[tactic(auto, using(crate::proofs::Later::later_same))]
+fn open_alone<R: Wait + Copy + Drop>(
+    rt: R,
+    alloc: Global,
+    socket: Socket<'_>,
+) -> Option<Alone<'_, R>>
+    ensures known { IfSome result (λ alone. IsLater alone.client.talk.seen alone.pool.seen) }
+{
     let mark = Mark::new(alloc).ok()?;
-    let gauge = Gauge::new(alloc, Allowance::new(None, 1)).ok()?;
     let Pooled {
         worker,
         mut pools,
         inlets,
-    } = pooled(rt, alloc, &mark, &gauge)?;
+    } = pooled(rt, alloc, 1, 1, None, &mark)?;
     drop(inlets);
-    match pools.pop() {
-        Some(pool) => Some(Alone { worker, pool }),
-        None => {
-            drop(worker);
-            None
-        }
+    let Some(pool) = pools.pop() else {
+        drop(worker);
+        return None;
+    };
+    let mut client = Client::new(alloc, socket, &pool);
+    client.is_ready_for(Ready {
+        reading: true,
+        writing: true,
+        ended: true,
+        gone: false,
+    });
+    Some(Alone {
+        rt,
+        alloc,
+        worker,
+        pool,
+        client,
+    })
+}
+
+// A client beside its server.
+trait Beside {
+    // Its client has seen nothing that its seats haven't.
+    ghost known: { Self → Type 0 };
+
+    // Has the client go on.
+    fn go(&mut self) -> Pause
+        requires known { known self.old }
+        ensures known { known self.new };
+
+    // Whether the worker finds an input, and the client has its reply after that turn.
+    fn hears(&mut self) -> bool
+        requires known { known self.old }
+        ensures known { known self.new };
+}
+
+impl<R: Wait + Copy + Drop> Beside for Alone<'_, R> {
+    ghost known = { λ alone. IsLater alone.client.talk.seen alone.pool.seen };
+
+    fn go(&mut self) -> Pause {
+        let mut piece = [0u8; 64];
+        self.client
+            .go(&self.rt, &mut self.pool, piece.as_mut_slice())
+    }
+
+    fn hears(&mut self) -> bool {
+        let mut links = InProcessLinks::new(self.rt, 0, Vec::new(self.alloc));
+        matches!(self.worker.turn_if_any(&mut links), Ok(Some(_)))
+            && self.client.hear(&self.rt, &mut self.pool) == Some(true)
     }
 }
 
-fn pooled<R: Wait + Drop>(rt: R, alloc: Global, mark: &Mark, gauge: &Gauge) -> Option<Pooled<R>> {
-    let node = Node::new(alloc, 0, 1).ok()?;
-    if !node.is_idle() {
-        drop(node);
-        return None;
+impl<R: Wait + Drop> Alone<'_, R> {
+    fn end(self)
+        requires known { IsLater self.client.talk.seen self.pool.seen }
+    {
+        let Alone {
+            rt: _rt,
+            alloc: _,
+            worker,
+            mut pool,
+            client,
+        } = self;
+        client.leave(&mut pool);
+        drop(pool);
+        drop(worker);
     }
-    open_pools(rt, alloc, node, 1, 1, 1, mark, gauge).ok()
 }
 
 // How often a client goes on until it is over.
@@ -125,22 +185,16 @@ const STEPS: usize = 1000;
 
 // Has a client go on until it is over, and takes a turn for each call that it sends. False if it isn't over after many
 // steps.
-fn is_over<R: Wait + Copy + Drop>(
-    rt: R,
-    alloc: Global,
-    worker: &mut Worker<R>,
-    pool: &mut SeatPool,
-    client: &mut Client<Socket<'_>>,
-) -> bool
-    requires known { IsLater client.old.talk.seen pool.old.seen }
+fn is_over<B: Beside>(beside: &mut B) -> bool
+    requires known { B.known beside.old }
+    ensures known { B.known beside.new }
 {
-    let mut piece = [0u8; 64];
     for _ in 0..STEPS {
-        match client.go(&rt, pool, piece.as_mut_slice()) {
+        match beside.go() {
             Pause::Over => return true,
             Pause::Turn => {}
             Pause::Reply => {
-                if !hears(rt, alloc, worker, pool, client) {
+                if !beside.hears() {
                     return false;
                 }
             }
@@ -148,46 +202,6 @@ fn is_over<R: Wait + Copy + Drop>(
         }
     }
     false
-}
-
-// Whether a client has its reply after a turn.
-fn hears<R: Wait + Copy + Drop>(
-    rt: R,
-    alloc: Global,
-    worker: &mut Worker<R>,
-    pool: &mut SeatPool,
-    client: &mut Client<Socket<'_>>,
-) -> bool
-    requires known { IsLater client.old.talk.seen pool.old.seen }
-    ensures known { IsLater client.new.talk.seen pool.new.seen }
-{
-    takes_a_turn(rt, alloc, worker) && client.hear(&rt, pool) == Some(true)
-}
-
-// Whether the worker finds an input, and takes it.
-fn takes_a_turn<R: Wait + Copy + Drop>(rt: R, alloc: Global, worker: &mut Worker<R>) -> bool {
-    let mut links = InProcessLinks::new(rt, 0, Vec::new(alloc));
-    matches!(worker.turn_if_any(&mut links), Ok(Some(_)))
-}
-
-// Whether a client with this socket is over at last.
-#[tactic(auto, using(crate::proofs::Later::later_same))]
-fn goes<R: Wait + Copy + Drop>(
-    rt: R,
-    alloc: Global,
-    alone: &mut Alone<R>,
-    socket: Socket<'_>,
-) -> bool {
-    let mut client = Client::new(alloc, socket, &alone.pool);
-    client.is_ready_for(Ready {
-        reading: true,
-        writing: true,
-        ended: true,
-        gone: false,
-    });
-    let is_over = is_over(rt, alloc, &mut alone.worker, &mut alone.pool, &mut client);
-    drop(client);
-    is_over
 }
 
 // What came of a client: whether it was over at last, how many bytes of the replies it was sent, whether it was sent
@@ -216,9 +230,9 @@ fn served<R: Wait + Copy + Drop>(
         writes,
         seen: &seen,
     };
-    let mut alone = open_alone(rt, alloc)?;
-    let is_over = goes(rt, alloc, &mut alone, socket);
-    drop(alone);
+    let mut alone = open_alone(rt, alloc, socket)?;
+    let is_over = is_over(&mut alone);
+    alone.end();
     Some(Came {
         is_over,
         sent: seen.taken.load(Ordering::SeqCst),
@@ -238,48 +252,58 @@ fn over(sent: usize, failed: usize) -> Came {
 }
 
 #[test]
-fn a_write_that_fails_after_three_bytes(rt: HostRuntime) -> Result<(), Fail> {
+fn a_write_that_fails_after_three_bytes(rt: HostRuntime) {
     let came = served(rt, rt.alloc(), REQUESTS, MANY, 3);
     assert_eq!(rt; came, Some(over(3, 1)));
-    Ok(())
 }
 
 #[test]
-fn a_first_read_that_fails(rt: HostRuntime) -> Result<(), Fail> {
+fn a_first_read_that_fails(rt: HostRuntime) {
     let came = served(rt, rt.alloc(), REQUESTS, 0, MANY);
     assert_eq!(rt; came, Some(over(0, 1)));
-    Ok(())
 }
 
 // Whether a client whose input ends after n bytes is sent a beginning of the replies, and one whose read fails
 // there the same.
-fn is_same_if_read_fails<R: Wait + Copy + Drop>(rt: R, alloc: Global, n: usize) -> Option<bool> {
+fn is_same_if_read_fails<R: Wait + Copy + Drop>(rt: R, alloc: Global, n: usize) -> bool {
     let front = REQUESTS.get(..n).unwrap_or_default();
-    let ended = served(rt, alloc, front, MANY, MANY)?;
-    let failed = served(rt, alloc, REQUESTS, n, MANY)?;
-    Some(ended == over(ended.sent, 0) && failed == over(ended.sent, 1))
+    let ended = served(rt, alloc, front, MANY, MANY);
+    let failed = served(rt, alloc, REQUESTS, n, MANY);
+    match ended {
+        Some(ended) => ended == over(ended.sent, 0) && failed == Some(over(ended.sent, 1)),
+        None => false,
+    }
+}
+
+// The first n at which it isn't so, if there is one.
+fn first_difference<R: Wait + Copy + Drop>(rt: R, alloc: Global) -> Option<usize> {
+    for n in 0..REQUESTS.len() {
+        if !is_same_if_read_fails(rt, alloc, n) {
+            return Some(n);
+        }
+    }
+    None
 }
 
 // After any number of bytes before the last: what is sent is the same if the input ends and if a read fails.
 #[test]
-fn the_input_ends_or_a_read_fails_anywhere(rt: HostRuntime) -> Result<(), Fail> {
-    for n in 0..REQUESTS.len() {
-        assert_eq!(rt;
-            is_same_if_read_fails(rt, rt.alloc(), n),
-            Some(true),
-            "after {n}"
-        );
+fn the_input_ends_or_a_read_fails_anywhere(rt: HostRuntime) {
+    assert_eq!(rt; first_difference(rt, rt.alloc()), None);
+}
+
+// The first n after which a write fails, or none does since these are all, and the client isn't sent these n bytes
+// alone, if there is one.
+fn first_wrong_write<R: Wait + Copy + Drop>(rt: R, alloc: Global) -> Option<usize> {
+    for n in 0..REPLIES.len() {
+        if served(rt, alloc, REQUESTS, MANY, n) != Some(over(n, 1)) {
+            return Some(n);
+        }
     }
-    Ok(())
+    let whole = served(rt, alloc, REQUESTS, MANY, REPLIES.len());
+    (whole != Some(over(REPLIES.len(), 0))).then_some(REPLIES.len())
 }
 
 #[test]
-fn a_write_fails_anywhere(rt: HostRuntime) -> Result<(), Fail> {
-    for n in 0..REPLIES.len() {
-        let came = served(rt, rt.alloc(), REQUESTS, MANY, n);
-        assert_eq!(rt; came, Some(over(n, 1)), "after {n}");
-    }
-    let whole = served(rt, rt.alloc(), REQUESTS, MANY, REPLIES.len());
-    assert_eq!(rt; whole, Some(over(REPLIES.len(), 0)));
-    Ok(())
+fn a_write_fails_anywhere(rt: HostRuntime) {
+    assert_eq!(rt; first_wrong_write(rt, rt.alloc()), None);
 }

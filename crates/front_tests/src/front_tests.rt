@@ -1,16 +1,14 @@
 //! Fronts over real sockets: few threads that serve many connections. Each port is one that nobody listens on.
 
-use io_threads::{
-    Desks, Elsewhere, Front, FrontSettings, Gate, Pooled, open_desks, open_front, open_pools,
-};
-use node::Node;
-use rail::{Inlet, Turn, Worker};
-use seats::{Allowance, Gauge, InProcessLinks, Mark};
+use super::servers::pooled;
+use io_threads::{Desks, Elsewhere, Front, FrontSettings, Gate, Pooled, open_desks, open_front};
+use mio::Poll;
+use rail::{Turn, Worker};
+use seats::{InProcessLinks, Mark, SeatPool};
 use std::alloc::Global;
 use std::io::{ErrorKind, Read, Write};
 use std::net::{Ipv4Addr, Net, TcpListener, TcpStream};
 use std::sync::{Arc, Wait};
-use std::test::Fail;
 use std::thread;
 use std::thread::{JoinHandle, Threads};
 use std::time::{Clock, Duration};
@@ -40,26 +38,33 @@ const TOO_MANY: &[u8] = b"SERVER_ERROR too many connections\r\n";
 
 const NO_ROOM: &[u8] = b"SERVER_ERROR out of memory storing object\r\n";
 
-// The first server of a chain with a front. The others are gone, and nobody takes its turns yet.
+// The first server of a chain with a front. The others are gone. Its turns are a worker, or the thread that takes them.
 #[derive(Drop)]
-struct Opened<R: Wait + Drop> {
+struct Served<T: Drop> {
     port: u16,
     front: Front,
-    worker: Worker<R>,
-    inlet: Inlet,
+    turns: T,
     mark: Mark,
     desks: Arc<Desks, Global>,
 }
 
-// The same, with a worker that has a thread of its own.
-#[derive(Drop)]
-struct Served {
-    port: u16,
-    front: Front,
-    worker: JoinHandle<()>,
-    inlet: Inlet,
-    mark: Mark,
-    desks: Arc<Desks, Global>,
+// One whose turns are taken.
+trait TakesTurns {
+    // Takes turns until the server ends, and wakes who has a reply.
+    fn take_turns<R: Wait + Copy + Drop>(&mut self, rt: R, alloc: Global, desks: &Desks);
+}
+
+impl<W: Wait + Drop> TakesTurns for Worker<W> {
+    fn take_turns<R: Wait + Copy + Drop>(&mut self, rt: R, alloc: Global, desks: &Desks) {
+        let mut links = InProcessLinks::new(rt, 0, Vec::new(alloc));
+        for _ in rt.forever() {
+            match self.turn(&mut links) {
+                Ok(Turn::Went) => desks.wake(0, self.take_replied()),
+                _ => return,
+            }
+        }
+        unreachable!()
+    }
 }
 
 // A server whose turns are taken.
@@ -78,11 +83,11 @@ fn open_served<
     threads: usize,
     settings: FrontSettings,
     memory: Option<u32>,
-) -> Option<Served> {
+) -> Option<Served<JoinHandle<()>>> {
     open(rt, alloc, servers, threads, settings, memory)?.begin(rt, alloc)
 }
 
-// A server.
+// A server whose turns nobody takes yet.
 fn open<
     R: Wait
         + Threads
@@ -98,105 +103,160 @@ fn open<
     threads: usize,
     settings: FrontSettings,
     memory: Option<u32>,
-) -> Option<Opened<R>> {
-    let listener = TcpListener::bind(&rt, (Ipv4Addr::LOCALHOST, 0)).ok()?;
-    let port = listener.local_addr().ok()?.port();
-    let mark = Mark::new(alloc).ok()?;
-    let gauge = Gauge::new(alloc, Allowance::new(memory, 1)).ok()?;
+) -> Option<Served<Worker<R>>> {
+    let place = find_place(&rt, alloc, threads)?;
     let Pooled {
         worker,
         pools,
-        mut inlets,
-    } = pooled(rt, alloc, servers, threads, &mark, &gauge)?;
-    gauge.note(worker.weight());
-    let (desks, polls) = open_desks(&rt, alloc, threads).ok()?;
-    let desks = Arc::new(alloc, desks).ok()?;
-    let gate = Gate {
+        inlets,
+    } = pooled(rt, alloc, servers, threads, memory, &place.mark)?;
+    drop(inlets);
+    serve(rt, alloc, settings, place, pools, worker)
+}
+
+// Where a server's clients come in: its port, its mark, and the desks of its threads, with what these poll.
+#[derive(Drop)]
+struct Place {
+    port: u16,
+    listener: TcpListener,
+    mark: Mark,
+    desks: Arc<Desks, Global>,
+    polls: Vec<Poll>,
+}
+
+fn find_place<R: Net<Listener = TcpListener, Stream = TcpStream>>(
+    rt: &R,
+    alloc: Global,
+    threads: usize,
+) -> Option<Place> {
+    let listener = TcpListener::bind(rt, (Ipv4Addr::LOCALHOST, 0)).ok()?;
+    let port = listener.local_addr().ok()?.port();
+    let mark = Mark::new(alloc).ok()?;
+    let (desks, polls) = open_desks(rt, alloc, threads).ok()?;
+    Some(Place {
+        port,
         listener,
-        pools,
-        mark: mark.share().ok()?,
-    };
-    let mut gates = Vec::new(alloc);
-    gates.push(gate).ok()?;
+        mark,
+        desks: Arc::new(alloc, desks).ok()?,
+        polls,
+    })
+}
+
+// Serves the clients who come in there.
+fn serve<R: Wait + Threads + Net + Copy + Drop + Send + 'static, T: Drop>(
+    rt: R,
+    alloc: Global,
+    settings: FrontSettings,
+    place: Place,
+    pools: Vec<SeatPool>,
+    turns: T,
+) -> Option<Served<T>> {
+    let Place {
+        port,
+        listener,
+        mark,
+        desks,
+        polls,
+    } = place;
+    let gates = only_gate(alloc, listener, pools, &mark)?;
     let elsewhere = Arc::new(alloc, Elsewhere).ok()?;
     let front = open_front(rt, alloc, settings, &elsewhere, &desks, polls, gates).ok()?;
-    Some(Opened {
+    Some(Served {
         port,
         front,
-        worker,
-        inlet: inlets.pop()?,
+        turns,
         mark,
         desks,
     })
 }
 
-impl<R: Wait + Threads + Copy + Drop + Send + 'static> Opened<R> {
+// The gate of the only server of a front.
+fn only_gate(
+    alloc: Global,
+    listener: TcpListener,
+    pools: Vec<SeatPool>,
+    mark: &Mark,
+) -> Option<Vec<Gate>> {
+    let mut gates = Vec::new(alloc);
+    let mark = mark.share().ok()?;
+    let gate = Gate {
+        listener,
+        pools,
+        mark,
+    };
+    gates.push(gate).ok()?;
+    Some(gates)
+}
+
+impl<T: TakesTurns + Drop + Send + 'static> Served<T> {
     // Has its turns taken from now on.
-    fn begin(self, rt: R, alloc: Global) -> Option<Served> {
-        let Opened {
+    fn begin<R: Wait + Threads + Copy + Drop + Send + 'static>(
+        self,
+        rt: R,
+        alloc: Global,
+    ) -> Option<Served<JoinHandle<()>>> {
+        let Served {
             port,
             front,
-            worker,
-            inlet,
+            turns,
             mark,
             desks,
         } = self;
-        let theirs = Arc::try_clone(&desks).ok()?;
-        let worker = thread::spawn(&rt, move || attend(rt, alloc, worker, &theirs)).ok()?;
+        let turns = start(rt, alloc, turns, &desks)?;
         Some(Served {
             port,
             front,
-            worker,
-            inlet,
+            turns,
             mark,
             desks,
         })
     }
 }
 
-// The parts of the server, with one seat for each thread.
-fn pooled<R: Wait + Copy + Drop>(
+// Starts a thread that takes these turns.
+fn start<R: Wait + Threads + Copy + Drop + Send + 'static, T: TakesTurns + Drop + Send + 'static>(
     rt: R,
     alloc: Global,
-    servers: u8,
-    threads: usize,
-    mark: &Mark,
-    gauge: &Gauge,
-) -> Option<Pooled<R>> {
-    let node = Node::new(alloc, 0, servers).ok()?;
-    if threads == 0 || threads > 16 || !node.is_idle() {
+    turns: T,
+    desks: &Arc<Desks, Global>,
+) -> Option<JoinHandle<()>> {
+    let Ok(desks) = Arc::try_clone(desks) else {
+        drop(turns);
         return None;
-    }
-    open_pools(rt, alloc, node, threads, threads, 1, mark, gauge).ok()
+    };
+    let started = thread::spawn(&rt, move || {
+        let mut turns = turns;
+        turns.take_turns(rt, alloc, &desks);
+    });
+    started.ok()
 }
 
-// Takes turns until the worker ends.
-fn attend<R: Wait + Copy + Drop>(rt: R, alloc: Global, worker: Worker<R>, desks: &Desks) {
-    let mut worker = worker;
-    let mut links = InProcessLinks::new(rt, 0, Vec::new(alloc));
-    for _ in rt.forever() {
-        match worker.turn(&mut links) {
-            Ok(Turn::Went) => desks.wake(0, worker.take_replied()),
-            _ => return,
-        }
-    }
-    unreachable!()
+// A server that clients can call.
+trait Serves {
+    // The port of its clients.
+    fn port(&self) -> u16;
+
+    // Marks that no more calls are answered.
+    fn fall_silent(&self);
+
+    // Waits until all connections are closed. The worker ends then, as nobody has a seat any more.
+    fn end<R: Threads>(self, rt: &R);
 }
 
-impl Served {
-    // Waits until all connections are closed, and ends the worker.
-    fn end<R: Wait + Threads>(self, rt: &R) {
-        let Served {
-            port: _,
-            front,
-            worker,
-            mut inlet,
-            mark: _,
-            desks: _,
-        } = self;
+impl Serves for Served<JoinHandle<()>> {
+    fn port(&self) -> u16 {
+        self.port
+    }
+
+    fn fall_silent(&self) {
+        self.mark.set();
+        self.desks.wake_all();
+    }
+
+    fn end<R: Threads>(self, rt: &R) {
+        let Served { front, turns, .. } = self;
         front.end(rt);
-        let _ = inlet.end(rt);
-        worker.join(rt);
+        turns.join(rt);
     }
 }
 
@@ -206,11 +266,19 @@ fn client<R: Net<Listener = TcpListener, Stream = TcpStream>>(
     port: u16,
 ) -> Option<TcpStream> {
     let stream = TcpStream::connect(rt, (Ipv4Addr::LOCALHOST, port)).ok()?;
-    stream.set_nodelay(true).ok()?;
-    stream
-        .set_read_timeout(Some(Duration::from_secs(LIMIT)))
-        .ok()?;
-    Some(stream)
+    let limit = Duration::from_secs(LIMIT);
+    let is_set = stream.set_nodelay(true).is_ok() && stream.set_read_timeout(Some(limit)).is_ok();
+    is_set.then_some(stream)
+}
+
+// Two connections to this port.
+fn two_clients<R: Net<Listener = TcpListener, Stream = TcpStream>>(
+    rt: &R,
+    port: u16,
+) -> Option<(TcpStream, TcpStream)> {
+    let first = client(rt, port)?;
+    let second = client(rt, port)?;
+    Some((first, second))
 }
 
 // Whether these bytes come next.
@@ -252,7 +320,7 @@ fn many<R: Net<Listener = TcpListener, Stream = TcpStream>>(
 }
 
 // What a connection asks for, at the key of its number.
-#[derive(Clone, Copy, Debug)]
+#[derive(Clone, Copy)]
 enum Ask {
     Set,
     Get,
@@ -274,25 +342,49 @@ impl Ask {
             Ask::Get => format!(in alloc; "VALUE k{number} 0 4\r\n{value}\r\nEND\r\n").ok(),
         }
     }
+
+    // Whether the request is taken.
+    fn is_sent(self, alloc: Global, number: usize, stream: &mut TcpStream) -> bool {
+        match self.request(alloc, number) {
+            Some(request) => stream.write_all(request.as_bytes()).is_ok(),
+            None => false,
+        }
+    }
+
+    // Whether the reply comes next.
+    fn is_heard(self, alloc: Global, number: usize, stream: &mut TcpStream) -> bool {
+        match self.reply(alloc, number) {
+            Some(reply) => says(stream, reply.as_bytes()),
+            None => false,
+        }
+    }
 }
 
 // Whether each connection's request is taken, and then each has its reply.
-fn all_answer(alloc: Global, streams: &mut Vec<TcpStream>, from: usize, ask: Ask) -> Option<()> {
+fn all_answer(alloc: Global, streams: &mut Vec<TcpStream>, from: usize, ask: Ask) -> bool {
+    all_send(alloc, streams, from, ask) && all_hear(alloc, streams, from, ask)
+}
+
+fn all_send(alloc: Global, streams: &mut Vec<TcpStream>, from: usize, ask: Ask) -> bool {
     let mut number = from;
     for stream in streams.iter_mut() {
-        stream
-            .write_all(ask.request(alloc, number)?.as_bytes())
-            .ok()?;
-        number = number.wrapping_add(1);
-    }
-    let mut number = from;
-    for stream in streams.iter_mut() {
-        if !says(stream, ask.reply(alloc, number)?.as_bytes()) {
-            return None;
+        if !ask.is_sent(alloc, number, stream) {
+            return false;
         }
         number = number.wrapping_add(1);
     }
-    Some(())
+    true
+}
+
+fn all_hear(alloc: Global, streams: &mut Vec<TcpStream>, from: usize, ask: Ask) -> bool {
+    let mut number = from;
+    for stream in streams.iter_mut() {
+        if !ask.is_heard(alloc, number, stream) {
+            return false;
+        }
+        number = number.wrapping_add(1);
+    }
+    true
 }
 
 // Whether many connections at the same time each set their own key, and read it back.
@@ -308,148 +400,169 @@ fn read_back<R: Net<Listener = TcpListener, Stream = TcpStream>>(
     };
     let set = all_answer(alloc, &mut streams, from, Ask::Set);
     let got = all_answer(alloc, &mut streams, from, Ask::Get);
-    set.is_some() && got.is_some()
+    set && got
 }
 
-// Some hundred connections, served by n threads.
+// What a server of some hundred connections allows.
+const HUNDREDS: FrontSettings = FrontSettings {
+    connections: 1024,
+    serves: 300,
+};
+
+// Some hundred connections read back what they set.
 fn some_hundred_read_back<
-    R: Wait
-        + Threads
-        + Sync
-        + Net<Listener = TcpListener, Stream = TcpStream>
-        + Copy
-        + Drop
-        + Send
-        + 'static,
->(rt: R, alloc: Global, threads: usize) -> Option<bool> {
-    let settings = FrontSettings {
-        connections: 1024,
-        serves: 300,
+    R: Threads + Sync + Net<Listener = TcpListener, Stream = TcpStream>,
+    S: Serves + Drop,
+>(rt: &R, alloc: Global, served: Option<S>) -> bool {
+    let Some(served) = served else {
+        return false;
     };
-    let served = open_served(rt, alloc, 1, threads, settings, None)?;
-    let port = served.port;
+    let passed = all_read_back(rt, alloc, served.port());
+    served.end(rt);
+    passed
+}
+
+fn all_read_back<R: Threads + Sync + Net<Listener = TcpListener, Stream = TcpStream>>(
+    rt: &R,
+    alloc: Global,
+    port: u16,
+) -> bool {
     let passed = thread::map_indices(
-        &rt,
+        rt,
         alloc,
         CLIENTS,
-        &|which: usize| read_back(&rt, alloc, port, which),
+        &|which: usize| read_back(rt, alloc, port, which),
     );
-    served.end(&rt);
-    Some(passed.ok()?.iter().all(|passed| *passed))
+    match passed {
+        Ok(passed) => passed.iter().all(|passed| *passed),
+        Err(_) => false,
+    }
 }
 
 #[test]
-fn one_thread_serves_some_hundred_connections(rt: HostRuntime) -> Result<(), Fail> {
-    assert_eq!(rt; some_hundred_read_back(rt, rt.alloc(), 1), Some(true));
-    Ok(())
+fn one_thread_serves_some_hundred_connections(rt: HostRuntime) {
+    let alloc = rt.alloc();
+    let served = open_served(rt, alloc, 1, 1, HUNDREDS, None);
+    assert!(rt; some_hundred_read_back(&rt, alloc, served));
 }
 
 #[test]
-fn four_threads_serve_some_hundred_connections(rt: HostRuntime) -> Result<(), Fail> {
-    assert_eq!(rt; some_hundred_read_back(rt, rt.alloc(), 4), Some(true));
-    Ok(())
+fn four_threads_serve_some_hundred_connections(rt: HostRuntime) {
+    let alloc = rt.alloc();
+    let served = open_served(rt, alloc, 1, 4, HUNDREDS, None);
+    assert!(rt; some_hundred_read_back(&rt, alloc, served));
 }
 
 // A get beside a set that is held for ever is answered, by the same thread. Once the server is marked both connections
 // are closed without a further byte, and a new one too.
 fn held_call_blocks_none<
-    R: Wait
-        + Threads
-        + Net<Listener = TcpListener, Stream = TcpStream>
-        + Copy
-        + Drop
-        + Send
-        + 'static,
->(rt: R, alloc: Global) -> Option<bool> {
+    R: Threads + Net<Listener = TcpListener, Stream = TcpStream>,
+    S: Serves + Drop,
+>(rt: &R, served: Option<S>) -> bool {
+    let Some(served) = served else {
+        return false;
+    };
+    let Some((mut first, mut second)) = two_clients(rt, served.port()) else {
+        return false;
+    };
+    let sent = first.write_all(SET).is_ok();
+    let answered = answers(&mut second, GET, NONE);
+    served.fall_silent();
+    let closed = is_closed(&mut first) && is_closed(&mut second);
+    let refused = is_refused(rt, served.port(), b"");
+    served.end(rt);
+    sent && answered && closed && refused
+}
+
+// Whether a connection is closed after these bytes.
+fn is_refused<R: Net<Listener = TcpListener, Stream = TcpStream>>(
+    rt: &R,
+    port: u16,
+    told: &[u8],
+) -> bool {
+    match client(rt, port) {
+        Some(mut stream) => says(&mut stream, told) && is_closed(&mut stream),
+        None => false,
+    }
+}
+
+#[test]
+fn a_held_call_blocks_no_other(rt: HostRuntime) {
     let settings = FrontSettings {
         connections: 2,
         serves: 3,
     };
-    let served = open_served(rt, alloc, 2, 1, settings, None)?;
-    let mut first = client(&rt, served.port)?;
-    let mut second = client(&rt, served.port)?;
-    let sent = first.write_all(SET).is_ok();
-    let answered = answers(&mut second, GET, NONE);
-    served.mark.set();
-    served.desks.wake_all();
-    let closed = is_closed(&mut first) && is_closed(&mut second);
-    let mut third = client(&rt, served.port)?;
-    let refused = is_closed(&mut third);
-    served.end(&rt);
-    Some(sent && answered && closed && refused)
-}
-
-#[test]
-fn a_held_call_blocks_no_other(rt: HostRuntime) -> Result<(), Fail> {
-    assert_eq!(rt; held_call_blocks_none(rt, rt.alloc()), Some(true));
-    Ok(())
+    let served = open_served(rt, rt.alloc(), 2, 1, settings, None);
+    assert!(rt; held_call_blocks_none(&rt, served));
 }
 
 // A connection beyond the limit is told so and closed, and those within it go on. Once one of these is closed there is
 // room for another.
-fn one_is_too_many<
-    R: Wait
-        + Threads
-        + Net<Listener = TcpListener, Stream = TcpStream>
-        + Copy
-        + Drop
-        + Send
-        + 'static,
->(rt: R, alloc: Global) -> Option<bool> {
+fn one_is_too_many<R: Threads + Net<Listener = TcpListener, Stream = TcpStream>, S: Serves + Drop>(
+    rt: &R,
+    served: Option<S>,
+) -> bool {
+    let Some(served) = served else {
+        return false;
+    };
+    let Some((mut first, mut second)) = two_clients(rt, served.port()) else {
+        return false;
+    };
+    let within = answers(&mut first, GET, NONE) && answers(&mut second, GET, NONE);
+    let refused = is_refused(rt, served.port(), TOO_MANY);
+    let go_on = answers(&mut first, SET, STORED) && answers(&mut second, GET, NONE);
+    let quit = first.write_all(b"quit\r\n").is_ok() && is_closed(&mut first);
+    let room = is_answered(rt, served.port());
+    drop(second);
+    served.end(rt);
+    within && refused && go_on && quit && room
+}
+
+// Whether a connection to this port is answered.
+fn is_answered<R: Net<Listener = TcpListener, Stream = TcpStream>>(rt: &R, port: u16) -> bool {
+    match client(rt, port) {
+        Some(mut stream) => answers(&mut stream, GET, NONE),
+        None => false,
+    }
+}
+
+#[test]
+fn a_connection_beyond_the_limit_is_refused(rt: HostRuntime) {
     let settings = FrontSettings {
         connections: 2,
         serves: 4,
     };
-    let served = open_served(rt, alloc, 1, 2, settings, None)?;
-    let mut first = client(&rt, served.port)?;
-    let mut second = client(&rt, served.port)?;
-    let within = answers(&mut first, GET, NONE) && answers(&mut second, GET, NONE);
-    let mut third = client(&rt, served.port)?;
-    let refused = says(&mut third, TOO_MANY) && is_closed(&mut third);
-    let go_on = answers(&mut first, SET, STORED) && answers(&mut second, GET, NONE);
-    let quit = first.write_all(b"quit\r\n").is_ok() && is_closed(&mut first);
-    let mut fourth = client(&rt, served.port)?;
-    let room = answers(&mut fourth, GET, NONE);
-    drop(second);
-    drop(fourth);
-    served.end(&rt);
-    Some(within && refused && go_on && quit && room)
-}
-
-#[test]
-fn a_connection_beyond_the_limit_is_refused(rt: HostRuntime) -> Result<(), Fail> {
-    assert_eq!(rt; one_is_too_many(rt, rt.alloc()), Some(true));
-    Ok(())
+    let served = open_served(rt, rt.alloc(), 1, 2, settings, None);
+    assert!(rt; one_is_too_many(&rt, served));
 }
 
 // A server without room refuses what stores, and answers all else.
 fn stores_are_refused<
-    R: Wait
-        + Threads
-        + Net<Listener = TcpListener, Stream = TcpStream>
-        + Copy
-        + Drop
-        + Send
-        + 'static,
->(rt: R, alloc: Global) -> Option<bool> {
-    let settings = FrontSettings {
-        connections: 1,
-        serves: 1,
+    R: Threads + Net<Listener = TcpListener, Stream = TcpStream>,
+    S: Serves + Drop,
+>(rt: &R, served: Option<S>) -> bool {
+    let Some(served) = served else {
+        return false;
     };
-    let served = open_served(rt, alloc, 1, 1, settings, Some(0))?;
-    let mut only = client(&rt, served.port)?;
+    let Some(mut only) = client(rt, served.port()) else {
+        return false;
+    };
     let refused = answers(&mut only, SET, NO_ROOM);
     let nothing = answers(&mut only, b"get a\r\n", NONE);
     let deleted = answers(&mut only, b"delete a\r\n", b"NOT_FOUND\r\n");
     drop(only);
-    served.end(&rt);
-    Some(refused && nothing && deleted)
+    served.end(rt);
+    refused && nothing && deleted
 }
 
 #[test]
-fn without_room_a_store_is_refused(rt: HostRuntime) -> Result<(), Fail> {
-    assert_eq!(rt; stores_are_refused(rt, rt.alloc()), Some(true));
-    Ok(())
+fn without_room_a_store_is_refused(rt: HostRuntime) {
+    let settings = FrontSettings {
+        connections: 1,
+        serves: 1,
+    };
+    let served = open_served(rt, rt.alloc(), 1, 1, settings, Some(0));
+    assert!(rt; stores_are_refused(&rt, served));
 }
 
 // Clients that break their connections off while their calls are open make room for others. Each call of these waits
@@ -463,26 +576,50 @@ fn one_that_breaks_off_makes_room<
         + Send
         + Clock
         + 'static,
->(rt: R, alloc: Global) -> Option<bool> {
-    let settings = FrontSettings {
-        connections: 2,
-        serves: 3000,
+    T: TakesTurns + Drop + Send + 'static,
+>(rt: R, alloc: Global, opened: Option<Served<T>>) -> bool {
+    let Some(opened) = opened else {
+        return false;
     };
-    let opened = open(rt, alloc, 1, 1, settings, None)?;
-    let port = opened.port;
-    let mut other = client(&rt, port)?;
-    let first = breaks_off(&rt, port, &mut other);
-    let second = breaks_off(&rt, port, &mut other);
-    let mut last = enters(&rt, port)?;
-    let sent = last.write_all(SET).is_ok();
-    let served = opened.begin(rt, alloc)?;
+    match after_two(&rt, opened.port) {
+        Some((last, other)) => goes_on(&rt, opened.begin(rt, alloc), last, other),
+        None => {
+            drop(opened);
+            false
+        }
+    }
+}
+
+// Two clients. The first was let in after two others had broken off, and its call is open.
+fn after_two<R: Net<Listener = TcpListener, Stream = TcpStream> + Clock>(
+    rt: &R,
+    port: u16,
+) -> Option<(TcpStream, TcpStream)> {
+    let mut other = client(rt, port)?;
+    if breaks_off(rt, port, &mut other) && breaks_off(rt, port, &mut other) {
+        let mut last = enters(rt, port)?;
+        return last.write_all(SET).is_ok().then_some((last, other));
+    }
+    None
+}
+
+// Whether the open call is answered, and a further one, and both connections are closed once the server is marked.
+fn goes_on<R: Threads + Net<Listener = TcpListener, Stream = TcpStream>, S: Serves + Drop>(
+    rt: &R,
+    served: Option<S>,
+    last: TcpStream,
+    other: TcpStream,
+) -> bool {
+    let Some(served) = served else {
+        return false;
+    };
+    let (mut last, mut other) = (last, other);
     let stored = says(&mut last, STORED) && answers(&mut last, GET, NONE);
-    served.mark.set();
-    served.desks.wake_all();
+    served.fall_silent();
     let closed = is_closed(&mut last) && is_closed(&mut other);
-    use_up(&rt, port);
-    served.end(&rt);
-    Some(first && second && sent && stored && closed)
+    use_up(rt, served.port());
+    served.end(rt);
+    stored && closed
 }
 
 // Whether a client was let in, and broke off while its call was open: by closing while what it was sent stood unread.
@@ -526,7 +663,11 @@ fn use_up<R: Net<Listener = TcpListener, Stream = TcpStream>>(rt: &R, port: u16)
 }
 
 #[test]
-fn a_client_that_breaks_off_makes_room(rt: HostRuntime) -> Result<(), Fail> {
-    assert_eq!(rt; one_that_breaks_off_makes_room(rt, rt.alloc()), Some(true));
-    Ok(())
+fn a_client_that_breaks_off_makes_room(rt: HostRuntime) {
+    let settings = FrontSettings {
+        connections: 2,
+        serves: 3000,
+    };
+    let opened = open(rt, rt.alloc(), 1, 1, settings, None);
+    assert!(rt; one_that_breaks_off_makes_room(rt, rt.alloc(), opened));
 }

@@ -6,3 +6,5 @@
 mod client_tests;
 #[cfg(test)]
 mod front_tests;
+#[cfg(test)]
+mod servers;

@@ -2,6 +2,7 @@
 
 mod chains;
 mod clients;
+mod fronts;
 mod held_links;
 mod helping;
 mod processes;

@@ -1,6 +1,6 @@
 //! A chain and its clients.
 
-use super::clients::{answers, client, has_line, is_closed, says};
+use super::clients::{answers, answers_at, client, has_line, is_closed, says};
 use super::running::{Running, ready, status};
 use std::io::Write;
 use std::net::{Net, TcpListener, TcpStream};
@@ -18,19 +18,10 @@ fn cluster_round_trip(rt: HostRuntime) -> Result<(), Fail> {
 }
 
 fn passes<R: Net<Listener = TcpListener, Stream = TcpStream>>(rt: &R, port: u16) -> bool {
-    let Ok(mut second) = client(rt, port.wrapping_add(1)) else {
-        return false;
-    };
-    let is_set = answers(&mut second, b"set a 0 0 1\r\n1\r\nquit\r\n", b"STORED\r\n");
-    let Ok(mut first) = client(rt, port) else {
-        return false;
-    };
-    is_set
-        && answers(
-            &mut first,
-            b"get a\r\nquit\r\n",
-            b"VALUE a 0 1\r\n1\r\nEND\r\n",
-        )
+    let set = b"set a 0 0 1\r\n1\r\nquit\r\n";
+    let value = b"VALUE a 0 1\r\n1\r\nEND\r\n";
+    answers_at(rt, port.wrapping_add(1), set, b"STORED\r\n")
+        && answers_at(rt, port, b"get a\r\nquit\r\n", value)
 }
 
 // Four connections raise one counter at the same time, and no increment is lost.
@@ -46,7 +37,7 @@ fn counts_them_all<R: Threads + Sync + Net<Listener = TcpListener, Stream = TcpS
     rt: &R,
     port: u16,
 ) -> bool {
-    let Ok(mut first) = client(rt, port) else {
+    let Some(mut first) = client(rt, port) else {
         return false;
     };
     answers(&mut first, b"set n 0 0 1\r\n0\r\n", b"STORED\r\n")
@@ -60,7 +51,7 @@ fn all_raise<R: Threads + Sync + Net<Listener = TcpListener, Stream = TcpStream>
     port: u16,
     first: &mut TcpStream,
 ) -> bool {
-    let Ok(mut second) = client(rt, port) else {
+    let Some(mut second) = client(rt, port) else {
         return false;
     };
     let (at_head, beyond) = thread::join(
@@ -97,11 +88,11 @@ fn raises(stream: &mut TcpStream) -> bool {
 
 // Raises the counter at the server at this port. Another connection to it is closed at once.
 fn raises_at<R: Net<Listener = TcpListener, Stream = TcpStream>>(rt: &R, port: u16) -> bool {
-    let Ok(mut stream) = client(rt, port) else {
+    let Some(mut stream) = client(rt, port) else {
         return false;
     };
     let other = client(rt, port);
-    raises(&mut stream) && other.is_ok()
+    raises(&mut stream) && other.is_some()
 }
 
 // A connection to a server that was stopped is closed at its next call.
@@ -119,7 +110,7 @@ fn falls_silent<R: Net<Listener = TcpListener, Stream = TcpStream>>(
     running: &mut Running,
     port: u16,
 ) -> bool {
-    let Ok(mut first) = client(rt, port) else {
+    let Some(mut first) = client(rt, port) else {
         return false;
     };
     answers(&mut first, b"get a\r\n", b"END\r\n")
@@ -135,7 +126,7 @@ fn fails_the_head(running: &mut Running) -> bool {
 // Whether a client of the server at this port could say that it goes.
 fn quits<R: Net<Listener = TcpListener, Stream = TcpStream>>(rt: &R, port: u16) -> bool {
     match client(rt, port) {
-        Ok(mut stream) => stream.write_all(b"quit\r\n").is_ok(),
-        Err(_) => false,
+        Some(mut stream) => stream.write_all(b"quit\r\n").is_ok(),
+        None => false,
     }
 }

@@ -1,7 +1,9 @@
 //! Threads that serve clients, and take the turns of the workers.
 
 use super::clients::{answers, client, listen};
-use io_threads::{Desks, Front, FrontSettings, Gate, open_desks, open_front};
+use super::fronts::shared_desks;
+use io_threads::{Desks, Front, FrontSettings, Gate, Stations, open_front};
+use mio::Poll;
 use runtime::{Hall, Shape, Side, all_links, all_servers, all_sides};
 use seats::Allowance;
 use std::alloc::Global;
@@ -28,11 +30,11 @@ fn a_serving_thread_takes_all_turns(rt: HostRuntime) -> Result<(), Fail> {
 
 // Whether updates and reads pass down the chain and back, at each server.
 fn passes<R: Net<Listener = TcpListener, Stream = TcpStream>>(rt: &R, chain: &HelpedChain) -> bool {
-    chain.ports.iter().all(|port| answers_at(rt, *port))
+    chain.ports.iter().all(|port| passes_at(rt, *port))
 }
 
-fn answers_at<R: Net<Listener = TcpListener, Stream = TcpStream>>(rt: &R, port: u16) -> bool {
-    let Ok(mut stream) = client(rt, port) else {
+fn passes_at<R: Net<Listener = TcpListener, Stream = TcpStream>>(rt: &R, port: u16) -> bool {
+    let Some(mut stream) = client(rt, port) else {
         return false;
     };
     answers(&mut stream, b"set a 0 0 1\r\n1\r\n", b"STORED\r\n")
@@ -52,16 +54,31 @@ fn helped_chain<
         + Send
         + 'static,
 >(rt: R, alloc: Global) -> Option<HelpedChain> {
-    let (desks, polls) = open_desks(&rt, alloc, 1).ok()?;
-    let desks = Arc::new(alloc, desks).ok()?;
+    let (desks, polls) = shared_desks(&rt, alloc)?;
     let (hall, sides) = three_sides(rt, alloc, &desks)?;
-    let hall = Arc::new(alloc, hall).ok()?;
-    let (ports, gates) = all_gates(&rt, alloc, sides)?;
+    let gates = all_gates(&rt, alloc, sides);
+    serve(rt, alloc, hall, &desks, polls, gates)
+}
+
+// Serves the clients of these gates, and takes the turns of these stations.
+fn serve<
+    R: Wait + Threads + Net + Copy + Drop + Send + 'static,
+    T: Stations + Send + Sync + Drop + 'static,
+>(
+    rt: R,
+    alloc: Global,
+    stations: T,
+    desks: &Arc<Desks, Global>,
+    polls: Vec<Poll>,
+    gates: Option<(Vec<u16>, Vec<Gate>)>,
+) -> Option<HelpedChain> {
+    let (ports, gates) = gates?;
+    let stations = Arc::new(alloc, stations).ok()?;
     let settings = FrontSettings {
         connections: 1,
         serves: 1,
     };
-    let front = open_front(rt, alloc, settings, &hall, &desks, polls, gates).ok()?;
+    let front = open_front(rt, alloc, settings, &stations, desks, polls, gates).ok()?;
     Some(HelpedChain { ports, front })
 }
 
