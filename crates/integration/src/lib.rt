@@ -3,6 +3,8 @@
 #![tactic(auto)]
 
 #[cfg(test)]
+mod leases_tests;
+#[cfg(test)]
 mod making;
 #[cfg(test)]
 mod node_tests;

@@ -105,8 +105,6 @@ mod reigns;
 mod rolls;
 mod shared_leases;
 mod terms;
-#[cfg(test)]
-mod tests;
 mod wardens;
 mod wards;
 mod watches;

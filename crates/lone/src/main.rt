@@ -33,12 +33,20 @@ fn main(rt: HostRuntime) -> ExitCode {
 fn asked<R: Env + AllocGlobal>(rt: &R) -> Option<Load> {
     let mut words = env::args(rt).ok()?;
     words.next()?;
-    let kind = match words.next()?.as_str() {
-        "gets" => Kind::Gets,
-        "sets" => Kind::Sets,
-        _ => return None,
-    };
-    let size = words.next()?.as_str().parse::<u32>().ok()?;
-    let rounds = words.next()?.as_str().parse::<u32>().ok()?;
+    let kind = kind_of(words.next()?.as_str())?;
+    let size = number_of(words.next()?.as_str())?;
+    let rounds = number_of(words.next()?.as_str())?;
     Some(Load { kind, size, rounds })
+}
+
+fn kind_of(word: &str) -> Option<Kind> {
+    match word {
+        "gets" => Some(Kind::Gets),
+        "sets" => Some(Kind::Sets),
+        _ => None,
+    }
+}
+
+fn number_of(word: &str) -> Option<u32> {
+    word.parse::<u32>().ok()
 }

@@ -26,16 +26,40 @@ pub enum LoadFault {
 
 /// Serves all rounds, and gives the number of bytes that were written.
 pub fn serve(alloc: Global, load: &Load) -> Result<u64, LoadFault> {
+    let first = sets(alloc, load.size)?;
+    let later = requests(alloc, load)?;
     let mut session = Session::new(alloc);
     let mut table = Table::new(alloc);
-    let first = sets(alloc, load.size)?;
-    let mut written = round(&mut session, &mut table, first.as_slice())?;
-    let bytes = match load.kind {
-        Kind::Sets => first,
-        Kind::Gets => gets(alloc)?,
-    };
-    for _ in 0..load.rounds {
-        written = written.wrapping_add(round(&mut session, &mut table, bytes.as_slice())?);
+    serve_all(
+        &mut session,
+        &mut table,
+        first.as_slice(),
+        later.as_slice(),
+        load.rounds,
+    )
+}
+
+// The requests of each round after the first.
+fn requests(alloc: Global, load: &Load) -> Result<Vec<u8>, AllocError> {
+    match load.kind {
+        Kind::Sets => sets(alloc, load.size),
+        Kind::Gets => gets(alloc),
+    }
+}
+
+// The first round, and the later ones: how many bytes they wrote.
+fn serve_all(
+    session: &mut Session,
+    table: &mut Table,
+    first: &[u8],
+    later: &[u8],
+    rounds: u32,
+) -> Result<u64, LoadFault>
+    requires { session.old.asked ≡ None }
+{
+    let mut written = round(session, table, first)?;
+    for _ in 0..rounds {
+        written = written.wrapping_add(round(session, table, later)?);
     }
     Ok(written)
 }
@@ -62,7 +86,9 @@ fn answer(session: &mut Session, table: &mut Table) -> Result<(), LoadFault>
     let Step::Call(target, op) = session.next()? else {
         return Err(LoadFault::Unread);
     };
-    let reply = table.call(&target, &op)?;
-    session.answer(&reply)?;
+    let called = table.call(&target, &op);
+    drop(target);
+    drop(op);
+    session.answer(&called?)?;
     Ok(())
 }

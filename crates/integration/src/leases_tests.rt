@@ -1,6 +1,6 @@
 //! A lease of two seconds, and a watch over it.
 
-use crate::{
+use leases::{
     Answer, AnyEnd, Claim, Deed, Due, Lease, Order, Paces, Report, Roll, SECOND, SharedLease, Term,
     Ward, Warden, Watch, nanoseconds_of, next_reign,
 };

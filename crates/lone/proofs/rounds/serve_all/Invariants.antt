@@ -1,5 +1,5 @@
 use Rattle.std.proofs.Common.{◌≡◌, None}
-use Rattle.lone.proofs.rounds.serve.Given as goal
+use Rattle.lone.proofs.rounds.serve_all.Given as goal
 
 -- no call is open
 abbrev pub invariant-loop : goal.invariant-loop
