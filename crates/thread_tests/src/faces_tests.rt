@@ -166,11 +166,12 @@ fn looks_until_the_end<R: Wait>(
     }
 }
 
-// The same of an only server, which takes a set of the key.
-fn looks_at_first<R: Wait>(rt: &R, alloc: Global, key: &Key) -> Result<bool, FaceFault> {
-    let input = set(alloc, key)?;
+// The same of an only server, which takes a set of `a`.
+fn looks_at_first<R: Wait>(rt: &R, alloc: Global) -> Result<bool, FaceFault> {
+    let a = key(alloc, b"a")?;
+    let input = set(alloc, &a)?;
     match opened(rt, alloc, 1) {
-        Ok(publisher) => looks_until_the_end(rt, publisher, input, key),
+        Ok(publisher) => looks_until_the_end(rt, publisher, input, &a),
         Err(fault) => {
             drop(input);
             Err(fault)
@@ -180,8 +181,7 @@ fn looks_at_first<R: Wait>(rt: &R, alloc: Global, key: &Key) -> Result<bool, Fac
 
 #[test]
 fn a_reader_looks_before_and_after_a_publish(rt: HostRuntime) -> Result<(), Fail> {
-    let key = key(rt.alloc(), b"a")?;
-    assert!(rt; looks_at_first(&rt, rt.alloc(), &key)?);
+    assert!(rt; looks_at_first(&rt, rt.alloc())?);
     Ok(())
 }
 
@@ -233,18 +233,18 @@ fn has_item(publisher: &mut Publisher, key: &Key) -> Result<bool, FaceFault> {
     Ok(look(&mut beside, key) == Shown::Item(1))
 }
 
-// Whether it opens with the item of that key.
-fn opens_with<R: Wait>(rt: &R, alloc: Global, key: &Key) -> Result<bool, FaceFault> {
-    let mut publisher = opened_after(rt, alloc, key)?;
-    let found = has_item(&mut publisher, key);
+// Whether it opens with the item of that key, `a`.
+fn opens_with<R: Wait>(rt: &R, alloc: Global) -> Result<bool, FaceFault> {
+    let a = key(alloc, b"a")?;
+    let mut publisher = opened_after(rt, alloc, &a)?;
+    let found = has_item(&mut publisher, &a);
     publisher.end(rt);
     found
 }
 
 #[test]
 fn a_node_opens_with_what_it_holds(rt: HostRuntime) -> Result<(), Fail> {
-    let key = key(rt.alloc(), b"a")?;
-    assert!(rt; opens_with(&rt, rt.alloc(), &key)?);
+    assert!(rt; opens_with(&rt, rt.alloc())?);
     Ok(())
 }
 
@@ -446,13 +446,9 @@ fn a_face_weighs_its_keys_and_data(rt: HostRuntime) -> Result<(), Fail> {
 }
 
 // Whether such a server opens with a face that weighs this much.
-fn opens_weighing<R: Wait>(
-    rt: &R,
-    alloc: Global,
-    key: &Key,
-    weight: Weight,
-) -> Result<bool, FaceFault> {
-    let publisher = opened_after(rt, alloc, key)?;
+fn opens_weighing<R: Wait>(rt: &R, alloc: Global, weight: Weight) -> Result<bool, FaceFault> {
+    let a = key(alloc, b"a")?;
+    let publisher = opened_after(rt, alloc, &a)?;
     let right = publisher.weight() == weight;
     publisher.end(rt);
     Ok(right)
@@ -460,8 +456,7 @@ fn opens_weighing<R: Wait>(
 
 #[test]
 fn a_node_opens_with_the_weight_of_what_it_holds(rt: HostRuntime) -> Result<(), Fail> {
-    let key = key(rt.alloc(), b"a")?;
     let weight = Weight { items: 1, bytes: 2 };
-    assert!(rt; opens_weighing(&rt, rt.alloc(), &key, weight)?);
+    assert!(rt; opens_weighing(&rt, rt.alloc(), weight)?);
     Ok(())
 }

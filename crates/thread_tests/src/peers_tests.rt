@@ -100,53 +100,64 @@ impl Taker for Keeper {
     }
 }
 
-// What a peer's bytes left: how they came to their end, and the spellings of the frames that were taken.
-#[derive(Drop)]
-struct Left {
-    end: Result<PeerEnd, LinkFault>,
-    text: Vec<u8>,
-}
-
-// A link over a reader that fails after `reads` bytes, and a taker that fails after `takes` frames. Refused if memory
-// is out: the taker has room for all frames.
-fn served(
+// Whether a link over a reader that fails after `reads` bytes, and a taker that fails after `takes` frames, comes to
+// this end, and hands on the frames of this text. Refused if memory is out: the taker has room for all frames.
+fn comes_to(
     rt: &impl Wait,
     alloc: Global,
-    bytes: &[u8],
-    reads: usize,
+    source: FailingReader<'_>,
     takes: usize,
-) -> Result<Left, LinkFault> {
-    let mut source = TrackedReader::new(FailingReader { bytes, left: reads });
+    end: Result<PeerEnd, LinkFault>,
+    text: &[u8],
+) -> Result<bool, LinkFault> {
+    let mut source = TrackedReader::new(source);
     let mut keeper = Keeper {
         frames: Vec::with_capacity(alloc, 4)?,
         left: takes,
         failures: Failures::new(),
     };
-    let end = serve_peer(rt, alloc, &mut source, &mut keeper);
-    let text = spelled(alloc, keeper.frames.as_slice());
+    let came = serve_peer(rt, alloc, &mut source, &mut keeper);
+    let is_kept = are_spelled(alloc, keeper.frames.as_slice(), text);
     drop(keeper);
-    if end == Err(LinkFault::Memory) {
+    if came == Err(LinkFault::Memory) {
         return Err(LinkFault::Memory);
     }
-    Ok(Left { end, text: text? })
+    Ok(came == end && is_kept?)
 }
 
-// The frames, put one after another. Each has to be in its ranges.
-fn spelled(alloc: Global, frames: &[Frame]) -> Result<Vec<u8>, LinkFault> {
-    let text = Vec::with_capacity(alloc, FORWARD.len() + ACK.len())?;
-    let mut sink = TrackedWriter::new(text);
+// The same of a link whose reader and taker don't fail.
+fn ends_with(
+    rt: &impl Wait,
+    alloc: Global,
+    bytes: &[u8],
+    end: PeerEnd,
+    text: &[u8],
+) -> Result<bool, LinkFault> {
+    let source = FailingReader { bytes, left: 4096 };
+    comes_to(rt, alloc, source, 4096, Ok(end), text)
+}
+
+// Puts the frames one after another. Each has to be in its ranges.
+fn put_each(
+    alloc: Global,
+    sink: &mut TrackedWriter<Vec<u8>>,
+    frames: &[Frame],
+) -> Result<(), LinkFault> {
     for frame in frames {
         if !frame.is_in_range() {
             return Err(LinkFault::Write);
         }
-        put_frame(alloc, &mut sink, frame)?;
+        put_frame(alloc, sink, frame)?;
     }
-    Ok(sink.inner)
+    Ok(())
 }
 
-// Whether a link came to this end, and left the frames of this text.
-fn came_to(left: &Left, end: Result<PeerEnd, LinkFault>, text: &[u8]) -> bool {
-    left.end == end && left.text.as_slice() == text
+// Whether the frames, put one after another, are this text.
+fn are_spelled(alloc: Global, frames: &[Frame], text: &[u8]) -> Result<bool, LinkFault> {
+    let held = Vec::with_capacity(alloc, FORWARD.len() + ACK.len())?;
+    let mut sink = TrackedWriter::new(held);
+    put_each(alloc, &mut sink, frames)?;
+    Ok(sink.inner.as_slice() == text)
 }
 
 // How the forward ends with this byte set to 255, by the format, and whether it is a frame then.
@@ -161,8 +172,7 @@ fn with_255(place: usize) -> (PeerEnd, bool) {
 // Whether a beginning of the forward gives no frame.
 fn has_no_frame(rt: &impl Wait, alloc: Global, length: usize) -> Result<bool, LinkFault> {
     let front = FORWARD.get(..length).unwrap_or_default();
-    let left = served(rt, alloc, front, 4096, 4096)?;
-    Ok(came_to(&left, Ok(PeerEnd::Input), b""))
+    ends_with(rt, alloc, front, PeerEnd::Input, b"")
 }
 
 // The forward with this byte set to 255.
@@ -177,13 +187,13 @@ fn changed(alloc: Global, place: usize) -> Result<Vec<u8>, AllocError> {
 // Whether the forward with this byte set to 255 ends by the format, and is handed on if it is a frame.
 fn ends_by_the_format(rt: &impl Wait, alloc: Global, place: usize) -> Result<bool, LinkFault> {
     let bytes = changed(alloc, place)?;
-    let left = served(rt, alloc, bytes.as_slice(), 4096, 4096)?;
     let (end, is_frame) = with_255(place);
-    if is_frame {
-        Ok(came_to(&left, Ok(end), bytes.as_slice()))
+    let text = if is_frame {
+        bytes.as_slice()
     } else {
-        Ok(came_to(&left, Ok(end), b""))
-    }
+        b"".as_slice()
+    };
+    ends_with(rt, alloc, bytes.as_slice(), end, text)
 }
 
 #[test]
@@ -211,9 +221,11 @@ fn ends_after_two(
     end: PeerEnd,
 ) -> Result<bool, LinkFault> {
     let bytes = two_and(alloc, last)?;
-    let left = served(rt, alloc, bytes.as_slice(), 4096, 4096)?;
-    let both = bytes.as_slice().get(..FORWARD.len() + ACK.len());
-    Ok(left.end == Ok(end) && Some(left.text.as_slice()) == both)
+    let both = bytes
+        .as_slice()
+        .get(..FORWARD.len() + ACK.len())
+        .unwrap_or_default();
+    ends_with(rt, alloc, bytes.as_slice(), end, both)
 }
 
 #[test]
@@ -249,14 +261,15 @@ fn reads_fail(
     bytes: &[u8],
     reads: usize,
 ) -> Result<bool, LinkFault> {
-    let left = served(rt, alloc, bytes, reads, 4096)?;
-    Ok(left.end == Err(LinkFault::Read) && left.text.len() == whole_among(reads))
+    let whole = bytes.get(..whole_among(reads)).unwrap_or_default();
+    let source = FailingReader { bytes, left: reads };
+    comes_to(rt, alloc, source, 4096, Err(LinkFault::Read), whole)
 }
 
 // Whether a link whose taker takes one frame has handed on the forward alone.
 fn takes_fail(rt: &impl Wait, alloc: Global, bytes: &[u8]) -> Result<bool, LinkFault> {
-    let left = served(rt, alloc, bytes, 4096, 1)?;
-    Ok(came_to(&left, Err(LinkFault::Take), FORWARD))
+    let source = FailingReader { bytes, left: 4096 };
+    comes_to(rt, alloc, source, 1, Err(LinkFault::Take), FORWARD)
 }
 
 #[test]
@@ -289,15 +302,14 @@ fn both(alloc: Global) -> Result<BytesMut, WireFault> {
     Ok(out)
 }
 
-// What a put left: how it ended, the bytes that were taken, and in how many writes.
-#[derive(Drop)]
-struct Put {
+// In how many writes both frames are put into a writer that fails after this many bytes, if that ends so, and has
+// written these bytes.
+fn writes_of(
+    alloc: Global,
+    left: usize,
     end: Result<(), LinkFault>,
-    writer: FailingWriter,
-}
-
-// Both frames, put into a writer that fails after this many bytes.
-fn both_put(alloc: Global, left: usize) -> Result<Put, WireFault> {
+    text: &[u8],
+) -> Result<Option<usize>, WireFault> {
     let mut out = both(alloc)?;
     let held = Vec::with_capacity(alloc, 16)?;
     let mut sink = TrackedWriter::new(FailingWriter {
@@ -305,26 +317,8 @@ fn both_put(alloc: Global, left: usize) -> Result<Put, WireFault> {
         left,
         writes: 0,
     });
-    let end = put_all(&mut sink, &mut out);
-    let writer = sink.inner;
-    Ok(Put { end, writer })
-}
-
-// Whether a put into a writer that fails after n bytes ends so, and has written these bytes.
-fn has_put(
-    alloc: Global,
-    left: usize,
-    end: Result<(), LinkFault>,
-    text: &[u8],
-) -> Result<bool, WireFault> {
-    let put = both_put(alloc, left)?;
-    Ok(put.end == end && put.writer.held.as_slice() == text)
-}
-
-// In how many writes both frames are put.
-fn writes(alloc: Global, left: usize) -> Result<usize, WireFault> {
-    let put = both_put(alloc, left)?;
-    Ok(put.writer.writes)
+    let has_put = put_all(&mut sink, &mut out) == end && sink.inner.held.as_slice() == text;
+    Ok(has_put.then_some(sink.inner.writes))
 }
 
 #[test]
@@ -332,9 +326,8 @@ fn two_frames_are_one_write(rt: HostRuntime) -> Result<(), Fail> {
     let wanted = b"\x02\x00\x03\x02\x06\x05".as_slice();
     for left in 0..wanted.len() {
         let front = wanted.get(..left).ok_or("a beginning")?;
-        assert!(rt; has_put(rt.alloc(), left, Err(LinkFault::Write), front)?);
+        assert!(rt; writes_of(rt.alloc(), left, Err(LinkFault::Write), front)?.is_some());
     }
-    assert!(rt; has_put(rt.alloc(), wanted.len(), Ok(()), wanted)?);
-    assert!(rt; writes(rt.alloc(), wanted.len())? == 1);
+    assert!(rt; writes_of(rt.alloc(), wanted.len(), Ok(()), wanted)? == Some(1));
     Ok(())
 }

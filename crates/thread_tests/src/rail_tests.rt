@@ -247,13 +247,13 @@ fn looks_while_held<R: Wait + Threads + Clock + Send + Sync + Drop>(
 fn second_looks<R: Wait + Threads + Clock + Send + Sync + Drop + Copy>(
     rt: R,
     alloc: Global,
-    b: &Key,
 ) -> Result<bool, RailFault> {
+    let b = key(alloc, b"b")?;
     let mut server = first_of(rt, alloc, 2, 2)?;
     let looked = match server.stands.pop() {
         Some(mut second) => {
             let looked = match submits(&rt, alloc, &mut server.stands) {
-                Ok(true) => looks_while_held(&rt, &mut server.worker, &mut second, b),
+                Ok(true) => looks_while_held(&rt, &mut server.worker, &mut second, &b),
                 refused => refused,
             };
             drop(second);
@@ -267,8 +267,7 @@ fn second_looks<R: Wait + Threads + Clock + Send + Sync + Drop + Copy>(
 
 #[test]
 fn reader_beside_a_waiting_worker(rt: HostRuntime) -> Result<(), Fail> {
-    let b = key(rt.alloc(), b"b")?;
-    assert!(rt; second_looks(rt, rt.alloc(), &b)?);
+    assert!(rt; second_looks(rt, rt.alloc())?);
     Ok(())
 }
 

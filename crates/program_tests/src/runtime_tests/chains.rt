@@ -4,20 +4,28 @@ use super::clients::{answers, answers_at, client, has_line, is_closed, says};
 use super::running::{Running, ready, status};
 use std::io::Write;
 use std::net::{Net, TcpListener, TcpStream};
-use std::test::Fail;
 use std::thread;
 use std::thread::Threads;
 
 // What was set at one server is read at the other.
 #[test]
-fn cluster_round_trip(rt: HostRuntime) -> Result<(), Fail> {
-    let (running, port) = ready(rt, rt.alloc(), 2, 1).ok_or("a chain")?;
-    assert!(rt; passes(&rt, port));
-    assert_eq!(rt; status(&rt, running), 0);
-    Ok(())
+fn cluster_round_trip(rt: HostRuntime) {
+    let chain = ready(rt, rt.alloc(), 2, 1);
+    assert!(rt; passes(&rt, chain));
 }
 
-fn passes<R: Net<Listener = TcpListener, Stream = TcpStream>>(rt: &R, port: u16) -> bool {
+// Whether a chain passes, and ends with the status 0.
+fn passes<R: Threads + Net<Listener = TcpListener, Stream = TcpStream>>(
+    rt: &R,
+    chain: Option<(Running, u16)>,
+) -> bool {
+    match chain {
+        Some((running, port)) => reads_back(rt, port) && status(rt, running) == 0,
+        None => false,
+    }
+}
+
+fn reads_back<R: Net<Listener = TcpListener, Stream = TcpStream>>(rt: &R, port: u16) -> bool {
     let set = b"set a 0 0 1\r\n1\r\nquit\r\n";
     let value = b"VALUE a 0 1\r\n1\r\nEND\r\n";
     answers_at(rt, port.wrapping_add(1), set, b"STORED\r\n")
@@ -26,11 +34,20 @@ fn passes<R: Net<Listener = TcpListener, Stream = TcpStream>>(rt: &R, port: u16)
 
 // Four connections raise one counter at the same time, and no increment is lost.
 #[test]
-fn thousand_increments_each(rt: HostRuntime) -> Result<(), Fail> {
-    let (running, port) = ready(rt, rt.alloc(), 3, 2).ok_or("a chain")?;
-    assert!(rt; counts_them_all(&rt, port));
-    assert_eq!(rt; status(&rt, running), 0);
-    Ok(())
+fn thousand_increments_each(rt: HostRuntime) {
+    let chain = ready(rt, rt.alloc(), 3, 2);
+    assert!(rt; loses_none(&rt, chain));
+}
+
+// Whether a chain loses no increment, and ends with the status 0.
+fn loses_none<R: Threads + Sync + Net<Listener = TcpListener, Stream = TcpStream>>(
+    rt: &R,
+    chain: Option<(Running, u16)>,
+) -> bool {
+    match chain {
+        Some((running, port)) => counts_them_all(rt, port) && status(rt, running) == 0,
+        None => false,
+    }
 }
 
 fn counts_them_all<R: Threads + Sync + Net<Listener = TcpListener, Stream = TcpStream>>(
@@ -97,12 +114,22 @@ fn raises_at<R: Net<Listener = TcpListener, Stream = TcpStream>>(rt: &R, port: u
 
 // A connection to a server that was stopped is closed at its next call.
 #[test]
-fn stopped_server_falls_silent(rt: HostRuntime) -> Result<(), Fail> {
-    let (mut running, port) = ready(rt, rt.alloc(), 2, 1).ok_or("a chain")?;
-    assert!(rt; falls_silent(&rt, &mut running, port));
-    assert!(rt; quits(&rt, port.wrapping_add(1)));
-    assert_eq!(rt; status(&rt, running), 0);
-    Ok(())
+fn stopped_server_falls_silent(rt: HostRuntime) {
+    let chain = ready(rt, rt.alloc(), 2, 1);
+    assert!(rt; goes_on_without_the_head(&rt, chain));
+}
+
+// Whether the head of a chain falls silent, and the chain ends with the status 0.
+fn goes_on_without_the_head<R: Threads + Net<Listener = TcpListener, Stream = TcpStream>>(
+    rt: &R,
+    chain: Option<(Running, u16)>,
+) -> bool {
+    let Some((mut running, port)) = chain else {
+        return false;
+    };
+    falls_silent(rt, &mut running, port)
+        && quits(rt, port.wrapping_add(1))
+        && status(rt, running) == 0
 }
 
 fn falls_silent<R: Net<Listener = TcpListener, Stream = TcpStream>>(

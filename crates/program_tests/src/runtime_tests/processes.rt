@@ -11,7 +11,6 @@ use std::io::{PipeReader, PipeWriter, Read, Write, pipe};
 use std::net::{Ipv4Addr, Net, SocketAddr, SocketAddrV4, TcpListener, TcpStream};
 use std::rt::Files;
 use std::sync::Wait;
-use std::test::Fail;
 use std::thread;
 use std::thread::Threads;
 use std::time::Clock;
@@ -44,23 +43,32 @@ struct Middle {
 // A set that waits for a silent server is committed once the others were told that it has failed. Servers 0 and 2 go on
 // when the test ends.
 #[test]
-fn set_waits_for_the_master(rt: HostRuntime) -> Result<(), Fail> {
-    let alloc = rt.alloc();
-    let broken = ready(rt, alloc).ok_or("two servers")?;
-    assert!(rt; waits_for_the_master(&rt, alloc, &broken));
-    drop(broken);
-    Ok(())
+fn set_waits_for_the_master(rt: HostRuntime) {
+    let broken = ready(rt, rt.alloc());
+    assert!(rt; waits_for_the_master(&rt, rt.alloc(), broken));
 }
 
 fn waits_for_the_master<
     R: Wait + Threads + Clock + Net<Listener = TcpListener, Stream = TcpStream> + Files + Sync,
->(rt: &R, alloc: Global, broken: &Broken) -> bool {
-    let Some(mut first) = client(rt, broken.port) else {
+>(rt: &R, alloc: Global, broken: Option<Broken>) -> bool {
+    let Some(broken) = broken else {
+        return false;
+    };
+    let stored = stores(rt, alloc, broken.port, broken.peer_port);
+    drop(broken);
+    stored
+}
+
+// Whether a set waits until the master tells of the failure.
+fn stores<
+    R: Wait + Threads + Clock + Net<Listener = TcpListener, Stream = TcpStream> + Files + Sync,
+>(rt: &R, alloc: Global, port: u16, peer_port: u16) -> bool {
+    let Some(mut first) = client(rt, port) else {
         return false;
     };
     let sent = first.write_all(b"set a 0 0 1\r\n1\r\n").is_ok();
-    let waits = finds_none(rt, broken.port.wrapping_add(2));
-    let told = tells(rt, alloc, broken.peer_port);
+    let waits = finds_none(rt, port.wrapping_add(2));
+    let told = tells(rt, alloc, peer_port);
     sent && waits && told && says(&mut first, b"STORED\r\n")
 }
 
@@ -258,13 +266,12 @@ fn run<
 
 // Who listens beyond this machine is warned, and who doesn't is not.
 #[test]
-fn warned_beyond_this_machine(rt: HostRuntime) -> Result<(), Fail> {
+fn warned_beyond_this_machine(rt: HostRuntime) {
     let alloc = rt.alloc();
     assert!(rt; warning(alloc, Ipv4Addr::LOCALHOST).is_empty());
     assert!(rt;
         warning(alloc, Ipv4Addr::UNSPECIFIED).starts_with(b"craq: warning: others may connect")
     );
-    Ok(())
 }
 
 fn warning(alloc: Global, address: Ipv4Addr) -> Vec<u8> {
