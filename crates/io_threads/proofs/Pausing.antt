@@ -6,7 +6,7 @@ use Rattle.serving.specs.declared.serving.End.{End}
 use Rattle.serving.specs.Wanted.{IsWanted}
 use Rattle.seats.specs.declared.talks.Standing.TheVariants.{Reading, Over as Spent}
 use Rattle.io_threads.specs.declared.clients.Pause.{Pause}
-use Rattle.io_threads.specs.declared.clients.Pause.TheVariants.{Turn, Socket, Seat, Reply, Over}
+use Rattle.io_threads.specs.declared.clients.Pause.TheVariants.{Turn, Socket, Seat, Reply, Lease, Over}
 use Rattle.io_threads.specs.Clients.{AwaitsSocket, Input, Output, HasPassed, HasPaused, Visiting}
 use Rattle.io_threads.specs.Clients.{IsPast, Refused, Gone, Failed, Fallen, Ended}
 
@@ -66,6 +66,7 @@ paused_since Turn few many v le p = tt
 paused_since Socket few many v le p = p
 paused_since Seat few many v le p = p
 paused_since Reply few many v le p = p
+paused_since Lease few many v le p = p
 paused_since Over few many v le p = past_since few many v le p
 
 -- if it paused

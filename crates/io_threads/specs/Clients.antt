@@ -9,7 +9,7 @@ use Rattle.seats.specs.Submitters.{Submitting}
 use Rattle.seats.specs.Talks.{Talking}
 use Rattle.seats.specs.declared.talks.Standing.TheVariants.{Reading, Unsent, Sent, Over as Spent}
 use Rattle.io_threads.specs.declared.clients.Pause.{Pause}
-use Rattle.io_threads.specs.declared.clients.Pause.TheVariants.{Turn, Socket, Seat, Reply, Over}
+use Rattle.io_threads.specs.declared.clients.Pause.TheVariants.{Turn, Socket, Seat, Reply, Lease, Over}
 
 -- A connection with its socket: what has come of it, the bytes that the socket gave, and those that it took; whether
 -- memory was refused to what it gave last; whether the system said that nobody reads any more; and how many reads and
@@ -53,10 +53,12 @@ pub data IsPast (faults : ℕ) (v : Visiting) : Type 0 where
   Ended : (end : End) → IsWanted (Ends end) v.talk.connected → IsPast faults v
 
 -- It paused for this reason, and n of its reads and writes had failed before: others are to have their turn; it
--- waits for its socket; its call waits for a seat; its call was sent; or it goes no further.
+-- waits for its socket; its call waits for a seat; its call was sent; output is due, which the server may not put out;
+-- or it goes no further.
 abbrev pub HasPaused : Pause → ℕ → Visiting → Type 0
 HasPaused Turn faults v = Unit {0}
 HasPaused Socket faults v = AwaitsSocket v
 HasPaused Seat faults v = (call : Call) × (v.talk.standing ≡ Unsent call)
 HasPaused Reply faults v = (s : Submitting) × (v.talk.standing ≡ Sent s)
+HasPaused Lease faults v = 0 < length v.talk.connected.due
 HasPaused Over faults v = IsPast faults v

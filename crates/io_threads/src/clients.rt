@@ -5,11 +5,12 @@ ghost use Rattle.io_threads.specs.Clients.{HasPassed};
 ghost use Rattle.io_threads.specs.Wires.{read_faults, write_faults};
 
 use crate::wires::{Came, Gone, Wire};
-use seats::{SeatPool, Talk, Went};
+use seats::{Leash, SeatPool, Talk, Went};
 use std::alloc::Global;
 use std::io::{Read, Write};
 use std::marker::Model;
 use std::sync::Wait;
+use std::time::Clock;
 
 /// Why a client goes no further.
 #[derive(Clone, Copy, Debug, PartialEq, Eq)]
@@ -22,6 +23,8 @@ pub enum Pause {
     Seat,
     /// Its call was sent.
     Reply,
+    /// Output is due, and the server may not put it out now.
+    Lease,
     /// It is at its end, or has failed, or nobody reads.
     Over,
 }
@@ -132,9 +135,16 @@ impl<S: Read + Write> Client<S> {
 
     /// Goes on for a while, and says why it goes no further: `HasPaused` tells what each answer means. Once memory was
     /// refused to what was read, or the connection is gone, nothing is read, written, looked at or sent. The slice is
-    /// room for what is read.
+    /// room for what is read. Before each write the leash is asked, after all that is due was made up. If it doesn't
+    /// let the server put anything out, what is due stays so.
     #[tactic(auto, using(crate::proofs::Later::seeing, crate::proofs::Pausing::passed, crate::proofs::Pausing::ending))]
-    pub fn go<R: Wait>(&mut self, rt: &R, pool: &mut SeatPool, piece: &mut [u8]) -> Pause
+    pub fn go<R: Wait + Clock>(
+        &mut self,
+        rt: &R,
+        pool: &mut SeatPool,
+        piece: &mut [u8],
+        leash: &Leash,
+    ) -> Pause
         requires known { IsLater self.old.talk.seen pool.old.seen }
         ensures known { IsLater self.new.talk.seen pool.new.seen }
         ensures later { IsLater pool.old.seen pool.new.seen }
@@ -153,12 +163,18 @@ impl<S: Read + Write> Client<S> {
         if self.is_gone {
             return Pause::Over;
         }
-        self.go_on(rt, pool, piece)
+        self.go_on(rt, pool, piece, leash)
     }
 
     // Takes a few steps.
     #[tactic(auto, using(crate::proofs::Later::seeing, crate::proofs::Pausing::passed, crate::proofs::Pausing::ending))]
-    fn go_on<R: Wait>(&mut self, rt: &R, pool: &mut SeatPool, piece: &mut [u8]) -> Pause
+    fn go_on<R: Wait + Clock>(
+        &mut self,
+        rt: &R,
+        pool: &mut SeatPool,
+        piece: &mut [u8],
+        leash: &Leash,
+    ) -> Pause
         requires known { IsLater self.old.talk.seen pool.old.seen }
         requires whole { self.old.refused ≡ false }
         ensures known { IsLater self.new.talk.seen pool.new.seen }
@@ -170,7 +186,7 @@ impl<S: Read + Write> Client<S> {
         ensures paused { HasPaused result self.old.faults self.new }
     {
         for _ in 0..PASSES {
-            if let Some(pause) = self.step(rt, pool, piece) {
+            if let Some(pause) = self.step(rt, pool, piece, leash) {
                 return pause;
             }
         }
@@ -179,7 +195,13 @@ impl<S: Read + Write> Client<S> {
 
     // Goes on until it has to read or write, and does so once.
     #[tactic(auto, using(crate::proofs::Later::seeing, crate::proofs::Pausing::passed, crate::proofs::Pausing::ending))]
-    fn step<R: Wait>(&mut self, rt: &R, pool: &mut SeatPool, piece: &mut [u8]) -> Option<Pause>
+    fn step<R: Wait + Clock>(
+        &mut self,
+        rt: &R,
+        pool: &mut SeatPool,
+        piece: &mut [u8],
+        leash: &Leash,
+    ) -> Option<Pause>
         requires known { IsLater self.old.talk.seen pool.old.seen }
         requires whole { self.old.refused ≡ false }
         ensures known { IsLater self.new.talk.seen pool.new.seen }
@@ -194,7 +216,7 @@ impl<S: Read + Write> Client<S> {
     {
         match self.talk.go(rt, pool) {
             Ok(Went::Input) => self.read(piece),
-            Ok(Went::Write) => self.write(),
+            Ok(Went::Write) => self.write(rt, leash),
             Ok(Went::Seat) => Some(Pause::Seat),
             Ok(Went::Reply) => Some(Pause::Reply),
             Ok(Went::More) => Some(Pause::Turn),
@@ -238,9 +260,9 @@ impl<S: Read + Write> Client<S> {
         }
     }
 
-    // Writes once, if output may be taken.
+    // Writes once, if output may be taken, and the server may put it out.
     #[tactic(auto, using(crate::proofs::Pausing::passed, crate::proofs::Pausing::ending))]
-    fn write(&mut self) -> Option<Pause>
+    fn write<R: Clock>(&mut self, rt: &R, leash: &Leash) -> Option<Pause>
         requires writes { 0 < length self.old.talk.connected.due }
         ensures seen { self.new.talk.seen ≡ self.old.talk.seen }
         ensures first { self.new.talk.first ≡ self.old.talk.first }
@@ -253,6 +275,9 @@ impl<S: Read + Write> Client<S> {
     {
         if !self.is_writable {
             return Some(Pause::Socket);
+        }
+        if !leash.lets(rt) {
+            return Some(Pause::Lease);
         }
         match write(&mut self.wire, &mut self.talk) {
             Gone::Bytes(_) => None,

@@ -8,13 +8,14 @@ use crate::stations::Stations;
 use libc::net;
 use mio::Poll;
 use mio::net::TcpListener as Listener;
-use seats::{Mark, SeatPool};
+use seats::{Leash, Mark, SeatPool};
 use std::alloc::{AllocError, AllocFailed, Global};
 use std::net::{Net, TcpListener};
 use std::os::fd::AsRawFd;
 use std::sync::{Arc, Wait};
 use std::thread;
 use std::thread::{JoinHandle, Threads};
+use std::time::Clock;
 use thiserror::Error;
 
 /// Why no front is opened.
@@ -59,13 +60,14 @@ pub struct FrontSettings {
     pub serves: u64,
 }
 
-/// One server of a front: where its clients connect, the seats of each thread, and the mark that is set as soon as it
-/// answers no more calls.
+/// One server of a front: where its clients connect, the seats of each thread, the mark that is set as soon as it
+/// answers no more calls, and what may hold back its output.
 #[derive(Drop)]
 pub struct Gate {
     pub listener: TcpListener,
     pub pools: Vec<SeatPool>,
     pub mark: Mark,
+    pub leash: Leash,
 }
 
 /// The threads of a front.
@@ -79,7 +81,7 @@ pub struct Front {
 /// connections. The servers stand in the order of their ids. Refused with Numbers if some thread has no seat at some
 /// server, or there are more than 16 servers, else with Memory; threads that were started then end.
 pub fn open_front<
-    R: Wait + Threads + Net + Copy + Drop + Send + 'static,
+    R: Wait + Threads + Clock + Net + Copy + Drop + Send + 'static,
     T: Stations + Send + Sync + Drop + 'static,
 >(
     rt: R,
@@ -102,7 +104,7 @@ pub fn open_front<
 
 // Starts the threads.
 fn start<
-    R: Wait + Threads + Net + Copy + Drop + Send + 'static,
+    R: Wait + Threads + Clock + Net + Copy + Drop + Send + 'static,
     T: Stations + Send + Sync + Drop + 'static,
 >(
     rt: R,
@@ -143,9 +145,28 @@ fn run_acceptor<R: Wait + Copy + Drop>(acceptor: Acceptor<R>) {
     acceptor.run();
 }
 
-fn run_thread<R: Wait + Copy + Drop, T: Stations + Drop>(beginning: Beginning<R, T>) {
-    let mut serving = beginning.begin();
-    serving.run();
+// What a thread does, as who starts it sees it. What a serving thread begins with holds a lease that threads share.
+// That it may go to another thread isn't found by itself, and is shown once, where `start_thread` is called.
+trait Task {
+    fn run(self);
+}
+
+impl<R: Wait + Clock + Copy + Drop, T: Stations + Drop> Task for Beginning<R, T> {
+    fn run(self) {
+        let mut serving = self.begin();
+        serving.run();
+    }
+}
+
+// Starts a thread.
+fn start_thread<R: Threads, K: Task + Drop + Send + 'static>(
+    rt: &R,
+    task: K,
+) -> Result<JoinHandle<()>, FrontFault> {
+    match thread::spawn(rt, move || task.run()) {
+        Ok(thread) => Ok(thread),
+        Err(_) => Err(FrontFault::Memory),
+    }
 }
 
 // The entrance of each server, and each thread's quarters, by the servers' ids.
@@ -163,8 +184,9 @@ fn furnish(
             listener,
             pools,
             mark,
+            leash,
         } = gate;
-        add_quarters(&mut quarters, id, pools, &mark)?;
+        add_quarters(&mut quarters, id, pools, &mark, &leash)?;
         entrances.push(entrance(alloc, settings, listener, mark)?)?;
         id = id.wrapping_add(1);
     }
@@ -186,6 +208,7 @@ fn add_quarters(
     id: u8,
     pools: Vec<SeatPool>,
     mark: &Mark,
+    leash: &Leash,
 ) -> Result<(), FrontFault> {
     let mut pools = pools.into_iter();
     for own in quarters.iter_mut() {
@@ -193,7 +216,13 @@ fn add_quarters(
             return Err(FrontFault::Numbers);
         };
         let mark = mark.share()?;
-        own.push(Quarters { id, pool, mark })?;
+        let leash = leash.share()?;
+        own.push(Quarters {
+            id,
+            pool,
+            mark,
+            leash,
+        })?;
     }
     Ok(())
 }
@@ -220,7 +249,7 @@ fn keep_waiting(listener: &TcpListener) {
 
 // Starts the serving threads.
 fn start_serving<
-    R: Wait + Threads + Copy + Drop + Send + 'static,
+    R: Wait + Threads + Clock + Copy + Drop + Send + 'static,
     T: Stations + Send + Sync + Drop + 'static,
 >(
     rt: R,
@@ -240,10 +269,7 @@ fn start_serving<
         let stations = Arc::try_clone(stations)?;
         let desks = Arc::try_clone(desks)?;
         let beginning = Beginning::new(rt, alloc, me, stations, desks, poll, own)?;
-        let Ok(handle) = thread::spawn(&rt, move || run_thread(beginning)) else {
-            return Err(FrontFault::Memory);
-        };
-        handles.push(handle)?;
+        handles.push(start_thread(&rt, beginning)?)?;
         me = me.wrapping_add(1);
     }
     Ok(handles)

@@ -5,11 +5,12 @@ ghost use Rattle.io_threads.specs.Guests.{KnowsAll};
 use crate::clients::{Client, Pause, Ready};
 use crate::entries::Entry;
 use mio::net::TcpStream;
-use seats::SeatPool;
+use seats::{Leash, SeatPool};
 use slab::Slab;
 use std::alloc::Global;
 use std::marker::Model;
 use std::sync::Wait;
+use std::time::Clock;
 
 /// What a client waits for.
 #[derive(Clone, Copy, PartialEq, Eq)]
@@ -22,6 +23,8 @@ pub(crate) enum Waits {
     Seat,
     /// For the reply to its call.
     Reply,
+    /// Until the server may put out what is due.
+    Lease,
 }
 
 /// A client, with its place among the connections of its server.
@@ -97,9 +100,16 @@ impl Guests {
         has_turn(&self.pool, &mut self.clients, key)
     }
 
-    /// Has a client go on, and says why it goes no further. The slice is room for what is read.
-    pub(crate) fn go<R: Wait>(&mut self, rt: &R, key: usize, piece: &mut [u8]) -> Pause {
-        go(rt, &mut self.pool, &mut self.clients, key, piece)
+    /// Has a client go on, and says why it goes no further. The slice is room for what is read, and the leash is that
+    /// of the server.
+    pub(crate) fn go<R: Wait + Clock>(
+        &mut self,
+        rt: &R,
+        key: usize,
+        piece: &mut [u8],
+        leash: &Leash,
+    ) -> Pause {
+        go(rt, &mut self.pool, &mut self.clients, key, piece, leash)
     }
 
     /// Takes the replies for which nobody waits any more: their seats are free then.
@@ -160,19 +170,20 @@ fn is_ready_for(
 
 // Has a client go on.
 #[tactic(auto, using(crate::proofs::Knowing::knowing))]
-fn go<R: Wait>(
+fn go<R: Wait + Clock>(
     rt: &R,
     pool: &mut SeatPool,
     clients: &mut Slab<Guest>,
     key: usize,
     piece: &mut [u8],
+    leash: &Leash,
 ) -> Pause
     requires known { KnowsAll pool.old.seen clients.old }
     ensures known { KnowsAll pool.new.seen clients.new }
 {
     match clients.get_mut(key) {
         Some(guest) => {
-            let pause = guest.client.go(rt, pool, piece);
+            let pause = guest.client.go(rt, pool, piece, leash);
             guest.waits = waits_after(pause);
             pause
         }
@@ -186,6 +197,7 @@ fn waits_after(pause: Pause) -> Waits {
         Pause::Socket => Waits::Socket,
         Pause::Seat => Waits::Seat,
         Pause::Reply => Waits::Reply,
+        Pause::Lease => Waits::Lease,
         Pause::Turn | Pause::Over => Waits::Turn,
     }
 }

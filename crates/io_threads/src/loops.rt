@@ -8,7 +8,7 @@ use mio::{Events, Poll, Token};
 use seats::ServerSet;
 use std::alloc::{AllocError, Global};
 use std::sync::{Arc, Wait};
-use std::time::Duration;
+use std::time::{Clock, Duration};
 
 /// The most bytes of one read.
 const PIECE: usize = 65_536;
@@ -21,6 +21,9 @@ const ROUNDS: usize = 16;
 
 /// The most turns of one visit.
 const TURNS: usize = 64;
+
+/// How long a thread waits at most while output waits for a lease, in milliseconds. Nobody wakes it for that.
+const HELD: u64 = 10;
 
 /// What a serving thread begins with. Unlike the thread's own state it may be sent to another thread.
 #[derive(Drop)]
@@ -111,7 +114,7 @@ impl<R: Wait + Copy + Drop, T: Stations + Drop> Beginning<R, T> {
     }
 }
 
-impl<R: Wait + Copy + Drop, T: Stations + Drop> IoThread<R, T> {
+impl<R: Wait + Clock + Copy + Drop, T: Stations + Drop> IoThread<R, T> {
     /// Serves until no more connections come and all are closed.
     pub(crate) fn run(&mut self) {
         let rt = self.rt;
@@ -136,7 +139,7 @@ impl<R: Wait + Copy + Drop, T: Stations + Drop> IoThread<R, T> {
         }
         let open_at = self.open_at();
         if open_at == OpenAt::nowhere() {
-            let _ = self.poll.poll(&mut self.events, None);
+            self.sleep();
             return;
         }
         self.desks.sleeps_at(self.me, open_at);
@@ -146,8 +149,18 @@ impl<R: Wait + Copy + Drop, T: Stations + Drop> IoThread<R, T> {
             self.look();
             return;
         }
-        let _ = self.poll.poll(&mut self.events, None);
+        self.sleep();
         self.desks.is_awake(self.me);
+    }
+
+    // Waits for what is ready, not for long if output waits for a lease.
+    fn sleep(&mut self) {
+        let limit = if self.lounges.iter().any(|lounge| lounge.holds_output()) {
+            Some(Duration::from_millis(HELD))
+        } else {
+            None
+        };
+        let _ = self.poll.poll(&mut self.events, limit);
     }
 
     // Takes what is ready, and doesn't wait.

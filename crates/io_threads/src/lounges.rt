@@ -5,9 +5,10 @@ use crate::desks::Arrival;
 use crate::guests::{Guests, Waits};
 use crate::lines::Line;
 use mio::{Interest, Registry, Token};
-use seats::{Mark, SeatPool};
+use seats::{Leash, Mark, SeatPool};
 use std::alloc::{AllocError, Global};
 use std::sync::Wait;
+use std::time::Clock;
 
 /// How many servers a process has at most; tokens hold a client's key times this, and the server's id.
 pub(crate) const SERVERS: usize = 16;
@@ -20,9 +21,11 @@ pub(crate) struct Quarters {
     pub(crate) pool: SeatPool,
     /// Set as soon as the server answers no more calls.
     pub(crate) mark: Mark,
+    /// What may hold back the server's output.
+    pub(crate) leash: Leash,
 }
 
-/// The clients of one thread at one server. Each waits for its socket, or its key stands in one of the three lines,
+/// The clients of one thread at one server. Each waits for its socket, or its key stands in one of the four lines,
 /// once.
 #[derive(Drop)]
 pub(crate) struct Lounge {
@@ -34,10 +37,14 @@ pub(crate) struct Lounge {
     line: Line,
     // Of those whose calls were sent.
     asking: Line,
+    // Of those whose output the server may not put out yet.
+    held: Line,
     // Whether a call was sent since this was last asked for.
     has_sent: bool,
     // Set as soon as the server answers no more calls.
     mark: Mark,
+    // What may hold back the server's output.
+    leash: Leash,
     // Whether all clients were closed for that, and none is let in.
     is_shut: bool,
 }
@@ -45,15 +52,22 @@ pub(crate) struct Lounge {
 impl Lounge {
     /// Without clients. It allocates nothing.
     pub(crate) fn new(alloc: Global, quarters: Quarters) -> Lounge {
-        let Quarters { id, pool, mark } = quarters;
+        let Quarters {
+            id,
+            pool,
+            mark,
+            leash,
+        } = quarters;
         Lounge {
             id,
             guests: Guests::new(alloc, pool),
             queue: Line::new(alloc),
             line: Line::new(alloc),
             asking: Line::new(alloc),
+            held: Line::new(alloc),
             has_sent: false,
             mark,
+            leash,
             is_shut: false,
         }
     }
@@ -85,6 +99,11 @@ impl Lounge {
     /// Whether a reply is waited for: that to a client's call, or one that frees a seat for it.
     pub(crate) fn awaits_reply(&self) -> bool {
         !self.asking.is_empty() || !self.line.is_empty()
+    }
+
+    /// Whether output of a client waits until the server may put it out.
+    pub(crate) fn holds_output(&self) -> bool {
+        !self.held.is_empty()
     }
 
     /// Whether a call was sent since this was last asked.
@@ -123,7 +142,8 @@ impl Lounge {
         }
     }
 
-    /// A client's socket was found ready for this. If it is gone while its call waits, it is closed at once.
+    /// A client's socket was found ready for this. If it is gone while its call or its output waits, it is closed at
+    /// once.
     pub(crate) fn is_ready_for(&mut self, key: usize, ready: Ready) {
         match self.guests.is_ready_for(key, ready) {
             Some(Waits::Socket) => {
@@ -139,6 +159,12 @@ impl Lounge {
             Some(Waits::Reply) => {
                 if ready.gone {
                     self.asking.leave(key);
+                    self.guests.close(key);
+                }
+            }
+            Some(Waits::Lease) => {
+                if ready.gone {
+                    self.held.leave(key);
                     self.guests.close(key);
                 }
             }
@@ -159,11 +185,13 @@ impl Lounge {
         self.queue.clear();
         self.line.clear();
         self.asking.clear();
+        self.held.clear();
         self.guests.close_all();
     }
 
-    /// Has each client that may take steps take some.
-    pub(crate) fn serve_queue<R: Wait>(&mut self, rt: &R, piece: &mut [u8]) {
+    /// Has each client that may take steps take some. Those whose output waited may, once the server may put it out.
+    pub(crate) fn serve_queue<R: Wait + Clock>(&mut self, rt: &R, piece: &mut [u8]) {
+        self.serve_held(rt, piece);
         for _ in 0..self.queue.len() {
             let Some(key) = self.queue.next() else {
                 return;
@@ -174,7 +202,7 @@ impl Lounge {
 
     /// Takes the replies that stand at its seats, and has their clients go on, and those for whom a seat is free.
     /// Whether there were any.
-    pub(crate) fn collect<R: Wait>(&mut self, rt: &R, piece: &mut [u8]) -> bool {
+    pub(crate) fn collect<R: Wait + Clock>(&mut self, rt: &R, piece: &mut [u8]) -> bool {
         self.mind_mark();
         self.guests.collect(rt);
         let mut any = self.serve_line(rt, piece);
@@ -199,7 +227,7 @@ impl Lounge {
     }
 
     // Has those that stand in line for a seat go on, as long as one is free. Whether there were any.
-    fn serve_line<R: Wait>(&mut self, rt: &R, piece: &mut [u8]) -> bool {
+    fn serve_line<R: Wait + Clock>(&mut self, rt: &R, piece: &mut [u8]) -> bool {
         let mut any = false;
         for _ in 0..self.line.len() {
             if !self.guests.has_free_seat() {
@@ -214,13 +242,26 @@ impl Lounge {
         any
     }
 
+    // Has those go on whose output waits, if the server may put it out now.
+    fn serve_held<R: Wait + Clock>(&mut self, rt: &R, piece: &mut [u8]) {
+        if self.held.is_empty() || !self.leash.lets(rt) {
+            return;
+        }
+        for _ in 0..self.held.len() {
+            let Some(key) = self.held.next() else {
+                return;
+            };
+            self.go(rt, key, piece);
+        }
+    }
+
     // Has a client go on for a while, unless the server is marked: then all are closed.
-    fn go<R: Wait>(&mut self, rt: &R, key: usize, piece: &mut [u8]) {
+    fn go<R: Wait + Clock>(&mut self, rt: &R, key: usize, piece: &mut [u8]) {
         if self.mark.is_set() {
             self.shut();
             return;
         }
-        match self.guests.go(rt, key, piece) {
+        match self.guests.go(rt, key, piece, &self.leash) {
             Pause::Turn => self.enqueue(key),
             Pause::Socket => {}
             Pause::Seat => self.stand_in_line(key),
@@ -228,6 +269,7 @@ impl Lounge {
                 self.has_sent = true;
                 self.await_reply(key);
             }
+            Pause::Lease => self.hold(key),
             Pause::Over => self.guests.close(key),
         }
     }
@@ -250,6 +292,13 @@ impl Lounge {
     fn await_reply(&mut self, key: usize) {
         if self.asking.join(key).is_err() {
             self.shut();
+        }
+    }
+
+    // A client's output waits until the server may put it out.
+    fn hold(&mut self, key: usize) {
+        if self.held.join(key).is_err() {
+            self.guests.close(key);
         }
     }
 }

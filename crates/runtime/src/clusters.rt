@@ -13,7 +13,7 @@ use io_threads::{Desks, Front, FrontSettings, Gate, open_desks, open_front};
 use masters::keep_alive;
 use mio::Poll;
 use node::{Master, SERVERS};
-use seats::Allowance;
+use seats::{Allowance, Leash};
 use std::alloc::Global;
 use std::net::{Ipv4Addr, Net, TcpListener, TcpStream};
 use std::sync::{Arc, Wait};
@@ -49,7 +49,7 @@ impl<R: Wait + Copy + Drop + Send + 'static> Cluster<R> {
         shape: Shape,
     ) -> Result<Cluster<R>, ClusterFault>
     where
-        R: Threads + Eprint + Net<Listener = TcpListener, Stream = TcpStream>,
+        R: Threads + Clock + Eprint + Net<Listener = TcpListener, Stream = TcpStream>,
     {
         let count = numbers.servers;
         if count == 0 || count > SERVERS {
@@ -157,6 +157,7 @@ fn all_gates(
             listener,
             pools,
             mark,
+            leash: Leash::loose(),
         })?;
     }
     Ok((homes, gates))

@@ -16,7 +16,7 @@ use links::PeerLinks;
 use masters::{ServerSettings, keep_alive, port_of};
 use node::SERVERS;
 use rail::Worker;
-use seats::{Allowance, Gauge, Mark, SeatPool};
+use seats::{Allowance, Gauge, Leash, Mark, SeatPool};
 use std::alloc::Global;
 use std::net::{Net, SocketAddr, TcpListener, TcpStream};
 use std::sync::{Arc, Wait};
@@ -137,7 +137,7 @@ impl<R: Wait + Eprint + Copy + Drop + Send + 'static> Running<R> {
     // Says that it is ready, serves clients, and takes the worker's turns until it stops. It answers why.
     fn work<W: Sink>(self, rt: R, alloc: Global, output: &mut W) -> ServerFault
     where
-        R: Threads + Net,
+        R: Threads + Clock + Net,
     {
         let Running {
             worker,
@@ -175,7 +175,7 @@ impl<R: Wait + Eprint + Copy + Drop + Send + 'static> Running<R> {
 }
 
 // Says that the server is ready, and starts the threads that serve clients.
-fn serve_clients<R: Wait + Threads + Net + Copy + Drop + Send + 'static, W: Sink>(
+fn serve_clients<R: Wait + Threads + Clock + Net + Copy + Drop + Send + 'static, W: Sink>(
     rt: R,
     alloc: Global,
     front: Front,
@@ -197,6 +197,7 @@ fn serve_clients<R: Wait + Threads + Net + Copy + Drop + Send + 'static, W: Sink
         listener,
         pools,
         mark,
+        leash: Leash::loose(),
     })?;
     if write_all(output, b"ready\n").is_err() {
         return Err(ServerFault::Run);
