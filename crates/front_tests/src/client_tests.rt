@@ -4,13 +4,15 @@ ghost use Rattle.faces.specs.Courses.{IsLater};
 
 use super::servers::pooled;
 use io_threads::{Client, Pause, Pooled, Ready};
+use leases::{AnyEnd, Lease, SharedLease, Term, nanoseconds_of};
 use rail::Worker;
-use seats::{InProcessLinks, Mark, SeatPool};
+use seats::{InProcessLinks, Leash, Mark, SeatPool};
 use std::alloc::Global;
 use std::io;
 use std::io::{Error, ErrorKind, Read, Write};
-use std::sync::Wait;
 use std::sync::atomic::{AtomicUsize, Ordering};
+use std::sync::{Arc, Wait};
+use std::time::Clock;
 
 const REQUESTS: &[u8] = b"set a 5 0 3\r\nxyz\r\ngets a\r\nbad\r\nget a b\r\nquit\r\n";
 
@@ -93,6 +95,7 @@ struct Alone<'a, R: Wait + Drop> {
     worker: Worker<R>,
     pool: SeatPool,
     client: Client<Socket<'a>>,
+    leash: Leash,
 }
 
 // The client's socket is ready for all, and its input will end.
@@ -101,6 +104,7 @@ fn open_alone<R: Wait + Copy + Drop>(
     rt: R,
     alloc: Global,
     socket: Socket<'_>,
+    leash: Leash,
 ) -> Option<Alone<'_, R>>
     ensures known { IfSome result (λ alone. IsLater alone.client.talk.seen alone.pool.seen) }
 {
@@ -128,6 +132,7 @@ fn open_alone<R: Wait + Copy + Drop>(
         worker,
         pool,
         client,
+        leash,
     })
 }
 
@@ -147,13 +152,12 @@ trait Beside {
         ensures known { known self.new };
 }
 
-impl<R: Wait + Copy + Drop> Beside for Alone<'_, R> {
+impl<R: Wait + Clock + Copy + Drop> Beside for Alone<'_, R> {
     ghost known = { λ alone. IsLater alone.client.talk.seen alone.pool.seen };
 
     fn go(&mut self) -> Pause {
         let mut piece = [0u8; 64];
-        self.client
-            .go(&self.rt, &mut self.pool, piece.as_mut_slice())
+        self.client.go(&self.rt, &mut self.pool, piece.as_mut_slice(), &self.leash)
     }
 
     fn hears(&mut self) -> bool {
@@ -173,8 +177,10 @@ impl<R: Wait + Drop> Alone<'_, R> {
             worker,
             mut pool,
             client,
+            leash,
         } = self;
         client.leave(&mut pool);
+        drop(leash);
         drop(pool);
         drop(worker);
     }
@@ -198,7 +204,7 @@ fn is_over<B: Beside>(beside: &mut B) -> bool
                     return false;
                 }
             }
-            Pause::Socket | Pause::Seat => return false,
+            Pause::Socket | Pause::Seat | Pause::Lease => return false,
         }
     }
     false
@@ -215,7 +221,7 @@ struct Came {
 }
 
 // A client that sends these bytes, whose reads fail after `reads` bytes, and whose writes fail after `writes`.
-fn served<R: Wait + Copy + Drop>(
+fn served<R: Wait + Clock + Copy + Drop>(
     rt: R,
     alloc: Global,
     bytes: &[u8],
@@ -230,7 +236,7 @@ fn served<R: Wait + Copy + Drop>(
         writes,
         seen: &seen,
     };
-    let mut alone = open_alone(rt, alloc, socket)?;
+    let mut alone = open_alone(rt, alloc, socket, Leash::loose())?;
     let is_over = is_over(&mut alone);
     alone.end();
     Some(Came {
@@ -265,7 +271,7 @@ fn a_first_read_that_fails(rt: HostRuntime) {
 
 // Whether a client whose input ends after n bytes is sent a beginning of the replies, and one whose read fails
 // there the same.
-fn is_same_if_read_fails<R: Wait + Copy + Drop>(rt: R, alloc: Global, n: usize) -> bool {
+fn is_same_if_read_fails<R: Wait + Clock + Copy + Drop>(rt: R, alloc: Global, n: usize) -> bool {
     let front = REQUESTS.get(..n).unwrap_or_default();
     let ended = served(rt, alloc, front, MANY, MANY);
     let failed = served(rt, alloc, REQUESTS, n, MANY);
@@ -276,7 +282,7 @@ fn is_same_if_read_fails<R: Wait + Copy + Drop>(rt: R, alloc: Global, n: usize) 
 }
 
 // The first n at which it isn't so, if there is one.
-fn first_difference<R: Wait + Copy + Drop>(rt: R, alloc: Global) -> Option<usize> {
+fn first_difference<R: Wait + Clock + Copy + Drop>(rt: R, alloc: Global) -> Option<usize> {
     for n in 0..REQUESTS.len() {
         if !is_same_if_read_fails(rt, alloc, n) {
             return Some(n);
@@ -293,7 +299,7 @@ fn the_input_ends_or_a_read_fails_anywhere(rt: HostRuntime) {
 
 // The first n after which a write fails, or none does since these are all, and the client isn't sent these n bytes
 // alone, if there is one.
-fn first_wrong_write<R: Wait + Copy + Drop>(rt: R, alloc: Global) -> Option<usize> {
+fn first_wrong_write<R: Wait + Clock + Copy + Drop>(rt: R, alloc: Global) -> Option<usize> {
     for n in 0..REPLIES.len() {
         if served(rt, alloc, REQUESTS, MANY, n) != Some(over(n, 1)) {
             return Some(n);
@@ -306,4 +312,78 @@ fn first_wrong_write<R: Wait + Copy + Drop>(rt: R, alloc: Global) -> Option<usiz
 #[test]
 fn a_write_fails_anywhere(rt: HostRuntime) {
     assert_eq!(rt; first_wrong_write(rt, rt.alloc()), None);
+}
+
+// What a client asks whose server's lease doesn't hold at first, and the reply.
+const BAD: &[u8] = b"bad\r\n";
+
+const ERROR: &[u8] = b"ERROR\r\n";
+
+// The longest term, in seconds.
+const HOUR: u64 = 3600;
+
+// A lease that nobody has prolonged yet.
+fn lease_of_an_hour(alloc: Global) -> Option<Arc<SharedLease<AnyEnd>, Global>> {
+    Arc::new(alloc, SharedLease::new(Term::of_seconds(HOUR))).ok()
+}
+
+// Prolongs a lease from now on. Whether the clock could be read.
+fn prolongs<R: Clock>(rt: &R, shared: &SharedLease<AnyEnd>) -> bool {
+    let Ok(reading) = rt.monotonic() else {
+        return false;
+    };
+    let now = nanoseconds_of(reading);
+    let mut lease = Lease::new(Term::of_seconds(HOUR));
+    lease.beat(0, now, now);
+    shared.renew(&lease);
+    true
+}
+
+// Whether a client waits, and is sent nothing, as long as its server's lease doesn't hold, and is over once it does.
+fn waits_for_it<R: Clock, B: Beside>(
+    rt: &R,
+    shared: &SharedLease<AnyEnd>,
+    seen: &Seen,
+    beside: &mut B,
+) -> bool
+    requires known { B.known beside.old }
+    ensures known { B.known beside.new }
+{
+    let is_held = beside.go() == Pause::Lease;
+    let is_held_again = beside.go() == Pause::Lease;
+    let is_quiet = seen.taken.load(Ordering::SeqCst) == 0;
+    let is_prolonged = prolongs(rt, shared);
+    let is_over = beside.go() == Pause::Over;
+    is_held && is_held_again && is_quiet && is_prolonged && is_over
+}
+
+// Whether a client waits for its server's lease, how many bytes it is sent at last, and whether these are others than
+// the reply.
+fn sent_by_lease<R: Wait + Clock + Copy + Drop>(
+    rt: R,
+    alloc: Global,
+) -> Option<(bool, usize, usize)> {
+    let shared = lease_of_an_hour(alloc)?;
+    let leash = Leash::held_by(Arc::try_clone(&shared).ok()?);
+    let seen = Seen::new();
+    let socket = Socket {
+        bytes: BAD,
+        reads: MANY,
+        wanted: ERROR,
+        writes: MANY,
+        seen: &seen,
+    };
+    let mut alone = open_alone(rt, alloc, socket, leash)?;
+    let waits = waits_for_it(&rt, &shared, &seen, &mut alone);
+    alone.end();
+    Some((
+        waits,
+        seen.taken.load(Ordering::SeqCst),
+        seen.others.load(Ordering::SeqCst),
+    ))
+}
+
+#[test]
+fn a_client_waits_for_the_lease(rt: HostRuntime) {
+    assert_eq!(rt; sent_by_lease(rt, rt.alloc()), Some((true, ERROR.len(), 0)));
 }

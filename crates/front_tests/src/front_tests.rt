@@ -4,7 +4,7 @@ use super::servers::pooled;
 use io_threads::{Desks, Elsewhere, Front, FrontSettings, Gate, Pooled, open_desks, open_front};
 use mio::Poll;
 use rail::{Turn, Worker};
-use seats::{InProcessLinks, Mark, SeatPool};
+use seats::{InProcessLinks, Leash, Mark, SeatPool};
 use std::alloc::Global;
 use std::io::{ErrorKind, Read, Write};
 use std::net::{Ipv4Addr, Net, TcpListener, TcpStream};
@@ -71,6 +71,7 @@ impl<W: Wait + Drop> TakesTurns for Worker<W> {
 fn open_served<
     R: Wait
         + Threads
+        + Clock
         + Net<Listener = TcpListener, Stream = TcpStream>
         + Copy
         + Drop
@@ -91,6 +92,7 @@ fn open_served<
 fn open<
     R: Wait
         + Threads
+        + Clock
         + Net<Listener = TcpListener, Stream = TcpStream>
         + Copy
         + Drop
@@ -143,7 +145,7 @@ fn find_place<R: Net<Listener = TcpListener, Stream = TcpStream>>(
 }
 
 // Serves the clients who come in there.
-fn serve<R: Wait + Threads + Net + Copy + Drop + Send + 'static, T: Drop>(
+fn serve<R: Wait + Threads + Clock + Net + Copy + Drop + Send + 'static, T: Drop>(
     rt: R,
     alloc: Global,
     settings: FrontSettings,
@@ -183,6 +185,7 @@ fn only_gate(
         listener,
         pools,
         mark,
+        leash: Leash::loose(),
     };
     gates.push(gate).ok()?;
     Some(gates)
@@ -570,11 +573,11 @@ fn without_room_a_store_is_refused(rt: HostRuntime) {
 fn one_that_breaks_off_makes_room<
     R: Wait
         + Threads
+        + Clock
         + Net<Listener = TcpListener, Stream = TcpStream>
         + Copy
         + Drop
         + Send
-        + Clock
         + 'static,
     T: TakesTurns + Drop + Send + 'static,
 >(rt: R, alloc: Global, opened: Option<Served<T>>) -> bool {

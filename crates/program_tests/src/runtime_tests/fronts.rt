@@ -6,6 +6,7 @@ use std::alloc::Global;
 use std::net::Net;
 use std::sync::{Arc, Wait};
 use std::thread::Threads;
+use std::time::Clock;
 
 /// The desk of one thread, and what that polls.
 pub fn shared_desks<R: Net>(rt: &R, alloc: Global) -> Option<(Arc<Desks, Global>, Vec<Poll>)> {
@@ -15,7 +16,7 @@ pub fn shared_desks<R: Net>(rt: &R, alloc: Global) -> Option<(Arc<Desks, Global>
 }
 
 /// Serves two clients at this gate. Others take the turns.
-pub fn serve_two<R: Wait + Threads + Net + Copy + Drop + Send + 'static>(
+pub fn serve_two<R: Wait + Threads + Clock + Net + Copy + Drop + Send + 'static>(
     rt: R,
     alloc: Global,
     desks: &Arc<Desks, Global>,

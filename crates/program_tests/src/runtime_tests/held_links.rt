@@ -8,7 +8,7 @@ use io_threads::{Desks, Front, Gate, Pooled};
 use node::Peer;
 use rail::{Inlet, Links, Published, RailFault, Worker};
 use runtime::{Opened, Rest, Shape, Surroundings, all_links, all_servers, work};
-use seats::{Allowance, Gauge, InProcessLinks, Mark, SeatPool};
+use seats::{Allowance, Gauge, InProcessLinks, Leash, Mark, SeatPool};
 use std::alloc::{AllocError, Global};
 use std::io::Write;
 use std::marker::Model;
@@ -213,6 +213,7 @@ impl<R: Wait + Drop> Works<R> for Worker<R> {
 fn held_chain<
     R: Wait
         + Threads
+        + Clock
         + Net<Listener = TcpListener, Stream = TcpStream>
         + Copy
         + Drop
@@ -232,6 +233,7 @@ fn held_chain<
         listener,
         pools: beside.pools,
         mark: beside.failed,
+        leash: Leash::loose(),
     };
     let front = serve_two(rt, alloc, &desks, polls, gate)?;
     Some(HeldChain {

@@ -5,11 +5,12 @@ use super::fronts::shared_desks;
 use io_threads::{Desks, Front, FrontSettings, Gate, Stations, open_front};
 use mio::Poll;
 use runtime::{Hall, Shape, Side, all_links, all_servers, all_sides};
-use seats::Allowance;
+use seats::{Allowance, Leash};
 use std::alloc::Global;
 use std::net::{Net, TcpListener, TcpStream};
 use std::sync::{Arc, Wait};
 use std::thread::Threads;
+use std::time::Clock;
 
 // A chain of three whose workers have no threads of their own. One thread serves the clients of all.
 #[derive(Drop)]
@@ -55,6 +56,7 @@ fn passes_at<R: Net<Listener = TcpListener, Stream = TcpStream>>(rt: &R, port: u
 fn helped_chain<
     R: Wait
         + Threads
+        + Clock
         + Net<Listener = TcpListener, Stream = TcpStream>
         + Copy
         + Drop
@@ -69,7 +71,7 @@ fn helped_chain<
 
 // Serves the clients of these gates, and takes the turns of these stations.
 fn serve<
-    R: Wait + Threads + Net + Copy + Drop + Send + 'static,
+    R: Wait + Threads + Clock + Net + Copy + Drop + Send + 'static,
     T: Stations + Send + Sync + Drop + 'static,
 >(
     rt: R,
@@ -129,6 +131,7 @@ fn gate_of<R: Net<Listener = TcpListener, Stream = TcpStream>>(
         listener,
         pools,
         mark,
+        leash: Leash::loose(),
     };
     Some((port, gate))
 }
