@@ -2,7 +2,6 @@
 
 mod chains;
 mod clients;
-mod fronts;
 mod held_links;
 mod helping;
 mod processes;

@@ -1,60 +1,52 @@
 //! A chain and its clients.
 
-use super::clients::{answers, answers_at, client, has_line, is_closed, says};
+use super::clients::{answers, client, has_line, is_closed, says};
 use super::running::{Running, ready, status};
 use std::io::Write;
 use std::net::{Net, TcpListener, TcpStream};
+use std::test::Fail;
 use std::thread;
 use std::thread::Threads;
 
 // What was set at one server is read at the other.
 #[test]
-fn cluster_round_trip(rt: HostRuntime) {
-    let chain = ready(rt, rt.alloc(), 2, 1);
-    assert!(rt; passes(&rt, chain));
+fn cluster_round_trip(rt: HostRuntime) -> Result<(), Fail> {
+    let (running, port) = ready(rt, rt.alloc(), 2, 1).ok_or("a chain")?;
+    assert!(rt; passes(&rt, port));
+    assert_eq!(rt; status(&rt, running), 0);
+    Ok(())
 }
 
-// Whether a chain passes, and ends with the status 0.
-fn passes<R: Threads + Net<Listener = TcpListener, Stream = TcpStream>>(
-    rt: &R,
-    chain: Option<(Running, u16)>,
-) -> bool {
-    match chain {
-        Some((running, port)) => reads_back(rt, port) && status(rt, running) == 0,
-        None => false,
-    }
-}
-
-fn reads_back<R: Net<Listener = TcpListener, Stream = TcpStream>>(rt: &R, port: u16) -> bool {
-    let set = b"set a 0 0 1\r\n1\r\nquit\r\n";
-    let value = b"VALUE a 0 1\r\n1\r\nEND\r\n";
-    answers_at(rt, port.wrapping_add(1), set, b"STORED\r\n")
-        && answers_at(rt, port, b"get a\r\nquit\r\n", value)
+fn passes<R: Net<Listener = TcpListener, Stream = TcpStream>>(rt: &R, port: u16) -> bool {
+    let Ok(mut second) = client(rt, port.wrapping_add(1)) else {
+        return false;
+    };
+    let is_set = answers(&mut second, b"set a 0 0 1\r\n1\r\nquit\r\n", b"STORED\r\n");
+    let Ok(mut first) = client(rt, port) else {
+        return false;
+    };
+    is_set
+        && answers(
+            &mut first,
+            b"get a\r\nquit\r\n",
+            b"VALUE a 0 1\r\n1\r\nEND\r\n",
+        )
 }
 
 // Four connections raise one counter at the same time, and no increment is lost.
 #[test]
-fn thousand_increments_each(rt: HostRuntime) {
-    let chain = ready(rt, rt.alloc(), 3, 2);
-    assert!(rt; loses_none(&rt, chain));
-}
-
-// Whether a chain loses no increment, and ends with the status 0.
-fn loses_none<R: Threads + Sync + Net<Listener = TcpListener, Stream = TcpStream>>(
-    rt: &R,
-    chain: Option<(Running, u16)>,
-) -> bool {
-    match chain {
-        Some((running, port)) => counts_them_all(rt, port) && status(rt, running) == 0,
-        None => false,
-    }
+fn thousand_increments_each(rt: HostRuntime) -> Result<(), Fail> {
+    let (running, port) = ready(rt, rt.alloc(), 3, 2).ok_or("a chain")?;
+    assert!(rt; counts_them_all(&rt, port));
+    assert_eq!(rt; status(&rt, running), 0);
+    Ok(())
 }
 
 fn counts_them_all<R: Threads + Sync + Net<Listener = TcpListener, Stream = TcpStream>>(
     rt: &R,
     port: u16,
 ) -> bool {
-    let Some(mut first) = client(rt, port) else {
+    let Ok(mut first) = client(rt, port) else {
         return false;
     };
     answers(&mut first, b"set n 0 0 1\r\n0\r\n", b"STORED\r\n")
@@ -68,7 +60,7 @@ fn all_raise<R: Threads + Sync + Net<Listener = TcpListener, Stream = TcpStream>
     port: u16,
     first: &mut TcpStream,
 ) -> bool {
-    let Some(mut second) = client(rt, port) else {
+    let Ok(mut second) = client(rt, port) else {
         return false;
     };
     let (at_head, beyond) = thread::join(
@@ -105,31 +97,21 @@ fn raises(stream: &mut TcpStream) -> bool {
 
 // Raises the counter at the server at this port. Another connection to it is closed at once.
 fn raises_at<R: Net<Listener = TcpListener, Stream = TcpStream>>(rt: &R, port: u16) -> bool {
-    let Some(mut stream) = client(rt, port) else {
+    let Ok(mut stream) = client(rt, port) else {
         return false;
     };
     let other = client(rt, port);
-    raises(&mut stream) && other.is_some()
+    raises(&mut stream) && other.is_ok()
 }
 
 // A connection to a server that was stopped is closed at its next call.
 #[test]
-fn stopped_server_falls_silent(rt: HostRuntime) {
-    let chain = ready(rt, rt.alloc(), 2, 1);
-    assert!(rt; goes_on_without_the_head(&rt, chain));
-}
-
-// Whether the head of a chain falls silent, and the chain ends with the status 0.
-fn goes_on_without_the_head<R: Threads + Net<Listener = TcpListener, Stream = TcpStream>>(
-    rt: &R,
-    chain: Option<(Running, u16)>,
-) -> bool {
-    let Some((mut running, port)) = chain else {
-        return false;
-    };
-    falls_silent(rt, &mut running, port)
-        && quits(rt, port.wrapping_add(1))
-        && status(rt, running) == 0
+fn stopped_server_falls_silent(rt: HostRuntime) -> Result<(), Fail> {
+    let (mut running, port) = ready(rt, rt.alloc(), 2, 1).ok_or("a chain")?;
+    assert!(rt; falls_silent(&rt, &mut running, port));
+    assert!(rt; quits(&rt, port.wrapping_add(1)));
+    assert_eq!(rt; status(&rt, running), 0);
+    Ok(())
 }
 
 fn falls_silent<R: Net<Listener = TcpListener, Stream = TcpStream>>(
@@ -137,7 +119,7 @@ fn falls_silent<R: Net<Listener = TcpListener, Stream = TcpStream>>(
     running: &mut Running,
     port: u16,
 ) -> bool {
-    let Some(mut first) = client(rt, port) else {
+    let Ok(mut first) = client(rt, port) else {
         return false;
     };
     answers(&mut first, b"get a\r\n", b"END\r\n")
@@ -153,7 +135,7 @@ fn fails_the_head(running: &mut Running) -> bool {
 // Whether a client of the server at this port could say that it goes.
 fn quits<R: Net<Listener = TcpListener, Stream = TcpStream>>(rt: &R, port: u16) -> bool {
     match client(rt, port) {
-        Some(mut stream) => stream.write_all(b"quit\r\n").is_ok(),
-        None => false,
+        Ok(mut stream) => stream.write_all(b"quit\r\n").is_ok(),
+        Err(_) => false,
     }
 }

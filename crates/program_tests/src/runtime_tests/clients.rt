@@ -1,5 +1,6 @@
 //! Clients of a chain.
 
+use std::io;
 use std::io::{ErrorKind, Read, Write};
 use std::net::{Ipv4Addr, Net, TcpListener, TcpStream};
 use std::time::Duration;
@@ -20,11 +21,11 @@ pub fn listen<R: Net<Listener = TcpListener, Stream = TcpStream>>(
 pub fn client<R: Net<Listener = TcpListener, Stream = TcpStream>>(
     rt: &R,
     port: u16,
-) -> Option<TcpStream> {
-    let stream = TcpStream::connect(rt, (Ipv4Addr::LOCALHOST, port)).ok()?;
-    let limit = Duration::from_secs(LIMIT);
-    let is_set = stream.set_nodelay(true).is_ok() && stream.set_read_timeout(Some(limit)).is_ok();
-    is_set.then_some(stream)
+) -> io::Result<TcpStream> {
+    let stream = TcpStream::connect(rt, (Ipv4Addr::LOCALHOST, port))?;
+    stream.set_nodelay(true)?;
+    stream.set_read_timeout(Some(Duration::from_secs(LIMIT)))?;
+    Ok(stream)
 }
 
 /// Whether these bytes come next.
@@ -42,19 +43,6 @@ pub fn says<S: Read>(source: &mut S, text: &[u8]) -> bool {
 /// Whether the request is taken, and these bytes come next.
 pub fn answers(stream: &mut TcpStream, request: &[u8], reply: &[u8]) -> bool {
     stream.write_all(request).is_ok() && says(stream, reply)
-}
-
-/// Whether a client of the server at this port is answered so.
-pub fn answers_at<R: Net<Listener = TcpListener, Stream = TcpStream>>(
-    rt: &R,
-    port: u16,
-    request: &[u8],
-    reply: &[u8],
-) -> bool {
-    match client(rt, port) {
-        Some(mut stream) => answers(&mut stream, request, reply),
-        None => false,
-    }
 }
 
 /// Whether a line comes next.

@@ -2,9 +2,9 @@
 ghost use Rattle.std.specs.Prelude.{◌≡◌, ◌++◌, ◌∷◌, [], OnOk, OnErr};
 
 use super::clients::{answers, client, listen, says};
-use super::fronts::{serve_two, shared_desks};
 use crossbeam_channel::{Receiver, Sender, unbounded};
-use io_threads::{Desks, Front, Gate, Pooled};
+use io_threads::{Desks, Elsewhere, Front, FrontSettings, Gate, Pooled, open_desks, open_front};
+use mio::Poll;
 use node::Peer;
 use rail::{Inlet, Links, Published, RailFault, Worker};
 use runtime::{Opened, Rest, Shape, Surroundings, all_links, all_servers, work};
@@ -14,6 +14,7 @@ use std::io::Write;
 use std::marker::Model;
 use std::net::{Net, TcpListener, TcpStream};
 use std::sync::{Arc, Wait};
+use std::test::Fail;
 use std::thread;
 use std::thread::{JoinHandle, Threads};
 use std::time::{Clock, Duration};
@@ -112,50 +113,31 @@ struct HeldChain {
     barrier: Receiver<Kept>,
 }
 
-// A server whose worker has a thread of its own, with an inlet of it.
+// A server whose worker has a thread of its own, with inlets of it.
 #[derive(Drop)]
 struct Started {
     thread: JoinHandle<Rest>,
-    inlet: Inlet,
-}
-
-// What such a server has beside it: its seats, and the mark that its clients look at.
-#[derive(Drop)]
-struct Beside {
-    pools: Vec<SeatPool>,
-    failed: Mark,
+    inlets: Vec<Inlet>,
 }
 
 // A set whose message stays on its link keeps no read of another connection of its thread waiting.
 #[test]
-fn held_link_holds_no_reader(rt: HostRuntime) {
-    let chain = held_chain(rt, rt.alloc());
-    assert!(rt; passes_by(&rt, chain));
-}
-
-fn passes_by<R: Wait + Threads + Clock + Net<Listener = TcpListener, Stream = TcpStream>>(
-    rt: &R,
-    chain: Option<HeldChain>,
-) -> bool {
-    let Some(mut chain) = chain else {
-        return false;
-    };
-    if !reads_pass(rt, &mut chain) {
-        return false;
-    }
-    chain.end(rt);
-    true
+fn held_link_holds_no_reader(rt: HostRuntime) -> Result<(), Fail> {
+    let mut chain = held_chain(rt, rt.alloc()).ok_or("a chain")?;
+    assert!(rt; passes_by(&rt, &mut chain));
+    chain.end(&rt);
+    Ok(())
 }
 
 // Whether a read is answered while the set of another connection is held, and the set once its message is brought on.
-fn reads_pass<R: Wait + Clock + Net<Listener = TcpListener, Stream = TcpStream>>(
+fn passes_by<R: Wait + Clock + Net<Listener = TcpListener, Stream = TcpStream>>(
     rt: &R,
     chain: &mut HeldChain,
 ) -> bool {
-    let Some(mut first) = client(rt, chain.port) else {
+    let Ok(mut first) = client(rt, chain.port) else {
         return false;
     };
-    let Some(mut second) = client(rt, chain.port) else {
+    let Ok(mut second) = client(rt, chain.port) else {
         return false;
     };
     first.write_all(b"set a 0 0 1\r\n1\r\n").is_ok()
@@ -169,8 +151,19 @@ fn reads_beside<R: Wait + Clock>(rt: &R, chain: &mut HeldChain, stream: &mut Tcp
         return false;
     };
     let answered = answers(stream, b"get b\r\n", b"END\r\n");
-    let brought = chain.tail.inlet.bring(rt, 0, kept.into_peer()).is_ok();
+    let brought = brings(rt, &mut chain.tail, kept);
     answered && brought
+}
+
+// Whether a message of server 0 is brought on.
+fn brings<R: Wait>(rt: &R, to: &mut Started, kept: Kept) -> bool {
+    match to.inlets.get_mut(0) {
+        Some(inlet) => inlet.bring(rt, 0, kept.into_peer()).is_ok(),
+        None => {
+            drop(kept);
+            false
+        }
+    }
 }
 
 impl HeldChain {
@@ -192,21 +185,11 @@ impl HeldChain {
 impl Started {
     // Ends the worker.
     fn end<R: Wait + Threads>(self, rt: &R) {
-        let Started { thread, mut inlet } = self;
-        drop(inlet.end(rt));
+        let Started { thread, mut inlets } = self;
+        if let Some(inlet) = inlets.get_mut(0) {
+            let _ = inlet.end(rt);
+        }
         thread.join(rt);
-    }
-}
-
-// One whose turns a thread takes.
-trait Works<R: Wait + Drop> {
-    // Takes its turns until it rests.
-    fn works<L: Links>(self, rt: &R, links: &mut L, around: &Surroundings) -> Rest;
-}
-
-impl<R: Wait + Drop> Works<R> for Worker<R> {
-    fn works<L: Links>(self, rt: &R, links: &mut L, around: &Surroundings) -> Rest {
-        work(rt, self, links, around)
     }
 }
 
@@ -220,22 +203,12 @@ fn held_chain<
         + Send
         + 'static,
 >(rt: R, alloc: Global) -> Option<HeldChain> {
-    let (port, listener) = listen(&rt)?;
     let (desks, polls) = shared_desks(&rt, alloc)?;
-    let (sender, barrier) = unbounded(alloc).ok()?;
-    let held = Barrier {
-        rt,
-        kept: sender,
-        put: Vec::new(alloc),
-    };
-    let (head, tail, beside) = two_started(rt, alloc, held, &desks)?;
-    let gate = Gate {
-        listener,
-        pools: beside.pools,
-        mark: beside.failed,
-        leash: Leash::loose(),
-    };
-    let front = serve_two(rt, alloc, &desks, polls, gate)?;
+    let (mut servers, links) = two_servers(rt, alloc)?;
+    let (tail, _, _) = start_last(rt, alloc, 1, &mut servers, links, &desks)?;
+    let (head, barrier) = start_head(rt, alloc, &mut servers, &desks)?;
+    let (head, pools, failed) = head;
+    let (port, front) = serve(rt, alloc, &desks, polls, pools, failed)?;
     Some(HeldChain {
         port,
         front,
@@ -245,30 +218,11 @@ fn held_chain<
     })
 }
 
-// Two servers whose workers have threads, of which the head has these links, and what the head has beside it.
-fn two_started<R: Wait + Threads + Copy + Drop + Send + 'static, L: Links + Drop + Send + 'static>(
-    rt: R,
-    alloc: Global,
-    held: L,
-    desks: &Arc<Desks, Global>,
-) -> Option<(Started, Started, Beside)> {
-    let Some((mut servers, links)) = two_servers(rt, alloc) else {
-        drop(held);
-        return None;
-    };
-    let tail = start_last(rt, alloc, 1, &mut servers, links, desks);
-    let head = start_last(rt, alloc, 0, &mut servers, held, desks);
-    drop(servers);
-    both(head, tail)
-}
-
-fn both(
-    head: Option<(Started, Beside)>,
-    tail: Option<(Started, Beside)>,
-) -> Option<(Started, Started, Beside)> {
-    let (head, beside) = head?;
-    let (tail, _) = tail?;
-    Some((head, tail, beside))
+// The desk of one thread, and what that polls.
+fn shared_desks<R: Net>(rt: &R, alloc: Global) -> Option<(Arc<Desks, Global>, Vec<Poll>)> {
+    let (desks, polls) = open_desks(rt, alloc, 1).ok()?;
+    let desks = Arc::new(alloc, desks).ok()?;
+    Some((desks, polls))
 }
 
 // Two servers, and the links of the second.
@@ -282,7 +236,24 @@ fn two_servers<R: Wait + Threads + Copy + Drop>(
     Some((servers, links))
 }
 
-// Starts the last of these servers, whose id this is, with these links.
+// Starts the head, whose messages come to the barrier.
+fn start_head<R: Wait + Threads + Copy + Drop + Send + 'static>(
+    rt: R,
+    alloc: Global,
+    servers: &mut Vec<Opened<R>>,
+    desks: &Arc<Desks, Global>,
+) -> Option<((Started, Vec<SeatPool>, Mark), Receiver<Kept>)> {
+    let (sender, barrier) = unbounded(alloc).ok()?;
+    let held = Barrier {
+        rt,
+        kept: sender,
+        put: Vec::new(alloc),
+    };
+    let head = start_last(rt, alloc, 0, servers, held, desks)?;
+    Some((head, barrier))
+}
+
+// Starts the last of these servers, whose id this is. With it come its seats, and the mark that its clients look at.
 fn start_last<R: Wait + Threads + Copy + Drop + Send + 'static, L: Links + Drop + Send + 'static>(
     rt: R,
     alloc: Global,
@@ -290,7 +261,7 @@ fn start_last<R: Wait + Threads + Copy + Drop + Send + 'static, L: Links + Drop 
     servers: &mut Vec<Opened<R>>,
     links: L,
     desks: &Arc<Desks, Global>,
-) -> Option<(Started, Beside)> {
+) -> Option<(Started, Vec<SeatPool>, Mark)> {
     let Some(server) = servers.pop() else {
         drop(links);
         return None;
@@ -306,8 +277,8 @@ fn start_last<R: Wait + Threads + Copy + Drop + Send + 'static, L: Links + Drop 
         inlets,
     } = pooled;
     let around = surroundings(alloc, id, &failed, gauge, desks);
-    let started = start_worker(rt, worker, links, inlets, around)?;
-    Some((started, Beside { pools, failed }))
+    let thread = start_worker(rt, worker, links, around)?;
+    Some((Started { thread, inlets }, pools, failed))
 }
 
 // What the worker of server `id` shares with others.
@@ -328,20 +299,67 @@ fn surroundings(
 }
 
 // Starts the thread of a worker, unless there was no memory for what it shares.
-fn start_worker<
-    R: Wait + Threads + Copy + Drop + Send + 'static,
-    T: Works<R> + Drop + Send + 'static,
-    L: Links + Drop + Send + 'static,
->(rt: R, worker: T, links: L, inlets: Vec<Inlet>, around: Option<Surroundings>) -> Option<Started> {
-    let mut inlets = inlets;
-    let inlet = inlets.pop()?;
-    let around = around?;
+fn start_worker<R: Wait + Threads + Copy + Drop + Send + 'static, L: Links + Drop + Send + 'static>(
+    rt: R,
+    worker: Worker<R>,
+    links: L,
+    around: Option<Surroundings>,
+) -> Option<JoinHandle<Rest>> {
+    let Some(around) = around else {
+        drop(worker);
+        drop(links);
+        return None;
+    };
     let started = thread::spawn(&rt, move || {
         let mut links = links;
-        worker.works(&rt, &mut links, &around)
+        work(&rt, worker, &mut links, &around)
     });
-    Some(Started {
-        thread: started.ok()?,
-        inlet,
-    })
+    started.ok()
+}
+
+// Serves two clients, who connect at a port of the system's choice.
+fn serve<
+    R: Wait
+        + Threads
+        + Clock
+        + Net<Listener = TcpListener, Stream = TcpStream>
+        + Copy
+        + Drop
+        + Send
+        + 'static,
+>(
+    rt: R,
+    alloc: Global,
+    desks: &Arc<Desks, Global>,
+    polls: Vec<Poll>,
+    pools: Vec<SeatPool>,
+    failed: Mark,
+) -> Option<(u16, Front)> {
+    let (port, listener) = listen(&rt)?;
+    let gates = only_gate(alloc, listener, pools, failed)?;
+    let elsewhere = Arc::new(alloc, Elsewhere).ok()?;
+    let settings = FrontSettings {
+        connections: 2,
+        serves: 2,
+    };
+    let front = open_front(rt, alloc, settings, &elsewhere, desks, polls, gates).ok()?;
+    Some((port, front))
+}
+
+// The gate of the only server of a front.
+fn only_gate(
+    alloc: Global,
+    listener: TcpListener,
+    pools: Vec<SeatPool>,
+    mark: Mark,
+) -> Option<Vec<Gate>> {
+    let mut gates = Vec::new(alloc);
+    let gate = Gate {
+        listener,
+        pools,
+        mark,
+        leash: Leash::loose(),
+    };
+    gates.push(gate).ok()?;
+    Some(gates)
 }

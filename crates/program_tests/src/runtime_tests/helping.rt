@@ -1,14 +1,13 @@
 //! Threads that serve clients, and take the turns of the workers.
 
 use super::clients::{answers, client, listen};
-use super::fronts::shared_desks;
-use io_threads::{Desks, Front, FrontSettings, Gate, Stations, open_front};
-use mio::Poll;
+use io_threads::{Desks, Front, FrontSettings, Gate, open_desks, open_front};
 use runtime::{Hall, Shape, Side, all_links, all_servers, all_sides};
 use seats::{Allowance, Leash};
 use std::alloc::Global;
 use std::net::{Net, TcpListener, TcpStream};
 use std::sync::{Arc, Wait};
+use std::test::Fail;
 use std::thread::Threads;
 use std::time::Clock;
 
@@ -21,28 +20,20 @@ struct HelpedChain {
 
 // The thread that serves takes all turns of the chain.
 #[test]
-fn a_serving_thread_takes_all_turns(rt: HostRuntime) {
-    let chain = helped_chain(rt, rt.alloc());
-    assert!(rt; passes(&rt, chain));
+fn a_serving_thread_takes_all_turns(rt: HostRuntime) -> Result<(), Fail> {
+    let chain = helped_chain(rt, rt.alloc()).ok_or("a chain")?;
+    assert!(rt; passes(&rt, &chain));
+    chain.front.end(&rt);
+    Ok(())
 }
 
 // Whether updates and reads pass down the chain and back, at each server.
-fn passes<R: Threads + Net<Listener = TcpListener, Stream = TcpStream>>(
-    rt: &R,
-    chain: Option<HelpedChain>,
-) -> bool {
-    let Some(HelpedChain { ports, front }) = chain else {
-        return false;
-    };
-    let passed = ports.iter().all(|port| passes_at(rt, *port));
-    if passed {
-        front.end(rt);
-    }
-    passed
+fn passes<R: Net<Listener = TcpListener, Stream = TcpStream>>(rt: &R, chain: &HelpedChain) -> bool {
+    chain.ports.iter().all(|port| answers_at(rt, *port))
 }
 
-fn passes_at<R: Net<Listener = TcpListener, Stream = TcpStream>>(rt: &R, port: u16) -> bool {
-    let Some(mut stream) = client(rt, port) else {
+fn answers_at<R: Net<Listener = TcpListener, Stream = TcpStream>>(rt: &R, port: u16) -> bool {
+    let Ok(mut stream) = client(rt, port) else {
         return false;
     };
     answers(&mut stream, b"set a 0 0 1\r\n1\r\n", b"STORED\r\n")
@@ -63,31 +54,16 @@ fn helped_chain<
         + Send
         + 'static,
 >(rt: R, alloc: Global) -> Option<HelpedChain> {
-    let (desks, polls) = shared_desks(&rt, alloc)?;
+    let (desks, polls) = open_desks(&rt, alloc, 1).ok()?;
+    let desks = Arc::new(alloc, desks).ok()?;
     let (hall, sides) = three_sides(rt, alloc, &desks)?;
-    let gates = all_gates(&rt, alloc, sides);
-    serve(rt, alloc, hall, &desks, polls, gates)
-}
-
-// Serves the clients of these gates, and takes the turns of these stations.
-fn serve<
-    R: Wait + Threads + Clock + Net + Copy + Drop + Send + 'static,
-    T: Stations + Send + Sync + Drop + 'static,
->(
-    rt: R,
-    alloc: Global,
-    stations: T,
-    desks: &Arc<Desks, Global>,
-    polls: Vec<Poll>,
-    gates: Option<(Vec<u16>, Vec<Gate>)>,
-) -> Option<HelpedChain> {
-    let (ports, gates) = gates?;
-    let stations = Arc::new(alloc, stations).ok()?;
+    let hall = Arc::new(alloc, hall).ok()?;
+    let (ports, gates) = all_gates(&rt, alloc, sides)?;
     let settings = FrontSettings {
         connections: 1,
         serves: 1,
     };
-    let front = open_front(rt, alloc, settings, &stations, desks, polls, gates).ok()?;
+    let front = open_front(rt, alloc, settings, &hall, &desks, polls, gates).ok()?;
     Some(HelpedChain { ports, front })
 }
 

@@ -1,19 +1,20 @@
 //! Servers of a chain that speak over sockets, and a master that tells them of a failure.
 
-use super::clients::{answers_at, client, says};
+use super::clients::{answers, client, says};
 use super::running::some_port;
 use command_line::{Hosts, MasterNumbers, ServerNumbers};
 use ends::{TrackedReader, TrackedWriter};
 use masters::{MasterSettings, ServerSettings, master};
 use runtime::{server, warn_of};
-use std::alloc::Global;
-use std::io::{PipeReader, PipeWriter, Read, Write, pipe};
+use std::alloc::{AllocError, Global};
+use std::io::{PipeReader, Read, Write, pipe};
 use std::net::{Ipv4Addr, Net, SocketAddr, SocketAddrV4, TcpListener, TcpStream};
 use std::rt::Files;
 use std::sync::Wait;
-use std::thread;
+use std::test::Fail;
 use std::thread::Threads;
 use std::time::Clock;
+use std::{io, thread};
 
 // How many servers the chain has.
 const SERVERS: u8 = 3;
@@ -43,84 +44,64 @@ struct Middle {
 // A set that waits for a silent server is committed once the others were told that it has failed. Servers 0 and 2 go on
 // when the test ends.
 #[test]
-fn set_waits_for_the_master(rt: HostRuntime) {
-    let broken = ready(rt, rt.alloc());
-    assert!(rt; waits_for_the_master(&rt, rt.alloc(), broken));
+fn set_waits_for_the_master(rt: HostRuntime) -> Result<(), Fail> {
+    let alloc = rt.alloc();
+    let broken = ready(rt, alloc).ok_or("two servers")?;
+    assert!(rt; waits_for_the_master(&rt, alloc, &broken)?);
+    drop(broken);
+    Ok(())
 }
 
 fn waits_for_the_master<
     R: Wait + Threads + Clock + Net<Listener = TcpListener, Stream = TcpStream> + Files + Sync,
->(rt: &R, alloc: Global, broken: Option<Broken>) -> bool {
-    let Some(broken) = broken else {
-        return false;
-    };
-    let stored = stores(rt, alloc, broken.port, broken.peer_port);
-    drop(broken);
-    stored
-}
-
-// Whether a set waits until the master tells of the failure.
-fn stores<
-    R: Wait + Threads + Clock + Net<Listener = TcpListener, Stream = TcpStream> + Files + Sync,
->(rt: &R, alloc: Global, port: u16, peer_port: u16) -> bool {
-    let Some(mut first) = client(rt, port) else {
-        return false;
-    };
-    let sent = first.write_all(b"set a 0 0 1\r\n1\r\n").is_ok();
-    let waits = finds_none(rt, port.wrapping_add(2));
-    let told = tells(rt, alloc, peer_port);
-    sent && waits && told && says(&mut first, b"STORED\r\n")
+>(rt: &R, alloc: Global, broken: &Broken) -> Result<bool, Fail> {
+    let mut first = client(rt, broken.port)?;
+    first.write_all(b"set a 0 0 1\r\n1\r\n")?;
+    let waits = finds_none(rt, broken.port.wrapping_add(2));
+    let told = tells(rt, alloc, broken.peer_port)?;
+    Ok(waits && told && says(&mut first, b"STORED\r\n"))
 }
 
 // Whether a client of the server at this port finds no item.
 fn finds_none<R: Net<Listener = TcpListener, Stream = TcpStream>>(rt: &R, port: u16) -> bool {
-    answers_at(rt, port, b"get a\r\n", b"END\r\n")
+    match client(rt, port) {
+        Ok(mut stream) => answers(&mut stream, b"get a\r\n", b"END\r\n"),
+        Err(_) => false,
+    }
 }
 
 // Whether a master that reads `gone 1` tells both others.
 fn tells<
     R: Wait + Threads + Clock + Net<Listener = TcpListener, Stream = TcpStream> + Files + Sync,
->(rt: &R, alloc: Global, peer_port: u16) -> bool {
-    let Some(settings) = master_settings(alloc, peer_port) else {
-        return false;
-    };
-    match notice(rt) {
-        Some(input) => tells_two(rt, alloc, &settings, input),
-        None => false,
-    }
-}
-
-fn tells_two<
-    R: Wait + Threads + Clock + Net<Listener = TcpListener, Stream = TcpStream> + Files + Sync,
->(rt: &R, alloc: Global, settings: &MasterSettings, input: PipeReader) -> bool {
-    let mut input = TrackedReader::new(input);
-    let mut output = TrackedWriter::new(Vec::new(alloc));
-    let mut errors = TrackedWriter::new(Vec::new(alloc));
-    let status = master(rt, alloc, settings, &mut input, &mut output, &mut errors);
-    status == 0 && output.inner.as_slice() == b"gone 1 told 2\n".as_slice()
-}
-
-fn master_settings(alloc: Global, peer_port: u16) -> Option<MasterSettings> {
+>(rt: &R, alloc: Global, peer_port: u16) -> Result<bool, Fail> {
     let numbers = MasterNumbers {
         servers: SERVERS,
         peer_port,
         watch: false,
         beat: 300,
     };
-    MasterSettings::new(alloc, numbers, here(alloc)?).ok()
+    let input = notice(rt)?;
+    let settings = MasterSettings::new(alloc, numbers, here(alloc)?)?;
+    let mut input = TrackedReader::new(input);
+    let mut output = TrackedWriter::new(Vec::new(alloc));
+    let mut errors = TrackedWriter::new(Vec::new(alloc));
+    let status = master(rt, alloc, &settings, &mut input, &mut output, &mut errors);
+    drop(settings);
+    Ok(status == 0 && output.inner.as_slice() == b"gone 1 told 2\n".as_slice())
 }
 
 // An input that says that server 1 is gone, and ends.
-fn notice<R: Files>(rt: &R) -> Option<PipeReader> {
-    let (input, mut lines) = pipe(rt).ok()?;
-    lines.write_all(b"gone 1\n").is_ok().then_some(input)
+fn notice<R: Files>(rt: &R) -> io::Result<PipeReader> {
+    let (input, mut lines) = pipe(rt)?;
+    lines.write_all(b"gone 1\n")?;
+    Ok(input)
 }
 
 // This machine alone.
-fn here(alloc: Global) -> Option<Hosts> {
-    let address = String::from_str(alloc, "127.0.0.1").ok()?;
-    let chain = String::from_str(alloc, "craq").ok()?;
-    Some(Hosts {
+fn here(alloc: Global) -> Result<Hosts, AllocError> {
+    let address = String::from_str(alloc, "127.0.0.1")?;
+    let chain = String::from_str(alloc, "craq")?;
+    Ok(Hosts {
         address,
         peers: None,
         chain,
@@ -208,7 +189,7 @@ fn linked<R: Net<Listener = TcpListener, Stream = TcpStream>>(
     rt: &R,
     port: u16,
 ) -> Option<TcpStream> {
-    let mut stream = client(rt, port)?;
+    let mut stream = client(rt, port).ok()?;
     stream.write_all(GREETING).ok()?;
     says(&mut stream, b"\x02\x08").then_some(stream)
 }
@@ -226,13 +207,6 @@ fn start<
         + Send
         + 'static,
 >(rt: R, alloc: Global, id: u8, port: u16, peer_port: u16) -> Option<PipeReader> {
-    let settings = server_settings(alloc, id, port, peer_port)?;
-    let (output, ours) = pipe(&rt).ok()?;
-    let started = thread::spawn(&rt, move || run(rt, alloc, settings, ours));
-    started.is_ok().then_some(output)
-}
-
-fn server_settings(alloc: Global, id: u8, port: u16, peer_port: u16) -> Option<ServerSettings> {
     let numbers = ServerNumbers {
         id,
         servers: SERVERS,
@@ -244,34 +218,26 @@ fn server_settings(alloc: Global, id: u8, port: u16, peer_port: u16) -> Option<S
         memory: None,
         quiet: true,
     };
-    ServerSettings::new(alloc, numbers, here(alloc)?).ok()
-}
-
-// Runs a server, which writes to this output.
-fn run<
-    R: Wait
-        + Threads
-        + Clock
-        + Eprint
-        + Net<Listener = TcpListener, Stream = TcpStream>
-        + Copy
-        + Drop
-        + Send
-        + 'static,
->(rt: R, alloc: Global, settings: ServerSettings, output: PipeWriter) -> u8 {
-    let mut output = TrackedWriter::new(output);
-    let mut errors = TrackedWriter::new(Vec::new(alloc));
-    server(rt, alloc, &settings, None, &mut output, &mut errors)
+    let (output, ours) = pipe(&rt).ok()?;
+    let settings = ServerSettings::new(alloc, numbers, here(alloc).ok()?).ok()?;
+    let started = thread::spawn(&rt, move || {
+        let mut output = TrackedWriter::new(ours);
+        let mut errors = TrackedWriter::new(Vec::new(alloc));
+        server(rt, alloc, &settings, None, &mut output, &mut errors)
+    });
+    drop(started.ok()?);
+    Some(output)
 }
 
 // Who listens beyond this machine is warned, and who doesn't is not.
 #[test]
-fn warned_beyond_this_machine(rt: HostRuntime) {
+fn warned_beyond_this_machine(rt: HostRuntime) -> Result<(), Fail> {
     let alloc = rt.alloc();
     assert!(rt; warning(alloc, Ipv4Addr::LOCALHOST).is_empty());
     assert!(rt;
         warning(alloc, Ipv4Addr::UNSPECIFIED).starts_with(b"craq: warning: others may connect")
     );
+    Ok(())
 }
 
 fn warning(alloc: Global, address: Ipv4Addr) -> Vec<u8> {

@@ -5,13 +5,13 @@ use command_line::Numbers;
 use ends::{TrackedReader, TrackedWriter};
 use runtime::cluster;
 use std::alloc::Global;
-use std::io::{PipeReader, PipeWriter, pipe};
+use std::io::{Error, ErrorKind, PipeReader, PipeWriter, pipe};
 use std::net::{Net, TcpListener, TcpStream};
 use std::rt::Files;
 use std::sync::Wait;
-use std::thread;
 use std::thread::{JoinHandle, Threads};
 use std::time::Clock;
+use std::{io, thread};
 
 /// A program that runs a chain in a thread of its own, with the other ends of its input and its output.
 #[derive(Drop)]
@@ -46,7 +46,7 @@ pub fn ready<
             memory: None,
             quiet: true,
         };
-        let mut running = start(rt, alloc, numbers)?;
+        let mut running = start(rt, alloc, numbers).ok()?;
         if says(&mut running.output, b"ready\n") {
             return Some((running, port));
         }
@@ -74,15 +74,18 @@ fn start<
         + Drop
         + Send
         + 'static,
->(rt: R, alloc: Global, numbers: Numbers) -> Option<Running> {
-    let (theirs, input) = pipe(&rt).ok()?;
-    let (output, ours) = pipe(&rt).ok()?;
-    let program = thread::spawn(&rt, move || program(rt, alloc, numbers, theirs, ours));
-    Some(Running {
-        input,
-        output,
-        program: program.ok()?,
-    })
+>(rt: R, alloc: Global, numbers: Numbers) -> io::Result<Running> {
+    let (theirs, input) = pipe(&rt)?;
+    let (output, ours) = pipe(&rt)?;
+    let started = thread::spawn(&rt, move || program(rt, alloc, numbers, theirs, ours));
+    match started.ok() {
+        Some(program) => Ok(Running {
+            input,
+            output,
+            program,
+        }),
+        None => Err(Error::from(ErrorKind::OutOfMemory)),
+    }
 }
 
 fn program<
