@@ -48,9 +48,9 @@ HEAD = """\
 # largest process. Measured by runs; 0 is none, or not measured. They order work, and no verdict rests on them.
 """
 # Kinds of work that use one process, whatever they are given.
-NARROW = ("edits",)
+NARROW = ("edits", "tools")
 # Kinds of work that cost what another does: a seed is a check of the crate from nothing.
-LIKE = {"seed": "proof"}
+LIKE = {"seed": "proof", "tools": "tests"}
 
 
 class Cost(NamedTuple):

@@ -132,6 +132,7 @@ class Case:
     says: tuple  # what must stand in what the gate prints
     passes: bool = False
     listed: str = "small:\n"  # crates.txt
+    beside: tuple = ()  # the words of a command that runs beside it
 
 
 def crate_of(lib=LIB, edits=None, **more):
@@ -175,6 +176,15 @@ CASES = {
         ),
         ("unread.edit: BAD EDIT", "lost.edit: BAD EDIT", "2 edits refused and 1 not, of 4 files"),
     ),
+    "good crate, with a command beside it": Case(
+        crate_of(), ("said beside it",), passes=True, beside=("sh", "-c", "echo said beside it")
+    ),
+    "command beside it that fails": Case(
+        crate_of(), ("gate: passed", "gate: FAILED: sh -c exit 3 ended with status 3"), beside=("sh", "-c", "exit 3")
+    ),
+    "unproved body, and a command beside it": Case(
+        with_lib("    one + 1", "    one + 2"), ("small NOT PROVED", "so there is nothing to try"), beside=("echo", "tried")
+    ),
     "unproved body": Case(with_lib("    one + 1", "    one + 2"), ("small NOT PROVED",)),
     "test that fails": Case(with_tests(TESTS.replace("one_more(1), 2", "one_more(1), 3")), ("its tests FAILED",)),
     "text that is not laid out": Case(with_lib("    one + 1", "    one  +  1"), ("run rt fmt",)),
@@ -195,7 +205,8 @@ def run_gate(case):
             with open(file, "w", encoding="utf-8") as it:
                 it.write(text)
         how = {"stdout": subprocess.PIPE, "stderr": subprocess.STDOUT, "stdin": subprocess.DEVNULL}
-        ran = subprocess.run([sys.executable, GATE, "--anew"], cwd=room, errors="replace", **how)
+        words = ["--beside", *case.beside] if case.beside else []
+        ran = subprocess.run([sys.executable, GATE, "--anew", *words], cwd=room, errors="replace", **how)
     last = "gate: passed" if case.passes else ("gate: FAILED", "0 passed, 1 failed")
     ends_well = all(it in ran.stdout for it in case.says) and any(it.startswith(last) for it in ran.stdout.split("\n")[-3:])
     return (ran.returncode == 0) == case.passes and ends_well, ran.stdout
