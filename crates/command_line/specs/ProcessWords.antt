@@ -5,7 +5,7 @@ use Rattle.clap.specs.declared.builder.command.Command.{Command}
 use Rattle.clap.specs.declared.builder.value_parser.ValueParser.TheVariants.{Signed}
 use Rattle.command_line.specs.ClusterWords.{port_rule, servers_rule, with_serving}
 use Rattle.command_line.specs.Options.{GivesFlag, GivesNumber, GivesNumberIfAny, ReadsAs}
-use Rattle.command_line.specs.Options.{flag_rule, number_or_rule, required_rule, text_rule}
+use Rattle.command_line.specs.Options.{flag_rule, number_or_rule, number_rule, required_rule, text_rule}
 use Rattle.command_line.specs.declared.processes.Hosts.{Hosts}
 use Rattle.command_line.specs.declared.processes.MasterNumbers.{MasterNumbers}
 use Rattle.command_line.specs.declared.processes.ServerNumbers.{ServerNumbers}
@@ -17,12 +17,19 @@ id_rule = required_rule (codes "id") (Signed (pos 0) (pos 15))
 abbrev pub peer_port_rule : Rule
 peer_port_rule = required_rule (codes "peer-port") (Signed (pos 1) (pos 65520))
 
--- `--watch` and `--beat MS`
+-- `--lease SECONDS`
+abbrev pub lease_rule : Rule
+lease_rule = number_rule (codes "lease") (Signed (pos 1) (pos 3600))
+
+-- `--watch`, `--beat MS` and `--after MS`
 abbrev pub watch_rule : Rule
 watch_rule = flag_rule (codes "watch")
 
 abbrev pub beat_rule : Rule
 beat_rule = number_or_rule (codes "beat") (Signed (pos 1) (pos 3600000)) (codes "300")
+
+abbrev pub after_rule : Rule
+after_rule = number_or_rule (codes "after") (Signed (pos 2) (pos 3600000)) (codes "3000")
 
 -- `--address A`, `--peers A0,A1,..` and `--chain NAME`
 abbrev pub address_rule : Rule
@@ -47,13 +54,13 @@ abbrev pub server_app : App
 server_app =
     let chain = with_rule (with_rule (new_app (codes "server")) id_rule) servers_rule in
     let listening = with_rule (with_rule chain port_rule) peer_port_rule in
-    with_hosts (with_serving listening)
+    with_hosts (with_serving (with_rule listening lease_rule))
 
 -- `master` with its options
 abbrev pub master_app : App
 master_app =
     let chain = with_rule (with_rule (new_app (codes "master")) servers_rule) peer_port_rule in
-    with_hosts (with_rule (with_rule chain watch_rule) beat_rule)
+    with_hosts (with_rule (with_rule (with_rule chain watch_rule) beat_rule) after_rule)
 
 -- the command that was found is `server`, with these numbers
 pub record NamesServer (found : Option (Text × List Row)) (numbers : ServerNumbers) : Type 0 where
@@ -67,6 +74,7 @@ pub record NamesServer (found : Option (Text × List Row)) (numbers : ServerNumb
   pub threads : GivesNumberIfAny 1 16 (codes "threads") rows numbers.threads
   pub connections : GivesNumber 1 65536 (codes "connections") rows numbers.connections
   pub memory : GivesNumberIfAny 1 1048576 (codes "memory") rows numbers.memory
+  pub lease : GivesNumberIfAny 1 3600 (codes "lease") rows numbers.lease
   pub quiet : GivesFlag (codes "quiet") rows numbers.quiet
 
 -- the command that was found is `master`, with these numbers
@@ -77,6 +85,7 @@ pub record NamesMaster (found : Option (Text × List Row)) (numbers : MasterNumb
   pub peer_port : GivesNumber 1 65520 (codes "peer-port") rows numbers.peer_port
   pub watch : GivesFlag (codes "watch") rows numbers.watch
   pub beat : GivesNumber 1 3600000 (codes "beat") rows numbers.beat
+  pub after : GivesNumber 2 3600000 (codes "after") rows numbers.after
 
 -- the command that was found has this name, and these hosts with the chain's name
 pub record NamesHosts (name : List ℕ) (found : Option (Text × List Row)) (hosts : Hosts) : Type 0 where

@@ -3,8 +3,9 @@ ghost use Rattle.std.specs.Prelude.{◌≡◌, IfOk, IfSome, None};
 ghost use Rattle.clap.specs.Words.{subcommand_rows_of};
 ghost use Rattle.command_line.specs.Options.{HasRule, ReadsAs};
 ghost use Rattle.command_line.specs.ProcessWords.{AddsHosts, NamesHosts, NamesMaster, NamesServer};
-ghost use Rattle.command_line.specs.ProcessWords.{address_rule, beat_rule, chain_rule, id_rule, peer_port_rule};
-ghost use Rattle.command_line.specs.ProcessWords.{master_app, peers_rule, server_app, watch_rule};
+ghost use Rattle.command_line.specs.ProcessWords.{address_rule, after_rule, beat_rule, chain_rule, id_rule};
+ghost use Rattle.command_line.specs.ProcessWords.{lease_rule, master_app, peer_port_rule, peers_rule, server_app};
+ghost use Rattle.command_line.specs.ProcessWords.{watch_rule};
 ghost use Rattle.command_line.specs.declared.processes.Hosts.{Hosts};
 ghost use Rattle.command_line.specs.declared.processes.MasterNumbers.{MasterNumbers};
 ghost use Rattle.command_line.specs.declared.processes.ServerNumbers.{ServerNumbers};
@@ -33,6 +34,7 @@ pub fn server_numbers<'a>(matches: &ArgMatches<'a>) -> Option<ServerNumbers>
     let threads = number_if_any(given, "threads", 1, 16)?;
     let connections = middle_number(given, "connections", 1, 65_536)?;
     let memory = number_if_any(given, "memory", 1, 1_048_576)?;
+    let lease = number_if_any(given, "lease", 1, 3_600)?;
     let quiet = flag_given(given, "quiet");
     Some(ServerNumbers {
         id,
@@ -43,6 +45,7 @@ pub fn server_numbers<'a>(matches: &ArgMatches<'a>) -> Option<ServerNumbers>
         threads,
         connections,
         memory,
+        lease,
         quiet,
     })
 }
@@ -58,11 +61,13 @@ pub fn master_numbers<'a>(matches: &ArgMatches<'a>) -> Option<MasterNumbers>
     let peer_port = port_number(given, "peer-port", 65520)?;
     let watch = flag_given(given, "watch");
     let beat = middle_number(given, "beat", 1, 3_600_000)?;
+    let after = middle_number(given, "after", 2, 3_600_000)?;
     Some(MasterNumbers {
         servers,
         peer_port,
         watch,
         beat,
+        after,
     })
 }
 
@@ -104,7 +109,8 @@ pub fn server_parser<'a>(alloc: Global) -> Result<Parser<'a>, AllocError>
     let servers = and_option(id, servers_option(alloc));
     let port = and_option(servers, port_option(alloc));
     let listening = and_option(port, peer_port_option(alloc));
-    let serving = with_serving(alloc, listening?)?;
+    let leased = and_option(listening, lease_option(alloc));
+    let serving = with_serving(alloc, leased?)?;
     with_hosts(alloc, serving)
 }
 
@@ -119,7 +125,8 @@ pub fn master_parser<'a>(alloc: Global) -> Result<Parser<'a>, AllocError>
     let peer_port = and_option(servers, peer_port_option(alloc));
     let watch = and_option(peer_port, watch_option(alloc));
     let beat = and_option(watch, beat_option(alloc));
-    with_hosts(alloc, beat?)
+    let after = and_option(beat, after_option(alloc));
+    with_hosts(alloc, after?)
 }
 
 // The parser with the options that say where servers are, and of which chain.
@@ -148,19 +155,36 @@ fn peer_port_option<'a>(alloc: Global) -> Arg<'a>
     number_option(alloc, "peer-port", "Q", help, numbers).required(true)
 }
 
+fn lease_option<'a>(alloc: Global) -> Arg<'a>
+    ensures { HasRule lease_rule result }
+{
+    let help = "How long its lease runs; without one it is never called gone for its silence alone";
+    let numbers = value_parser!(u32).range(1..=3_600);
+    number_option(alloc, "lease", "SECONDS", help, numbers)
+}
+
 fn watch_option<'a>(alloc: Global) -> Arg<'a>
     ensures { HasRule watch_rule result }
 {
-    let help = "Watches the servers, and tells by itself that one is gone whose process has ended";
+    let help = "Watches the servers, prolongs leases, and tells by itself which server is gone";
     flag_option(alloc, "watch", help)
 }
 
 fn beat_option<'a>(alloc: Global) -> Arg<'a>
     ensures { HasRule beat_rule result }
 {
-    let help = "With --watch: how many milliseconds lie between two looks at a server";
+    let help = "With --watch: how many milliseconds lie between two beats to a server";
     let numbers = value_parser!(u32).range(1..=3_600_000);
     number_option(alloc, "beat", "MS", help, numbers).default_value("300")
+}
+
+fn after_option<'a>(alloc: Global) -> Arg<'a>
+    ensures { HasRule after_rule result }
+{
+    let help =
+        "With --watch: how many milliseconds a server with a lease may be silent; more than a beat";
+    let numbers = value_parser!(u32).range(2..=3_600_000);
+    number_option(alloc, "after", "MS", help, numbers).default_value("3000")
 }
 
 fn address_option<'a>(alloc: Global) -> Arg<'a>

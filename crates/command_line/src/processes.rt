@@ -19,6 +19,8 @@ pub struct ServerNumbers {
     pub connections: u32,
     /// How many MiB its items may take, by its own estimate: 1 to 1,048,576; None: no limit.
     pub memory: Option<u32>,
+    /// For how many seconds its lease runs: 1 to 3,600; None: it has no lease, and isn't called gone for its silence.
+    pub lease: Option<u32>,
     /// Whether the line at the start is left out.
     pub quiet: bool,
 }
@@ -30,10 +32,13 @@ pub struct MasterNumbers {
     pub servers: u8,
     /// The port of server 0 for other servers and the master; server i listens on the i-th after it.
     pub peer_port: u16,
-    /// Whether it watches the servers, and tells by itself that one is gone whose process has ended.
+    /// Whether it watches the servers, and tells by itself that one is gone: its process has ended, or it was silent
+    /// until its lease was over.
     pub watch: bool,
-    /// How many milliseconds lie between two looks at a server that it watches: 1 to 3,600,000.
+    /// How many milliseconds lie between two beats to a server that it watches: 1 to 3,600,000.
     pub beat: u32,
+    /// For how many milliseconds a server that it watches, and that has a lease, may be silent: 2 to 3,600,000.
+    pub after: u32,
 }
 
 /// Where the servers of a chain are, and its name.

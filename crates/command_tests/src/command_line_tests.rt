@@ -76,7 +76,7 @@ fn is_refused(alloc: Global, line: &str, front: &str, part: &str) -> bool {
     refused
 }
 
-// Lines that are refused, by their place. There are 13.
+// Lines that are refused, by their place. There are 15.
 fn other_words(place: usize) -> &'static str {
     match place {
         0 => "craq",
@@ -91,13 +91,15 @@ fn other_words(place: usize) -> &'static str {
         9 => "craq|cluster|--port|4000",
         10 => "craq|master|--servers|3",
         11 => "craq|cluster|--servers=3|--port=4000|--chain=a",
+        12 => "craq|cluster|--servers=3|--port=4000|--lease=5",
+        13 => "craq|master|--servers=3|--peer-port=4000|--lease=5",
         _ => "craq|master|--servers=3|--peer-port=4000|--quiet",
     }
 }
 
 #[test]
 fn other_words_are_refused(rt: HostRuntime) -> Result<(), Fail> {
-    for place in 0..13 {
+    for place in 0..15 {
         assert!(rt;
             is_refused(rt.alloc(), other_words(place), "", "Usage: craq"),
             "line {place}"
@@ -106,7 +108,7 @@ fn other_words_are_refused(rt: HostRuntime) -> Result<(), Fail> {
     Ok(())
 }
 
-// Lines with a number out of its range, by their place. There are 7.
+// Lines with a number out of its range, by their place. There are 11.
 fn numbers_out_of_range(place: usize) -> &'static str {
     match place {
         0 => "craq|cluster|--servers|17|--port|4000",
@@ -115,13 +117,17 @@ fn numbers_out_of_range(place: usize) -> &'static str {
         3 => "craq|cluster|--servers=3|--port=4000|--threads=17",
         4 => "craq|cluster|--servers=3|--port=4000|--connections=65537",
         5 => "craq|cluster|--servers=3|--port=4000|--memory=0",
-        _ => "craq|cluster|--servers=3|--port=4000|--memory=1048577",
+        6 => "craq|cluster|--servers=3|--port=4000|--memory=1048577",
+        7 => "craq|server|--id=0|--servers=3|--port=4000|--peer-port=5000|--lease=0",
+        8 => "craq|server|--id=0|--servers=3|--port=4000|--peer-port=5000|--lease=3601",
+        9 => "craq|master|--servers=3|--peer-port=5000|--after=1",
+        _ => "craq|master|--servers=3|--peer-port=5000|--after=3600001",
     }
 }
 
 #[test]
 fn numbers_out_of_range_are_refused(rt: HostRuntime) -> Result<(), Fail> {
-    for place in 0..7 {
+    for place in 0..11 {
         assert!(rt;
             is_refused(
                 rt.alloc(),
@@ -196,7 +202,7 @@ fn asks_for_server(alloc: Global, line: &str, wanted: &ServerNumbers) -> bool {
 #[test]
 fn words_tell_a_server(rt: HostRuntime) -> Result<(), Fail> {
     let line =
-        "craq|server|--id=2|--servers=3|--port=4000|--peer-port|5000|--peers|a,b,c|--connections=9000|--quiet";
+        "craq|server|--id=2|--servers=3|--port=4000|--peer-port|5000|--peers|a,b,c|--connections=9|--lease=5|--quiet";
     let numbers = ServerNumbers {
         id: 2,
         servers: 3,
@@ -204,8 +210,9 @@ fn words_tell_a_server(rt: HostRuntime) -> Result<(), Fail> {
         peer_port: 5000,
         seats: 16,
         threads: None,
-        connections: 9000,
+        connections: 9,
         memory: None,
+        lease: Some(5),
         quiet: true,
     };
     assert!(rt; asks_for_server(rt.alloc(), line, &numbers));
@@ -237,6 +244,17 @@ fn words_tell_a_master(rt: HostRuntime) -> Result<(), Fail> {
         peer_port: 5000,
         watch: true,
         beat: 50,
+        after: 3_000,
+    };
+    assert!(rt; asks_for_master(rt.alloc(), line, &numbers));
+    let line =
+        "craq|master|--peer-port=5000|--address|a|--chain|b|--servers|3|--beat=50|--after|90";
+    let numbers = MasterNumbers {
+        servers: 3,
+        peer_port: 5000,
+        watch: false,
+        beat: 50,
+        after: 90,
     };
     assert!(rt; asks_for_master(rt.alloc(), line, &numbers));
     Ok(())

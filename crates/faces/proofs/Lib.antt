@@ -5,3 +5,4 @@ pub mod Weighing
 pub mod Posting
 pub mod Stepping
 pub mod Looks
+pub mod Seeing

@@ -7,4 +7,6 @@ mod client_tests;
 #[cfg(test)]
 mod front_tests;
 #[cfg(test)]
+mod served;
+#[cfg(test)]
 mod servers;

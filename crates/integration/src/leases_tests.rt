@@ -1,14 +1,23 @@
 //! A lease of two seconds, and a watch over it.
 
+use crate::making::{Fault, all_hold, all_true};
 use leases::{
     Answer, AnyEnd, Claim, Deed, Due, Lease, Order, Paces, Report, Roll, SECOND, SharedLease, Term,
     Ward, Warden, Watch, nanoseconds_of, next_reign,
 };
 use std::alloc::Global;
+use std::test::Fail;
 use std::time::Duration;
 
 fn two_seconds() -> Option<Term> {
     Term::of_seconds(2)
+}
+
+fn wait_of(term: Option<Term>) -> Option<u64> {
+    match term {
+        Some(term) => Some(term.wait()),
+        None => None,
+    }
 }
 
 fn is_kept_up(term: Option<Term>) -> bool {
@@ -61,54 +70,61 @@ fn due_after_refusal() -> Deed {
 }
 
 #[test]
-fn terms_are_from_one_second_to_an_hour(rt: HostRuntime) {
-    assert!(rt; Term::of_seconds(0).is_none());
-    assert!(rt; Term::of_seconds(3_600).is_some());
-    assert!(rt; Term::of_seconds(3_601).is_none());
-    assert!(rt; Term::of_nanoseconds(2 * SECOND) == two_seconds());
-    assert!(rt; Term::of_nanoseconds(SECOND - 1).is_none());
-    // Eleven tenths of 2.01 s, and one.
-    assert!(rt; two_seconds().map(|term| term.wait()) == Some(2_211_000_001));
+fn terms_are_from_one_second_to_an_hour() -> Result<(), Fail> {
+    all_true(&[
+        Term::of_seconds(0).is_none(),
+        Term::of_seconds(3_600).is_some(),
+        Term::of_seconds(3_601).is_none(),
+        Term::of_nanoseconds(2 * SECOND) == two_seconds(),
+        Term::of_nanoseconds(SECOND - 1).is_none(),
+        // Eleven tenths of 2.01 s, and one.
+        wait_of(two_seconds()) == Some(2_211_000_001),
+    ])
 }
 
 #[test]
-fn paces_are_in_order(rt: HostRuntime) {
-    assert!(rt; Paces::of_milliseconds(300, 300).is_none());
-    assert!(rt; Paces::of_milliseconds(300, 3_000) == Some(Paces::usual()));
-    assert!(rt; is_kept_up(two_seconds()));
+fn paces_are_in_order() -> Result<(), Fail> {
+    all_true(&[
+        Paces::of_milliseconds(300, 300).is_none(),
+        Paces::of_milliseconds(300, 3_000) == Some(Paces::usual()),
+        is_kept_up(two_seconds()),
+    ])
 }
 
 #[test]
-fn a_lease_runs_from_the_stamp(rt: HostRuntime) {
+fn a_lease_runs_from_the_stamp() -> Result<(), Fail> {
     let lease = beaten(SECOND, 9 * SECOND);
-    assert!(rt; lease.is_held(2_999_999_999));
-    assert!(rt; !lease.is_held(3 * SECOND));
-    assert!(rt; Lease::new(None).is_held(SECOND));
+    all_true(&[
+        lease.is_held(2_999_999_999),
+        !lease.is_held(3 * SECOND),
+        Lease::new(None).is_held(SECOND),
+    ])
 }
 
 #[test]
-fn a_server_is_in_its_latest_reign(rt: HostRuntime) {
+fn a_server_is_in_its_latest_reign() -> Result<(), Fail> {
     let mut lease = beaten(SECOND, SECOND);
-    assert!(rt; !lease.enter(6));
-    assert!(rt; lease.is_of(7));
+    let (enters, is_of) = (lease.enter(6), lease.is_of(7));
     lease.beat(6, 2 * SECOND, 2 * SECOND);
-    assert!(rt; !lease.is_held(3 * SECOND));
+    let is_held = lease.is_held(3 * SECOND);
     lease.learn(4, 2 * SECOND);
     lease.learn(1, 3 * SECOND);
-    assert!(rt; lease.known() == 4);
+    all_true(&[!enters, is_of, !is_held, lease.known() == 4])
 }
 
 #[test]
-fn a_watch_beats_and_then_tells(rt: HostRuntime) {
-    assert!(rt; first_due(1_200_000_000) == Deed::Wait(100_000_000));
-    assert!(rt; first_due(1_300_000_000) == Deed::Beat(Some(5)));
-    assert!(rt; due_then(4_000_000_000) == Deed::TellServer);
-    // A master that is late itself sends a beat first.
-    assert!(rt; first_due(4_000_000_000) == Deed::Beat(Some(5)));
-    assert!(rt; due_then(5_000_000_000) == Deed::Beat(Some(5)));
-    assert!(rt; due_later(3_211_000_000) == Deed::Wait(1));
-    assert!(rt; due_later(3_211_000_001) == Deed::TellSilent);
-    assert!(rt; due_after_refusal() == Deed::TellGone);
+fn a_watch_beats_and_then_tells() -> Result<(), Fail> {
+    all_true(&[
+        first_due(1_200_000_000) == Deed::Wait(100_000_000),
+        first_due(1_300_000_000) == Deed::Beat(Some(5)),
+        due_then(4_000_000_000) == Deed::TellServer,
+        // A master that is late itself sends a beat first.
+        first_due(4_000_000_000) == Deed::Beat(Some(5)),
+        due_then(5_000_000_000) == Deed::Beat(Some(5)),
+        due_later(3_211_000_000) == Deed::Wait(1),
+        due_later(3_211_000_001) == Deed::TellSilent,
+        due_after_refusal() == Deed::TellGone,
+    ])
 }
 
 // The reign that a server tells after an order, and whether its lease holds then. It is in reign 7, and was prolonged
@@ -131,15 +147,17 @@ fn noted_after(order: Order) -> Option<u8> {
 }
 
 #[test]
-fn a_server_hears_orders(rt: HostRuntime) {
-    assert!(rt; told_after(Order::Reign(6), SECOND) == Some((7, true)));
-    assert!(rt; told_after(Order::Reign(8), SECOND) == Some((8, true)));
-    assert!(rt; told_after(Order::Beat(7, None), 3 * SECOND) == Some((7, false)));
-    assert!(rt; told_after(Order::Beat(7, Some(2 * SECOND)), 3 * SECOND) == Some((7, true)));
-    assert!(rt; told_after(Order::Beat(6, Some(2 * SECOND)), 3 * SECOND) == Some((7, false)));
-    assert!(rt; noted_after(Order::Silent(7, 2)) == Some(2));
-    assert!(rt; noted_after(Order::Silent(6, 2)).is_none());
-    assert!(rt; noted_after(Order::Gone(2)) == Some(2));
+fn a_server_hears_orders() -> Result<(), Fail> {
+    all_true(&[
+        told_after(Order::Reign(6), SECOND) == Some((7, true)),
+        told_after(Order::Reign(8), SECOND) == Some((8, true)),
+        told_after(Order::Beat(7, None), 3 * SECOND) == Some((7, false)),
+        told_after(Order::Beat(7, Some(2 * SECOND)), 3 * SECOND) == Some((7, true)),
+        told_after(Order::Beat(6, Some(2 * SECOND)), 3 * SECOND) == Some((7, false)),
+        noted_after(Order::Silent(7, 2)) == Some(2),
+        noted_after(Order::Silent(6, 2)).is_none(),
+        noted_after(Order::Gone(2)) == Some(2),
+    ])
 }
 
 // The other threads of the server of this lease.
@@ -150,16 +168,18 @@ fn shared(term: Option<Term>, lease: &Lease) -> SharedLease<AnyEnd> {
 }
 
 #[test]
-fn other_threads_ask(rt: HostRuntime) {
+fn other_threads_ask() -> Result<(), Fail> {
     let timed = shared(two_seconds(), &beaten(SECOND, SECOND));
-    assert!(rt; timed.is_timed());
-    assert!(rt; timed.is_held(2_999_999_999));
-    assert!(rt; !timed.is_held(3 * SECOND));
     let untimed = shared(None, &Lease::new(None));
-    assert!(rt; !untimed.is_timed());
-    assert!(rt; untimed.is_held(u64::MAX));
-    assert!(rt; nanoseconds_of(Duration::from_millis(1_500)) == 1_500_000_000);
-    assert!(rt; nanoseconds_of(Duration::MAX) == u64::MAX);
+    all_true(&[
+        timed.is_timed(),
+        timed.is_held(2_999_999_999),
+        !timed.is_held(3 * SECOND),
+        !untimed.is_timed(),
+        untimed.is_held(u64::MAX),
+        nanoseconds_of(Duration::from_millis(1_500)) == 1_500_000_000,
+        nanoseconds_of(Duration::MAX) == u64::MAX,
+    ])
 }
 
 // Whether a reign is whole for server 1 of three, if server 0 entered it and knew these to be gone, and it knew those.
@@ -171,11 +191,13 @@ fn whole_for_one(gone: u16, known: u16) -> bool {
 }
 
 #[test]
-fn a_reign_is_whole_or_not(rt: HostRuntime) {
-    assert!(rt; !whole_for_one(0, 0));
-    assert!(rt; whole_for_one(0, 0b100));
-    assert!(rt; whole_for_one(0b100, 0b100));
-    assert!(rt; !whole_for_one(0b010, 0b100));
+fn a_reign_is_whole_or_not() -> Result<(), Fail> {
+    all_true(&[
+        !whole_for_one(0, 0),
+        whole_for_one(0, 0b100),
+        whole_for_one(0b100, 0b100),
+        !whole_for_one(0b010, 0b100),
+    ])
 }
 
 // A master of name 3 that started at 1 s, and then heard of reign 9 of another, and of a lease that ends at 5 s.
@@ -199,20 +221,24 @@ fn claimed(met: bool, now: u64) -> Option<u64> {
 }
 
 #[test]
-fn a_master_takes_a_reign(rt: HostRuntime) {
-    assert!(rt; claimed(true, 2 * SECOND) == Some(0x1_0000_0003));
-    assert!(rt; claimed(false, 4 * SECOND).is_none());
-    assert!(rt; claimed(false, 5 * SECOND) == Some(0x1_0000_0003));
-    assert!(rt; !followed().is_reigning());
-    assert!(rt; followed().reign() == 0);
+fn a_master_takes_a_reign() -> Result<(), Fail> {
+    all_true(&[
+        claimed(true, 2 * SECOND) == Some(0x1_0000_0003),
+        claimed(false, 4 * SECOND).is_none(),
+        claimed(false, 5 * SECOND) == Some(0x1_0000_0003),
+        !followed().is_reigning(),
+        followed().reign() == 0,
+    ])
 }
 
 #[test]
-fn reigns_end_in_the_masters_name(rt: HostRuntime) {
-    assert!(rt; next_reign(0, 3) == Some(3));
-    assert!(rt; next_reign(3, 3) == Some(0x1_0000_0003));
-    assert!(rt; next_reign(0x1_0000_0003, 2) == Some(0x2_0000_0002));
-    assert!(rt; next_reign(0xffff_ffff_ffff_fffe, 3).is_none());
+fn reigns_end_in_the_masters_name() -> Result<(), Fail> {
+    all_true(&[
+        next_reign(0, 3) == Some(3),
+        next_reign(3, 3) == Some(0x1_0000_0003),
+        next_reign(0x1_0000_0003, 2) == Some(0x2_0000_0002),
+        next_reign(0xffff_ffff_ffff_fffe, 3).is_none(),
+    ])
 }
 
 // What server 1 of three tells in a reign, at 2 s of its clock, if it knows these to be gone.
@@ -250,53 +276,42 @@ fn due_for_silent(now: u64) -> Due {
 }
 
 #[test]
-fn a_master_watches(rt: HostRuntime) {
-    assert!(rt; greeted().next(SECOND) == Due::Server(Order::Reign(7)));
-    assert!(rt; due_for(7, 0) == Due::Server(Order::Beat(7, Some(2 * SECOND))));
-    assert!(rt; due_for(7, 0b010) == Due::Others(Order::Gone(1)));
-    assert!(rt; due_for(6, 0) == Due::Server(Order::Reign(7)));
+fn a_master_watches() -> Result<(), Fail> {
+    all_true(&[
+        greeted().next(SECOND) == Due::Server(Order::Reign(7)),
+        due_for(7, 0) == Due::Server(Order::Beat(7, Some(2 * SECOND))),
+        due_for(7, 0b010) == Due::Others(Order::Gone(1)),
+        due_for(6, 0) == Due::Server(Order::Reign(7)),
+    ])
 }
 
 #[test]
-fn a_master_calls_a_silent_server_gone(rt: HostRuntime) {
-    assert!(rt; due_for_silent(3_211_000_001) == Due::Others(Order::Silent(7, 1)));
-    assert!(rt; due_for_silent(3_211_000_000) == Due::Wait(1));
+fn a_master_calls_a_silent_server_gone() -> Result<(), Fail> {
+    all_true(&[
+        due_for_silent(3_211_000_001) == Due::Others(Order::Silent(7, 1)),
+        due_for_silent(3_211_000_000) == Due::Wait(1),
+    ])
 }
 
-// A master of name 3 in a chain of two servers, which both told in no reign how they are.
-fn of_two(alloc: Global) -> Option<Warden> {
-    let mut warden = Warden::new(alloc, 3, 2, Paces::usual(), SECOND).ok()?;
-    warden.told(0, &report_in(0, 0), SECOND);
-    warden.told(1, &report_in(0, 0), SECOND);
-    Some(warden)
+// What happens to a master of name 3 in a chain of two servers, and what it answers.
+#[derive(Clone, Copy)]
+enum Step {
+    // At 1 s it takes a reign: this one.
+    Claims(u64),
+    // This server told of a reign when the master's clock showed this. Whether the master is followed by another.
+    Told(u8, u64, u64, bool),
+    // Somebody has seen that server 1 does nothing more.
+    Loses,
+    // This is due for server 1 at 1 s.
+    IsDue(Due),
+    // It asks each tenth of a second what is due, from a time until another. Whether it tells one of the servers that
+    // it is gone.
+    Tells(u64, u64, bool),
 }
 
-// The reign that it takes, and what is due for server 1 then.
-fn taken_by_two(alloc: Global) -> Option<(u64, Due)> {
-    let mut warden = of_two(alloc)?;
-    let reign = warden.claim(SECOND)?;
-    Some((reign, warden.next(1, SECOND)))
-}
+// A tenth of a second.
+const TENTH: u64 = 100_000_000;
 
-// What is due for server 1 once server 0 told of this reign, in which the master isn't, or of its own.
-fn due_after(alloc: Global, reign: u64) -> Option<(bool, Due)> {
-    let mut warden = of_two(alloc)?;
-    warden.claim(SECOND)?;
-    let is_followed = warden.told(0, &report_in(reign, 0), SECOND);
-    Some((is_followed, warden.next(1, SECOND)))
-}
-
-// What is due for server 1 once somebody has seen that it does nothing more.
-fn due_for_lost(alloc: Global) -> Option<Due> {
-    let mut warden = of_two(alloc)?;
-    warden.lose(1);
-    Some(warden.next(1, SECOND))
-}
-
-/// A tenth of a second.
-const STEP: u64 = 100_000_000;
-
-// Whether one of two servers is told that it is gone, if the master asks each tenth of a second what is due.
 fn tells(warden: &mut Warden, from: u64, until: u64) -> bool {
     let mut now = from;
     let mut has_told = false;
@@ -309,52 +324,102 @@ fn tells(warden: &mut Warden, from: u64, until: u64) -> bool {
                 has_told = true;
             }
         }
-        now = now.saturating_add(STEP);
+        now = now.saturating_add(TENTH);
     }
     has_told
 }
 
-// A master of two servers that hears nobody from 1 s to 7 s, and then server 0 alone until 8 s. At 8 s it hears both,
-// and then server 0 alone. Whether it tells one of them that it is gone, in each of these times.
-fn tells_by_turns(alloc: Global) -> Option<(bool, bool, bool)> {
-    let mut warden = of_two(alloc)?;
-    warden.claim(SECOND)?;
-    warden.told(0, &report_in(3, 0), SECOND);
-    warden.told(1, &report_in(3, 0), SECOND);
-    let in_the_cut = tells(&mut warden, SECOND, 7 * SECOND);
-    warden.told(0, &report_in(3, 0), 7 * SECOND);
-    let then = tells(&mut warden, 7 * SECOND, 8 * SECOND);
-    warden.told(0, &report_in(3, 0), 8 * SECOND);
-    warden.told(1, &report_in(3, 0), 8 * SECOND);
-    tells(&mut warden, 8 * SECOND, 9 * SECOND);
-    warden.told(0, &report_in(3, 0), 9 * SECOND);
-    tells(&mut warden, 9 * SECOND, 10 * SECOND);
-    warden.told(0, &report_in(3, 0), 10 * SECOND);
-    let later = tells(&mut warden, 10 * SECOND, 12 * SECOND);
-    Some((in_the_cut, then, later))
+fn goes(warden: &mut Warden, step: Step) -> bool {
+    match step {
+        Step::Claims(reign) => warden.claim(SECOND) == Some(reign),
+        Step::Told(id, reign, now, followed) => {
+            id < 2 && warden.told(id, &report_in(reign, 0), now) == followed
+        }
+        Step::Loses => {
+            warden.lose(1);
+            true
+        }
+        Step::IsDue(due) => warden.next(1, SECOND) == due,
+        Step::Tells(from, until, wanted) => tells(warden, from, until) == wanted,
+    }
 }
 
-// Whether a master of two servers tells the last one that it is gone, if it hears nothing of that from 1 s to 9 s.
-fn tells_the_last(alloc: Global) -> Option<bool> {
-    let mut warden = of_two(alloc)?;
-    warden.claim(SECOND)?;
-    warden.told(0, &report_in(3, 0), SECOND);
-    warden.told(1, &report_in(3, 0), SECOND);
-    warden.lose(1);
-    Some(tells(&mut warden, SECOND, 9 * SECOND))
+// The first step that goes otherwise than it says.
+fn other_step(warden: &mut Warden, steps: &[Step]) -> Option<usize> {
+    let mut place = 0_usize;
+    for step in steps {
+        if !goes(warden, *step) {
+            return Some(place);
+        }
+        place = place.wrapping_add(1);
+    }
+    None
 }
+
+// The same of a master that has just started, and that both servers told in no reign how they are.
+fn other_of_new(alloc: Global, steps: &[Step]) -> Result<Option<usize>, Fault> {
+    let mut warden = Warden::new(alloc, 3, 2, Paces::usual(), SECOND)?;
+    warden.told(0, &report_in(0, 0), SECOND);
+    warden.told(1, &report_in(0, 0), SECOND);
+    let other = other_step(&mut warden, steps);
+    drop(warden);
+    Ok(other)
+}
+
+// It hears nobody from 1 s to 7 s, and then server 0 alone until 8 s. At 8 s it hears both, and then server 0 alone.
+static CUT_OFF: [Step; 13] = [
+    Step::Claims(3),
+    Step::Told(0, 3, SECOND, false),
+    Step::Told(1, 3, SECOND, false),
+    Step::Tells(SECOND, 7 * SECOND, false),
+    Step::Told(0, 3, 7 * SECOND, false),
+    Step::Tells(7 * SECOND, 8 * SECOND, false),
+    Step::Told(0, 3, 8 * SECOND, false),
+    Step::Told(1, 3, 8 * SECOND, false),
+    Step::Tells(8 * SECOND, 9 * SECOND, false),
+    Step::Told(0, 3, 9 * SECOND, false),
+    Step::Tells(9 * SECOND, 10 * SECOND, false),
+    Step::Told(0, 3, 10 * SECOND, false),
+    Step::Tells(10 * SECOND, 12 * SECOND, true),
+];
+
+// It hears nothing of the last server from 1 s to 9 s.
+static LAST: [Step; 5] = [
+    Step::Claims(3),
+    Step::Told(0, 3, SECOND, false),
+    Step::Told(1, 3, SECOND, false),
+    Step::Loses,
+    Step::Tells(SECOND, 9 * SECOND, false),
+];
 
 #[test]
-fn a_master_that_was_cut_off_waits(rt: HostRuntime) {
-    assert!(rt; tells_by_turns(rt.alloc()) == Some((false, false, true)));
-    assert!(rt; tells_the_last(rt.alloc()) == Some(false));
+fn a_master_that_was_cut_off_waits(rt: HostRuntime) -> Result<(), Fail> {
+    all_hold(other_of_new(rt.alloc(), &CUT_OFF))?;
+    all_hold(other_of_new(rt.alloc(), &LAST))
 }
 
+static REIGNS: [Step; 2] = [Step::Claims(3), Step::IsDue(Due::Server(Order::Reign(3)))];
+
+// Server 0 told of the master's own reign.
+static GOES_ON: [Step; 3] = [
+    Step::Claims(3),
+    Step::Told(0, 3, SECOND, false),
+    Step::IsDue(Due::Server(Order::Reign(3))),
+];
+
+// Server 0 told of a later reign, in which the master isn't.
+static IS_FOLLOWED: [Step; 3] = [
+    Step::Claims(3),
+    Step::Told(0, 9, SECOND, true),
+    Step::IsDue(Due::Server(Order::Reign(0))),
+];
+
+static LOSES: [Step; 2] = [Step::Loses, Step::IsDue(Due::Others(Order::Gone(1)))];
+
 #[test]
-fn a_master_decides(rt: HostRuntime) {
-    let alloc = rt.alloc();
-    assert!(rt; taken_by_two(alloc) == Some((3, Due::Server(Order::Reign(3)))));
-    assert!(rt; due_after(alloc, 3) == Some((false, Due::Server(Order::Reign(3)))));
-    assert!(rt; due_after(alloc, 9) == Some((true, Due::Server(Order::Reign(0)))));
-    assert!(rt; due_for_lost(alloc) == Some(Due::Others(Order::Gone(1))));
+fn a_master_decides(rt: HostRuntime) -> Result<(), Fail> {
+    all_hold(other_of_new(rt.alloc(), &REIGNS))?;
+    all_hold(other_of_new(rt.alloc(), &GOES_ON))?;
+    all_hold(other_of_new(rt.alloc(), &IS_FOLLOWED))?;
+    all_hold(other_of_new(rt.alloc(), &LOSES))
 }

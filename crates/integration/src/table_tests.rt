@@ -1,19 +1,13 @@
-use crate::making::{block, holds, key};
+//! Calls of a plain table, and what one operation decides.
+
+use crate::making::{Fault, all_hold, holds, key};
+use bytes::Bytes;
 use std::alloc::Global;
 use std::test::Fail;
 use table::{Change, Item, Key, LIMIT, Op, Reply, Table, Target, decide};
 
-fn item(alloc: Global, flags: u32, data: &[u8], unique: u64) -> Result<Item, Fail> {
-    let bytes = block(alloc, data)?;
-    Ok(Item {
-        flags,
-        bytes,
-        unique,
-    })
-}
-
 // Whether these bytes make a key of the same bytes, or none.
-fn is_key(alloc: Global, bytes: &[u8], wanted: bool) -> Result<bool, Fail> {
+fn is_key(alloc: Global, bytes: &[u8], wanted: bool) -> Result<bool, Fault> {
     match Key::new(alloc, bytes)? {
         Some(key) => Ok(wanted && key.bytes() == bytes),
         None => Ok(!wanted),
@@ -21,245 +15,41 @@ fn is_key(alloc: Global, bytes: &[u8], wanted: bool) -> Result<bool, Fail> {
 }
 
 // Some bytes, and whether they make a key.
-fn key_row(place: usize) -> (&'static [u8], bool) {
-    match place {
-        0 => (b"a", true),
-        1 => (b"", false),
-        2 => (b"a b", false),
-        3 => (b"a\r", false),
-        4 => (b"\x7f", false),
-        _ => (b"\x21\x7e\x80\xff", true),
+static KEYS: [(&[u8], bool); 6] = [
+    (b"a", true),
+    (b"", false),
+    (b"a b", false),
+    (b"a\r", false),
+    (b"\x7f", false),
+    (b"\x21\x7e\x80\xff", true),
+];
+
+// The first of these that isn't as it says.
+fn other_key(alloc: Global, rows: &[(&[u8], bool)]) -> Result<Option<usize>, Fault> {
+    let mut place = 0_usize;
+    for row in rows {
+        let (bytes, wanted) = *row;
+        if !is_key(alloc, bytes, wanted)? {
+            return Ok(Some(place));
+        }
+        place = place.wrapping_add(1);
     }
+    Ok(None)
+}
+
+// Whether a key may have 250 bytes, and not 251.
+fn is_bounded(alloc: Global) -> Result<bool, Fault> {
+    let long = vec![in alloc; b'k'; 251]?;
+    Ok(is_key(alloc, &long[..250], true)? && is_key(alloc, long.as_slice(), false)?)
 }
 
 #[test]
 fn a_key_has_1_to_250_bytes_and_no_blank(rt: HostRuntime) -> Result<(), Fail> {
-    let long = vec![in rt.alloc(); b'k'; 251]?;
-    assert!(rt; is_key(rt.alloc(), &long[..250], true)?);
-    assert!(rt; is_key(rt.alloc(), long.as_slice(), false)?);
-    for place in 0..6 {
-        let (bytes, wanted) = key_row(place);
-        assert!(rt; is_key(rt.alloc(), bytes, wanted)?, "row {place}");
-    }
-    Ok(())
+    holds(is_bounded(rt.alloc()))?;
+    all_hold(other_key(rt.alloc(), &KEYS))
 }
 
-// A set of n bytes.
-fn set_of_size(alloc: Global, size: usize) -> Result<Op, Fail> {
-    let data = vec![in alloc; b'x'; size]?;
-    Ok(Op::Set(0, block(alloc, data.as_slice())?))
-}
-
-fn fits_at(alloc: Global, size: usize) -> Result<bool, Fail> {
-    Ok(fits(set_of_size(alloc, size)?))
-}
-
-fn fits(op: Op) -> bool {
-    let fits = op.fits();
-    drop(op);
-    fits
-}
-
-#[test]
-fn data_may_have_one_mebibyte(rt: HostRuntime) -> Result<(), Fail> {
-    assert!(rt; fits(Op::Read));
-    assert!(rt; fits_at(rt.alloc(), LIMIT)?);
-    assert!(rt; !fits_at(rt.alloc(), LIMIT + 1)?);
-    Ok(())
-}
-
-// What a reply shows of an item: its flags, its data's length and its unique.
-fn shown(reply: &Reply) -> Option<(u32, usize, u64)> {
-    match reply {
-        Reply::Value(Some(item)) => Some((item.flags, item.bytes.len(), item.unique)),
-        _ => None,
-    }
-}
-
-// Which reply comes, without an item.
-#[derive(Clone, Copy, PartialEq)]
-enum Answer {
-    Stored,
-    NotStored,
-    NotFound,
-    Deleted,
-    TooLarge,
-    Nothing,
-    Other,
-}
-
-fn answer_of(reply: &Reply) -> Answer {
-    match reply {
-        Reply::Stored => Answer::Stored,
-        Reply::NotStored => Answer::NotStored,
-        Reply::NotFound => Answer::NotFound,
-        Reply::Deleted => Answer::Deleted,
-        Reply::TooLarge => Answer::TooLarge,
-        Reply::Value(None) => Answer::Nothing,
-        _ => Answer::Other,
-    }
-}
-
-// A call that fits, on the key of these bytes.
-fn call(alloc: Global, table: &mut Table, name: &[u8], op: &Op) -> Result<Reply, Fail> {
-    let target = Target::One(key(alloc, name)?);
-    let reply = asked(table, &target, op);
-    drop(target);
-    reply
-}
-
-// A call that fits and suits.
-fn asked(table: &mut Table, target: &Target, op: &Op) -> Result<Reply, Fail> {
-    if !op.fits() || !op.suits(target) {
-        return Err("an operation that fits".into());
-    }
-    Ok(table.call(target, op)?)
-}
-
-fn read(alloc: Global, table: &mut Table, name: &[u8]) -> Result<Reply, Fail> {
-    let op = Op::Read;
-    let reply = call(alloc, table, name, &op);
-    drop(op);
-    reply
-}
-
-// What a read shows of a key.
-fn shown_at(
-    alloc: Global,
-    table: &mut Table,
-    name: &[u8],
-) -> Result<Option<(u32, usize, u64)>, Fail> {
-    let reply = read(alloc, table, name)?;
-    let shown = shown(&reply);
-    drop(reply);
-    Ok(shown)
-}
-
-// Whether an operation on a key is answered so.
-fn answers(
-    alloc: Global,
-    table: &mut Table,
-    name: &[u8],
-    op: &Op,
-    wanted: Answer,
-) -> Result<bool, Fail> {
-    let reply = call(alloc, table, name, op)?;
-    let answer = answer_of(&reply);
-    drop(reply);
-    Ok(answer == wanted)
-}
-
-// The same of an operation that is made for it.
-fn answers_once(alloc: Global, table: &mut Table, op: Op, wanted: Answer) -> Result<bool, Fail> {
-    let answered = answers(alloc, table, b"a", &op, wanted);
-    drop(op);
-    answered
-}
-
-// Whether a read of the key `a` finds no item.
-fn has_nothing(alloc: Global, table: &mut Table) -> Result<bool, Fail> {
-    answers_once(alloc, table, Op::Read, Answer::Nothing)
-}
-
-// Whether a delete of the key `a` is answered so.
-fn deletes(alloc: Global, table: &mut Table, wanted: Answer) -> Result<bool, Fail> {
-    answers_once(alloc, table, Op::Delete, wanted)
-}
-
-// Whether a set with flags 5 and three bytes is stored, and then shown with this unique.
-fn numbers_a_set(
-    alloc: Global,
-    table: &mut Table,
-    name: &[u8],
-    op: &Op,
-    unique: u64,
-) -> Result<bool, Fail> {
-    Ok(
-        answers(alloc, table, name, op, Answer::Stored)?
-            && shown_at(alloc, table, name)? == Some((5, 3, unique)),
-    )
-}
-
-fn numbers_three_sets(alloc: Global, table: &mut Table, op: &Op) -> Result<bool, Fail> {
-    Ok(
-        has_nothing(alloc, table)?
-            && numbers_a_set(alloc, table, b"a", op, 1)?
-            && numbers_a_set(alloc, table, b"b", op, 2)?
-            && numbers_a_set(alloc, table, b"a", op, 3)?,
-    )
-}
-
-fn new_table_numbers_sets(alloc: Global) -> Result<bool, Fail> {
-    let op = Op::Set(5, block(alloc, b"xyz")?);
-    let mut table = Table::new(alloc);
-    let numbered = numbers_three_sets(alloc, &mut table, &op);
-    drop(table);
-    drop(op);
-    numbered
-}
-
-#[test]
-fn a_table_numbers_its_updates(rt: HostRuntime) -> Result<(), Fail> {
-    holds(new_table_numbers_sets(rt.alloc()))
-}
-
-// Whether a set of a key without an item is stored, and puts this item as number 7.
-fn puts(alloc: Global, op: &Op, item: &Item) -> Result<bool, Fail> {
-    let (reply, change) = decided(alloc, op, None, 7)?;
-    let answer = answer_of(&reply);
-    let puts = matches!(&change, Change::Put(put) if put == item);
-    drop(reply);
-    drop(change);
-    Ok(answer == Answer::Stored && puts)
-}
-
-// Whether a read of a key with an item of flags 5, three bytes and unique 7 shows it, and keeps it.
-fn shows(alloc: Global, item: &Item) -> Result<bool, Fail> {
-    let (reply, change) = decided_read(alloc, item)?;
-    let shown = shown(&reply);
-    let keeps = matches!(&change, Change::Keep);
-    drop(reply);
-    drop(change);
-    Ok(shown == Some((5, 3, 7)) && keeps)
-}
-
-fn decided_read(alloc: Global, item: &Item) -> Result<(Reply, Change), Fail> {
-    let op = Op::Read;
-    let decided = decided(alloc, &op, Some(item), 8);
-    drop(op);
-    decided
-}
-
-fn puts_item(alloc: Global, item: &Item) -> Result<bool, Fail> {
-    let op = Op::Set(5, block(alloc, b"xyz")?);
-    let put = puts(alloc, &op, item);
-    drop(op);
-    put
-}
-
-fn puts_and_shows_item(alloc: Global) -> Result<bool, Fail> {
-    let item = item(alloc, 5, b"xyz", 7)?;
-    Ok(puts_item(alloc, &item)? && shows(alloc, &item)?)
-}
-
-#[test]
-fn a_decision_puts_and_shows_an_item(rt: HostRuntime) -> Result<(), Fail> {
-    holds(puts_and_shows_item(rt.alloc()))
-}
-
-fn decided(
-    alloc: Global,
-    op: &Op,
-    item: Option<&Item>,
-    number: u64,
-) -> Result<(Reply, Change), Fail> {
-    if !op.fits() || number == 0 {
-        return Err("an operation that fits".into());
-    }
-    Ok(decide(alloc, item, op, number)?)
-}
-
-// What puts some data at a key.
+// What puts some data at a key, with flags or without.
 #[derive(Clone, Copy)]
 enum Verb {
     Set,
@@ -269,156 +59,345 @@ enum Verb {
     Prepend,
 }
 
-fn op_of(alloc: Global, verb: Verb, flags: u32, data: &[u8]) -> Result<Op, Fail> {
-    let bytes = block(alloc, data)?;
-    Ok(match verb {
+// What is asked.
+#[derive(Clone, Copy)]
+enum Ask {
+    Read,
+    Delete,
+    Flush,
+    Puts(Verb, u32, &'static [u8]),
+    // A set of this many bytes.
+    Sets(usize),
+}
+
+fn put_of(verb: Verb, flags: u32, bytes: Bytes) -> Op {
+    match verb {
         Verb::Set => Op::Set(flags, bytes),
         Verb::Add => Op::Add(flags, bytes),
         Verb::Replace => Op::Replace(flags, bytes),
         Verb::Append => Op::Append(bytes),
         Verb::Prepend => Op::Prepend(bytes),
-    })
-}
-
-// Whether this operation on the key `a` is answered so.
-fn puts_data(
-    alloc: Global,
-    table: &mut Table,
-    verb: Verb,
-    flags: u32,
-    data: &[u8],
-    wanted: Answer,
-) -> Result<bool, Fail> {
-    let op = op_of(alloc, verb, flags, data)?;
-    answers_once(alloc, table, op, wanted)
-}
-
-// What is at a key: flags, data and unique.
-fn holds_item(
-    alloc: Global,
-    table: &mut Table,
-    name: &[u8],
-    flags: u32,
-    data: &[u8],
-    unique: u64,
-) -> Result<bool, Fail> {
-    let reply = read(alloc, table, name)?;
-    let held = is_value(&reply, flags, data, unique);
-    drop(reply);
-    Ok(held)
-}
-
-fn is_value(reply: &Reply, flags: u32, data: &[u8], unique: u64) -> bool {
-    match reply {
-        Reply::Value(Some(item)) => item.flags == flags
-            && item.bytes.as_slice() == data
-            && item.unique == unique,
-        _ => false,
     }
 }
 
-fn adds_and_replaces(alloc: Global, table: &mut Table) -> Result<bool, Fail> {
-    Ok(
-        puts_data(alloc, table, Verb::Replace, 1, b"1", Answer::NotStored)?
-            && puts_data(alloc, table, Verb::Add, 2, b"2", Answer::Stored)?
-            && puts_data(alloc, table, Verb::Add, 3, b"3", Answer::NotStored)?
-            && puts_data(alloc, table, Verb::Replace, 4, b"4", Answer::Stored)?
-            && holds_item(alloc, table, b"a", 4, b"4", 4)?,
-    )
+fn block_of_size(alloc: Global, size: usize) -> Result<Bytes, Fault> {
+    let data = vec![in alloc; b'x'; size]?;
+    Ok(Bytes::copy_from_slice(alloc, data.as_slice())?)
 }
 
-fn new_table_adds_and_replaces(alloc: Global) -> Result<bool, Fail> {
-    let mut table = Table::new(alloc);
-    let passed = adds_and_replaces(alloc, &mut table);
-    drop(table);
-    passed
+fn op_of(alloc: Global, ask: Ask) -> Result<Op, Fault> {
+    match ask {
+        Ask::Read => Ok(Op::Read),
+        Ask::Delete => Ok(Op::Delete),
+        Ask::Flush => Ok(Op::Flush),
+        Ask::Puts(verb, flags, data) => {
+            let bytes = Bytes::copy_from_slice(alloc, data)?;
+            Ok(put_of(verb, flags, bytes))
+        }
+        Ask::Sets(size) => Ok(Op::Set(0, block_of_size(alloc, size)?)),
+    }
 }
 
-#[test]
-fn add_and_replace(rt: HostRuntime) -> Result<(), Fail> {
-    holds(new_table_adds_and_replaces(rt.alloc()))
+// Whether an operation fits, is of one key and not of all of them, and is an update.
+#[derive(Clone, Copy)]
+struct Kind {
+    fits: bool,
+    is_of_one: bool,
+    is_update: bool,
 }
 
-// Whether a set of n bytes is stored.
-fn stores_size(alloc: Global, table: &mut Table, size: usize) -> Result<bool, Fail> {
-    let op = set_of_size(alloc, size)?;
-    answers_once(alloc, table, op, Answer::Stored)
-}
-
-// Whether a byte fits behind an item of a byte less than the limit, and then no byte more.
-fn holds_the_limit(alloc: Global, table: &mut Table) -> Result<bool, Fail> {
-    Ok(
-        stores_size(alloc, table, LIMIT - 1)?
-            && puts_data(alloc, table, Verb::Append, 0, b"y", Answer::Stored)?
-            && puts_data(alloc, table, Verb::Append, 0, b"y", Answer::TooLarge)?
-            && puts_data(alloc, table, Verb::Prepend, 0, b"y", Answer::TooLarge)?
-            && shown_at(alloc, table, b"a")? == Some((0, LIMIT, 2)),
-    )
-}
-
-fn new_table_holds_the_limit(alloc: Global) -> Result<bool, Fail> {
-    let mut table = Table::new(alloc);
-    let passed = holds_the_limit(alloc, &mut table);
-    drop(table);
-    passed
-}
-
-#[test]
-fn an_item_does_not_outgrow_the_limit(rt: HostRuntime) -> Result<(), Fail> {
-    holds(new_table_holds_the_limit(rt.alloc()))
-}
-
-// Whether an item is there once, and gone once it is deleted.
-fn deletes_an_item(alloc: Global, table: &mut Table) -> Result<bool, Fail> {
-    Ok(
-        deletes(alloc, table, Answer::NotFound)?
-            && puts_data(alloc, table, Verb::Set, 0, b"", Answer::Stored)?
-            && deletes(alloc, table, Answer::Deleted)?
-            && has_nothing(alloc, table)?,
-    )
-}
-
-fn deletes_and_sets(alloc: Global, table: &mut Table) -> Result<bool, Fail> {
-    Ok(
-        deletes_an_item(alloc, table)?
-            && puts_data(alloc, table, Verb::Set, 0, b"x", Answer::Stored)?
-            && holds_item(alloc, table, b"a", 0, b"x", 4)?,
-    )
-}
-
-fn new_table_deletes_and_sets(alloc: Global) -> Result<bool, Fail> {
-    let mut table = Table::new(alloc);
-    let passed = deletes_and_sets(alloc, &mut table);
-    drop(table);
-    passed
-}
-
-#[test]
-fn delete(rt: HostRuntime) -> Result<(), Fail> {
-    holds(new_table_deletes_and_sets(rt.alloc()))
-}
-
-// Whether a flush is of all keys, and a delete of one.
-fn flushes_all_deletes_one(one: &Target) -> bool {
+fn is_of_kind(op: &Op, one: &Target, kind: Kind) -> bool {
     let all = Target::All;
-    let (flush, delete) = (Op::Flush, Op::Delete);
-    let suits = flush.suits(&all) && !flush.suits(one) && delete.suits(one) && !delete.suits(&all);
+    let right = op.fits() == kind.fits
+        && op.suits(one) == kind.is_of_one
+        && op.suits(&all) != kind.is_of_one
+        && op.is_update() == kind.is_update;
     drop(all);
-    drop(flush);
-    drop(delete);
-    suits
+    right
 }
 
-fn is_update(op: Op) -> bool {
-    let is_update = op.is_update();
-    drop(op);
-    is_update
+// The first of these that is of another kind.
+fn other_kind(alloc: Global, one: &Target, rows: &[(Ask, Kind)]) -> Result<Option<usize>, Fault> {
+    let mut place = 0_usize;
+    for row in rows {
+        let (ask, kind) = *row;
+        let op = op_of(alloc, ask)?;
+        let right = is_of_kind(&op, one, kind);
+        drop(op);
+        if !right {
+            return Ok(Some(place));
+        }
+        place = place.wrapping_add(1);
+    }
+    Ok(None)
 }
+
+fn other_kind_on_a(alloc: Global, rows: &[(Ask, Kind)]) -> Result<Option<usize>, Fault> {
+    let one = Target::One(key(alloc, b"a")?);
+    let other = other_kind(alloc, &one, rows);
+    drop(one);
+    other
+}
+
+static DATA: [(Ask, Kind); 3] = [
+    (
+        Ask::Read,
+        Kind {
+            fits: true,
+            is_of_one: true,
+            is_update: false,
+        },
+    ),
+    (
+        Ask::Sets(LIMIT),
+        Kind {
+            fits: true,
+            is_of_one: true,
+            is_update: true,
+        },
+    ),
+    (
+        Ask::Sets(LIMIT + 1),
+        Kind {
+            fits: false,
+            is_of_one: true,
+            is_update: true,
+        },
+    ),
+];
+
+#[test]
+fn data_may_have_one_mebibyte(rt: HostRuntime) -> Result<(), Fail> {
+    all_hold(other_kind_on_a(rt.alloc(), &DATA))
+}
+
+static TARGETS: [(Ask, Kind); 2] = [
+    (
+        Ask::Flush,
+        Kind {
+            fits: true,
+            is_of_one: false,
+            is_update: true,
+        },
+    ),
+    (
+        Ask::Delete,
+        Kind {
+            fits: true,
+            is_of_one: true,
+            is_update: true,
+        },
+    ),
+];
 
 #[test]
 fn only_a_flush_is_of_all_keys(rt: HostRuntime) -> Result<(), Fail> {
-    let one = Target::One(key(rt.alloc(), b"a")?);
-    assert!(rt; flushes_all_deletes_one(&one));
-    assert!(rt; is_update(Op::Delete) && !is_update(Op::Read));
-    Ok(())
+    all_hold(other_kind_on_a(rt.alloc(), &TARGETS))
+}
+
+// Which reply comes: of an item its flags, its data and its unique.
+#[derive(Clone, Copy)]
+enum Answer {
+    Stored,
+    NotStored,
+    NotFound,
+    Deleted,
+    TooLarge,
+    Nothing,
+    Item(u32, &'static [u8], u64),
+    // An item without flags, of this many bytes.
+    Large(usize, u64),
+}
+
+fn is_answer(reply: &Reply, wanted: Answer) -> bool {
+    match wanted {
+        Answer::Stored => matches!(reply, Reply::Stored),
+        Answer::NotStored => matches!(reply, Reply::NotStored),
+        Answer::NotFound => matches!(reply, Reply::NotFound),
+        Answer::Deleted => matches!(reply, Reply::Deleted),
+        Answer::TooLarge => matches!(reply, Reply::TooLarge),
+        Answer::Nothing => matches!(reply, Reply::Value(None)),
+        Answer::Item(flags, data, unique) => match reply {
+            Reply::Value(Some(item)) => item.flags == flags
+                && item.bytes.as_slice() == data
+                && item.unique == unique,
+            _ => false,
+        },
+        Answer::Large(size, unique) => match reply {
+            Reply::Value(Some(item)) => item.flags == 0
+                && item.bytes.len() == size
+                && item.unique == unique,
+            _ => false,
+        },
+    }
+}
+
+// What is asked of the key of these bytes, and the answer.
+type Step = (&'static [u8], Ask, Answer);
+
+// Whether a call that fits and suits is answered so.
+fn answers(table: &mut Table, target: &Target, op: &Op, wanted: Answer) -> Result<bool, Fault> {
+    if !op.fits() || !op.suits(target) {
+        return Err(Fault::Refused);
+    }
+    let reply = table.call(target, op)?;
+    let right = is_answer(&reply, wanted);
+    drop(reply);
+    Ok(right)
+}
+
+fn goes(alloc: Global, table: &mut Table, step: Step) -> Result<bool, Fault> {
+    let (name, ask, wanted) = step;
+    let target = Target::One(key(alloc, name)?);
+    match op_of(alloc, ask) {
+        Ok(op) => {
+            let went = answers(table, &target, &op, wanted);
+            drop(op);
+            drop(target);
+            went
+        }
+        Err(fault) => {
+            drop(target);
+            Err(fault)
+        }
+    }
+}
+
+// The first step that goes otherwise than it says.
+fn other_step(alloc: Global, table: &mut Table, steps: &[Step]) -> Result<Option<usize>, Fault> {
+    let mut place = 0_usize;
+    for step in steps {
+        if !goes(alloc, table, *step)? {
+            return Ok(Some(place));
+        }
+        place = place.wrapping_add(1);
+    }
+    Ok(None)
+}
+
+// The same of a new table.
+fn other_of_new(alloc: Global, steps: &[Step]) -> Result<Option<usize>, Fault> {
+    let mut table = Table::new(alloc);
+    let other = other_step(alloc, &mut table, steps);
+    drop(table);
+    other
+}
+
+static NUMBERED: [Step; 7] = [
+    (b"a", Ask::Read, Answer::Nothing),
+    (b"a", Ask::Puts(Verb::Set, 5, b"xyz"), Answer::Stored),
+    (b"a", Ask::Read, Answer::Item(5, b"xyz", 1)),
+    (b"b", Ask::Puts(Verb::Set, 5, b"xyz"), Answer::Stored),
+    (b"b", Ask::Read, Answer::Item(5, b"xyz", 2)),
+    (b"a", Ask::Puts(Verb::Set, 5, b"xyz"), Answer::Stored),
+    (b"a", Ask::Read, Answer::Item(5, b"xyz", 3)),
+];
+
+#[test]
+fn a_table_numbers_its_updates(rt: HostRuntime) -> Result<(), Fail> {
+    all_hold(other_of_new(rt.alloc(), &NUMBERED))
+}
+
+static ADDED: [Step; 5] = [
+    (b"a", Ask::Puts(Verb::Replace, 1, b"1"), Answer::NotStored),
+    (b"a", Ask::Puts(Verb::Add, 2, b"2"), Answer::Stored),
+    (b"a", Ask::Puts(Verb::Add, 3, b"3"), Answer::NotStored),
+    (b"a", Ask::Puts(Verb::Replace, 4, b"4"), Answer::Stored),
+    (b"a", Ask::Read, Answer::Item(4, b"4", 4)),
+];
+
+#[test]
+fn add_and_replace(rt: HostRuntime) -> Result<(), Fail> {
+    all_hold(other_of_new(rt.alloc(), &ADDED))
+}
+
+// A byte fits behind an item of a byte less than the limit, and then no byte more.
+static GROWN: [Step; 5] = [
+    (b"a", Ask::Sets(LIMIT - 1), Answer::Stored),
+    (b"a", Ask::Puts(Verb::Append, 0, b"y"), Answer::Stored),
+    (b"a", Ask::Puts(Verb::Append, 0, b"y"), Answer::TooLarge),
+    (b"a", Ask::Puts(Verb::Prepend, 0, b"y"), Answer::TooLarge),
+    (b"a", Ask::Read, Answer::Large(LIMIT, 2)),
+];
+
+#[test]
+fn an_item_does_not_outgrow_the_limit(rt: HostRuntime) -> Result<(), Fail> {
+    all_hold(other_of_new(rt.alloc(), &GROWN))
+}
+
+static DELETED: [Step; 6] = [
+    (b"a", Ask::Delete, Answer::NotFound),
+    (b"a", Ask::Puts(Verb::Set, 0, b""), Answer::Stored),
+    (b"a", Ask::Delete, Answer::Deleted),
+    (b"a", Ask::Read, Answer::Nothing),
+    (b"a", Ask::Puts(Verb::Set, 0, b"x"), Answer::Stored),
+    (b"a", Ask::Read, Answer::Item(0, b"x", 4)),
+];
+
+#[test]
+fn delete(rt: HostRuntime) -> Result<(), Fail> {
+    all_hold(other_of_new(rt.alloc(), &DELETED))
+}
+
+// Whether a change puts this item, or keeps what is there.
+fn changes_to(change: &Change, put: Option<&Item>) -> bool {
+    match put {
+        Some(wanted) => matches!(change, Change::Put(item) if item == wanted),
+        None => matches!(change, Change::Keep),
+    }
+}
+
+// Whether an operation of this number, on a key that has this item or none, is answered so and changes the key so.
+fn decides(
+    alloc: Global,
+    held: Option<&Item>,
+    ask: Ask,
+    number: u64,
+    wanted: Answer,
+    put: Option<&Item>,
+) -> Result<bool, Fault> {
+    let op = op_of(alloc, ask)?;
+    let right = is_decided(alloc, held, &op, number, wanted, put);
+    drop(op);
+    right
+}
+
+// The same of an operation that fits.
+fn is_decided(
+    alloc: Global,
+    held: Option<&Item>,
+    op: &Op,
+    number: u64,
+    wanted: Answer,
+    put: Option<&Item>,
+) -> Result<bool, Fault> {
+    if !op.fits() || number == 0 {
+        return Err(Fault::Refused);
+    }
+    let (reply, change) = decide(alloc, held, op, number)?;
+    let right = is_answer(&reply, wanted) && changes_to(&change, put);
+    drop(reply);
+    drop(change);
+    Ok(right)
+}
+
+// Whether a set of a key without an item puts this one, and a read of a key with it shows it.
+fn puts_and_shows(alloc: Global) -> Result<bool, Fault> {
+    let bytes = Bytes::copy_from_slice(alloc, b"xyz")?;
+    let item = Item {
+        flags: 5,
+        bytes,
+        unique: 7,
+    };
+    let set = Ask::Puts(Verb::Set, 5, b"xyz");
+    let shown = Answer::Item(5, b"xyz", 7);
+    Ok(
+        decides(alloc, None, set, 7, Answer::Stored, Some(&item))?
+            && decides(alloc, Some(&item), Ask::Read, 8, shown, None)?,
+    )
+}
+
+#[test]
+fn a_decision_puts_and_shows_an_item(rt: HostRuntime) -> Result<(), Fail> {
+    holds(puts_and_shows(rt.alloc()))
 }

@@ -234,9 +234,9 @@ impl<R: Wait + Drop> Acceptor<R> {
         match entrance.porter.admit() {
             Some(entry) => {
                 let arrival = Arrival {
+                    entry,
                     stream,
                     server,
-                    entry,
                 };
                 let thread = self.next_thread();
                 self.hand_on(thread, arrival);

@@ -84,7 +84,7 @@ impl<S: Read + Write> Model for Client<S> {
 }
 
 impl<S: Read + Write> Client<S> {
-    ghost use Rattle.std.specs.Prelude.{◌≡◌, ◌≤◌, ◌<◌, ◌++◌, ◌||◌, ℕ, List, [], true, false, length};
+    ghost use Rattle.std.specs.Prelude.{◌≡◌, ◌≢◌, ◌≤◌, ◌<◌, ◌++◌, ◌||◌, ℕ, List, [], true, false, length};
     ghost use Rattle.std.specs.Prelude.{IfNone, IfSome, MatchBool};
     ghost use Rattle.faces.specs.Courses.{IsLater};
     ghost use Rattle.serving.specs.Connections.{IsBegun};
@@ -136,7 +136,7 @@ impl<S: Read + Write> Client<S> {
     /// Goes on for a while, and says why it goes no further: `HasPaused` tells what each answer means. Once memory was
     /// refused to what was read, or the connection is gone, nothing is read, written, looked at or sent. The slice is
     /// room for what is read. Before each write the leash is asked, after all that is due was made up. If it doesn't
-    /// let the server put anything out, what is due stays so.
+    /// let the server put anything out, what is due stays so. A leash that no lease holds lets all out.
     #[tactic(auto, using(crate::proofs::Later::seeing, crate::proofs::Pausing::passed, crate::proofs::Pausing::ending))]
     pub fn go<R: Wait + Clock>(
         &mut self,
@@ -153,6 +153,7 @@ impl<S: Read + Write> Client<S> {
         ensures taken { HasPassed self.old.taken self.new.taken }
         ensures gone { self.new.gone ≡ self.old.gone }
         ensures paused { HasPaused result self.old.faults self.new }
+        ensures held { leash.now ≡ false → result ≢ Pause.Lease }
         ensures refused { self.old.refused ≡ true →
             (result ≡ Pause.Over) × (self.new ≡ self.old) × (pool.new ≡ pool.old) }
         ensures left { self.old.gone ≡ true → (result ≡ Pause.Over) × (self.new ≡ self.old) × (pool.new ≡ pool.old) }
@@ -184,6 +185,7 @@ impl<S: Read + Write> Client<S> {
         ensures taken { HasPassed self.old.taken self.new.taken }
         ensures gone { self.new.gone ≡ self.old.gone }
         ensures paused { HasPaused result self.old.faults self.new }
+        ensures held { leash.now ≡ false → result ≢ Pause.Lease }
     {
         for _ in 0..PASSES {
             if let Some(pause) = self.step(rt, pool, piece, leash) {
@@ -213,6 +215,7 @@ impl<S: Read + Write> Client<S> {
         ensures faults { self.old.faults ≤ self.new.faults }
         ensures whole { IfNone result (self.new.refused ≡ false) }
         ensures paused { IfSome result (λ pause. HasPaused pause self.old.faults self.new) }
+        ensures held { leash.now ≡ false → IfSome result (λ pause. pause ≢ Pause.Lease) }
     {
         match self.talk.go(rt, pool) {
             Ok(Went::Input) => self.read(piece),
@@ -238,6 +241,7 @@ impl<S: Read + Write> Client<S> {
         ensures faults { self.old.faults ≤ self.new.faults }
         ensures whole { IfNone result (self.new.refused ≡ false) }
         ensures paused { IfSome result (λ pause. HasPaused pause self.old.faults self.new) }
+        ensures held { IfSome result (λ pause. pause ≢ Pause.Lease) }
     {
         if !self.is_readable {
             return Some(Pause::Socket);
@@ -272,6 +276,7 @@ impl<S: Read + Write> Client<S> {
         ensures faults { self.old.faults ≤ self.new.faults }
         ensures whole { self.new.refused ≡ self.old.refused }
         ensures paused { IfSome result (λ pause. HasPaused pause self.old.faults self.new) }
+        ensures held { leash.now ≡ false → IfSome result (λ pause. pause ≢ Pause.Lease) }
     {
         if !self.is_writable {
             return Some(Pause::Socket);

@@ -19,10 +19,11 @@ const PORTS: usize = 16;
 /// A connection on its way to the thread that serves it.
 #[derive(Drop)]
 pub(crate) struct Arrival {
+    // Before the stream, as it is dropped first: who sees the connection end finds room.
+    pub(crate) entry: Entry,
     pub(crate) stream: TcpStream,
     /// The server to which it was made.
     pub(crate) server: u8,
-    pub(crate) entry: Entry,
 }
 
 // One serving thread.

@@ -30,9 +30,10 @@ pub(crate) enum Waits {
 /// A client, with its place among the connections of its server.
 #[derive(Drop)]
 pub(crate) struct Guest {
+    // Before the client, as it is dropped first: who sees its connection end finds room.
+    pub(crate) entry: Entry,
     pub(crate) client: Client<TcpStream>,
     pub(crate) waits: Waits,
-    pub(crate) entry: Entry,
 }
 
 /// The clients of one thread at one server, by keys, and the seats that the thread has there. The type keeps that the
@@ -141,9 +142,9 @@ fn add(alloc: Global, pool: &SeatPool, clients: &mut Slab<Guest>, stream: TcpStr
 {
     let client = Client::new(alloc, stream, pool);
     let guest = Guest {
+        entry,
         client,
         waits: Waits::Socket,
-        entry,
     };
     drop(clients.insert(guest));
 }
@@ -241,7 +242,10 @@ fn close(pool: &mut SeatPool, clients: &mut Slab<Guest>, key: usize)
     ensures known { KnowsAll pool.new.seen clients.new }
 {
     if let Some(guest) = clients.try_remove(key) {
-        guest.client.leave(pool);
+        let Guest { entry, client, .. } = guest;
+        // There is room for another before the socket is closed: who sees the end may come back at once.
+        drop(entry);
+        client.leave(pool);
     }
 }
 

@@ -120,8 +120,8 @@ impl Lounge {
             return;
         }
         let Arrival {
-            mut stream,
             entry,
+            mut stream,
             ..
         } = arrival;
         let _ = stream.set_nodelay(true);

@@ -1,12 +1,13 @@
 //! Opens a server whose seats are dealt out to serving threads.
 ghost use Rattle.std.specs.Prelude.{◌≡◌, ◌≤◌, [], true, All, IfOk};
 ghost use Rattle.node.specs.Nodes.{is_idle};
+ghost use Rattle.seats.specs.Replies.{HasAllReplies};
 ghost use Rattle.seats.specs.SeatPools.{with_free};
 ghost use Rattle.seats.specs.Submitters.{unused};
 ghost use Rattle.io_threads.specs.Pools.{AreOfOne};
 
 use node::Node;
-use rail::{Inlet, RailFault, Seat, Server, Stand, Worker, open};
+use rail::{Inlet, RailFault, Room, Seat, Server, Stand, Worker, open};
 use seats::{Gauge, Mark, SeatPool};
 use std::alloc::{AllocError, Global};
 use std::sync::Wait;
@@ -46,7 +47,15 @@ pub fn open_pools<R: Wait + Drop>(
         stands,
         seats: others,
         inlets,
-    } = open(rt, alloc, node, threads, seats - threads, inlets)?;
+    } = open(
+        rt,
+        alloc,
+        node,
+        threads,
+        seats - threads,
+        inlets,
+        Room::of_chain(),
+    )?;
     match deal(alloc, stands, others, mark, gauge) {
         Ok(pools) => Ok(Pooled {
             worker,
@@ -98,7 +107,8 @@ fn add_pool(
     mark: &Mark,
     gauge: &Gauge,
 ) -> Result<(), AllocError>
-    requires { All (λ pool. pool.seen.origin ≡ stand.seat.origin) pools.old.items }
+    requires server { All (λ pool. pool.seen.origin ≡ stand.seat.origin) pools.old.items }
+    requires replied { HasAllReplies stand.seat }
     ensures { All (λ pool. pool.seen.origin ≡ stand.seat.origin) pools.new.items }
 {
     let pool = pool_of(alloc, stand, mark, gauge)?;
@@ -109,7 +119,8 @@ fn add_pool(
 // Gives a seat to the pool at this place, if there is one.
 #[tactic(auto, using(crate::proofs::Dealt::one_changed))]
 fn give(pools: &mut Vec<SeatPool>, place: usize, seat: Seat) -> Result<(), AllocError>
-    requires { All (λ pool. pool.seen.origin ≡ seat.origin) pools.old.items }
+    requires server { All (λ pool. pool.seen.origin ≡ seat.origin) pools.old.items }
+    requires replied { HasAllReplies seat }
     ensures { All (λ pool. pool.seen.origin ≡ seat.origin) pools.new.items }
 {
     match pools.get_mut(place) {
@@ -123,6 +134,7 @@ fn give(pools: &mut Vec<SeatPool>, place: usize, seat: Seat) -> Result<(), Alloc
 
 // A pool with this stand's reader and seat.
 fn pool_of(alloc: Global, stand: Stand, mark: &Mark, gauge: &Gauge) -> Result<SeatPool, AllocError>
+    requires { HasAllReplies stand.seat }
     ensures { IfOk result (λ pool. pool.seen.origin ≡ stand.seat.origin) }
 {
     let Stand { reader, seat } = stand;
@@ -150,7 +162,8 @@ fn share(mark: &Mark, gauge: &Gauge) -> Result<(Mark, Gauge), AllocError> {
 
 // A pool with one seat more.
 fn with_seat(pool: SeatPool, seat: Seat) -> Result<SeatPool, AllocError>
-    requires { seat.origin ≡ pool.seen.origin }
+    requires server { seat.origin ≡ pool.seen.origin }
+    requires replied { HasAllReplies seat }
     ensures { IfOk result (λ grown. grown ≡ with_free pool (unused seat)) }
 {
     let mut pool = pool;

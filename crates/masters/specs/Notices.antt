@@ -1,5 +1,6 @@
 -- What came of a master's notices (this project's rule).
-use Rattle.std.specs.Prelude.{ℕ, Bool, true, false, List, count_by}
+use Rattle.std.specs.Prelude.{ℕ, nat_lt, Bool, true, false, ◌&&◌, if◌then◌else◌, List, count_by}
+use Rattle.node.specs.Views.{View, has, single, union}
 use Rattle.masters.specs.declared.notices.Answer.{Answer}
 use Rattle.masters.specs.declared.notices.Answer.TheVariants.{Unasked, Done, Silent, NoHost, Refused, Anew, Untaken}
 
@@ -16,3 +17,11 @@ is_done Untaken = false
 -- how many have
 abbrev pub done_in : List Answer → ℕ
 done_in answers = count_by is_done answers
+
+-- this server is one of these
+abbrev pub is_among : View → ℕ → Bool
+is_among these i = nat_lt i 16 && has these i
+
+-- these servers, and this one, if a chain can have it
+abbrev pub and_one : View → ℕ → View
+and_one these i = if nat_lt i 16 then union these (single i) else these

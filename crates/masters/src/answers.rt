@@ -85,11 +85,24 @@ impl Answers {
         i: u8,
         what: &[u8],
     ) {
-        self.begin_step(milliseconds);
-        self.add(b" server ");
-        self.add(Buffer::new().format(i).as_bytes());
-        self.add(b": ");
+        self.begin_step_of(milliseconds, i);
         self.add(what);
+        self.give(output, errors, who);
+    }
+
+    /// Writes `+T s server I: has a lease of A s`, A being the seconds of its term, whose milliseconds these are.
+    pub(crate) fn lease<W: Sink, X: Sink>(
+        &mut self,
+        output: &mut W,
+        errors: &mut X,
+        who: &str,
+        milliseconds: u64,
+        i: u8,
+        term: u64,
+    ) {
+        self.begin_step_of(milliseconds, i);
+        self.add(b"has a lease of ");
+        self.add_seconds(term);
         self.give(output, errors, who);
     }
 
@@ -104,12 +117,26 @@ impl Answers {
         i: u8,
         silence: u64,
     ) {
-        self.begin_step(milliseconds);
-        self.add(b" server ");
-        self.add(Buffer::new().format(i).as_bytes());
-        self.add(b": no answer for ");
+        self.begin_step_of(milliseconds, i);
+        self.add(b"no answer for ");
         self.add_seconds(silence);
         self.add(b"; it is told that it is gone");
+        self.give(output, errors, who);
+    }
+
+    /// Writes `+T s no server has answered for A s; the master may be cut off`.
+    pub(crate) fn quiet<W: Sink, X: Sink>(
+        &mut self,
+        output: &mut W,
+        errors: &mut X,
+        who: &str,
+        milliseconds: u64,
+        silence: u64,
+    ) {
+        self.begin_step(milliseconds);
+        self.add(b" no server has answered for ");
+        self.add_seconds(silence);
+        self.add(b"; the master may be cut off");
         self.give(output, errors, who);
     }
 
@@ -129,6 +156,14 @@ impl Answers {
         self.add(b" ");
         self.add(Buffer::new().format(reign).as_bytes());
         self.give(output, errors, who);
+    }
+
+    // Begins a line on a server with the time since the start.
+    fn begin_step_of(&mut self, milliseconds: u64, i: u8) {
+        self.begin_step(milliseconds);
+        self.add(b" server ");
+        self.add(Buffer::new().format(i).as_bytes());
+        self.add(b": ");
     }
 
     // Begins a line with the time since the start.

@@ -1,8 +1,11 @@
 //! What a master that beats has for it: the warden by which it decides, and where its orders go.
+ghost use Rattle.std.specs.Prelude.{◌≡◌, ◌≤◌, ◌*◌, not, true, false, None, IfSome};
+ghost use Rattle.masters.specs.Notices.{is_among};
 
+use crate::attendance::Attendance;
 use crate::command::TellFault;
 use crate::knowledge::Knowledge;
-use crate::notices::{and_one, is_among};
+use crate::notices::{is_among, once};
 use crate::watch_threads::Posts;
 use leases::{Due, Order, Paces, Report, Warden, nanoseconds_of};
 use node::{SERVERS, View};
@@ -18,8 +21,11 @@ pub(crate) struct Beats {
     posts: Posts,
     // The servers of whose silence the others were told, in this reign and since a server was met.
     told: View,
-    // Those of which it was told that their leases are too short.
+    // Those of which it was told that they have leases, and that these are too short.
+    leased: View,
     short: View,
+    // Whom the master hears.
+    attendance: Attendance,
 }
 
 impl Beats {
@@ -34,13 +40,20 @@ impl Beats {
         paces: Paces,
         posts: Posts,
     ) -> Result<Beats, TellFault> {
-        match new_warden(rt, alloc, knowledge, name, servers, paces) {
+        let Ok(reading) = rt.monotonic() else {
+            drop(posts);
+            return Err(TellFault::Run);
+        };
+        let now = nanoseconds_of(reading);
+        match new_warden(alloc, knowledge, name, servers, paces, now) {
             Ok(warden) => Ok(Beats {
                 warden,
                 paces,
                 posts,
                 told: View::empty(),
+                leased: View::empty(),
                 short: View::empty(),
+                attendance: Attendance::new(now),
             }),
             Err(fault) => {
                 drop(posts);
@@ -58,28 +71,75 @@ impl Beats {
         let is_followed = self.warden.told(i, report, now);
         if is_followed {
             self.told = View::empty();
+            self.attendance.begin(0, now);
         }
+        self.attendance.hear(i, report.reign, now);
         is_followed
     }
 
+    /// How long the lease of server `i` runs, in nanoseconds, if it has one and that wasn't told yet. It counts as told
+    /// then.
+    pub(crate) fn new_lease(&mut self, i: u8, report: &Report) -> Option<u64>
+        ensures first { is_among self.old.leased i ≡ false → result ≡ report.now.term }
+        ensures told { is_among self.old.leased i ≡ true → result ≡ None }
+    {
+        let term = report.term?;
+        if once(&mut self.leased, i) {
+            Some(term.nanoseconds())
+        } else {
+            None
+        }
+    }
+
+    /// Whether server `i` told that it has a lease.
+    pub(crate) fn has_lease(&self, i: u8) -> bool
+        ensures { result ≡ is_among self.now.leased i }
+    {
+        is_among(self.leased, i)
+    }
+
     /// Whether the lease of server `i` is too short for these beats, and that wasn't told yet. It counts as told then.
-    pub(crate) fn is_short(&mut self, i: u8, report: &Report) -> bool {
+    pub(crate) fn is_short(&mut self, i: u8, report: &Report) -> bool
+        ensures short { result ≡ true → IfSome report.now.term (λ term. term ≤ 2 * self.old.paces.beat) }
+        ensures once { result ≡ true → is_among self.old.short i ≡ false }
+    {
         let Some(term) = report.term else {
             return false;
         };
-        if self.paces.keep_up(term) || is_among(self.short, i) {
-            return false;
-        }
-        self.short = and_one(self.short, i);
-        true
+        !self.paces.keep_up(term) && once(&mut self.short, i)
     }
 
     /// Takes a new reign, if the master is to now that the clock is read.
     pub(crate) fn claim<R: Clock>(&mut self, rt: &R) -> Option<u64> {
-        let reading = rt.monotonic().ok()?;
-        let reign = self.warden.claim(nanoseconds_of(reading))?;
+        let now = nanoseconds_of(rt.monotonic().ok()?);
+        let reign = self.warden.claim(now)?;
         self.told = View::empty();
+        self.attendance.begin(reign, now);
         Some(reign)
+    }
+
+    /// Whether it is told now that no server was heard for as long as one may be silent. It counts as told then.
+    pub(crate) fn is_quiet<R: Clock>(&mut self, rt: &R) -> bool {
+        match rt.monotonic() {
+            Ok(reading) => self
+                .attendance
+                .is_quiet(self.paces.after, nanoseconds_of(reading)),
+            Err(_) => false,
+        }
+    }
+
+    /// Whether it is told now that server `i`, which isn't gone, has entered the reign not within the time for which it
+    /// may be silent: then no lease is prolonged, if there are any. It counts as told then.
+    pub(crate) fn misses<R: Clock>(&mut self, rt: &R, i: u8) -> bool {
+        if self.leased.bits() == 0 {
+            return false;
+        }
+        match rt.monotonic() {
+            Ok(reading) => self
+                .attendance
+                .misses(i, self.paces.after, nanoseconds_of(reading)),
+            Err(_) => false,
+        }
     }
 
     /// What is due for server `i`, now that the clock is read. If it can't be, nothing is for a beat.
@@ -107,12 +167,10 @@ impl Beats {
 
     /// Whether the others are to be told now that server `j` was silent: once in a reign, and once more whenever a
     /// server was met. It counts as told then.
-    pub(crate) fn tells_silence(&mut self, j: u8) -> bool {
-        if is_among(self.told, j) {
-            return false;
-        }
-        self.told = and_one(self.told, j);
-        true
+    pub(crate) fn tells_silence(&mut self, j: u8) -> bool
+        ensures { result ≡ not (is_among self.old.told j) }
+    {
+        once(&mut self.told, j)
     }
 
     /// A server was met, which may not know who was silent.
@@ -126,22 +184,19 @@ impl Beats {
     }
 }
 
-// The warden of a chain in which nobody was heard.
-fn new_warden<R: Clock>(
-    rt: &R,
+// The warden of a chain in which nobody was heard, when the clock shows `now`.
+fn new_warden(
     alloc: Global,
     knowledge: &Knowledge,
     name: u32,
     servers: u8,
     paces: Paces,
+    now: u64,
 ) -> Result<Warden, TellFault> {
     if servers > SERVERS {
         return Err(TellFault::Run);
     }
-    let Ok(reading) = rt.monotonic() else {
-        return Err(TellFault::Run);
-    };
-    let mut warden = Warden::new(alloc, name, servers, paces, nanoseconds_of(reading))?;
+    let mut warden = Warden::new(alloc, name, servers, paces, now)?;
     for i in 0..servers {
         if knowledge.is_gone(i) {
             warden.lose(i);

@@ -93,7 +93,7 @@ impl Decider {
         event: Event,
     ) -> Result<(), TellFault> {
         let Event { milliseconds, news } = event;
-        if let Some((i, what)) = step_of(&news) {
+        if let Some((i, what)) = self.step_of(&news) {
             self.answers
                 .step(output, errors, WHO, milliseconds, i, what);
         }
@@ -131,11 +131,16 @@ impl Decider {
         let _ = self.ears.answered.try_send(rt, ());
     }
 
-    // This start of server i has accepted a connection, and told who is gone.
+    // This start of server i has accepted a connection, and told who is gone. If it is the one that was called gone
+    // meanwhile, as it wasn't reached, it is told so and ends.
     fn meet<R: Wait>(&mut self, rt: &R, i: u8, start: u64, gone: u16) -> Result<(), TellFault> {
+        let is_back = self.knowledge.is_gone(i) && self.knowledge.start(i) == Some(start);
         self.knowledge.met(i, start, gone);
         if let Some(beats) = &mut self.beats {
             beats.met();
+            if is_back {
+                beats.hand(rt, i, Order::Gone(i));
+            }
         }
         self.tell_again(rt)
     }
@@ -230,25 +235,36 @@ impl Decider {
         Ok(())
     }
 
+    // The line that tells what is new of a server.
+    fn step_of(&self, news: &News) -> Option<(u8, &'static [u8])> {
+        match news {
+            News::Met(i, _, _) => Some((*i, b"connected".as_slice())),
+            News::Broken(i) => Some((*i, b"connection lost".as_slice())),
+            News::Lost(i) => Some((*i, self.loss_of(*i))),
+            News::Ended(i) => Some((*i, b"its process has ended".as_slice())),
+            News::Typed(_) | News::BadLine | News::Told(_, _, _) | News::Given | News::Fault(_) =>
+                None,
+        }
+    }
+
+    // What it says that server i isn't reached.
+    fn loss_of(&self, i: u8) -> &'static [u8] {
+        if self.knowledge.is_gone(i) {
+            return b"not reached".as_slice();
+        }
+        match &self.beats {
+            Some(beats) if beats.has_lease(i) => {
+                b"not reached; it may live, so nobody is told before its lease is over".as_slice()
+            }
+            _ => b"not reached; it may live, so nobody is told that it is gone".as_slice(),
+        }
+    }
+
     /// How many milliseconds have passed since the master began.
     pub(crate) fn running<R: Clock>(&self, rt: &R) -> u64 {
         match self.begun.elapsed(rt) {
             Ok(passed) => milliseconds_of(passed),
             Err(_) => 0,
         }
-    }
-}
-
-// The line that tells what is new of a server.
-fn step_of(news: &News) -> Option<(u8, &'static [u8])> {
-    match news {
-        News::Met(i, _, _) => Some((*i, b"connected".as_slice())),
-        News::Broken(i) => Some((*i, b"connection lost".as_slice())),
-        News::Lost(i) => Some((
-            *i,
-            b"not reached; it may live, so nobody is told that it is gone".as_slice(),
-        )),
-        News::Ended(i) => Some((*i, b"its process has ended".as_slice())),
-        News::Typed(_) | News::BadLine | News::Told(_, _, _) | News::Given | News::Fault(_) => None,
     }
 }

@@ -28,6 +28,7 @@ impl Decider {
             return Ok(None);
         }
         self.claim(rt, output, errors);
+        self.tell_quiet(rt, output, errors);
         let mut least = LONGEST;
         for i in 0..settings.numbers.servers {
             let wait = self.act_for(rt, output, errors, i)?;
@@ -48,6 +49,42 @@ impl Decider {
         }
     }
 
+    // Tells that no server is heard, if that is news.
+    fn tell_quiet<R: Clock, W: Sink, X: Sink>(&mut self, rt: &R, output: &mut W, errors: &mut X) {
+        let Some(beats) = &mut self.beats else {
+            return;
+        };
+        if beats.is_quiet(rt) {
+            let silence = beats.after() / MILLISECOND;
+            let milliseconds = self.running(rt);
+            self.answers
+                .quiet(output, errors, WHO, milliseconds, silence);
+        }
+    }
+
+    // Tells that server i isn't in the reign, if that is news.
+    fn tell_missing<R: Clock, W: Sink, X: Sink>(
+        &mut self,
+        rt: &R,
+        output: &mut W,
+        errors: &mut X,
+        i: u8,
+    ) {
+        if self.knowledge.is_gone(i) {
+            return;
+        }
+        let Some(beats) = &mut self.beats else {
+            return;
+        };
+        if beats.misses(rt, i) {
+            let milliseconds = self.running(rt);
+            let what =
+                b"not in the reign; until it is, or is called gone, no lease is prolonged".as_slice();
+            self.answers
+                .step(output, errors, WHO, milliseconds, i, what);
+        }
+    }
+
     // Does what is due for server i. Nothing more is then, for this many nanoseconds.
     fn act_for<R: Wait + Clock, W: Sink, X: Sink>(
         &mut self,
@@ -56,6 +93,7 @@ impl Decider {
         errors: &mut X,
         i: u8,
     ) -> Result<u64, TellFault> {
+        self.tell_missing(rt, output, errors, i);
         for _ in 0..DEEDS {
             match self.due(rt, i) {
                 Due::Wait(span) => return Ok(span),
@@ -98,8 +136,8 @@ impl Decider {
         }
     }
 
-    // Has the others told what is due: that a server was silent, once; or that it does nothing more, if that wasn't
-    // told.
+    // Has the others told what is due: that a server was silent, once, and the server too once more; or that it does
+    // nothing more, if that wasn't told.
     fn tell_due<R: Wait + Clock, W: Sink, X: Sink>(
         &mut self,
         rt: &R,
@@ -114,6 +152,7 @@ impl Decider {
                     let what = b"its lease is over".as_slice();
                     self.answers
                         .step(output, errors, WHO, milliseconds, j, what);
+                    self.tell_itself(rt, j, order);
                     return self.give(rt, order, false);
                 }
                 Ok(())
@@ -121,6 +160,13 @@ impl Decider {
             Order::Gone(j) => self.tell_gone(rt, j),
             Order::Reign(_) => Ok(()),
             Order::Beat(_, _) => Ok(()),
+        }
+    }
+
+    // Has a notice of server j sent to that server itself, in case it is reached: it ends then.
+    fn tell_itself<R: Wait>(&self, rt: &R, j: u8, order: Order) {
+        if let Some(beats) = &self.beats {
+            beats.hand(rt, j, order);
         }
     }
 
@@ -149,8 +195,15 @@ impl Decider {
             return Ok(());
         };
         let is_followed = beats.told(i, report, now);
+        let lease = beats.new_lease(i, report);
         if beats.is_short(i, report) {
             tell_short_term(errors, i);
+        }
+        if let Some(term) = lease {
+            let milliseconds = self.running(rt);
+            let term = term / MILLISECOND;
+            self.answers
+                .lease(output, errors, WHO, milliseconds, i, term);
         }
         if is_followed {
             let milliseconds = self.running(rt);

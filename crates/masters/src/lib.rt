@@ -4,6 +4,7 @@
 
 mod acknowledgements;
 mod answers;
+mod attendance;
 mod beats;
 mod command;
 mod contacts;
@@ -34,7 +35,7 @@ pub use command::master;
 pub use greetings::{Channel, Greeted, PeerSink, reach};
 pub use input_lines::{empty_line, next_line, server_named};
 pub use keepalive::keep_alive;
-pub use settings::{AFTER, MasterSettings, ServerSettings, port_of};
+pub use settings::{MasterSettings, ServerSettings, port_of};
 pub use short_frames::{Deadline, Heard, next_frame};
 pub use starts::start_number;
 pub use watching::watch;

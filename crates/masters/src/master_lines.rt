@@ -1,6 +1,7 @@
 //! What a master tells of servers that don't do what they are asked, each time in one line.
 
 use crate::notices::{Answer, beside, only_one, silent_in};
+use crate::orders::named_in;
 use crate::settings::{MasterSettings, port_of};
 use ends::{Sink, write_all};
 use itoa::Buffer;
@@ -62,14 +63,14 @@ pub(crate) fn tell_unmet<X: Sink>(
     }
 }
 
-/// Who hasn't noted that a server has failed, if the notice says that.
+/// Who hasn't noted that a server has failed, as the notice says, or was silent until its lease was over.
 pub(crate) fn tell_unnoted<X: Sink>(
     errors: &mut X,
     settings: &MasterSettings,
     answers: &[Answer],
     order: Order,
 ) {
-    if let Order::Gone(j) = order {
+    if let Some(j) = named_in(order) {
         tell_untold(errors, settings, answers, j);
         tell_silent(errors, answers, j);
     }
@@ -118,7 +119,11 @@ pub(crate) fn tell_short_term<X: Sink>(errors: &mut X, i: u8) {
     say_number(errors, u16::from(i));
     say(
         errors,
-        " is not longer than two beats, so it serves by fits; give a shorter --beat\n",
+        " is not longer than two beats, so it serves by fits; ",
+    );
+    say(
+        errors,
+        "give it a longer --lease, or this master a shorter --beat\n",
     );
 }
 

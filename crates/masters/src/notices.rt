@@ -1,8 +1,8 @@
 //! Whom a master tells that a server has failed, and what came of it.
-ghost use Rattle.std.specs.Prelude.{◌≡◌, ◌&&◌, ◌<◌, ◌≤◌, IfOk, nat_lt};
+ghost use Rattle.std.specs.Prelude.{◌≡◌, ◌<◌, ◌≤◌, IfOk, not, true, false};
 ghost use Rattle.node.specs.Masters.{notices_from};
-ghost use Rattle.node.specs.Views.{has, single, union};
-ghost use Rattle.masters.specs.Notices.{done_in};
+ghost use Rattle.node.specs.Views.{single, union};
+ghost use Rattle.masters.specs.Notices.{and_one, done_in, is_among};
 
 use node::{SERVERS, View};
 use std::alloc::{AllocError, Global};
@@ -95,7 +95,7 @@ pub(crate) fn beside(these: View, those: View) -> View {
 
 /// Whether this server is one of these.
 pub(crate) fn is_among(these: View, i: u8) -> bool
-    ensures { result ≡ (nat_lt i 16 && has these i) }
+    ensures { result ≡ is_among these i }
 {
     i < SERVERS && these.has(i)
 }
@@ -104,12 +104,27 @@ pub(crate) fn is_among(these: View, i: u8) -> bool
 pub(crate) fn and_one(these: View, i: u8) -> View
     ensures one { i < 16 → result ≡ union these (single i) }
     ensures beyond { 16 ≤ i → result ≡ these }
+    ensures exact { result ≡ and_one these i }
 {
     if i < SERVERS {
         these.union(View::single(i))
     } else {
         these
     }
+}
+
+/// Whether this server is none of these. It is one of them from then on, if a chain can have it: so what is told of
+/// each server once is told of it now.
+pub(crate) fn once(these: &mut View, i: u8) -> bool
+    ensures first { result ≡ not (is_among these.old i) }
+    ensures noted { result ≡ true → these.new ≡ and_one these.old i }
+    ensures kept { result ≡ false → these.new ≡ these.old }
+{
+    if is_among(*these, i) {
+        return false;
+    }
+    *these = and_one(*these, i);
+    true
 }
 
 /// The server that these are, if they are one.

@@ -1,11 +1,12 @@
 //! What a server, or the master, of a chain in several processes is told.
-ghost use Rattle.std.specs.Prelude.{◌≡◌, ◌<◌, ◌+◌, ◌*◌, None, length, map, replicate, IfOk, IfSome, IsSome};
+ghost use Rattle.std.specs.Prelude.{◌≡◌, ◌↔◌, ◌<◌, ◌+◌, ◌*◌, true, length, map, replicate, IfOk, IfSome, IsSome};
 ghost use Rattle.std.specs.Prelude.{string_bytes};
 ghost use Rattle.masters.specs.Hosts.{hosts_of, listed, texts};
+ghost use Rattle.masters.specs.Terms.{term_of};
 ghost use Rattle.leases.specs.declared.paces.TheConstants.{MILLISECOND};
 
 use command_line::{Hosts, MasterNumbers, ServerNumbers, UsageFault};
-use leases::Paces;
+use leases::{Paces, Term};
 use std::alloc::{AllocError, Global};
 use table::Key;
 
@@ -21,11 +22,11 @@ const NO_ADDRESS: &str = "error: --address names no host\n";
 /// What is printed if the chain's name isn't one.
 const NO_CHAIN: &str = "error: --chain names no chain: 1 to 250 bytes, none of them blank\n";
 
-/// What is printed if a master that beats is to call a server silent before the next beat, or after more than an hour.
-const NO_AFTER: &str = "error: --after is not above --beat\n";
+/// What is printed if a lease has no such term. No command line is refused so, since its words are tested before.
+const NO_LEASE: &str = "error: --lease is not 1 to 3600 seconds\n";
 
-/// For how many milliseconds a server may usually be silent, if its master beats.
-pub const AFTER: u32 = 3_000;
+/// What is printed if a master that watches is to call a server silent before the next beat.
+const NO_AFTER: &str = "error: --after is not above --beat\n";
 
 /// Which server of a chain runs, where it listens, and where the others are.
 #[derive(Drop)]
@@ -38,6 +39,8 @@ pub struct ServerSettings {
     pub hosts: Vec<String>,
     /// The chain's name.
     pub chain: Key,
+    /// How long its lease runs; None: it has none, and isn't called gone for its silence.
+    pub term: Option<Term>,
 }
 
 /// Whom a master tells.
@@ -49,14 +52,14 @@ pub struct MasterSettings {
     pub hosts: Vec<String>,
     /// The chain's name.
     pub chain: Key,
-    /// How often it beats, and for how long a server may be silent, if it beats; it does so only while it watches. A
-    /// server that knows no leases closes the connection at the first beat, so nobody beats yet.
+    /// How often it beats, and for how long a server that has a lease may be silent; None if it doesn't watch. By its
+    /// beats it prolongs leases, and hears how the servers are. The silence of a server without a lease says nothing.
     pub beats: Option<Paces>,
 }
 
 impl ServerSettings {
-    /// What these words tell a server. It is refused if the id is that of no server, there isn't one host for each, or
-    /// the chain's name isn't one.
+    /// What these words tell a server. It is refused if the id is that of no server, its lease has no term, there isn't
+    /// one host for each server, or the chain's name isn't one.
     pub fn new(
         alloc: Global,
         numbers: ServerNumbers,
@@ -68,10 +71,12 @@ impl ServerSettings {
         ensures hosts { IfOk result (λ settings. length settings.hosts.items ≡ settings.numbers.servers) }
         ensures given { IfOk result (λ settings. texts settings.hosts.items ≡ hosts_of hosts numbers.servers) }
         ensures chain { IfOk result (λ settings. settings.chain ≡ string_bytes hosts.chain) }
+        ensures term { IfOk result (λ settings. settings.term ≡ term_of numbers.lease) }
     {
         if numbers.id >= numbers.servers {
             return Err(usage(alloc, NO_SERVER));
         }
+        let term = term_of(alloc, numbers.lease)?;
         let all = hosts_of(alloc, &hosts, numbers.servers)?;
         let chain = chain_of(alloc, &hosts)?;
         Ok(ServerSettings {
@@ -79,13 +84,14 @@ impl ServerSettings {
             address: hosts.address,
             hosts: all,
             chain,
+            term,
         })
     }
 }
 
 impl MasterSettings {
-    /// What these words tell a master, which doesn't beat. It is refused if there isn't one host for each server, or
-    /// the chain's name isn't one.
+    /// What these words tell a master, which beats if it watches. It is refused if it watches and `--after` isn't above
+    /// `--beat`, there isn't one host for each server, or the chain's name isn't one.
     pub fn new(
         alloc: Global,
         numbers: MasterNumbers,
@@ -95,40 +101,16 @@ impl MasterSettings {
         ensures hosts { IfOk result (λ settings. length settings.hosts.items ≡ settings.numbers.servers) }
         ensures given { IfOk result (λ settings. texts settings.hosts.items ≡ hosts_of hosts numbers.servers) }
         ensures chain { IfOk result (λ settings. settings.chain ≡ string_bytes hosts.chain) }
-        ensures beats { IfOk result (λ settings. settings.beats ≡ None) }
+        ensures watches { IfOk result (λ settings. IsSome settings.beats ↔ (numbers.watch ≡ true)) }
+        ensures beat { IfOk result
+            (λ settings. IfSome settings.beats (λ paces. paces.beat ≡ numbers.beat * MILLISECOND)) }
+        ensures after { IfOk result
+            (λ settings. IfSome settings.beats (λ paces. paces.after ≡ numbers.after * MILLISECOND)) }
+        ensures ordered { IfOk result (λ settings. numbers.watch ≡ true → numbers.beat < numbers.after) }
     {
+        let beats = paces_of(alloc, numbers)?;
         let chain = chain_of(alloc, &hosts)?;
         let hosts = hosts_of(alloc, &hosts, numbers.servers)?;
-        Ok(MasterSettings {
-            numbers,
-            hosts,
-            chain,
-            beats: None,
-        })
-    }
-
-    /// The same of a master that beats as often as it looks, and for which a server may be silent for this many
-    /// milliseconds, usually `AFTER`. It is refused if that isn't more than a beat, or more than an hour. No command
-    /// asks for it yet.
-    pub fn with_beats(self, alloc: Global, after: u32) -> Result<MasterSettings, UsageFault>
-        ensures numbers { IfOk result (λ settings. settings.numbers ≡ self.numbers) }
-        ensures hosts { IfOk result (λ settings. settings.hosts ≡ self.hosts) }
-        ensures chain { IfOk result (λ settings. settings.chain ≡ self.chain) }
-        ensures on { IfOk result (λ settings. IsSome settings.beats) }
-        ensures beat { IfOk result
-            (λ settings. IfSome settings.beats (λ paces. paces.beat ≡ self.numbers.beat * MILLISECOND)) }
-        ensures after { IfOk result (λ settings. IfSome settings.beats (λ paces. paces.after ≡ after * MILLISECOND)) }
-    {
-        let beats = Paces::of_milliseconds(u64::from(self.numbers.beat), u64::from(after));
-        if beats.is_none() {
-            return Err(usage(alloc, NO_AFTER));
-        }
-        let MasterSettings {
-            numbers,
-            hosts,
-            chain,
-            ..
-        } = self;
         Ok(MasterSettings {
             numbers,
             hosts,
@@ -154,6 +136,35 @@ pub(crate) fn host_of(
     match settings.hosts.get(usize::from(i)) {
         Some(host) => String::from_str(alloc, host.as_str()),
         None => Ok(String::new(alloc)),
+    }
+}
+
+// The term of a lease that runs for this many seconds, if there is one.
+fn term_of(alloc: Global, lease: Option<u32>) -> Result<Option<Term>, UsageFault>
+    ensures { IfOk result (λ term. term ≡ term_of lease) }
+{
+    match lease {
+        None => Ok(None),
+        Some(seconds) => match Term::of_seconds(u64::from(seconds)) {
+            Some(term) => Ok(Some(term)),
+            None => Err(usage(alloc, NO_LEASE)),
+        },
+    }
+}
+
+// How often a master of these numbers beats, and for how long a server may be silent, if it watches.
+fn paces_of(alloc: Global, numbers: MasterNumbers) -> Result<Option<Paces>, UsageFault>
+    ensures watches { IfOk result (λ beats. IsSome beats ↔ (numbers.watch ≡ true)) }
+    ensures beat { IfOk result (λ beats. IfSome beats (λ paces. paces.beat ≡ numbers.beat * MILLISECOND)) }
+    ensures after { IfOk result (λ beats. IfSome beats (λ paces. paces.after ≡ numbers.after * MILLISECOND)) }
+    ensures ordered { IfOk result (λ beats. numbers.watch ≡ true → numbers.beat < numbers.after) }
+{
+    if !numbers.watch {
+        return Ok(None);
+    }
+    match Paces::of_milliseconds(u64::from(numbers.beat), u64::from(numbers.after)) {
+        Some(paces) => Ok(Some(paces)),
+        None => Err(usage(alloc, NO_AFTER)),
     }
 }
 

@@ -24,6 +24,9 @@ const TRIES: u8 = 10;
 /// How many milliseconds it pauses between these tries.
 const PAUSE: u64 = 10;
 
+/// How many orders may have come while no connection stood: more than can wait.
+const STALE: u8 = 8;
+
 /// Where a server is, and how its watcher introduces itself.
 #[derive(Drop)]
 pub(crate) struct Place {
@@ -53,6 +56,8 @@ pub(crate) struct Watcher {
     stream: Option<TcpStream>,
     // What the master orders, if it beats.
     orders: Option<Receiver<Order>>,
+    // Whether a connection has ended, and none was opened since.
+    has_lost: bool,
 }
 
 impl Watcher {
@@ -79,6 +84,7 @@ impl Watcher {
             gone: 0,
             stream: None,
             orders,
+            has_lost: false,
         }
     }
 
@@ -99,7 +105,10 @@ impl Watcher {
     ) {
         for _ in rt.forever() {
             match self.look(rt, frames) {
-                Ok(sight) => self.act(rt, due(self.standing, sight)),
+                Ok(sight) => {
+                    self.pass_over(rt, sight);
+                    self.act(rt, due(self.standing, sight));
+                }
                 Err(AllocError) => {
                     self.post.put(rt, News::Fault(TellFault::Memory));
                     return;
@@ -113,6 +122,22 @@ impl Watcher {
             }
         }
         unreachable!()
+    }
+
+    // Once a server is reached again, what was ordered while it wasn't is passed over: what the master orders now that
+    // it is has room then.
+    fn pass_over<R: Wait>(&mut self, rt: &R, sight: Sight) {
+        if sight != Sight::Accepted || !self.has_lost {
+            return;
+        }
+        self.has_lost = false;
+        if let Some(orders) = &self.orders {
+            for _ in 0..STALE {
+                if orders.try_recv(rt).is_err() {
+                    return;
+                }
+            }
+        }
     }
 
     // Does what is due.
@@ -140,6 +165,7 @@ impl Watcher {
             if self.attend(rt, frames)? {
                 return Ok(Sight::Stands);
             }
+            self.has_lost = true;
             self.post.put(rt, News::Broken(self.place.id));
         }
         drop(mem::replace(frames, Frames::new(self.alloc)));

@@ -1,4 +1,5 @@
-//! The command `master` with `--watch`: it tells by itself that a server is gone whose process has ended.
+//! The command `master` with `--watch`: it tells by itself that a server is gone whose process has ended, or which was
+//! silent until its lease was over.
 ghost use Rattle.masters.specs.Statuses.{IsMasterStatus};
 
 use crate::answers::Answers;
@@ -25,9 +26,9 @@ const EVENTS: usize = 64;
 
 /// Does what `master` does, and watches the servers too: if the process of one of them has ended, which was reached
 /// before, the others are told that it is gone. The process has ended if its connection has, and if then its host
-/// refuses a new one or another start of the server accepts it. A server that doesn't answer isn't called gone. If the
-/// settings say that the master beats, which no command does yet, it also prolongs leases, and a server that has one is
-/// called gone once it was silent until that was over. Each step is printed in one line. It goes on after the end of
+/// refuses a new one or another start of the server accepts it. If the settings say that the master beats, it also
+/// prolongs leases, and the others are told that a server that has one is gone once it was silent until that was over.
+/// The silence of a server without a lease says nothing. Each step is printed in one line. It goes on after the end of
 /// its input. It answers the exit status as `master` does, and 1 after a line on `errors` once each server is gone.
 pub fn watch<
     R: Wait

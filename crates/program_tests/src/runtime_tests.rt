@@ -4,5 +4,7 @@ mod chains;
 mod clients;
 mod held_links;
 mod helping;
+mod leased_links;
 mod processes;
 mod running;
+mod visits;

@@ -8,3 +8,4 @@ pub mod Turning
 pub mod Opening
 pub mod PortBits
 pub mod Refusing
+pub mod Beginnings

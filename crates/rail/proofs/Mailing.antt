@@ -29,7 +29,7 @@ first zero v e = some-injective unstamped v e
 first (suc p) v e = absurd (some-ne-none v (sym e))
 
 -- a pass of a new queue is its only one
-not_new : (items : List Letter) (views : List Stamp) (pass : ℕ) (v : Stamp)
+pub not_new : (items : List Letter) (views : List Stamp) (pass : ℕ) (v : Stamp)
     → v.whole ≡ false
     → get_elem? views pass ≡ some v
     → views ≡ unstamped ∷ []
@@ -41,10 +41,10 @@ all_snoc : (a : Address) (xs : List Letter) (x : Letter) → AllAt a xs → addr
 all_snoc a [] x h e = (e, tt)
 all_snoc a (y ∷ ys) x h e = (h.0, all_snoc a ys x h.1 e)
 
-address_in : (a b : Address) (put put' : List Letter) → poster a put ≡ poster b put' → a ≡ b
+pub address_in : (a b : Address) (put put' : List Letter) → poster a put ≡ poster b put' → a ≡ b
 address_in a b put put' e = λ i. record { origin = (e i).origin; port = (e i).port }
 
-address_out : (a b : Address) (put put' : List Letter) → taker a put ≡ taker b put' → a ≡ b
+pub address_out : (a b : Address) (put put' : List Letter) → taker a put ≡ taker b put' → a ≡ b
 address_out a b put put' e = λ i. record { origin = (e i).origin; port = (e i).port }
 
 pub begins : Mails [] (unstamped ∷ [])

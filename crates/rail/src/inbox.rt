@@ -2,13 +2,14 @@
 //! queue, is what it sent.
 ghost use Rattle.std.specs.Prelude.{◌≡◌, [], ◌∷◌, ◌++◌, IfOk, IfErr, ◌+◌, ◌<◌, ◌^◌};
 ghost use Rattle.crossbeam_channel.specs.Claims.{view, IsSeatAt};
-ghost use Rattle.crossbeam_channel.specs.Ends.{sends_on, receives_on};
+ghost use Rattle.crossbeam_channel.specs.Ends.{sends_on, receives_on, ruled_capacity};
 ghost use Rattle.rail.specs.Events.{IsBelow};
 ghost use Rattle.rail.specs.Inbox.{Delivers, HasGot, HasSent, sender, taker};
 ghost use Rattle.rail.specs.Takes.{IsTake, IsTry};
 
 use crate::RailFault;
 use crate::events::{Event, Message};
+use crate::rooms::Room;
 use crate::waiting::TRIES;
 use atomic_table::Split;
 use crossbeam_channel::protocol::{Lesson, Outcome, Protocol};
@@ -116,11 +117,14 @@ pub struct Gate {
 
 impl Gate {
     /// An empty inbox with room for this many messages.
-    pub fn new(alloc: Global, room: usize) -> Result<Gate, AllocError>
-        requires { 0 < room }
-        ensures { IfOk result (λ g. view g.pass ≡ taker 0 0 []) }
+    pub fn new(alloc: Global, room: Room) -> Result<Gate, AllocError>
+        ensures pass { IfOk result (λ g. view g.pass ≡ taker 0 0 []) }
+        ensures room { IfOk result (λ g. ruled_capacity (sends_on g.to) ≡ room.messages) }
     {
-        let (to, inbox, pass) = bounded_with::<Message, Ticket, InOrder, Global>(alloc, room)?;
+        let (to, inbox, pass) = bounded_with::<Message, Ticket, InOrder, Global>(
+            alloc,
+            room.messages,
+        )?;
         Ok(Gate {
             to,
             inbox,

@@ -12,9 +12,10 @@ use crate::RailFault;
 use crate::inbox::Gate;
 use crate::inlets::Inlet;
 use crate::posts::{Post, open as open_queue};
+use crate::rooms::Room;
 use crate::seats::Seat;
 use crate::stands::Stand;
-use crate::waiting::{INBOX, REPLIES};
+use crate::waiting::REPLIES;
 use crate::workers::Worker;
 use faces::{Published, Publisher, Reader};
 use node::Node;
@@ -31,9 +32,9 @@ pub struct Server<R: Wait + Drop> {
 }
 
 /// Opens a server that begins as this node: a worker, a reader and a seat for each of n threads, at ports 0, 1 and so
-/// on, further seats at the ports after those, and inlets. Its node may hold items already. Refused with NoReader if
-/// its publisher could make no reader, and otherwise with Memory. Each publish takes time linear in the readers, and
-/// not in the seats.
+/// on, further seats at the ports after those, and inlets. Its node may hold items already. Its inbox has this room.
+/// Refused with NoReader if its publisher could make no reader, and otherwise with Memory. Each publish takes time
+/// linear in the readers, and not in the seats.
 pub fn open<R: Wait + Drop>(
     rt: R,
     alloc: Global,
@@ -41,6 +42,7 @@ pub fn open<R: Wait + Drop>(
     readers: usize,
     more: usize,
     inlets: usize,
+    room: Room,
 ) -> Result<Server<R>, RailFault>
     requires readers { 1 ≤ readers }
     requires seats { readers + more ≤ 16 }
@@ -51,7 +53,7 @@ pub fn open<R: Wait + Drop>(
         (λ fault. (fault ≡ RailFault.Memory) ⊎ (fault ≡ RailFault.NoReader)) }
 {
     hold_lawful(&node);
-    let mut gate = Gate::new(alloc, INBOX)?;
+    let mut gate = Gate::new(alloc, room)?;
     let Ok(mut publisher) = Publisher::open(&rt, alloc, node, readers) else {
         drop(gate);
         return Err(RailFault::Memory);

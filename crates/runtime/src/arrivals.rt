@@ -1,8 +1,8 @@
 //! The links from the other servers, until the server is ready.
 
 use crate::alarms::Alarm;
-use crate::cuts::Connections;
 use crate::server_faults::ServerFault;
+use seats::Mark;
 use std::alloc::{AllocError, Global};
 use std::sync::{Mutex, Wait};
 use std::time::{Clock, Instant};
@@ -86,18 +86,18 @@ impl Arrivals {
 
     /// Waits until the link from each other server stands, at the same start as the link to it, which these are. The
     /// server is ready then. Refused if one of them breaks, if a server was started again meanwhile, if one doesn't
-    /// come within 30 seconds, or if this server is called gone.
+    /// come within 30 seconds, or if the mark is set, since this server was called gone.
     pub(crate) fn wait_for_all<R: Wait + Clock>(
         &self,
         rt: &R,
         starts: &[Option<u64>],
-        connections: &Connections,
+        ended: &Mark,
     ) -> Result<(), ServerFault> {
         let Ok(begun) = Instant::now(rt) else {
             return Err(ServerFault::Run);
         };
         for _ in rt.forever() {
-            if connections.ended().is_set() {
+            if ended.is_set() {
                 return Err(ServerFault::Gone);
             }
             match self.look(rt, starts) {

@@ -1,16 +1,22 @@
-//! Cutting the connections to servers that have failed.
+//! Cutting the connections to servers that have failed, and the lease by which a server puts anything out.
+ghost use Rattle.std.specs.Prelude.{◌≡◌, IfOk};
+ghost use Rattle.leases.specs.Shared.{is_timed};
+ghost use Rattle.runtime.specs.Held.{may_end};
 
-use leases::Lease;
+use leases::{AnyEnd, Lease, SharedLease, Term, nanoseconds_of};
 use links::Cuts;
-use seats::Mark;
+use seats::{Leash, Mark};
 use std::alloc::{AllocError, Global};
 use std::net::{Shutdown, TcpStream};
-use std::sync::{Mutex, Wait};
+use std::sync::{Arc, Mutex, Wait};
+use std::time::Clock;
 
 /// The connections of server `id` to the other servers of its chain, by their ids. With them one thread ends what
-/// another does there.
+/// another does there. The server's lease is here too, for those who ask for it, and the clock by which it runs.
 #[derive(Drop)]
-pub(crate) struct Connections {
+pub(crate) struct Connections<R> {
+    // The server's clock.
+    rt: R,
     id: u8,
     streams: Mutex<Vec<Option<TcpStream>>>,
     // Each is set as soon as it is known here that the server is gone; all are if it is this one.
@@ -19,16 +25,23 @@ pub(crate) struct Connections {
     failed: Mark,
     // Set if this server was called gone, and is to end.
     ended: Mark,
+    // The server's lease, for those who ask without the lock under which it is.
+    lease: Arc<SharedLease<AnyEnd>, Global>,
 }
 
-impl Connections {
-    /// No connection yet, in a chain of n servers. The mark is set if the server itself is called gone.
+impl<R: Clock + Drop> Connections<R> {
+    /// No connection yet, in a chain of n servers. The mark is set if the server itself is called gone. Its lease has
+    /// this term, or always holds.
     pub(crate) fn new(
+        rt: R,
         alloc: Global,
         id: u8,
         servers: u8,
         failed: Mark,
-    ) -> Result<Connections, AllocError> {
+        term: Option<Term>,
+    ) -> Result<Connections<R>, AllocError>
+        ensures { IfOk result (λ made. may_end made ≡ is_timed term) }
+    {
         let mut streams = Vec::new(alloc);
         let mut gone = Vec::new(alloc);
         for _ in 0..servers {
@@ -36,16 +49,18 @@ impl Connections {
             gone.push(Mark::new(alloc)?)?;
         }
         Ok(Connections {
+            rt,
             id,
             streams: Mutex::new(streams),
             gone,
             failed,
             ended: Mark::new(alloc)?,
+            lease: Arc::new(alloc, SharedLease::new(term))?,
         })
     }
 
     /// The connection to server `j`, which is ended at once if it was cut before.
-    pub(crate) fn add<R: Wait>(&self, rt: &R, j: u8, stream: TcpStream) {
+    pub(crate) fn add<W: Wait>(&self, rt: &W, j: u8, stream: TcpStream) {
         let mut guard = self.streams.lock(rt);
         let streams = &mut *guard;
         if self.is_gone(j) {
@@ -56,6 +71,23 @@ impl Connections {
         } else {
             drop(stream);
         }
+    }
+
+    /// What may hold back what the server puts out. It does so only if the server's lease has a term.
+    pub(crate) fn leash(&self) -> Result<Leash, AllocError>
+        ensures { IfOk result (λ leash. leash ≡ may_end self.now) }
+    {
+        Ok(Leash::held_by(Arc::try_clone(&self.lease)?))
+    }
+
+    /// What the link to server `j` looks at: what is set as soon as that is called gone, what is set as soon as this
+    /// server answers no call any more, and what may hold it back.
+    pub(crate) fn guards(&self, j: u8) -> Result<(Mark, Mark, Leash), AllocError>
+        ensures { IfOk result (λ guards. guards.2 ≡ may_end self.now) }
+    {
+        let gone = self.mark(j)?;
+        let failed = self.failed.share()?;
+        Ok((gone, failed, self.leash()?))
     }
 
     /// What is set as soon as server `j` is called gone.
@@ -80,7 +112,7 @@ impl Connections {
     }
 
     // Marks server `j` as gone, and ends the connection to it.
-    fn cut_one<R: Wait>(&self, rt: &R, j: u8) {
+    fn cut_one<W: Wait>(&self, rt: &W, j: u8) {
         if let Some(mark) = self.gone.get(usize::from(j)) {
             mark.set();
         }
@@ -91,7 +123,7 @@ impl Connections {
     }
 
     // The same of all.
-    fn cut_all<R: Wait>(&self, rt: &R) {
+    fn cut_all<W: Wait>(&self, rt: &W) {
         for mark in self.gone.iter() {
             mark.set();
         }
@@ -104,8 +136,8 @@ impl Connections {
     }
 }
 
-impl Cuts for Connections {
-    fn cut<R: Wait>(&self, rt: &R, j: u8) {
+impl<R: Clock + Drop> Cuts for Connections<R> {
+    fn cut<W: Wait>(&self, rt: &W, j: u8) {
         if j == self.id {
             self.failed.set();
             self.cut_all(rt);
@@ -118,11 +150,14 @@ impl Cuts for Connections {
         self.ended.set();
     }
 
-    // Masters give no orders yet, so nobody reads a clock for them.
     fn now(&self) -> Option<u64> {
-        None
+        match self.rt.monotonic() {
+            Ok(reading) => Some(nanoseconds_of(reading)),
+            Err(_) => None,
+        }
     }
 
-    // Nobody asks for it yet.
-    fn renewed(&self, _lease: &Lease) {}
+    fn renewed(&self, lease: &Lease) {
+        self.lease.renew(lease);
+    }
 }

@@ -1,9 +1,12 @@
 //! The answers to those who greet at a server's peer port.
-ghost use Rattle.wire.specs.Spellings.{IsInRange};
+ghost use Rattle.std.specs.Prelude.{◌≡◌, ◌++◌, true, false};
+ghost use Rattle.ends.specs.Ends.{WritesBeginning};
+ghost use Rattle.wire.specs.Spellings.{IsInRange, spelling};
+ghost use Rattle.wire.specs.declared.frames.Frame.TheVariants as frames;
 
 use crate::link_lines::tell_refused;
 use crate::paces::Pace;
-use ends::TrackedWriter;
+use ends::{Sink, TrackedWriter};
 use peers::put_frame;
 use std::alloc::Global;
 use std::net::TcpStream;
@@ -49,10 +52,8 @@ impl Greeter {
 
     /// Accepts a connection, which may be quiet from then on. It tells whether the answer was written.
     pub(crate) fn accept(&self, alloc: Global, acceptance: Acceptance, stream: &TcpStream) -> bool {
-        let frame = Frame::Accepted(acceptance);
-        let is_put = stream.set_read_timeout(None).is_ok() && put(alloc, &frame, stream);
-        drop(frame);
-        is_put
+        let mut sink = TrackedWriter::new(stream);
+        stream.set_read_timeout(None).is_ok() && put_acceptance(alloc, acceptance, &mut sink)
     }
 
     /// Refuses a connection of who greets with this id, and tells so.
@@ -64,9 +65,8 @@ impl Greeter {
         reason: Reason,
         stream: &TcpStream,
     ) {
-        let frame = Frame::Refused(reason);
-        put(alloc, &frame, stream);
-        drop(frame);
+        let mut sink = TrackedWriter::new(stream);
+        put_refusal(alloc, reason, &mut sink);
         if self.is_time(rt, reason) {
             tell_refused(rt, self.id, id, reason);
         }
@@ -86,18 +86,53 @@ impl Greeter {
     }
 }
 
-// Writes a frame. It tells whether it was written.
-fn put(alloc: Global, frame: &Frame, stream: &TcpStream) -> bool {
+// Writes that a connection is accepted. It tells whether that was written.
+fn put_acceptance<W: Sink>(alloc: Global, acceptance: Acceptance, sink: &mut W) -> bool
+    ensures whole { result ≡ true
+        → W.written sink.new ≡ W.written sink.old ++ spelling (frames.Accepted acceptance) }
+    ensures begun { result ≡ false
+        → WritesBeginning (W.written sink.old) (W.written sink.new) (spelling (frames.Accepted acceptance)) }
+{
+    let frame = Frame::Accepted(acceptance);
+    let is_put = put(alloc, &frame, sink);
+    drop(frame);
+    is_put
+}
+
+// Writes why a connection is refused. It tells whether that was written.
+fn put_refusal<W: Sink>(alloc: Global, reason: Reason, sink: &mut W) -> bool
+    ensures whole { result ≡ true
+        → W.written sink.new ≡ W.written sink.old ++ spelling (frames.Refused reason) }
+    ensures begun { result ≡ false
+        → WritesBeginning (W.written sink.old) (W.written sink.new) (spelling (frames.Refused reason)) }
+{
+    let frame = Frame::Refused(reason);
+    let is_put = put(alloc, &frame, sink);
+    drop(frame);
+    is_put
+}
+
+// Writes a frame. It tells whether all of it was written: else a beginning of it was.
+fn put<W: Sink>(alloc: Global, frame: &Frame, sink: &mut W) -> bool
+    ensures whole { result ≡ true → W.written sink.new ≡ W.written sink.old ++ spelling frame.now }
+    ensures begun { result ≡ false
+        → WritesBeginning (W.written sink.old) (W.written sink.new) (spelling frame.now) }
+{
     if frame.is_in_range() {
-        put_fit(alloc, frame, stream)
+        put_fit(alloc, frame, sink)
     } else {
         false
     }
 }
 
-fn put_fit(alloc: Global, frame: &Frame, stream: &TcpStream) -> bool
+fn put_fit<W: Sink>(alloc: Global, frame: &Frame, sink: &mut W) -> bool
     requires { IsInRange frame.now }
+    ensures whole { result ≡ true → W.written sink.new ≡ W.written sink.old ++ spelling frame.now }
+    ensures begun { result ≡ false
+        → WritesBeginning (W.written sink.old) (W.written sink.new) (spelling frame.now) }
 {
-    let mut sink = TrackedWriter::new(stream);
-    put_frame(alloc, &mut sink, frame).is_ok()
+    match put_frame(alloc, sink, frame) {
+        Ok(()) => true,
+        Err(_) => false,
+    }
 }

@@ -1,10 +1,15 @@
 //! The workers of the servers of one process. Whoever puts a message takes the turn that it asks for, unless another
 //! thread is at that worker.
+ghost use Rattle.std.specs.Prelude.{◌≡◌, ◌++◌, ◌∷◌, [], map, OnOk};
+ghost use Rattle.runtime.specs.Findings.{Finds};
+ghost use Rattle.runtime.specs.Halls.{ids};
 
 use crate::alarms::Alarm;
+use crate::benches::{Bench, Found};
+use crate::endings::Ending;
 use io_threads::{Desks, Stations, Visit};
-use rail::{PortSet, RailFault, Turn, Worker};
-use seats::{Gauge, InProcessLinks, Mark, ServerSet};
+use rail::{PortSet, Worker};
+use seats::{Gauge, InProcessLinks, ServerSet};
 use std::alloc::{AllocError, Global};
 use std::sync::atomic::{AtomicBool, Ordering};
 use std::sync::{Arc, Mutex, Wait};
@@ -13,23 +18,18 @@ use std::thread::Parker;
 /// How many turns a worker's own thread takes under one lock.
 const TURNS: usize = 64;
 
-/// One server's worker with its links.
-#[derive(Drop)]
-struct Bench<R: Wait + Drop> {
-    worker: Worker<R>,
-    links: InProcessLinks<R>,
-}
-
 /// Where the turns of one server are taken.
 #[derive(Drop)]
 struct Station<R: Wait + Drop> {
+    id: u8,
     // It is only ever tried, so nobody waits for it.
     bench: Mutex<Bench<R>>,
     // Whether its inbox may hold a message that nobody is about to take.
     due: AtomicBool,
     // Whether no more turns are taken.
     ended: AtomicBool,
-    stopped: Mark,
+    // Where the note of its end is put.
+    ending: Ending,
     // Whether its items may take more memory.
     gauge: Gauge,
     // Where the worker's own thread sleeps.
@@ -62,17 +62,6 @@ struct Taken {
     replied: PortSet,
 }
 
-// What there was to do at a worker.
-#[derive(Clone, Copy)]
-enum Found {
-    // A message, and a turn was taken for it.
-    Message,
-    // Nothing.
-    Nothing,
-    // The last message of all: no more turns are taken.
-    End,
-}
-
 impl<R: Wait + Drop> Station<R> {
     // Takes up to this many turns if no other thread is at the worker.
     fn try_turns(&self, most: usize, alarm: &Alarm) -> Option<Taken> {
@@ -85,42 +74,43 @@ impl<R: Wait + Drop> Station<R> {
         let mut turns = 0usize;
         for _ in 0..most {
             match self.turn(&mut *bench, alarm) {
-                Found::Message => turns = turns.wrapping_add(1),
-                Found::Nothing | Found::End => break,
+                Found::Message | Found::Stopped(_) | Found::Refused(_) => {
+                    turns = turns.wrapping_add(1);
+                }
+                Found::Nothing | Found::Closed(_) | Found::End => break,
             }
         }
         if turns == most {
             self.due.store(true, Ordering::SeqCst);
         }
-        self.gauge.note(bench.worker.weight());
+        self.gauge.note(bench.weight());
         Some(Taken {
             turns,
-            reached: bench.links.take_reached(),
-            replied: bench.worker.take_replied(),
+            reached: bench.take_reached(),
+            replied: bench.take_replied(),
         })
     }
 
-    // Takes a turn, if there is a message. If memory is refused the server is stopped, and the alarm is rung.
-    fn turn(&self, bench: &mut Bench<R>, alarm: &Alarm) -> Found {
-        match bench.worker.turn_if_any(&mut bench.links) {
-            Ok(None) => return Found::Nothing,
-            Ok(Some(Turn::Went)) => {}
-            Ok(Some(Turn::Stopped)) => self.stopped.set(),
-            Ok(Some(Turn::End)) => {
-                self.end();
-                return Found::End;
-            }
-            Err(RailFault::Closed) => {
-                self.stopped.set();
-                self.end();
-                return Found::End;
-            }
-            Err(_) => {
-                self.stopped.set();
+    // Takes a turn, if there is a message. If the server has ended, the note of that is put where others look. If
+    // memory was refused, the alarm is rung too.
+    fn turn(&self, bench: &mut Bench<R>, alarm: &Alarm) -> Found
+        ensures { Finds self.now.id bench.old.worker bench.new.worker result }
+    {
+        let found = bench.turn(self.id);
+        match found {
+            Found::Nothing | Found::Message => {}
+            Found::Stopped(ended) => self.ending.put(ended),
+            Found::Refused(ended) => {
+                self.ending.put(ended);
                 alarm.ring();
             }
+            Found::Closed(ended) => {
+                self.ending.put(ended);
+                self.end();
+            }
+            Found::End => self.end(),
         }
-        Found::Message
+        found
     }
 
     // No more turns are taken, and the worker's thread ends.
@@ -137,7 +127,9 @@ impl<R: Wait + Drop> Station<R> {
 
 impl<R: Wait + Drop> Hall<R> {
     /// A hall without servers, whose clients the threads of these desks serve.
-    pub(crate) fn new(alloc: Global, desks: Arc<Desks, Global>) -> Hall<R> {
+    pub(crate) fn new(alloc: Global, desks: Arc<Desks, Global>) -> Hall<R>
+        ensures { ids result ≡ [] }
+    {
         Hall {
             stations: Vec::new(alloc),
             alarm: Alarm::new(),
@@ -145,20 +137,25 @@ impl<R: Wait + Drop> Hall<R> {
         }
     }
 
-    /// Adds the worker of the next server, with its links. The mark is set as soon as the server is stopped, or out of
-    /// memory, or nobody is left who could send it anything. After each turn the gauge is told what the server holds.
+    /// Adds the worker of the next server, whose id this is, with its links. The note of its end is put there as soon
+    /// as the server is stopped, or out of memory, or nobody is left who could send it anything. After each turn the
+    /// gauge is told what the server holds.
     pub(crate) fn add(
         &mut self,
+        id: u8,
         worker: Worker<R>,
         links: InProcessLinks<R>,
-        stopped: Mark,
+        ending: Ending,
         gauge: Gauge,
-    ) -> Result<(), AllocError> {
+    ) -> Result<(), AllocError>
+        ensures { OnOk result (ids self.new ≡ ids self.old ++ id ∷ []) }
+    {
         let station = Station {
-            bench: Mutex::new(Bench { worker, links }),
+            id,
+            bench: Mutex::new(Bench::new(worker, links)),
             due: AtomicBool::new(false),
             ended: AtomicBool::new(false),
-            stopped,
+            ending,
             gauge,
             bell: Parker::new(),
         };

@@ -1,11 +1,14 @@
 //! What the program's own threads know of the servers of a cluster.
-ghost use Rattle.std.specs.Prelude.{◌≡◌, ◌++◌, ◌∷◌, [], Ok, OnErr};
-ghost use Rattle.rail.specs.declared.events.Event.TheVariants.{Stop};
+ghost use Rattle.std.specs.Prelude.{◌≡◌, ◌<◌, ◌≤◌, ◌++◌, ◌∷◌, [], ℕ, Ok, OnOk, OnErr};
+ghost use Rattle.node.specs.Views.{single, union};
+ghost use Rattle.node.specs.declared.messages.Input.TheVariants.{Gone};
+ghost use Rattle.rail.specs.declared.events.Event.TheVariants.{Took, Stop};
 
+use crate::endings::{Ended, EndedSet, Ending};
 use crate::halls::Hall;
-use node::Master;
-use rail::Inlet;
-use seats::{Mark, ServerSet};
+use node::{Master, SERVERS};
+use rail::{Inlet, RailFault};
+use seats::Mark;
 use std::alloc::Global;
 use std::sync::Wait;
 use thiserror::Error;
@@ -14,7 +17,7 @@ use thiserror::Error;
 #[derive(Clone, Copy)]
 pub(crate) enum Stopping {
     /// Its worker had stopped before.
-    Done,
+    Done(Ended),
     /// Its worker was told, and will stop.
     Told,
 }
@@ -30,17 +33,20 @@ pub struct Home {
     inlet: Inlet,
     /// The mark that callers look at.
     pub failed: Mark,
-    // The worker's mark.
-    stopped: Mark,
+    // Where the note of its worker's end will be.
+    ending: Ending,
 }
 
 impl Home {
-    /// A server's inlet and its marks: the one that callers look at, and the worker's.
-    pub(crate) fn new(inlet: Inlet, failed: Mark, stopped: Mark) -> Home {
+    /// A server's inlet, the mark that callers look at, and where the note of its worker's end will be.
+    pub(crate) fn new(inlet: Inlet, failed: Mark, ending: Ending) -> Home
+        ensures inlet { result.inlet ≡ inlet }
+        ensures failed { result.failed ≡ failed }
+    {
         Home {
             inlet,
             failed,
-            stopped,
+            ending,
         }
     }
 
@@ -48,11 +54,11 @@ impl Home {
     // told to: then its inbox got nothing.
     fn stop<R: Wait>(&mut self, rt: &R) -> Result<Stopping, StopFault>
         ensures told { result ≡ Ok Stopping.Told → self.new.inlet ≡ self.old.inlet ++ Stop ∷ [] }
-        ensures done { result ≡ Ok Stopping.Done → self.new.inlet ≡ self.old.inlet }
+        ensures done { (ended : ℕ) → result ≡ Ok (Stopping.Done ended) → self.new.inlet ≡ self.old.inlet }
         ensures refused { OnErr result (self.new.inlet ≡ self.old.inlet) }
     {
-        if self.stopped.is_set() {
-            return Ok(Stopping::Done);
+        if let Some(ended) = self.ending.get() {
+            return Ok(Stopping::Done(ended));
         }
         self.failed.set();
         match self.inlet.stop(rt) {
@@ -61,9 +67,22 @@ impl Home {
         }
     }
 
-    // Whether the server has stopped by itself, and nobody has looked yet.
-    fn has_fallen(&self) -> bool {
-        self.stopped.is_set() && !self.failed.is_set()
+    // Tells the server that another has ended. Refused if its worker is gone.
+    fn tell<R: Wait>(&mut self, rt: &R, ended: Ended) -> Result<(), RailFault>
+        ensures ok { OnOk result (self.new.inlet ≡ self.old.inlet ++ Took (Gone ended) ∷ []) }
+        ensures err { OnErr result (self.new.inlet ≡ self.old.inlet) }
+    {
+        self.inlet.gone(rt, ended.id())
+    }
+
+    // The note of its end, if the server has stopped by itself, and nobody has looked yet.
+    fn fallen(&self) -> Option<Ended> {
+        let ended = self.ending.get()?;
+        if self.failed.is_set() {
+            None
+        } else {
+            Some(ended)
+        }
     }
 }
 
@@ -73,8 +92,8 @@ pub(crate) struct Homes {
     alloc: Global,
     homes: Vec<Home>,
     master: Master,
-    // The servers that have failed, and of which the others are still to be told.
-    untold: ServerSet,
+    // The ends of which the others are still to be told.
+    untold: EndedSet,
 }
 
 impl Homes {
@@ -84,7 +103,7 @@ impl Homes {
             alloc,
             homes,
             master,
-            untold: ServerSet::new(),
+            untold: EndedSet::new(),
         }
     }
 
@@ -105,24 +124,23 @@ impl Homes {
         Ok(stopping)
     }
 
-    /// Whether the worker of server `j` puts out nothing more.
-    pub(crate) fn has_stopped(&self, j: u8) -> bool {
+    /// The note that server `j` has ended, if it has: then its worker puts out nothing more. Refused if there is no
+    /// such server.
+    pub(crate) fn ended(&self, j: u8) -> Result<Option<Ended>, StopFault> {
         match self.homes.get(usize::from(j)) {
-            Some(home) => home.stopped.is_set(),
-            None => true,
+            Some(home) => Ok(home.ending.get()),
+            None => Err(StopFault),
         }
     }
 
-    /// A server that has stopped by itself since this was last asked. Its clients' connections are closed.
-    pub(crate) fn next_fallen<R: Wait + Drop>(&mut self, hall: &Hall<R>) -> Option<u8> {
-        let mut id = 0u8;
+    /// The end of a server that has stopped by itself since this was last asked. Its clients' connections are closed.
+    pub(crate) fn next_fallen<R: Wait + Drop>(&mut self, hall: &Hall<R>) -> Option<Ended> {
         for home in self.homes.iter() {
-            if home.has_fallen() {
+            if let Some(ended) = home.fallen() {
                 home.failed.set();
                 hall.wake_all();
-                return Some(id);
+                return Some(ended);
             }
-            id = id.wrapping_add(1);
         }
         None
     }
@@ -138,37 +156,38 @@ impl Homes {
         living
     }
 
-    /// The others are to be told that server `j` has failed.
-    pub(crate) fn note(&mut self, j: u8) {
-        self.untold.add(j);
+    /// The others are to be told of this end.
+    pub(crate) fn note(&mut self, ended: Ended)
+        ensures chain { ended < 16 → self.new.untold ≡ union self.old.untold (single ended) }
+        ensures beyond { 16 ≤ ended → self.new.untold ≡ self.old.untold }
+    {
+        self.untold.add(ended);
     }
 
-    /// Tells the others of each failure that was noted and that they weren't told of. It answers false if it has to be
+    /// Tells the others of each end that was noted and that they weren't told of. It answers false if it has to be
     /// tried again, as memory was out.
     pub(crate) fn tell<R: Wait + Drop>(&mut self, rt: &R, hall: &Hall<R>) -> bool {
-        let mut left = self.untold;
-        for _ in 0..self.homes.len() {
-            let Some(j) = left.take_after(0) else {
-                self.untold = left;
-                return true;
-            };
-            if !self.tell_of(rt, hall, j) {
-                return false;
+        let untold = self.untold;
+        for j in 0..SERVERS {
+            if let Some(ended) = untold.get(j) {
+                if !self.tell_of(rt, hall, ended) {
+                    return false;
+                }
             }
         }
-        self.untold = left;
+        self.untold = EndedSet::new();
         true
     }
 
-    // Tells the others that server `j` has failed. Of one that they were told of nobody is told.
-    fn tell_of<R: Wait + Drop>(&mut self, rt: &R, hall: &Hall<R>, j: u8) -> bool {
-        let Ok(notices) = self.master.gone(self.alloc, j) else {
+    // Tells the others that a server has ended. Of one that they were told of nobody is told.
+    fn tell_of<R: Wait + Drop>(&mut self, rt: &R, hall: &Hall<R>, ended: Ended) -> bool {
+        let Ok(notices) = self.master.gone(self.alloc, ended.id()) else {
             return false;
         };
         for notice in notices {
-            let (i, j) = notice;
+            let (i, _) = notice;
             if let Some(home) = self.homes.get_mut(usize::from(i)) {
-                let _ = home.inlet.gone(rt, j);
+                let _ = home.tell(rt, ended);
                 hall.ring(i);
             }
         }

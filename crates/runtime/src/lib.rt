@@ -4,13 +4,17 @@
 mod alarms;
 mod arrivals;
 mod banners;
+mod benches;
 mod cluster_faults;
 mod clusters;
 mod cuts;
+mod dealing;
+mod endings;
 mod file_limits;
 mod greeters;
 mod halls;
 mod homes;
+mod leased_sinks;
 mod link_lines;
 mod machines;
 mod meetings;

@@ -1,7 +1,15 @@
 //! How a server meets the others of its chain.
+ghost use Rattle.std.specs.Prelude.{◌≡◌, IfOk};
+ghost use Rattle.std.specs.Arc.{arc_value};
+ghost use Rattle.leases.specs.Shared.{is_timed};
+ghost use Rattle.links.specs.Lobbies.{cuts_of};
+ghost use Rattle.links.specs.Places.{waiting};
+ghost use Rattle.runtime.specs.Held.{may_end};
+ghost use Rattle.runtime.specs.Wiring.{IsPlaced};
 
 use crate::arrivals::Arrivals;
 use crate::cuts::Connections;
+use crate::dealing::inlets_for_all;
 use crate::outgoing::{LinkSink, Outgoing};
 use crate::peer_doors::open_peer_door;
 use crate::server_faults::ServerFault;
@@ -17,24 +25,28 @@ use std::sync::{Arc, Wait};
 use std::thread::Threads;
 use std::time::Clock;
 
-/// The lobby of a server, which other servers and masters enter. The mark is set if the server is called gone.
-pub(crate) fn new_lobby<R: Clock>(
-    rt: &R,
+/// The lobby of a server, which other servers and masters enter, and the server's lease, which has the term of its
+/// settings. The mark is set if the server is called gone.
+pub(crate) fn new_lobby<R: Clock + Copy + Drop>(
+    rt: R,
     alloc: Global,
     settings: &ServerSettings,
     inlets: Vec<Inlet>,
     failed: &Mark,
-) -> Result<Arc<Lobby<Connections>, Global>, ServerFault> {
+) -> Result<Arc<Lobby<Connections<R>>, Global>, ServerFault>
+    ensures { IfOk result (λ lobby. may_end (cuts_of (arc_value lobby)) ≡ is_timed settings.now.term) }
+{
     let ServerNumbers { id, servers, .. } = settings.numbers;
     let host = Identity {
         id,
         servers,
-        start: start_number(rt),
+        start: start_number(&rt),
         chain: settings.chain.clone()?,
     };
     let (places, notices) = all_places(alloc, settings, inlets)?;
-    let connections = Connections::new(alloc, id, servers, failed.share()?)?;
-    let lobby = Lobby::new(host, places, notices, None, connections);
+    let term = settings.term;
+    let connections = Connections::new(rt, alloc, id, servers, failed.share()?, term)?;
+    let lobby = Lobby::new(host, places, notices, term, connections);
     Ok(Arc::new(alloc, lobby)?)
 }
 
@@ -49,18 +61,19 @@ pub(crate) fn connected<
         + Copy
         + Drop
         + Send
+        + Sync
         + 'static,
 >(
     rt: R,
     alloc: Global,
     settings: &ServerSettings,
-    lobby: &Arc<Lobby<Connections>, Global>,
+    lobby: &Arc<Lobby<Connections<R>>, Global>,
     peers: TcpListener,
 ) -> Result<PeerLinks<LinkSink<R>>, ServerFault> {
     let arrivals = Arc::new(alloc, Arrivals::new(alloc, settings.numbers.servers)?)?;
     let _ = open_peer_door(rt, alloc, peers, lobby, &arrivals)?;
     let Outgoing { links, starts } = Outgoing::open(rt, alloc, settings, lobby)?;
-    arrivals.wait_for_all(&rt, starts.as_slice(), lobby.cuts())?;
+    arrivals.wait_for_all(&rt, starts.as_slice(), lobby.cuts().ended())?;
     Ok(PeerLinks::new(alloc, links))
 }
 
@@ -69,17 +82,13 @@ fn all_places(
     alloc: Global,
     settings: &ServerSettings,
     inlets: Vec<Inlet>,
-) -> Result<(Places, Inlet), ServerFault> {
+) -> Result<(Places, Inlet), ServerFault>
+    ensures { IfOk result (λ all. let numbers = settings.now.numbers in
+        IsPlaced numbers.id numbers.servers inlets.items (waiting all.0) all.1) }
+{
     let mut inlets = inlets;
-    let mut places = Vec::new(alloc);
-    for j in 0..settings.numbers.servers {
-        let inlet = if j == settings.numbers.id {
-            None
-        } else {
-            inlets.pop()
-        };
-        places.push(inlet)?;
-    }
+    let ServerNumbers { id, servers, .. } = settings.numbers;
+    let places = inlets_for_all(alloc, usize::from(id), usize::from(servers), &mut inlets)?;
     match inlets.pop() {
         Some(notices) => Ok((Places::new(places), notices)),
         None => Err(ServerFault::Run),

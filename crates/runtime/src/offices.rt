@@ -1,5 +1,6 @@
 //! Where the servers of a cluster are failed: by the input's lines, and by themselves if they are refused memory.
 
+use crate::endings::Ended;
 use crate::halls::Hall;
 use crate::homes::{Homes, StopFault, Stopping};
 use std::alloc::{AllocError, Global};
@@ -20,7 +21,7 @@ pub(crate) struct Office<R: Wait + Drop> {
 #[derive(Clone, Copy)]
 enum Found {
     // This server has stopped by itself, and this many others haven't failed.
-    Fallen(u8, usize),
+    Fallen(Ended, usize),
     // The others couldn't be told, as memory was out.
     Untold,
     // Nothing is left to do.
@@ -43,12 +44,12 @@ impl<R: Wait + Copy + Drop + Send + 'static> Office<R> {
     where
         R: Clock,
     {
-        match self.stop(rt, j)? {
-            Stopping::Told => self.wait_until_stopped(rt, j),
-            Stopping::Done => {}
-        }
+        let ended = match self.stop(rt, j)? {
+            Stopping::Told => self.wait_for_end(rt, j)?,
+            Stopping::Done(ended) => ended,
+        };
         let mut homes = self.homes.lock(rt);
-        homes.note(j);
+        homes.note(ended);
         if !homes.tell(rt, &self.hall) {
             self.hall.alarm().ring();
         }
@@ -61,22 +62,22 @@ impl<R: Wait + Copy + Drop + Send + 'static> Office<R> {
     }
 
     // Looks each millisecond. Between two looks the lock is free.
-    fn wait_until_stopped(&self, rt: &R, j: u8)
+    fn wait_for_end(&self, rt: &R, j: u8) -> Result<Ended, StopFault>
     where
         R: Clock,
     {
         for _ in rt.forever() {
-            if self.has_stopped(rt, j) {
-                return;
+            if let Some(ended) = self.ended(rt, j)? {
+                return Ok(ended);
             }
             thread::sleep(rt, Duration::from_millis(1));
         }
         unreachable!()
     }
 
-    fn has_stopped(&self, rt: &R, j: u8) -> bool {
+    fn ended(&self, rt: &R, j: u8) -> Result<Option<Ended>, StopFault> {
         let homes = self.homes.lock(rt);
-        homes.has_stopped(j)
+        homes.ended(j)
     }
 
     /// Ends the workers' loops, and that of the thread that looks after the servers.
@@ -109,7 +110,7 @@ impl<R: Wait + Copy + Drop + Send + 'static> Office<R> {
     {
         for _ in rt.forever() {
             match self.look(rt) {
-                Found::Fallen(j, living) => say_fallen(rt, j, living),
+                Found::Fallen(ended, living) => say_fallen(rt, ended.id(), living),
                 Found::Untold => self.hall.alarm().wait_a_little(rt),
                 Found::Nothing => return,
             }
@@ -123,12 +124,12 @@ impl<R: Wait + Copy + Drop + Send + 'static> Office<R> {
     fn look(&self, rt: &R) -> Found {
         let mut homes = self.homes.lock(rt);
         let fallen = homes.next_fallen(&self.hall);
-        if let Some(j) = fallen {
-            homes.note(j);
+        if let Some(ended) = fallen {
+            homes.note(ended);
         }
         let all_told = homes.tell(rt, &self.hall);
         match fallen {
-            Some(j) => Found::Fallen(j, homes.living()),
+            Some(ended) => Found::Fallen(ended, homes.living()),
             None if all_told => Found::Nothing,
             None => Found::Untold,
         }

@@ -1,17 +1,22 @@
 //! The connections that a server opens to the others of its chain.
+ghost use Rattle.std.specs.Prelude.{◌≡◌, IfOk};
+ghost use Rattle.links.specs.Lobbies.{cuts_of};
+ghost use Rattle.runtime.specs.Held.{may_end};
 
 use crate::cuts::Connections;
+use crate::leased_sinks::LeasedSink;
 use crate::server_faults::ServerFault;
 use crate::told_sinks::ToldSink;
 use links::{Lobby, PeerLink};
 use masters::{Channel, Greeted, PeerSink, ServerSettings, port_of, reach};
+use peers::Identity;
 use std::alloc::{AllocError, Global};
 use std::net::{Net, TcpListener, TcpStream};
 use std::sync::Wait;
 use std::time::Clock;
 
-/// Where frames for another server go. A write that fails is told.
-pub(crate) type LinkSink<R> = ToldSink<R, PeerSink>;
+/// Where frames for another server go while this one may put anything out. A write that fails is told.
+pub(crate) type LinkSink<R> = LeasedSink<R, ToldSink<R, PeerSink>>;
 
 /// The links to the other servers, each of which has accepted.
 #[derive(Drop)]
@@ -30,7 +35,7 @@ impl<
         rt: R,
         alloc: Global,
         settings: &ServerSettings,
-        lobby: &Lobby<Connections>,
+        lobby: &Lobby<Connections<R>>,
     ) -> Result<Outgoing<R>, ServerFault> {
         let mut links = Vec::new(alloc);
         let mut starts = Vec::new(alloc);
@@ -38,7 +43,13 @@ impl<
             let (sink, start) = if j == settings.numbers.id {
                 (None, None)
             } else {
-                let Channel { sink, start, .. } = channel_to(&rt, alloc, settings, lobby, j)?;
+                let Channel { sink, start, .. } = channel_to(
+                    &rt,
+                    alloc,
+                    settings,
+                    lobby.host(),
+                    j,
+                )?;
                 (Some(told(rt, lobby, j, sink)?), Some(start))
             };
             links.push(PeerLink::new(sink))?;
@@ -53,14 +64,14 @@ fn channel_to<R: Clock + Net<Listener = TcpListener, Stream = TcpStream>>(
     rt: &R,
     alloc: Global,
     settings: &ServerSettings,
-    lobby: &Lobby<Connections>,
+    host: &Identity,
     j: u8,
 ) -> Result<Channel, ServerFault> {
-    let Some(host) = settings.hosts.get(usize::from(j)) else {
+    let Some(other) = settings.hosts.get(usize::from(j)) else {
         return Err(ServerFault::Run);
     };
     let port = port_of(settings.numbers.peer_port, j);
-    match reach(rt, alloc, host.as_str(), port, lobby.host())? {
+    match reach(rt, alloc, other.as_str(), port, host)? {
         Greeted::Accepted(channel) => Ok(channel),
         Greeted::Refused(reason) => Err(ServerFault::Refused(j, reason)),
         Greeted::NoAnswer | Greeted::NoListener => Err(ServerFault::Away(j)),
@@ -68,21 +79,27 @@ fn channel_to<R: Clock + Net<Listener = TcpListener, Stream = TcpStream>>(
     }
 }
 
-// The same as a link whose faults are told, and which is cut if the other server is called gone.
-fn told<R: Wait + Eprint + Drop>(
+// The same as a link whose faults are told, which waits until this server may put anything out, and which is cut if the
+// other server is called gone.
+fn told<R: Wait + Clock + Eprint + Copy + Drop>(
     rt: R,
-    lobby: &Lobby<Connections>,
+    lobby: &Lobby<Connections<R>>,
     j: u8,
     sink: PeerSink,
-) -> Result<LinkSink<R>, ServerFault> {
+) -> Result<LinkSink<R>, ServerFault>
+    ensures { IfOk result (λ link. link.leash ≡ may_end (cuts_of lobby.now)) }
+{
+    let connections = lobby.cuts();
     let Ok(stream) = sink.inner.try_clone() else {
         drop(sink);
         return Err(ServerFault::Memory);
     };
-    let connections = lobby.cuts();
     connections.add(&rt, j, stream);
-    match connections.mark(j) {
-        Ok(gone) => Ok(ToldSink::new(rt, sink, lobby.host().id, j, gone)),
+    match connections.guards(j) {
+        Ok((gone, failed, leash)) => {
+            let told = ToldSink::new(rt, sink, lobby.host().id, j, gone);
+            Ok(LeasedSink::new(rt, told, leash, failed))
+        }
         Err(AllocError) => {
             drop(sink);
             Err(ServerFault::Memory)

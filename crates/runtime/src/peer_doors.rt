@@ -6,7 +6,7 @@ use crate::greeters::Greeter;
 use crate::link_lines::{tell_from, tell_master, tell_old};
 use crate::refusals::Refusals;
 use crate::strangers::{Greeting, Strangers, read_greeting};
-use crate::told_guests::{Name, ToldGuest};
+use crate::told_guests::{Name, ToldGuest, why_ended};
 use ends::{TrackedReader, TrackedWriter};
 use links::{Guest, Lobby, Speaker};
 use masters::keep_alive;
@@ -24,10 +24,10 @@ const PAUSE: u64 = 50;
 
 /// What all connections to the peer port of server `id` share.
 #[derive(Drop)]
-struct PeerDoor {
+struct PeerDoor<R> {
     id: u8,
     alloc: Global,
-    lobby: Arc<Lobby<Connections>, Global>,
+    lobby: Arc<Lobby<Connections<R>>, Global>,
     arrivals: Arc<Arrivals, Global>,
     strangers: Strangers,
     masters: Strangers,
@@ -36,11 +36,13 @@ struct PeerDoor {
 
 /// Starts the thread that accepts connections at the peer port of server `id` and brings what they send to the server.
 /// Fails only if memory or threads run out.
-pub(crate) fn open_peer_door<R: Wait + Threads + Clock + Eprint + Copy + Drop + Send + 'static>(
+pub(crate) fn open_peer_door<
+    R: Wait + Threads + Clock + Eprint + Copy + Drop + Send + Sync + 'static,
+>(
     rt: R,
     alloc: Global,
     listener: TcpListener,
-    lobby: &Arc<Lobby<Connections>, Global>,
+    lobby: &Arc<Lobby<Connections<R>>, Global>,
     arrivals: &Arc<Arrivals, Global>,
 ) -> Result<JoinHandle<()>, AllocError> {
     let id = lobby.host().id;
@@ -55,7 +57,32 @@ pub(crate) fn open_peer_door<R: Wait + Threads + Clock + Eprint + Copy + Drop + 
         masters: Strangers::new(alloc),
         greeter: Greeter::new(id),
     };
-    let door = Arc::new(alloc, door)?;
+    start_accepting(rt, Arc::new(alloc, door)?, listener)
+}
+
+// What the threads of a peer port share, as those who start them see it. It holds a lease that threads share. That it
+// may go to another thread isn't found by itself, and is shown once, where `start_accepting` is called.
+trait Door {
+    fn id(&self) -> u8;
+
+    fn alloc(&self) -> Global;
+
+    fn strangers(&self) -> &Strangers;
+
+    // Waits for a greeting and answers it. Who is accepted is served as long as it keeps the rules.
+    fn attend<R: Wait + Clock + Eprint>(
+        &self,
+        rt: &R,
+        number: u64,
+        stream: &Arc<TcpStream, Global>,
+    );
+}
+
+// Accepts connections on a thread of its own.
+fn start_accepting<
+    R: Wait + Threads + Clock + Eprint + Copy + Drop + Send + 'static,
+    D: Door + Drop + Send + Sync + 'static,
+>(rt: R, door: Arc<D, Global>, listener: TcpListener) -> Result<JoinHandle<()>, AllocError> {
     match thread::spawn(&rt, move || accept_all(rt, listener, &door)) {
         Ok(thread) => Ok(thread),
         Err(refused) => {
@@ -66,12 +93,11 @@ pub(crate) fn open_peer_door<R: Wait + Threads + Clock + Eprint + Copy + Drop + 
 }
 
 // Accepts one connection after another.
-fn accept_all<R: Wait + Threads + Clock + Eprint + Copy + Drop + Send + 'static>(
-    rt: R,
-    listener: TcpListener,
-    door: &Arc<PeerDoor, Global>,
-) {
-    let mut refusals = Refusals::new(door.id);
+fn accept_all<
+    R: Wait + Threads + Clock + Eprint + Copy + Drop + Send + 'static,
+    D: Door + Drop + Send + Sync + 'static,
+>(rt: R, listener: TcpListener, door: &Arc<D, Global>) {
+    let mut refusals = Refusals::new(door.id());
     let mut number = 0u64;
     for stream in listener.incoming() {
         match stream {
@@ -90,32 +116,41 @@ fn accept_all<R: Wait + Threads + Clock + Eprint + Copy + Drop + Send + 'static>
 }
 
 // Serves a connection on a thread of its own. Without one it is closed at once.
-fn receive<R: Wait + Threads + Clock + Eprint + Copy + Drop + Send + 'static>(
-    rt: R,
-    door: &Arc<PeerDoor, Global>,
-    number: u64,
-    stream: TcpStream,
-) -> Result<(), AllocError> {
+fn receive<
+    R: Wait + Threads + Clock + Eprint + Copy + Drop + Send + 'static,
+    D: Door + Drop + Send + Sync + 'static,
+>(rt: R, door: &Arc<D, Global>, number: u64, stream: TcpStream) -> Result<(), AllocError> {
     keep_alive(&stream);
     let _ = stream.set_nodelay(true);
-    let stream = Arc::new(door.alloc, stream)?;
+    let stream = Arc::new(door.alloc(), stream)?;
     let shared = Arc::try_clone(door)?;
-    door.strangers.admit(&rt, number, &stream)?;
+    door.strangers().admit(&rt, number, &stream)?;
     match thread::spawn(&rt, move || shared.attend(&rt, number, &stream)) {
         Ok(thread) => {
             drop(thread);
             Ok(())
         }
         Err(refused) => {
-            door.strangers.release(&rt, number);
+            door.strangers().release(&rt, number);
             drop(refused);
             Err(AllocError)
         }
     }
 }
 
-impl PeerDoor {
-    // Waits for a greeting and answers it. Who is accepted is served as long as it keeps the rules.
+impl<C: Clock + Drop> Door for PeerDoor<C> {
+    fn id(&self) -> u8 {
+        self.id
+    }
+
+    fn alloc(&self) -> Global {
+        self.alloc
+    }
+
+    fn strangers(&self) -> &Strangers {
+        &self.strangers
+    }
+
     fn attend<R: Wait + Clock + Eprint>(
         &self,
         rt: &R,
@@ -141,7 +176,9 @@ impl PeerDoor {
             Greeting::Nothing => {}
         }
     }
+}
 
+impl<C: Clock + Drop> PeerDoor<C> {
     // Answers who greets with this id.
     fn answer<R: Wait + Clock + Eprint>(
         &self,
@@ -201,12 +238,12 @@ impl PeerDoor {
         let mut source = TrackedReader::new(stream);
         let sink = TrackedWriter::new(stream);
         let guest = Guest::new(self.alloc, lobby, speaker, sink);
-        let mut guest = ToldGuest::new(name, guest);
+        let mut guest = ToldGuest::new(guest);
         let end = serve_peer(rt, self.alloc, &mut source, &mut guest);
         if let (Name::Server(_), Err(LinkFault::Memory)) = (name, end) {
             self.lobby.stop(rt);
         }
-        if let Some(reason) = guest.reason(end) {
+        if let Some(reason) = why_ended(name, guest.refused(), end) {
             self.tell(rt, name, reason);
         }
         drop(guest);

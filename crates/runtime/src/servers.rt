@@ -1,5 +1,6 @@
 //! The command `server`: one server of a chain in a process of its own.
-ghost use Rattle.std.specs.Prelude.{◌≡◌, ◌⊎◌};
+ghost use Rattle.std.specs.Prelude.{◌≡◌, ◌⊎◌, IfOk};
+ghost use Rattle.leases.specs.Shared.{is_timed};
 
 use crate::banners::tell_server;
 use crate::file_limits::warn_of_files;
@@ -31,6 +32,9 @@ const HERE: u8 = 0;
 /// line on `errors`: 1 if a port is taken, a peer can't be reached or refuses it, a link breaks before it is ready, or
 /// the output can't be written; 3 if memory is out; 4 if it was called gone. Its other threads go on until the process
 /// ends. `machine` is how many MiB of memory the machine has, which the line at the start tells.
+///
+/// If the settings give it a term, it puts nothing out while its lease doesn't hold, neither to clients nor to other
+/// servers, and goes on when it holds again. It answers masters and who greets it all the same.
 pub fn server<
     R: Wait
         + Threads
@@ -40,6 +44,7 @@ pub fn server<
         + Copy
         + Drop
         + Send
+        + Sync
         + 'static,
     W: Sink,
     X: Sink,
@@ -79,6 +84,7 @@ struct Front {
     pools: Vec<SeatPool>,
     shape: Shape,
     connections: u32,
+    leash: Leash,
 }
 
 // The ports of a server.
@@ -88,9 +94,9 @@ struct Ports {
     peers: TcpListener,
 }
 
-impl<R: Wait + Eprint + Copy + Drop + Send + 'static> Running<R> {
+impl<R: Wait + Clock + Eprint + Copy + Drop + Send + 'static> Running<R> {
     // Opens the ports, starts the threads that serve peers, connects to the other servers, and waits until they have
-    // connected too.
+    // connected too. The server's clients are held back if its lease has a term.
     fn open<X: Sink>(
         rt: R,
         alloc: Global,
@@ -99,7 +105,8 @@ impl<R: Wait + Eprint + Copy + Drop + Send + 'static> Running<R> {
         errors: &mut X,
     ) -> Result<Running<R>, ServerFault>
     where
-        R: Threads + Clock + Net<Listener = TcpListener, Stream = TcpStream>,
+        R: Threads + Net<Listener = TcpListener, Stream = TcpStream> + Sync,
+        ensures { IfOk result (λ running. running.front.leash ≡ is_timed settings.now.term) }
     {
         let Ports { clients, peers } = Ports::open(&rt, settings)?;
         warn(&peers, errors);
@@ -117,7 +124,7 @@ impl<R: Wait + Eprint + Copy + Drop + Send + 'static> Running<R> {
             pools,
             inlets,
         } = pooled;
-        let lobby = new_lobby(&rt, alloc, settings, inlets, &failed)?;
+        let lobby = new_lobby(rt, alloc, settings, inlets, &failed)?;
         let links = connected(rt, alloc, settings, &lobby, peers)?;
         Ok(Running {
             worker,
@@ -128,6 +135,7 @@ impl<R: Wait + Eprint + Copy + Drop + Send + 'static> Running<R> {
                 pools,
                 shape,
                 connections,
+                leash: lobby.cuts().leash()?,
             },
             failed,
             gauge,
@@ -137,7 +145,7 @@ impl<R: Wait + Eprint + Copy + Drop + Send + 'static> Running<R> {
     // Says that it is ready, serves clients, and takes the worker's turns until it stops. It answers why.
     fn work<W: Sink>(self, rt: R, alloc: Global, output: &mut W) -> ServerFault
     where
-        R: Threads + Clock + Net,
+        R: Threads + Net,
     {
         let Running {
             worker,
@@ -187,6 +195,7 @@ fn serve_clients<R: Wait + Threads + Clock + Net + Copy + Drop + Send + 'static,
         pools,
         shape,
         connections,
+        leash,
     } = front;
     let (desks, polls) = open_desks(&rt, alloc, shape.threads)?;
     let desks = Arc::new(alloc, desks)?;
@@ -197,7 +206,7 @@ fn serve_clients<R: Wait + Threads + Clock + Net + Copy + Drop + Send + 'static,
         listener,
         pools,
         mark,
-        leash: Leash::loose(),
+        leash,
     })?;
     if write_all(output, b"ready\n").is_err() {
         return Err(ServerFault::Run);

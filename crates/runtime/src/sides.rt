@@ -1,8 +1,13 @@
 //! The parts of a chain of servers in one process, before their threads are started.
-ghost use Rattle.std.specs.Prelude.{◌≡◌, ◌≤◌, true, vec_len, IfOk};
+ghost use Rattle.std.specs.Prelude.{◌≡◌, ◌≢◌, ◌≤◌, ◌++◌, ◌∷◌, [], None, true, vec_len, IfOk, OnOk, OnErr};
 ghost use Rattle.node.specs.Nodes.{fresh, is_idle};
+ghost use Rattle.runtime.specs.Halls.{ids};
+ghost use Rattle.runtime.specs.Wiring.{AreDealt, AreSidesOf, IsDealt, IsSideOf, all_inlets_in, inlets_in, inlets_of};
+ghost use Rattle.runtime.specs.Wiring.{listed, numbers, senders};
 
 use crate::cluster_faults::ClusterFault;
+use crate::dealing::inlet_for;
+use crate::endings::Ending;
 use crate::halls::Hall;
 use crate::homes::Home;
 use crate::shapes::Shape;
@@ -109,65 +114,109 @@ pub(crate) fn idle_node(alloc: Global, id: u8, count: u8) -> Result<Node, Cluste
     }
 }
 
-/// The links of all servers.
+/// The links of all servers, in the order of their ids, for which each takes an inlet of each other one.
+#[tactic(auto, using(crate::proofs::Wired::all_none))]
 pub fn all_links<R: Wait + Copy + Drop>(
     rt: R,
     alloc: Global,
     count: u8,
     servers: &mut Vec<Opened<R>>,
 ) -> Result<Vec<InProcessLinks<R>>, ClusterFault>
-    ensures { IfOk result (λ all. vec_len all ≡ count) }
+    ensures count { IfOk result (λ all. vec_len all ≡ count) }
+    ensures senders { IfOk result (λ all. senders all.items ≡ numbers count) }
+    ensures dealt { IfOk result (λ all.
+        AreDealt (inlets_of servers.old.items) (inlets_of servers.new.items) (all_inlets_in all.items)) }
+    ensures servers { vec_len servers.new ≡ vec_len servers.old }
 {
     let mut all = Vec::new(alloc);
     for id in 0..count {
-        let mut links = Vec::new(alloc);
-        let mut j = 0u8;
-        for server in servers.iter_mut() {
-            let inlet = if j == id {
-                None
-            } else {
-                server.pooled.inlets.pop()
-            };
-            links.push(Link::new(inlet))?;
-            j = j.wrapping_add(1);
-        }
+        let links = links_of(alloc, id, servers)?;
         all.push(InProcessLinks::new(rt, id, links))?;
     }
     Ok(all)
 }
 
-/// The hall of all workers, and what each server has beside its own.
+// The links of one server.
+#[tactic(auto, using(crate::proofs::Wired::links_none))]
+fn links_of<R: Wait + Drop>(
+    alloc: Global,
+    id: u8,
+    servers: &mut Vec<Opened<R>>,
+) -> Result<Vec<Link>, AllocError>
+    ensures count { IfOk result (λ links. vec_len links ≡ vec_len servers.old) }
+    ensures dealt { IfOk result (λ links.
+        IsDealt id (inlets_of servers.old.items) (inlets_of servers.new.items) (inlets_in links.items)) }
+    ensures servers { vec_len servers.new ≡ vec_len servers.old }
+{
+    let mut links = Vec::new(alloc);
+    for j in 0..servers.len() {
+        links.push(link_to(id, j, &mut servers[j]))?;
+    }
+    Ok(links)
+}
+
+// The link of server `id` to server `j`.
+fn link_to<R: Wait + Drop>(id: u8, j: usize, server: &mut Opened<R>) -> Link
+    ensures taken { server.old.pooled.inlets.items ≡ server.new.pooled.inlets.items ++ listed result.inlet }
+    ensures own { j ≡ id → result.inlet ≡ None }
+    ensures whole { j ≢ id → result.inlet ≡ None → server.new.pooled.inlets.items ≡ [] }
+{
+    Link::new(inlet_for(usize::from(id), j, &mut server.pooled.inlets))
+}
+
+/// The hall of all workers, by their servers' ids, and what each server has beside its own.
 pub fn all_sides<R: Wait + Drop>(
     alloc: Global,
     desks: &Arc<Desks, Global>,
     servers: Vec<Opened<R>>,
     links: Vec<InProcessLinks<R>>,
 ) -> Result<(Hall<R>, Vec<Side>), ClusterFault>
-    ensures { IfOk result (λ all. vec_len all.1 ≡ vec_len servers) }
+    ensures count { IfOk result (λ all. vec_len all.1 ≡ vec_len servers) }
+    ensures hall { IfOk result (λ all. ids all.0 ≡ numbers (vec_len servers)) }
+    ensures sides { IfOk result (λ all. AreSidesOf servers.items all.1.items) }
 {
     let mut hall = Hall::new(alloc, Arc::try_clone(desks)?);
     let mut sides = Vec::new(alloc);
     let mut links = links.into_iter();
     for server in servers {
-        let side = match links.next() {
-            Some(links) => add_server(alloc, &mut hall, server, links),
-            None => {
-                drop(server);
-                Err(ClusterFault::Run)
-            }
-        };
-        sides.push(side?)?;
+        let side = add_linked(alloc, &mut hall, sides.len(), server, links.next())?;
+        sides.push(side)?;
     }
     Ok((hall, sides))
 }
 
-// Adds a server with its links to the hall. It gives what the server has beside its worker.
+// Adds a server with its links to the hall, at this place. It gives what the server has beside its worker. Refused with
+// Run if there are no links.
+fn add_linked<R: Wait + Drop>(
+    alloc: Global,
+    hall: &mut Hall<R>,
+    place: usize,
+    server: Opened<R>,
+    links: Option<InProcessLinks<R>>,
+) -> Result<Side, ClusterFault>
+    ensures hall { OnOk result (ids hall.new ≡ ids hall.old ++ place ∷ []) }
+    ensures side { IfOk result (λ side. IsSideOf server side) }
+{
+    match links {
+        Some(links) => add_server(alloc, hall, place, server, links),
+        None => {
+            drop(server);
+            Err(ClusterFault::Run)
+        }
+    }
+}
+
+// The same, with its links. Refused with Run if the server has no inlet left, or no chain has such a place.
 fn add_server<R: Wait + Drop>(
     alloc: Global,
     hall: &mut Hall<R>,
+    place: usize,
     server: Opened<R>,
     links: InProcessLinks<R>,
-) -> Result<Side, ClusterFault> {
+) -> Result<Side, ClusterFault>
+    ensures hall { OnOk result (ids hall.new ≡ ids hall.old ++ place ∷ []) }
+    ensures side { IfOk result (λ side. IsSideOf server side) }
+{
     let Opened {
         pooled,
         failed,
@@ -185,48 +234,57 @@ fn add_server<R: Wait + Drop>(
         drop(pools);
         return Err(ClusterFault::Run);
     };
-    match add_worker(alloc, hall, worker, links, gauge) {
-        Ok(stopped) => Ok(Side {
+    match add_worker(alloc, hall, place, worker, links, gauge) {
+        Ok(ending) => Ok(Side {
             pools,
-            home: Home::new(inlet, failed, stopped),
+            home: Home::new(inlet, failed, ending),
         }),
-        Err(AllocError) => {
+        Err(fault) => {
             drop(pools);
             drop(inlet);
             drop(failed);
-            Err(ClusterFault::Memory)
+            Err(fault)
         }
     }
 }
 
-// Adds a worker with its links to the hall. It gives the mark that is set as soon as the server has stopped.
+// Adds a worker with its links to the hall, at this place. It gives where the note of its end will be.
 fn add_worker<R: Wait + Drop>(
     alloc: Global,
     hall: &mut Hall<R>,
+    place: usize,
     worker: Worker<R>,
     links: InProcessLinks<R>,
     gauge: Gauge,
-) -> Result<Mark, AllocError> {
-    match shared_mark(alloc) {
-        Ok((stopped, shared)) => match hall.add(worker, links, shared, gauge) {
-            Ok(()) => Ok(stopped),
+) -> Result<Ending, ClusterFault>
+    ensures { OnOk result (ids hall.new ≡ ids hall.old ++ place ∷ []) }
+{
+    let Ok(id) = u8::try_from(place) else {
+        drop(worker);
+        drop(links);
+        drop(gauge);
+        return Err(ClusterFault::Run);
+    };
+    match shared_ending(alloc) {
+        Ok((ending, shared)) => match hall.add(id, worker, links, shared, gauge) {
+            Ok(()) => Ok(ending),
             Err(AllocError) => {
-                drop(stopped);
-                Err(AllocError)
+                drop(ending);
+                Err(ClusterFault::Memory)
             }
         },
         Err(AllocError) => {
             drop(worker);
             drop(links);
             drop(gauge);
-            Err(AllocError)
+            Err(ClusterFault::Memory)
         }
     }
 }
 
-// A mark, twice.
-fn shared_mark(alloc: Global) -> Result<(Mark, Mark), AllocError> {
-    let mark = Mark::new(alloc)?;
-    let shared = mark.share()?;
-    Ok((mark, shared))
+// Where the note of a server's end will be, twice.
+fn shared_ending(alloc: Global) -> Result<(Ending, Ending), AllocError> {
+    let ending = Ending::new(alloc)?;
+    let shared = ending.share()?;
+    Ok((ending, shared))
 }

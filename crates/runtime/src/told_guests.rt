@@ -35,42 +35,52 @@ pub(crate) enum Kind {
     Message,
     /// It introduces, or answers.
     Greeting,
-    /// It watches, as nothing here does yet.
+    /// It is an order of a master that watches.
     Order,
+    /// It answers an order.
+    Report,
 }
 
-/// One who takes frames. It knows who sends them, and which one was refused.
+/// One who takes frames. It knows which one was refused.
 #[derive(Drop)]
 pub(crate) struct ToldGuest<T> {
     /// Who takes them.
     pub(crate) taker: T,
-    name: Name,
     refused: Option<Kind>,
 }
 
 impl<T: Taker> ToldGuest<T> {
-    /// One who has this name, and has said nothing yet.
-    pub(crate) fn new(name: Name, taker: T) -> ToldGuest<T> {
+    /// One who has said nothing yet.
+    pub(crate) fn new(taker: T) -> ToldGuest<T> {
         ToldGuest {
             taker,
-            name,
             refused: None,
         }
     }
 
-    /// Why it isn't heard any more, in words that go on from "the link from server I" or "the connection of the
-    /// master". None if that is no news: a master that ends, or a frame that couldn't be brought as this server stops.
-    pub(crate) fn reason(&self, end: Result<PeerEnd, LinkFault>) -> Option<&'static str> {
-        match end {
-            Ok(PeerEnd::Input) if self.name == Name::Master => None,
-            Ok(PeerEnd::Input) => Some("ended"),
-            Ok(PeerEnd::Malformed) => Some("was closed after a malformed frame"),
-            Ok(PeerEnd::Old) => Some("was closed after a frame of format 1"),
-            Err(LinkFault::Read) => Some("broke"),
-            Err(LinkFault::Memory) => Some("was closed since memory ran out"),
-            Err(LinkFault::Take) => reason_of(self.name, self.refused),
-            Err(LinkFault::Write) => None,
-        }
+    /// What the frame was for that was refused, if one was.
+    pub(crate) fn refused(&self) -> Option<Kind> {
+        self.refused
+    }
+}
+
+/// Why one of this name isn't heard any more, if a frame of this kind was refused: in words that go on from "the link
+/// from server I" or "the connection of the master". None if that is no news: a master that ends, a frame that couldn't
+/// be brought as this server stops, or an order that couldn't be answered.
+pub(crate) fn why_ended(
+    name: Name,
+    refused: Option<Kind>,
+    end: Result<PeerEnd, LinkFault>,
+) -> Option<&'static str> {
+    match end {
+        Ok(PeerEnd::Input) if name == Name::Master => None,
+        Ok(PeerEnd::Input) => Some("ended"),
+        Ok(PeerEnd::Malformed) => Some("was closed after a malformed frame"),
+        Ok(PeerEnd::Old) => Some("was closed after a frame of format 1"),
+        Err(LinkFault::Read) => Some("broke"),
+        Err(LinkFault::Memory) => Some("was closed since memory ran out"),
+        Err(LinkFault::Take) => reason_of(name, refused),
+        Err(LinkFault::Write) => None,
     }
 }
 
@@ -103,7 +113,8 @@ fn kind_of(frame: &Frame) -> Kind {
         Frame::Introduction(_) | Frame::Accepted(_) | Frame::Refused(_) | Frame::Noted(_) => {
             Kind::Greeting
         }
-        Frame::Reign(_) | Frame::Beat(_) | Frame::Alive(_) | Frame::Silent(_) => Kind::Order,
+        Frame::Reign(_) | Frame::Beat(_) | Frame::Silent(_) => Kind::Order,
+        Frame::Alive(_) => Kind::Report,
     }
 }
 
@@ -112,7 +123,9 @@ fn reason_of(name: Name, refused: Option<Kind>) -> Option<&'static str> {
     match (name, refused) {
         (_, Some(Kind::Hello)) => Some("was closed after a second Hello"),
         (_, Some(Kind::Greeting)) => Some("was closed after a frame that belongs to greetings"),
-        (_, Some(Kind::Order)) => Some("was closed after a frame that belongs to leases"),
+        (_, Some(Kind::Report)) | (Name::Server(_), Some(Kind::Order)) => {
+            Some("was closed after a frame that belongs to leases")
+        }
         (Name::Server(_), Some(Kind::Notice)) => {
             Some("was closed after a notice of a failure, which only the master may send")
         }

@@ -3,5 +3,6 @@ pub mod Seated
 pub mod Linked
 pub mod Pooled
 pub mod Submitted
+pub mod Looked
 pub mod TalkLaws
 pub mod Sent

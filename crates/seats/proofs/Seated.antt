@@ -23,6 +23,7 @@ pub submitted_then : (before looked after : Course) (seat last : SeatState) (cal
     → IsSubmitted before after seat last call reply
 submitted_then before looked after seat last call reply p s =
     record {
+      replied = s.replied;
       told = s.told;
       later = later_then _ _ _ p s.later;
       learned = s.learned;

@@ -35,6 +35,6 @@ shared_send = lease_send AnyEnd.the_row ghosts
 pub shared_sync : IsSync shared
 shared_sync = lease_sync AnyEnd.the_row ghosts
 
--- a leash may go to another thread, as a field of what goes there
-pub leash_send : IsSend (Leash.the_field).row
+-- a leash may go to another thread
+pub leash_send : IsSend Leash.the_row
 leash_send = let lease = Arc-send shared shared_send shared_sync in search sendable depth 20

@@ -1,6 +1,6 @@
 -- Calls at a seat, one stage after another.
 use Rattle.std.proofs.Common.{◌≡◌, ◌∙◌, ◌∷◌, ◌++◌, [], List, Bool, true, false, not, if◌then◌else◌, Option, Some, None}
-use Rattle.std.proofs.Common.{IsSome, refl, ap, sym, subst}
+use Rattle.std.proofs.Common.{IsSome, length, ℕ, suc, refl, ap, sym, subst}
 use Rattle.table.specs.Operations.{is_update, is_value}
 use Rattle.table.specs.declared.operations.Call.{Call}
 use Rattle.table.specs.declared.operations.Reply.{Reply}
@@ -10,10 +10,11 @@ use Rattle.faces.specs.Courses.{Course, IsLater}
 use Rattle.faces.specs.Outputs.{PutsOut}
 use Rattle.rail.specs.declared.events.Event.{Event}
 use Rattle.rail.specs.declared.events.Event.TheVariants.{Took}
+use Rattle.rail.specs.Letters.{Letter}
 use Rattle.rail.specs.Seats.{SeatState, with_call, with_reply}
 use Rattle.seats.specs.InProcessLinks.{without_last}
-use Rattle.seats.specs.Replies.{IsSubmitted}
-use Rattle.seats.specs.Submitters.{Submitting, IsAnswered, IsLastCall, IsOpen, IsReplyAt, all_sent, call_of, last_call}
+use Rattle.seats.specs.Replies.{HasAllReplies, IsSubmitted, call_of, calls_in, counted}
+use Rattle.seats.specs.Submitters.{Submitting, IsAnswered, IsLastCall, IsOpen, IsReplyAt, all_sent, last_call}
 use Rattle.seats.specs.Submitters.{open_at, stage_of, submitting, unused}
 use Rattle.seats.specs.declared.submitters.Stage.{Stage}
 use Rattle.seats.specs.declared.submitters.Stage.TheVariants.{Free, Read, Update, Lost}
@@ -45,14 +46,45 @@ not_none seat u l e =
     let no : Some l.call ≡ None = sym is ∙ e in
     absurd (cc)
 
-opens_as : (seat : SeatState) (call : Call) (u : Bool) → is_update call.op ≡ u
+opens_as : (seat : SeatState) (call : Call) (u : Bool) → is_update call.op ≡ u → HasAllReplies seat
     → IsOpen (if u then Update else Read) (with_call seat call)
-opens_as seat call true e = record { before = seat.sent; call = call; sent = refl; kind = e }
-opens_as seat call false e = record { before = seat.sent; call = call; sent = refl; kind = e }
+opens_as seat call true e all = record { before = seat.sent; call = call; sent = refl; kind = e; replied = all }
+opens_as seat call false e all = record { before = seat.sent; call = call; sent = refl; kind = e; replied = all }
 
 -- a call that was sent is open
-pub opens : (seat : SeatState) (call : Call) → IsOpen (stage_of call) (with_call seat call)
-opens seat call = opens_as seat call (is_update call.op) refl
+pub opens : (seat : SeatState) (call : Call) → HasAllReplies seat → IsOpen (stage_of call) (with_call seat call)
+opens seat call all = opens_as seat call (is_update call.op) refl all
+
+-- a seat at which none is open has all replies
+replied_free : (stage : Stage) (seat : SeatState) → IsOpen stage seat → (submitting stage seat).waiting ≡ None
+    → (stage ≡ Lost → ⊥)
+    → HasAllReplies seat
+replied_free Free seat is free unlost = is
+replied_free Read seat is free unlost = not_none seat false is free
+replied_free Update seat is free unlost = not_none seat true is free
+replied_free Lost seat is free unlost = absurd (unlost refl)
+
+counted_more : (o : Option Call) (n : ℕ) → counted o (suc n) ≡ suc (counted o n)
+counted_more None n = refl
+counted_more (Some call) n = refl
+
+-- one call more
+calls_more : (es : List Event) (port : ℕ) (call : Call)
+    → calls_in (es ++ Took (Called port call) ∷ []) ≡ suc (calls_in es)
+calls_more [] port call = refl
+calls_more (e ∷ es) port call =
+    ap (counted (call_of e)) (calls_more es port call) ∙ counted_more (call_of e) (calls_in es)
+
+letters_more : (got : List Letter) (letter : Letter) → length (got ++ letter ∷ []) ≡ suc (length got)
+letters_more [] letter = refl
+letters_more (x ∷ got) letter = ap suc (letters_more got letter)
+
+-- and so has one that took the reply to its open call
+replied_last : (seat : SeatState) (reply : Reply) (told : Course) (u : Bool) → IsLastCall seat u
+    → HasAllReplies (with_reply seat reply told)
+replied_last seat reply told u l =
+    ap calls_in l.sent ∙ (calls_more l.before seat.port l.call
+    ∙ (ap suc l.replied ∙ sym (letters_more seat.got (record { port = seat.port; reply = reply; told = told }))))
 
 at_stage : (seat : SeatState) (u : Bool) → submitting (if u then Update else Read) seat ≡ open_at seat
 at_stage seat true = refl
@@ -96,6 +128,7 @@ module _ (before after told : Course) (seat : SeatState) (reply : Reply) (later 
         call = l.call;
         waits = refl;
         submitted = record {
+          replied = l.replied;
           told = told;
           later = later;
           learned = learned;
@@ -183,11 +216,18 @@ submit_sent stage next seat last s call view is free unlost e f =
     sent_at_stage Update seat call is free unlost = not_none seat true is free
     sent_at_stage Lost seat call is free unlost = absurd (unlost refl)
 
-pub submit_opens : (next : Stage) (seat last : SeatState) (call : Call) → next ≡ stage_of call
+pub submit_opens : (stage next : Stage) (seat last : SeatState) (s : Submitting) (call : Call)
+    → submitting stage seat ≡ s
+    → IsOpen stage seat
+    → s.waiting ≡ None
+    → (stage ≡ Lost → ⊥)
+    → next ≡ stage_of call
     → last ≡ with_call seat call
     → IsOpen next last
-submit_opens next seat last call e f =
-    subst (λ x. IsOpen x last) (sym e) (subst (λ l. IsOpen (stage_of call) l) (sym f) (opens seat call))
+submit_opens stage next seat last s call view is free unlost e f =
+    subst (λ x. IsOpen x last) (sym e)
+    (subst (λ l. IsOpen (stage_of call) l) (sym f)
+    (opens seat call (replied_free stage seat is (ap (λ (t : Submitting). t.waiting) view ∙ free) unlost)))
 
 -- a call wasn't sent
 pub submit_lost : (stage : Stage) (seat last : SeatState) (s : Submitting) → submitting stage seat ≡ s
@@ -221,18 +261,37 @@ take_answered before after told stage next seat last s reply given view is e f s
 -- nothing more was sent
 pub take_unsent : (stage next : Stage) (seat last : SeatState) (s : Submitting) → submitting stage seat ≡ s
     → IsOpen stage seat
-    → IsOpen next last
+    → all_sent (submitting next last) ≡ last.sent
     → last.sent ≡ seat.sent
     → all_sent (submitting next last) ≡ all_sent s
-take_unsent stage next seat last s view is opens same =
-    sent_at next last opens ∙ (same ∙ (sym (sent_at stage seat is) ∙ ap all_sent view))
+take_unsent stage next seat last s view is shown same =
+    shown ∙ (same ∙ (sym (sent_at stage seat is) ∙ ap all_sent view))
 
--- if none is open
-pub free_opens : (next : Stage) (seat : SeatState) → next ≡ Free → IsOpen next seat
-free_opens next seat e = subst (λ x. IsOpen x seat) (sym e) tt
+-- a seat at which none is open shows what it sent
+pub free_sent : (next : Stage) (seat : SeatState) → next ≡ Free → all_sent (submitting next seat) ≡ seat.sent
+free_sent next seat e = ap (λ x. all_sent (submitting x seat)) e
 
-pub lost_opens : (next : Stage) (seat : SeatState) → next ≡ Lost → IsOpen next seat
-lost_opens next seat e = subst (λ x. IsOpen x seat) (sym e) tt
+pub lost_sent : (next : Stage) (seat : SeatState) → next ≡ Lost → all_sent (submitting next seat) ≡ seat.sent
+lost_sent next seat e = ap (λ x. all_sent (submitting x seat)) e
+
+-- it took the reply to its open call
+pub take_replied : (stage next : Stage) (seat last : SeatState) (reply : Reply) (told : Course) → IsOpen stage seat
+    → next ≡ Free
+    → last ≡ with_reply seat reply told
+    → IsReplyAt stage reply
+    → IsOpen next last
+take_replied stage next seat last reply told is e f kind =
+    subst (λ x. IsOpen x last) (sym e) (subst HasAllReplies (sym f) (by stage is kind))
+  where
+    by : (stage : Stage) → IsOpen stage seat → IsReplyAt stage reply → HasAllReplies (with_reply seat reply told)
+    by Free is kind = let no : false ≡ true = kind in cc
+    by Read is kind = replied_last seat reply told false is
+    by Update is kind = replied_last seat reply told true is
+    by Lost is kind = let no : false ≡ true = kind in cc
+
+-- or is lost
+pub take_lost : (next : Stage) (last : SeatState) → next ≡ Lost → IsOpen next last
+take_lost next last e = subst (λ x. IsOpen x last) (sym e) tt
 
 -- a seat that shows so is lost
 pub lost_stage : (stage : Stage) (seat : SeatState) (s : Submitting) → submitting stage seat ≡ s → s.lost ≡ true

@@ -1,17 +1,20 @@
 -- How a look beside a running server, or the server, replies to a call.
-use Rattle.std.specs.Prelude.{◌≡◌, ℕ, List, [], ◌∷◌, ◌++◌, Option}
+use Rattle.std.specs.Prelude.{◌≡◌, ℕ, suc, List, [], ◌∷◌, ◌++◌, length, Option, Some, None}
 use Rattle.table.specs.declared.items.Item.{Item}
 use Rattle.table.specs.declared.operations.Call.{Call}
 use Rattle.table.specs.declared.operations.Target.TheVariants.{One}
 use Rattle.table.specs.declared.operations.Op.TheVariants.{Read}
 use Rattle.table.specs.declared.operations.Reply.{Reply}
-use Rattle.node.specs.declared.messages.Input.TheVariants.{Call as Called}
+use Rattle.table.specs.declared.operations.Reply.TheVariants.{Value}
+use Rattle.node.specs.declared.messages.Input.{Input}
+use Rattle.node.specs.declared.messages.Input.TheVariants.{Call as Called, From, Gone}
 use Rattle.node.specs.declared.messages.Output.TheVariants.{Reply as Replied}
 use Rattle.node.specs.declared.looks.Look.TheVariants.{Clean}
 use Rattle.node.specs.Faces.{look_at}
 use Rattle.faces.specs.Courses.{Course, IsLater, shown_after}
 use Rattle.faces.specs.Outputs.{PutsOut}
-use Rattle.rail.specs.declared.events.Event.TheVariants.{Took}
+use Rattle.rail.specs.declared.events.Event.{Event}
+use Rattle.rail.specs.declared.events.Event.TheVariants.{Took, Stop, End}
 use Rattle.rail.specs.Seats.{SeatState}
 
 -- The call reads a key, and a look at the face after these inputs shows the key clean with this item, or without one.
@@ -19,6 +22,36 @@ pub record ShowsClean (seen : Course) (call : Call) (item : Option Item) : Type 
   pub key : List ℕ
   pub reads : call ≡ record { target = One key; op = Read }
   pub clean : look_at (shown_after seen) key ≡ Clean item
+
+-- The reply to the call is what that look shows.
+abbrev pub ShowsReply : Course → Call → Reply → Type 0
+ShowsReply seen call reply = (item : Option Item) × (reply ≡ Value item) × ShowsClean seen call item
+
+-- the call of an input
+abbrev pub called : Input → Option Call
+called (Called port call) = Some call
+called (From i peer) = None
+called (Gone j) = None
+
+-- the call of an event
+abbrev pub call_of : Event → Option Call
+call_of (Took input) = called input
+call_of Stop = None
+call_of End = None
+
+-- n, and this one if it is a call
+abbrev pub counted : Option Call → ℕ → ℕ
+counted None n = n
+counted (Some call) n = suc n
+
+-- how many of these events are calls
+abbrev pub calls_in : List Event → ℕ
+calls_in [] = 0
+calls_in (e ∷ es) = counted (call_of e) (calls_in es)
+
+-- a seat that took as many replies as it sent calls
+abbrev pub HasAllReplies : SeatState → Type 0
+HasAllReplies seat = calls_in seat.sent ≡ length seat.got
 
 -- a seat that sent this call, once more, and took this reply, once more, with what the server had published by then
 abbrev pub exchanged : SeatState → Call → Reply → Course → SeatState
@@ -28,9 +61,11 @@ exchanged seat call reply told =
       got = seat.got ++ record { port = seat.port; reply = reply; told = told } ∷ [];
     }
 
--- The server is the one who replied: the call was sent, once, and one reply was taken, which the server had put out for
--- this seat; the reader has seen all that the server had published by then.
+-- The server is the one who replied: the call was sent, once, by a seat that had a reply to each call before; and one
+-- reply was taken, which the server had put out for this seat; the reader has seen all that the server had published by
+-- then.
 pub record IsSubmitted (before after : Course) (seat then : SeatState) (call : Call) (reply : Reply) : Type 0 where
+  pub replied : HasAllReplies seat
   pub told : Course
   pub later : IsLater before after
   pub learned : IsLater told after

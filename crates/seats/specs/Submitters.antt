@@ -1,16 +1,16 @@
 -- Seats at which a call is sent, and its reply is taken later.
-use Rattle.std.specs.Prelude.{◌≡◌, Bool, true, false, not, if◌then◌else◌, List, [], ◌∷◌, ◌++◌, Option, Some, None}
+use Rattle.std.specs.Prelude.{◌≡◌, Bool, true, false, not, if◌then◌else◌, List, [], ◌∷◌, ◌++◌, length}
+use Rattle.std.specs.Prelude.{Option, Some, None}
 use Rattle.table.specs.Operations.{is_update, is_value}
 use Rattle.table.specs.declared.operations.Call.{Call}
 use Rattle.table.specs.declared.operations.Reply.{Reply}
-use Rattle.node.specs.declared.messages.Input.{Input}
-use Rattle.node.specs.declared.messages.Input.TheVariants.{Call as Called, From, Gone}
+use Rattle.node.specs.declared.messages.Input.TheVariants.{Call as Called}
 use Rattle.faces.specs.Courses.{Course}
 use Rattle.rail.specs.declared.events.Event.{Event}
-use Rattle.rail.specs.declared.events.Event.TheVariants.{Took, Stop, End}
+use Rattle.rail.specs.declared.events.Event.TheVariants.{Took}
 use Rattle.rail.specs.Seats.{SeatState, with_call}
 use Rattle.seats.specs.InProcessLinks.{without_last}
-use Rattle.seats.specs.Replies.{IsSubmitted}
+use Rattle.seats.specs.Replies.{HasAllReplies, IsSubmitted, call_of, calls_in}
 use Rattle.seats.specs.declared.submitters.Stage.{Stage}
 use Rattle.seats.specs.declared.submitters.Stage.TheVariants.{Free, Read, Update, Lost}
 
@@ -34,9 +34,9 @@ with_open seat (Some call) = with_call seat call
 abbrev pub all_sent : Submitting → List Event
 all_sent s = (with_open s.seat s.waiting).sent
 
--- The reply to the open call was taken: the call was sent, once, and one reply was taken, which the server had put out
--- for this seat; the reader has seen all that the server had published by then. It is an item, or none, exactly if the
--- call is a read. No call is open then.
+-- The reply to the open call was taken: the call was sent, once, by a seat that had a reply to each call before; and
+-- one reply was taken, which the server had put out for this seat; the reader has seen all that the server had
+-- published by then. It is an item, or none, exactly if the call is a read. No call is open then.
 pub record IsAnswered (before after : Course) (s t : Submitting) (reply : Reply) : Type 0 where
   pub call : Call
   pub waits : s.waiting ≡ Some call
@@ -44,18 +44,6 @@ pub record IsAnswered (before after : Course) (s t : Submitting) (reply : Reply)
   pub kind : is_value reply ≡ not (is_update call.op)
   pub free : t.waiting ≡ None
   pub lost : (s.lost ≡ false) × (t.lost ≡ false)
-
--- the call of an input
-abbrev pub called : Input → Option Call
-called (Called port call) = Some call
-called (From i peer) = None
-called (Gone j) = None
-
--- the call of an event
-abbrev pub call_of : Event → Option Call
-call_of (Took input) = called input
-call_of Stop = None
-call_of End = None
 
 -- the call of the last event
 abbrev pub last_call : List Event → Option Call
@@ -75,16 +63,17 @@ submitting Read seat = open_at seat
 submitting Update seat = open_at seat
 submitting Lost seat = record { seat = seat; waiting = None; lost = true }
 
--- The last event is a call, which is an update, or not.
+-- The last event is a call, which is an update, or not. Each call before it has its reply.
 pub record IsLastCall (seat : SeatState) (updates : Bool) : Type 0 where
   pub before : List Event
   pub call : Call
   pub sent : seat.sent ≡ before ++ Took (Called seat.port call) ∷ []
   pub kind : is_update call.op ≡ updates
+  pub replied : calls_in before ≡ length seat.got
 
--- if a call is open, it is the last event that was sent
+-- a call that is open is the last event that was sent, and each other one has its reply
 abbrev pub IsOpen : Stage → SeatState → Type 0
-IsOpen Free seat = Unit {0}
+IsOpen Free seat = HasAllReplies seat
 IsOpen Read seat = IsLastCall seat false
 IsOpen Update seat = IsLastCall seat true
 IsOpen Lost seat = Unit {0}

@@ -16,7 +16,7 @@ use Rattle.seats.specs.declared.talks.Standing.{Standing}
 use Rattle.seats.specs.declared.talks.Standing.TheVariants.{Idle, Reading, Unsent, Sent, Over}
 use Rattle.seats.specs.declared.talks.Went.{Went}
 use Rattle.seats.specs.declared.talks.Went.TheVariants.{Input, Write as Writes, Seat, Reply as Waits, More, End}
-use Rattle.seats.specs.Replies.{IsSubmitted, ShowsClean}
+use Rattle.seats.specs.Replies.{IsSubmitted, ShowsClean, ShowsReply}
 use Rattle.seats.specs.SeatPools.{IsFreeAt, Pooling}
 use Rattle.seats.specs.Submitters.{Submitting}
 
@@ -49,11 +49,22 @@ IsReplied before call reply after =
     IsPeeked before after call reply
     ⊎ ((seat : SeatState) × (then : SeatState) × IsSubmitted before after seat then call reply)
 
--- What was looked at for a call that came to this at once: for a reply the face that stood, once, and nothing for a
--- refusal.
-abbrev pub HasLookedFor : Outcome → Pooling → Pooling → Type 0
-HasLookedFor (Replied reply) before after = after.looks ≡ before.looks ++ after.seen ∷ []
-HasLookedFor Refused before after = after ≡ before
+-- What was looked at for this call, which came to this at once: for a reply the face that stood, once, and that shows
+-- the reply; and nothing for a refusal.
+abbrev pub HasLookedFor : Call → Outcome → Pooling → Pooling → Type 0
+HasLookedFor call (Replied reply) before after =
+    (after.looks ≡ before.looks ++ after.seen ∷ []) × ShowsReply after.seen call reply
+HasLookedFor call Refused before after = after ≡ before
+
+-- These calls came to this at once by these looks, in turn: each reply by one of its own, and a refusal by none.
+abbrev pub AreLookedFor : List Call → List Outcome → List Course → Type 0
+AreLookedFor [] [] looks = looks ≡ []
+AreLookedFor [] (outcome ∷ outcomes) looks = ⊥
+AreLookedFor (call ∷ calls) [] looks = ⊥
+AreLookedFor (call ∷ calls) (Refused ∷ outcomes) looks = AreLookedFor calls outcomes looks
+AreLookedFor (call ∷ calls) (Replied reply ∷ outcomes) [] = ⊥
+AreLookedFor (call ∷ calls) (Replied reply ∷ outcomes) (look ∷ looks) =
+    ShowsReply look call reply × AreLookedFor calls outcomes looks
 
 -- Its connection waits for no call, and may want input; or for this one, which waits for a seat, or is open at this
 -- seat of its server.
@@ -77,6 +88,17 @@ pub record IsFurther (c d : Connected) : Type 0 where
   pub written : d.written ≡ c.written
   pub ended : d.ended ≡ c.ended
 
+-- More calls came to something, all of them at once: these are the faces that were looked at for them, each as it stood
+-- then, and no other was looked at.
+pub record HasLooked (c d : Connected) (p q : Pooling) : Type 0 where
+  pub more : List Call
+  pub came : List Outcome
+  pub faces : List Course
+  pub calls : d.calls ≡ c.calls ++ more
+  pub outcomes : d.outcomes ≡ c.outcomes ++ came
+  pub looks : q.looks ≡ p.looks ++ faces
+  pub each : AreLookedFor more came faces
+
 -- a call that stores waits for a seat
 abbrev pub HoldsStore : Standing → Type 0
 HoldsStore standing = (call : Call) × (standing ≡ Unsent call) × (is_store call.op ≡ true)
@@ -89,6 +111,24 @@ HasGone Seat t = (call : Call) × (t.standing ≡ Unsent call)
 HasGone Waits t = (s : Submitting) × (t.standing ≡ Sent s)
 HasGone More t = t.standing ≡ Idle
 HasGone (End end) t = (t.standing ≡ Idle) × IsWanted (Ends end) t.connected
+
+-- a call waits, for a seat or for its reply
+abbrev pub LeavesCall : Went → Type 0
+LeavesCall Input = ⊥
+LeavesCall Writes = ⊥
+LeavesCall Seat = Unit {0}
+LeavesCall Waits = Unit {0}
+LeavesCall More = ⊥
+LeavesCall (End end) = ⊥
+
+-- It went so far, by looks alone unless a call waits: before that was sent it may have been looked for in vain.
+abbrev pub HasGoneByLooks : Went → Connected → Connected → Pooling → Pooling → Type 0
+HasGoneByLooks Input c d p q = HasLooked c d p q
+HasGoneByLooks Writes c d p q = HasLooked c d p q
+HasGoneByLooks Seat c d p q = Unit {0}
+HasGoneByLooks Waits c d p q = Unit {0}
+HasGoneByLooks More c d p q = HasLooked c d p q
+HasGoneByLooks (End end) c d p q = HasLooked c d p q
 
 -- the seat that it has, if any, is one of this server at which no call is open
 abbrev pub HoldsFree : Origin → Standing → Type 0

@@ -1,32 +1,43 @@
 //! What the threads of a server ask before they put anything out.
-ghost use Rattle.std.specs.Prelude.{◌≡◌, ◌<◌, None, IfOk, IsTrue, is_some, true, false, ℕ};
-ghost use Rattle.std.specs.Arc.{arc_value};
+ghost use Rattle.std.specs.Prelude.{◌≡◌, ◌<◌, IsTrue, true, ℕ};
 ghost use Rattle.leases.specs.Shared.{HasLater};
 
 use leases::{AnyEnd, SharedLease, nanoseconds_of};
 use std::alloc::{AllocError, Global};
+use std::marker::Model;
 use std::sync::Arc;
 use std::sync::atomic::Rule;
 use std::time::Clock;
 
-/// What may hold back a server's output: its lease, or nothing.
+/// What may hold back a server's output: its lease, or nothing. Contracts see whether it is held by a lease.
 #[derive(Drop)]
 pub struct Leash {
     // A lease that may end.
     lease: Option<Arc<SharedLease<AnyEnd>, Global>>,
 }
 
+impl Model for Leash {
+    ghost use Rattle.std.specs.Prelude.{Bool, is_some};
+
+    ghost Value = { Bool };
+
+    ghost view = { λ l. is_some l.lease };
+}
+
 impl Leash {
+    ghost use Rattle.std.specs.Prelude.{◌≡◌, IfOk, true, false};
+    ghost use Rattle.std.specs.Arc.{arc_value};
+
     /// Of a server without a lease: nothing holds it back.
     pub fn loose() -> Leash
-        ensures { result.lease ≡ None }
+        ensures { result ≡ false }
     {
         Leash { lease: None }
     }
 
     /// Of a server with this lease, which holds it back only if it has a term.
     pub fn held_by(lease: Arc<SharedLease<AnyEnd>, Global>) -> Leash
-        ensures { is_some result.lease ≡ (arc_value lease).is_timed }
+        ensures { result ≡ (arc_value lease).is_timed }
     {
         if lease.is_timed() {
             Leash { lease: Some(lease) }
@@ -38,7 +49,7 @@ impl Leash {
 
     /// The same, for another thread. Refused only when out of memory.
     pub fn share(&self) -> Result<Leash, AllocError>
-        ensures { IfOk result (λ leash. is_some leash.lease ≡ is_some self.now.lease) }
+        ensures { IfOk result (λ leash. leash ≡ self.now) }
     {
         match &self.lease {
             Some(lease) => Ok(Leash {
@@ -52,7 +63,7 @@ impl Leash {
     /// is read. Else it may exactly if the clock can be read now, and the lease holds by that reading. What may not is
     /// to wait, and this to be asked again.
     pub fn lets<C: Clock>(&self, clock: &C) -> bool
-        ensures loose { self.now.lease ≡ None → result ≡ true }
+        ensures loose { self.now ≡ false → result ≡ true }
     {
         match &self.lease {
             Some(lease) => holds_now(lease, clock),

@@ -39,7 +39,7 @@ pub(crate) fn settle(
     // A reply that is handed on here is of the face that stood, and it was looked at once.
     ensures looked { IfOk result (λ settled. IsTrue settled →
         (outcome : Outcome) × HasOutcome outcome connection.old connection.new ×
-        HasLookedFor outcome pool.old pool.new) }
+        HasLookedFor call.now outcome pool.old pool.new) }
     ensures err { OnErr result ((seen.new ≡ seen.old) ×
         (connection.new ≡ record connection.old { failed = connection.new.failed })) }
 {

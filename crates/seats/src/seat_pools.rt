@@ -60,7 +60,7 @@ impl SeatPool {
     ghost use Rattle.table.specs.declared.items.Item.{Item};
     ghost use Rattle.table.specs.declared.operations.Reply.TheVariants.{Value};
     ghost use Rattle.faces.specs.Courses.{IsLater};
-    ghost use Rattle.seats.specs.Replies.{ShowsClean};
+    ghost use Rattle.seats.specs.Replies.{HasAllReplies, ShowsClean};
     ghost use Rattle.seats.specs.SeatPools.{HasSameReader, HasSameSeats, IsAt, IsFreeAt, with_free, without_seats};
     ghost use Rattle.seats.specs.Submitters.{IsAnswered, unused};
 
@@ -78,10 +78,11 @@ impl SeatPool {
         }
     }
 
-    /// Adds a seat of the same server, which is free then, and makes room for whatever may become of it later. If it is
-    /// refused, memory is out, and the seat is dropped.
+    /// Adds a seat of the same server, at which no call waits for its reply. It is free then, and there is room for
+    /// whatever may become of it later. If it is refused, memory is out, and the seat is dropped.
     pub fn add(&mut self, seat: Seat) -> Result<(), AllocError>
         requires server { seat.origin ≡ self.old.seen.origin }
+        requires replied { HasAllReplies seat }
         ensures added { OnOk result (self.new ≡ with_free self.old (unused seat)) }
         ensures refused { OnErr result (self.new ≡ self.old) }
         // Whatever the answer.

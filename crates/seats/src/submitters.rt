@@ -51,10 +51,12 @@ impl Submitter {
     ghost use Rattle.std.specs.Prelude.{OnOk, OnErr, IfOk, IsErr, MatchBool, MatchOption};
     ghost use Rattle.node.specs.Lawful.{IsCall};
     ghost use Rattle.faces.specs.Courses.{IsLater};
+    ghost use Rattle.seats.specs.Replies.{HasAllReplies};
     ghost use Rattle.seats.specs.Submitters.{IsAnswered, all_sent, unused};
 
     /// A seat at which no call is open.
     pub fn new(seat: Seat) -> Submitter
+        requires replied { HasAllReplies seat }
         ensures { result ≡ unused seat }
     {
         Submitter {

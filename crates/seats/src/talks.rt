@@ -10,7 +10,7 @@ ghost use Rattle.serving.specs.Wanted.{IsAsking};
 ghost use Rattle.seats.specs.declared.talks.Standing.TheVariants.{Idle, Over, Unsent};
 ghost use Rattle.seats.specs.declared.talks.Went.TheVariants.{Seat};
 ghost use Rattle.seats.specs.SeatPools.{HasSameReader};
-ghost use Rattle.seats.specs.Talks.{HoldsFree, IsReplied};
+ghost use Rattle.seats.specs.Talks.{HasLookedFor, HoldsFree, IsReplied};
 
 use crate::outcomes::{hand_on, is_refused, settle};
 use crate::seat_pools::SeatPool;
@@ -97,7 +97,8 @@ impl Talk {
     ghost use Rattle.serving.specs.Connections.{IsBegun};
     ghost use Rattle.serving.specs.Serving.{AreAnswered};
     ghost use Rattle.seats.specs.SeatPools.{HasSameReader};
-    ghost use Rattle.seats.specs.Talks.{HasGone, HoldsStore, IsFurther, IsReplied, StandsAt, begun, fed};
+    ghost use Rattle.seats.specs.Talks.{HasGone, HasGoneByLooks, HasLooked, HoldsStore, IsFurther, IsReplied};
+    ghost use Rattle.seats.specs.Talks.{LeavesCall, StandsAt, begun, fed};
     ghost use Rattle.seats.specs.declared.talks.Standing.TheVariants.{Idle, Reading, Over};
 
     /// The talk of a connection of which nothing was read. It allocates nothing.
@@ -165,6 +166,10 @@ impl Talk {
         ensures first { self.new.first ≡ self.old.first }
         ensures further { IsFurther self.old.connected self.new.connected }
         ensures went { IfOk result (λ went. HasGone went self.new) }
+        // No reply of a look was kept: unless it leaves a call that waits, each reply to its calls is of a look of its
+        // own, at the face that stood.
+        ensures looked { IfOk result
+            (λ went. HasGoneByLooks went self.old.connected self.new.connected pool.old pool.new) }
         ensures over { OnErr result (self.new.standing ≡ Over) }
         ensures spent { self.old.standing ≡ Over → IsErr result × (self.new ≡ self.old) × (pool.new ≡ pool.old) }
     {
@@ -263,6 +268,8 @@ impl Talk {
         ensures first { self.new.first ≡ self.old.first }
         ensures further { IsFurther self.old.connected self.new.connected }
         ensures went { IfOk result (λ went. HasGone went self.new) }
+        ensures looked { IfOk result
+            (λ went. HasGoneByLooks went self.old.connected self.new.connected pool.old pool.new) }
         ensures over { OnErr result (self.new.standing ≡ Over) }
     {
         for _ in 0..MOST_CALLS {
@@ -284,6 +291,8 @@ impl Talk {
         ensures first { self.new.first ≡ self.old.first }
         ensures further { IsFurther self.old.connected self.new.connected }
         ensures went { IfOk result (λ went. HasGone went self.new) }
+        ensures looked { IfOk result
+            (λ went. HasGoneByLooks went self.old.connected self.new.connected pool.old pool.new) }
         ensures over { OnErr result (self.new.standing ≡ Over) }
     {
         refuse(&mut self.connection, &mut self.standing)?;
@@ -300,6 +309,9 @@ impl Talk {
         ensures further { IsFurther self.old.connected self.new.connected }
         ensures went { IfOk result
             (λ found. MatchOption found (self.new.standing ≡ Idle) (λ went. HasGone went self.new)) }
+        ensures looked { IfOk result (λ found. MatchOption found
+            (HasLooked self.old.connected self.new.connected pool.old pool.new)
+            (λ went. HasGoneByLooks went self.old.connected self.new.connected pool.old pool.new)) }
         ensures over { OnErr result (self.new.standing ≡ Over) }
     {
         match self.connection.next() {
@@ -329,6 +341,7 @@ impl Talk {
         requires known { IsLater self.old.seen pool.old.seen }
         ensures same { self.new ≡ record self.old { standing = self.new.standing } }
         ensures pool { HasSameReader pool.old pool.new }
+        ensures waits { IfOk result (λ went. LeavesCall went) }
         ensures went { IfOk result (λ went. HasGone went self.new) }
         ensures over { OnErr result (self.new.standing ≡ Over) }
     {
@@ -385,6 +398,10 @@ fn ask(
         HasOutcome outcome connection.old connection.new × (standing.new ≡ Idle))
         (λ went. (went ≡ Seat) × (standing.new ≡ Unsent call) × (connection.new ≡ connection.old) ×
         (seen.new ≡ seen.old))) }
+    ensures looked { IfOk result (λ found. MatchOption found
+        ((outcome : Outcome) × HasOutcome outcome connection.old connection.new ×
+        HasLookedFor call outcome pool.old pool.new)
+        (λ went. went ≡ Seat)) }
     ensures err { OnErr result ((standing.new ≡ Over) × (seen.new ≡ seen.old) ×
         (connection.new ≡ record connection.old { failed = connection.new.failed })) }
 {

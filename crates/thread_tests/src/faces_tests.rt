@@ -1,13 +1,16 @@
 //! Tests: what readers see beside a server.
 ghost use Rattle.std.specs.Prelude.{◌≡◌, false, IfOk};
 
+use crate::ending::holds;
 use bytes::Bytes;
 use faces::{FaceFault, Publisher, Reader, Weight};
 use node::{Body, Input, Look, Node, Peer, View};
-use std::alloc::{AllocError, Global};
+use std::alloc::Global;
 use std::sync::Wait;
 use std::test::Fail;
 use table::{Call, Item, Key, Op, Target};
+
+// --- inputs
 
 fn key(alloc: Global, name: &[u8]) -> Result<Key, FaceFault> {
     match Key::new(alloc, name)? {
@@ -34,9 +37,16 @@ fn copied(key: &Key) -> Result<Key, FaceFault> {
     Ok(key.clone()?)
 }
 
-fn set(alloc: Global, key: &Key) -> Result<Input, FaceFault> {
-    let op = Op::Set(0, Bytes::copy_from_slice(alloc, b"v")?);
-    on(copied(key), op)
+// A set of n bytes.
+fn set(alloc: Global, key: Result<Key, FaceFault>, size: usize) -> Result<Input, FaceFault> {
+    let data = b"vvvvvvvvvv".as_slice().get(..size).unwrap_or_default();
+    match Bytes::copy_from_slice(alloc, data) {
+        Ok(bytes) => on(key, Op::Set(0, bytes)),
+        Err(_) => {
+            drop(key);
+            Err(FaceFault::Memory)
+        }
+    }
 }
 
 fn acknowledged(n: u64) -> Input {
@@ -44,6 +54,35 @@ fn acknowledged(n: u64) -> Input {
     let body = Body::Ack(n);
     Input::From(1, Peer { view, body })
 }
+
+// What a server takes, on the keys `a` and `bcd`.
+#[derive(Clone, Copy)]
+enum Taken {
+    // A set of this many bytes.
+    SetA(usize),
+    SetBcd(usize),
+    DeleteA,
+    DeleteBcd,
+    Acknowledged(u64),
+    Flush,
+}
+
+fn input_of(alloc: Global, taken: Taken) -> Result<Input, FaceFault> {
+    match taken {
+        Taken::SetA(size) => set(alloc, key(alloc, b"a"), size),
+        Taken::SetBcd(size) => set(alloc, key(alloc, b"bcd"), size),
+        Taken::DeleteA => on(key(alloc, b"a"), Op::Delete),
+        Taken::DeleteBcd => on(key(alloc, b"bcd"), Op::Delete),
+        Taken::Acknowledged(number) => Ok(acknowledged(number)),
+        Taken::Flush => {
+            let target = Target::All;
+            let op = Op::Flush;
+            Ok(Input::Call(0, Call { target, op }))
+        }
+    }
+}
+
+// --- nodes and servers
 
 // The first of n servers.
 fn first(alloc: Global, n: u8) -> Result<Node, FaceFault>
@@ -54,6 +93,83 @@ fn first(alloc: Global, n: u8) -> Result<Node, FaceFault>
         Err(_) => Err(FaceFault::Closed),
     }
 }
+
+// A node that has taken an input, which was made or wasn't.
+fn after(node: Node, input: Result<Input, FaceFault>) -> Result<Node, FaceFault>
+    requires { node.stopped ≡ false }
+    ensures { IfOk result (λ node. node.stopped ≡ false) }
+{
+    match input {
+        Ok(input) => stepped(node, input),
+        Err(fault) => {
+            drop(node);
+            Err(fault)
+        }
+    }
+}
+
+fn stepped(node: Node, input: Input) -> Result<Node, FaceFault>
+    requires { node.stopped ≡ false }
+    ensures { IfOk result (λ node. node.stopped ≡ false) }
+{
+    let mut node = node;
+    if !input.is_fit() {
+        drop(input);
+        drop(node);
+        return Err(FaceFault::Closed);
+    }
+    match node.step(input) {
+        Ok(outputs) => {
+            drop(outputs);
+            Ok(node)
+        }
+        Err(_) => {
+            drop(node);
+            Err(FaceFault::Memory)
+        }
+    }
+}
+
+// The first node of n, which has taken an input or nothing.
+fn node_of(alloc: Global, count: u8, taken: Option<Taken>) -> Result<Node, FaceFault>
+    ensures { IfOk result (λ node. node.stopped ≡ false) }
+{
+    let node = first(alloc, count)?;
+    match taken {
+        Some(taken) => after(node, input_of(alloc, taken)),
+        None => Ok(node),
+    }
+}
+
+// A server of such a node, with room for one reader.
+fn opened<R: Wait>(
+    rt: &R,
+    alloc: Global,
+    count: u8,
+    taken: Option<Taken>,
+) -> Result<Publisher, FaceFault> {
+    let node = node_of(alloc, count, taken)?;
+    Publisher::open(rt, alloc, node, 1)
+}
+
+// An input that may be given is taken.
+fn feed<R: Wait>(rt: &R, publisher: &mut Publisher, input: Input) -> Result<(), FaceFault>
+    ensures { publisher.new.published.origin ≡ publisher.old.published.origin }
+{
+    if !input.is_fit() {
+        drop(input);
+        return Err(FaceFault::Closed);
+    }
+    match publisher.take(rt, input) {
+        Ok(outputs) => {
+            drop(outputs);
+            Ok(())
+        }
+        Err(fault) => Err(fault),
+    }
+}
+
+// --- looks
 
 // What a look at a key shows: of an item of `v` its number.
 #[derive(Clone, Copy, PartialEq, Eq)]
@@ -79,192 +195,204 @@ fn shown_by(look: &Look<Item>) -> Shown {
     }
 }
 
-fn look(beside: &mut Reader, key: &Key) -> Shown
+fn look(beside: &mut Reader, key: &Key) -> Result<Shown, FaceFault>
     ensures { beside.new.seen.origin ≡ beside.old.seen.origin }
 {
     match beside.look(key) {
         Ok(look) => {
             let shown = shown_by(&look);
             drop(look);
-            shown
+            Ok(shown)
         }
-        Err(FaceFault::Closed) => Shown::Closed,
-        Err(FaceFault::Memory) => Shown::Other,
+        Err(FaceFault::Closed) => Ok(Shown::Closed),
+        Err(FaceFault::Memory) => Err(FaceFault::Memory),
     }
 }
 
-// An input that may be given is taken.
-fn feed<R: Wait>(rt: &R, publisher: &mut Publisher, input: Input) -> Result<(), FaceFault>
-    ensures { publisher.new.published.origin ≡ publisher.old.published.origin }
+// What a look at the key `a` shows.
+fn look_at_a(alloc: Global, beside: &mut Reader) -> Result<Shown, FaceFault>
+    ensures { beside.new.seen.origin ≡ beside.old.seen.origin }
 {
-    if !input.is_fit() {
-        drop(input);
-        return Err(FaceFault::Closed);
-    }
-    match publisher.take(rt, input) {
-        Ok(outputs) => {
-            drop(outputs);
-            Ok(())
-        }
-        Err(fault) => Err(fault),
-    }
+    let a = key(alloc, b"a")?;
+    let shown = look(beside, &a);
+    drop(a);
+    shown
 }
 
-// A first server of n that has taken nothing, with room for one reader.
-fn opened<R: Wait>(rt: &R, alloc: Global, count: u8) -> Result<Publisher, FaceFault> {
-    let node = first(alloc, count)?;
-    Publisher::open(rt, alloc, node, 1)
+// --- steps
+
+// What a server and a reader beside it do, and what is seen of them.
+#[derive(Clone, Copy)]
+enum Step {
+    Takes(Taken),
+    // The reader is told of what is published, and then tells of all that.
+    Tells,
+    // The reader looks at the key `a`.
+    Shows(Shown),
+    // The face weighs this many keys and bytes; and so does the other copy, after an input that changes nothing.
+    Weighs(u64, u64),
 }
 
-// A reader is told of what is published. Whether it then tells of all that.
 fn tells(publisher: &Publisher, beside: &mut Reader) -> bool
     requires { beside.old.seen.origin ≡ publisher.now.published.origin }
+    ensures { beside.new.seen.origin ≡ beside.old.seen.origin }
 {
     let told = publisher.published().again().tell();
     beside.learn(told.again());
     beside.tell().has_all_of(&told)
 }
 
-// Whether a reader that is told of a publish looks at the face before and after it.
-fn looks<R: Wait>(
+fn weighs<R: Wait>(rt: &R, publisher: &mut Publisher, weight: Weight) -> Result<bool, FaceFault>
+    ensures { publisher.new.published.origin ≡ publisher.old.published.origin }
+{
+    let first = publisher.weight() == weight;
+    feed(rt, publisher, acknowledged(0))?;
+    Ok(first && publisher.weight() == weight)
+}
+
+fn goes<R: Wait>(
     rt: &R,
+    alloc: Global,
     publisher: &mut Publisher,
     beside: &mut Reader,
-    input: Input,
-    key: &Key,
+    step: Step,
+) -> Result<bool, FaceFault>
+    requires { beside.old.seen.origin ≡ publisher.old.published.origin }
+    ensures { beside.new.seen.origin ≡ publisher.new.published.origin }
+{
+    match step {
+        Step::Takes(taken) => {
+            let input = input_of(alloc, taken)?;
+            feed(rt, publisher, input)?;
+            Ok(true)
+        }
+        Step::Tells => Ok(tells(publisher, beside)),
+        Step::Shows(shown) => Ok(look_at_a(alloc, beside)? == shown),
+        Step::Weighs(items, bytes) => weighs(rt, publisher, Weight { items, bytes }),
+    }
+}
+
+fn all_go<R: Wait>(
+    rt: &R,
+    alloc: Global,
+    publisher: &mut Publisher,
+    beside: &mut Reader,
+    steps: &[Step],
 ) -> Result<bool, FaceFault>
     requires { beside.old.seen.origin ≡ publisher.old.published.origin }
 {
-    let none = look(beside, key) == Shown::Nothing;
-    feed(rt, publisher, input)?;
-    let told = tells(publisher, beside);
-    let item = look(beside, key) == Shown::Item(1);
-    Ok(none && told && item)
+    for step in steps {
+        if !goes(rt, alloc, publisher, beside, *step)? {
+            return Ok(false);
+        }
+    }
+    Ok(true)
 }
 
-// The same of a server that then ends, after which no face is found.
-fn looks_until_the_end<R: Wait>(
+// Whether all steps of the first of n servers, whose node had taken an input or nothing, and of a reader beside it go
+// as they say. The server ends then, and no face is found after that.
+fn go_at_first<R: Wait>(
     rt: &R,
-    publisher: Publisher,
-    input: Input,
-    key: &Key,
+    alloc: Global,
+    count: u8,
+    taken: Option<Taken>,
+    steps: &[Step],
 ) -> Result<bool, FaceFault> {
-    let mut publisher = publisher;
+    let mut publisher = opened(rt, alloc, count, taken)?;
     match publisher.reader() {
         Ok(mut beside) => {
-            let shown = looks(rt, &mut publisher, &mut beside, input, key);
+            let went = all_go(rt, alloc, &mut publisher, &mut beside, steps);
             publisher.end(rt);
-            let closed = look(&mut beside, key) == Shown::Closed;
+            let shown = look_at_a(alloc, &mut beside);
             drop(beside);
-            Ok(shown? && closed)
+            Ok(went? && shown? == Shown::Closed)
         }
         Err(fault) => {
-            drop(input);
             publisher.end(rt);
             Err(fault)
         }
     }
 }
 
-// The same of an only server, which takes a set of `a`.
-fn looks_at_first<R: Wait>(rt: &R, alloc: Global) -> Result<bool, FaceFault> {
-    let a = key(alloc, b"a")?;
-    let input = set(alloc, &a)?;
-    match opened(rt, alloc, 1) {
-        Ok(publisher) => looks_until_the_end(rt, publisher, input, &a),
-        Err(fault) => {
-            drop(input);
-            Err(fault)
-        }
-    }
-}
+static LOOKS: [Step; 4] = [
+    Step::Shows(Shown::Nothing),
+    Step::Takes(Taken::SetA(1)),
+    Step::Tells,
+    Step::Shows(Shown::Item(1)),
+];
 
 #[test]
 fn a_reader_looks_before_and_after_a_publish(rt: HostRuntime) -> Result<(), Fail> {
-    assert!(rt; looks_at_first(&rt, rt.alloc())?);
-    Ok(())
+    holds(go_at_first(&rt, rt.alloc(), 1, None, &LOOKS))
 }
 
-// A node that has taken an input.
-fn after(node: Node, input: Input) -> Result<Node, FaceFault>
-    requires { node.stopped ≡ false }
-    ensures { IfOk result (λ node. node.stopped ≡ false) }
-{
-    let mut node = node;
-    if !input.is_fit() {
-        drop(input);
-        drop(node);
-        return Err(FaceFault::Closed);
-    }
-    match node.step(input) {
-        Ok(outputs) => {
-            drop(outputs);
-            Ok(node)
-        }
-        Err(_) => {
-            drop(node);
-            Err(FaceFault::Memory)
-        }
-    }
-}
-
-// The node of an only server, after this input.
-fn first_after(alloc: Global, input: Input) -> Result<Node, FaceFault>
-    ensures { IfOk result (λ node. node.stopped ≡ false) }
-{
-    match first(alloc, 1) {
-        Ok(node) => after(node, input),
-        Err(fault) => {
-            drop(input);
-            Err(fault)
-        }
-    }
-}
-
-// An only server that opens with a node which has taken a set of this key.
-fn opened_after<R: Wait>(rt: &R, alloc: Global, key: &Key) -> Result<Publisher, FaceFault> {
-    let node = first_after(alloc, set(alloc, key)?)?;
-    Publisher::open(rt, alloc, node, 1)
-}
-
-// Whether a new reader finds the first item of a key.
-fn has_item(publisher: &mut Publisher, key: &Key) -> Result<bool, FaceFault> {
-    let mut beside = publisher.reader()?;
-    Ok(look(&mut beside, key) == Shown::Item(1))
-}
-
-// Whether it opens with the item of that key, `a`.
-fn opens_with<R: Wait>(rt: &R, alloc: Global) -> Result<bool, FaceFault> {
-    let a = key(alloc, b"a")?;
-    let mut publisher = opened_after(rt, alloc, &a)?;
-    let found = has_item(&mut publisher, &a);
-    publisher.end(rt);
-    found
-}
+static HELD: [Step; 1] = [Step::Shows(Shown::Item(1))];
 
 #[test]
 fn a_node_opens_with_what_it_holds(rt: HostRuntime) -> Result<(), Fail> {
-    assert!(rt; opens_with(&rt, rt.alloc())?);
-    Ok(())
+    holds(go_at_first(&rt, rt.alloc(), 1, Some(Taken::SetA(1)), &HELD))
 }
 
-fn add<T: Drop>(list: &mut Vec<T>, item: T) -> Result<(), AllocError> {
-    match list.push(item) {
-        Ok(()) => Ok(()),
-        Err(_) => Err(AllocError),
-    }
+static HELD_WEIGHT: [Step; 1] = [Step::Weighs(1, 2)];
+
+#[test]
+fn a_node_opens_with_the_weight_of_what_it_holds(rt: HostRuntime) -> Result<(), Fail> {
+    holds(go_at_first(&rt, rt.alloc(), 1, Some(Taken::SetA(1)), &HELD_WEIGHT))
 }
 
-fn nth_key(alloc: Global, i: u32) -> Result<Key, Fail> {
+// New keys, and keys that are set again, to more and to fewer bytes. A key without item counts until that is
+// acknowledged, also if it is set again before, and nothing after a flush.
+static WEIGHTS: [Step; 25] = [
+    Step::Weighs(0, 0),
+    Step::Takes(Taken::SetA(1)),
+    Step::Weighs(1, 2),
+    Step::Takes(Taken::SetBcd(5)),
+    Step::Weighs(2, 10),
+    Step::Takes(Taken::SetA(7)),
+    Step::Weighs(2, 16),
+    Step::Takes(Taken::SetA(0)),
+    Step::Weighs(2, 9),
+    Step::Takes(Taken::DeleteBcd),
+    Step::Weighs(2, 4),
+    Step::Takes(Taken::Acknowledged(5)),
+    Step::Weighs(1, 1),
+    Step::Takes(Taken::DeleteA),
+    Step::Weighs(1, 1),
+    Step::Takes(Taken::SetA(3)),
+    Step::Weighs(1, 4),
+    Step::Takes(Taken::Acknowledged(7)),
+    Step::Weighs(1, 4),
+    Step::Takes(Taken::Flush),
+    Step::Weighs(0, 0),
+    Step::Takes(Taken::SetBcd(2)),
+    Step::Weighs(1, 5),
+    Step::Takes(Taken::Acknowledged(9)),
+    Step::Weighs(1, 5),
+];
+
+#[test]
+fn a_face_weighs_its_keys_and_data(rt: HostRuntime) -> Result<(), Fail> {
+    holds(go_at_first(&rt, rt.alloc(), 2, None, &WEIGHTS))
+}
+
+// --- many keys
+
+fn nth_key(alloc: Global, i: u32) -> Result<Key, FaceFault> {
     let name = format!(in alloc; "key{i}")?;
-    Ok(key(alloc, name.as_bytes())?)
+    key(alloc, name.as_bytes())
 }
 
 // A key for each number below the count.
-fn keys(alloc: Global, count: u32) -> Result<Vec<Key>, Fail> {
+fn keys(alloc: Global, count: u32) -> Result<Vec<Key>, FaceFault> {
     let mut keys = Vec::new(alloc);
     for i in 0..count {
-        add(&mut keys, nth_key(alloc, i)?)?;
+        match keys.push(nth_key(alloc, i)?) {
+            Ok(()) => {}
+            Err(refused) => {
+                drop(refused);
+                return Err(FaceFault::Memory);
+            }
+        }
     }
     Ok(keys)
 }
@@ -280,7 +408,7 @@ fn fill<R: Wait>(
     keys: &[Key],
 ) -> Result<(), FaceFault> {
     for key in keys {
-        feed(rt, publisher, set(alloc, key)?)?;
+        feed(rt, publisher, set(alloc, copied(key), 1)?)?;
     }
     feed(rt, publisher, acknowledged(keys.len() as u64))
 }
@@ -294,9 +422,9 @@ fn delete_one<R: Wait>(
     number: u64,
 ) -> Result<bool, FaceFault> {
     feed(rt, publisher, on(copied(key), Op::Delete)?)?;
-    let dirty = look(beside, key) == Shown::Dirty;
+    let dirty = look(beside, key) == Ok(Shown::Dirty);
     feed(rt, publisher, acknowledged(number))?;
-    Ok(dirty && look(beside, key) == Shown::Nothing)
+    Ok(dirty && look(beside, key) == Ok(Shown::Nothing))
 }
 
 // The same for each of these, after the update of this number.
@@ -324,139 +452,23 @@ fn fill_and_delete<R: Wait>(
     keys: &[Key],
 ) -> Result<bool, FaceFault> {
     fill(rt, alloc, publisher, keys)?;
-    let some = keys.get(..DELETED).ok_or(FaceFault::Closed)?;
+    let some = keys.get(..DELETED).unwrap_or_default();
     let mut beside = publisher.reader()?;
-    delete_each(rt, publisher, &mut beside, some, keys.len() as u64)
+    let shown = delete_each(rt, publisher, &mut beside, some, keys.len() as u64);
+    drop(beside);
+    Ok(some.len() == DELETED && shown?)
 }
 
 // The same with n keys, at a server that isn't the last one.
-fn many<R: Wait>(rt: &R, alloc: Global, count: u32) -> Result<bool, Fail> {
+fn many<R: Wait>(rt: &R, alloc: Global, count: u32) -> Result<bool, FaceFault> {
     let keys = keys(alloc, count)?;
-    let mut publisher = opened(rt, alloc, 2)?;
+    let mut publisher = opened(rt, alloc, 2, None)?;
     let shown = fill_and_delete(rt, alloc, &mut publisher, keys.as_slice());
     publisher.end(rt);
-    Ok(shown?)
+    shown
 }
 
 #[test]
 fn many_keys_some_of_them_deleted(rt: HostRuntime) -> Result<(), Fail> {
-    assert!(rt; many(&rt, rt.alloc(), 100_000)?);
-    Ok(())
-}
-
-// A set of n bytes.
-fn set_of(alloc: Global, name: &[u8], size: usize) -> Result<Input, FaceFault> {
-    match b"0123456789".as_slice().get(..size) {
-        Some(data) => {
-            let op = Op::Set(0, Bytes::copy_from_slice(alloc, data)?);
-            on(key(alloc, name), op)
-        }
-        None => Err(FaceFault::Closed),
-    }
-}
-
-// What a server takes, on the keys `a` and `bcd`.
-#[derive(Clone, Copy)]
-enum Taken {
-    // A set of this many bytes.
-    SetA(usize),
-    SetBcd(usize),
-    DeleteA,
-    DeleteBcd,
-    Acknowledged(u64),
-    Flush,
-}
-
-fn input_of(alloc: Global, taken: Taken) -> Result<Input, FaceFault> {
-    match taken {
-        Taken::SetA(size) => set_of(alloc, b"a", size),
-        Taken::SetBcd(size) => set_of(alloc, b"bcd", size),
-        Taken::DeleteA => on(key(alloc, b"a"), Op::Delete),
-        Taken::DeleteBcd => on(key(alloc, b"bcd"), Op::Delete),
-        Taken::Acknowledged(number) => Ok(acknowledged(number)),
-        Taken::Flush => {
-            let target = Target::All;
-            let op = Op::Flush;
-            Ok(Input::Call(0, Call { target, op }))
-        }
-    }
-}
-
-// Whether the face weighs this much after an input, and the other copy as much after one that changes nothing.
-fn weighs<R: Wait>(
-    rt: &R,
-    publisher: &mut Publisher,
-    input: Input,
-    weight: Weight,
-) -> Result<bool, FaceFault> {
-    feed(rt, publisher, input)?;
-    let first = publisher.weight() == weight;
-    feed(rt, publisher, acknowledged(0))?;
-    Ok(first && publisher.weight() == weight)
-}
-
-// An input, and how many keys and how many bytes the face weighs after it.
-type Weighing = (Taken, u64, u64);
-
-// The same for each of these.
-fn all_weigh<R: Wait>(
-    rt: &R,
-    alloc: Global,
-    publisher: &mut Publisher,
-    steps: &[Weighing],
-) -> Result<bool, FaceFault> {
-    let mut right = true;
-    for step in steps {
-        let (taken, items, bytes) = *step;
-        let input = input_of(alloc, taken)?;
-        right &= weighs(rt, publisher, input, Weight { items, bytes })?;
-    }
-    Ok(right)
-}
-
-// The same for each of these, at a server that isn't the last one.
-fn weigh_at_first<R: Wait>(rt: &R, alloc: Global, steps: &[Weighing]) -> Result<bool, FaceFault> {
-    let mut publisher = opened(rt, alloc, 2)?;
-    let empty = publisher.weight() == Weight { items: 0, bytes: 0 };
-    let right = all_weigh(rt, alloc, &mut publisher, steps);
-    publisher.end(rt);
-    Ok(empty && right?)
-}
-
-// New keys, and keys that are set again, to more and to fewer bytes. A key without item counts until that is
-// acknowledged, also if it is set again before, and nothing after a flush.
-#[test]
-fn a_face_weighs_its_keys_and_data(rt: HostRuntime) -> Result<(), Fail> {
-    let steps = [
-        (Taken::SetA(1), 1, 2),
-        (Taken::SetBcd(5), 2, 10),
-        (Taken::SetA(7), 2, 16),
-        (Taken::SetA(0), 2, 9),
-        (Taken::DeleteBcd, 2, 4),
-        (Taken::Acknowledged(5), 1, 1),
-        (Taken::DeleteA, 1, 1),
-        (Taken::SetA(3), 1, 4),
-        (Taken::Acknowledged(7), 1, 4),
-        (Taken::Flush, 0, 0),
-        (Taken::SetBcd(2), 1, 5),
-        (Taken::Acknowledged(9), 1, 5),
-    ];
-    assert!(rt; weigh_at_first(&rt, rt.alloc(), &steps)?);
-    Ok(())
-}
-
-// Whether such a server opens with a face that weighs this much.
-fn opens_weighing<R: Wait>(rt: &R, alloc: Global, weight: Weight) -> Result<bool, FaceFault> {
-    let a = key(alloc, b"a")?;
-    let publisher = opened_after(rt, alloc, &a)?;
-    let right = publisher.weight() == weight;
-    publisher.end(rt);
-    Ok(right)
-}
-
-#[test]
-fn a_node_opens_with_the_weight_of_what_it_holds(rt: HostRuntime) -> Result<(), Fail> {
-    let weight = Weight { items: 1, bytes: 2 };
-    assert!(rt; opens_weighing(&rt, rt.alloc(), weight)?);
-    Ok(())
+    holds(many(&rt, rt.alloc(), 100_000))
 }

@@ -7,6 +7,8 @@ mod asking_tests;
 #[cfg(test)]
 mod connection_tests;
 #[cfg(test)]
+mod ending;
+#[cfg(test)]
 mod faces_tests;
 #[cfg(test)]
 mod peers_tests;

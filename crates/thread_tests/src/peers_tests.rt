@@ -1,6 +1,7 @@
 //! A link over memory: what is put, and what is handed on.
 ghost use Rattle.wire.specs.Spellings.{IsInRange};
 
+use crate::ending::all_hold;
 use bytes::BytesMut;
 use ends::{Failures, TrackedReader, TrackedWriter};
 use peers::{LinkFault, PeerEnd, TakeFault, Taker, put_all, put_frame, serve_peer};
@@ -15,8 +16,13 @@ use wire::{Frame, WireFault, encode_onto};
 const FORWARD: &[u8] =
     b"\x02\x02\x00\x00\x00\x00\x00\x00\x00\x00\x00\x01\x00\x00\x00\x00\x00\x00\x00\x00\x01\x01a\x01\x01\x00\x00\x00\x05\x00\x00\x00\x03xyz";
 
-// An acknowledgement of entry 1.
-const ACK: &[u8] = b"\x02\x03\x00\x00\x00\x00\x00\x00\x00\x00\x00\x01";
+// The same, and an acknowledgement of that entry.
+const BOTH: &[u8] =
+    b"\x02\x02\x00\x00\x00\x00\x00\x00\x00\x00\x00\x01\x00\x00\x00\x00\x00\x00\x00\x00\x01\x01a\x01\x01\x00\x00\x00\x05\x00\x00\x00\x03xyz\x02\x03\x00\x00\x00\x00\x00\x00\x00\x00\x00\x01";
+
+// Both, and a byte that begins a frame.
+const BOTH_AND_2: &[u8] =
+    b"\x02\x02\x00\x00\x00\x00\x00\x00\x00\x00\x00\x01\x00\x00\x00\x00\x00\x00\x00\x00\x01\x01a\x01\x01\x00\x00\x00\x05\x00\x00\x00\x03xyz\x02\x03\x00\x00\x00\x00\x00\x00\x00\x00\x00\x01\x02";
 
 // A reader that gives this many bytes in all, a few at a time, and then fails.
 #[derive(Drop)]
@@ -100,41 +106,60 @@ impl Taker for Keeper {
     }
 }
 
-// Whether a link over a reader that fails after `reads` bytes, and a taker that fails after `takes` frames, comes to
-// this end, and hands on the frames of this text. Refused if memory is out: the taker has room for all frames.
-fn comes_to(
-    rt: &impl Wait,
-    alloc: Global,
-    source: FailingReader<'_>,
+// A link over a reader of these bytes that fails after n of them, with a taker that fails after m frames; how it ends,
+// and the text of the frames that it hands on.
+#[derive(Clone, Copy)]
+struct Link<'a> {
+    bytes: &'a [u8],
+    reads: usize,
     takes: usize,
     end: Result<PeerEnd, LinkFault>,
-    text: &[u8],
-) -> Result<bool, LinkFault> {
-    let mut source = TrackedReader::new(source);
-    let mut keeper = Keeper {
+    text: &'a [u8],
+}
+
+// One whose reader and taker don't fail.
+fn going<'a>(bytes: &'a [u8], end: PeerEnd, text: &'a [u8]) -> Link<'a> {
+    Link {
+        bytes,
+        reads: 4096,
+        takes: 4096,
+        end: Ok(end),
+        text,
+    }
+}
+
+// One who has room for all frames, and takes this many.
+fn new_keeper(alloc: Global, takes: usize) -> Result<Keeper, AllocError> {
+    Ok(Keeper {
         frames: Vec::with_capacity(alloc, 4)?,
         left: takes,
         failures: Failures::new(),
-    };
-    let came = serve_peer(rt, alloc, &mut source, &mut keeper);
-    let is_kept = are_spelled(alloc, keeper.frames.as_slice(), text);
-    drop(keeper);
-    if came == Err(LinkFault::Memory) {
-        return Err(LinkFault::Memory);
-    }
-    Ok(came == end && is_kept?)
+    })
 }
 
-// The same of a link whose reader and taker don't fail.
-fn ends_with(
+fn end_of(
     rt: &impl Wait,
     alloc: Global,
-    bytes: &[u8],
-    end: PeerEnd,
-    text: &[u8],
-) -> Result<bool, LinkFault> {
-    let source = FailingReader { bytes, left: 4096 };
-    comes_to(rt, alloc, source, 4096, Ok(end), text)
+    link: Link<'_>,
+    keeper: &mut Keeper,
+) -> Result<PeerEnd, LinkFault> {
+    let mut source = TrackedReader::new(FailingReader {
+        bytes: link.bytes,
+        left: link.reads,
+    });
+    serve_peer(rt, alloc, &mut source, keeper)
+}
+
+// Whether a link ends so, and hands on these frames. Refused if memory is out: the taker has room for all frames.
+fn comes_to(rt: &impl Wait, alloc: Global, link: Link<'_>) -> Result<bool, LinkFault> {
+    let mut keeper = new_keeper(alloc, link.takes)?;
+    let end = end_of(rt, alloc, link, &mut keeper);
+    let is_kept = are_spelled(alloc, keeper.frames.as_slice(), link.text);
+    drop(keeper);
+    if end == Err(LinkFault::Memory) {
+        return Err(LinkFault::Memory);
+    }
+    Ok(end == link.end && is_kept?)
 }
 
 // Puts the frames one after another. Each has to be in its ranges.
@@ -154,10 +179,16 @@ fn put_each(
 
 // Whether the frames, put one after another, are this text.
 fn are_spelled(alloc: Global, frames: &[Frame], text: &[u8]) -> Result<bool, LinkFault> {
-    let held = Vec::with_capacity(alloc, FORWARD.len() + ACK.len())?;
+    let held = Vec::with_capacity(alloc, BOTH.len())?;
     let mut sink = TrackedWriter::new(held);
     put_each(alloc, &mut sink, frames)?;
     Ok(sink.inner.as_slice() == text)
+}
+
+// Whether a beginning of the forward gives no frame.
+fn has_no_frame(rt: &impl Wait, alloc: Global, length: usize) -> Result<bool, LinkFault> {
+    let front = FORWARD.get(..length).unwrap_or_default();
+    comes_to(rt, alloc, going(front, PeerEnd::Input, b""))
 }
 
 // How the forward ends with this byte set to 255, by the format, and whether it is a frame then.
@@ -169,12 +200,6 @@ fn with_255(place: usize) -> (PeerEnd, bool) {
     }
 }
 
-// Whether a beginning of the forward gives no frame.
-fn has_no_frame(rt: &impl Wait, alloc: Global, length: usize) -> Result<bool, LinkFault> {
-    let front = FORWARD.get(..length).unwrap_or_default();
-    ends_with(rt, alloc, front, PeerEnd::Input, b"")
-}
-
 // The forward with this byte set to 255.
 fn changed(alloc: Global, place: usize) -> Result<Vec<u8>, AllocError> {
     let mut bytes = Vec::from_slice(alloc, FORWARD)?;
@@ -184,7 +209,7 @@ fn changed(alloc: Global, place: usize) -> Result<Vec<u8>, AllocError> {
     Ok(bytes)
 }
 
-// Whether the forward with this byte set to 255 ends by the format, and is handed on if it is a frame.
+// Whether that ends by the format, and is handed on if it is a frame.
 fn ends_by_the_format(rt: &impl Wait, alloc: Global, place: usize) -> Result<bool, LinkFault> {
     let bytes = changed(alloc, place)?;
     let (end, is_frame) = with_255(place);
@@ -193,96 +218,111 @@ fn ends_by_the_format(rt: &impl Wait, alloc: Global, place: usize) -> Result<boo
     } else {
         b"".as_slice()
     };
-    ends_with(rt, alloc, bytes.as_slice(), end, text)
+    comes_to(rt, alloc, going(bytes.as_slice(), end, text))
+}
+
+// The first place at which the forward is cut, or has its byte set to 255, and isn't as the format says.
+fn other_place(rt: &impl Wait, alloc: Global) -> Result<Option<usize>, LinkFault> {
+    for place in 0..FORWARD.len() {
+        if !has_no_frame(rt, alloc, place)? || !ends_by_the_format(rt, alloc, place)? {
+            return Ok(Some(place));
+        }
+    }
+    Ok(None)
 }
 
 #[test]
 fn beginnings_and_each_byte_set_to_255(rt: HostRuntime) -> Result<(), Fail> {
-    for place in 0..FORWARD.len() {
-        assert!(rt; has_no_frame(&rt, rt.alloc(), place)?, "cut at {place}");
-        assert!(rt; ends_by_the_format(&rt, rt.alloc(), place)?, "byte {place}");
-    }
-    Ok(())
+    all_hold(other_place(&rt, rt.alloc()))
 }
 
-// The forward, the acknowledgement, and one byte more.
-fn two_and(alloc: Global, last: u8) -> Result<Vec<u8>, AllocError> {
-    let mut bytes = Vec::from_slice(alloc, FORWARD)?;
-    bytes.extend_from_slice(ACK)?;
-    bytes.extend_from_slice(&[last])?;
-    Ok(bytes)
-}
-
-// Whether both frames are handed on, and the byte behind them brings this end.
-fn ends_after_two(
+// The first link that ends otherwise than it says.
+fn other_link(
     rt: &impl Wait,
     alloc: Global,
-    last: u8,
-    end: PeerEnd,
-) -> Result<bool, LinkFault> {
-    let bytes = two_and(alloc, last)?;
-    let both = bytes
-        .as_slice()
-        .get(..FORWARD.len() + ACK.len())
-        .unwrap_or_default();
-    ends_with(rt, alloc, bytes.as_slice(), end, both)
+    links: &[Link<'_>],
+) -> Result<Option<usize>, LinkFault> {
+    let mut place = 0_usize;
+    for link in links {
+        if !comes_to(rt, alloc, *link)? {
+            return Ok(Some(place));
+        }
+        place = place.wrapping_add(1);
+    }
+    Ok(None)
 }
+
+// Both frames are handed on, and the byte behind them brings this end.
+static ENDS: [Link; 3] = [
+    Link {
+        bytes: b"\x02\x02\x00\x00\x00\x00\x00\x00\x00\x00\x00\x01\x00\x00\x00\x00\x00\x00\x00\x00\x01\x01a\x01\x01\x00\x00\x00\x05\x00\x00\x00\x03xyz\x02\x03\x00\x00\x00\x00\x00\x00\x00\x00\x00\x01\x01",
+        reads: 4096,
+        takes: 4096,
+        end: Ok(PeerEnd::Old),
+        text: BOTH,
+    },
+    Link {
+        bytes: BOTH_AND_2,
+        reads: 4096,
+        takes: 4096,
+        end: Ok(PeerEnd::Input),
+        text: BOTH,
+    },
+    Link {
+        bytes: b"\x02\x02\x00\x00\x00\x00\x00\x00\x00\x00\x00\x01\x00\x00\x00\x00\x00\x00\x00\x00\x01\x01a\x01\x01\x00\x00\x00\x05\x00\x00\x00\x03xyz\x02\x03\x00\x00\x00\x00\x00\x00\x00\x00\x00\x01\x03",
+        reads: 4096,
+        takes: 4096,
+        end: Ok(PeerEnd::Malformed),
+        text: BOTH,
+    },
+];
 
 #[test]
 fn ends_after_two_frames(rt: HostRuntime) -> Result<(), Fail> {
-    for (last, end) in [
-        (1, PeerEnd::Old),
-        (2, PeerEnd::Input),
-        (3, PeerEnd::Malformed),
-    ] {
-        assert!(rt;
-            ends_after_two(&rt, rt.alloc(), last, end)?,
-            "before {last}"
-        );
-    }
-    Ok(())
+    all_hold(other_link(&rt, rt.alloc(), &ENDS))
 }
 
 // How many bytes the whole frames have among the first n bytes of the forward and the acknowledgement.
 fn whole_among(bytes: usize) -> usize {
     if bytes < FORWARD.len() {
         0
-    } else if bytes < FORWARD.len() + ACK.len() {
+    } else if bytes < BOTH.len() {
         FORWARD.len()
     } else {
-        FORWARD.len() + ACK.len()
+        BOTH.len()
     }
 }
 
-// Whether a link whose reads fail after n bytes has handed on what is whole among them.
-fn reads_fail(
-    rt: &impl Wait,
-    alloc: Global,
-    bytes: &[u8],
-    reads: usize,
-) -> Result<bool, LinkFault> {
-    let whole = bytes.get(..whole_among(reads)).unwrap_or_default();
-    let source = FailingReader { bytes, left: reads };
-    comes_to(rt, alloc, source, 4096, Err(LinkFault::Read), whole)
+// The first n such that a link whose reads fail after n bytes doesn't hand on what is whole among them.
+fn other_reads(rt: &impl Wait, alloc: Global, bytes: &[u8]) -> Result<Option<usize>, LinkFault> {
+    for reads in 0..bytes.len() {
+        let link = Link {
+            bytes,
+            reads,
+            takes: 4096,
+            end: Err(LinkFault::Read),
+            text: bytes.get(..whole_among(reads)).unwrap_or_default(),
+        };
+        if !comes_to(rt, alloc, link)? {
+            return Ok(Some(reads));
+        }
+    }
+    Ok(None)
 }
 
-// Whether a link whose taker takes one frame has handed on the forward alone.
-fn takes_fail(rt: &impl Wait, alloc: Global, bytes: &[u8]) -> Result<bool, LinkFault> {
-    let source = FailingReader { bytes, left: 4096 };
-    comes_to(rt, alloc, source, 1, Err(LinkFault::Take), FORWARD)
-}
+// A taker that takes one frame: the forward alone is handed on.
+static TAKES: [Link; 1] = [Link {
+    bytes: BOTH_AND_2,
+    reads: 4096,
+    takes: 1,
+    end: Err(LinkFault::Take),
+    text: FORWARD,
+}];
 
 #[test]
 fn reads_and_takes_fail(rt: HostRuntime) -> Result<(), Fail> {
-    let bytes = two_and(rt.alloc(), 2)?;
-    for reads in 0..bytes.len() {
-        assert!(rt;
-            reads_fail(&rt, rt.alloc(), bytes.as_slice(), reads)?,
-            "after {reads}"
-        );
-    }
-    assert!(rt; takes_fail(&rt, rt.alloc(), bytes.as_slice())?);
-    Ok(())
+    all_hold(other_reads(&rt, rt.alloc(), BOTH_AND_2))?;
+    all_hold(other_link(&rt, rt.alloc(), &TAKES))
 }
 
 // Writes a frame after a buffer's bytes.
@@ -321,13 +361,20 @@ fn writes_of(
     Ok(has_put.then_some(sink.inner.writes))
 }
 
+// The first n such that a writer that fails after n bytes of both frames hasn't written these. One that doesn't fail
+// writes them at once.
+fn other_writes(alloc: Global, both: &[u8]) -> Result<Option<usize>, WireFault> {
+    for left in 0..both.len() {
+        let front = both.get(..left).unwrap_or_default();
+        if writes_of(alloc, left, Err(LinkFault::Write), front)?.is_none() {
+            return Ok(Some(left));
+        }
+    }
+    let is_one = writes_of(alloc, both.len(), Ok(()), both)? == Some(1);
+    Ok((!is_one).then_some(both.len()))
+}
+
 #[test]
 fn two_frames_are_one_write(rt: HostRuntime) -> Result<(), Fail> {
-    let wanted = b"\x02\x00\x03\x02\x06\x05".as_slice();
-    for left in 0..wanted.len() {
-        let front = wanted.get(..left).ok_or("a beginning")?;
-        assert!(rt; writes_of(rt.alloc(), left, Err(LinkFault::Write), front)?.is_some());
-    }
-    assert!(rt; writes_of(rt.alloc(), wanted.len(), Ok(()), wanted)? == Some(1));
-    Ok(())
+    all_hold(other_writes(rt.alloc(), b"\x02\x00\x03\x02\x06\x05"))
 }

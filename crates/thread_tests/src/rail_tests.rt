@@ -3,9 +3,14 @@ ghost use Rattle.std.specs.Prelude.{◌≡◌};
 
 pub(crate) mod running;
 
-use self::running::{News, Step, all_go, brings, first_of, go_on, is_closed, key, submits, turns};
+use self::running::{
+    News, Step, all_go, all_go_with, brings, first_of, first_with, go_on, is_closed, key, submits,
+    turns,
+};
 use node::{Look, Peer};
-use rail::{Links, PortSet, Published, RailFault, Reader, Server, Stand, Turn, Weight, Worker};
+use rail::{
+    Inlet, Links, PortSet, Published, RailFault, Reader, Room, Server, Stand, Turn, Weight, Worker,
+};
 use std::alloc::{AllocError, Global};
 use std::sync::Wait;
 use std::sync::atomic::{AtomicU64, Ordering};
@@ -325,7 +330,7 @@ fn has_reply_soon<R: Wait + Clock>(rt: &R, stands: &mut Vec<Stand>) -> bool {
 // Waits until the worker stands still, since the seat has no room for its next reply, and then takes them all. Whether
 // the worker stood still before its last turn.
 fn takes_all_late<R: Wait + Clock>(rt: &R, stands: &mut Vec<Stand>, turns: &AtomicU64) -> bool {
-    let before = turns_when_still(rt, turns);
+    let before = count_when_still(rt, turns);
     let mut taken = true;
     for _ in 0..CALLS {
         taken &= has_reply_soon(rt, stands);
@@ -333,12 +338,12 @@ fn takes_all_late<R: Wait + Clock>(rt: &R, stands: &mut Vec<Stand>, turns: &Atom
     taken && before < CALLS
 }
 
-// Waits until the worker has taken a turn, and then none for a while; for ten seconds at most. How many it has taken.
-fn turns_when_still<R: Clock>(clock: &R, turns: &AtomicU64) -> u64 {
+// Waits until a count has risen, and then stays so for a while; for ten seconds at most. How high it is.
+fn count_when_still<R: Clock>(clock: &R, count: &AtomicU64) -> u64 {
     let mut before = 0;
     for _ in 0..100 {
         thread::sleep(clock, Duration::from_millis(100));
-        let now = turns.load(Ordering::SeqCst);
+        let now = count.load(Ordering::SeqCst);
         if now == before && now > 0 {
             return now;
         }
@@ -379,5 +384,77 @@ fn replies_wait<R: Wait + Threads + Clock + Send + Sync + Drop + Copy>(
 #[test]
 fn replies_without_room_wait(rt: HostRuntime) -> Result<(), Fail> {
     assert!(rt; replies_wait(rt, rt.alloc())?);
+    Ok(())
+}
+
+// An inbox with room for one message takes the next one as soon as the worker has taken it.
+#[test]
+fn inbox_of_one_message(rt: HostRuntime) -> Result<(), Fail> {
+    let steps = [
+        Step::TurnsIfAny(None),
+        Step::Submits,
+        Step::Turns(Turn::Went),
+        Step::Brings(News::Ack(0)),
+        Step::TurnsIfAny(Some(Turn::Went)),
+        Step::SeesItsWrite,
+        Step::TurnsIfAny(None),
+        Step::Brings(News::Stop),
+        Step::Turns(Turn::Stopped),
+        Step::IsClosed,
+        Step::Brings(News::End),
+        Step::Turns(Turn::End),
+    ];
+    assert!(rt; all_go_with(rt, rt.alloc(), 1, 2, Room::least(), &steps)?);
+    Ok(())
+}
+
+// Brings as many messages, and counts them.
+fn brings_all<R: Wait>(rt: &R, inlets: &mut Vec<Inlet>, brought: &AtomicU64) -> bool {
+    for _ in 0..CALLS {
+        if !brings(rt, inlets, News::Ack(0)) {
+            return false;
+        }
+        brought.fetch_add(1, Ordering::SeqCst);
+    }
+    true
+}
+
+// Waits until nothing more is brought, since the inbox has no room, and then takes a turn for each message. Whether one
+// message was brought before the first turn.
+fn turns_late<R: Wait + Clock + Drop>(rt: &R, worker: &mut Worker<R>, brought: &AtomicU64) -> bool {
+    let before = count_when_still(rt, brought);
+    let taken = AtomicU64::new(0);
+    turns_for_all(worker, &taken) && before == 1
+}
+
+// Whether an inlet waits with a message for which the inbox has no room, and is woken for each that is taken.
+fn waits_for_turns<R: Wait + Threads + Clock + Send + Sync + Drop>(
+    rt: &R,
+    worker: &mut Worker<R>,
+    inlets: &mut Vec<Inlet>,
+) -> bool {
+    let brought = AtomicU64::new(0);
+    let (sent, taken) = thread::join(
+        rt,
+        || brings_all(rt, inlets, &brought),
+        || turns_late(rt, worker, &brought),
+    );
+    sent && taken
+}
+
+// Whether that is so of an inbox with room for one message.
+fn messages_wait<R: Wait + Threads + Clock + Send + Sync + Drop + Copy>(
+    rt: R,
+    alloc: Global,
+) -> Result<bool, RailFault> {
+    let mut server = first_with(rt, alloc, 2, 1, Room::least())?;
+    let waited = waits_for_turns(&rt, &mut server.worker, &mut server.inlets);
+    drop(server);
+    Ok(waited)
+}
+
+#[test]
+fn messages_without_room_wait(rt: HostRuntime) -> Result<(), Fail> {
+    assert!(rt; messages_wait(rt, rt.alloc())?);
     Ok(())
 }

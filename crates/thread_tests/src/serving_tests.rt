@@ -3,6 +3,7 @@
 ghost use Rattle.std.specs.Prelude.{◌≡◌, [], OnOk};
 ghost use Rattle.serving.specs.Wanted.{IsAsking};
 
+use crate::ending::holds;
 use serving::{Connection, End, Wants, stores};
 use std::alloc::{AllocError, Global};
 use std::io;
@@ -254,14 +255,29 @@ fn served_over(
     left_by(alloc, beside_of(alloc, reader, writer, room, most_items))
 }
 
-// A connection of which few bytes are read and written at once, to a table that has room for few items.
-fn served(alloc: Global, bytes: &[u8], most_items: usize) -> Result<Left, AllocError> {
+/// A connection of which this many bytes are read and written at once, to a table with room for this many items; how it
+/// ends, what it writes, and how many calls are made and refused.
+#[derive(Clone, Copy)]
+pub(crate) struct Served<'a> {
+    pub(crate) requests: &'a [u8],
+    pub(crate) reads: usize,
+    pub(crate) writes: usize,
+    pub(crate) items: usize,
+    pub(crate) end: End,
+    pub(crate) replies: &'a [u8],
+    pub(crate) calls: usize,
+    pub(crate) refused: usize,
+}
+
+/// Whether a connection is served so.
+pub(crate) fn is_served(alloc: Global, served: Served<'_>) -> Result<bool, AllocError> {
     let reader = CutReader {
-        bytes,
-        most: FEW,
+        bytes: served.requests,
+        most: served.reads,
         cut: 0,
     };
-    served_over(alloc, reader, MANY, FEW, most_items)
+    let left = served_over(alloc, reader, MANY, served.writes, served.items)?;
+    Ok(came_to(&left, served.end, served.replies) && has_made(&left, served.calls, served.refused))
 }
 
 // Whether a connection came to this end, and left this output, all of which was counted.
@@ -274,26 +290,38 @@ fn has_made(left: &Left, calls: usize, refused: usize) -> bool {
     left.counts.calls == calls && left.counts.refused == refused
 }
 
+static CUT: Served = Served {
+    requests: b"get a\r\nget b",
+    reads: FEW,
+    writes: FEW,
+    items: usize::MAX,
+    end: End::Input,
+    replies: b"END\r\n",
+    calls: 1,
+    refused: 0,
+};
+
 #[test]
 fn a_request_that_is_cut_has_no_reply(rt: HostRuntime) -> Result<(), Fail> {
-    let left = served(rt.alloc(), b"get a\r\nget b", usize::MAX)?;
-    assert!(rt; came_to(&left, End::Input, b"END\r\n"));
-    assert!(rt; has_made(&left, 1, 0));
-    Ok(())
+    holds(is_served(rt.alloc(), CUT))
 }
 
 // A table with room for one item: until that is deleted, what would store is refused, silently if it is silent, and
 // changes nothing. All else goes on.
+static WITHOUT_ROOM: Served = Served {
+    requests: b"set a 0 0 1\r\n1\r\nset b 0 0 1\r\n2\r\nset a 0 0 1 noreply\r\n3\r\nappend a 0 0 1\r\n4\r\nincr a 1\r\ngets a b\r\ndelete a\r\nadd b 0 0 1\r\n5\r\nget a b\r\nreplace b 0 0 1\r\n6\r\nprepend b 0 0 1\r\n7\r\ncas b 0 0 1 4\r\n8\r\nquit\r\n",
+    reads: FEW,
+    writes: FEW,
+    items: 1,
+    end: End::Closed,
+    replies: b"STORED\r\nSERVER_ERROR out of memory storing object\r\nSERVER_ERROR out of memory storing object\r\n2\r\nVALUE a 0 1 2\r\n2\r\nEND\r\nDELETED\r\nSTORED\r\nVALUE b 0 1\r\n5\r\nEND\r\nSERVER_ERROR out of memory storing object\r\nSERVER_ERROR out of memory storing object\r\nSERVER_ERROR out of memory storing object\r\n",
+    calls: 8,
+    refused: 6,
+};
+
 #[test]
 fn without_room_what_stores_is_refused(rt: HostRuntime) -> Result<(), Fail> {
-    let requests =
-        b"set a 0 0 1\r\n1\r\nset b 0 0 1\r\n2\r\nset a 0 0 1 noreply\r\n3\r\nappend a 0 0 1\r\n4\r\nincr a 1\r\ngets a b\r\ndelete a\r\nadd b 0 0 1\r\n5\r\nget a b\r\nreplace b 0 0 1\r\n6\r\nprepend b 0 0 1\r\n7\r\ncas b 0 0 1 4\r\n8\r\nquit\r\n";
-    let replies =
-        b"STORED\r\nSERVER_ERROR out of memory storing object\r\nSERVER_ERROR out of memory storing object\r\n2\r\nVALUE a 0 1 2\r\n2\r\nEND\r\nDELETED\r\nSTORED\r\nVALUE b 0 1\r\n5\r\nEND\r\nSERVER_ERROR out of memory storing object\r\nSERVER_ERROR out of memory storing object\r\nSERVER_ERROR out of memory storing object\r\n";
-    let left = served(rt.alloc(), requests, 1)?;
-    assert!(rt; came_to(&left, End::Closed, replies));
-    assert!(rt; has_made(&left, 8, 6));
-    Ok(())
+    holds(is_served(rt.alloc(), WITHOUT_ROOM))
 }
 
 // Requests of which some want no reply, and two have a block that doesn't end as it should; and their replies.
@@ -394,31 +422,38 @@ fn many_cuts_of_silent_requests_and_bad_blocks(rt: HostRuntime) -> Result<(), Fa
         replies: SILENT_REPLIES,
         calls: 10,
     };
-    assert!(rt; is_same_at_each(rt.alloc(), exchange, 0, SILENT.len(), 1)?);
-    Ok(())
+    holds(is_same_at_each(rt.alloc(), exchange, 0, SILENT.len(), 1))
 }
 
 // Whether that holds of cuts before and behind a large block, or a little in it, and at some places far in it.
 fn is_same_around_block(alloc: Global, exchange: Exchange<'_>) -> Result<bool, AllocError> {
     let (front, back) = (LARGE_LINE.len(), LARGE_READ.len());
     let last = exchange.requests.len().wrapping_sub(back);
-    Ok(
-        is_same_at_each(alloc, exchange, 0, front.wrapping_add(3), 1)?
-            && is_same_at_each(alloc, exchange, front, 8, 8192)?
-            && is_same_at_each(alloc, exchange, last.wrapping_sub(3), 3, 1)?
-            && is_same_at_each(alloc, exchange, last, back, 1)?,
-    )
+    for (first, cuts, step) in [
+        (0, front.wrapping_add(3), 1),
+        (front, 8, 8192),
+        (last.wrapping_sub(3), 3, 1),
+        (last, back, 1),
+    ] {
+        if !is_same_at_each(alloc, exchange, first, cuts, step)? {
+            return Ok(false);
+        }
+    }
+    Ok(true)
 }
 
-#[test]
-fn many_cuts_of_a_large_block(rt: HostRuntime) -> Result<(), Fail> {
-    let requests = around_block(rt.alloc(), LARGE_LINE, LARGE, LARGE_READ)?;
-    let replies = around_block(rt.alloc(), LARGE_SHOWN, LARGE, LARGE_END)?;
+fn is_same_for_large(alloc: Global) -> Result<bool, AllocError> {
+    let requests = around_block(alloc, LARGE_LINE, LARGE, LARGE_READ)?;
+    let replies = around_block(alloc, LARGE_SHOWN, LARGE, LARGE_END)?;
     let exchange = Exchange {
         requests: requests.as_slice(),
         replies: replies.as_slice(),
         calls: 2,
     };
-    assert!(rt; is_same_around_block(rt.alloc(), exchange)?);
-    Ok(())
+    is_same_around_block(alloc, exchange)
+}
+
+#[test]
+fn many_cuts_of_a_large_block(rt: HostRuntime) -> Result<(), Fail> {
+    holds(is_same_for_large(rt.alloc()))
 }

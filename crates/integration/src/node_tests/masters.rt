@@ -1,7 +1,7 @@
 //! Whom the master tells, and how large a chain may be.
 
-use crate::making::holds;
-use node::{Master, Node, NodeFault};
+use crate::making::{Fault, all_hold, all_true};
+use node::{Master, MasterFault, Node, NodeFault};
 use std::alloc::Global;
 use std::test::Fail;
 
@@ -11,47 +11,61 @@ fn tells(
     master: &mut Master,
     failed: u8,
     wanted: &[(u8, u8)],
-) -> Result<bool, Fail> {
-    let told = master.gone(alloc, failed)?;
-    Ok(told.as_slice() == wanted)
+) -> Result<bool, Fault> {
+    match master.gone(alloc, failed) {
+        Ok(told) => Ok(told.as_slice() == wanted),
+        Err(MasterFault::Memory) => Err(Fault::Memory),
+    }
 }
 
-fn tells_the_others(alloc: Global, master: &mut Master) -> Result<bool, Fail> {
-    Ok(
-        tells(alloc, master, 1, &[(0, 1), (2, 1)])?
-            && tells(alloc, master, 1, &[])?
-            && tells(alloc, master, 0, &[(2, 0)])?
-            && tells(alloc, master, 3, &[])?,
-    )
+// A server that fails, and what the master sends then.
+type Notice = (u8, &'static [(u8, u8)]);
+
+static NOTICES: [Notice; 4] = [(1, &[(0, 1), (2, 1)]), (1, &[]), (0, &[(2, 0)]), (3, &[])];
+
+fn other_notice(
+    alloc: Global,
+    master: &mut Master,
+    rows: &[Notice],
+) -> Result<Option<usize>, Fault> {
+    let mut place = 0_usize;
+    for row in rows {
+        let (failed, wanted) = *row;
+        if !tells(alloc, master, failed, wanted)? {
+            return Ok(Some(place));
+        }
+        place = place.wrapping_add(1);
+    }
+    Ok(None)
 }
 
 #[test]
 fn a_master_tells_the_others(rt: HostRuntime) -> Result<(), Fail> {
     let mut master = Master::new(3);
-    holds(tells_the_others(rt.alloc(), &mut master))
+    all_hold(other_notice(rt.alloc(), &mut master, &NOTICES))
 }
 
-fn is_refused(alloc: Global, id: u8, count: u8) -> bool {
-    let made = Node::new(alloc, id, count);
-    let refused = matches!(&made, Err(NodeFault::BadCount));
-    drop(made);
-    refused
-}
-
-fn is_made(alloc: Global, id: u8, count: u8) -> Result<bool, Fail> {
-    let node = Node::new(alloc, id, count)?;
-    let idle = node.is_idle();
-    drop(node);
-    Ok(idle)
+// Whether there is no such server, or there is one, which is idle.
+fn is_made(alloc: Global, id: u8, count: u8, wanted: bool) -> bool {
+    match Node::new(alloc, id, count) {
+        Ok(node) => {
+            let idle = node.is_idle();
+            drop(node);
+            wanted && idle
+        }
+        Err(NodeFault::BadCount) => !wanted,
+        Err(_) => false,
+    }
 }
 
 #[test]
 fn a_chain_has_1_to_16_servers(rt: HostRuntime) -> Result<(), Fail> {
-    for (id, count) in [(0, 0), (0, 17), (16, 16), (3, 3)] {
-        assert!(rt; is_refused(rt.alloc(), id, count));
-    }
-    for (id, count) in [(15, 16), (0, 1)] {
-        assert!(rt; is_made(rt.alloc(), id, count)?);
-    }
-    Ok(())
+    all_true(&[
+        is_made(rt.alloc(), 0, 0, false),
+        is_made(rt.alloc(), 0, 17, false),
+        is_made(rt.alloc(), 16, 16, false),
+        is_made(rt.alloc(), 3, 3, false),
+        is_made(rt.alloc(), 15, 16, true),
+        is_made(rt.alloc(), 0, 1, true),
+    ])
 }

@@ -1,11 +1,12 @@
 //! The published face: the changes that steps give, done on a map, show what the node shows.
 
-use crate::making::{holds, key, on, set};
-use node::{Body, FaceChange, FaceStep, Input, Look, Node, Peer, Version, View};
+use super::inputs::{Ask, Given, Said, input_of};
+use crate::making::{Fault, all_hold, key};
+use node::{FaceChange, FaceStep, Input, Look, Node, Version};
 use std::alloc::Global;
 use std::collections::BTreeMap;
 use std::test::Fail;
-use table::{Call, Item, Key, Op, Target};
+use table::{Item, Key};
 
 // What readers beside a node see: each key's newest version, the last clear, and the acknowledged number.
 #[derive(Drop)]
@@ -15,18 +16,24 @@ struct Published {
     acked: u64,
 }
 
-fn replay(face: &mut Published, change: FaceChange) -> Result<(), Fail> {
+fn take(face: &mut Published, step: FaceStep) -> Result<(), Fault> {
+    match step {
+        FaceStep::Set(key, version) => {
+            let before = face.versions.insert(key, version)?;
+            drop(before);
+        }
+        FaceStep::Clear(number) => {
+            face.versions.clear();
+            face.cleared = number;
+        }
+    }
+    Ok(())
+}
+
+fn replay(face: &mut Published, change: FaceChange) -> Result<(), Fault> {
     let FaceChange { steps, acked } = change;
     for step in steps {
-        match step {
-            FaceStep::Set(key, version) => {
-                face.versions.insert(key, version)?;
-            }
-            FaceStep::Clear(number) => {
-                face.versions.clear();
-                face.cleared = number;
-            }
-        }
+        take(face, step)?;
     }
     face.versions.retain(|_, version| version.item.is_some() || version.number > acked);
     face.acked = acked;
@@ -41,124 +48,131 @@ fn look<'a>(face: &'a Published, key: &Key) -> Look<&'a Item> {
     }
 }
 
-// A node, what readers beside it see, and the keys that they look at.
-#[derive(Drop)]
-struct Scene {
-    node: Node,
-    face: Published,
-    a: Key,
-    b: Key,
+// What a look at a key shows.
+#[derive(Clone, Copy)]
+enum Shown {
+    Item,
+    Nothing,
+    Dirty,
 }
 
-fn empty_scene(alloc: Global) -> Result<Scene, Fail> {
-    let a = key(alloc, b"a")?;
-    let b = key(alloc, b"b")?;
-    let node = Node::new(alloc, 0, 2)?;
-    let face = Published {
-        versions: BTreeMap::new(alloc),
-        cleared: 0,
-        acked: 0,
+// Whether readers beside a node see of a key what the node shows, and that is this.
+fn is_shown(node: &Node, face: &Published, key: &Key, wanted: Shown) -> bool {
+    let shown = look(face, key);
+    let right = match wanted {
+        Shown::Item => matches!(&shown, Look::Clean(Some(_))),
+        Shown::Nothing => matches!(&shown, Look::Clean(None)),
+        Shown::Dirty => matches!(&shown, Look::Dirty),
     };
-    Ok(Scene { node, face, a, b })
+    right && shown == node.peek(key)
 }
+
+// What a node takes, and what is shown of the keys `a` and `b` then.
+type Row = (Given, Shown, Shown);
 
 // What an input changes of the face.
-fn changed(node: &mut Node, input: Input) -> Result<FaceChange, Fail> {
+fn changed(node: &mut Node, input: Input) -> Result<FaceChange, Fault> {
     if input.is_fit() {
         let (_, change) = node.step_face(input)?;
         Ok(change)
     } else {
         drop(input);
-        Err("an input that may be handed in".into())
+        Err(Fault::Refused)
     }
 }
 
-// Whether readers beside the node see of a key what the node shows.
-fn looks_agree(scene: &Scene, key: &Key) -> bool {
-    look(&scene.face, key) == scene.node.peek(key)
-}
-
-// One step, replayed. Both looks are the same for each key.
-fn change(scene: &mut Scene, input: Input) -> Result<(), Fail> {
-    let change = changed(&mut scene.node, input)?;
-    replay(&mut scene.face, change)?;
-    if looks_agree(scene, &scene.a) && looks_agree(scene, &scene.b) {
-        Ok(())
-    } else {
-        Err("both looks".into())
+// One step, replayed.
+fn goes(
+    alloc: Global,
+    node: &mut Node,
+    face: &mut Published,
+    keys: &[Key],
+    row: Row,
+) -> Result<bool, Fault> {
+    let (given, a, b) = row;
+    let input = input_of(alloc, given)?;
+    let change = changed(node, input)?;
+    replay(face, change)?;
+    match keys {
+        [first, second] => Ok(is_shown(node, face, first, a) && is_shown(node, face, second, b)),
+        _ => Err(Fault::Refused),
     }
 }
 
-fn acknowledged(n: u64) -> Input {
-    let view = View::empty();
-    let body = Body::Ack(n);
-    Input::From(1, Peer { view, body })
+fn other_row(
+    alloc: Global,
+    node: &mut Node,
+    face: &mut Published,
+    keys: &[Key],
+    rows: &[Row],
+) -> Result<Option<usize>, Fault> {
+    let mut place = 0_usize;
+    for row in rows {
+        if !goes(alloc, node, face, keys, *row)? {
+            return Ok(Some(place));
+        }
+        place = place.wrapping_add(1);
+    }
+    Ok(None)
 }
 
-fn put(alloc: Global, scene: &mut Scene, name: &[u8], data: &[u8]) -> Result<(), Fail> {
-    let call = set(alloc, name, data)?;
-    change(scene, Input::Call(0, call))
+fn a_and_b(alloc: Global) -> Result<Vec<Key>, Fault> {
+    let mut keys = Vec::new(alloc);
+    for name in [b"a", b"b"] {
+        keys.push(key(alloc, name)?)?;
+    }
+    Ok(keys)
 }
 
-fn delete_a(alloc: Global, scene: &mut Scene) -> Result<(), Fail> {
-    let key = key(alloc, b"a")?;
-    change(scene, Input::Call(0, on(key, Op::Delete)))
-}
-
-fn clear_all(scene: &mut Scene) -> Result<(), Fail> {
-    let flush = Call {
-        target: Target::All,
-        op: Op::Flush,
+// The first row that goes otherwise than it says, at the first of two servers.
+fn other_of_new(alloc: Global, rows: &[Row]) -> Result<Option<usize>, Fault> {
+    let keys = a_and_b(alloc)?;
+    let mut node = Node::new(alloc, 0, 2)?;
+    let mut face = Published {
+        versions: BTreeMap::new(alloc),
+        cleared: 0,
+        acked: 0,
     };
-    change(scene, Input::Call(0, flush))
+    let other = other_row(alloc, &mut node, &mut face, keys.as_slice(), rows);
+    drop(face);
+    drop(node);
+    other
 }
 
-// Items are put and dropped.
-fn put_and_drop(alloc: Global, scene: &mut Scene) -> Result<(), Fail> {
-    put(alloc, scene, b"a", b"p")?;
-    change(scene, acknowledged(1))?;
-    delete_a(alloc, scene)?;
-    put(alloc, scene, b"b", b"q")?;
-    change(scene, acknowledged(2))
-}
-
-// All keys are cleared, and one is put again.
-fn clear_and_put(alloc: Global, scene: &mut Scene) -> Result<(), Fail> {
-    clear_all(scene)?;
-    put(alloc, scene, b"a", b"r")?;
-    change(scene, acknowledged(4))
-}
-
-// Whether the key that was put last is dirty, and the other has no item.
-fn shows_a_dirty(scene: &Scene) -> bool {
-    matches!(look(&scene.face, &scene.a), Look::Dirty)
-        && matches!(look(&scene.face, &scene.b), Look::Clean(None))
-}
-
-fn leaves_a_dirty(alloc: Global, scene: &mut Scene) -> Result<bool, Fail> {
-    put_and_drop(alloc, scene)?;
-    clear_and_put(alloc, scene)?;
-    Ok(shows_a_dirty(scene))
-}
-
-// Whether the key has an item once the node's only neighbour has failed.
-fn is_clean_alone(scene: &mut Scene) -> Result<bool, Fail> {
-    change(scene, Input::Gone(1))?;
-    Ok(matches!(look(&scene.face, &scene.a), Look::Clean(Some(_))))
-}
-
-fn changes_are_shown(alloc: Global) -> Result<bool, Fail> {
-    let mut scene = empty_scene(alloc)?;
-    let shown = changes_are_shown_in(alloc, &mut scene);
-    drop(scene);
-    shown
-}
-
-fn changes_are_shown_in(alloc: Global, scene: &mut Scene) -> Result<bool, Fail> {
-    Ok(leaves_a_dirty(alloc, scene)? && is_clean_alone(scene)?)
-}
+// Items are put and dropped. Then all keys are cleared, and one is put again. At last the node's only neighbour fails.
+static CHANGES: [Row; 9] = [
+    (
+        Given::Call(0, Ask::Set(b"a", b"p")),
+        Shown::Dirty,
+        Shown::Nothing,
+    ),
+    (Given::From(1, 0, Said::Ack(1)), Shown::Item, Shown::Nothing),
+    (Given::Call(0, Ask::Delete), Shown::Dirty, Shown::Nothing),
+    (
+        Given::Call(0, Ask::Set(b"b", b"q")),
+        Shown::Dirty,
+        Shown::Dirty,
+    ),
+    (
+        Given::From(1, 0, Said::Ack(2)),
+        Shown::Nothing,
+        Shown::Dirty,
+    ),
+    (Given::Call(0, Ask::Flush), Shown::Dirty, Shown::Dirty),
+    (
+        Given::Call(0, Ask::Set(b"a", b"r")),
+        Shown::Dirty,
+        Shown::Dirty,
+    ),
+    (
+        Given::From(1, 0, Said::Ack(4)),
+        Shown::Dirty,
+        Shown::Nothing,
+    ),
+    (Given::Gone(1), Shown::Item, Shown::Nothing),
+];
 
 #[test]
 fn changes_replayed_show_what_the_node_shows(rt: HostRuntime) -> Result<(), Fail> {
-    holds(changes_are_shown(rt.alloc()))
+    all_hold(other_of_new(rt.alloc(), &CHANGES))
 }

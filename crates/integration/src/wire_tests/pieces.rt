@@ -2,47 +2,46 @@
 ghost use Rattle.std.specs.Prelude.{◌<◌};
 
 use super::fronts::{Found, next_found};
-use super::vectors::{says, spelled, vector};
-use crate::making::{block, key, on};
+use super::vectors::{VECTORS, says, spelled};
+use crate::making::{Fault, all_hold, set};
 use node::Body;
 use std::alloc::Global;
 use std::test::Fail;
-use table::Op;
 use wire::Frames;
 
-// The vectors one after another.
-fn all_vectors(alloc: Global) -> Result<Vec<u8>, Fail> {
-    let mut stream = Vec::new(alloc);
-    for place in 0..17 {
-        stream.extend_from_slice(vector(place))?;
-    }
-    Ok(stream)
-}
-
-// Writes the spelling of the next frame, if there is one.
-fn read_next(alloc: Global, frames: &mut Frames, read: &mut Vec<u8>) -> Result<(), Fail> {
+// Writes the spelling of the next frame, if there is one: whether there was.
+fn has_read(alloc: Global, frames: &mut Frames, read: &mut Vec<u8>) -> Result<bool, Fault> {
     let mut text = Vec::new(alloc);
     if next_found(alloc, frames, &mut text)? == Found::Frame {
         read.extend_from_slice(text.as_slice())?;
+        Ok(true)
+    } else {
+        Ok(false)
     }
-    Ok(())
 }
 
-// Writes the spellings of up to 17 frames that are read once a piece more has come.
+// Writes the spellings of the frames that are read once a piece more has come: no more than it has bytes.
 fn read_after(
     alloc: Global,
     frames: &mut Frames,
     piece: &[u8],
     read: &mut Vec<u8>,
-) -> Result<(), Fail> {
+) -> Result<(), Fault> {
     frames.feed(piece)?;
-    for _ in 0..17 {
-        read_next(alloc, frames, read)?;
+    for _ in 0..piece.len() {
+        if !has_read(alloc, frames, read)? {
+            break;
+        }
     }
     Ok(())
 }
 
-fn read_all(alloc: Global, frames: &mut Frames, stream: &[u8], size: usize) -> Result<Vec<u8>, Fail>
+fn read_all(
+    alloc: Global,
+    frames: &mut Frames,
+    stream: &[u8],
+    size: usize,
+) -> Result<Vec<u8>, Fault>
     requires { 0 < size }
 {
     let mut read = Vec::new(alloc);
@@ -52,97 +51,63 @@ fn read_all(alloc: Global, frames: &mut Frames, stream: &[u8], size: usize) -> R
     Ok(read)
 }
 
-// The spellings of the frames that are read in pieces of n bytes.
-fn read_in_pieces(alloc: Global, stream: &[u8], size: usize) -> Result<Vec<u8>, Fail>
+// Whether the frames that are read in pieces of n bytes have the stream as their spellings.
+fn is_read(alloc: Global, stream: &[u8], size: usize) -> Result<bool, Fault>
     requires { 0 < size }
 {
     let mut frames = Frames::new(alloc);
     let read = read_all(alloc, &mut frames, stream, size);
     drop(frames);
-    read
+    Ok(read?.as_slice() == stream)
+}
+
+// The first of these sizes of pieces at which something else is read.
+fn other_size(alloc: Global, stream: &[u8], sizes: &[usize]) -> Result<Option<usize>, Fault> {
+    let mut place = 0_usize;
+    for size in sizes {
+        if *size == 0 || !is_read(alloc, stream, *size)? {
+            return Ok(Some(place));
+        }
+        place = place.wrapping_add(1);
+    }
+    Ok(None)
+}
+
+fn other_of_vectors(alloc: Global, vectors: &[&[u8]]) -> Result<Option<usize>, Fault> {
+    let mut stream = Vec::new(alloc);
+    for text in vectors {
+        stream.extend_from_slice(text)?;
+    }
+    other_size(alloc, stream.as_slice(), &[1, 2, 7, 23, 200])
 }
 
 #[test]
 fn vectors_are_read_in_any_pieces(rt: HostRuntime) -> Result<(), Fail> {
-    let stream = all_vectors(rt.alloc())?;
-    for size in [1, 2, 7, 23, 200] {
-        let read = read_in_pieces(rt.alloc(), stream.as_slice(), size)?;
-        assert_eq!(rt; read.as_slice(), stream.as_slice());
-    }
-    Ok(())
+    all_hold(other_of_vectors(rt.alloc(), &VECTORS))
 }
 
 // The spelling of a set with data of this length.
-fn text_of(alloc: Global, size: usize) -> Result<Vec<u8>, Fail> {
+fn text_of(alloc: Global, size: usize) -> Result<Vec<u8>, Fault> {
     let data = vec![in alloc; b'x'; size]?;
-    let bytes = block(alloc, data.as_slice())?;
-    let key = key(alloc, b"key")?;
-    let frame = says(0, Body::Op(1, on(key, Op::Set(7, bytes))));
+    let call = set(alloc, b"key", data.as_slice())?;
+    let frame = says(0, Body::Op(1, call));
     let text = spelled(alloc, &frame);
     drop(frame);
     text
 }
 
-// Frames one after another, with data of this length each.
-fn stream_of(alloc: Global, size: usize, count: usize) -> Result<Vec<u8>, Fail> {
+// The same of frames one after another.
+fn other_of_many(alloc: Global, size: usize, count: usize) -> Result<Option<usize>, Fault> {
     let text = text_of(alloc, size)?;
-    repeated(alloc, text.as_slice(), count)
-}
-
-fn repeated(alloc: Global, text: &[u8], count: usize) -> Result<Vec<u8>, Fail> {
     let mut stream = Vec::new(alloc);
     for _ in 0..count {
-        stream.extend_from_slice(text)?;
+        stream.extend_from_slice(text.as_slice())?;
     }
-    Ok(stream)
-}
-
-fn has_next(frames: &mut Frames) -> Result<bool, Fail> {
-    let next = frames.next()?;
-    let has_next = next.is_some();
-    drop(next);
-    Ok(has_next)
-}
-
-// How many frames are read once a piece more has come.
-fn count_after(frames: &mut Frames, piece: &[u8]) -> Result<usize, Fail> {
-    frames.feed(piece)?;
-    let mut count = 0_usize;
-    for _ in 0..piece.len() {
-        if !has_next(frames)? {
-            break;
-        }
-        count = count.wrapping_add(1);
-    }
-    Ok(count)
-}
-
-fn count_in(frames: &mut Frames, stream: &[u8], size: usize) -> Result<usize, Fail>
-    requires { 0 < size }
-{
-    let mut count = 0_usize;
-    for piece in stream.chunks(size) {
-        count = count.wrapping_add(count_after(frames, piece)?);
-    }
-    Ok(count)
-}
-
-// How many frames are read, in pieces of n bytes.
-fn count_of(alloc: Global, stream: &[u8], size: usize) -> Result<usize, Fail>
-    requires { 0 < size }
-{
-    let mut frames = Frames::new(alloc);
-    let count = count_in(&mut frames, stream, size);
-    drop(frames);
-    count
+    other_size(alloc, stream.as_slice(), &[1, 4096, 65_536])
 }
 
 // 100 KB of one frame after another. `bench/frames` reads 10 MB so, and fails if a frame is missed.
 #[test]
 fn many_frames(rt: HostRuntime) -> Result<(), Fail> {
-    let stream = stream_of(rt.alloc(), 100, 800)?;
-    for piece in [1, 4096, 65_536] {
-        assert_eq!(rt; count_of(rt.alloc(), stream.as_slice(), piece)?, 800);
-    }
-    Ok(())
+    all_hold(other_of_many(rt.alloc(), 100, 800))
 }

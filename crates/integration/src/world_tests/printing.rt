@@ -1,4 +1,6 @@
-use crate::making::key;
+//! The texts of transcripts.
+
+use crate::making::{Fault, holds, key};
 use schedules::print_transcript;
 use std::alloc::Global;
 use std::test::Fail;
@@ -15,7 +17,7 @@ fn read_of(key: Key, reply: Option<Reply>) -> CallTranscript {
 }
 
 // A read that was answered, and one that wasn't.
-fn two_calls(alloc: Global) -> Result<Vec<CallTranscript>, Fail> {
+fn two_calls(alloc: Global) -> Result<Vec<CallTranscript>, Fault> {
     let first = key(alloc, b"a")?;
     let second = key(alloc, b"b")?;
     let answered = read_of(first, Some(Reply::Value(None)));
@@ -23,7 +25,7 @@ fn two_calls(alloc: Global) -> Result<Vec<CallTranscript>, Fail> {
     Ok(vec![in alloc; answered, open]?)
 }
 
-fn with_two_calls(alloc: Global) -> Result<ConnectionTranscript, Fail> {
+fn with_two_calls(alloc: Global) -> Result<ConnectionTranscript, Fault> {
     let sent = Vec::from_slice(alloc, b"VALUE a 5 3 1\r\n\n\x00 ~\x7f\\\xa9\x1b\r\rend")?;
     let calls = two_calls(alloc)?;
     Ok(ConnectionTranscript {
@@ -33,7 +35,7 @@ fn with_two_calls(alloc: Global) -> Result<ConnectionTranscript, Fail> {
     })
 }
 
-fn of_two_connections(alloc: Global) -> Result<Transcript, Fail> {
+fn of_two_connections(alloc: Global) -> Result<Transcript, Fault> {
     let first = with_two_calls(alloc)?;
     let second = ConnectionTranscript {
         home: 10,
@@ -46,12 +48,12 @@ fn of_two_connections(alloc: Global) -> Result<Transcript, Fail> {
     })
 }
 
-fn prints(alloc: Global, transcript: &Transcript, wanted: &[u8]) -> Result<bool, Fail> {
+fn prints(alloc: Global, transcript: &Transcript, wanted: &[u8]) -> Result<bool, Fault> {
     let text = print_transcript(alloc, transcript)?;
     Ok(text.as_slice() == wanted)
 }
 
-fn prints_two_connections(alloc: Global) -> Result<bool, Fail> {
+fn prints_two_connections(alloc: Global) -> Result<bool, Fault> {
     let transcript = of_two_connections(alloc)?;
     prints(
         alloc,
@@ -60,7 +62,7 @@ fn prints_two_connections(alloc: Global) -> Result<bool, Fail> {
     )
 }
 
-fn prints_no_connection(alloc: Global) -> Result<bool, Fail> {
+fn prints_no_connection(alloc: Global) -> Result<bool, Fault> {
     let transcript = Transcript {
         connections: Vec::new(alloc),
         quiet: true,
@@ -68,9 +70,11 @@ fn prints_no_connection(alloc: Global) -> Result<bool, Fail> {
     prints(alloc, &transcript, b"quiet\n")
 }
 
+fn prints_both(alloc: Global) -> Result<bool, Fault> {
+    Ok(prints_two_connections(alloc)? && prints_no_connection(alloc)?)
+}
+
 #[test]
 fn the_text_of_a_transcript(rt: HostRuntime) -> Result<(), Fail> {
-    assert!(rt; prints_two_connections(rt.alloc())?);
-    assert!(rt; prints_no_connection(rt.alloc())?);
-    Ok(())
+    holds(prints_both(rt.alloc()))
 }

@@ -1,10 +1,11 @@
 //! Tests of runs in which steps are refused.
+use crate::making::Fault;
 use schedules::{Schedule, print_transcript, read_schedule};
 use std::alloc::Global;
 use std::fs;
 use std::io::{self, ErrorKind, Write};
 use std::test::Fail;
-use world::{Event, SceneFault, Transcript, run, run_failing};
+use world::{Event, SceneFault, run, run_failing};
 
 // A schedule in the folder where the test runs, which `tools/refused_steps` puts there.
 const FILE: &str = "refused_steps.schedule";
@@ -22,23 +23,19 @@ fn schedule_text(rt: &HostRuntime) -> Result<String, Fail> {
     }
 }
 
-fn printed(alloc: Global, shown: &Transcript) -> Result<Vec<u8>, Fail> {
-    Ok(print_transcript(alloc, shown)?)
-}
-
 // The text of what a run shows, and the steps that were refused in it.
-fn shown_by(alloc: Global, schedule: &Schedule) -> Result<(Vec<u8>, Vec<(usize, usize)>), Fail> {
+fn shown_by(alloc: Global, schedule: &Schedule) -> Result<(Vec<u8>, Vec<(usize, usize)>), Fault> {
     let homes = schedule.homes.as_slice();
     let (shown, refused) = run_failing(alloc, schedule.count, homes, schedule.events.as_slice())?;
-    let text = printed(alloc, &shown)?;
+    let text = print_transcript(alloc, &shown)?;
     Ok((text, refused))
 }
 
 // The text of what `run` shows.
-fn shown_by_run(alloc: Global, schedule: &Schedule) -> Result<Vec<u8>, Fail> {
+fn shown_by_run(alloc: Global, schedule: &Schedule) -> Result<Vec<u8>, Fault> {
     let homes = schedule.homes.as_slice();
     let shown = run(alloc, schedule.count, homes, schedule.events.as_slice())?;
-    printed(alloc, &shown)
+    Ok(print_transcript(alloc, &shown)?)
 }
 
 // The events with a failure for each step that was refused. The steps are written.
@@ -76,28 +73,29 @@ fn is_shown_by_failures(
     Ok(shown == wanted.as_slice())
 }
 
-// Whether the run with refused steps and the one with failures are shown alike, and how many steps were refused.
-fn compared(rt: &HostRuntime, schedule: &mut Schedule) -> Result<(bool, usize), Fail> {
+// How many steps were refused in a run, which is shown as the run with failures is.
+fn compared(rt: &HostRuntime, schedule: &mut Schedule) -> Result<usize, Fail> {
     let (shown, refused) = shown_by(rt.alloc(), schedule)?;
-    let alike = is_shown_by_failures(rt, schedule, shown.as_slice(), refused.as_slice())?;
-    Ok((alike, refused.len()))
+    if is_shown_by_failures(rt, schedule, shown.as_slice(), refused.as_slice())? {
+        Ok(refused.len())
+    } else {
+        Err("both are shown alike".into())
+    }
 }
 
-fn schedule(rt: &HostRuntime) -> Result<Schedule, Fail> {
+fn refused_steps(rt: &HostRuntime) -> Result<usize, Fail> {
     let text = schedule_text(rt)?;
-    Ok(read_schedule(rt.alloc(), text.as_bytes())?)
+    let mut schedule = read_schedule(rt.alloc(), text.as_bytes())?;
+    compared(rt, &mut schedule)
 }
 
 // What a run shows is what `run` shows of the events with a failure for each step that was refused. Where one was, the
 // test ends in that refusal. It writes the refused steps and the transcript, which `tools/refused_steps` reads.
 #[test]
 fn a_refused_step_is_a_failure(rt: HostRuntime) -> Result<(), Fail> {
-    let mut schedule = schedule(&rt)?;
-    let (alike, refused) = compared(&rt, &mut schedule)?;
-    assert!(rt; alike);
-    if refused == 0 {
-        Ok(())
-    } else {
-        Err(SceneFault::Memory.into())
+    match refused_steps(&rt) {
+        Ok(0) => Ok(()),
+        Ok(_) => Err(SceneFault::Memory.into()),
+        Err(fault) => Err(fault),
     }
 }

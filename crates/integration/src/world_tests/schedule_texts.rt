@@ -1,62 +1,74 @@
 //! Tests of schedules that are read from their text.
-use crate::making::{block, holds};
+
+use crate::making::{Fault, all_hold, holds};
+use bytes::Bytes;
 use schedules::{ScheduleFault, read_schedule};
 use std::alloc::Global;
-use std::process::Abort;
 use std::test::Fail;
 use world::Event;
 
 // The number of the first bad line, or 0 if there is none.
-fn bad_line(alloc: Global, text: &[u8]) -> Result<u64, Fail> {
+fn bad_line(alloc: Global, text: &[u8]) -> Result<u64, Fault> {
     match read_schedule(alloc, text) {
         Ok(_) => Ok(0),
         Err(ScheduleFault::BadLine(number)) => Ok(number),
-        Err(fault) => Err(fault.into()),
+        Err(ScheduleFault::Memory) => Err(Fault::Memory),
     }
 }
 
 // The same of some lines behind others.
-fn bad_line_behind(alloc: Global, head: &[u8], lines: &[u8]) -> Result<u64, Fail> {
+fn bad_line_behind(alloc: Global, head: &[u8], lines: &[u8]) -> Result<u64, Fault> {
     let mut text = Vec::from_slice(alloc, head)?;
     text.extend_from_slice(lines)?;
     bad_line(alloc, text.as_slice())
 }
 
-// The first bad line of each of some texts, which stand behind others and are parted by `%`, has this number.
-fn check_bad_lines<R: Abort + AllocGlobal>(
-    rt: &R,
-    head: &[u8],
-    texts: &[u8],
-    wanted: u64,
-) -> Result<(), Fail> {
-    let mut place = 0_usize;
+// Texts that are parted by `%`, and the first bad line of each of them, behind others.
+type Texts = (&'static [u8], u64);
+
+fn are_bad(alloc: Global, head: &[u8], texts: Texts) -> Result<bool, Fault> {
+    let (texts, wanted) = texts;
     for text in texts.split(|byte| *byte == b'%') {
-        assert!(rt;
-            bad_line_behind(rt.alloc(), head, text)? == wanted,
-            "text {place}"
-        );
+        if bad_line_behind(alloc, head, text)? != wanted {
+            return Ok(false);
+        }
+    }
+    Ok(true)
+}
+
+// The first of these of which one text has another first bad line, or none.
+fn other_texts(alloc: Global, head: &[u8], rows: &[Texts]) -> Result<Option<usize>, Fault> {
+    let mut place = 0_usize;
+    for row in rows {
+        if !are_bad(alloc, head, *row)? {
+            return Ok(Some(place));
+        }
         place = place.wrapping_add(1);
     }
-    Ok(())
+    Ok(None)
 }
 
-// Whether a text is read as these events.
-fn has_events(alloc: Global, text: &[u8], wanted: &[Event]) -> Result<bool, Fail> {
+// Whether a text is read as n servers, these homes and these events.
+fn is_read(
+    alloc: Global,
+    text: &[u8],
+    count: usize,
+    homes: &[usize],
+    events: &[Event],
+) -> Result<bool, Fault> {
     let schedule = read_schedule(alloc, text)?;
-    Ok(schedule.events.as_slice() == wanted)
-}
-
-// Whether a text is read as n servers and these homes.
-fn has_homes(alloc: Global, text: &[u8], count: usize, wanted: &[usize]) -> Result<bool, Fail> {
-    let schedule = read_schedule(alloc, text)?;
-    Ok(schedule.count == count && schedule.homes.as_slice() == wanted)
+    Ok(
+        schedule.count == count
+            && schedule.homes.as_slice() == homes
+            && schedule.events.as_slice() == events,
+    )
 }
 
 const SET_THEN_GETS: &[u8] =
     b"servers 1\nhomes 0\npiece 0 set a 5 0 3\\r\\nxyz\\r\\ngets a\\r\\n\nbegin 0\nwork 0\nhand 0\nbegin 0\nwork 0\nhand 0\n";
 
-fn has_set_then_gets(alloc: Global) -> Result<bool, Fail> {
-    let input = block(alloc, b"set a 5 0 3\r\nxyz\r\ngets a\r\n")?;
+fn reads_set_then_gets(alloc: Global) -> Result<bool, Fault> {
+    let input = Bytes::copy_from_slice(alloc, b"set a 5 0 3\r\nxyz\r\ngets a\r\n")?;
     let wanted = [
         Event::Piece(0, input),
         Event::Begin(0),
@@ -66,24 +78,22 @@ fn has_set_then_gets(alloc: Global) -> Result<bool, Fail> {
         Event::Work(0),
         Event::Hand(0),
     ];
-    let read = has_events(alloc, SET_THEN_GETS, &wanted);
+    let read = is_read(alloc, SET_THEN_GETS, 1, &[0], &wanted);
     drop(wanted);
     read
 }
 
 #[test]
 fn set_then_gets(rt: HostRuntime) -> Result<(), Fail> {
-    assert!(rt; has_homes(rt.alloc(), SET_THEN_GETS, 1, &[0])?);
-    assert!(rt; has_set_then_gets(rt.alloc())?);
-    Ok(())
+    holds(reads_set_then_gets(rt.alloc()))
 }
 
 const TEXTS_AND_NUMBERS: &[u8] =
     b"#\xff\x00\n\nservers 16\n# homes 17\nhomes 0 15\npiece 999  a\\\\\\r\\n\\x0f\\xa9~\nfill 1 3 \\x00\ndeliver 0 99\nfail 99\ntell 98 1\ndeliver 5 5\n\n#\r\nhand 12";
 
-fn has_texts_and_numbers(alloc: Global) -> Result<bool, Fail> {
-    let text = block(alloc, b" a\\\r\n\x0f\xa9~")?;
-    let filled = block(alloc, b"\x00\x00\x00")?;
+fn reads_texts_and_numbers(alloc: Global) -> Result<bool, Fault> {
+    let text = Bytes::copy_from_slice(alloc, b" a\\\r\n\x0f\xa9~")?;
+    let filled = Bytes::copy_from_slice(alloc, b"\x00\x00\x00")?;
     let wanted = [
         Event::Piece(999, text),
         Event::Piece(1, filled),
@@ -93,19 +103,17 @@ fn has_texts_and_numbers(alloc: Global) -> Result<bool, Fail> {
         Event::Deliver(5, 5),
         Event::Hand(12),
     ];
-    let read = has_events(alloc, TEXTS_AND_NUMBERS, &wanted);
+    let read = is_read(alloc, TEXTS_AND_NUMBERS, 16, &[0, 15], &wanted);
     drop(wanted);
     read
 }
 
 #[test]
 fn texts_and_numbers_of_events(rt: HostRuntime) -> Result<(), Fail> {
-    assert!(rt; has_homes(rt.alloc(), TEXTS_AND_NUMBERS, 16, &[0, 15])?);
-    assert!(rt; has_texts_and_numbers(rt.alloc())?);
-    Ok(())
+    holds(reads_texts_and_numbers(rt.alloc()))
 }
 
-fn has_rounds(alloc: Global) -> Result<bool, Fail> {
+fn reads_rounds(alloc: Global) -> Result<bool, Fault> {
     let wanted = [
         Event::Begin(1),
         Event::Tell(0, 1),
@@ -127,79 +135,80 @@ fn has_rounds(alloc: Global) -> Result<bool, Fail> {
         Event::Fail(2),
     ];
     let text = b"servers 3\nhomes 2 0\nbegin 1\nsettle 1\nfail 2\n";
-    let read = has_events(alloc, text, &wanted);
+    let read = is_read(alloc, text, 3, &[2, 0], &wanted);
     drop(wanted);
     read
 }
 
 #[test]
 fn rounds_of_settling(rt: HostRuntime) -> Result<(), Fail> {
-    holds(has_rounds(rt.alloc()))
+    holds(reads_rounds(rt.alloc()))
 }
 
+// A schedule with `settle` lines, and how many events it has.
+type Settled = (&'static [u8], usize);
+
+static SETTLED: [Settled; 4] = [
+    (b"servers 1\nhomes 0\nsettle 1\n", 2),
+    (b"servers 1\nhomes 0 0 0\nsettle 500\n", 3_000),
+    (b"servers 16\nhomes 0\nsettle 2\nsettle 1", 1_446),
+    (b"servers 16\nhomes 0\nsettle 500\n", 241_000),
+];
+
 // How many events a schedule has.
-fn events_in(alloc: Global, text: &[u8]) -> Result<usize, Fail> {
+fn events_in(alloc: Global, text: &[u8]) -> Result<usize, Fault> {
     let schedule = read_schedule(alloc, text)?;
     Ok(schedule.events.len())
 }
 
-// A schedule with `settle` lines, and how many events it has.
-fn settled_row(place: usize) -> (&'static [u8], usize) {
-    match place {
-        0 => (b"servers 1\nhomes 0\nsettle 1\n", 2),
-        1 => (b"servers 1\nhomes 0 0 0\nsettle 500\n", 3_000),
-        2 => (b"servers 16\nhomes 0\nsettle 2\nsettle 1", 1_446),
-        _ => (b"servers 16\nhomes 0\nsettle 500\n", 241_000),
+fn other_count(alloc: Global, rows: &[Settled]) -> Result<Option<usize>, Fault> {
+    let mut place = 0_usize;
+    for row in rows {
+        let (text, wanted) = *row;
+        if events_in(alloc, text)? != wanted {
+            return Ok(Some(place));
+        }
+        place = place.wrapping_add(1);
     }
+    Ok(None)
 }
 
 #[test]
 fn counts_of_settled_events(rt: HostRuntime) -> Result<(), Fail> {
-    for place in 0..4 {
-        let (text, wanted) = settled_row(place);
-        assert!(rt; events_in(rt.alloc(), text)? == wanted, "row {place}");
-    }
-    Ok(())
+    all_hold(other_count(rt.alloc(), &SETTLED))
 }
 
-#[test]
-fn bad_head_lines(rt: HostRuntime) -> Result<(), Fail> {
-    check_bad_lines(
-        &rt,
-        b"",
+static HEAD_LINES: [Texts; 5] = [
+    (
         b"servers 1\nhomes 0%servers 1\nhomes 0\n%servers 9\nhomes 8 0\n%servers 16\nhomes 15\n",
         0,
-    )?;
-    check_bad_lines(
-        &rt,
-        b"",
+    ),
+    (
         b"%servers 0\nhomes 0\n%servers 17\nhomes 0\n%servers 99\nhomes 0\n%\
             servers 99999999999999999999999\nhomes 0\n%servers 01\nhomes 0\n%servers 016\nhomes 0\n%\
             servers 1 \nhomes 0\n%servers 1 1\nhomes 0\n%servers  1\nhomes 0\n% servers 1\nhomes 0\n%\
             servers\nhomes 0\n%servers 1\r\nhomes 0\n%servers +1\nhomes 0\n%homes 0\nservers 1\n%\
             settle 1\nservers 1\nhomes 0\n",
         1,
-    )?;
-    check_bad_lines(
-        &rt,
-        b"",
+    ),
+    (
         b"\n%# no line counts%servers 1%servers 1\n%servers 16\nhomes 16\n%servers 1\nbegin 0\n%\
             servers 1\nsettle 1\nhomes 0\n%servers 1\nservers 1\n%servers 1\nhomes\n%servers 1\nhomes \n%\
             servers 1\nhomes 1\n%servers 3\nhomes 0 3\n%servers 3\nhomes 00\n%servers 3\nhomes 02\n%\
             servers 1\nhomes 0  0\n%servers 1\nhomes 0 \n",
         2,
-    )?;
-    check_bad_lines(&rt, b"", b"servers 2\nhomes 0\nbegin x\n", 3)?;
-    check_bad_lines(
-        &rt,
-        b"",
-        b"servers 1\n\n#\n%#\nservers 2\n\nhomes 0 1 0 2\n",
-        4,
-    )
+    ),
+    (b"servers 2\nhomes 0\nbegin x\n", 3),
+    (b"servers 1\n\n#\n%#\nservers 2\n\nhomes 0 1 0 2\n", 4),
+];
+
+#[test]
+fn bad_head_lines(rt: HostRuntime) -> Result<(), Fail> {
+    all_hold(other_texts(rt.alloc(), b"", &HEAD_LINES))
 }
 
 // A schedule's first two lines, with n homes.
-fn text_of_homes(alloc: Global, count: usize) -> Result<Vec<u8>, Fail> {
+fn text_of_homes(alloc: Global, count: usize) -> Result<Vec<u8>, Fault> {
     let mut text = Vec::from_slice(alloc, b"servers 1\nhomes")?;
     for _ in 0..count {
         text.extend_from_slice(b" 0")?;
@@ -207,74 +216,76 @@ fn text_of_homes(alloc: Global, count: usize) -> Result<Vec<u8>, Fail> {
     Ok(text)
 }
 
-#[test]
-fn a_schedule_has_up_to_64_homes(rt: HostRuntime) -> Result<(), Fail> {
-    for (count, wanted) in [(1, 0), (64, 0), (65, 2)] {
-        let text = text_of_homes(rt.alloc(), count)?;
-        assert!(rt;
-            bad_line(rt.alloc(), text.as_slice())? == wanted,
-            "{count} homes"
-        );
-    }
-    Ok(())
+// The first bad line of such a schedule.
+fn bad_line_of_homes(alloc: Global, count: usize) -> Result<u64, Fault> {
+    let text = text_of_homes(alloc, count)?;
+    bad_line(alloc, text.as_slice())
+}
+
+fn up_to_64_homes(alloc: Global) -> Result<bool, Fault> {
+    Ok(
+        bad_line_of_homes(alloc, 1)? == 0
+            && bad_line_of_homes(alloc, 64)? == 0
+            && bad_line_of_homes(alloc, 65)? == 2,
+    )
 }
 
 #[test]
-fn bad_lines_of_connections(rt: HostRuntime) -> Result<(), Fail> {
-    let head = b"servers 2\nhomes 0\n".as_slice();
-    check_bad_lines(
-        &rt,
-        head,
+fn a_schedule_has_up_to_64_homes(rt: HostRuntime) -> Result<(), Fail> {
+    holds(up_to_64_homes(rt.alloc()))
+}
+
+// The lines of a head that others stand behind.
+const HEAD: &[u8] = b"servers 2\nhomes 0\n";
+
+static CONNECTION_LINES: [Texts; 6] = [
+    (
         b"begin 0%begin 999%work 999%hand 999%#%piece 999 x%piece 0  %fill 0 1 x%fill 999 2000000 \\n%\
             fill 0 1  ",
         0,
-    )?;
-    check_bad_lines(
-        &rt,
-        head,
+    ),
+    (
         b"begin 1000%begin 00%begin 01%begin  1%begin 1 %begin 1\r%begin%begin %begin x%begin -1%\
             begin 18446744073709551616%Begin 1%work 1000%hand 1000%\r% % # no comment%servers 1%homes 0",
         3,
-    )?;
-    check_bad_lines(
-        &rt,
-        head,
+    ),
+    (
         b"piece 1000 x%piece 0%piece 0 %piece  0 x%piece x x%piece 0 x\r%piece 0 \x1f%piece 0 \x7f%\
             piece 0 \xc3%piece 0 \\%piece 0 \\q%piece 0 \\x0%piece 0 \\x0A%piece 0 \\x0g%piece 0 \\X0a",
         3,
-    )?;
-    check_bad_lines(
-        &rt,
-        head,
+    ),
+    (
         b"fill 0 2000001 x%fill 0 0 x%fill 0 01 x%fill 1000 1 x%fill 0 1 xy%fill 0 1 %fill 0 1",
         3,
-    )?;
-    check_bad_lines(&rt, head, b"begin 0\nbegin 1000\nbegin 0\n", 4)?;
-    check_bad_lines(&rt, head, b"begin 0\n\n#\nhand 0 0", 6)
-}
+    ),
+    (b"begin 0\nbegin 1000\nbegin 0\n", 4),
+    (b"begin 0\n\n#\nhand 0 0", 6),
+];
 
 #[test]
-fn bad_lines_of_servers(rt: HostRuntime) -> Result<(), Fail> {
-    let head = b"servers 2\nhomes 0\n".as_slice();
-    check_bad_lines(
-        &rt,
-        head,
+fn bad_lines_of_connections(rt: HostRuntime) -> Result<(), Fail> {
+    all_hold(other_texts(rt.alloc(), HEAD, &CONNECTION_LINES))
+}
+
+static SERVER_LINES: [Texts; 4] = [
+    (
         b"deliver 0 1%deliver 1 1%deliver 99 99%fail 0%fail 99%tell 0 1%tell 99 99%settle 1",
         0,
-    )?;
-    check_bad_lines(
-        &rt,
-        head,
+    ),
+    (
         b"deliver 100 0%deliver 0 100%deliver%deliver %deliver 0%deliver 0 %deliver 0 1 %deliver 0 1 2%\
             deliver 0  1%deliver  0 1%deliver 00 1%deliver 0 01%deliver 0 x%deliver 0,1",
         3,
-    )?;
-    check_bad_lines(
-        &rt,
-        head,
+    ),
+    (
         b"fail 100%fail%fail %fail 0 %fail 0 1%fail  0%fail 00%tell 100 0%tell 0 100%tell 0%tell 0 1 2%\
             tell 0 01%Tell 0 1%settle 0%settle 501%settle 01%settle 1 %settle 1 1%settle",
         3,
-    )?;
-    check_bad_lines(&rt, head, b"settle 1\nsettle x", 4)
+    ),
+    (b"settle 1\nsettle x", 4),
+];
+
+#[test]
+fn bad_lines_of_servers(rt: HostRuntime) -> Result<(), Fail> {
+    all_hold(other_texts(rt.alloc(), HEAD, &SERVER_LINES))
 }

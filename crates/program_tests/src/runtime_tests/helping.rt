@@ -67,8 +67,8 @@ fn helped_chain<
     Some(HelpedChain { ports, front })
 }
 
-// The hall of the workers of three servers, and what each server has beside its own.
-fn three_sides<R: Wait + Threads + Copy + Drop>(
+/// The hall of the workers of three servers, and what each server has beside its own.
+pub fn three_sides<R: Wait + Threads + Copy + Drop>(
     rt: R,
     alloc: Global,
     desks: &Arc<Desks, Global>,

@@ -4,6 +4,7 @@ use super::clients::{answers, client, says};
 use super::running::some_port;
 use command_line::{Hosts, MasterNumbers, ServerNumbers};
 use ends::{TrackedReader, TrackedWriter};
+use leases::Term;
 use masters::{MasterSettings, ServerSettings, master};
 use runtime::{server, warn_of};
 use std::alloc::{AllocError, Global};
@@ -79,6 +80,7 @@ fn tells<
         peer_port,
         watch: false,
         beat: 300,
+        after: 3_000,
     };
     let input = notice(rt)?;
     let settings = MasterSettings::new(alloc, numbers, here(alloc)?)?;
@@ -119,6 +121,7 @@ fn ready<
         + Copy
         + Drop
         + Send
+        + Sync
         + 'static,
 >(rt: R, alloc: Global) -> Option<Broken> {
     for _ in 0..50 {
@@ -146,12 +149,13 @@ fn begin<
         + Copy
         + Drop
         + Send
+        + Sync
         + 'static,
 >(rt: R, alloc: Global, port: u16, peer_port: u16) -> Option<Middle> {
     let here = (Ipv4Addr::LOCALHOST, peer_port.wrapping_add(1));
     let listener = TcpListener::bind(&rt, here).ok()?;
-    let mut head = start(rt, alloc, 0, port, peer_port)?;
-    let mut tail = start(rt, alloc, 2, port, peer_port)?;
+    let mut head = start(rt, alloc, SERVERS, 0, port, peer_port, None)?;
+    let mut tail = start(rt, alloc, SERVERS, 2, port, peer_port, None)?;
     let played = thread::spawn(&rt, move || play(&rt, &listener, peer_port)).ok()?;
     if says(&mut head, b"ready\n") && says(&mut tail, b"ready\n") {
         played.join(&rt)
@@ -169,14 +173,14 @@ fn play<R: Net<Listener = TcpListener, Stream = TcpStream>>(
 ) -> Option<Middle> {
     let inlets = (met(listener)?, met(listener)?);
     let outlets = (
-        linked(rt, peer_port)?,
-        linked(rt, peer_port.wrapping_add(2))?,
+        linked(rt, peer_port, GREETING)?,
+        linked(rt, peer_port.wrapping_add(2), GREETING)?,
     );
     Some(Middle { inlets, outlets })
 }
 
-// The next connection, whose greeting is accepted.
-fn met(listener: &TcpListener) -> Option<TcpStream> {
+/// The next connection, whose greeting is accepted.
+pub fn met(listener: &TcpListener) -> Option<TcpStream> {
     let (mut stream, _) = listener.accept().ok()?;
     let mut greeting = [0u8; 19];
     stream.read_exact(greeting.as_mut_slice()).ok()?;
@@ -184,18 +188,19 @@ fn met(listener: &TcpListener) -> Option<TcpStream> {
     Some(stream)
 }
 
-// A connection to a server that accepts it.
-fn linked<R: Net<Listener = TcpListener, Stream = TcpStream>>(
+/// A connection to a server that accepts this greeting.
+pub fn linked<R: Net<Listener = TcpListener, Stream = TcpStream>>(
     rt: &R,
     port: u16,
+    greeting: &[u8],
 ) -> Option<TcpStream> {
     let mut stream = client(rt, port).ok()?;
-    stream.write_all(GREETING).ok()?;
+    stream.write_all(greeting).ok()?;
     says(&mut stream, b"\x02\x08").then_some(stream)
 }
 
-// Starts a server on a thread of its own, and gives the other end of its output.
-fn start<
+/// Starts a server on a thread of its own, and gives the other end of its output. Its lease has this term.
+pub fn start<
     R: Wait
         + Threads
         + Clock
@@ -205,21 +210,32 @@ fn start<
         + Copy
         + Drop
         + Send
+        + Sync
         + 'static,
->(rt: R, alloc: Global, id: u8, port: u16, peer_port: u16) -> Option<PipeReader> {
+>(
+    rt: R,
+    alloc: Global,
+    servers: u8,
+    id: u8,
+    port: u16,
+    peer_port: u16,
+    term: Option<Term>,
+) -> Option<PipeReader> {
     let numbers = ServerNumbers {
         id,
-        servers: SERVERS,
+        servers,
         port,
         peer_port,
         seats: 1,
         threads: Some(1),
         connections: 16,
         memory: None,
+        lease: None,
         quiet: true,
     };
     let (output, ours) = pipe(&rt).ok()?;
-    let settings = ServerSettings::new(alloc, numbers, here(alloc).ok()?).ok()?;
+    let mut settings = ServerSettings::new(alloc, numbers, here(alloc).ok()?).ok()?;
+    settings.term = term;
     let started = thread::spawn(&rt, move || {
         let mut output = TrackedWriter::new(ours);
         let mut errors = TrackedWriter::new(Vec::new(alloc));

@@ -6,8 +6,8 @@ use bytes::Bytes;
 use faces::FaceFault;
 use node::{Body, Look, Node, Peer, View};
 use rail::{
-    Inlet, Links, Published, RailFault, Reader, Seat, Server, Stand, Told, Turn, Weight, Worker,
-    open,
+    Inlet, Links, Published, RailFault, Reader, Room, Seat, Server, Stand, Told, Turn, Weight,
+    Worker, open,
 };
 use std::alloc::Global;
 use std::sync::Wait;
@@ -57,7 +57,21 @@ pub(crate) fn all_go<R: Wait + Drop + Copy>(
 ) -> Result<bool, RailFault>
     requires { (1 ≤ readers) × (readers ≤ 16) }
 {
-    let mut server = first_of(rt, alloc, count, readers)?;
+    all_go_with(rt, alloc, count, readers, Room::of_chain(), steps)
+}
+
+/// The same, with this room in the server's inbox.
+pub(crate) fn all_go_with<R: Wait + Drop + Copy>(
+    rt: R,
+    alloc: Global,
+    count: u8,
+    readers: usize,
+    room: Room,
+    steps: &[Step],
+) -> Result<bool, RailFault>
+    requires { (1 ≤ readers) × (readers ≤ 16) }
+{
+    let mut server = first_with(rt, alloc, count, readers, room)?;
     let went = go_on(&rt, alloc, &mut server, steps);
     drop(server);
     went
@@ -126,8 +140,21 @@ pub(crate) fn first_of<R: Wait + Drop + Copy>(
 ) -> Result<Server<R>, RailFault>
     requires { (1 ≤ readers) × (readers ≤ 16) }
 {
+    first_with(rt, alloc, count, readers, Room::of_chain())
+}
+
+/// The same, with this room in its inbox.
+pub(crate) fn first_with<R: Wait + Drop + Copy>(
+    rt: R,
+    alloc: Global,
+    count: u8,
+    readers: usize,
+    room: Room,
+) -> Result<Server<R>, RailFault>
+    requires { (1 ≤ readers) × (readers ≤ 16) }
+{
     let node = idle_node(alloc, count)?;
-    open(rt, alloc, node, readers, 0, 1)
+    open(rt, alloc, node, readers, 0, 1, room)
 }
 
 // --- the worker

@@ -13,3 +13,7 @@ returns-in_err-peer_port-clause-none c = λ none numbers n.
 pub returns-in_err-beat-clause-none : goal.returns-in_err-beat-clause-none
 returns-in_err-beat-clause-none c = λ none numbers n.
     given_none _ _ _ _ _ _ _ c.in_ok-given.ensures.given n.named (c.in_err-beat.ensures.none refl) _ n.beat
+
+pub returns-in_err-after-clause-none : goal.returns-in_err-after-clause-none
+returns-in_err-after-clause-none c = λ none numbers n.
+    given_none _ _ _ _ _ _ _ c.in_ok-given.ensures.given n.named (c.in_err-after.ensures.none refl) _ n.after

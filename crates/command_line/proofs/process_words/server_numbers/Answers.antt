@@ -37,3 +37,8 @@ pub returns-in_err-memory-clause-none : goal.returns-in_err-memory-clause-none
 returns-in_err-memory-clause-none c = λ none numbers n.
     rows_none (GivesNumberIfAny 1 1048576 (codes "memory")) _ _ _ _ c.in_ok-given.ensures.given n.named
     (c.in_err-memory.ensures.none refl) _ n.memory
+
+pub returns-in_err-lease-clause-none : goal.returns-in_err-lease-clause-none
+returns-in_err-lease-clause-none c = λ none numbers n.
+    rows_none (GivesNumberIfAny 1 3600 (codes "lease")) _ _ _ _ c.in_ok-given.ensures.given n.named
+    (c.in_err-lease.ensures.none refl) _ n.lease

@@ -11,7 +11,8 @@ returns c =
     let id = c.and_option-id.ensures _ _ named c.id_option.ensures in
     let servers = c.and_option-servers.ensures _ _ id c.servers_option.ensures in
     let port = c.and_option-port.ensures _ _ servers c.port_option.ensures in
-    let made = c.and_option-listening.ensures _ _ port c.peer_port_option.ensures in
-    let listening = reads_made _ _ _ c.in_ok-listening.was made in
-    let serving = c.in_ok-serving.ensures _ listening in
+    let listening = c.and_option-listening.ensures _ _ port c.peer_port_option.ensures in
+    let made = c.and_option-leased.ensures _ _ listening c.lease_option.ensures in
+    let leased = reads_made _ _ _ c.in_ok-leased.was made in
+    let serving = c.in_ok-serving.ensures _ leased in
     IfOk-weaker c.with_hosts.result _ _ (λ parser adds. adds _ serving) c.with_hosts.ensures

@@ -1,6 +1,12 @@
-use Rattle.std.proofs.Common.{◌≡◌, vec_len}
+use Rattle.std.proofs.Common.{◌≡◌, length, vec_len}
+use Rattle.runtime.specs.Wiring.{AreDealt, all_inlets_in, inlets_of, numbers, senders}
 use Rattle.runtime.proofs.sides.all_links.Given as goal
 
--- the number that was made
+-- the links of the servers so far
 abbrev pub invariant-loop-id : goal.invariant-loop-id
-invariant-loop-id g l = vec_len l.all ≡ l.id
+invariant-loop-id g l = record {
+  count : l.id ≡ length l.all.items;
+  servers : vec_len l.servers ≡ vec_len l.fn.servers;
+  senders : senders l.all.items ≡ numbers l.id;
+  dealt : AreDealt (inlets_of l.fn.servers.items) (inlets_of l.servers.items) (all_inlets_in l.all.items);
+}

@@ -13,8 +13,8 @@ returns-in-Err g c =
 
 pub invariant_of-self : goal.invariant_of-self
 invariant_of-self g c =
-    submit_opens c.stage_of-stage.result c.self.inside.seat c.submit.new.self c.args.call c.stage_of-stage.ensures
-    c.in-Ok.ensures
+    submit_opens c.self.inside.stage c.stage_of-stage.result c.self.inside.seat c.submit.new.self _ c.args.call
+    c.self.view_is c.self.invariant c.requires.free c.in_default.not-Lost c.stage_of-stage.ensures c.in-Ok.ensures
 
 pub returns-in-Ok : goal.returns-in-Ok
 returns-in-Ok g c =

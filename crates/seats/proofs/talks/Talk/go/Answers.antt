@@ -1,5 +1,6 @@
-use Rattle.std.proofs.Common.{◌∙◌, ap, sym}
+use Rattle.std.proofs.Common.{◌∙◌, ap, refl, sym}
 use Rattle.seats.specs.Talks.{Talking}
+use Rattle.seats.proofs.Looked.{gone_sent, looked_same}
 use Rattle.seats.proofs.TalkLaws.{further_as, further_same}
 use Rattle.seats.proofs.talks.Talk.go.Goals as goal
 
@@ -18,3 +19,9 @@ returns-in-Sent-clause-went g c =
 
 pub returns-in-Over-clause-further : goal.returns-in-Over-clause-further
 returns-in-Over-clause-further g c = further_same _
+
+pub returns-in-Reading-clause-looked : goal.returns-in-Reading-clause-looked
+returns-in-Reading-clause-looked g c = looked_same _ _ _ refl refl
+
+pub returns-else-is_refused-clause-looked : goal.returns-else-is_refused-clause-looked
+returns-else-is_refused-clause-looked g c = gone_sent c.send.result _ _ _ _ c.send.ensures.waits

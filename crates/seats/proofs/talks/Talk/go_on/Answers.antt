@@ -1,6 +1,8 @@
-use Rattle.std.proofs.Common.{refl}
-use Rattle.seats.proofs.Seated.{later_same}
-use Rattle.seats.proofs.TalkLaws.{further_same}
+use Rattle.std.proofs.Common.{◌∙◌, ap, refl}
+use Rattle.seats.specs.Talks.{Talking}
+use Rattle.seats.proofs.Looked.{gone_sent, gone_then, looked_same, looked_then}
+use Rattle.seats.proofs.Seated.{later_same, later_then}
+use Rattle.seats.proofs.TalkLaws.{further_as, further_same, further_then}
 use Rattle.seats.proofs.talks.Talk.go_on.Goals as goal
 
 pub loop-init : goal.loop-init
@@ -11,4 +13,38 @@ loop-init g c =
       later = later_same _;
       first = refl;
       further = further_same _;
+      looked = looked_same _ _ _ refl refl;
+    }
+
+pub loop-preserved : goal.loop-preserved
+loop-preserved g c =
+    let found = rw c.in-None.is at c.in_ok-step.ensures in
+    record {
+      idle = found.went;
+      known = c.step.ensures.known;
+      later = later_then _ _ _ c.loop.invariant.later c.step.ensures.later;
+      first = c.step.ensures.first ∙ c.loop.invariant.first;
+      further = further_then _ _ _ c.loop.invariant.further c.step.ensures.further;
+      looked = looked_then _ _ _ _ _ _ c.loop.invariant.looked found.looked;
+    }
+
+pub returns-in-Some-Seat-clause-further : goal.returns-in-Some-Seat-clause-further
+returns-in-Some-Seat-clause-further g c =
+    further_then _ _ _ (further_then _ _ _ c.loop.invariant.further c.step.ensures.further)
+    (further_as _ _ (ap (λ (t : Talking). t.connected) c.send.ensures.same))
+
+pub returns-in-Some-Seat-clause-looked : goal.returns-in-Some-Seat-clause-looked
+returns-in-Some-Seat-clause-looked g c = gone_sent c.send.result _ _ _ _ c.send.ensures.waits
+
+pub returns-in-Some : goal.returns-in-Some
+returns-in-Some g c =
+    let found = rw c.in-Some.is at c.in_ok-step.ensures in
+    record {
+      known = c.step.ensures.known;
+      later = later_then _ _ _ c.loop.invariant.later c.step.ensures.later;
+      first = c.step.ensures.first ∙ c.loop.invariant.first;
+      further = further_then _ _ _ c.loop.invariant.further c.step.ensures.further;
+      went = found.went;
+      looked = gone_then c.in-Some.went _ _ _ _ _ _ c.loop.invariant.looked found.looked;
+      over = tt;
     }

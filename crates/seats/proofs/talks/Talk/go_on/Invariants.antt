@@ -1,6 +1,6 @@
 use Rattle.std.proofs.Common.{◌≡◌}
 use Rattle.faces.specs.Courses.{IsLater}
-use Rattle.seats.specs.Talks.{IsFurther}
+use Rattle.seats.specs.Talks.{HasLooked, IsFurther}
 use Rattle.seats.specs.declared.talks.Standing.TheVariants.{Idle}
 use Rattle.seats.proofs.talks.Talk.go_on.Given as goal
 
@@ -12,4 +12,5 @@ invariant-loop g l =
       later : IsLater l.fn.pool.seen l.pool.seen;
       first : l.self.first ≡ l.fn.self.first;
       further : IsFurther l.fn.self.connected l.self.connected;
+      looked : HasLooked l.fn.self.connected l.self.connected l.fn.pool l.pool;
     }

@@ -1,5 +1,6 @@
 use Rattle.std.proofs.Common.{ap, subst, sym}
 use Rattle.seats.specs.Talks.{HoldsStore, Talking}
+use Rattle.seats.proofs.Looked.{refused_then}
 use Rattle.seats.proofs.TalkLaws.{as_shown, further_failed, refused_talk}
 use Rattle.seats.proofs.talks.Talk.pass_over.Goals as goal
 
@@ -16,3 +17,8 @@ invariant_of-self-2 g c =
     refused_talk s.connection c.refuse.new.connection s.standing c.refuse.new.standing s.first s.seen c.self.invariant
     (subst (λ (t : Talking). HoldsStore t.standing) (sym c.self.view_is) c.requires.store) c.in_ok-refuse.ensures.ok.0
     c.in_ok-refuse.ensures.ok.1
+
+pub returns-clause-looked : goal.returns-clause-looked
+returns-clause-looked g c =
+    refused_then c.go_on.result c.args.self.now.connected c.self.inside.connection c.refuse.new.connection _ _ _
+    (ap (λ (t : Talking). t.connected) c.self.view_is) c.in_ok-refuse.ensures.ok.0 c.go_on.ensures.looked

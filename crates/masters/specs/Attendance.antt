@@ -1,0 +1,25 @@
+-- Whom a master that beats hears (this project's rule).
+use Rattle.std.specs.Prelude.{ℕ, ◌-◌, max, nat_eq, nat_le, nat_lt, Bool, false, not, ◌&&◌, if◌then◌else◌}
+use Rattle.masters.specs.Notices.{and_one, is_among}
+use Rattle.masters.specs.declared.attendance.Attendance.{Attendance}
+
+-- the master has another reign
+abbrev pub begun : Attendance → ℕ → ℕ → Attendance
+begun a reign now = record a { reign = reign; since = now; entered = 0; missed = 0 }
+
+-- a server told that it is in this reign
+abbrev pub attended : Attendance → ℕ → ℕ → ℕ → Attendance
+attended a i reign now = record a {
+  heard = max a.heard now;
+  is_told = false;
+  entered = (if nat_eq a.reign reign then and_one a.entered i else a.entered);
+}
+
+-- the reign has stood for so long, and this server didn't tell that it is in it
+abbrev pub is_absent : Attendance → ℕ → ℕ → ℕ → Bool
+is_absent a i patience now =
+    (nat_lt 0 a.reign && nat_le patience (now - a.since)) && not (is_among a.entered i)
+
+-- nobody was heard for so long, and that wasn't told
+abbrev pub is_quiet : Attendance → ℕ → ℕ → Bool
+is_quiet a patience now = not a.is_told && nat_le patience (now - a.heard)

@@ -1,0 +1,100 @@
+//! Whom a master that beats hears: since when nobody, and who isn't in its reign. A person reads of both.
+ghost use Rattle.std.specs.Prelude.{◌≡◌, ◌&&◌, not, true, false};
+ghost use Rattle.masters.specs.Attendance.{attended, begun, is_absent, is_quiet};
+ghost use Rattle.masters.specs.Notices.{and_one, is_among};
+
+use crate::notices::{and_one, is_among, once};
+use node::View;
+
+/// Whom a master hears. Times are nanoseconds of its clock.
+#[derive(Drop)]
+pub(crate) struct Attendance {
+    // The master's reign, or 0 if it has none, and since when.
+    reign: u64,
+    since: u64,
+    // The servers that told how they are in it.
+    entered: View,
+    // Those of which it was told that they aren't.
+    missed: View,
+    // When a server was heard for the last time, and whether it was told that none is.
+    heard: u64,
+    is_told: bool,
+}
+
+impl Attendance {
+    /// Of a master that has just started, when its clock shows `now`.
+    pub(crate) fn new(now: u64) -> Attendance
+        ensures reign { result.reign ≡ 0 }
+        ensures heard { result.heard ≡ now }
+    {
+        Attendance {
+            reign: 0,
+            since: now,
+            entered: View::empty(),
+            missed: View::empty(),
+            heard: now,
+            is_told: false,
+        }
+    }
+
+    /// The master has this reign from now on, or none if it is 0.
+    pub(crate) fn begin(&mut self, reign: u64, now: u64)
+        ensures { self.new ≡ begun self.old reign now }
+    {
+        self.reign = reign;
+        self.since = now;
+        self.entered = View::empty();
+        self.missed = View::empty();
+    }
+
+    /// Server `i` told that it is in this reign, and then the clock showed `now`.
+    pub(crate) fn hear(&mut self, i: u8, reign: u64, now: u64)
+        ensures { self.new ≡ attended self.old i reign now }
+    {
+        self.heard = self.heard.max(now);
+        self.is_told = false;
+        if self.reign == reign {
+            self.entered = and_one(self.entered, i);
+        }
+    }
+
+    /// Whether it is told now that server `i` isn't in the master's reign, which has stood for this long: once in each
+    /// reign.
+    pub(crate) fn misses(&mut self, i: u8, patience: u64, now: u64) -> bool
+        ensures told { result ≡ (is_absent self.old i patience now && not (is_among self.old.missed i)) }
+        ensures noted { result ≡ true → self.new ≡ record self.old { missed = and_one self.old.missed i } }
+        ensures kept { result ≡ false → self.new ≡ self.old }
+    {
+        if !self.is_absent(i, patience, now) {
+            return false;
+        }
+        once(&mut self.missed, i)
+    }
+
+    // Whether the reign has stood for so long, and this server didn't tell that it is in it.
+    fn is_absent(&self, i: u8, patience: u64, now: u64) -> bool
+        ensures { result ≡ is_absent self.now i patience now }
+    {
+        0 < self.reign && patience <= now.saturating_sub(self.since) && !is_among(self.entered, i)
+    }
+
+    /// Whether it is told now that no server was heard for this long: once, until one is.
+    pub(crate) fn is_quiet(&mut self, patience: u64, now: u64) -> bool
+        ensures told { result ≡ is_quiet self.old patience now }
+        ensures state { result ≡ true → self.new ≡ record self.old { is_told = true } }
+        ensures kept { result ≡ false → self.new ≡ self.old }
+    {
+        if !self.is_unheard(patience, now) {
+            return false;
+        }
+        self.is_told = true;
+        true
+    }
+
+    // Whether no server was heard for so long, and that wasn't told.
+    fn is_unheard(&self, patience: u64, now: u64) -> bool
+        ensures { result ≡ is_quiet self.now patience now }
+    {
+        !self.is_told && patience <= now.saturating_sub(self.heard)
+    }
+}

@@ -1,0 +1,5 @@
+-- Lemmas of this crate.
+pub mod Dealt
+pub mod Leased
+pub mod Sent
+pub mod Wired

@@ -1,0 +1,43 @@
+use Rattle.std.proofs.Common.{◌≡◌, ◌+◌, ◌++◌, ◌∷◌, [], ap, sym, ◌∙◌, length, vec_len, arith, rules}
+use Rattle.std.specs.Vec.Iter.{into_iter_items}
+use Rattle.runtime.specs.Wiring.{numbers}
+use Rattle.runtime.proofs.Wired.{numbers_next, sides_all, sides_more, sides_none}
+use Rattle.runtime.proofs.sides.all_sides.Goals as goal
+
+pub loop-server-init : goal.loop-server-init
+loop-server-init g c =
+    let same : into_iter_items c.into_iter-server-iterator.result ≡ c.args.servers.items =
+    c.into_iter-server-iterator.ensures.into_iter_gives.0 in
+    record {
+      count = search rules;
+      hall = c.new-hall.ensures ∙ sym (ap numbers c.new-sides.ensures.len);
+      sides = sides_none c.args.servers.items (into_iter_items c.into_iter-server-iterator.result)
+          c.new-sides.result.items same c.new-sides.ensures.items;
+    }
+
+pub loop-server-preserved : goal.loop-server-preserved
+loop-server-preserved g c =
+    let place : c.len.result ≡ vec_len c.loop-server.sides = search rules in
+    let more : vec_len c.push.new.self ≡ vec_len c.loop-server.sides + 1 = search rules in
+    record {
+      count = search rules;
+      hall = c.in_ok-side.ensures.hall
+          ∙ (ap (λ ns. ns ++ c.len.result ∷ []) c.loop-server.invariant.hall
+          ∙ (ap (λ n. numbers (vec_len c.loop-server.sides) ++ n ∷ []) place
+          ∙ (sym (numbers_next (vec_len c.loop-server.sides)) ∙ ap numbers (sym more))));
+      sides = sides_more c.args.servers.items (into_iter_items c.loop-server.server-iterator)
+          (into_iter_items c.next.new.self) c.in-Some.server c.loop-server.sides.items c.push.new.self.items
+          c.in_ok-side.side c.loop-server.invariant.sides c.in-Some.ensures.steps.0 c.in_ok-side.ensures.side
+          c.in_ok-push.ensures.items;
+    }
+
+pub returns-clause-sides : goal.returns-clause-sides
+returns-clause-sides g c =
+    let none : length (into_iter_items c.loop-server.server-iterator) ≡ 0 = omega (arith, c.in-None.ensures.steps.0) in
+    sides_all c.args.servers.items (into_iter_items c.loop-server.server-iterator) c.loop-server.sides.items
+    c.loop-server.invariant.sides none
+
+pub returns-clause-hall : goal.returns-clause-hall
+returns-clause-hall g c =
+    let all : vec_len c.loop-server.sides ≡ vec_len c.args.servers = omega (arith, c.in-None.ensures.steps.0) in
+    c.loop-server.invariant.hall ∙ ap numbers all

@@ -1,0 +1,97 @@
+-- Which parts of a process belong to which server.
+use Rattle.std.specs.Prelude.{◌≡◌, ◌≢◌, ℕ, zero, suc, ◌<◌, ◌≤◌, List, [], ◌∷◌, ◌++◌, Option, Some, None, length, map}
+use Rattle.rail.specs.declared.events.Event.{Event}
+use Rattle.links.specs.Waiting.{at_place}
+use Rattle.seats.specs.declared.in_process_links.Link.{Link}
+use Rattle.seats.specs.declared.in_process_links.InProcessLinks.{InProcessLinks}
+use Rattle.runtime.specs.declared.sides.Opened.{Opened}
+use Rattle.runtime.specs.declared.sides.Side.{Side}
+
+-- 0, 1 and so on: this many
+abbrev pub numbers : ℕ → List ℕ
+numbers zero = []
+numbers (suc n) = numbers n ++ n ∷ []
+
+-- one or none, as a list
+abbrev pub listed : {A : Type 0} → Option A → List A
+listed None = []
+listed (Some x) = x ∷ []
+
+-- those that are there, the last one first
+abbrev pub last_first : {A : Type 0} → List (Option A) → List A
+last_first [] = []
+last_first (x ∷ xs) = last_first xs ++ listed x
+
+-- the list at a place
+abbrev pub list_at : {A : Type 0} → List (List A) → ℕ → List A
+list_at [] j = []
+list_at (x ∷ xs) zero = x
+list_at (x ∷ xs) (suc j) = list_at xs j
+
+-- what stands at one place of each of these
+abbrev pub column : {A : Type 0} → ℕ → List (List (Option A)) → List (Option A)
+column j rows = map (λ row. at_place row j) rows
+
+-- what a function answers to 0, 1 and so on: this many
+abbrev pub row : {A : Type 0} → ℕ → (ℕ → A) → List A
+row zero f = []
+row (suc n) f = f zero ∷ row n (λ j. f (suc j))
+
+-- the inlets of each server that are left, as what they have sent
+abbrev pub inlets_of : {R : Type 0} → List (Opened R) → List (List (List Event))
+inlets_of servers = map (λ server. server.pooled.inlets.items) servers
+
+-- the inlets of the links of one server, by the servers that they go to
+abbrev pub inlets_in : List Link → List (Option (List Event))
+inlets_in links = map (λ link. link.inlet) links
+
+-- the inlets of the links of each server
+abbrev pub all_inlets_in : {R : Type 0} → List (InProcessLinks R) → List (List (Option (List Event)))
+all_inlets_in all = map (λ links. inlets_in links.links.items) all
+
+-- the servers whose links these are
+abbrev pub senders : {R : Type 0} → List (InProcessLinks R) → List ℕ
+senders all = map (λ links. links.id) all
+
+-- Server `id` took an inlet of each other server, the last one that was left, and none of its own. A server of which
+-- none was taken has none left.
+pub record IsDealt {A : Type 0} (id : ℕ) (before after : List (List A)) (taken : List (Option A)) : Type 0 where
+  pub each : (j : ℕ) → list_at before j ≡ list_at after j ++ listed (at_place taken j)
+  pub own : at_place taken id ≡ None
+  pub whole : (j : ℕ) → j < length taken → j ≢ id → at_place taken j ≡ None → list_at after j ≡ []
+
+-- The same of servers 0, 1 and so on: what was taken of each server's inlets are those of the links to it, one for each
+-- other server.
+pub record AreDealt {A : Type 0} (before after : List (List A)) (taken : List (List (Option A))) : Type 0 where
+  pub each : (j : ℕ) → list_at before j ≡ list_at after j ++ last_first (column j taken)
+  pub own : (i : ℕ) → at_place (column i taken) i ≡ None
+  pub whole : (i j : ℕ) → i < length taken → j < length before → i ≢ j → at_place (column j taken) i ≡ None
+      → list_at after j ≡ []
+
+-- Of one server's inlets each other server took one, the last one that was left, and the server itself none. If one
+-- took none, none is left.
+pub record IsSeated {A : Type 0} (id : ℕ) (before after : List A) (taken : List (Option A)) : Type 0 where
+  pub each : before ≡ after ++ last_first taken
+  pub own : at_place taken id ≡ None
+  pub whole : (j : ℕ) → j < length taken → j ≢ id → at_place taken j ≡ None → after ≡ []
+
+-- Of one server's inlets, in a chain of this many, each other server has one at its place, and the masters have another
+-- one. The server itself has none, and neither has any beyond the chain.
+pub record IsPlaced {A : Type 0} (id servers : ℕ) (inlets : List A) (place : ℕ → Option A) (notices : A)
+    : Type 0 where
+  pub each : (rest : List A) × (inlets ≡ (rest ++ notices ∷ []) ++ last_first (row servers place))
+  pub own : place id ≡ None
+  pub others : (j : ℕ) → j < servers → j ≢ id → place j ≢ None
+  pub beyond : (j : ℕ) → servers ≤ j → place j ≡ None
+
+-- What a server has beside its worker is its own: its seats, its mark, and the last of its inlets.
+pub record IsSideOf {R : Type 0} (server : Opened R) (side : Side) : Type 0 where
+  pub pools : side.pools.items ≡ server.pooled.pools.items
+  pub mark : side.home.failed ≡ server.failed
+  pub inlet : (rest : List (List Event)) × (server.pooled.inlets.items ≡ rest ++ side.home.inlet ∷ [])
+
+-- the same of each of these servers
+abbrev pub AreSidesOf : {R : Type 0} → List (Opened R) → List Side → Type 0
+AreSidesOf [] sides = sides ≡ []
+AreSidesOf (server ∷ servers) [] = ⊥
+AreSidesOf (server ∷ servers) (side ∷ sides) = IsSideOf server side × AreSidesOf servers sides

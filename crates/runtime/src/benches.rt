@@ -1,0 +1,67 @@
+//! A worker with its links, and what there is to do at it.
+ghost use Rattle.runtime.specs.Findings.{Finds};
+
+use crate::endings::Ended;
+use rail::{PortSet, RailFault, Turn, Weight, Worker};
+use seats::{InProcessLinks, ServerSet};
+use std::sync::Wait;
+
+/// One server's worker with its links.
+#[derive(Drop)]
+pub(crate) struct Bench<R: Wait + Drop> {
+    worker: Worker<R>,
+    links: InProcessLinks<R>,
+}
+
+/// What there was to do at a worker.
+#[derive(Clone, Copy)]
+pub(crate) enum Found {
+    /// Nothing.
+    Nothing,
+    /// A message, and the server goes on.
+    Message,
+    /// A message, and the server is stopped.
+    Stopped(Ended),
+    /// A message, and the server is stopped since memory was refused.
+    Refused(Ended),
+    /// Nobody is left who could send a message, and the server is stopped: no more turns are taken.
+    Closed(Ended),
+    /// The last message of all: no more turns are taken.
+    End,
+}
+
+impl<R: Wait + Drop> Bench<R> {
+    /// A worker and its links.
+    pub(crate) fn new(worker: Worker<R>, links: InProcessLinks<R>) -> Bench<R> {
+        Bench { worker, links }
+    }
+
+    /// Takes a turn of the worker, which is that of server `id`, if there is a message.
+    pub(crate) fn turn(&mut self, id: u8) -> Found
+        ensures { Finds id self.old.worker self.new.worker result }
+    {
+        match self.worker.turn_if_any(&mut self.links) {
+            Ok(None) => Found::Nothing,
+            Ok(Some(Turn::Went)) => Found::Message,
+            Ok(Some(Turn::Stopped)) => Found::Stopped(Ended::of(id, &self.worker)),
+            Ok(Some(Turn::End)) => Found::End,
+            Err(RailFault::Closed) => Found::Closed(Ended::of(id, &self.worker)),
+            Err(_) => Found::Refused(Ended::of(id, &self.worker)),
+        }
+    }
+
+    /// How much the face weighs that the worker published last.
+    pub(crate) fn weight(&self) -> Weight {
+        self.worker.weight()
+    }
+
+    /// The servers that were sent something since this was last asked.
+    pub(crate) fn take_reached(&mut self) -> ServerSet {
+        self.links.take_reached()
+    }
+
+    /// The ports to which replies were put since this was last asked.
+    pub(crate) fn take_replied(&mut self) -> PortSet {
+        self.worker.take_replied()
+    }
+}
