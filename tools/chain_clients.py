@@ -67,9 +67,17 @@ class Connection:
         self.send(request)
         return self.line()
 
+    def ask(self, key):
+        """Asks for the key's item, and doesn't wait for it."""
+        self.send(b"gets %s\r\n" % key)
+
     def gets(self, key):
         """The data and the unique of the key's item, or None."""
-        self.send(b"gets %s\r\n" % key)
+        self.ask(key)
+        return self.item(key)
+
+    def item(self, key):
+        """The same of an item that was asked for before."""
         head = self.line()
         if head == b"END":
             return None

@@ -1,7 +1,6 @@
 """Cases of tools/test_servers on `craq master --watch`: servers that are killed with nobody typing, masters that come
 and go, and what is no failure."""
 import re
-import signal
 import time
 
 from chain_clients import Wrong
@@ -12,11 +11,22 @@ from server_processes import Chain, Process, run_clients
 
 BEAT = 50  # milliseconds
 STEP = re.compile(r"\+\d+\.\d{3} s (server \d+: .*)\n")
+# What a master tells of its beats; no case but those of reigns waits for such a line.
+NOTE = re.compile(r"\+\d+\.\d{3} s (takes reign|followed by reign|server \d+: has a lease of|no server has answered)"
+                  r" .*\n")
 MET, LOST, ENDED = "server {}: connected", "server {}: connection lost", "server {}: its process has ended"
+
+
+def step_in(line):
+    """A line of a master, without the time if it has one."""
+    found = STEP.fullmatch(line)
+    return found[1] if found else line
 
 
 class Watched(Chain):
     """A chain with masters that watch: who kills a server tells nobody."""
+
+    beat, paces = BEAT, ()  # of its masters, and more words for them
 
     def another_master(self, *words):
         """A master that watches, once it has reached each living server."""
@@ -35,13 +45,40 @@ class Watching(Process):
     """A master that watches. Its input has ended."""
 
     def __init__(self, chain, *words):
-        super().__init__(("master", *chain.words, "--watch", "--beat", str(BEAT), *words))
+        super().__init__(("master", *chain.words, "--watch", "--beat", str(chain.beat), *chain.paces, *words))
+        self.notes = []  # how those of its lines begin that tell of its beats
+
+    def read(self):
+        """Its next line; None if it tells of its beats."""
+        line = super().line()
+        if found := NOTE.fullmatch(line):
+            self.notes.append(found[1])
+            return None
+        return line
+
+    def line(self):
+        """Its next line that doesn't tell of its beats."""
+        while (line := self.read()) is None:
+            pass
+        return line
 
     def step(self):
-        """Its next line, without the time if it has one."""
-        line = self.line()
-        found = STEP.fullmatch(line)
-        return found[1] if found else line
+        """The same, without the time if it has one."""
+        return step_in(self.line())
+
+    def waiting(self):
+        """The lines that it has printed and that weren't read yet, but those that tell of its beats."""
+        lines = []
+        while self.has_line() and "" not in lines:
+            lines.append(self.read())
+        return [step_in(line) for line in lines if line is not None]
+
+    def notes_once(self, note):
+        """Waits until it has printed that of its beats, and nothing else before it."""
+        while note not in self.notes:
+            if (line := self.read()) is not None:
+                raise Wrong(f"a master prints {line!r}, and not {note!r}; {self.told()!r}")
+        self.notes.remove(note)
 
     def reach(self, servers):
         lines = sorted(self.step() for _ in servers)
@@ -54,11 +91,24 @@ class Watching(Process):
         return differing("a master's lines", lines, [
             LOST.format(server), ENDED.format(server), f"gone {server} told {others}\n"])
 
-    def is_quiet(self):
-        """What is wrong if it prints or tells something within ten beats."""
+    def learns(self, server):
+        """The same of a master beside which another one tells. It may tell too, or hear from the servers that they
+        know."""
+        lines = []
+        while ENDED.format(server) not in lines:
+            lines.append(self.step())
         time.sleep(10 * BEAT / 1000)
-        faults = [f"a master prints {self.step()!r}"] if self.has_line() else []
-        return faults + differing("its standard error", self.told(), "")
+        lines += self.waiting()
+        told = [line for line in lines if re.fullmatch(rf"gone {server} told \d+\n", line)]
+        others = [line for line in lines if line not in told]
+        return differing("another master's lines", others, [LOST.format(server), ENDED.format(server)])
+
+    def is_quiet(self, beats=10, errors=""):
+        """What is wrong if it prints something within so many beats, or has told something else than these errors, if
+        some are given."""
+        time.sleep(beats * BEAT / 1000)
+        faults = [f"a master prints {step!r}" for step in self.waiting()]
+        return faults if errors is None else faults + differing("its standard error", self.told(), errors)
 
 
 def killed_case(fails):
@@ -98,7 +148,7 @@ def two_case(rounds):
     other = chain.another_master()
     try:
         faults, _calls = run_clients(chain, rounds, 3, 0, 2)
-        faults += other.tells(2, 3)
+        faults += other.learns(2)
         chain.master.end()
         chain.master = other
         more, _calls = run_clients(chain, rounds, 3, 1, 0)
@@ -114,9 +164,9 @@ def stopped_case(rounds):
     try:
         faults = []
         for server in range(3):
-            chain.servers[server].signal(signal.SIGSTOP)
+            chain.servers[server].stop()
             faults += chain.master.is_quiet()
-            chain.servers[server].signal(signal.SIGCONT)
+            chain.servers[server].go_on()
             for port in chain.ports:
                 faults += stored(port)
         faults += chain.master.is_quiet()
@@ -161,7 +211,7 @@ def unmet_case(_rounds):
         chain.kill(2)
         chain.master = chain.another_master()
         time.sleep(10 * BEAT / 1000)
-        faults = ["it prints something"] if chain.master.has_line() else []
+        faults = [f"it prints {step!r}" for step in chain.master.waiting()]
         faults += differing("its standard error", chain.master.told(),
                             "craq: server 2 does not answer; if it has failed, type gone 2\n")
         faults += said(chain.master, "gone 2", "gone 2 told 2") + said(chain.master, "gone 3", "bad line")
@@ -241,12 +291,12 @@ def anew_case(_rounds):
     nothing, and ends."""
     chain = Watched()
     try:
-        chain.master.signal(signal.SIGSTOP)
+        chain.master.stop()
         for server in chain.servers:
             server.end()
         chain.servers = [chain.started(i) for i in range(3)]
         chain.judge_ready()
-        chain.master.signal(signal.SIGCONT)
+        chain.master.go_on()
         faults = differing("its status", chain.master.status(), 1)
         for port in chain.ports:
             faults += stored(port)

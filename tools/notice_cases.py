@@ -1,6 +1,5 @@
 """Cases of tools/test_servers on notices of failures: masters that come and go, servers that don't answer them, and
 servers that are called gone and live."""
-import signal
 
 from chain_clients import Closed, Connection
 from peer_sockets import MASTER, admitted, gone, greeting, noted, received, refused
@@ -66,10 +65,10 @@ def unanswered_case(_rounds):
     the same line."""
     chain = Chain(servers=4)
     try:
-        chain.servers[3].signal(signal.SIGSTOP)
+        chain.servers[3].stop()
         chain.kill(1)
         faults = said(chain.master, "gone 1", "gone 1 told 2")
-        chain.servers[3].signal(signal.SIGCONT)
+        chain.servers[3].go_on()
         faults += said(chain.master, "gone 1", "gone 1 told 3")
         for port in (chain.ports[0], chain.ports[2], chain.ports[3]):
             faults += stored(port)
@@ -225,11 +224,11 @@ def waking_case(_rounds):
         client = Connection(chain.ports[1])
         faults = differing("a set", client.call(b"set a 0 0 1\r\n1\r\n"), b"STORED")
         chain.failed.add(1)
-        chain.servers[1].signal(signal.SIGSTOP)
+        chain.servers[1].stop()
         faults += said(chain.master, "gone 1", "gone 1 told 2")
         for port in (chain.ports[0], chain.ports[2]):
             faults += stored(port)
-        chain.servers[1].signal(signal.SIGCONT)
+        chain.servers[1].go_on()
         faults += differing("its status", chain.servers[1].status(), GONE_STATUS)
         faults += untold(chain.servers[1], gone_line(1)) + unserved(client)
         return faults + chain.judge_living()

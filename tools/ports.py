@@ -1,6 +1,7 @@
 """Ports of this machine on which nobody listens."""
 import os
 import socket
+import threading
 
 # Ports from here on are tried, below those that the system gives to connections.
 FIRST, LAST = 23500, 32000
@@ -8,6 +9,7 @@ FIRST, LAST = 23500, 32000
 APART = 100
 # A run that is given a place of its own among others, as tools/test_all gives each of its tests one, begins there.
 PLACES, PLACE = 12, os.environ.get("CRAQ_PORTS_PLACE", "")
+given = threading.Lock()
 next_port = FIRST + os.getpid() * 61 % ((LAST - FIRST) // APART) * APART
 if PLACE.isdigit():
     next_port = FIRST + int(PLACE) % PLACES * ((LAST - FIRST) // PLACES)
@@ -16,12 +18,13 @@ if PLACE.isdigit():
 def free_ports(count):
     """The first of `count` ports in a row that nobody listens on, and that this run was not given before."""
     global next_port
-    for _ in range(LAST - FIRST):
-        if next_port + count > LAST:
-            next_port = FIRST
-        first, next_port = next_port, next_port + count
-        if all(is_free(port) for port in range(first, first + count)):
-            return first
+    with given:
+        for _ in range(LAST - FIRST):
+            if next_port + count > LAST:
+                next_port = FIRST
+            first, next_port = next_port, next_port + count
+            if all(is_free(port) for port in range(first, first + count)):
+                return first
     raise SystemExit("no free ports")
 
 

@@ -1,12 +1,29 @@
-"""What the cases of tools/test_servers share: comparing, waiting for a line, and a server whose peers the test is."""
+"""What the cases of tools/test_servers and tools/test_leases share: telling what came of a case, comparing, waiting for
+a line, and a server whose peers the test is."""
 import socket
 import struct
 import time
+import traceback
 
 from chain_clients import LIMIT, Wrong
 from peer_sockets import Peer, opened, rest
 from ports import free_ports
 from server_processes import Process
+
+
+def passed(name, wrong):
+    """Prints a case with what was wrong in it."""
+    lines = [f"{'FAILED ' if wrong else 'ok     '} {name}", *(f"  {fault}" for fault in wrong[:5])]
+    print("".join(f"{line}\n" for line in lines), end="", flush=True)
+    return not wrong
+
+
+def judged(name, case, rounds):
+    """Runs a case, whatever it raises."""
+    try:
+        return passed(name, case(rounds))
+    except Exception:  # noqa: BLE001 (told as a fault)
+        return passed(name, traceback.format_exc().splitlines()[-3:])
 
 
 def differing(what, seen, wanted):

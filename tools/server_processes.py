@@ -90,6 +90,27 @@ class Process:
     def signal(self, number):
         self.process.send_signal(number)
 
+    def stop(self):
+        """Stops it for a while, and waits until each of its threads stands."""
+        self.signal(signal.SIGSTOP)
+        end = time.monotonic() + LIMIT
+        while not all(it in "tTZX" for it in self.states()):
+            if time.monotonic() > end:
+                raise Wrong(f"{self.words[0]}: it isn't stopped in time")
+            time.sleep(0.001)
+
+    def go_on(self):
+        """It goes on after a stop."""
+        self.signal(signal.SIGCONT)
+
+    def states(self):
+        """How each of its threads is, by the system's letter."""
+        for task in Path(f"/proc/{self.id}/task").iterdir():
+            try:
+                yield (task / "stat").read_text().rpartition(")")[2].split()[0]
+            except OSError:
+                pass  # the thread has ended
+
     def figure(self, name):
         """A number of its /proc/ID/status."""
         for line in Path(f"/proc/{self.id}/status").read_text().splitlines():
@@ -128,8 +149,9 @@ def ended(*words):
 class Chain:
     """Server processes of a chain, and a master. The clients of chain_clients run over it."""
 
-    def __init__(self, servers=3, seats=10, words=(), memory=None):
-        """`words` are added to those of each server and of the master; `memory` is the servers' limit."""
+    def __init__(self, servers=3, seats=10, words=(), memory=None, lease=None):
+        """`words` are added to those of each server and of the master; `memory` is the servers' limit, and `lease` how
+        many seconds their leases run."""
         self.count, self.seats = servers, seats
         self.settled = {}  # what each counter of an earlier phase came to
         first, self.peer_port = free_ports(servers), free_ports(servers)
@@ -137,6 +159,7 @@ class Chain:
         self.words = ("--servers", str(servers), "--peer-port", str(self.peer_port), *words)
         self.clients = ("--port", str(first), "--seats", str(seats), "--quiet")
         self.clients += ("--memory", str(memory)) if memory else ()
+        self.clients += ("--lease", str(lease)) if lease else ()
         self.servers = [self.started(i) for i in range(servers)]
         self.judge_ready()
         self.master = self.another_master()
