@@ -1,4 +1,5 @@
-"""A command that runs beside what is left of the gate, once the program is proved and built: the tools' tests."""
+"""A command that runs beside what is left of the gate, once the program and what tries it are proved and built: the tools'
+tests."""
 import os
 import subprocess
 import tempfile
@@ -9,8 +10,9 @@ from meter import METER
 # Its task among those of the crates, and how much memory it may take, in bytes.
 KEY = ("tools", "tools")
 NEEDS = 2e9
-# The program that it tries; in a repository without it, the command waits for each crate's proof.
-PROGRAM = ("craq", "proof")
+# What it tries: the program, and the tests that tools/refused_steps runs. In a repository without them, the command waits
+# for each crate's proof.
+TRIED = (("craq", "proof"), ("integration", "tests"))
 
 
 class Beside:
@@ -21,13 +23,13 @@ class Beside:
 
     def add(self, tasks):
         """Puts it among the gate's tasks."""
-        self.waits = [PROGRAM] if PROGRAM in tasks else [it for it in tasks if it[1] == "proof"]
+        self.waits = [it for it in TRIED if it in tasks] or [it for it in tasks if it[1] == "proof"]
         tasks[KEY] = self.waits, 1, NEEDS, self.run
 
     def run(self, given, _jobs):
         """Runs it, unless what it waits for isn't proved."""
         if not all(given[it] for it in self.waits):
-            self.text = "gate: the program isn't proved, so there is nothing to try\n"
+            self.text = "gate: the program or what tries it isn't proved, so there is nothing to try\n"
             return False
         self.ready()
         began = time.monotonic()
