@@ -53,9 +53,13 @@ class Peer:
     def ports(self, _size):
         return [self.first]
 
+    def counted(self):
+        """Those of its processes whose processor time is that of its calls."""
+        return self.processes
+
     def words(self, size):
         """What the load generator has to be told of this peer."""
-        pids = ",".join(str(process.pid) for process in self.processes)
+        pids = ",".join(str(process.pid) for process in self.counted())
         return ["--ports", ",".join(map(str, self.ports(size))), "--pids", pids]
 
     def memory(self):
@@ -176,15 +180,17 @@ class Craq(Peer):
 class CraqServers(Peer):
     """A chain of `craq server` processes: connections go to them in turn, the first to the head."""
 
-    def __init__(self, name, program, servers):
+    def __init__(self, name, program, servers, more=()):
+        """`more` are words for each server."""
         super().__init__(name)
-        self.program, self.servers = program, servers
+        self.program, self.servers, self.more = program, servers, more
 
     def open(self, _folder):
         self.first = free_ports(2 * self.servers)
         numbers = ["--servers", self.servers, "--port", self.first, "--peer-port", self.first + self.servers]
         for place in range(self.servers):
             words = [*self.program, "server", "--id", place, *numbers, "--seats", SEATS, "--connections", 2048]
+            words += self.more
             self.start(list(map(str, words)), stdin=subprocess.DEVNULL, stdout=subprocess.PIPE, text=True)
         if any(process.stdout.readline() != "ready\n" for process in self.processes):
             self.end()
@@ -192,6 +198,36 @@ class CraqServers(Peer):
 
     def ports(self, _size):
         return [self.first + place for place in range(self.servers)]
+
+
+class CraqBeaten(CraqServers):
+    """The same with a master that beats, and leases of so many seconds if a number is given. The master's processor
+    time isn't counted."""
+
+    def __init__(self, name, program, servers, lease=None):
+        super().__init__(name, program, servers, ("--lease", lease) if lease else ())
+        self.lease = lease
+
+    def open(self, folder):
+        super().open(folder)
+        numbers = ["--servers", self.servers, "--peer-port", self.first + self.servers]
+        words = [*self.program, "master", *numbers, "--watch"]
+        master = self.start(list(map(str, words)), stdin=subprocess.DEVNULL, stdout=subprocess.PIPE, text=True)
+        self.wait_for_reign(master)
+
+    def wait_for_reign(self, master):
+        """Until the master reigns, and has heard of each lease."""
+        reigns, leases = 0, 0
+        for line in master.stdout:
+            reigns += "takes reign" in line
+            leases += "has a lease of" in line
+            if reigns and leases == (self.servers if self.lease else 0):
+                return
+        self.end()
+        sys.exit(f"the master of {self.name} ends")
+
+    def counted(self):
+        return self.processes[:self.servers]
 
 
 def is_there(program):

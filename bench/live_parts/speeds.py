@@ -30,10 +30,10 @@ class Samples:
     def median(self, case, peer, field):
         return statistics.median(getattr(load, field) for load in self.loads[case, peer].values())
 
-    def ratios(self, case, peer, other):
-        """Of the calls a second, round by round."""
+    def ratios(self, case, peer, other, field="rate"):
+        """Of the calls a second or another number, round by round."""
         loads, others = self.loads[case, peer], self.loads[case, other]
-        return [loads[turn].rate / others[turn].rate for turn in loads if turn in others]
+        return [getattr(loads[turn], field) / getattr(others[turn], field) for turn in loads if turn in others]
 
     def has(self, case, peer):
         return bool(self.loads[case, peer])
