@@ -92,6 +92,17 @@ class Connection:
     def close(self):
         self.socket.close()
 
+    def leave(self):
+        """Says quit, and waits for the end. After the replies to all calls nothing comes any more."""
+        self.send(b"quit\r\n")
+        try:
+            while True:
+                self.more()
+        except Closed:
+            self.close()
+        if self.unread:
+            raise Wrong(f"a reply to no call: {self.unread!r}")
+
 
 class Call:
     """One call: what it was, when it began, and when and how it was answered, if it was."""
@@ -131,10 +142,9 @@ class Client(threading.Thread):
             for number in range(1, left + 1):
                 self.round(connection, key, number)
                 left -= 1
-            connection.send(b"quit\r\n")
-            connection.close()
+            connection.leave()
         except Closed:
-            if self.home not in self.chain.failed:
+            if not self.chain.has_failed(self.home):
                 raise
             self.moves += 1
             self.home = self.random.choice(living(self.chain))
@@ -223,19 +233,34 @@ def living(chain):
     return [home for home in range(len(chain.ports)) if home not in chain.failed]
 
 
+def completed(kind, key, reply):
+    """A call that is made now, and answered by what `reply` gives."""
+    call = Call(kind, key)
+    call.answered(reply())
+    return call
+
+
+def at_each_living(chain, ask):
+    """What `ask` gives of a connection to each living server, one list after another."""
+    found = []
+    for home in living(chain):
+        try:
+            connection = Connection(chain.ports[home])
+            found += ask(home, connection)
+            connection.leave()
+        except Closed:
+            if not chain.has_failed(home):
+                raise
+    return found
+
+
 def last_state(chain, counter, keys):
     """Reads the counter and these keys at each living server."""
-    calls = []
-    for home in living(chain):
-        connection = Connection(chain.ports[home])
-        for key in keys:
-            calls.append(Call("gets", key))
-            calls[-1].answered(connection.gets(key))
-        calls.append(Call("count", counter))
-        calls[-1].answered(int(connection.gets(counter)[0]))
-        connection.send(b"quit\r\n")
-        connection.close()
-    return calls
+    def ask(_home, connection):
+        reads = [completed("gets", key, lambda: connection.gets(key)) for key in keys]
+        return [*reads, completed("count", counter, lambda: int(connection.gets(counter)[0]))]
+
+    return at_each_living(chain, ask)
 
 
 def judge(chain, clients, counter):
@@ -254,14 +279,13 @@ def judge(chain, clients, counter):
 
 def judge_settled(chain, faults):
     """The counters of earlier phases, which nobody raises any more, are what they came to, at each living server."""
-    for home in living(chain):
-        connection = Connection(chain.ports[home])
-        for counter, number in chain.settled.items():
-            found = connection.gets(counter)
-            if found is None or int(found[0]) != number:
-                faults.append(f"at server {home} the earlier counter {counter!r} is {found!r}, not {number}")
-        connection.send(b"quit\r\n")
-        connection.close()
+    def ask(home, connection):
+        found = {counter: connection.gets(counter) for counter in chain.settled}
+        return [f"at server {home} the earlier counter {counter!r} is {found[counter]!r}, not {number}"
+                for counter, number in chain.settled.items()
+                if found[counter] is None or int(found[counter][0]) != number]
+
+    faults += at_each_living(chain, ask)
 
 
 def run_clients(chain, rounds, at_each, phase, fail=None):
@@ -272,8 +296,7 @@ def run_clients(chain, rounds, at_each, phase, fail=None):
     first = Connection(chain.ports[living(chain)[0]])
     if first.call(b"set %s 0 0 1\r\n0\r\n" % counter) != b"STORED":
         return ["the counter wasn't stored"], 0
-    first.send(b"quit\r\n")
-    first.close()
+    first.leave()
     clients = [
         Client(f"p{phase}-s{home}-c{i}", chain, home, rounds, counter, shared)
         for home in living(chain)

@@ -72,7 +72,7 @@ class Witness:
     """A key that the case sets at one server, and for which each server is asked all the time."""
 
     def __init__(self, chain, writer):
-        self.chain, self.key, self.sets = chain, b"witness.%d" % chain.witnesses, []
+        self.chain, self.writer, self.key, self.sets = chain, writer, b"witness.%d" % chain.witnesses, []
         chain.witnesses += 1
         self.connection = Connection(chain.ports[writer])
         self.set()
@@ -98,15 +98,25 @@ class Witness:
         """Sets it once more, and ends it. What is wrong with what was answered, at living servers within so many
         seconds."""
         self.set()
+        return self.end(most)
+
+    def end(self, most):
+        """The same without a set, so that its server may have failed."""
         self.ask_more()
         for asker in self.askers.values():
             asker.end()
         self.connection.close()
         faults = [asker.fault for asker in self.askers.values() if asker.fault]
         judge_key(self.key, [*self.sets, *(call for server in self.askers for call in self.calls(server))], faults)
-        for server in living(self.chain):
-            faults += hanging(server, self.calls(server), most)
+        for server in self.askers:
+            if not self.is_left(server):
+                faults += hanging(server, self.calls(server), most)
         return faults
+
+    def is_left(self, server):
+        """Whether a server has failed. One that leaves calls unanswered has closed the connection."""
+        is_answered = all(call.ended is not None for call in self.calls(server))
+        return server in self.chain.failed or not is_answered and self.chain.has_failed(server)
 
 
 def hanging(server, calls, most):

@@ -105,11 +105,11 @@ class Process:
 
     def states(self):
         """How each of its threads is, by the system's letter."""
-        for task in Path(f"/proc/{self.id}/task").iterdir():
+        for thread in Path(f"/proc/{self.id}/task").glob("*/stat"):
             try:
-                yield (task / "stat").read_text().rpartition(")")[2].split()[0]
+                yield thread.read_text().rpartition(")")[2].split()[0]
             except OSError:
-                pass  # the thread has ended
+                pass  # it has ended
 
     def figure(self, name):
         """A number of its /proc/ID/status."""
@@ -196,6 +196,10 @@ class Chain:
     def fail(self, server):
         self.kill(server)
         self.tell(server)
+
+    def has_failed(self, server):
+        """Whether a server that has closed a connection is one that failed."""
+        return server in self.failed
 
     def judge_living(self):
         """What is wrong with the processes themselves, in words."""
