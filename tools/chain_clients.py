@@ -147,7 +147,10 @@ class Client(threading.Thread):
             if not self.chain.has_failed(self.home):
                 raise
             self.moves += 1
-            self.home = self.random.choice(living(self.chain))
+            others = living(self.chain)
+            if not others:
+                return 0
+            self.home = self.random.choice(others)
         return left
 
     def round(self, connection, key, number):

@@ -14,6 +14,7 @@ STEP = re.compile(r"\+\d+\.\d{3} s (server \d+: .*)\n")
 # What a master tells of its beats; no case but those of reigns waits for such a line.
 NOTE = re.compile(r"\+\d+\.\d{3} s (takes reign|followed by reign|server \d+: has a lease of|no server has answered)"
                   r" .*\n")
+NONE_LEFT = "craq: no server is left; start the chain anew, and then this master\n"
 MET, LOST, ENDED = "server {}: connected", "server {}: connection lost", "server {}: its process has ended"
 
 
@@ -274,8 +275,7 @@ def last_case(_rounds):
         for server in (1, 0, 2):
             chain.fail(server)
         faults += differing("its status", chain.master.status(), 1)
-        faults += differing("its standard error", chain.master.told(),
-                            "craq: no server is left; start the chain anew, and then this master\n")
+        faults += differing("its standard error", chain.master.told(), NONE_LEFT)
         chain.failed = set()
         chain.servers = [chain.started(i) for i in range(3)]
         chain.judge_ready()

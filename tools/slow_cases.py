@@ -11,16 +11,19 @@ import threading
 import time
 from typing import NamedTuple, Optional
 
-from chain_clients import LIMIT, Closed, Wrong, living
-from failover_cases import BEAT, ENDED
+from chain_clients import LIMIT, Closed, Wrong
+from failover_cases import BEAT, ENDED, NONE_LEFT
 from lease_cases import Leased, is_gone, strange
 from lease_witnesses import PAUSE, Witness, late
+from server_checks import differing
 from server_processes import run_clients
 
-# How long a slow process runs and stands in turn, in seconds: a tenth of the time.
+# How long a slow process runs, and then stands on average, in seconds: it runs for a tenth of the time.
 RUNS, STANDS = .03, .27
-# Of so many stops one is long, if some are: between these parts of the time after which a server is called gone.
-OF_STOPS, LONG = 8, (.5, 1.5)
+# Each stop takes between these parts of the average, so that processes don't stand together.
+PARTS = .5, 1.5
+# Of so many stops one is long, if some are: on average as long as a silence for which a server is called gone.
+OF_STOPS = 8
 # For how many seconds it is slow, for each round of the clients.
 SECONDS = .08
 # So long a server is held until the others were told. On a machine that is slow itself the master may hear nobody, and
@@ -41,10 +44,10 @@ class Slowness(NamedTuple):
 class Brake(threading.Thread):
     """Makes a process slow until it is released."""
 
-    def __init__(self, process, longest):
-        """With a `longest`, some stops are about as long as that."""
+    def __init__(self, process, long):
+        """Some stops take `long` seconds on average, if that isn't 0."""
         super().__init__(daemon=True)
-        self.process, self.longest, self.over = process, longest, threading.Event()
+        self.process, self.long, self.over = process, long, threading.Event()
         self.start()
 
     def run(self):
@@ -54,8 +57,8 @@ class Brake(threading.Thread):
             self.process.go_on()
 
     def span(self):
-        is_long = self.longest and random.randrange(OF_STOPS) == 0
-        return random.uniform(*LONG) * self.longest if is_long else STANDS
+        is_long = self.long and random.randrange(OF_STOPS) == 0
+        return random.uniform(*PARTS) * (self.long if is_long else STANDS)
 
     def release(self):
         self.over.set()
@@ -88,13 +91,16 @@ class Setter(threading.Thread):
 
 
 class Slowed(Leased):
-    """A chain with leases that is slow while its clients call."""
+    """A chain with leases that is slow while its clients call. Each server is asked all the time for keys that are set
+    at each, also once it was called gone."""
 
     def __init__(self, slowness):
         self.slowness = slowness
         self.lines = []  # all that its master has printed, but of its beats
         self.ends = {}  # of each server that was held, when its lease was over
         super().__init__(slowed)
+        self.observers = [Witness(self, i) for i in range(self.count)]
+        self.setters = [Setter(it) for it in self.observers]
 
     def has_failed(self, server):
         """Whether a server that has closed a connection did so as it was called gone. Its process tells it."""
@@ -114,11 +120,23 @@ class Slowed(Leased):
         """Whether the master has printed a line that begins so, or does within so many seconds."""
         end = time.monotonic() + seconds
         while not any(line.startswith(begin) for line in self.lines):
-            if time.monotonic() > end:
+            if self.has_ended() or time.monotonic() > end:
                 return False
             time.sleep(PAUSE)
             self.lines += self.master.waiting()
         return True
+
+    def has_ended(self):
+        """Whether the master has, and all that it has printed was read."""
+        return "" in self.lines
+
+    def judge_master(self):
+        """What is wrong with it. Once no server is left it says so, and ends."""
+        faults = strange([line for line in self.lines if line], *range(self.count))
+        if len(self.failed) < self.count:
+            return faults + ["the master has ended"] * self.has_ended()
+        faults += differing("the master's status", self.master.status(), 1)
+        return faults + differing("what it said last", self.master.told().endswith(NONE_LEFT), True)
 
     def judge_living(self):
         """The same. A server may have ended if it says that it is gone, and the master has called it silent."""
@@ -127,7 +145,7 @@ class Slowed(Leased):
                 self.has_failed(i)
         faults = [f"the master hasn't called server {i} silent" for i in sorted(self.failed)
                   if not self.says(f"server {i}: no answer for ")]
-        return faults + strange(self.lines, *range(self.count)) + super().judge_living()
+        return faults + self.judge_master() + super().judge_living()
 
 
 def slow_case(**how):
@@ -143,31 +161,29 @@ def slow_case(**how):
 
 
 def slowed(chain, slowness):
-    """All is slow for a while. Each server is asked for keys that are set at each, also once it was called gone."""
-    witnesses = [Witness(chain, i) for i in living(chain)]
-    setters = [Setter(witness) for witness in witnesses]
-    longest = chain.detection() if slowness.has_long_stops else 0
-    brakes = [Brake(process, longest) for process in [*chain.servers, *[chain.master] * slowness.of_master]]
+    """All is slow for a while. What is wrong with what comes of that."""
+    long = chain.detection() if slowness.has_long_stops else 0
+    brakes = [Brake(process, long) for process in [*chain.servers, *[chain.master] * slowness.of_master]]
     try:
         if slowness.held is None:
             time.sleep(slowness.seconds)
             faults = []
         else:
-            faults = hold(chain, slowness.held, brakes, setters, witnesses)
+            faults = hold(chain, slowness.held, brakes)
     finally:
         for brake in brakes:
             brake.release()
     faults += settled(chain)
-    for setter in setters:
+    for setter in chain.setters:
         faults += setter.end()
-    for witness in witnesses:
+    for witness in chain.observers:
         faults += witness.end(chain.detection() + LIMIT)
         for server, end in chain.ends.items():
             faults += late(f"server {server}, which was called gone", witness.calls(server), end)
     return faults
 
 
-def hold(chain, server, brakes, setters, witnesses):
+def hold(chain, server, brakes):
     """Stops a server until the others were told, and have gone on. Then it wakes, and says that it is gone."""
     brakes[server].release()
     chain.ends[server] = chain.stop(server)
@@ -175,8 +191,8 @@ def hold(chain, server, brakes, setters, witnesses):
         for brake in brakes:
             brake.release()
         stop_again(chain, server)
-    faults = go_on_without(chain, server, setters)
-    for witness in witnesses:
+    faults = go_on_without(chain, server)
+    for witness in chain.observers:
         witness.ask_more()
     chain.servers[server].go_on()
     return faults if chain.has_failed(server) else faults + is_gone(chain, server)
@@ -192,13 +208,13 @@ def stop_again(chain, server):
         chain.ends[server] = chain.stop(server)
 
 
-def go_on_without(chain, server, setters):
+def go_on_without(chain, server):
     """What is wrong if the others aren't told, or none of them answers a set that began later."""
     if not chain.says(TOLD.format(server)):
         return [f"server {server} stands, and isn't called gone"]
-    told, others = time.monotonic_ns(), [setter for setter in setters if setter.witness.writer != server]
-    end = time.monotonic() + LIMIT
-    while not any(setter.has_set_since(told) for setter in others):
+    told, end = time.monotonic_ns(), time.monotonic() + LIMIT
+    others = [setter for setter in chain.setters if setter.witness.writer != server]
+    while not any(setter.has_set_since(told) for setter in others) and any(setter.is_alive() for setter in others):
         if time.monotonic() > end:
             return ["no set is answered once the others were told"]
         time.sleep(PAUSE)
@@ -213,7 +229,7 @@ def settled(chain):
             if not chain.has_failed(server):
                 faults += is_gone(chain, server)
             for begin in (ENDED.format(server), TOLD.format(server)):
-                if not chain.says(begin):
+                if not chain.says(begin) and not chain.has_ended():
                     faults.append(f"the master hasn't said '{begin}'")
         known |= called
         time.sleep(10 * BEAT / 1000)
