@@ -143,9 +143,18 @@ def again_case(rounds):
         chain.end()
 
 
+class Shared(Watched):
+    """The same with another master beside its own, so that either may be the first that tells."""
+
+    def tell(self, server):
+        faults = self.master.learns(server)
+        if faults:
+            raise Wrong(faults[0])
+
+
 def two_case(rounds):
     """Two masters watch: each tells of what was killed, and one goes on alone."""
-    chain = Watched(servers=4)
+    chain = Shared(servers=4)
     other = chain.another_master()
     try:
         faults, _calls = run_clients(chain, rounds, 3, 0, 2)
