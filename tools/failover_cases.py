@@ -14,8 +14,8 @@ STEP = re.compile(r"\+\d+\.\d{3} s (server \d+: .*)\n")
 # What a master tells of its beats; no case but those of reigns waits for such a line.
 NOTE = re.compile(r"\+\d+\.\d{3} s (takes reign|followed by reign|server \d+: has a lease of|no server has answered)"
                   r" .*\n")
-NONE_LEFT = "craq: no server is left; start the chain anew, and then this master\n"
 MET, LOST, ENDED = "server {}: connected", "server {}: connection lost", "server {}: its process has ended"
+NONE_LEFT = "craq: no server is left; start the chain anew, and then this master\n"
 
 
 def step_in(line):
