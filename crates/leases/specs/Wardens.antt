@@ -5,7 +5,7 @@ use Rattle.std.specs.List.{range_with_len}
 use Rattle.leases.specs.declared.orders.Report.{Report}
 use Rattle.leases.specs.declared.wards.Due.{Due}
 use Rattle.leases.specs.Sets.{has_all}
-use Rattle.leases.specs.Watching.{done}
+use Rattle.leases.specs.Watching.{done, is_watched}
 use Rattle.leases.specs.Wards.{WardState, unmet, begun, lost, spared, heard_from, deed_of, due_for}
 use Rattle.leases.specs.Claims.{ClaimState, unclaimed, informed, is_reigning, is_due, claimed}
 
@@ -20,7 +20,7 @@ pub record WardenState : Type 0 where
   pub met : ℕ
   -- if nobody was heard for so long it is cut off
   pub patience : ℕ
-  -- when anybody was heard for the last time, or it was late itself
+  -- when anybody that wasn't called silent was heard for the last time, or it was late itself
   pub heard : ℕ
   -- when it asked for the last time what is due
   pub asked : ℕ
@@ -89,13 +89,18 @@ is_cut_off m now = nat_le m.patience (now - m.heard) && not (is_late m now)
 abbrev pub sparing : WardenState → ℕ → WardenState
 sparing m now = record m { wards = (if is_cut_off m now then all_spared m.wards else m.wards) }
 
+-- When anybody was heard for the last time, once this server told how it is. One that was called silent doesn't count: it
+-- answers beats of before, and ends.
+abbrev pub heard_then : WardenState → ℕ → ℕ → ℕ
+heard_then m from now = if is_watched (ward m.wards from).watch.standing then max m.heard now else m.heard
+
 -- a server told how it is: the claim learns it by the end of the lease that was known before
 abbrev pub heard_by : WardenState → ℕ → Report → ℕ → WardenState
 heard_by m from report now = record m {
   claim = informed m.claim report (ward m.wards from).end now;
   wards = all_heard m.wards from report now;
   met = bit_or m.met (bit_or (2 ^ from) report.gone);
-  heard = max m.heard now;
+  heard = heard_then m from now;
 }
 
 -- another reign has followed that of a master which reigned, or didn't, before it learned that

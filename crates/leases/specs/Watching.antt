@@ -62,6 +62,13 @@ is_gone Told = false
 is_gone Over = false
 is_gone Gone = true
 
+-- it gets beats: it wasn't called silent, and isn't gone
+abbrev pub is_watched : Standing → Bool
+is_watched Watched = true
+is_watched Told = false
+is_watched Over = false
+is_watched Gone = false
+
 -- it wasn't heard for too long; without a lease that says nothing
 abbrev pub is_silent : Option ℕ → ℕ → ℕ → Bool
 is_silent None after silence = false

@@ -1,6 +1,7 @@
 //! The master's side: all that it decides.
 ghost use Rattle.std.specs.Prelude.{◌≡◌, ◌<◌, ◌≤◌, ◌+◌, ◌%◌, ◌^◌, true, length, slice_set, IfOk, IfSome, IfNone};
 ghost use Rattle.leases.specs.Sets.{has_all};
+ghost use Rattle.leases.specs.Watching.{is_watched};
 ghost use Rattle.leases.specs.Wards.{lost};
 ghost use Rattle.leases.specs.Claims.{is_reigning};
 ghost use Rattle.leases.specs.Wardens.{all_of, others_of, unmet_below, started, ward, all_heard, all_begun, heard_by};
@@ -29,7 +30,7 @@ pub struct Warden {
     met: u16,
     // If nobody was heard for so long, though beats went out in time, the master is cut off.
     patience: u64,
-    // When anybody was heard for the last time, or the master was late itself.
+    // When anybody that wasn't called silent was heard for the last time, or the master was late itself.
     heard: u64,
     // When it asked for the last time what is due.
     asked: u64,
@@ -104,10 +105,13 @@ impl Warden {
         ensures { self.new ≡ heard_by self.old from report.now now }
     {
         let last = end_of(self.wards.as_slice(), usize::from(from));
+        let counts = counts_as_heard(self.wards.as_slice(), usize::from(from));
         self.claim.informed(report, last, now);
         hear_all(self.wards.as_mut_slice(), from, report, now);
         self.met |= bit_of(from) | report.gone;
-        self.heard = self.heard.max(now);
+        if counts {
+            self.heard = self.heard.max(now);
+        }
     }
 
     // Once the master is cut off no server is called silent before it answers once more.
@@ -261,6 +265,18 @@ fn end_of(wards: &[Ward], id: usize) -> u64
     ensures { result ≡ (ward wards.now id).end }
 {
     if id < wards.len() { wards[id].end() } else { 0 }
+}
+
+// Whether somebody is heard if this server tells how it is. One that was called silent doesn't count: it answers beats
+// that were sent before, and ends.
+fn counts_as_heard(wards: &[Ward], id: usize) -> bool
+    ensures { result ≡ is_watched (ward wards.now id).watch.standing }
+{
+    if id < wards.len() {
+        wards[id].is_watched()
+    } else {
+        true
+    }
 }
 
 // Each ward hears what a server told.

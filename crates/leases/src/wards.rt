@@ -1,7 +1,7 @@
 //! The master's side: all that it does about one server of its chain.
 ghost use Rattle.std.specs.Prelude.{◌≡◌, ◌<◌, ◌^◌};
 ghost use Rattle.leases.specs.Sets.{is_apart};
-ghost use Rattle.leases.specs.Watching.{done};
+ghost use Rattle.leases.specs.Watching.{done, is_watched};
 ghost use Rattle.leases.specs.Wards.{unmet, begun, lost, spared, named, is_of, entered_watch, reported};
 ghost use Rattle.leases.specs.Wards.{heard_it, heard_other, heard_from, deed_of, due_for};
 
@@ -173,6 +173,13 @@ impl Ward {
         ensures { self.new ≡ spared self.old }
     {
         self.watch.spare();
+    }
+
+    /// Whether it wasn't called silent, and isn't gone.
+    pub(crate) fn is_watched(&self) -> bool
+        ensures { result ≡ is_watched self.now.watch.standing }
+    {
+        self.watch.is_watched()
     }
 
     /// When its lease ends, as far as it told; 0 at first.

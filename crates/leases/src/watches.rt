@@ -1,7 +1,7 @@
 //! The master's side: a watch over one server.
 ghost use Rattle.std.specs.Prelude.{◌≡◌, ℕ};
 ghost use Rattle.leases.specs.Watching.{due, done, answered, watched_due, told_due, is_silent, is_gone};
-ghost use Rattle.leases.specs.Watching.{begun_watch, idle_watch, spared_watch, gives_up, is_late, since_beat};
+ghost use Rattle.leases.specs.Watching.{is_watched, begun_watch, idle_watch, spared_watch, gives_up, is_late, since_beat};
 
 use crate::paces::Paces;
 use crate::terms::Term;
@@ -136,6 +136,13 @@ impl Watch {
         ensures { self.new ≡ record self.old { standing = Gone } }
     {
         self.standing = Standing::Gone;
+    }
+
+    /// Whether it gets beats: it wasn't called silent, and isn't gone.
+    pub(crate) fn is_watched(&self) -> bool
+        ensures { result ≡ is_watched self.now.standing }
+    {
+        self.standing == Standing::Watched
     }
 
     /// Whether it does nothing more.
