@@ -392,10 +392,31 @@ static LAST: [Step; 5] = [
     Step::Tells(SECOND, 9 * SECOND, false),
 ];
 
+// Server 1 is called silent at 4 s, and answers beats of before then. Server 0, the last one, is silent since 4 s.
+static WOKEN: [Step; 16] = [
+    Step::Claims(3),
+    Step::Told(0, 3, SECOND, false),
+    Step::Told(1, 3, SECOND, false),
+    Step::Tells(SECOND, 2 * SECOND, false),
+    Step::Told(0, 3, 2 * SECOND, false),
+    Step::Tells(2 * SECOND, 3 * SECOND, false),
+    Step::Told(0, 3, 3 * SECOND, false),
+    Step::Tells(3 * SECOND, 4 * SECOND, false),
+    Step::Told(0, 3, 4 * SECOND, false),
+    Step::Tells(4 * SECOND, 5 * SECOND, true),
+    Step::Told(1, 3, 5 * SECOND, false),
+    Step::Tells(5 * SECOND, 6 * SECOND, false),
+    Step::Told(1, 3, 6 * SECOND, false),
+    Step::Tells(6 * SECOND, 7 * SECOND, false),
+    Step::Told(1, 3, 7 * SECOND, false),
+    Step::Tells(7 * SECOND, 9 * SECOND, false),
+];
+
 #[test]
 fn a_master_that_was_cut_off_waits(rt: HostRuntime) -> Result<(), Fail> {
     all_hold(other_of_new(rt.alloc(), &CUT_OFF))?;
-    all_hold(other_of_new(rt.alloc(), &LAST))
+    all_hold(other_of_new(rt.alloc(), &LAST))?;
+    all_hold(other_of_new(rt.alloc(), &WOKEN))
 }
 
 static REIGNS: [Step; 2] = [Step::Claims(3), Step::IsDue(Due::Server(Order::Reign(3)))];

@@ -89,8 +89,8 @@ is_cut_off m now = nat_le m.patience (now - m.heard) && not (is_late m now)
 abbrev pub sparing : WardenState → ℕ → WardenState
 sparing m now = record m { wards = (if is_cut_off m now then all_spared m.wards else m.wards) }
 
--- When anybody was heard for the last time, once this server told how it is. One that was called silent doesn't count: it
--- answers beats of before, and ends.
+-- When anybody was heard for the last time, once this server told how it is. One that was called silent doesn't count:
+-- it answers beats of before, and ends.
 abbrev pub heard_then : WardenState → ℕ → ℕ → ℕ
 heard_then m from now = if is_watched (ward m.wards from).watch.standing then max m.heard now else m.heard
 

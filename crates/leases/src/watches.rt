@@ -1,7 +1,7 @@
 //! The master's side: a watch over one server.
 ghost use Rattle.std.specs.Prelude.{◌≡◌, ℕ};
-ghost use Rattle.leases.specs.Watching.{due, done, answered, watched_due, told_due, is_silent, is_gone};
-ghost use Rattle.leases.specs.Watching.{is_watched, begun_watch, idle_watch, spared_watch, gives_up, is_late, since_beat};
+ghost use Rattle.leases.specs.Watching.{due, done, answered, watched_due, told_due, is_silent, is_watched, is_gone};
+ghost use Rattle.leases.specs.Watching.{begun_watch, idle_watch, spared_watch, gives_up, is_late, since_beat};
 
 use crate::paces::Paces;
 use crate::terms::Term;
