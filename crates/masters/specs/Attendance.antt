@@ -1,5 +1,6 @@
 -- Whom a master that beats hears (this project's rule).
 use Rattle.std.specs.Prelude.{ℕ, ◌-◌, max, nat_eq, nat_le, nat_lt, Bool, false, not, ◌&&◌, if◌then◌else◌}
+use Rattle.std.specs.Prelude.{Option, None, Some}
 use Rattle.masters.specs.Notices.{and_one, is_among}
 use Rattle.masters.specs.declared.attendance.Attendance.{Attendance}
 
@@ -23,3 +24,19 @@ is_absent a i patience now =
 -- nobody was heard for so long, and that wasn't told
 abbrev pub is_quiet : Attendance → ℕ → ℕ → Bool
 is_quiet a patience now = not a.is_told && nat_le patience (now - a.heard)
+
+-- it looked for the last time so long ago: it stood still
+abbrev pub is_late : Attendance → ℕ → ℕ → Bool
+is_late a patience now = nat_le patience (now - a.looked)
+
+-- for how long it stood still, if it did
+abbrev pub pause_of : Attendance → ℕ → ℕ → Option ℕ
+pause_of a patience now = if is_late a patience now then Some (now - a.looked) else None
+
+-- it looks; if it stood still, the times for which it doesn't hear servers begin now
+abbrev pub looked_at : Attendance → ℕ → ℕ → Attendance
+looked_at a patience now = record a {
+  since = (if is_late a patience now then max a.since now else a.since);
+  heard = (if is_late a patience now then max a.heard now else a.heard);
+  looked = now;
+}

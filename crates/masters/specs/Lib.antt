@@ -1,4 +1,5 @@
 pub mod Attendance
+pub mod Errands
 pub mod Greetings
 pub mod Hosts
 pub mod Notices

@@ -124,6 +124,23 @@ impl Answers {
         self.give(output, errors, who);
     }
 
+    /// Writes `+T s the master stood still for A s; silences count from now on`, A being the seconds of its pause, of
+    /// which these are the milliseconds.
+    pub(crate) fn paused<W: Sink, X: Sink>(
+        &mut self,
+        output: &mut W,
+        errors: &mut X,
+        who: &str,
+        milliseconds: u64,
+        pause: u64,
+    ) {
+        self.begin_step(milliseconds);
+        self.add(b" the master stood still for ");
+        self.add_seconds(pause);
+        self.add(b"; silences count from now on");
+        self.give(output, errors, who);
+    }
+
     /// Writes `+T s no server has answered for A s; the master may be cut off`.
     pub(crate) fn quiet<W: Sink, X: Sink>(
         &mut self,

@@ -1,6 +1,7 @@
-//! Whom a master that beats hears: since when nobody, and who isn't in its reign. A person reads of both.
+//! Whom a master that beats hears: since when nobody, and who isn't in its reign; and whether it stood still itself. A
+//! person reads of all three.
 ghost use Rattle.std.specs.Prelude.{◌≡◌, ◌&&◌, not, true, false};
-ghost use Rattle.masters.specs.Attendance.{attended, begun, is_absent, is_quiet};
+ghost use Rattle.masters.specs.Attendance.{attended, begun, is_absent, is_late, is_quiet, looked_at, pause_of};
 ghost use Rattle.masters.specs.Notices.{and_one, is_among};
 
 use crate::notices::{and_one, is_among, once};
@@ -19,6 +20,8 @@ pub(crate) struct Attendance {
     // When a server was heard for the last time, and whether it was told that none is.
     heard: u64,
     is_told: bool,
+    // When it looked for the last time.
+    looked: u64,
 }
 
 impl Attendance {
@@ -26,6 +29,7 @@ impl Attendance {
     pub(crate) fn new(now: u64) -> Attendance
         ensures reign { result.reign ≡ 0 }
         ensures heard { result.heard ≡ now }
+        ensures looked { result.looked ≡ now }
     {
         Attendance {
             reign: 0,
@@ -34,6 +38,7 @@ impl Attendance {
             missed: View::empty(),
             heard: now,
             is_told: false,
+            looked: now,
         }
     }
 
@@ -56,6 +61,30 @@ impl Attendance {
         if self.reign == reign {
             self.entered = and_one(self.entered, i);
         }
+    }
+
+    /// It looks when its clock shows `now`. For how long it stood still, if it looked for the last time so long ago:
+    /// nobody could be heard meanwhile, so the times of silence begin now.
+    pub(crate) fn look(&mut self, patience: u64, now: u64) -> Option<u64>
+        ensures pause { result ≡ pause_of self.old patience now }
+        ensures state { self.new ≡ looked_at self.old patience now }
+    {
+        let is_late = self.is_late(patience, now);
+        let pause = now.saturating_sub(self.looked);
+        self.looked = now;
+        if !is_late {
+            return None;
+        }
+        self.since = self.since.max(now);
+        self.heard = self.heard.max(now);
+        Some(pause)
+    }
+
+    // Whether it looked for the last time so long ago.
+    fn is_late(&self, patience: u64, now: u64) -> bool
+        ensures { result ≡ is_late self.now patience now }
+    {
+        patience <= now.saturating_sub(self.looked)
     }
 
     /// Whether it is told now that server `i` isn't in the master's reign, which has stood for this long: once in each

@@ -1,11 +1,12 @@
 //! What a master that beats has for it: the warden by which it decides, and where its orders go.
 ghost use Rattle.std.specs.Prelude.{◌≡◌, ◌≤◌, ◌*◌, not, true, false, None, IfSome};
-ghost use Rattle.masters.specs.Notices.{is_among};
+ghost use Rattle.leases.specs.Wardens.{patience_of};
+ghost use Rattle.masters.specs.Notices.{and_one, is_among};
 
 use crate::attendance::Attendance;
 use crate::command::TellFault;
 use crate::knowledge::Knowledge;
-use crate::notices::{is_among, once};
+use crate::notices::{and_one, is_among, once};
 use crate::watch_threads::Posts;
 use leases::{Due, Order, Paces, Report, Warden, nanoseconds_of};
 use node::{SERVERS, View};
@@ -13,12 +14,17 @@ use std::alloc::Global;
 use std::sync::Wait;
 use std::time::Clock;
 
+/// For this many nanoseconds at most a master that beats waits for news: a minute.
+pub(crate) const LONGEST: u64 = 60_000_000_000;
+
 /// The warden of a chain, and where orders for its servers go.
 #[derive(Drop)]
 pub(crate) struct Beats {
     warden: Warden,
     paces: Paces,
     posts: Posts,
+    // The servers that those who watch them have reached: what is handed to them goes to no other start of the server.
+    met: View,
     // The servers of whose silence the others were told, in this reign and since a server was met.
     told: View,
     // Those of which it was told that they have leases, and that these are too short.
@@ -50,6 +56,7 @@ impl Beats {
                 warden,
                 paces,
                 posts,
+                met: View::empty(),
                 told: View::empty(),
                 leased: View::empty(),
                 short: View::empty(),
@@ -118,6 +125,22 @@ impl Beats {
         Some(reign)
     }
 
+    /// The master looks, now that the clock is read. For how many nanoseconds it stood still, if that made beats late:
+    /// then the times of silence begin now, as the warden has them.
+    pub(crate) fn look<R: Clock>(&mut self, rt: &R) -> Option<u64> {
+        let now = nanoseconds_of(rt.monotonic().ok()?);
+        self.attendance.look(patience_of(self.paces), now)
+    }
+
+    /// For how many nanoseconds at most the master waits for news before it looks again: not longer than a beat, so
+    /// that it sees when it stood still.
+    pub(crate) fn pause(&self) -> u64
+        ensures beat { result ≤ self.now.paces.beat }
+        ensures longest { result ≤ LONGEST }
+    {
+        self.paces.beat.min(LONGEST)
+    }
+
     /// Whether it is told now that no server was heard for as long as one may be silent. It counts as told then.
     pub(crate) fn is_quiet<R: Clock>(&mut self, rt: &R) -> bool {
         match rt.monotonic() {
@@ -165,6 +188,15 @@ impl Beats {
         }
     }
 
+    /// Hands a notice to each who watches a server that was met, and never waits.
+    pub(crate) fn hand_to_all<R: Wait>(&self, rt: &R, order: Order) {
+        for i in 0..SERVERS {
+            if is_among(self.met, i) {
+                self.hand(rt, i, order);
+            }
+        }
+    }
+
     /// Whether the others are to be told now that server `j` was silent: once in a reign, and once more whenever a
     /// server was met. It counts as told then.
     pub(crate) fn tells_silence(&mut self, j: u8) -> bool
@@ -173,8 +205,12 @@ impl Beats {
         once(&mut self.told, j)
     }
 
-    /// A server was met, which may not know who was silent.
-    pub(crate) fn met(&mut self) {
+    /// Server `i` was met by who watches it. It may not know who was silent.
+    pub(crate) fn met(&mut self, i: u8)
+        ensures met { self.new.met ≡ and_one self.old.met i }
+        ensures told { self.new.told ≡ 0 }
+    {
+        self.met = and_one(self.met, i);
         self.told = View::empty();
     }
 
@@ -203,4 +239,11 @@ fn new_warden(
         }
     }
     Ok(warden)
+}
+
+// If the master looked for the last time so long ago, beats go out too late: as its warden has it.
+fn patience_of(paces: Paces) -> u64
+    ensures { result ≡ patience_of paces.beat paces.after }
+{
+    paces.beat + (paces.after - paces.beat) / 2
 }

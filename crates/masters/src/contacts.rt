@@ -1,4 +1,5 @@
 //! What a master has to do with one server: the connection, and what is asked there.
+ghost use Rattle.std.specs.Prelude.{◌≡◌};
 
 use crate::acknowledgements::{Heard, put_order, wait_for_noted};
 use crate::greetings::{Channel, Greeted, greet};
@@ -75,7 +76,9 @@ impl Contact {
     }
 
     /// Gives it an errand. If that is a notice and the connection stands, the notice is written: this waits for nobody.
-    pub(crate) fn ask(&mut self, errand: Errand) -> Result<(), AllocError> {
+    pub(crate) fn ask(&mut self, errand: Errand) -> Result<(), AllocError>
+        ensures { self.new.errand ≡ errand }
+    {
         self.errand = errand;
         match errand {
             Errand::Tell(order, _) => self.put(order),
@@ -166,7 +169,9 @@ impl Contact {
     }
 
     // Closes the connection, if it stands.
-    fn close(&mut self) {
+    fn close(&mut self)
+        ensures { self.new.errand ≡ self.old.errand }
+    {
         drop(self.stream.take());
     }
 
@@ -183,7 +188,9 @@ impl Contact {
     }
 
     // Writes a notice, if the connection stands. It is closed if that fails.
-    fn put(&mut self, order: Order) -> Result<(), AllocError> {
+    fn put(&mut self, order: Order) -> Result<(), AllocError>
+        ensures { self.new.errand ≡ self.old.errand }
+    {
         self.is_put = match &self.stream {
             Some(stream) => put_order(self.alloc, stream, order)?,
             None => false,

@@ -97,7 +97,7 @@ fn read_soon(stream: &TcpStream, piece: &mut [u8]) -> Came {
     }
 }
 
-// Hears what these bytes tell. It tells whether each frame that they end is a report.
+// Hears what these bytes tell. It tells whether each frame that they end is a report, or the answer to a notice.
 fn hear<R: Wait + Clock>(
     rt: &R,
     frames: &mut Frames,
@@ -126,6 +126,7 @@ fn hear_frames<R: Wait + Clock>(
                     return Ok(false);
                 }
             }
+            Next::Noted => {}
             Next::Nothing => return Ok(true),
             Next::Bad => return Ok(false),
         }
@@ -138,6 +139,8 @@ fn hear_frames<R: Wait + Clock>(
 enum Next {
     // A report.
     Report(Alive),
+    // The answer to a notice, for which nobody waits here.
+    Noted,
     // Not whole yet.
     Nothing,
     // None that belongs there.
@@ -160,6 +163,7 @@ fn next_report(frames: &mut Frames) -> Result<Next, AllocError> {
 fn next_of(frame: &Frame) -> Next {
     match frame {
         Frame::Alive(alive) => Next::Report(*alive),
+        Frame::Noted(_) => Next::Noted,
         _ => Next::Bad,
     }
 }

@@ -137,7 +137,7 @@ impl Decider {
         let is_back = self.knowledge.is_gone(i) && self.knowledge.start(i) == Some(start);
         self.knowledge.met(i, start, gone);
         if let Some(beats) = &mut self.beats {
-            beats.met();
+            beats.met(i);
             if is_back {
                 beats.hand(rt, i, Order::Gone(i));
             }
@@ -163,7 +163,9 @@ impl Decider {
         self.give(rt, Order::Gone(j), false)
     }
 
-    /// Has a notice given. A server that it names as gone is known to be gone from then on.
+    /// Has a notice given. A server that it names as gone is known to be gone from then on. Each who watches a server
+    /// hands it on at once. The thread that gives notices gives it too, and waits for the answers; so it may come to it
+    /// only once a server that is silent hasn't answered the one before.
     pub(crate) fn give<R: Wait>(
         &mut self,
         rt: &R,
@@ -182,7 +184,16 @@ impl Decider {
         if let Order::Gone(_) = order {
             self.knowledge.lose(j);
         }
+        self.hand_to_all(rt, order);
         self.pending.put(rt, j, request)
+    }
+
+    // Hands a notice to each who watches a server that was met, also to that server itself if it is reached: it ends
+    // then.
+    fn hand_to_all<R: Wait>(&self, rt: &R, order: Order) {
+        if let Some(beats) = &self.beats {
+            beats.hand_to_all(rt, order);
+        }
     }
 
     // Something came of a notice.

@@ -1,5 +1,6 @@
 //! What a master that watches does for leases, if it beats.
 
+use crate::beats::LONGEST;
 use crate::command::{TellFault, WHO};
 use crate::deciding::Decider;
 use crate::master_lines::tell_short_term;
@@ -12,9 +13,6 @@ use std::time::Clock;
 /// How many deeds may be due for a server, one after another.
 const DEEDS: u8 = 3;
 
-/// For this many nanoseconds at most a master that beats waits for news: a minute.
-const LONGEST: u64 = 60_000_000_000;
-
 impl Decider {
     /// Does what is due for leases, if the master beats. Nothing more is then, for this many nanoseconds.
     pub(crate) fn act<R: Wait + Clock, W: Sink, X: Sink>(
@@ -24,17 +22,30 @@ impl Decider {
         output: &mut W,
         errors: &mut X,
     ) -> Result<Option<u64>, TellFault> {
-        if self.beats.is_none() {
-            return Ok(None);
-        }
+        let mut least = match &self.beats {
+            Some(beats) => beats.pause(),
+            None => return Ok(None),
+        };
+        self.tell_pause(rt, output, errors);
         self.claim(rt, output, errors);
         self.tell_quiet(rt, output, errors);
-        let mut least = LONGEST;
         for i in 0..settings.numbers.servers {
             let wait = self.act_for(rt, output, errors, i)?;
             least = least.min(wait);
         }
         Ok(Some(least))
+    }
+
+    // Tells that the master stood still itself, if it did.
+    fn tell_pause<R: Clock, W: Sink, X: Sink>(&mut self, rt: &R, output: &mut W, errors: &mut X) {
+        let Some(beats) = &mut self.beats else {
+            return;
+        };
+        if let Some(pause) = beats.look(rt) {
+            let milliseconds = self.running(rt);
+            self.answers
+                .paused(output, errors, WHO, milliseconds, pause / MILLISECOND);
+        }
     }
 
     // Takes a new reign, if it is to.
@@ -136,8 +147,8 @@ impl Decider {
         }
     }
 
-    // Has the others told what is due: that a server was silent, once, and the server too once more; or that it does
-    // nothing more, if that wasn't told.
+    // Has the others told what is due: that a server was silent, once; or that it does nothing more, if that wasn't
+    // told.
     fn tell_due<R: Wait + Clock, W: Sink, X: Sink>(
         &mut self,
         rt: &R,
@@ -152,7 +163,6 @@ impl Decider {
                     let what = b"its lease is over".as_slice();
                     self.answers
                         .step(output, errors, WHO, milliseconds, j, what);
-                    self.tell_itself(rt, j, order);
                     return self.give(rt, order, false);
                 }
                 Ok(())
@@ -160,13 +170,6 @@ impl Decider {
             Order::Gone(j) => self.tell_gone(rt, j),
             Order::Reign(_) => Ok(()),
             Order::Beat(_, _) => Ok(()),
-        }
-    }
-
-    // Has a notice of server j sent to that server itself, in case it is reached: it ends then.
-    fn tell_itself<R: Wait>(&self, rt: &R, j: u8, order: Order) {
-        if let Some(beats) = &self.beats {
-            beats.hand(rt, j, order);
         }
     }
 

@@ -1,4 +1,8 @@
 //! How a master tells the servers of a failure, and what it learns from them.
+ghost use Rattle.std.specs.Prelude.{◌≡◌, ◌<◌, ◌≤◌, OnOk, slice_set};
+ghost use Rattle.node.specs.Masters.{notices_from};
+ghost use Rattle.node.specs.Views.{single, union};
+ghost use Rattle.masters.specs.Errands.{asked, errands};
 
 use crate::command::TellFault;
 use crate::contacts::{Contact, Errand, Visit};
@@ -101,15 +105,34 @@ impl Teller {
         if j >= self.identity.servers || self.identity.servers > SERVERS {
             return Err(TellFault::Run);
         }
+        self.ask_others(order, j)?;
+        self.visit_all(rt)
+    }
+
+    // Wants of each other server that isn't known to have failed that it notes this of server `j`.
+    fn ask_others(&mut self, order: Order, j: u8) -> Result<(), AllocError>
+        requires chain { self.old.identity.servers ≤ 16 }
+        requires server { j < 16 }
+        ensures { OnOk result (errands self.new.contacts.items ≡ asked (Errand.Tell order PATIENCE)
+            (notices_from (union self.old.gone (single j)) j 0 self.old.identity.servers)
+            (errands self.old.contacts.items)) }
+    {
         let given = notices(self.alloc, self.gone, j, self.identity.servers)?;
         if let Order::Gone(_) = order {
             self.gone = self.gone.union(View::single(j));
         }
+        self.ask_each(given.as_slice(), Errand::Tell(order, PATIENCE))
+    }
+
+    // Gives the receiver of each of these notices an errand.
+    fn ask_each(&mut self, given: &[(u8, u8)], errand: Errand) -> Result<(), AllocError>
+        ensures { OnOk result (errands self.new.contacts.items
+            ≡ asked errand given.now (errands self.old.contacts.items)) }
+    {
         for notice in given {
-            let (i, _) = notice;
-            self.ask(i, Errand::Tell(order, PATIENCE))?;
+            self.ask(notice.0, errand)?;
         }
-        self.visit_all(rt)
+        Ok(())
     }
 
     /// What it knows of the servers.
@@ -156,8 +179,12 @@ impl Teller {
         ((start ^ (start / NAMES)) % NAMES) as u32
     }
 
-    // Gives server i an errand.
-    fn ask(&mut self, i: u8, errand: Errand) -> Result<(), AllocError> {
+    // Gives server i an errand, if the chain has it.
+    #[tactic(auto, using(crate::proofs::Asking::asked_one, crate::proofs::Asking::asked_none))]
+    fn ask(&mut self, i: u8, errand: Errand) -> Result<(), AllocError>
+        ensures { OnOk result (errands self.new.contacts.items
+            ≡ slice_set (errands self.old.contacts.items) i errand) }
+    {
         match self.contacts.get_mut(usize::from(i)) {
             Some(contact) => contact.ask(errand),
             None => Ok(()),
