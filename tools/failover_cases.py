@@ -12,8 +12,8 @@ from server_processes import Chain, Process, run_clients
 BEAT = 50  # milliseconds
 STEP = re.compile(r"\+\d+\.\d{3} s (server \d+: .*)\n")
 # What a master tells of its beats; no case but those of reigns waits for such a line.
-NOTE = re.compile(r"\+\d+\.\d{3} s (takes reign|followed by reign|server \d+: has a lease of|no server has answered)"
-                  r" .*\n")
+NOTE = re.compile(r"\+\d+\.\d{3} s (takes reign|followed by reign|server \d+: has a lease of|no server has answered|"
+                  r"the master stood still) .*\n")
 MET, LOST, ENDED = "server {}: connected", "server {}: connection lost", "server {}: its process has ended"
 NONE_LEFT = "craq: no server is left; start the chain anew, and then this master\n"
 

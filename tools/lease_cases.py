@@ -16,8 +16,6 @@ SILENT = "server {}: no answer for {}.{:03d} s; it is told that it is gone"
 OVER = "server {}: its lease is over"
 SHORT = ("craq: the lease of server {} is not longer than two beats, so it serves by fits; give it a longer --lease, "
          "or this master a shorter --beat")
-# A master may wait for the answer of a server, in seconds.
-ANSWER = 5
 
 
 class Leased(Watched):
@@ -180,8 +178,8 @@ def both_silenced(chain, servers):
     for server in servers:
         faults += is_gone(chain, server)
     faults += strange(lines_until(chain.master, *map(ENDED.format, servers)), *servers)
-    # The others are told of the second one once the first has not answered that.
-    faults += witness.faults(chain.detection() + ANSWER + SLACK)
+    # The others are told of each when its lease is over, though a notice of one waits for the answer of the other.
+    faults += witness.faults(chain.detection() + SLACK)
     for server, end in zip(servers, ends):
         faults += late(f"server {server} after it woke", witness.calls(server), end)
     return faults
@@ -239,15 +237,20 @@ def master_killed(chain, _server):
 
 
 def master_stopped(chain, _server):
-    """The master is stopped for longer than a lease and a silence: reads stop, and come back when it goes on. It calls
-    nobody gone."""
+    """The master is stopped for longer than a lease and a silence: reads stop, and come back when it goes on. It says
+    that it stood still, and calls nobody gone."""
     witness = Witness(chain, 0)
     chain.master.stop()
     end = chain.lease_end()
     until = without_beats(chain, witness)
     time.sleep(chain.after / 1000 - chain.lease)
+    chain.master.notes.clear()
     chain.master.go_on()
-    return chain.master.is_quiet() + unanswered(chain, witness, end, until)
+    chain.master.notes_once("the master stood still")
+    faults = chain.master.is_quiet()
+    if "no server has answered" in chain.master.notes:
+        faults.append("it takes its own pause for a cut")
+    return faults + unanswered(chain, witness, end, until)
 
 
 def without_beats(chain, witness):
