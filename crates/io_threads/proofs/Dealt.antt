@@ -1,5 +1,6 @@
 -- The stands and the seats of a server that was opened.
-use Rattle.std.proofs.Common.{◌≡◌, ◌∙◌, ◌∷◌, ◌++◌, ◌+◌, ℕ, zero, suc, List, [], All, refl, set, subst, sym}
+use Rattle.std.proofs.Common.{◌≡◌, ◌∙◌, ◌∷◌, ◌++◌, ◌+◌, ℕ, zero, suc, List, [], All, length, refl, ap, set, subst}
+use Rattle.std.proofs.Common.{sym}
 use Rattle.std.proofs.lemmas.List.Elements.{All-nil, All-append, All-cons, All-head, All-set, All-tail, All-weaker}
 use Rattle.node.specs.Nodes.{NodeState}
 use Rattle.faces.specs.Courses.{Origin}
@@ -10,7 +11,7 @@ use Rattle.rail.specs.Servers.{IsOpened, seat_at, seats_from, stand_at, stands_f
 use Rattle.rail.specs.Workers.{WorkerState}
 use Rattle.seats.specs.Replies.{HasAllReplies}
 use Rattle.seats.specs.SeatPools.{Pooling}
-use Rattle.io_threads.specs.Pools.{AreOfOne, IsRepliedAt}
+use Rattle.io_threads.specs.Pools.{AreAllAt, AreOf, BeginsAs, IsRepliedAt}
 
 -- all are of this server, and sent nothing
 all_at : (o : Origin) (k n : ℕ) → All (λ (stand : Stand). IsRepliedAt o stand.seat) (stands_from o k n)
@@ -24,18 +25,47 @@ all_seats_at o k zero = All-nil (IsRepliedAt o)
 all_seats_at o k (suc n) =
     All-cons (IsRepliedAt o) (seat_at o k) (seats_from o (k + 1) n) (refl, refl) (all_seats_at o (k + 1) n)
 
--- the stands and the seats of a server that was opened are all of that server, and no pool is of another
-pub opened_of_one : (node : NodeState) (readers more inlets : ℕ) (w : WorkerState) (beside : List Stand)
-    (others : List SeatState) (brought : List (List Event))
-    → IsOpened node readers more inlets w beside others brought → AreOfOne beside others []
-opened_of_one node readers more inlets w beside others brought opened =
-    record {
-      origin = opened.origin;
-      stands = subst (All (λ (stand : Stand). IsRepliedAt opened.origin stand.seat)) (sym opened.stands)
-          (all_at opened.origin 0 readers);
-      seats = subst (All (IsRepliedAt opened.origin)) (sym opened.seats) (all_seats_at opened.origin readers more);
-      pools = All-nil (λ (pool : Pooling). pool.seen.origin ≡ opened.origin);
-    }
+length_from : (o : Origin) (k n : ℕ) → length (stands_from o k n) ≡ n
+length_from o k zero = refl
+length_from o k (suc n) = ap suc (length_from o (k + 1) n)
+
+module _ (node : NodeState) (readers more inlets : ℕ) (w : WorkerState) (beside : List Stand) (others : List SeatState)
+    (brought : List (List Event)) (opened : IsOpened node readers more inlets w beside others brought) where
+  -- the stands and the seats of a server that was opened are all of its worker's server, and no pool is of another
+  opened_at : AreOf w.published.origin beside others []
+  opened_at =
+      let same : w.published.origin ≡ opened.origin = ap (λ (v : WorkerState). v.published.origin) opened.worker in
+      let are : AreOf opened.origin beside others [] =
+      record {
+        stands = subst (All (λ (stand : Stand). IsRepliedAt opened.origin stand.seat)) (sym opened.stands)
+            (all_at opened.origin 0 readers);
+        seats = subst (All (IsRepliedAt opened.origin)) (sym opened.seats) (all_seats_at opened.origin readers more);
+        pools = All-nil (λ (pool : Pooling). pool.seen.origin ≡ opened.origin);
+      } in
+      subst (λ (o : Origin). AreOf o beside others []) (sym same) are
+
+  -- so they are of one server
+  pub opened_of_one : (o : Origin) × AreOf o beside others []
+  opened_of_one = (w.published.origin, opened_at)
+
+  -- the pools that were made of them are all of its worker's server
+  pub opened_pools : (pools : List Pooling) → ((o : Origin) → AreOf o beside others [] → AreAllAt o pools)
+      → AreAllAt w.published.origin pools
+  opened_pools pools all = all w.published.origin opened_at
+
+  -- there is a stand for each reader
+  pub opened_stands : length beside ≡ readers
+  opened_stands = ap length opened.stands ∙ length_from opened.origin 0 readers
+
+  -- its worker begins as the node
+  pub opened_worker : BeginsAs node w
+  opened_worker =
+      record {
+        start = ap (λ (v : WorkerState). v.published.origin.start) opened.worker ∙ opened.start;
+        inputs = ap (λ (v : WorkerState). v.published.inputs) opened.worker;
+        taken = ap (λ (v : WorkerState). v.taken) opened.worker;
+        goes = ap (λ (v : WorkerState). v.goes) opened.worker;
+      }
 
 -- one more pool of this server
 pub one_more : (o : Origin) (pools after : List Pooling) (pool : Pooling)
@@ -54,79 +84,94 @@ one_changed o pools after place pool all new same =
     subst (All (λ (p : Pooling). p.seen.origin ≡ o)) (sym same)
     (All-set (λ (p : Pooling). p.seen.origin ≡ o) pools place pool new all)
 
--- the next stand is of this server
-next_stand : (stand : Stand) (rest : List Stand) (more : List SeatState) (pools : List Pooling)
-    → (are : AreOfOne (stand ∷ rest) more pools)
-    → IsRepliedAt are.origin stand.seat
-next_stand stand rest more pools are =
-    All-head (λ (s : Stand). IsRepliedAt are.origin s.seat) stand rest are.stands
-
--- the pools are of the server of the next stand
-pub may_be_made : (stand : Stand) (rest : List Stand) (more : List SeatState) (pools : List Pooling)
-    → AreOfOne (stand ∷ rest) more pools → All (λ (pool : Pooling). pool.seen.origin ≡ stand.seat.origin) pools
-may_be_made stand rest more pools are =
-    All-weaker (λ (pool : Pooling). pool.seen.origin ≡ are.origin)
-    (λ (pool : Pooling). pool.seen.origin ≡ stand.seat.origin)
-    (λ pool same. same ∙ sym (next_stand stand rest more pools are).0) pools are.pools
-
--- and it has all replies
-pub stand_replied : (stand : Stand) (rest : List Stand) (more : List SeatState) (pools : List Pooling)
-    → AreOfOne (stand ∷ rest) more pools → HasAllReplies stand.seat
-stand_replied stand rest more pools are = (next_stand stand rest more pools are).1
-
--- and once its pool was made, all that are left are of one server
-pub was_made : (stand : Stand) (rest : List Stand) (more : List SeatState) (pools after : List Pooling)
-    → AreOfOne (stand ∷ rest) more pools → All (λ (pool : Pooling). pool.seen.origin ≡ stand.seat.origin) after
-    → AreOfOne rest more after
-was_made stand rest more pools after are given =
+-- no pool was made yet
+pub none_made : (o : Origin) (stands left : List Stand) (others : List SeatState) (pools : List Pooling)
+    → left ≡ stands
+    → pools ≡ []
+    → AreOf o stands others []
+    → AreOf o left others pools
+none_made o stands left others pools same none are =
     record {
-      origin = are.origin;
-      stands = All-tail (λ (s : Stand). IsRepliedAt are.origin s.seat) stand rest are.stands;
+      stands = subst (All (λ (stand : Stand). IsRepliedAt o stand.seat)) (sym same) are.stands;
       seats = are.seats;
-      pools = All-weaker (λ (pool : Pooling). pool.seen.origin ≡ stand.seat.origin)
-          (λ (pool : Pooling). pool.seen.origin ≡ are.origin)
-          (λ pool same. same ∙ (next_stand stand rest more pools are).0) after given;
+      pools = subst (All (λ (pool : Pooling). pool.seen.origin ≡ o)) (sym none) are.pools;
     }
 
+-- the same by what the list of stands is
+pub as_left : (o : Origin) (left next : List Stand) (others : List SeatState) (pools : List Pooling)
+    → left ≡ next
+    → AreOf o left others pools
+    → AreOf o next others pools
+as_left o left next others pools same are = subst (λ (l : List Stand). AreOf o l others pools) same are
+
+-- the same by what the list of seats is
+pub as_more : (o : Origin) (more next : List SeatState) (pools : List Pooling)
+    → more ≡ next
+    → AreOf o [] more pools
+    → AreOf o [] next pools
+as_more o more next pools same are = subst (λ (l : List SeatState). AreOf o [] l pools) same are
+
+module _ (o : Origin) (stand : Stand) (rest : List Stand) (more : List SeatState) (pools : List Pooling)
+    (are : AreOf o (stand ∷ rest) more pools) where
+  -- the next stand is of this server
+  next_stand : IsRepliedAt o stand.seat
+  next_stand = All-head (λ (s : Stand). IsRepliedAt o s.seat) stand rest are.stands
+
+  -- the pools are of the server of the next stand
+  pub may_be_made : All (λ (pool : Pooling). pool.seen.origin ≡ stand.seat.origin) pools
+  may_be_made =
+      All-weaker (λ (pool : Pooling). pool.seen.origin ≡ o)
+      (λ (pool : Pooling). pool.seen.origin ≡ stand.seat.origin)
+      (λ pool same. same ∙ sym next_stand.0) pools are.pools
+
+  -- and it has all replies
+  pub stand_replied : HasAllReplies stand.seat
+  stand_replied = next_stand.1
+
+  -- and once its pool was made, all that are left are of this server
+  pub was_made : (after : List Pooling) → All (λ (pool : Pooling). pool.seen.origin ≡ stand.seat.origin) after
+      → AreOf o rest more after
+  was_made after given =
+      record {
+        stands = All-tail (λ (s : Stand). IsRepliedAt o s.seat) stand rest are.stands;
+        seats = are.seats;
+        pools = All-weaker (λ (pool : Pooling). pool.seen.origin ≡ stand.seat.origin)
+            (λ (pool : Pooling). pool.seen.origin ≡ o) (λ pool same. same ∙ next_stand.0) after given;
+      }
+
 -- all stands have their pools: what is left are seats
-pub all_made : (left : List Stand) (more rest : List SeatState) (pools : List Pooling)
-    → AreOfOne left more pools → rest ≡ more → AreOfOne [] rest pools
-all_made left more rest pools are same =
+pub all_made : (o : Origin) (left : List Stand) (more rest : List SeatState) (pools : List Pooling)
+    → AreOf o left more pools → rest ≡ more → AreOf o [] rest pools
+all_made o left more rest pools are same =
     record {
-      origin = are.origin;
-      stands = All-nil (λ (s : Stand). IsRepliedAt are.origin s.seat);
-      seats = subst (All (IsRepliedAt are.origin)) (sym same) are.seats;
+      stands = All-nil (λ (s : Stand). IsRepliedAt o s.seat);
+      seats = subst (All (IsRepliedAt o)) (sym same) are.seats;
       pools = are.pools;
     }
 
--- the next seat is of this server
-next_seat : (left : List Stand) (seat : SeatState) (rest : List SeatState) (pools : List Pooling)
-    → (are : AreOfOne left (seat ∷ rest) pools)
-    → IsRepliedAt are.origin seat
-next_seat left seat rest pools are = All-head (IsRepliedAt are.origin) seat rest are.seats
+module _ (o : Origin) (seat : SeatState) (rest : List SeatState) (pools : List Pooling)
+    (are : AreOf o [] (seat ∷ rest) pools) where
+  -- the next seat is of this server
+  next_seat : IsRepliedAt o seat
+  next_seat = All-head (IsRepliedAt o) seat rest are.seats
 
--- the pools are of the next seat's server
-pub may_be_given : (left : List Stand) (seat : SeatState) (rest : List SeatState) (pools : List Pooling)
-    → AreOfOne left (seat ∷ rest) pools → All (λ (pool : Pooling). pool.seen.origin ≡ seat.origin) pools
-may_be_given left seat rest pools are =
-    All-weaker (λ (pool : Pooling). pool.seen.origin ≡ are.origin) (λ (pool : Pooling). pool.seen.origin ≡ seat.origin)
-    (λ pool same. same ∙ sym (next_seat left seat rest pools are).0) pools are.pools
+  -- the pools are of the next seat's server
+  pub may_be_given : All (λ (pool : Pooling). pool.seen.origin ≡ seat.origin) pools
+  may_be_given =
+      All-weaker (λ (pool : Pooling). pool.seen.origin ≡ o) (λ (pool : Pooling). pool.seen.origin ≡ seat.origin)
+      (λ pool same. same ∙ sym next_seat.0) pools are.pools
 
--- and it has all replies
-pub seat_replied : (left : List Stand) (seat : SeatState) (rest : List SeatState) (pools : List Pooling)
-    → AreOfOne left (seat ∷ rest) pools → HasAllReplies seat
-seat_replied left seat rest pools are = (next_seat left seat rest pools are).1
+  -- and it has all replies
+  pub seat_replied : HasAllReplies seat
+  seat_replied = next_seat.1
 
--- and once it was given, all that are left are of one server
-pub was_given : (left : List Stand) (seat : SeatState) (rest : List SeatState) (pools after : List Pooling)
-    → AreOfOne left (seat ∷ rest) pools → All (λ (pool : Pooling). pool.seen.origin ≡ seat.origin) after
-    → AreOfOne left rest after
-was_given left seat rest pools after are given =
-    record {
-      origin = are.origin;
-      stands = are.stands;
-      seats = All-tail (IsRepliedAt are.origin) seat rest are.seats;
-      pools = All-weaker (λ (pool : Pooling). pool.seen.origin ≡ seat.origin)
-          (λ (pool : Pooling). pool.seen.origin ≡ are.origin)
-          (λ pool same. same ∙ (next_seat left seat rest pools are).0) after given;
-    }
+  -- and once it was given, all that are left are of this server
+  pub was_given : (after : List Pooling) → All (λ (pool : Pooling). pool.seen.origin ≡ seat.origin) after
+      → AreOf o [] rest after
+  was_given after given =
+      record {
+        stands = are.stands;
+        seats = All-tail (IsRepliedAt o) seat rest are.seats;
+        pools = All-weaker (λ (pool : Pooling). pool.seen.origin ≡ seat.origin)
+            (λ (pool : Pooling). pool.seen.origin ≡ o) (λ pool same. same ∙ next_seat.0) after given;
+      }

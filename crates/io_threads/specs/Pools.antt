@@ -1,8 +1,10 @@
 -- Stands and seats that are dealt out to threads.
-use Rattle.std.specs.Prelude.{◌≡◌, List, All}
+use Rattle.std.specs.Prelude.{◌≡◌, true, List, [], All}
+use Rattle.node.specs.Nodes.{NodeState}
 use Rattle.faces.specs.Courses.{Origin}
 use Rattle.rail.specs.declared.stands.Stand.{Stand}
 use Rattle.rail.specs.Seats.{SeatState}
+use Rattle.rail.specs.Workers.{WorkerState}
 use Rattle.seats.specs.Replies.{HasAllReplies}
 use Rattle.seats.specs.SeatPools.{Pooling}
 
@@ -10,9 +12,19 @@ use Rattle.seats.specs.SeatPools.{Pooling}
 abbrev pub IsRepliedAt : Origin → SeatState → Type 0
 IsRepliedAt origin seat = (seat.origin ≡ origin) × HasAllReplies seat
 
--- These stands, these seats, and these pools of seats, are all of one server, and no call waits at any of the seats.
-pub record AreOfOne (left : List Stand) (more : List SeatState) (made : List Pooling) : Type 0 where
-  pub origin : Origin
+-- these pools of seats are all of this server
+abbrev pub AreAllAt : Origin → List Pooling → Type 0
+AreAllAt origin pools = All (λ pool. pool.seen.origin ≡ origin) pools
+
+-- These stands, these seats, and these pools of seats, are all of this server, and no call waits at any of the seats.
+pub record AreOf (origin : Origin) (left : List Stand) (more : List SeatState) (made : List Pooling) : Type 0 where
   pub stands : All (λ stand. IsRepliedAt origin stand.seat) left
   pub seats : All (IsRepliedAt origin) more
   pub pools : All (λ pool. pool.seen.origin ≡ origin) made
+
+-- A worker of a server that began as this node, before any input.
+pub record BeginsAs (node : NodeState) (w : WorkerState) : Type 0 where
+  pub start : w.published.origin.start ≡ node.server
+  pub inputs : w.published.inputs ≡ []
+  pub taken : w.taken ≡ []
+  pub goes : w.goes ≡ true

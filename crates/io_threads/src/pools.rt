@@ -1,10 +1,11 @@
 //! Opens a server whose seats are dealt out to serving threads.
-ghost use Rattle.std.specs.Prelude.{◌≡◌, ◌≤◌, [], true, All, IfOk};
+ghost use Rattle.std.specs.Prelude.{◌≡◌, ◌≤◌, ◌+◌, [], true, vec_len, All, IfOk, OnOk};
 ghost use Rattle.node.specs.Nodes.{is_idle};
+ghost use Rattle.faces.specs.Courses.{Origin};
 ghost use Rattle.seats.specs.Replies.{HasAllReplies};
 ghost use Rattle.seats.specs.SeatPools.{with_free};
 ghost use Rattle.seats.specs.Submitters.{unused};
-ghost use Rattle.io_threads.specs.Pools.{AreOfOne};
+ghost use Rattle.io_threads.specs.Pools.{AreAllAt, AreOf, BeginsAs};
 
 use node::Node;
 use rail::{Inlet, RailFault, Room, Seat, Server, Stand, Worker, open};
@@ -24,9 +25,10 @@ pub struct Pooled<R: Wait + Drop> {
 }
 
 /// Opens a server that begins as this node, with these many seats, which are dealt out to the threads in turn: that of
-/// port 0 to the first thread, that of port 1 to the second, and so on. Each thread has one reader, and the face has
-/// room for no more. The mark is set as soon as the server answers no more calls, and the gauge tells whether its items
-/// may take more memory. Refused if memory is out, or no reader could be made.
+/// port 0 to the first thread, that of port 1 to the second, and so on. All are seats of the worker's server. Each
+/// thread has one reader, and the face has room for no more. The mark is set as soon as the server answers no more
+/// calls, and the gauge tells whether its items may take more memory. Refused if memory is out, or no reader could be
+/// made.
 pub fn open_pools<R: Wait + Drop>(
     rt: R,
     alloc: Global,
@@ -41,6 +43,9 @@ pub fn open_pools<R: Wait + Drop>(
     requires seats { seats ≤ 16 }
     requires inlets { (1 ≤ inlets) × (inlets ≤ 16) }
     requires idle { is_idle node ≡ true }
+    ensures worker { IfOk result (λ pooled. BeginsAs node pooled.worker) }
+    ensures pools { IfOk result (λ pooled. AreAllAt pooled.worker.published.origin pooled.pools.items) }
+    ensures threads { IfOk result (λ pooled. vec_len pooled.pools ≡ threads) }
 {
     let Server {
         worker,
@@ -70,7 +75,8 @@ pub fn open_pools<R: Wait + Drop>(
     }
 }
 
-// Makes a pool of each of these stands of one server, and deals its other seats out to them, in turn.
+// Makes a pool of each of these stands of one server, and deals its other seats out to them, in turn. Whatever server
+// that is, the pools are all of it.
 fn deal(
     alloc: Global,
     stands: Vec<Stand>,
@@ -78,7 +84,10 @@ fn deal(
     mark: &Mark,
     gauge: &Gauge,
 ) -> Result<Vec<SeatPool>, AllocError>
-    requires { AreOfOne stands.items others.items [] }
+    requires server { (o : Origin) × AreOf o stands.items others.items [] }
+    ensures server { IfOk result
+        (λ pools. (o : Origin) → AreOf o stands.items others.items [] → AreAllAt o pools.items) }
+    ensures count { IfOk result (λ pools. vec_len pools ≡ vec_len stands) }
 {
     let mut pools = Vec::new(alloc);
     for stand in stands {
@@ -109,7 +118,8 @@ fn add_pool(
 ) -> Result<(), AllocError>
     requires server { All (λ pool. pool.seen.origin ≡ stand.seat.origin) pools.old.items }
     requires replied { HasAllReplies stand.seat }
-    ensures { All (λ pool. pool.seen.origin ≡ stand.seat.origin) pools.new.items }
+    ensures server { All (λ pool. pool.seen.origin ≡ stand.seat.origin) pools.new.items }
+    ensures count { OnOk result (vec_len pools.new ≡ vec_len pools.old + 1) }
 {
     let pool = pool_of(alloc, stand, mark, gauge)?;
     pools.push(pool)?;
@@ -121,7 +131,8 @@ fn add_pool(
 fn give(pools: &mut Vec<SeatPool>, place: usize, seat: Seat) -> Result<(), AllocError>
     requires server { All (λ pool. pool.seen.origin ≡ seat.origin) pools.old.items }
     requires replied { HasAllReplies seat }
-    ensures { All (λ pool. pool.seen.origin ≡ seat.origin) pools.new.items }
+    ensures server { All (λ pool. pool.seen.origin ≡ seat.origin) pools.new.items }
+    ensures count { vec_len pools.new ≡ vec_len pools.old }
 {
     match pools.get_mut(place) {
         Some(pool) => pool.add(seat),

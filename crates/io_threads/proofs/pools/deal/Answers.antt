@@ -1,31 +1,77 @@
-use Rattle.std.proofs.Common.{◌≡◌, ◌∷◌, [], rules}
+use Rattle.std.proofs.Common.{◌≡◌, ◌∷◌, [], arith, rules}
 use Rattle.std.specs.Vec.Iter.{into_iter_items}
-use Rattle.io_threads.specs.Pools.{AreOfOne}
-use Rattle.io_threads.proofs.Dealt.{all_made, may_be_given, may_be_made, seat_replied, stand_replied}
-use Rattle.io_threads.proofs.Dealt.{was_given, was_made}
+use Rattle.io_threads.proofs.Dealt.{all_made, as_left, as_more, may_be_given, may_be_made, none_made, seat_replied}
+use Rattle.io_threads.proofs.Dealt.{stand_replied, was_given, was_made}
 use Rattle.io_threads.proofs.pools.deal.Goals as goal
+
+pub loop-stand-init : goal.loop-stand-init
+loop-stand-init c =
+    let same : into_iter_items c.into_iter-stand-iterator.result ≡ c.args.stands.items = search rules in
+    record {
+      server = λ o are.
+          none_made o c.args.stands.items (into_iter_items c.into_iter-stand-iterator.result) c.args.others.items
+          c.new-pools.result.items same c.new-pools.ensures.items are;
+      count = search rules;
+    }
 
 pub add_pool-requires : goal.add_pool-requires
 add_pool-requires c =
-    let are : AreOfOne (c.in-Some.stand ∷ into_iter_items c.next.new.self) c.args.others.items c.loop-stand.pools.items =
-    search rules in
-    record { server = may_be_made _ _ _ _ are; replied = stand_replied _ _ _ _ are }
+    let o = c.requires.server.0 in
+    let are = as_left o (into_iter_items c.loop-stand.stand-iterator)
+    (c.in-Some.stand ∷ into_iter_items c.next.new.self) c.args.others.items c.loop-stand.pools.items
+    c.in-Some.ensures.steps.0 (c.loop-stand.invariant.server o c.requires.server.1) in
+    record {
+      server = may_be_made o c.in-Some.stand (into_iter_items c.next.new.self) c.args.others.items
+          c.loop-stand.pools.items are;
+      replied = stand_replied o c.in-Some.stand (into_iter_items c.next.new.self) c.args.others.items
+          c.loop-stand.pools.items are;
+    }
 
 pub loop-stand-preserved : goal.loop-stand-preserved
 loop-stand-preserved c =
-    was_made c.in-Some.stand _ _ c.loop-stand.pools.items _ (search rules) c.add_pool.ensures
+    record {
+      server = λ o given.
+          was_made o c.in-Some.stand (into_iter_items c.next.new.self) c.args.others.items c.loop-stand.pools.items
+          (as_left o (into_iter_items c.loop-stand.stand-iterator)
+          (c.in-Some.stand ∷ into_iter_items c.next.new.self) c.args.others.items c.loop-stand.pools.items
+          c.in-Some.ensures.steps.0 (c.loop-stand.invariant.server o given)) _ c.add_pool.ensures.server;
+      count = search rules;
+    }
 
 pub loop-seat-init : goal.loop-seat-init
 loop-seat-init c =
     let same : into_iter_items c.into_iter-seat-iterator.result ≡ c.args.others.items = search rules in
-    all_made _ _ _ _ c.loop-stand.invariant same
+    record {
+      server = λ o given.
+          all_made o (into_iter_items c.loop-stand.stand-iterator) c.args.others.items
+          (into_iter_items c.into_iter-seat-iterator.result) c.loop-stand.pools.items
+          (c.loop-stand.invariant.server o given) same;
+      count = omega (arith, c.in-None.ensures.steps.0, c.loop-stand.invariant.count);
+    }
 
 pub give-requires : goal.give-requires
 give-requires c =
-    let are : AreOfOne [] (c.in-Some-seat.seat ∷ into_iter_items c.next-in-loop-seat.new.self) c.loop-seat.pools.items =
-    search rules in
-    record { server = may_be_given _ _ _ _ are; replied = seat_replied _ _ _ _ are }
+    let o = c.requires.server.0 in
+    let are = as_more o (into_iter_items c.loop-seat.seat-iterator)
+    (c.in-Some-seat.seat ∷ into_iter_items c.next-in-loop-seat.new.self) c.loop-seat.pools.items
+    c.in-Some-seat.ensures.steps.0 (c.loop-seat.invariant.server o c.requires.server.1) in
+    record {
+      server = may_be_given o c.in-Some-seat.seat (into_iter_items c.next-in-loop-seat.new.self)
+          c.loop-seat.pools.items are;
+      replied = seat_replied o c.in-Some-seat.seat (into_iter_items c.next-in-loop-seat.new.self)
+          c.loop-seat.pools.items are;
+    }
 
 pub loop-seat-preserved : goal.loop-seat-preserved
 loop-seat-preserved c =
-    was_given _ c.in-Some-seat.seat _ c.loop-seat.pools.items _ (search rules) c.give.ensures
+    record {
+      server = λ o given.
+          was_given o c.in-Some-seat.seat (into_iter_items c.next-in-loop-seat.new.self) c.loop-seat.pools.items
+          (as_more o (into_iter_items c.loop-seat.seat-iterator)
+          (c.in-Some-seat.seat ∷ into_iter_items c.next-in-loop-seat.new.self) c.loop-seat.pools.items
+          c.in-Some-seat.ensures.steps.0 (c.loop-seat.invariant.server o given)) _ c.give.ensures.server;
+      count = search rules;
+    }
+
+pub returns-clause-server : goal.returns-clause-server
+returns-clause-server c = λ o given. (c.loop-seat.invariant.server o given).pools

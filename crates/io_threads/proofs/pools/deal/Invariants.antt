@@ -1,12 +1,22 @@
-use Rattle.std.proofs.Common.{[]}
+use Rattle.std.proofs.Common.{◌≡◌, ◌+◌, [], length, vec_len}
 use Rattle.std.specs.Vec.Iter.{into_iter_items}
-use Rattle.io_threads.specs.Pools.{AreOfOne}
+use Rattle.faces.specs.Courses.{Origin}
+use Rattle.io_threads.specs.Pools.{AreOf}
 use Rattle.io_threads.proofs.pools.deal.Given as goal
 
--- the stands that are left, the seats, and the pools, are of one server
+-- the stands that are left, the seats, and the pools, are of the server that the stands and the seats are of; each
+-- stand that isn't left has its pool
 abbrev pub invariant-loop-stand : goal.invariant-loop-stand
-invariant-loop-stand l = AreOfOne (into_iter_items l.stand-iterator) l.fn.others.items l.pools.items
+invariant-loop-stand l = record {
+  server : (o : Origin) → AreOf o l.fn.stands.items l.fn.others.items []
+      → AreOf o (into_iter_items l.stand-iterator) l.fn.others.items l.pools.items;
+  count : vec_len l.pools + length (into_iter_items l.stand-iterator) ≡ vec_len l.fn.stands;
+}
 
 -- the same of the seats that are left
 abbrev pub invariant-loop-seat : goal.invariant-loop-seat
-invariant-loop-seat l = AreOfOne [] (into_iter_items l.seat-iterator) l.pools.items
+invariant-loop-seat l = record {
+  server : (o : Origin) → AreOf o l.fn.stands.items l.fn.others.items []
+      → AreOf o [] (into_iter_items l.seat-iterator) l.pools.items;
+  count : vec_len l.pools ≡ vec_len l.fn.stands;
+}
