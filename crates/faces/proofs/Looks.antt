@@ -1,5 +1,5 @@
 -- What a look from a place tells, once the place was left.
-use Rattle.std.proofs.Common.{◌≡◌, ◌∙◌, ap, sym, List, [], ◌∷◌, ◌++◌, IfOk, OnOk}
+use Rattle.std.proofs.Common.{◌≡◌, ◌∙◌, ap, sym, inl, inr, List, [], ◌∷◌, ◌++◌, IfOk, OnOk}
 use Rattle.std.proofs.lemmas.Result.{IfOk-weaker}
 use Rattle.std.specs.declared.result.Result.{Result}
 use Rattle.node.specs.Faces.{FaceState}
@@ -7,6 +7,7 @@ use Rattle.faces.specs.declared.boards.Knowledge.{Knowledge}
 use Rattle.faces.specs.Courses.{Course, IsLater, shown_after}
 use Rattle.faces.specs.Shown.{Shown}
 use Rattle.faces.specs.Boards.{IsShownBy, Knows}
+use Rattle.faces.specs.Readers.{HasLookedAtMostOnce}
 
 -- it knows whose face it saw
 pub knows_after : (w u : Knowledge) (stood before after : Course)
@@ -48,3 +49,12 @@ pub looked_after : {L E : Type 0} (r : Result L E) (F : L → Type 0) (old : Lis
 looked_after r F old u stood after courses found =
     IfOk-weaker r (λ look. F look × (after ≡ stood)) (λ _. u.courses ≡ old ++ after ∷ [])
     (λ look h. courses ∙ ap (λ (c : Course). old ++ c ∷ []) (sym h.1)) found
+
+-- a place that found no face has seen what it had
+pub never_looked : (v w : Knowledge) → w ≡ v → HasLookedAtMostOnce v.courses w.courses
+never_looked v w same = inl (ap (λ (k : Knowledge). k.courses) same)
+
+-- one that found a face has seen one course more
+pub once_looked : (old : List Course) (w u : Knowledge) (stood : Course) → u ≡ w → w.courses ≡ old ++ stood ∷ []
+    → HasLookedAtMostOnce old u.courses
+once_looked old w u stood left courses = inr (stood, ap (λ (k : Knowledge). k.courses) left ∙ courses)

@@ -1,5 +1,5 @@
 -- Readers.
-use Rattle.std.specs.Prelude.{◌≡◌, ℕ, List, [], Option, None, Some}
+use Rattle.std.specs.Prelude.{◌≡◌, ◌⊎◌, ℕ, List, [], ◌∷◌, ◌++◌, Option, None, Some}
 use Rattle.left_right.specs.declared.reader.Reader.{Reader as Place}
 use Rattle.left_right.specs.Sides.{view}
 use Rattle.table.specs.declared.items.Item.{Item}
@@ -19,6 +19,10 @@ pub record Looking : Type 0 where
 -- a reader that has seen or was told of this, and hasn't looked yet
 abbrev pub yet_to_look : Course → Looking
 yet_to_look seen = record { seen = seen; looks = [] }
+
+-- No look is forgotten, and there is one more at most: at the face that stood then, after this course.
+abbrev pub HasLookedAtMostOnce : List Course → List Course → Type 0
+HasLookedAtMostOnce before after = (after ≡ before) ⊎ ((stood : Course) × (after ≡ before ++ stood ∷ []))
 
 -- a look at this key of a face finds an item
 abbrev pub ShowsItem : FaceState → List ℕ → Type 0

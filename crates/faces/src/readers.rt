@@ -4,7 +4,7 @@ ghost use Rattle.left_right.specs.Sides.{view};
 ghost use Rattle.node.specs.Faces.{look_at};
 ghost use Rattle.faces.specs.Boards.{Knows, seated};
 ghost use Rattle.faces.specs.Courses.{Course, IsLater, shown_after};
-ghost use Rattle.faces.specs.Readers.{ShowsItem, yet_to_look};
+ghost use Rattle.faces.specs.Readers.{HasLookedAtMostOnce, ShowsItem, yet_to_look};
 
 use crate::FaceFault;
 use crate::boards::{FacePlace, Takes};
@@ -60,6 +60,8 @@ impl Reader {
         ensures found { IfOk result (λ look. look ≡ look_at (shown_after self.new.seen) key.now) }
         // That face is the one that stood: the reader looked once, and at it.
         ensures looked { OnOk result (self.new.looks ≡ self.old.looks ++ self.new.seen ∷ []) }
+        // Whatever the answer: no look is forgotten, and at most one is made.
+        ensures once { HasLookedAtMostOnce self.old.looks self.new.looks }
         ensures later { IsLater self.old.seen self.new.seen }
         ensures unchanged { OnErr result (self.new.seen ≡ self.old.seen) }
         // Memory comes only at an item, in a face that stood, after no fewer inputs than it has seen.
@@ -107,6 +109,7 @@ fn look_from(
     ensures found { IfOk result.1 (λ look. look ≡ look_at (shown_after front.new) key.now) }
     ensures looked { OnOk result.1
         ((view result.0.place).courses ≡ (view place.place).courses ++ front.new ∷ []) }
+    ensures once { HasLookedAtMostOnce (view place.place).courses (view result.0.place).courses }
     ensures later { IsLater front.old front.new }
     ensures unchanged { OnErr result.1 (front.new ≡ front.old) }
     ensures memory { IsErrOf result.1 FaceFault.Memory → (stood : Course)

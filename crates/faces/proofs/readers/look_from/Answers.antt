@@ -4,7 +4,7 @@ use Rattle.node.specs.Faces.{FaceState, look_at}
 use Rattle.faces.specs.Boards.{IsShownBy}
 use Rattle.faces.specs.Readers.{ShowsItem}
 use Rattle.faces.specs.Shown.{Shown}
-use Rattle.faces.proofs.Looks.{knows_after, found_after, seen_after, looked_after}
+use Rattle.faces.proofs.Looks.{knows_after, found_after, seen_after, looked_after, never_looked, once_looked}
 use Rattle.faces.proofs.Posting.{enters}
 use Rattle.faces.proofs.readers.look_from.Goals as goal
 
@@ -40,6 +40,15 @@ returns-in-Ok-clause-looked c =
     (seen_after _ (view c.in-Ok.reading.place) (view c.leave.result.place) c.in-Ok.reading.part.value.course
     c.get.result.now c.leave.ensures.1 told.courses (ap (λ (z : Shown). z.course) c.get.ensures))
     c.see-found.ensures.found
+
+pub returns-in-Ok-clause-once : goal.returns-in-Ok-clause-once
+returns-in-Ok-clause-once c =
+    let told = c.in-Ok.ensures.1 in
+    once_looked (view c.args.place.place).courses (view c.in-Ok.reading.place) (view c.leave.result.place) _
+    c.leave.ensures.1 told.courses
+
+pub returns-in-Err-clause-once : goal.returns-in-Err-clause-once
+returns-in-Err-clause-once c = never_looked (view c.args.place.place) (view c.in-Err.place.place) c.in-Err.ensures.1
 
 pub returns-in-Ok-clause-memory : goal.returns-in-Ok-clause-memory
 returns-in-Ok-clause-memory c =

@@ -11,5 +11,8 @@ unreachable-requires c =
 pub returns-clause-looked : goal.returns-clause-looked
 returns-clause-looked c = rw (← c.self.view_is, ← c.in-Some.ensures.value) c.look_from-place.ensures.looked
 
+pub returns-clause-once : goal.returns-clause-once
+returns-clause-once c = rw (← c.self.view_is, ← c.in-Some.ensures.value) c.look_from-place.ensures.once
+
 pub returns-clause-memory : goal.returns-clause-memory
 returns-clause-memory c = rw (← c.self.view_is, ← c.in-Some.ensures.value) c.look_from-place.ensures.memory
