@@ -1,15 +1,15 @@
 -- What is looked at for calls that come to something at once.
-use Rattle.std.proofs.Common.{◌≡◌, ◌∙◌, [], ◌∷◌, ◌++◌, List, Option, Some, None, refl, ap, sym, subst}
-use Rattle.std.proofs.Common.{append_assoc, append-nil, Result, Ok, Err, IfOk, MatchOption}
-use Rattle.std.proofs.lemmas.Result.{IfOk-weaker}
+use Rattle.std.proofs.Common.{◌≡◌, ◌∙◌, [], ◌∷◌, ◌++◌, Bool, List, Option, Some, None, refl, ap, sym, subst}
+use Rattle.std.proofs.Common.{append_assoc, append-nil, inl, Result, Ok, Err, IfOk, OnErr, MatchOption, MatchResult}
 use Rattle.table.specs.declared.operations.Call.{Call}
 use Rattle.proto.specs.Turns.{Outcome, Refused, Replied}
 use Rattle.faces.specs.Courses.{Course}
+use Rattle.faces.specs.Readers.{HasLookedAtMostOnce}
 use Rattle.serving.specs.Connections.{Connected, HasOutcome, IsLooked}
 use Rattle.serving.specs.declared.serving.ServeFault.{ServeFault}
 use Rattle.seats.specs.Replies.{ShowsReply}
 use Rattle.seats.specs.SeatPools.{Pooling}
-use Rattle.seats.specs.Talks.{AreLookedFor, HasGoneByLooks, HasLooked, HasLookedFor, LeavesCall}
+use Rattle.seats.specs.Talks.{AreLookedFor, HasGoneByLooks, HasLooked, HasLookedFor, HasLookedOn, LeavesCall}
 use Rattle.seats.specs.declared.talks.Went.{Went}
 use Rattle.seats.specs.declared.talks.Went.TheVariants.{Input, Write, Seat, Reply, More, End}
 
@@ -51,30 +51,59 @@ looked_then c d e p q r a b =
       each = looked_more a.more b.more a.came b.came a.faces b.faces a.each b.each;
     }
 
+-- nothing more was looked at
+pub looked_on : (c d : Connected) (p q : Pooling) → HasLooked c d p q → HasLookedOn c d p q
+looked_on c d p q a = record { between = q; looked = a; once = inl refl }
+
+-- some calls came to something, and then it went on
+pub looked_on_then : (c d e : Connected) (p q r : Pooling) → HasLooked c d p q → HasLookedOn d e q r
+    → HasLookedOn c e p r
+looked_on_then c d e p q r a b =
+    record { between = b.between; looked = looked_then c d e p q b.between a b.looked; once = b.once }
+
+-- and then nothing was looked at
+pub looked_on_as : (c d e : Connected) (p q r : Pooling) → HasLookedOn c d p q → e ≡ d → r.looks ≡ q.looks
+    → HasLookedOn c e p r
+looked_on_as c d e p q r a same looks =
+    record {
+      between = a.between;
+      looked = subst (λ x. HasLooked c x p a.between) (sym same) a.looked;
+      once = subst (λ ls. HasLookedAtMostOnce a.between.looks ls) (sym looks) a.once;
+    }
+
 -- and it went so far
 pub gone_then : (went : Went) (c d e : Connected) (p q r : Pooling) → HasLooked c d p q
     → HasGoneByLooks went d e q r
     → HasGoneByLooks went c e p r
 gone_then Input c d e p q r a b = looked_then c d e p q r a b
 gone_then Write c d e p q r a b = looked_then c d e p q r a b
-gone_then Seat c d e p q r a b = tt
-gone_then Reply c d e p q r a b = tt
+gone_then Seat c d e p q r a b = looked_on_then c d e p q r a b
+gone_then Reply c d e p q r a b = looked_on_then c d e p q r a b
 gone_then More c d e p q r a b = looked_then c d e p q r a b
 gone_then (End end) c d e p q r a b = looked_then c d e p q r a b
 
--- it left a call that waits
-pub gone_sent : (found : Result Went ServeFault) (c d : Connected) (p q : Pooling)
+-- then it left a call that waits, or a fault came, and nothing was looked at
+pub gone_sent : (found : Result Went ServeFault) (c d e : Connected) (p q r : Pooling)
     → IfOk found (λ went. LeavesCall went)
-    → IfOk found (λ went. HasGoneByLooks went c d p q)
-gone_sent found c d p q leaves = IfOk-weaker found _ _ by leaves
+    → HasLookedOn c d p q
+    → e ≡ d
+    → r.looks ≡ q.looks
+    → MatchResult found (λ went. HasGoneByLooks went c e p r) (λ _. HasLookedOn c e p r)
+gone_sent found c d e p q r leaves looked same looks = by found leaves
   where
-    by : (went : Went) → LeavesCall went → HasGoneByLooks went c d p q
-    by Input bad = absurd bad
-    by Write bad = absurd bad
-    by Seat leaves = tt
-    by Reply leaves = tt
-    by More bad = absurd bad
-    by (End end) bad = absurd bad
+    now : HasLookedOn c e p r
+    now = looked_on_as c d e p q r looked same looks
+
+    by : (f : Result Went ServeFault)
+        → IfOk f (λ went. LeavesCall went)
+        → MatchResult f (λ went. HasGoneByLooks went c e p r) (λ _. HasLookedOn c e p r)
+    by (Ok Input) bad = absurd bad
+    by (Ok Write) bad = absurd bad
+    by (Ok Seat) leaves = now
+    by (Ok Reply) leaves = now
+    by (Ok More) bad = absurd bad
+    by (Ok (End end)) bad = absurd bad
+    by (Err fault) leaves = now
 
 abbrev head_or : Call → List Call → Call
 head_or d [] = d
@@ -110,11 +139,9 @@ looked_one c d call (Replied reply) p q waits has looked =
 -- the call that waits was refused, and then it went so far
 pub refused_then : (found : Result Went ServeFault) (shown c d e : Connected) (p q : Pooling) → c ≡ shown
     → HasOutcome Refused c d
-    → IfOk found (λ went. HasGoneByLooks went d e p q)
-    → IfOk found (λ went. HasGoneByLooks went shown e p q)
-refused_then found shown c d e p q view has gone =
-    subst (λ x. IfOk found (λ went. HasGoneByLooks went x e p q)) view
-    (IfOk-weaker found _ _ (λ went. gone_then went c d e p p q refused) gone)
+    → MatchResult found (λ went. HasGoneByLooks went d e p q) (λ _. HasLookedOn d e p q)
+    → MatchResult found (λ went. HasGoneByLooks went shown e p q) (λ _. HasLookedOn shown e p q)
+refused_then found shown c d e p q view has gone = by found gone
   where
     refused : HasLooked c d p p
     refused =
@@ -128,22 +155,50 @@ refused_then found shown c d e p q view has gone =
           each = refl;
         }
 
+    now : HasLooked shown d p p
+    now = subst (λ x. HasLooked x d p p) view refused
+
+    by : (f : Result Went ServeFault)
+        → MatchResult f (λ went. HasGoneByLooks went d e p q) (λ _. HasLookedOn d e p q)
+        → MatchResult f (λ went. HasGoneByLooks went shown e p q) (λ _. HasLookedOn shown e p q)
+    by (Ok went) g = gone_then went shown d e p p q now g
+    by (Err fault) g = looked_on_then shown d e p p q now g
+
+-- memory was refused to it, and nothing was looked at
+pub failed_same : (shown c d : Connected) (b : Bool) (p : Pooling) → c ≡ shown → d ≡ record c { failed = b }
+    → HasLookedOn shown d p p
+failed_same shown c d b p view e =
+    subst (λ x. HasLookedOn x d p p) view
+    (looked_on c d p p (looked_same c d p (ap (λ x. x.calls) e) (ap (λ x. x.outcomes) e)))
+
 -- it was asked what it wants, and nothing was looked at
 pub asked_same : (shown c d : Connected) (p : Pooling) → c ≡ shown → IsLooked c d → HasLooked shown d p p
 asked_same shown c d p view looked =
     subst (λ x. HasLooked x d p p) view (looked_same c d p looked.calls looked.outcomes)
 
--- It was asked what it wants, and the call that it wants came to something at once, or waits for a seat.
-pub asked_looked : (found : Result (Option Went) ServeFault) (shown c d e : Connected) (call : Call) (p q : Pooling)
-    → c ≡ shown
-    → IsLooked c d
-    → d.waiting ≡ call ∷ []
-    → IfOk found (λ f. MatchOption f
-    ((outcome : Outcome) × HasOutcome outcome d e × HasLookedFor call outcome p q) (λ went. went ≡ Seat))
-    → IfOk found (λ f. MatchOption f (HasLooked shown e p q) (λ went. HasGoneByLooks went shown e p q))
-asked_looked (Ok None) shown c d e call p q view looked waits one =
-    looked_then shown d e p p q (asked_same shown c d p view looked)
-    (looked_one d e call one.0 p q waits one.1 one.2)
-asked_looked (Ok (Some went)) shown c d e call p q view looked waits seat =
-    subst (λ w. HasGoneByLooks w shown e p q) (sym seat) tt
-asked_looked (Err fault) shown c d e call p q view looked waits one = tt
+-- It was asked what it wants, and the call that it wants came to something at once, or waits for a seat, or there was
+-- a fault: then it was looked for at most once.
+module _ (shown c d e : Connected) (call : Call) (p q : Pooling) (view : c ≡ shown) (looked : IsLooked c d)
+    (waits : d.waiting ≡ call ∷ []) (once : HasLookedAtMostOnce p.looks q.looks) where
+  in_vain : (b : Bool) → e ≡ record d { failed = b } → HasLookedOn shown e p q
+  in_vain b same =
+      record {
+        between = p;
+        looked = looked_then shown d e p p p (asked_same shown c d p view looked)
+            (looked_same d e p (ap (λ x. x.calls) same) (ap (λ x. x.outcomes) same));
+        once = once;
+      }
+
+  pub asked_looked : (S T : Type 0) (found : Result (Option Went) ServeFault)
+      → IfOk found (λ f. MatchOption f
+      ((outcome : Outcome) × HasOutcome outcome d e × HasLookedFor call outcome p q)
+      (λ went. (went ≡ Seat) × (e ≡ d)))
+      → OnErr found (S × T × (e ≡ record d { failed = e.failed }))
+      → MatchResult found (λ f. MatchOption f (HasLooked shown e p q) (λ went. HasGoneByLooks went shown e p q))
+      (λ _. HasLookedOn shown e p q)
+  asked_looked S T (Ok None) one err =
+      looked_then shown d e p p q (asked_same shown c d p view looked)
+      (looked_one d e call one.0 p q waits one.1 one.2)
+  asked_looked S T (Ok (Some went)) seat err =
+      subst (λ w. HasGoneByLooks w shown e p q) (sym seat.0) (in_vain d.failed seat.1)
+  asked_looked S T (Err fault) one err = in_vain e.failed err.2

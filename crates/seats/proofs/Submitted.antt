@@ -289,10 +289,6 @@ take_replied stage next seat last reply told is e f kind =
     by Update is kind = replied_last seat reply told true is
     by Lost is kind = let no : false ≡ true = kind in cc
 
--- or is lost
-pub take_lost : (next : Stage) (last : SeatState) → next ≡ Lost → IsOpen next last
-take_lost next last e = subst (λ x. IsOpen x last) (sym e) tt
-
 -- a seat that shows so is lost
 pub lost_stage : (stage : Stage) (seat : SeatState) (s : Submitting) → submitting stage seat ≡ s → s.lost ≡ true
     → stage ≡ Lost

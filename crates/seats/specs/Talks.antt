@@ -7,6 +7,7 @@ use Rattle.table.specs.declared.operations.Reply.TheVariants.{Value}
 use Rattle.node.specs.Lawful.{IsCall}
 use Rattle.proto.specs.Turns.{Outcome, Refused, Replied, is_store}
 use Rattle.faces.specs.Courses.{Course, IsLater, Origin}
+use Rattle.faces.specs.Readers.{HasLookedAtMostOnce}
 use Rattle.rail.specs.Seats.{SeatState}
 use Rattle.serving.specs.declared.connections.Wants.TheVariants.{Read, Write, End as Ends}
 use Rattle.serving.specs.Connections.{Connected, unused}
@@ -99,6 +100,12 @@ pub record HasLooked (c d : Connected) (p q : Pooling) : Type 0 where
   pub looks : q.looks ≡ p.looks ++ faces
   pub each : AreLookedFor more came faces
 
+-- The same, and then at most one look more, for a call that came to nothing by it.
+pub record HasLookedOn (c d : Connected) (p q : Pooling) : Type 0 where
+  pub between : Pooling
+  pub looked : HasLooked c d p between
+  pub once : HasLookedAtMostOnce between.looks q.looks
+
 -- a call that stores waits for a seat
 abbrev pub HoldsStore : Standing → Type 0
 HoldsStore standing = (call : Call) × (standing ≡ Unsent call) × (is_store call.op ≡ true)
@@ -121,12 +128,12 @@ LeavesCall Waits = Unit {0}
 LeavesCall More = ⊥
 LeavesCall (End end) = ⊥
 
--- It went so far, by looks alone unless a call waits: before that was sent it may have been looked for in vain.
+-- It went so far, by looks alone unless a call waits: before that was sent it may have been looked for, once, in vain.
 abbrev pub HasGoneByLooks : Went → Connected → Connected → Pooling → Pooling → Type 0
 HasGoneByLooks Input c d p q = HasLooked c d p q
 HasGoneByLooks Writes c d p q = HasLooked c d p q
-HasGoneByLooks Seat c d p q = Unit {0}
-HasGoneByLooks Waits c d p q = Unit {0}
+HasGoneByLooks Seat c d p q = HasLookedOn c d p q
+HasGoneByLooks Waits c d p q = HasLookedOn c d p q
 HasGoneByLooks More c d p q = HasLooked c d p q
 HasGoneByLooks (End end) c d p q = HasLooked c d p q
 

@@ -2,6 +2,7 @@
 ghost use Rattle.std.specs.Prelude.{◌≡◌, true, IfOk, IsTrue, MatchBool, OnErr, OnOk};
 ghost use Rattle.proto.specs.Turns.{Outcome, Replied, is_store};
 ghost use Rattle.faces.specs.Courses.{IsLater};
+ghost use Rattle.faces.specs.Readers.{HasLookedAtMostOnce};
 ghost use Rattle.serving.specs.Connections.{HasOutcome, MayHave};
 ghost use Rattle.serving.specs.Serving.{CameTo};
 ghost use Rattle.serving.specs.Wanted.{IsAsking};
@@ -40,6 +41,8 @@ pub(crate) fn settle(
     ensures looked { IfOk result (λ settled. IsTrue settled →
         (outcome : Outcome) × HasOutcome outcome connection.old connection.new ×
         HasLookedFor call.now outcome pool.old pool.new) }
+    // Whatever the answer: no look is forgotten, and at most one is made.
+    ensures once { HasLookedAtMostOnce pool.old.looks pool.new.looks }
     ensures err { OnErr result ((seen.new ≡ seen.old) ×
         (connection.new ≡ record connection.old { failed = connection.new.failed })) }
 {

@@ -3,6 +3,7 @@ ghost use Rattle.std.specs.Prelude.{◌≡◌, ◌++◌, ◌∷◌, [], Option, 
 ghost use Rattle.table.specs.declared.items.Item.{Item};
 ghost use Rattle.table.specs.declared.operations.Reply.TheVariants.{Value};
 ghost use Rattle.faces.specs.Courses.{IsLater};
+ghost use Rattle.faces.specs.Readers.{HasLookedAtMostOnce};
 ghost use Rattle.seats.specs.Replies.{ShowsClean};
 
 use node::Look;
@@ -19,6 +20,8 @@ pub fn peek(reader: &mut Reader, call: &Call) -> Option<Reply>
         (λ reply. (item : Option Item) × (reply ≡ Value item) × ShowsClean reader.new.seen call.now item) }
     // The face that stood: the reader looked once, and at it.
     ensures looked { OnSome result (reader.new.looks ≡ reader.old.looks ++ reader.new.seen ∷ []) }
+    // Whatever the answer: no look is forgotten, and at most one is made.
+    ensures once { HasLookedAtMostOnce reader.old.looks reader.new.looks }
 {
     match (&call.target, &call.op) {
         (Target::One(key), Op::Read) => match reader.look(key) {

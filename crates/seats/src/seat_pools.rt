@@ -60,6 +60,7 @@ impl SeatPool {
     ghost use Rattle.table.specs.declared.items.Item.{Item};
     ghost use Rattle.table.specs.declared.operations.Reply.TheVariants.{Value};
     ghost use Rattle.faces.specs.Courses.{IsLater};
+    ghost use Rattle.faces.specs.Readers.{HasLookedAtMostOnce};
     ghost use Rattle.seats.specs.Replies.{HasAllReplies, ShowsClean};
     ghost use Rattle.seats.specs.SeatPools.{HasSameReader, HasSameSeats, IsAt, IsFreeAt, with_free, without_seats};
     ghost use Rattle.seats.specs.Submitters.{IsAnswered, unused};
@@ -120,6 +121,8 @@ impl SeatPool {
         ensures clean { IfOk result (λ found. IfSome found
             (λ reply. (item : Option Item) × (reply ≡ Value item) × ShowsClean self.new.seen call.now item)) }
         ensures looked { IfOk result (λ found. OnSome found (self.new.looks ≡ self.old.looks ++ self.new.seen ∷ [])) }
+        // Whatever the answer: no look is forgotten, and at most one is made.
+        ensures once { HasLookedAtMostOnce self.old.looks self.new.looks }
         ensures seats { HasSameSeats self.old self.new }
     {
         let found = peek(&mut self.reader, call);

@@ -4,6 +4,7 @@ ghost use Rattle.std.specs.Prelude.{◌≡◌, IfOk, MatchOption, OnErr, OnOk};
 ghost use Rattle.table.specs.declared.operations.Call.{Call};
 ghost use Rattle.proto.specs.Turns.{Outcome, Refused};
 ghost use Rattle.faces.specs.Courses.{IsLater};
+ghost use Rattle.faces.specs.Readers.{HasLookedAtMostOnce};
 ghost use Rattle.serving.specs.Connections.{HasOutcome, MayRefuse};
 ghost use Rattle.serving.specs.Serving.{CameTo};
 ghost use Rattle.serving.specs.Wanted.{IsAsking};
@@ -92,13 +93,14 @@ impl Model for Talk {
 
 impl Talk {
     ghost use Rattle.std.specs.Prelude.{◌≡◌, ◌≤◌, ◌↔◌, ◌++◌, ℕ, List, [], true, take, drop, length};
-    ghost use Rattle.std.specs.Prelude.{OnOk, OnErr, IfOk, IsErr, IfSome, IsTrue, MatchBool, MatchOption};
+    ghost use Rattle.std.specs.Prelude.{OnOk, OnErr, IfOk, IsErr, IfSome, IsTrue};
+    ghost use Rattle.std.specs.Prelude.{MatchBool, MatchOption, MatchResult};
     ghost use Rattle.faces.specs.Courses.{IsLater};
     ghost use Rattle.serving.specs.Connections.{IsBegun};
     ghost use Rattle.serving.specs.Serving.{AreAnswered};
     ghost use Rattle.seats.specs.SeatPools.{HasSameReader};
-    ghost use Rattle.seats.specs.Talks.{HasGone, HasGoneByLooks, HasLooked, HoldsStore, IsFurther, IsReplied};
-    ghost use Rattle.seats.specs.Talks.{LeavesCall, StandsAt, begun, fed};
+    ghost use Rattle.seats.specs.Talks.{HasGone, HasGoneByLooks, HasLooked, HasLookedOn, HoldsStore, IsFurther};
+    ghost use Rattle.seats.specs.Talks.{IsReplied, LeavesCall, StandsAt, begun, fed};
     ghost use Rattle.seats.specs.declared.talks.Standing.TheVariants.{Idle, Reading, Over};
 
     /// The talk of a connection of which nothing was read. It allocates nothing.
@@ -166,10 +168,12 @@ impl Talk {
         ensures first { self.new.first ≡ self.old.first }
         ensures further { IsFurther self.old.connected self.new.connected }
         ensures went { IfOk result (λ went. HasGone went self.new) }
-        // No reply of a look was kept: unless it leaves a call that waits, each reply to its calls is of a look of its
-        // own, at the face that stood.
-        ensures looked { IfOk result
-            (λ went. HasGoneByLooks went self.old.connected self.new.connected pool.old pool.new) }
+        // No reply of a look was kept, and no look is forgotten: each reply to its calls is of a look of its own, at
+        // the face that stood. Beside these at most one look was made, for the call that it leaves waiting, or at which
+        // a fault came.
+        ensures looked { MatchResult result
+            (λ went. HasGoneByLooks went self.old.connected self.new.connected pool.old pool.new)
+            (λ _. HasLookedOn self.old.connected self.new.connected pool.old pool.new) }
         ensures over { OnErr result (self.new.standing ≡ Over) }
         ensures spent { self.old.standing ≡ Over → IsErr result × (self.new ≡ self.old) × (pool.new ≡ pool.old) }
     {
@@ -196,6 +200,7 @@ impl Talk {
         ensures later { IsLater pool.old.seen pool.new.seen }
         ensures first { self.new.first ≡ self.old.first }
         ensures further { IsFurther self.old.connected self.new.connected }
+        ensures looks { pool.new.looks ≡ pool.old.looks }
         ensures heard { IfOk result (λ heard. MatchBool heard (self.new.standing ≡ Idle) (self.new ≡ self.old)) }
         ensures over { OnErr result (self.new.standing ≡ Over) }
     {
@@ -268,8 +273,9 @@ impl Talk {
         ensures first { self.new.first ≡ self.old.first }
         ensures further { IsFurther self.old.connected self.new.connected }
         ensures went { IfOk result (λ went. HasGone went self.new) }
-        ensures looked { IfOk result
-            (λ went. HasGoneByLooks went self.old.connected self.new.connected pool.old pool.new) }
+        ensures looked { MatchResult result
+            (λ went. HasGoneByLooks went self.old.connected self.new.connected pool.old pool.new)
+            (λ _. HasLookedOn self.old.connected self.new.connected pool.old pool.new) }
         ensures over { OnErr result (self.new.standing ≡ Over) }
     {
         for _ in 0..MOST_CALLS {
@@ -291,8 +297,9 @@ impl Talk {
         ensures first { self.new.first ≡ self.old.first }
         ensures further { IsFurther self.old.connected self.new.connected }
         ensures went { IfOk result (λ went. HasGone went self.new) }
-        ensures looked { IfOk result
-            (λ went. HasGoneByLooks went self.old.connected self.new.connected pool.old pool.new) }
+        ensures looked { MatchResult result
+            (λ went. HasGoneByLooks went self.old.connected self.new.connected pool.old pool.new)
+            (λ _. HasLookedOn self.old.connected self.new.connected pool.old pool.new) }
         ensures over { OnErr result (self.new.standing ≡ Over) }
     {
         refuse(&mut self.connection, &mut self.standing)?;
@@ -309,9 +316,10 @@ impl Talk {
         ensures further { IsFurther self.old.connected self.new.connected }
         ensures went { IfOk result
             (λ found. MatchOption found (self.new.standing ≡ Idle) (λ went. HasGone went self.new)) }
-        ensures looked { IfOk result (λ found. MatchOption found
-            (HasLooked self.old.connected self.new.connected pool.old pool.new)
-            (λ went. HasGoneByLooks went self.old.connected self.new.connected pool.old pool.new)) }
+        ensures looked { MatchResult result
+            (λ found. MatchOption found (HasLooked self.old.connected self.new.connected pool.old pool.new)
+            (λ went. HasGoneByLooks went self.old.connected self.new.connected pool.old pool.new))
+            (λ _. HasLookedOn self.old.connected self.new.connected pool.old pool.new) }
         ensures over { OnErr result (self.new.standing ≡ Over) }
     {
         match self.connection.next() {
@@ -401,7 +409,8 @@ fn ask(
     ensures looked { IfOk result (λ found. MatchOption found
         ((outcome : Outcome) × HasOutcome outcome connection.old connection.new ×
         HasLookedFor call outcome pool.old pool.new)
-        (λ went. went ≡ Seat)) }
+        (λ went. (went ≡ Seat) × (connection.new ≡ connection.old))) }
+    ensures once { HasLookedAtMostOnce pool.old.looks pool.new.looks }
     ensures err { OnErr result ((standing.new ≡ Over) × (seen.new ≡ seen.old) ×
         (connection.new ≡ record connection.old { failed = connection.new.failed })) }
 {

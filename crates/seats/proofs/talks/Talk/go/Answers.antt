@@ -1,6 +1,6 @@
 use Rattle.std.proofs.Common.{◌∙◌, ap, refl, sym}
 use Rattle.seats.specs.Talks.{Talking}
-use Rattle.seats.proofs.Looked.{gone_sent, looked_same}
+use Rattle.seats.proofs.Looked.{gone_sent, looked_on, looked_same}
 use Rattle.seats.proofs.TalkLaws.{further_as, further_same}
 use Rattle.seats.proofs.talks.Talk.go.Goals as goal
 
@@ -24,4 +24,15 @@ pub returns-in-Reading-clause-looked : goal.returns-in-Reading-clause-looked
 returns-in-Reading-clause-looked g c = looked_same _ _ _ refl refl
 
 pub returns-else-is_refused-clause-looked : goal.returns-else-is_refused-clause-looked
-returns-else-is_refused-clause-looked g c = gone_sent c.send.result _ _ _ _ c.send.ensures.waits
+returns-else-is_refused-clause-looked g c =
+    let t = c.args.self.now in
+    let p = c.args.pool.now in
+    gone_sent c.send.result t.connected t.connected c.send.new.self.connected p p c.send.new.pool c.send.ensures.waits
+    (looked_on t.connected t.connected p p (looked_same t.connected t.connected p refl refl))
+    (ap (λ (x : Talking). x.connected) c.send.ensures.same) c.send.ensures.pool.1
+
+pub returns-in-Sent-clause-looked : goal.returns-in-Sent-clause-looked
+returns-in-Sent-clause-looked g c = looked_on _ _ _ _ (looked_same _ _ _ refl refl)
+
+pub returns-in-Over-clause-looked : goal.returns-in-Over-clause-looked
+returns-in-Over-clause-looked g c = looked_on _ _ _ _ (looked_same _ _ _ refl refl)

@@ -1,6 +1,7 @@
-use Rattle.std.proofs.Common.{◌∙◌, ap, refl}
+use Rattle.std.proofs.Common.{◌∙◌, ap, refl, rules}
+use Rattle.std.proofs.lemmas.Result.{MatchResult-from_err}
 use Rattle.seats.specs.Talks.{Talking}
-use Rattle.seats.proofs.Looked.{gone_sent, gone_then, looked_same, looked_then}
+use Rattle.seats.proofs.Looked.{gone_sent, gone_then, looked_on_then, looked_same, looked_then}
 use Rattle.seats.proofs.Seated.{later_same, later_then}
 use Rattle.seats.proofs.TalkLaws.{further_as, further_same, further_then}
 use Rattle.seats.proofs.talks.Talk.go_on.Goals as goal
@@ -34,7 +35,16 @@ returns-in-Some-Seat-clause-further g c =
     (further_as _ _ (ap (λ (t : Talking). t.connected) c.send.ensures.same))
 
 pub returns-in-Some-Seat-clause-looked : goal.returns-in-Some-Seat-clause-looked
-returns-in-Some-Seat-clause-looked g c = gone_sent c.send.result _ _ _ _ c.send.ensures.waits
+returns-in-Some-Seat-clause-looked g c =
+    let found = rw (c.in-Some-Seat.is, c.in-Some-Seat.field-0-is) at c.in_ok-step.ensures.looked in
+    gone_sent c.send.result _ c.step.new.self.connected c.send.new.self.connected _ c.step.new.pool c.send.new.pool
+    c.send.ensures.waits (looked_on_then _ _ _ _ _ _ c.loop.invariant.looked found)
+    (ap (λ (t : Talking). t.connected) c.send.ensures.same) c.send.ensures.pool.1
+
+pub returns-in_err-step-clause-looked : goal.returns-in_err-step-clause-looked
+returns-in_err-step-clause-looked g c =
+    MatchResult-from_err c.from_residual.result _ _ (search rules)
+    (λ e. looked_on_then _ _ _ _ _ _ c.loop.invariant.looked c.in_err-step.ensures.looked)
 
 pub returns-in-Some : goal.returns-in-Some
 returns-in-Some g c =

@@ -1,4 +1,4 @@
-use Rattle.std.proofs.Common.{◌∙◌, true, ap, sym, subst}
+use Rattle.std.proofs.Common.{◌∙◌, true, ap, refl, sym, subst}
 use Rattle.proto.specs.Turns.{Replied}
 use Rattle.faces.specs.Courses.{IsLater}
 use Rattle.seats.specs.Talks.{IsTalk, Talking}
@@ -14,6 +14,7 @@ returns-in_default g c =
       later = later_same _;
       first = ap (λ (t : Talking). t.first) c.self.view_is;
       further = as_shown c.args.self.now _ _ (ap (λ (t : Talking). t.connected) c.self.view_is) (further_same _);
+      looks = refl;
       heard = c.self.view_is;
       over = tt;
     }

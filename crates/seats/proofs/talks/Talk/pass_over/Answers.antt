@@ -1,6 +1,7 @@
-use Rattle.std.proofs.Common.{ap, subst, sym}
+use Rattle.std.proofs.Common.{ap, rules, subst, sym}
+use Rattle.std.proofs.lemmas.Result.{MatchResult-from_err}
 use Rattle.seats.specs.Talks.{HoldsStore, Talking}
-use Rattle.seats.proofs.Looked.{refused_then}
+use Rattle.seats.proofs.Looked.{failed_same, refused_then}
 use Rattle.seats.proofs.TalkLaws.{as_shown, further_failed, refused_talk}
 use Rattle.seats.proofs.talks.Talk.pass_over.Goals as goal
 
@@ -9,6 +10,13 @@ returns-in_err-refuse-clause-further g c =
     as_shown c.args.self.now c.self.inside.connection c.refuse.new.connection
     (ap (λ (t : Talking). t.connected) c.self.view_is)
     (further_failed c.self.inside.connection c.refuse.new.connection c.refuse.new.connection.failed
+    c.in_err-refuse.ensures.err.1)
+
+pub returns-in_err-refuse-clause-looked : goal.returns-in_err-refuse-clause-looked
+returns-in_err-refuse-clause-looked g c =
+    MatchResult-from_err c.from_residual.result _ _ (search rules)
+    (λ e. failed_same c.args.self.now.connected c.self.inside.connection c.refuse.new.connection
+    c.refuse.new.connection.failed c.args.pool.now (ap (λ (t : Talking). t.connected) c.self.view_is)
     c.in_err-refuse.ensures.err.1)
 
 pub invariant_of-self-2 : goal.invariant_of-self-2

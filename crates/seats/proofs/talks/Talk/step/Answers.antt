@@ -1,6 +1,6 @@
 use Rattle.std.proofs.Common.{ap}
 use Rattle.seats.specs.Talks.{Talking}
-use Rattle.seats.proofs.Looked.{asked_looked, asked_same}
+use Rattle.seats.proofs.Looked.{asked_looked, asked_same, looked_on}
 use Rattle.seats.proofs.TalkLaws.{as_shown, asked_further, asked_talk, further_view}
 use Rattle.seats.proofs.talks.Talk.step.Goals as goal
 
@@ -40,10 +40,10 @@ returns-in-Err-clause-further c =
 pub returns-in-Ok-Call-clause-looked : goal.returns-in-Ok-Call-clause-looked
 returns-in-Ok-Call-clause-looked c =
     let found = rw c.in-Ok-Call.field-0-is at c.in-Ok-Call.ensures in
-    asked_looked c.ask.result c.args.self.now.connected c.self.inside.connection c.next.new.self c.ask.new.connection
+    asked_looked c.args.self.now.connected c.self.inside.connection c.next.new.self c.ask.new.connection
     (record { target = c.in-Ok-Call.target; op = c.in-Ok-Call.op }) c.args.pool.now c.ask.new.pool
     (ap (λ (t : Talking). t.connected) c.self.view_is) c.next.ensures.looked found.wanted.0.waiting
-    c.ask.ensures.looked
+    c.ask.ensures.once _ _ c.ask.result c.ask.ensures.looked c.ask.ensures.err
 
 pub returns-in-Ok-Write-clause-looked : goal.returns-in-Ok-Write-clause-looked
 returns-in-Ok-Write-clause-looked c =
@@ -56,3 +56,7 @@ returns-in-Ok-Read-clause-looked c =
 pub returns-in-Ok-End-clause-looked : goal.returns-in-Ok-End-clause-looked
 returns-in-Ok-End-clause-looked c =
     asked_same _ _ _ _ (ap (λ (t : Talking). t.connected) c.self.view_is) c.next.ensures.looked
+
+pub returns-in-Err-clause-looked : goal.returns-in-Err-clause-looked
+returns-in-Err-clause-looked c =
+    looked_on _ _ _ _ (asked_same _ _ _ _ (ap (λ (t : Talking). t.connected) c.self.view_is) c.next.ensures.looked)
