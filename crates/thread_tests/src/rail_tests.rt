@@ -2,14 +2,14 @@
 ghost use Rattle.std.specs.Prelude.{◌≡◌};
 
 pub(crate) mod running;
+mod waiting;
 
 use self::running::{
-    News, Step, all_go, all_go_with, brings, first_of, first_with, go_on, is_closed, key, submits,
-    turns,
+    News, Step, all_go, all_go_with, brings, first_of, go_on, is_closed, key, submits, turns,
 };
 use node::{Look, Peer};
 use rail::{
-    Inlet, Links, PortSet, Published, RailFault, Reader, Room, Server, Stand, Turn, Weight, Worker,
+    Links, PortSet, Published, RailFault, Reader, Room, Server, Stand, Turn, Weight, Worker,
 };
 use std::alloc::{AllocError, Global};
 use std::sync::Wait;
@@ -155,8 +155,8 @@ fn finds_none(reader: &mut Reader, key: &Key) -> bool
     }
 }
 
-// Waits until a flag is set, for ten seconds at most.
-fn is_set_soon<R: Clock>(clock: &R, flag: &AtomicU64) -> bool {
+/// Waits until a flag is set, for ten seconds at most.
+pub(crate) fn is_set_soon<R: Clock>(clock: &R, flag: &AtomicU64) -> bool {
     for _ in 0..10_000 {
         if flag.load(Ordering::SeqCst) == 1 {
             return true;
@@ -276,117 +276,6 @@ fn reader_beside_a_waiting_worker(rt: HostRuntime) -> Result<(), Fail> {
     Ok(())
 }
 
-// More calls than a seat has room for replies.
-const CALLS: u64 = 70;
-
-// Sends n calls, and takes no reply.
-fn submits_all<R: Wait>(rt: &R, alloc: Global, stands: &mut Vec<Stand>) -> Result<bool, RailFault> {
-    let mut sent = true;
-    for _ in 0..CALLS {
-        sent &= submits(rt, alloc, stands)?;
-    }
-    Ok(sent)
-}
-
-// Takes as many turns, and counts them.
-fn turns_for_all<R: Wait + Drop>(worker: &mut Worker<R>, taken: &AtomicU64) -> bool {
-    for _ in 0..CALLS {
-        if turns(worker, Turn::Went) != Ok(true) {
-            return false;
-        }
-        taken.fetch_add(1, Ordering::SeqCst);
-    }
-    true
-}
-
-// Takes a reply, if one stands at the last stand.
-fn has_reply<R: Wait>(rt: &R, stands: &mut Vec<Stand>) -> Result<bool, RailFault> {
-    let Some(stand) = stands.last_mut() else {
-        return Err(RailFault::NoReader);
-    };
-    match stand.seat.reply_if_any(rt) {
-        Ok(Some((reply, told))) => {
-            drop(reply);
-            drop(told);
-            Ok(true)
-        }
-        Ok(None) => Ok(false),
-        Err(fault) => Err(fault),
-    }
-}
-
-// Takes a reply, for which it waits ten seconds at most.
-fn has_reply_soon<R: Wait + Clock>(rt: &R, stands: &mut Vec<Stand>) -> bool {
-    for _ in 0..10_000 {
-        match has_reply(rt, stands) {
-            Ok(true) => return true,
-            Ok(false) => thread::sleep(rt, Duration::from_millis(1)),
-            Err(_) => return false,
-        }
-    }
-    false
-}
-
-// Waits until the worker stands still, since the seat has no room for its next reply, and then takes them all. Whether
-// the worker stood still before its last turn.
-fn takes_all_late<R: Wait + Clock>(rt: &R, stands: &mut Vec<Stand>, turns: &AtomicU64) -> bool {
-    let before = count_when_still(rt, turns);
-    let mut taken = true;
-    for _ in 0..CALLS {
-        taken &= has_reply_soon(rt, stands);
-    }
-    taken && before < CALLS
-}
-
-// Waits until a count has risen, and then stays so for a while; for ten seconds at most. How high it is.
-fn count_when_still<R: Clock>(clock: &R, count: &AtomicU64) -> u64 {
-    let mut before = 0;
-    for _ in 0..100 {
-        thread::sleep(clock, Duration::from_millis(100));
-        let now = count.load(Ordering::SeqCst);
-        if now == before && now > 0 {
-            return now;
-        }
-        before = now;
-    }
-    before
-}
-
-// Whether a worker waits with a reply for which the seat has no room, and drops none.
-fn waits_for_room<R: Wait + Threads + Clock + Send + Sync + Drop>(
-    rt: &R,
-    worker: &mut Worker<R>,
-    stands: &mut Vec<Stand>,
-) -> bool {
-    let turns = AtomicU64::new(0);
-    let (went, taken) = thread::join(
-        rt,
-        || turns_for_all(worker, &turns),
-        || takes_all_late(rt, stands, &turns),
-    );
-    went && taken
-}
-
-// Whether that is so of the replies to as many calls.
-fn replies_wait<R: Wait + Threads + Clock + Send + Sync + Drop + Copy>(
-    rt: R,
-    alloc: Global,
-) -> Result<bool, RailFault> {
-    let mut server = first_of(rt, alloc, 1, 1)?;
-    let waited = match submits_all(&rt, alloc, &mut server.stands) {
-        Ok(true) => Ok(waits_for_room(&rt, &mut server.worker, &mut server.stands)),
-        refused => refused,
-    };
-    drop(server);
-    waited
-}
-
-#[test]
-fn replies_without_room_wait(rt: HostRuntime) -> Result<(), Fail> {
-    assert!(rt; replies_wait(rt, rt.alloc())?);
-    Ok(())
-}
-
 // An inbox with room for one message takes the next one as soon as the worker has taken it.
 #[test]
 fn inbox_of_one_message(rt: HostRuntime) -> Result<(), Fail> {
@@ -405,56 +294,5 @@ fn inbox_of_one_message(rt: HostRuntime) -> Result<(), Fail> {
         Step::Turns(Turn::End),
     ];
     assert!(rt; all_go_with(rt, rt.alloc(), 1, 2, Room::least(), &steps)?);
-    Ok(())
-}
-
-// Brings as many messages, and counts them.
-fn brings_all<R: Wait>(rt: &R, inlets: &mut Vec<Inlet>, brought: &AtomicU64) -> bool {
-    for _ in 0..CALLS {
-        if !brings(rt, inlets, News::Ack(0)) {
-            return false;
-        }
-        brought.fetch_add(1, Ordering::SeqCst);
-    }
-    true
-}
-
-// Waits until nothing more is brought, since the inbox has no room, and then takes a turn for each message. Whether one
-// message was brought before the first turn.
-fn turns_late<R: Wait + Clock + Drop>(rt: &R, worker: &mut Worker<R>, brought: &AtomicU64) -> bool {
-    let before = count_when_still(rt, brought);
-    let taken = AtomicU64::new(0);
-    turns_for_all(worker, &taken) && before == 1
-}
-
-// Whether an inlet waits with a message for which the inbox has no room, and is woken for each that is taken.
-fn waits_for_turns<R: Wait + Threads + Clock + Send + Sync + Drop>(
-    rt: &R,
-    worker: &mut Worker<R>,
-    inlets: &mut Vec<Inlet>,
-) -> bool {
-    let brought = AtomicU64::new(0);
-    let (sent, taken) = thread::join(
-        rt,
-        || brings_all(rt, inlets, &brought),
-        || turns_late(rt, worker, &brought),
-    );
-    sent && taken
-}
-
-// Whether that is so of an inbox with room for one message.
-fn messages_wait<R: Wait + Threads + Clock + Send + Sync + Drop + Copy>(
-    rt: R,
-    alloc: Global,
-) -> Result<bool, RailFault> {
-    let mut server = first_with(rt, alloc, 2, 1, Room::least())?;
-    let waited = waits_for_turns(&rt, &mut server.worker, &mut server.inlets);
-    drop(server);
-    Ok(waited)
-}
-
-#[test]
-fn messages_without_room_wait(rt: HostRuntime) -> Result<(), Fail> {
-    assert!(rt; messages_wait(rt, rt.alloc())?);
     Ok(())
 }
