@@ -19,10 +19,12 @@ use Rattle.node.specs.Numbering.{open_update, without_update, left_open_by, repl
 use Rattle.node.specs.Reading.{open_read, without_read}
 use Rattle.node.specs.Replies.{replies_at}
 
+-- a first element counts one if it passes the test, and the others count as without it
 pub count-cons : {X : Type 0} (test : X → Bool) (x : X) (xs : List X)
     → count_by test (x ∷ xs) ≡ cond (test x) 1 0 + count_by test xs
 count-cons test x xs = sum_by-cons (λ y. cond (test y) 1 0) x xs
 
+-- two joined lists count what each of them counts
 pub count-append : {X : Type 0} (test : X → Bool) (xs ys : List X)
     → count_by test (xs ++ ys) ≡ count_by test xs + count_by test ys
 count-append test xs ys = sum_by-append (λ y. cond (test y) 1 0) xs ys
@@ -45,13 +47,16 @@ counted true false = refl
 counted false true = refl
 counted false false = refl
 
+-- a reply counts at a port exactly if it is given there and is of the kind asked for
 pub one-reply : (port : ℕ) (reads : Bool) (p : ℕ) (reply : Reply)
     → replies_at port reads (reply_at p reply) ≡ cond (beq reads (is_value reply)) (cond (p == port) 1 0) 0
 one-reply port reads p reply = counted (p == port) (beq reads (is_value reply))
 
+-- a shown item never counts as the reply to an update
 pub no-update : (port p : ℕ) (item : Option Item) → replies_at port false (reply_at p (Value item)) ≡ 0
 no-update port p item = one-reply port false p (Value item)
 
+-- a shown item counts as the reply to a read, at its own port
 pub one-read : (port p : ℕ) (item : Option Item) → replies_at port true (reply_at p (Value item)) ≡ cond (p == port) 1 0
 one-read port p item = one-reply port true p (Value item)
 
@@ -107,6 +112,7 @@ module _ (port : ℕ) where
   no_item reply (Some u) h =
       one-reply port true u.port reply ∙ ap (λ k. cond (beq true k) (cond (u.port == port) 1 0) 0) h
 
+  -- the reply to an entry is none to a read
   pub no_read_closed : (own : ℕ) (us : List OpenUpdate) (e : LogEntry)
       → is_value e.reply ≡ false
       → replies_at port true (reply_to own us e) ≡ 0

@@ -128,6 +128,7 @@ pub record AreParts (target : Target) (number : ℕ) (reply : Reply) (change : C
   pub cleared : is_clear change ≡ is_all target
   pub flushed : is_flushed reply ≡ is_all target
 
+-- what is decided on an update that fits may be the reply and the change of an entry
 pub entry_parts : (item : Option Item) (made : Call) (number : ℕ) (reply : Reply) (change : Change)
     → ◌≡◌ {A = Decision} (reply, change) (decision item made.op number)
     → IsCall made

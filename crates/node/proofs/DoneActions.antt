@@ -19,6 +19,7 @@ use Rattle.node.proofs.Growth.{is_trim, Grows, grows_self, grows_then, grows_act
 
 -- ---- a list behind a list
 
+-- two lists of actions, one after the other, do what the first and then the second does
 pub does-append : (s : ServerState) (xs ys : List Action) → does s (xs ++ ys) ≡ and_then (does s xs) (λ t. does t ys)
 unfolding does
 does-append s [] ys = refl
@@ -30,6 +31,7 @@ does-append s (a ∷ xs) ys =
 
 -- ---- what is left of a cause allows no more than the cause
 
+-- an input that an action leaves is the one that came
 pub came_left : (c : Cause) (input : Input) → left c ≡ Some input → c ≡ Some input
 came_left None input h = h
 came_left (Some (Called port call)) input h = absurd cc
@@ -74,6 +76,7 @@ may_left c s j (Ack n) h = h
 may_left c s j (Query ask key) h = h
 may_left c s j (Answer ask n) h = (h.0, h.1, h.2, h.3, h.4, came_left c _ h.5, h.6)
 
+-- an action that is allowed by what is left of an input is allowed by the whole input
 pub guard_left : (c : Cause) (s : ServerState) (a : Action) → Guard (left c) s a → Guard c s a
 guard_left c s (Widen v) h =
     (elim h.0 [ inl g ↦ inl (g.0, g.1, came_left c _ g.2, g.3) | inr g ↦ inr (g.0, came_left c _ g.1, g.2) ], h.1, h.2)
@@ -134,9 +137,11 @@ grown_does (a ∷ later) c s g =
 pub sound_after : (c : Cause) (s : ServerState) (a : Outcome) → IsDone c s a → IsSound a.state
 sound_after c s a h = subst (λ (r : Outcome). IsSound r.state) (sym h.same) (guarded_end h.actions c s h.guarded)
 
+-- a rule that is a list of guarded actions leaves a server its id and the count of servers
 pub seat_after : (c : Cause) (s : ServerState) (a : Outcome) → IsDone c s a → IsSeatOf s a.state
 seat_after c s a h = subst (λ (r : Outcome). IsSeatOf s r.state) (sym h.same) (seat_does h.actions s)
 
+-- what a server knows and has numbered only grows by a rule that is a list of guarded actions
 pub grown_after : (c : Cause) (s : ServerState) (a : Outcome) → IsDone c s a → Grown s a.state
 grown_after c s a h = subst (λ (r : Outcome). Grown s r.state) (sym h.same) (grown_does h.actions c s h.guarded)
 
@@ -194,6 +199,7 @@ pub record IsRule (c : Cause) (s : ServerState) (d : Due) (a : Outcome) (P : Due
   pub after : P (due_in_the_end d s done.actions)
   pub grows : Grows s a.state
 
+-- an outcome that equals a rule's is that rule
 pub rule_as : (c : Cause) (s : ServerState) (d : Due) (a b : Outcome) (P : Due → Type 0)
     → b ≡ a
     → IsRule c s d a P
@@ -205,12 +211,14 @@ rule_as c s d a b P e h = record {
   grows = subst (λ (r : Outcome). Grows s r.state) (sym e) h.grows;
 }
 
+-- what follows from what P says of the things due holds after the rule as well
 pub rule_so : (c : Cause) (s : ServerState) (d : Due) (a : Outcome) (P Q : Due → Type 0)
     → ((e : Due) → P e → Q e)
     → IsRule c s d a P
     → IsRule c s d a Q
 rule_so c s d a P Q f h = record { done = h.done; turns = h.turns; after = f _ h.after; grows = h.grows }
 
+-- who does nothing does an empty list of actions
 pub rule_silent : (c : Cause) (s : ServerState) (d : Due) (P : Due → Type 0)
     → IsSound s
     → P d
@@ -223,6 +231,7 @@ rule_silent c s d P h p = record {
   grows = grows_self s;
 }
 
+-- one guarded action whose turn has come is a rule, unless it moves the floor
 pub rule_one : (c : Cause) (s : ServerState) (d : Due) (a : Action) (P : Due → Type 0)
     → is_trim a ≡ false
     → IsSound s

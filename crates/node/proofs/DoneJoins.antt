@@ -730,6 +730,7 @@ pub record IsJoined (s : ServerState) (v : View) (e : Due) : Type 0 where
   pub paid : IsPaid s e
   pub knows : (k : ℕ) → has v k ≡ true → has s.view k ≡ true
 
+-- a join of the view that an input brings is a list of actions in turn, and leaves nothing to do
 pub rule_join : (c : Cause) (s : ServerState) (v : View)
     → IsSound s
     → IsPaid s (nothing_due s)

@@ -72,12 +72,14 @@ rule_settling (e ∷ es) c t d h f due =
     (λ k. rule_settling es (left c) (act t (Settle e)).state (record d { unsettled = but_first d.unsettled }) k
     (λ x i. f x (suc i.0, i.1)) (ap (λ (xs : List LogEntry). but_first xs) due))
 
+-- servers with the same view put out the same message
 pub message_same : (s t : ServerState) (to : Option ℕ) (body : Body)
     → t.view ≡ s.view
     → message_to t to body ≡ message_to s to body
 message_same s t None body e = refl
 message_same s t (Some j) body e = rw e refl
 
+-- a rise to a number that may be reached is a list of actions in turn
 pub rule_rise : (c : Cause) (s : ServerState) (d : Due) (n : ℕ)
     → IsSound s
     → s.store.acked < n
@@ -116,21 +118,25 @@ rule_rise c s d n h low high reached due =
 
 -- ---- appending
 
+-- an appended entry raises the last number by one
 pub last_appended : (s : ServerState) (e : LogEntry) → last_number (appended s e).store ≡ last_number s.store + 1
 unfolding appended
 last_appended s e = let l : length (s.store.rest ++ e ∷ []) ≡ length s.store.rest + 1 =
     length-append s.store.rest (e ∷ []) in omega (arith, l)
 
+-- after an entry the greatest id seen of its origin is its own, if that is greater
 pub seen_same : (s : ServerState) (e : LogEntry)
     → e.origin < length s.seen
     → seen_of (appended s e) e.origin ≡ max (seen_of s e.origin) e.id
 unfolding appended
 seen_same s e l = get_or-set_same s.seen e.origin (max (seen_of s e.origin) e.id) 0 l
 
+-- an entry leaves what was seen of other origins as it was
 pub seen_other : (s : ServerState) (e : LogEntry) (o : ℕ) → o ≢ e.origin → seen_of (appended s e) o ≡ seen_of s o
 unfolding appended
 seen_other s e o other = get_or-set_other s.seen e.origin o _ 0 other
 
+-- no greatest id seen falls by an entry
 pub seen_grows : (s : ServerState) (e : LogEntry) (o : ℕ)
     → length s.seen ≡ 16
     → o < 16
@@ -162,6 +168,7 @@ placed_appended s e =
 
 -- ---- which updates may be taken
 
+-- an update with another id than its origin's next one isn't taken
 pub not_taken : (s : ServerState) (origin id : ℕ) → id ≢ seen_of s origin + 1 → is_taken s origin id ≡ false
 not_taken s origin id other = rw (ne_eqb id (seen_of s origin + 1) other) refl
 
@@ -170,11 +177,13 @@ pub record MayTake (s : ServerState) (origin id : ℕ) : Type 0 where
   pub next : id ≡ seen_of s origin + 1
   pub room : last_number s.store < most
 
+-- who takes an update knows it to be the origin's next one, and has a number left
 pub may_take : (s : ServerState) (origin id : ℕ) → is_taken s origin id ≡ true → MayTake s origin id
 may_take s origin id t =
     let parts = and_parts (id == seen_of s origin + 1) (nat_lt (last_number s.store) most) t in
     record { next = eqb-true _ _ parts.0; room = ltb-true _ _ parts.1 }
 
+-- the origin's next update is taken as long as a number is left
 pub taken_from : (s : ServerState) (origin id : ℕ)
     → id ≡ seen_of s origin + 1
     → last_number s.store < most
@@ -213,6 +222,7 @@ pub record IsClear (s : ServerState) (d : Due) : Type 0 where
   pub asked : is_tail s ≡ false → d.unasked ≡ []
   pub last : is_tail s ≡ true → (s.store.acked ≡ last_number s.store) × (s.asks ≡ [])
 
+-- who has nothing left to do owes at most own updates to the head
 pub clear_paid : (s : ServerState) (d : Due) → IsPaid s d → IsClear s d
 clear_paid s d p =
     record { forwarded = p.forwarded; told = p.told; settled = p.settled; asked = p.asked; last = p.last }
@@ -362,6 +372,7 @@ taken_passed s e origin id =
     cond_both (is_tail s) _ _ (λ (a : Outcome). is_taken a.state origin id ≡ is_taken s origin id) (λ t. refl)
     (λ f. refl)
 
+-- the head's taking of an update is a list of actions in turn
 pub rule_take_update : (c : Cause) (s : ServerState) (d : Due) (origin id : ℕ) (call : Call)
     → IsSound s
     → IsClear s d
@@ -402,11 +413,13 @@ rule_take_update c s d origin id call h p low wanted fit is first own after befo
 
 -- ---- the inputs and messages of updates
 
+-- an own update call that has entered is one of the open ones
 pub entered_in : (s : ServerState) (port : ℕ) (call : Call)
     → In (record { id = s.next_id; port = port; call = call }) (entered s port call).pend
 unfolding entered
 entered_in s port call = (length s.pend, get_last s.pend (record { id = s.next_id; port = port; call = call }))
 
+-- nothing but own updates becomes due by an own call that enters
 pub clear_entered : (s : ServerState) (d : Due) (port : ℕ) (call : Call) (us : List OpenUpdate)
     → IsClear s d
     → IsClear (entered s port call) (record d { unsent = us })
@@ -414,12 +427,14 @@ unfolding entered
 clear_entered s d port call us p =
     record { forwarded = p.forwarded; told = p.told; settled = p.settled; asked = p.asked; last = p.last }
 
+-- nothing stands in an empty list
 pub nothing_in : {X : Type 0} (x : X) → In x [] → ⊥
 nothing_in x i = let none = i.1 in cc
 
 one_in : (u v : OpenUpdate) → In v (u ∷ []) → v ≡ u
 one_in u v i = elim (in_more u [] v i) [ inl same ↦ same | inr more ↦ absurd (let no = more.1 in cc) ]
 
+-- an own update that is due is taken at the head or sent there, and nothing is left to do
 pub rule_called : (c : Cause) (s : ServerState) (d : Due) (id port : ℕ) (call : Call)
     → IsSound s
     → IsClear s d
@@ -457,6 +472,7 @@ rule_called c s d id port call h p fit is waits only =
       },
     )))
 
+-- an own update call is a list of actions in turn: it enters if there is room, and is taken or sent
 pub rule_update : (s : ServerState) (d : Due) (port : ℕ) (call : Call)
     → IsSound s
     → IsPaid s d
@@ -475,6 +491,7 @@ rule_update s d port call h p none fit is =
     (λ f. rule_silent c s d _ h p)
 
 module _ (s : ServerState) (d : Due) (i : ℕ) (m : Peer) (h : IsSound s) (p : IsPaid s d) where
+  -- an update that comes to the head is taken by actions in turn, if it can be
   pub rule_receive_op : (id : ℕ) (call : Call)
       → m.body ≡ Op id call
       → i < 16
@@ -497,6 +514,7 @@ module _ (s : ServerState) (d : Due) (i : ℕ) (m : Peer) (h : IsSound s) (p : I
       (λ _. p.taken parts.0))))
       (λ f. rule_silent (Some (From i m)) s d _ h (p, λ t u. absurd (both_ways _ f (and_from _ _ t u))))
 
+  -- an entry that comes from the predecessor is appended and passed on by actions in turn, if it is the next
   pub rule_receive_forward : (e : LogEntry)
       → m.body ≡ Forward e
       → IsEntry e
@@ -524,6 +542,7 @@ module _ (s : ServerState) (d : Due) (i : ℕ) (m : Peer) (h : IsSound s) (p : I
       (λ f. rule_silent (Some (From i m)) s d _ h
       (p, λ from number. absurd (both_ways _ f (and_from _ _ (is_itself _ i from) (eq-eqb _ _ number)))))
 
+  -- a number that comes from the successor is reached by actions in turn
   pub rule_receive_ack : (n : ℕ)
       → m.body ≡ Ack n
       → ((k : ℕ) → has m.view k ≡ true → has s.view k ≡ true)

@@ -44,10 +44,12 @@ use Rattle.node.proofs.SoundActions.{sound_act}
 
 -- ---- own reads
 
+-- who finds a key dirty between two steps isn't the tail
 pub dirty_elsewhere : (s : ServerState) (key : List ℕ) → IsSettled s → is_clean s.store key ≡ false → is_tail s ≡ false
 dirty_elsewhere s key settled dirty =
     false_from_ne_true (is_tail s) (λ t. both_ways _ dirty (clean_at_last s key (settled t).0))
 
+-- a read that has just asked the tail is one of the open ones
 pub asked_in : (s : ServerState) (port : ℕ) (key : List ℕ)
     → In (record { ask = s.next_ask; port = port; key = key; mark = s.store.acked }) (asked s port key).asks
 unfolding asked
@@ -238,6 +240,7 @@ module _ (s : ServerState) (d : Due) (i : ℕ) (m : Peer) (h : IsSound s) (p : I
       (rule_finished n r (subst (λ (x : ℕ). m.body ≡ Answer x n) (sym q.0) is) from
       (subst (λ (x : ℕ). open_read s.asks x ≡ Some r) (sym q.0) found) q.1)
 
+  -- an answer that comes from the tail closes its read by actions in turn, if it is in range
   pub rule_receive_answer : (ask n : ℕ)
       → m.body ≡ Answer ask n
       → IsRule (Some (From i m)) s d (receive_answer s i ask n)
@@ -274,6 +277,7 @@ pub record Hears (s : ServerState) (i : ℕ) (v : View) : Type 0 where
   pub below : is_below v s.count ≡ true
   pub outside : has v s.id ≡ false
 
+-- a message that passes the test is of another server of the chain, and its view doesn't name this one
 pub heard : (s : ServerState) (i : ℕ) (v : View) → is_heard s i v ≡ true → Hears s i v
 heard s i v h =
     let last_part = and_parts (nat_lt i s.count && not (i == s.id) && is_below v s.count) (not (has v s.id)) h in
@@ -307,6 +311,7 @@ rule_receive s d i m (Query ask key) is h p low other lives fit valid joined =
     rule_receive_query s d i m h p ask key is low lives
 rule_receive s d i m (Answer ask n) is h p low other lives fit valid joined = rule_receive_answer s d i m h p ask n is
 
+-- what a message's body does, once its view was joined, is a list of actions in turn that take it in
 pub rule_received : (s : ServerState) (d : Due) (i : ℕ) (m : Peer)
     → IsSound s
     → IsPaid s d
@@ -396,6 +401,7 @@ rule_gone s j h settled =
           (both_ways _ f (and_from _ _ (lt-ltb _ _ low) (not_from_false _ (ne_eqb j s.id other)))),
     ))
 
+-- what an input does, before the floor follows, is a list of actions in turn that heed it
 pub rule_taken_in : (s : ServerState) (input : Input)
     → IsSound s
     → IsSettled s
@@ -411,6 +417,7 @@ rule_taken_in s (Gone j) h settled fit valid = rule_gone s j h settled
 
 -- ---- the floor
 
+-- the floor may rise, and the last number stays
 pub last_trimmed : (s : ServerState) → IsSound s → last_number (trimmed s).store ≡ last_number s.store
 unfolding trimmed
 last_trimmed s h =
@@ -489,6 +496,7 @@ step_whole s input h fit valid =
       heeded = whole.after.1;
     }
 
+-- a step of a lawful server is a list of guarded actions
 pub step_done : (s : ServerState) (input : Input)
     → IsLawful s
     → IsInput input

@@ -88,10 +88,12 @@ by_all-append q (e ∷ es) fs s = by_all-append q es fs (slot_by q e s)
 
 -- ---- a version's item has its number as its unique
 
+-- an item, if there is one, has this number as its unique
 abbrev pub IsOwnItem : ℕ → Option Item → Type 0
 IsOwnItem number None = Unit {0}
 IsOwnItem number (Some item) = item.unique ≡ number
 
+-- a version's item, if it has one, has the version's number as its unique
 abbrev pub IsOwn : Option Version → Type 0
 IsOwn None = Unit {0}
 IsOwn (Some v) = IsOwnItem v.number v.item

@@ -35,6 +35,7 @@ use Rattle.node.specs.Faces.{face_step, face_steps, versions_of, face_of, peeked
 abbrev pub Slot : Type 0
 Slot = ℕ × Option Version
 
+-- what a face has of a key
 abbrev pub slot : FaceState → List ℕ → Slot
 slot f q = (f.cleared, maps.get f.versions q)
 
@@ -43,6 +44,7 @@ abbrev pub number_in : ℕ → Option Version → ℕ
 number_in cleared None = cleared
 number_in cleared (Some v) = v.number
 
+-- the item of a version, none if there is none
 abbrev pub item_in : Option Version → Option Item
 item_in None = None
 item_in (Some v) = v.item
@@ -52,9 +54,11 @@ abbrev pub slot_after : Bool → Bool → ℕ → Option Item → Slot → Slot
 slot_after clear set number item s =
     cond clear (number, None) (cond set (s.0, Some (record { number = number; item = item })) s)
 
+-- what an entry makes of what a face has of a key
 abbrev pub slot_by : List ℕ → LogEntry → Slot → Slot
 slot_by q e s = slot_after (is_clear e.change) (sets q e.target e.change) e.number (item_put e.change) s
 
+-- what these entries, one after another, make of what a face has of a key
 abbrev pub slot_by_all : List ℕ → List LogEntry → Slot → Slot
 slot_by_all q [] s = s
 slot_by_all q (e ∷ es) s = slot_by_all q es (slot_by q e s)
@@ -151,6 +155,7 @@ slot_step false true number item low s next h =
     record { ordered = omega (arith, h.ordered, h.below); below = omega arith }
 slot_step false false number item low s next h = record { ordered = h.ordered; below = omega (arith, h.below) }
 
+-- entries of a log keep it so: no version older than the last clear, and none above the log's end
 pub slot-is : (q : List ℕ) (low high : ℕ) (es : List LogEntry) (s : Slot)
     → high ≡ low + length es
     → IsLog low es
@@ -205,17 +210,21 @@ acked-all q (suc k) low acked (e ∷ es) s is log h =
 abbrev pub kept : ℕ → Option Version → Option Version
 kept n o = cond (not (is_removed n o)) o None
 
+-- a clear at an acknowledged number: one that is acknowledged is forgotten
 abbrev pub kept_clear : ℕ → ℕ → ℕ
 kept_clear n cleared = cond (nat_le cleared n) 0 cleared
 
+-- what is kept of a key at an acknowledged number
 abbrev pub slot_at : ℕ → Slot → Slot
 slot_at n s = (kept_clear n s.0, kept n s.1)
 
+-- a face that is brought to an acknowledged number keeps just that of each key
 pub slot-face_at : (n : ℕ) (f : FaceState) (q : List ℕ) → slot (face_at n f) q ≡ slot_at n (slot f q)
 slot-face_at n f q = ap (λ (o : Option Version). (kept_clear n f.cleared, o))
     (get-retain_keys f.versions (λ key. not (is_removed n (maps.get f.versions key))) q
     (λ x t. ap (λ o. not (is_removed n o)) (get_tied nat_list_cmp_total f.versions q x t)))
 
+-- the look at a key by its slot: clean with the newest version's item if that is acknowledged, else dirty
 abbrev pub shown : ℕ → Slot → Look Item
 shown acked s = cond (nat_le (number_in s.0 s.1) acked) (Clean (item_in s.1)) Dirty
 
@@ -244,6 +253,7 @@ look-kept : (acked : ℕ) (s : Slot)
 look-kept acked (c, None) le = acked_clear (nat_le c acked) c acked refl
 look-kept acked (c, Some v) le = look-version c acked v.number v.item le
 
+-- a look at a face at an acknowledged number shows the slot before acknowledged versions were taken away
 pub look-face_at : (acked : ℕ) (f : FaceState) (q : List ℕ)
     → (slot f q).0 ≤ number_in (slot f q).0 (slot f q).1
     → look_at (face_at acked f) q ≡ shown acked (slot f q)
@@ -252,6 +262,7 @@ look-face_at acked f q le =
 
 -- ---- the base
 
+-- the version that an item of the base is: its number is the item's unique
 abbrev pub based_version : Item → Version
 based_version item = record { number = item.unique; item = Some item }
 
@@ -276,16 +287,19 @@ get-versions_of items q = get-from_entries nat_list_cmp_total _ q ∙ found (map
 abbrev pub face_based : ServerState → FaceState
 face_based s = record { versions = versions_of s.store.base; cleared = 0; acked = s.store.floor }
 
+-- the version of a base's item, if there is one, has this item
 pub item_based : (o : Option Item) → o ≡ item_in (option_map based_version o)
 item_based None = refl
 item_based (Some item) = refl
 
+-- a key that has its base's item alone has no version above the floor
 pub slot_based : (floor : ℕ) (o : Option Item)
     → ((item : Item) → o ≡ Some item → item.unique ≤ floor)
     → IsSlot floor (0, option_map based_version o)
 slot_based floor None h = record { ordered = omega arith; below = omega arith }
 slot_based floor (Some item) h = record { ordered = omega arith; below = h item refl }
 
+-- before the entries above the floor, a face has of a key the base's item alone
 pub slot-face_based : (s : ServerState) (q : List ℕ)
     → slot (face_based s) q ≡ (0, option_map based_version (item_at s.store.base q))
 slot-face_based s q = ap (λ (o : Option Version). (0, o)) (get-versions_of s.store.base q)
@@ -294,10 +308,12 @@ slot-face_based s q = ap (λ (o : Option Version). (0, o)) (get-versions_of s.st
 abbrev pub slot_of : ServerState → List ℕ → Slot
 slot_of s q = slot_by_all q s.store.rest (0, option_map based_version (item_at s.store.base q))
 
+-- what the entries above the floor make of a key's slot, from the base's item on
 pub slot-raw : (s : ServerState) (q : List ℕ)
     → slot (face_after_all (face_based s) (face_steps s.store.rest)) q ≡ slot_of s q
 slot-raw s q = slot-all (face_based s) s.store.rest q ∙ ap (slot_by_all q s.store.rest) (slot-face_based s q)
 
+-- nothing that a sound server's face has of a key is above the last number
 pub slot_of-is : (s : ServerState) (q : List ℕ) → IsSound s → IsSlot (last_number s.store) (slot_of s q)
 slot_of-is s q h = slot-is q s.store.floor (last_number s.store) s.store.rest _ refl h.store.log
     (slot_based s.store.floor (item_at s.store.base q) (h.based q))

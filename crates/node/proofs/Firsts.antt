@@ -9,6 +9,7 @@ use Rattle.std.specs.List.{position_or_len}
 use Rattle.node.specs.Servers.{without_first}
 
 module _ {X : Type 0} (test : X → Bool) where
+  -- the first that passes the test stands at this place, and the list without it is the list without that place
   pub record IsAt (xs : List X) (i : ℕ) : Type 0 where
     pub within : i < length xs
     pub found : (d : X) → find test xs ≡ Some (get_or xs i d)
@@ -37,11 +38,13 @@ module _ {X : Type 0} (test : X → Bool) where
   found_step n m i true is h = (ltb-true _ _ is, same_Some n i h)
   found_step n m i false is h = absurd cc
 
+  -- the place that is found is that of the first which passes the test
   pub at_position : (xs : List X) (i : ℕ) → position test xs ≡ Some i → IsAt xs i
   at_position xs i h =
       let f = found_step (position_or_len test xs) (length xs) i _ refl h in
       rw (← f.1) (at_place xs f.0)
 
+  -- none passes the test, and the list without the first of them is the list
   pub record IsNowhere (xs : List X) : Type 0 where
     pub none : find test xs ≡ None
     pub same : without_first test xs ≡ xs
@@ -63,6 +66,7 @@ module _ {X : Type 0} (test : X → Bool) where
   none_step n m true is h = absurd cc
   none_step n m false is h = grind (arith, nat_tests, is)
 
+  -- if no place is found, none passes the test
   pub no_position : (xs : List X) → position test xs ≡ None → IsNowhere xs
   no_position xs h = no_place xs (none_step (position_or_len test xs) (length xs) _ refl h)
 
@@ -77,6 +81,7 @@ pub removed_found : {X : Type 0} (xs : List X) (i n : ℕ) (found r : Option X)
 removed_found xs i n found None low is len there value = let never : false ≡ true = there.1 (omega arith) in absurd cc
 removed_found xs i n found (Some y) low is len there value = ap Some value ∙ sym (is y)
 
+-- what is left of a list once its element at a place was taken out
 pub removed_left : {X : Type 0} (xs ys left : List X) (i n : ℕ) (r : Option X)
     → i < length xs
     → left ≡ remove xs i

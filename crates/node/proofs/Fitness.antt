@@ -17,6 +17,7 @@ use Rattle.node.proofs.Settling.{reply_all}
 use Rattle.node.proofs.DoneActions.{came_left}
 use Rattle.node.proofs.DoneSteps.{rule_taken_in}
 
+-- if the messages of two lists may be sent, so may those of the joined list
 pub fit_append : (xs ys : List Output) → AreFit xs → AreFit ys → AreFit (xs ++ ys)
 fit_append [] ys h g = g
 fit_append (x ∷ xs) ys h g = (h.0, fit_append xs ys h.1 g)

@@ -26,6 +26,7 @@ get_front [] ys k x h = absurd cc
 get_front (z ∷ xs) ys zero x h = h
 get_front (z ∷ xs) ys (suc k) x h = get_front xs ys k x h
 
+-- one more at the end stands at the place that was the list's length
 pub get_last : {X : Type 0} (xs : List X) (x : X) → slice_get (xs ++ x ∷ []) (length xs) ≡ Some x
 get_last [] x = refl
 get_last (y ∷ xs) x = get_last xs x
@@ -45,9 +46,11 @@ in_joined [] ys x h = inr h
 in_joined (z ∷ xs) ys x (zero, h) = inl (0, h)
 in_joined (z ∷ xs) ys x (suc k, h) = elim (in_joined xs ys x (k, h)) [ inl g ↦ inl (suc g.0, g.1) | inr g ↦ inr g ]
 
+-- what stands in a list still does with others behind it
 pub in_front : {X : Type 0} (xs ys : List X) (x : X) → In x xs → In x (xs ++ ys)
 in_front xs ys x h = (h.0, get_front xs ys h.0 x h.1)
 
+-- what stands in a list still does with others in front of it
 pub in_behind : {X : Type 0} (xs ys : List X) (x : X) → In x ys → In x (xs ++ ys)
 in_behind [] ys x h = h
 in_behind (z ∷ xs) ys x h = let g = in_behind xs ys x h in (suc g.0, g.1)

@@ -14,6 +14,7 @@ notices_zero : (gone : View) (j i : ℕ) → notices_from gone j i 0 ≡ []
 unfolding notices_from
 notices_zero gone j i = refl
 
+-- the notices from a server on: one for it if it lives, and those from the next server on
 pub notices_within : (gone : View) (j i count : ℕ)
     → i < count
     → notices_from gone j i (count - i) ≡ cond (has gone i) (notices_from gone j (i + 1) (count - (i + 1)))
@@ -23,6 +24,7 @@ notices_within gone j i count l =
     let b : i + 1 ≡ suc i = omega arith in
     rw a (rw b (notices_suc gone j i (count - suc i)))
 
+-- past the last server there are no notices
 pub notices_past : (gone : View) (j i count : ℕ) → count ≤ i → notices_from gone j i (count - i) ≡ []
 notices_past gone j i count l = let a : count - i ≡ 0 = omega arith in rw a (notices_zero gone j i)
 
@@ -34,6 +36,7 @@ pub past_failed : (gone : View) (j i count : ℕ) (whole given : List (ℕ × �
     → whole ≡ given ++ notices_from gone j (i + 1) (count - (i + 1))
 past_failed gone j i count whole given l h e = e ∙ ap (λ r. given ++ r) (rw (notices_within gone j i count l, h) refl)
 
+-- a server that lives was looked at: its notice is given, and those from the next one on are left
 pub past_living : (gone : View) (j i count : ℕ) (whole given : List (ℕ × ℕ))
     → i < count
     → has gone i ≡ false
@@ -42,6 +45,7 @@ pub past_living : (gone : View) (j i count : ℕ) (whole given : List (ℕ × �
 past_living gone j i count whole given l h e =
     e ∙ ap (λ r. given ++ r) (rw (notices_within gone j i count l, h) refl) ∙ sym (append_assoc given ((i, j) ∷ []) _)
 
+-- once all servers were looked at, all notices are given
 pub all_looked_at : (gone : View) (j i count : ℕ) (whole given : List (ℕ × ℕ))
     → count ≤ i
     → whole ≡ given ++ notices_from gone j i (count - i)

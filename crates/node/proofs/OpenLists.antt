@@ -30,10 +30,12 @@ in_step true y x ys rest f h = (suc h.0, h.1)
 in_step false y x ys rest f (zero, h) = (0, h)
 in_step false y x ys rest f (suc k, h) = let g = f (k, h) in (suc g.0, g.1)
 
+-- what stands in a list without its first that passes a test stands in the list
 pub in_without : {X : Type 0} (test : X → Bool) (xs : List X) (x : X) → In x (without_first test xs) → In x xs
 in_without test [] x h = h
 in_without test (y ∷ xs) x h = in_step (test y) y x xs (without_first test xs) (in_without test xs x) h
 
+-- each own call that waits has an id above the bound of the list
 pub update_above : (above : ℕ) (us : List OpenUpdate) (next_id : ℕ) (u : OpenUpdate)
     → AreUpdates above us next_id
     → In u us
@@ -63,6 +65,7 @@ update_apart above [] next_id id u h (k, e) = absurd cc
 update_apart above (v ∷ us) next_id id u h i =
     update_step _ v u us (without_update us id) next_id id refl h.3 (update_apart v.id us next_id id u h.3) i
 
+-- each read that waits has an ask above the bound of the list, and a mark that is no lower than its bound
 pub read_above : (above mark : ℕ) (rs : List OpenRead) (next_ask acked : ℕ) (r : OpenRead)
     → AreReads above mark rs next_ask acked
     → In r rs
@@ -86,6 +89,7 @@ read_step false q r rs rest next_ask acked ask t a f (zero, h) =
     same_Some q r h in λ e. (let is : (q.ask == ask) ≡ true = rw (same, e) (grind (arith, nat_tests)) in absurd cc)
 read_step false q r rs rest next_ask acked ask t a f (suc k, h) = f (k, h)
 
+-- the reads that are left without that of an ask have other asks
 pub read_apart : (above mark : ℕ) (rs : List OpenRead) (next_ask acked ask : ℕ) (r : OpenRead)
     → AreReads above mark rs next_ask acked
     → In r (without_read rs ask)
@@ -105,12 +109,14 @@ found_step : (b : Bool) (v u : OpenUpdate) (us : List OpenUpdate) (rest : Option
 found_step true v u us rest id t f h = let same : v ≡ u = same_Some v u h in ((0, h), rw (← same) (eqb-true v.id id t))
 found_step false v u us rest id t f h = let g = f h in ((suc g.0.0, g.0.1), g.1)
 
+-- the open call that is found for an id is one of those that wait, and has this id
 pub found_update : (us : List OpenUpdate) (id : ℕ) (u : OpenUpdate) → open_update us id ≡ Some u → In u us × (u.id ≡ id)
 found_update [] id u h = absurd cc
 found_update (v ∷ us) id u h = found_step _ v u us (open_update us id) id refl (found_update us id u) h
 
 -- ---- a reply at a port
 
+-- of a single reply that is put out, one knows the port and what it says
 pub reply_there : (c p : ℕ) (r q : Reply) → In (Answered c r) (reply_at p q) → (p ≡ c) × (q ≡ r)
 reply_there c p r q (zero, h) = (cc, cc)
 reply_there c p r q (suc k, h) = absurd cc
@@ -151,6 +157,7 @@ closed_step : (b : Bool) (id : ℕ) (pend : List OpenUpdate) (e : LogEntry) (c :
 closed_step true id pend e c reply t h = closed_found id pend e c reply _ refl t h
 closed_step false id pend e c reply t h = absurd cc
 
+-- a reply that an entry gives is that to the own update which it closes
 pub closed_by : (id : ℕ) (pend : List OpenUpdate) (e : LogEntry) (c : ℕ) (reply : Reply)
     → In (Answered c reply) (reply_to id pend e)
     → IsClosed id pend e c reply
@@ -164,6 +171,7 @@ left_step false pend e u h = h
 
 -- ---- what an action adds
 
+-- an own call that waits after an action waited before it, or has just entered
 pub updates_act : (s : ServerState) (a : Action) (u : OpenUpdate)
     → In u (act s a).state.pend
     → In u s.pend ⊎ ((port : ℕ) × (call : Call) × (a ≡ Enter port call)
@@ -181,6 +189,7 @@ updates_act s (Enter port call) u h =
 updates_act s (Ask port key) u h = inl h
 updates_act s (Show port key) u h = inl h
 
+-- a read that waits after an action waited before it, or has just asked
 pub reads_act : (s : ServerState) (a : Action) (r : OpenRead)
     → In r (act s a).state.asks
     → In r s.asks ⊎ ((port : ℕ) × (key : List ℕ) × (a ≡ Ask port key)

@@ -118,6 +118,7 @@ pub rising-updates : (above next_id : ℕ) (us : List OpenUpdate)
 rising-updates above next_id [] h = tt
 rising-updates above next_id (u ∷ us) h = (h.0, rising-updates u.id next_id us h.3)
 
+-- reads that wait are in the order of their asks
 pub rising-reads : (above mark next_ask acked : ℕ) (rs : List OpenRead)
     → AreReads above mark rs next_ask acked
     → IsRising above (map (λ r. r.ask) rs)

@@ -68,6 +68,7 @@ replies_below n (Replied p reply ∷ os) none =
           (arith, none port reads above, count-cons (is_reply_at port reads) (Replied p reply) os)),
     )
 
+-- after a step that was handed calls at ports below n alone, none is open at another port
 pub open_below-step : (s : ServerState) (input : Input) (n : ℕ)
     → IsLawful s
     → IsInput input
@@ -84,6 +85,7 @@ open_below-step s input n h fit valid waits below = λ port reads above.
       no_calls n (input ∷ []) port reads above below,
     )
 
+-- a step that was handed calls at ports below n alone puts out replies at such ports alone
 pub replies_below-step : (s : ServerState) (input : Input) (n : ℕ)
     → IsLawful s
     → IsInput input
@@ -100,6 +102,7 @@ replies_below-step s input n h fit valid waits below = replies_below n (step s i
       no_calls n (input ∷ []) port reads above below,
     ))
 
+-- after a run that was handed calls at ports below n alone, none is open at another port
 pub open_below-after : (s : ServerState) (inputs : List Input) (n : ℕ)
     → IsLawful s
     → AreInputs inputs
@@ -114,6 +117,7 @@ open_below-after s inputs n h valid waits below = λ port reads above.
       no_calls n inputs port reads above below,
     )
 
+-- a run that was handed calls at ports below n alone puts out replies at such ports alone
 pub replies_below-after : (s : ServerState) (inputs : List Input) (n : ℕ)
     → IsLawful s
     → AreInputs inputs
@@ -141,12 +145,14 @@ no_updates_open [] [] s port false none asked h g = rw none refl
 no_updates_open [] (r ∷ rs) s port reads none asked h g = absurd cc
 no_updates_open (u ∷ us) asks s port reads none asked h g = absurd cc
 
+-- at an idle node no call is open at any port
 pub idle-none_open : (n : NodeState) (port : ℕ) (reads : Bool) → is_idle n ≡ true → open_at port reads n.server ≡ 0
 idle-none_open n port reads idle =
     let parts = and_parts (not n.stopped && is_none_open n.server.pend) (is_none_open n.server.asks) idle in
     let first = and_parts (not n.stopped) (is_none_open n.server.pend) parts.0 in
     no_updates_open n.server.pend n.server.asks n.server port reads refl refl first.1 parts.1
 
+-- before any input no call is open at any port
 pub opening-none_open : (id count port : ℕ) (reads : Bool) → open_at port reads (opening id count) ≡ 0
 opening-none_open id count port true = refl
 opening-none_open id count port false = refl

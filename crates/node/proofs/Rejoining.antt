@@ -8,6 +8,7 @@ use Rattle.node.specs.Servers.{ServerState, Outcome, previous}
 use Rattle.node.specs.Joining.{promoted_to_head, promoted_to_tail, caught_up, acked_to_predecessor, asks_renewed}
 use Rattle.node.specs.Joining.{rejoined}
 
+-- what follows from what a success promises is promised by it too
 pub on_ok : {T E : Type 0} (r : Result T E) (P Q : Type 0) → (P → Q) → OnOk r P → OnOk r Q
 on_ok (Ok x) P Q f h = f h
 on_ok (Err e) P Q f h = h
@@ -38,12 +39,14 @@ module _ (old : View) (n m : ℕ) (s : ServerState) where
   unfolding third
   still = silent-acked_to_predecessor old m _ ∙ silent-caught_up old n _
 
+  -- the sixth step leaves the server that all steps after the first leave
   pub rejoined_state : (t : ServerState)
       → t ≡ (promoted_to_tail (promoted_to_head old s).state).state
       → (asks_renewed old t).state ≡ (rejoined old n m s).state
   unfolding third
   rejoined_state t is = ap (λ u. (asks_renewed old u).state) (is ∙ sym still)
 
+  -- what the steps after the first put out, one after another, is what they put out together
   pub rejoined_outputs : (t h : ServerState) (start o1 o2 o3 o4 o5 : List Output)
       → h ≡ (promoted_to_head old s).state
       → t ≡ (promoted_to_tail (promoted_to_head old s).state).state

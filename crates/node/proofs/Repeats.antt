@@ -32,6 +32,7 @@ unfolding forwarded
 forwarded_none s [] is = refl
 forwarded_none s (e ∷ es) is = absurd (omega arith)
 
+-- one more entry is forwarded, and those behind it are left
 pub forwarded_step : (s : ServerState) (rest es : List LogEntry) (e : LogEntry) (whole done after : List Output)
     → rest ≡ e ∷ es
     → whole ≡ done ++ forwarded s rest
@@ -40,6 +41,7 @@ pub forwarded_step : (s : ServerState) (rest es : List LogEntry) (e : LogEntry) 
 forwarded_step s rest es e whole done after is h put =
     one_more whole done _ after _ _ h (forwarded_more s rest es e is) put
 
+-- with no entry left, all are forwarded
 pub forwarded_end : (s : ServerState) (rest : List LogEntry) (whole done : List Output)
     → length rest ≡ 0
     → whole ≡ done ++ forwarded s rest
@@ -57,6 +59,7 @@ unfolding sent_again
 sent_none s [] is = refl
 sent_none s (u ∷ us) is = absurd (omega arith)
 
+-- one more own call is sent to the head again, and those behind it are left
 pub sent_step : (s : ServerState) (rest us : List OpenUpdate) (u : OpenUpdate) (whole done after : List Output)
     → rest ≡ u ∷ us
     → whole ≡ done ++ sent_again s rest
@@ -64,6 +67,7 @@ pub sent_step : (s : ServerState) (rest us : List OpenUpdate) (u : OpenUpdate) (
     → whole ≡ after ++ sent_again s us
 sent_step s rest us u whole done after is h put = one_more whole done _ after _ _ h (sent_more s rest us u is) put
 
+-- with no own call left, all are sent again
 pub sent_end : (s : ServerState) (rest : List OpenUpdate) (whole done : List Output)
     → length rest ≡ 0
     → whole ≡ done ++ sent_again s rest
@@ -81,6 +85,7 @@ unfolding asked_again
 asked_none s [] is = refl
 asked_none s (r ∷ rs) is = absurd (omega arith)
 
+-- one more open read asks the tail again, and those behind it are left
 pub asked_step : (s : ServerState) (rest rs : List OpenRead) (r : OpenRead) (whole done after : List Output)
     → rest ≡ r ∷ rs
     → whole ≡ done ++ asked_again s rest
@@ -88,6 +93,7 @@ pub asked_step : (s : ServerState) (rest rs : List OpenRead) (r : OpenRead) (who
     → whole ≡ after ++ asked_again s rs
 asked_step s rest rs r whole done after is h put = one_more whole done _ after _ _ h (asked_more s rest rs r is) put
 
+-- with no open read left, all have asked again
 pub asked_end : (s : ServerState) (rest : List OpenRead) (whole done : List Output)
     → length rest ≡ 0
     → whole ≡ done ++ asked_again s rest
@@ -105,6 +111,7 @@ unfolding replies_to
 replied_none s [] is = refl
 replied_none s (r ∷ rs) is = absurd (omega arith)
 
+-- one more open read is answered, and those behind it are left
 pub replied_step : (s : ServerState) (rest rs : List OpenRead) (r : OpenRead) (whole done after : List Output)
     → rest ≡ r ∷ rs
     → whole ≡ done ++ replies_to s rest
@@ -112,6 +119,7 @@ pub replied_step : (s : ServerState) (rest rs : List OpenRead) (r : OpenRead) (w
     → whole ≡ after ++ replies_to s rs
 replied_step s rest rs r whole done after is h put = one_more whole done _ after _ _ h (replied_more s rest rs r is) put
 
+-- with no open read left, all are answered
 pub replied_end : (s : ServerState) (rest : List OpenRead) (whole done : List Output)
     → length rest ≡ 0
     → whole ≡ done ++ replies_to s rest

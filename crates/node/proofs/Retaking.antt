@@ -18,6 +18,7 @@ pub record IsCallAt (us : List OpenUpdate) (i : ℕ) (id : ℕ) (made : Call) : 
   pub is_call : made ≡ update.call
   pub rest : drop i us ≡ update ∷ drop (i + 1) us
 
+-- a call that is found at a place stands there
 pub call_at_is : (us : List OpenUpdate) (i : ℕ) (id : ℕ) (made : Call)
     → ◌≡◌ {A = Option (ℕ × Call)} (Some (id, made)) (call_at us i)
     → IsCallAt us i id made
@@ -35,6 +36,7 @@ call_at_is (u ∷ us) (suc i) id made h =
     let next : suc i + 1 ≡ suc (i + 1) = omega arith in
     record { update = g.update; is_id = g.is_id; is_call = g.is_call; rest = rw next g.rest }
 
+-- if no call is found at a place, none is behind it
 pub no_call_at : (us : List OpenUpdate) (i : ℕ) → ◌≡◌ {A = Option (ℕ × Call)} None (call_at us i) → drop i us ≡ []
 no_call_at [] zero h = refl
 no_call_at [] (suc i) h = refl
@@ -52,6 +54,7 @@ waiting above (v ∷ us) next_id zero u rest h e =
     let same : v ≡ u = ap (λ (xs : List OpenUpdate). get_or xs 0 v) e in rw (← same) (h.1, h.2)
 waiting above (v ∷ us) next_id (suc i) u rest h e = waiting v.id us next_id i u rest h.3 e
 
+-- taking an update leaves the own calls that wait as they are
 pub pend-taken : (s : ServerState) (origin id : ℕ) (made : Call) → (taken s origin id made).pend ≡ s.pend
 unfolding taken appended
 pend-taken s origin id made =
@@ -79,5 +82,6 @@ taken_step whole s next i id made at is h =
     (ap (λ n. taken s s.id n at.update.call) (sym at.is_id) ∙ ap (taken s s.id id) (sym at.is_call) ∙ sym is)
     ∙ ap (λ us. taken_all next (drop (i + 1) us)) (sym stays)
 
+-- with no own call left, all are taken
 pub taken_end : (whole s : ServerState) (i : ℕ) → drop i s.pend ≡ [] → whole ≡ taken_all s (drop i s.pend) → s ≡ whole
 taken_end whole s i none h = sym (h ∙ ap (taken_all s) none ∙ taken_all_none s)

@@ -14,15 +14,18 @@ use Rattle.node.proofs.Fitness.{fit_append, fit_taken_in}
 use Rattle.node.proofs.Counts.{count-append}
 use Rattle.node.proofs.StepCloses.{answers-step}
 
+-- a lawful server is lawful after any inputs that may be given
 pub lawful-after : (s : ServerState) (inputs : List Input) → AreInputs inputs → IsLawful s → IsLawful (after s inputs)
 lawful-after s [] valid h = h
 lawful-after s (i ∷ is) valid h = lawful-after (step s i).state is valid.2 (lawful-step s i valid.0 valid.1 h)
 
+-- inputs don't change a server's id
 pub id-after : (s : ServerState) (inputs : List Input) → AreInputs inputs → IsLawful s → (after s inputs).id ≡ s.id
 id-after s [] valid h = refl
 id-after s (i ∷ is) valid h =
     id-after (step s i).state is valid.2 (lawful-step s i valid.0 valid.1 h) ∙ (answers-step s i valid.0 valid.1 h).id
 
+-- inputs don't change the count of servers
 pub count-after : (s : ServerState) (inputs : List Input)
     → AreInputs inputs
     → IsLawful s
@@ -38,6 +41,7 @@ moved : (id count : ℕ) (s : ServerState) (os : List Output)
     → AreToOthers id count os
 moved id count s os same_id same_count h = rw (← same_id, ← same_count) h
 
+-- every message of a run goes to another server of the chain
 pub others-after : (s : ServerState) (inputs : List Input)
     → AreInputs inputs
     → IsLawful s
@@ -51,6 +55,7 @@ others-after s (i ∷ is) valid h =
     (moved s.id s.count next (put_out next is) done.id done.count
     (others-after next is valid.2 (lawful-step s i valid.0 valid.1 h)))
 
+-- every message of a run may be sent, and handed in where it goes
 pub fit-after : (s : ServerState) (inputs : List Input) → AreInputs inputs → IsLawful s → AreFit (put_out s inputs)
 fit-after s [] valid h = tt
 fit-after s (i ∷ is) valid h =
@@ -58,10 +63,12 @@ fit-after s (i ∷ is) valid h =
     (fit_taken_in s i valid.0 valid.1 h)
     (fit-after (step s i).state is valid.2 (lawful-step s i valid.0 valid.1 h))
 
+-- a run goes on: the server after two lists of inputs is that after the second, from that after the first
 pub after-append : (s : ServerState) (first more : List Input) → after s (first ++ more) ≡ after (after s first) more
 after-append s [] more = refl
 after-append s (i ∷ is) more = after-append (step s i).state is more
 
+-- a run goes on: what it puts out for two lists of inputs is that for the first, and then that for the second
 pub put_out-append : (s : ServerState) (first more : List Input)
     → put_out s (first ++ more) ≡ put_out s first ++ put_out (after s first) more
 put_out-append s [] more = refl
@@ -76,6 +83,7 @@ pub opened-calls : (port : ℕ) (reads : Bool) (s : ServerState) (input : Input)
 opened-calls port reads s input = cond_both (has_room s input) _ _ (λ (n : ℕ). n ≤ calls_at port reads (input ∷ []))
     (λ t. omega arith) (λ f. omega arith)
 
+-- the calls open after a run and the replies of it are no more than the calls open before and those that came
 pub closed-after : (s : ServerState) (inputs : List Input) (port : ℕ) (reads : Bool)
     → AreInputs inputs
     → IsLawful s
@@ -96,6 +104,7 @@ closed-after s (i ∷ is) port reads valid h =
       count-append (is_reply_at port reads) (step s i).outputs (put_out next is),
     )
 
+-- inputs of two lists that may be given may be given one list after the other
 pub inputs-append : (first more : List Input) → AreInputs first → AreInputs more → AreInputs (first ++ more)
 inputs-append [] more h g = g
 inputs-append (i ∷ is) more h g = (h.0, h.1, inputs-append is more h.2 g)

@@ -51,6 +51,7 @@ taken_all n k es low = let zero_left : n - k ≡ 0 = omega arith in rw zero_left
 
 -- the loop over the entries: what the calls come to does not change, nor what is put out in all
 module _ (id n k : ℕ) (pend : List OpenUpdate) (rest : List LogEntry) where
+  -- one entry more has closed its call
   pub left_step : (whole next : List OpenUpdate) (e : LogEntry) (es : List LogEntry)
       → k < n
       → rest ≡ e ∷ es
@@ -60,6 +61,7 @@ module _ (id n k : ℕ) (pend : List OpenUpdate) (rest : List LogEntry) where
   left_step whole next e es low is same h = h ∙ ap (left_open id pend) (ap (take (n - k)) is ∙ taken_more n k e es low)
       ∙ left_more id pend e _ ∙ ap (λ p. left_open id p (take (n - (k + 1)) es)) (sym same)
 
+  -- one entry more has put out its reply
   pub replies_step : (whole done after : List Output) (next : List OpenUpdate) (e : LogEntry) (es : List LogEntry)
       → k < n
       → rest ≡ e ∷ es
@@ -74,12 +76,14 @@ module _ (id n k : ℕ) (pend : List OpenUpdate) (rest : List LogEntry) where
       ∙ ap (λ d. d ++ replies id (left_open_by id pend e) (take (n - (k + 1)) es)) (sym put)
       ∙ ap (λ p. after ++ replies id p (take (n - (k + 1)) es)) (sym same)
 
+  -- with no entry left, the calls that are open are those that all leave
   pub left_end : (whole : List OpenUpdate)
       → length rest ≡ 0
       → whole ≡ left_open id pend (take (n - k) rest)
       → pend ≡ whole
   left_end whole none h = sym (h ∙ ap (left_open id pend) (taken_none (n - k) rest none) ∙ left_none id pend)
 
+  -- with no entry left, all replies are put out
   pub replies_end : (whole done : List Output)
       → length rest ≡ 0
       → whole ≡ done ++ replies id pend (take (n - k) rest)
@@ -88,9 +92,11 @@ module _ (id n k : ℕ) (pend : List OpenUpdate) (rest : List LogEntry) where
       sym (h ∙ ap (λ es. done ++ replies id pend es) (taken_none (n - k) rest none)
       ∙ ap (λ r. done ++ r) (replies_none id pend) ∙ append-nil done)
 
+  -- with the count reached, the calls that are open are those that its entries leave
   pub left_done : (whole : List OpenUpdate) → n ≤ k → whole ≡ left_open id pend (take (n - k) rest) → pend ≡ whole
   left_done whole over h = sym (h ∙ ap (left_open id pend) (taken_all n k rest over) ∙ left_none id pend)
 
+  -- with the count reached, the replies of its entries are put out
   pub replies_done : (whole done : List Output)
       → n ≤ k
       → whole ≡ done ++ replies id pend (take (n - k) rest)

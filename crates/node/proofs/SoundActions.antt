@@ -23,6 +23,7 @@ pub appended_next : (c : Cause) (s : ServerState) (e : LogEntry)
 appended_next c s e (inl m) = ap (λ (x : LogEntry). x.number) m.made
 appended_next c s e (inr p) = p.next
 
+-- an action that its guard lets a sound server do leaves it sound
 pub sound_act : (c : Cause) (s : ServerState) (a : Action) → IsSound s → Guard c s a → IsSound (act s a).state
 unfolding act
 sound_act c s (Widen v) h g = sound-widened s v g.2 g.1 h
@@ -44,6 +45,7 @@ pub record IsSeatOf (s t : ServerState) : Type 0 where
   pub id : t.id ≡ s.id
   pub count : t.count ≡ s.count
 
+-- an action leaves a server its id and the count of servers
 pub seat_act : (s : ServerState) (a : Action) → IsSeatOf s (act s a).state
 unfolding act widened appended trimmed entered asked
 seat_act s (Widen v) = record { id = refl; count = refl }
@@ -66,10 +68,12 @@ pub record Grown (s t : ServerState) : Type 0 where
   pub next_id : s.next_id ≤ t.next_id
   pub next_ask : s.next_ask ≤ t.next_ask
 
+-- a server as it was knows and has numbered no less
 pub grown_same : (s : ServerState) → Grown s s
 grown_same s = record
     { id = refl; count = refl; view = λ k h. h; acked = omega arith; next_id = omega arith; next_ask = omega arith }
 
+-- what only grows in two parts only grows in both together
 pub grown_then : (s t u : ServerState) → Grown s t → Grown t u → Grown s u
 grown_then s t u h g = record {
   id = g.id ∙ h.id;
@@ -97,6 +101,7 @@ grown_kept s t seat view acked ids asks = record {
   next_ask = asks;
 }
 
+-- what a server knows and has numbered only grows by an action that its guard lets it do
 pub grown_act : (cause : Cause) (s : ServerState) (a : Action) → Guard cause s a → Grown s (act s a).state
 unfolding act widened appended entered asked trimmed
 grown_act cause s (Widen v) g =

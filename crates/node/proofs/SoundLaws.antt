@@ -34,6 +34,7 @@ use Rattle.versions.proofs.StoreLaws.{store-pushed, store-acked, store-dropped}
 
 -- ---- own calls
 
+-- the bound of the ids that wait is below the next id
 pub updates_bound : (above : ℕ) (us : List OpenUpdate) (next_id : ℕ) → AreUpdates above us next_id → above < next_id
 updates_bound above [] next_id h = h
 updates_bound above (u ∷ us) next_id h = omega (arith, h.0, updates_bound u.id us next_id h.3)
@@ -72,6 +73,7 @@ pub updates-left : (id : ℕ) (us : List OpenUpdate) (next_id : ℕ) (e : LogEnt
     → AreUpdates 0 (left_open_by id us e) next_id
 updates-left id us next_id e h = left_step _ us next_id e.id h
 
+-- own calls that acknowledged entries leave open wait in order
 pub updates-left_open : (id : ℕ) (es : List LogEntry) (us : List OpenUpdate) (next_id : ℕ)
     → AreUpdates 0 us next_id
     → AreUpdates 0 (left_open id us es) next_id
@@ -91,6 +93,7 @@ updates-push above (v ∷ us) u call is h = (h.0, h.1, h.2, updates-push v.id us
 
 -- ---- own reads
 
+-- the bounds of the reads that wait: one below the next ask, one at most the acknowledged number
 pub reads_bound : (above mark : ℕ) (rs : List OpenRead) (next_ask acked : ℕ)
     → AreReads above mark rs next_ask acked
     → (above < next_ask) × (mark ≤ acked)
@@ -122,6 +125,7 @@ read_step true above mark r rs rest next_ask acked h g =
     lower_reads above r.ask mark r.mark rs next_ask acked (omega (arith, h.0)) h.1 h.2
 read_step false above mark r rs rest next_ask acked h g = (h.0, h.1, g)
 
+-- the reads that are left without that of an ask wait in order
 pub reads-without : (above mark : ℕ) (rs : List OpenRead) (next_ask acked ask : ℕ)
     → AreReads above mark rs next_ask acked
     → AreReads above mark (without_read rs ask) next_ask acked
@@ -129,6 +133,7 @@ reads-without above mark [] next_ask acked ask h = h
 reads-without above mark (r ∷ rs) next_ask acked ask h =
     read_step _ above mark r rs _ next_ask acked h (reads-without r.ask r.mark rs next_ask acked ask h.2)
 
+-- one more read waits, under the next ask and with the acknowledged number as its mark
 pub reads-push : (above mark : ℕ) (rs : List OpenRead) (r : OpenRead)
     → AreReads above mark rs r.ask r.mark
     → AreReads above mark (rs ++ r ∷ []) (r.ask + 1) r.mark
@@ -145,6 +150,7 @@ found_step : (b : Bool) (r q : OpenRead) (rest : Option OpenRead) (mark acked : 
 found_step true r q rest mark acked low high f h = let same : r ≡ q = same_Some r q h in rw (← same) (low, high)
 found_step false r q rest mark acked low high f h = f h
 
+-- an open read that is found has a mark from the bound of the list to the acknowledged number
 pub read-found : (above mark : ℕ) (rs : List OpenRead) (next_ask acked ask : ℕ) (q : OpenRead)
     → AreReads above mark rs next_ask acked
     → find (λ r. r.ask == ask) rs ≡ Some q
@@ -162,6 +168,7 @@ least_first above mark r [] next_ask acked h = omega (arith, h.2)
 least_first above mark r (q ∷ rs) next_ask acked h =
     omega (arith, h.2.1, least_first r.ask r.mark q rs next_ask acked h.2)
 
+-- the least of the acknowledged number and the marks is from the bound of the list to the acknowledged number
 pub least_within : (above mark : ℕ) (rs : List OpenRead) (next_ask acked : ℕ)
     → AreReads above mark rs next_ask acked
     → (mark ≤ least_open acked rs) × (least_open acked rs ≤ acked)
@@ -250,6 +257,7 @@ put-at s n low high h put =
 
 -- ---- the changes of a server
 
+-- a server stays sound as its view grows by other servers of the chain
 pub sound-widened : (s : ServerState) (v : View)
     → is_below v s.count ≡ true
     → has v s.id ≡ false
@@ -268,10 +276,12 @@ sound-widened s v below out h = record {
   reads = h.reads;
 }
 
+-- a wider view leaves the store as it is
 pub store-widened : (s : ServerState) (v : View) → (widened s v).store ≡ s.store
 unfolding widened
 store-widened s v = refl
 
+-- a server stays sound as an entry with the next number is appended
 pub sound-appended : (s : ServerState) (e : LogEntry)
     → IsEntry e
     → e.number ≡ last_number s.store + 1
@@ -324,6 +334,7 @@ sound-reads s rs next_ask reads h = record {
   reads = reads;
 }
 
+-- a server stays sound as its acknowledged number rises up to the last one
 pub sound-acked : (s : ServerState) (n : ℕ)
     → s.store.acked ≤ n
     → n ≤ last_number s.store
@@ -341,6 +352,7 @@ sound-acked s n low high h = record {
   reads = reads-acked 0 s.store.floor s.asks s.next_ask s.store.acked n low h.reads;
 }
 
+-- a server stays sound as it rises up to its last number, and closes own calls by it
 pub sound-risen : (s : ServerState) (n : ℕ)
     → s.store.acked ≤ n
     → n ≤ last_number s.store
@@ -351,6 +363,7 @@ sound-risen s n low high h =
     sound-updates (record s { store = acked_to s.store n }) (left_open s.id s.pend (newly_acked s n)) s.next_id
     (updates-left_open s.id (newly_acked s n) s.pend s.next_id h.updates) (sound-acked s n low high h)
 
+-- a server stays sound as an own update call enters
 pub sound-entered : (s : ServerState) (port : ℕ) (call : Call)
     → IsCall call
     → is_update call.op ≡ true
@@ -361,6 +374,7 @@ sound-entered s port call fit is h =
     let u : OpenUpdate = record { id = s.next_id; port = port; call = call } in
     sound-updates s (s.pend ++ u ∷ []) (s.next_id + 1) (updates-push 0 s.pend u fit is h.updates) h
 
+-- a server stays sound as a read waits under the next ask
 pub sound-asked : (s : ServerState) (port : ℕ) (key : List ℕ) → IsSound s → IsSound (asked s port key)
 unfolding asked
 sound-asked s port key h =
@@ -374,6 +388,7 @@ pub sound-closed : (s : ServerState) (asks : List OpenRead)
     → IsSound (record s { asks = asks })
 sound-closed s asks reads h = sound-reads s asks s.next_ask reads h
 
+-- a server stays sound as the floor follows
 pub sound-trimmed : (s : ServerState) → IsSound s → IsSound (trimmed s)
 unfolding trimmed
 sound-trimmed s h =
@@ -393,6 +408,7 @@ sound-trimmed s h =
 
 -- ---- taking
 
+-- what the head makes of an update that it takes is an entry
 pub entry_of-valid : (s : ServerState) (origin id : ℕ) (made : Call)
     → origin < 16
     → IsCall made
@@ -412,6 +428,7 @@ entry_of-valid s origin id made low fit is may =
       flushed = d.flushed ∙ fit.1;
     }
 
+-- a server stays sound as an update is taken
 pub sound-taken : (s : ServerState) (origin id : ℕ) (made : Call)
     → origin < 16
     → IsCall made

@@ -25,6 +25,7 @@ log_entry floor k [] e log h = absurd cc
 log_entry floor zero (x ∷ es) e log h = subst (λ y. IsEntry y) (same_Some x e h) log.0
 log_entry floor (suc k) (x ∷ es) e log h = log_entry (floor + 1) k es e log.2 h
 
+-- what stands in a list behind its first m stood m places later in the whole
 pub get_dropped : {X : Type 0} (m : ℕ) (xs : List X) (k n : ℕ) (x : X)
     → n ≡ m + k
     → slice_get (drop m xs) k ≡ Some x
@@ -34,6 +35,7 @@ get_dropped (suc m) [] k n x at h = absurd cc
 get_dropped (suc m) (y ∷ xs) k zero x at h = absurd (omega arith)
 get_dropped (suc m) (y ∷ xs) k (suc n) x at h = get_dropped m xs k n x (omega arith) h
 
+-- what stands among the first m stands at the same place in the whole
 pub get_taken : {X : Type 0} (m : ℕ) (xs : List X) (k : ℕ) (x : X)
     → slice_get (take m xs) k ≡ Some x
     → (slice_get xs k ≡ Some x) × (k < m)
@@ -42,6 +44,7 @@ get_taken (suc m) [] k x h = absurd cc
 get_taken (suc m) (y ∷ xs) zero x h = (h, omega arith)
 get_taken (suc m) (y ∷ xs) (suc k) x h = let g = get_taken m xs k x h in (g.0, omega (arith, g.1))
 
+-- an entry above a number is one that the store holds
 pub held_after : (s : StoreState) (n : ℕ) (e : LogEntry) → In e (entries_after s n) → In e s.rest
 held_after s n e i = (n - s.floor + i.0, get_dropped (n - s.floor) s.rest i.0 _ e refl i.1)
 

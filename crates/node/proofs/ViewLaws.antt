@@ -11,6 +11,7 @@ use Rattle.std.proofs.lemmas.Option.{same_Some}
 use Rattle.node.specs.Views.{View, has, union, single, is_below, next_from, predecessor}
 pub use Rattle.node.specs.Chains.{IsNext, IsPrevious}
 
+-- a union names whom one of the two views names
 pub has-union : (u v : View) (i : ℕ) → has (union u v) i ≡ (has u i || has v i)
 unfolding has union
 has-union u v i = grind (arith, nat_tests, bit_at_or u v i, bit_at-lt u i, bit_at-lt v i)
@@ -20,6 +21,7 @@ pub has-single_other : (j i : ℕ) → (i ≡ j → ⊥) → has (single j) i �
 unfolding has single
 has-single_other j i other = rw (bit_at-pow_other j i other) refl
 
+-- whom a single view names is its server
 pub has_single : (j i : ℕ) → has (single j) i ≡ true → i ≡ j
 has_single j i h =
     elim (cases_eq i j) [
@@ -28,14 +30,17 @@ has_single j i h =
           (let never : has (single j) i ≡ false = has-single_other j i other in absurd cc)
     ]
 
+-- a single view names its server
 pub has-single_itself : (j : ℕ) → has (single j) j ≡ true
 unfolding has single
 has-single_itself j = rw (bit_at-pow_same j) refl
 
+-- the empty view names nobody
 pub nowhere : (i : ℕ) → has 0 i ≡ false
 unfolding has
 nowhere i = rw (bit_at-zero i) refl
 
+-- if two views name servers of the chain alone, so does their union
 pub below-union : (u v : View) (count : ℕ)
     → is_below u count ≡ true
     → is_below v count ≡ true
@@ -43,10 +48,12 @@ pub below-union : (u v : View) (count : ℕ)
 unfolding is_below union
 below-union u v count h g = lt-ltb _ _ (or_lt count u v (ltb-true _ _ h) (ltb-true _ _ g))
 
+-- the empty view names servers of the chain alone
 pub below-empty : (count : ℕ) → is_below 0 count ≡ true
 unfolding is_below
 below-empty count = lt-ltb _ _ (pow_pos count)
 
+-- the single view of a server of the chain names servers of the chain alone
 pub below-single : (j count : ℕ) → j < count → is_below (single j) count ≡ true
 unfolding is_below single
 below-single j count h = lt-ltb _ _ (pow_below j count h)
@@ -72,6 +79,7 @@ next_step v k j false rest e f h =
     let same = same_Some k j h in
     record { above = omega arith; out = rw (← same) e; between = λ x a l. absurd (omega arith) }
 
+-- what `next_from` finds is the nearest server outside the view from there on
 pub next_is : (v : View) (k many j : ℕ) → next_from v k many ≡ Some j → IsNext v k j
 unfolding next_from
 next_is v k zero j h = grind arith
@@ -84,6 +92,7 @@ within_step : (k many j : ℕ) (b : Bool) (rest : Option ℕ)
 within_step k many j true rest f h = omega (arith, f h)
 within_step k many j false rest f h = let same = same_Some k j h in omega arith
 
+-- what `next_from` finds is among those that it looks at
 pub next_within_many : (v : View) (k many j : ℕ) → next_from v k many ≡ Some j → j < k + many
 unfolding next_from
 next_within_many v k zero j h = absurd cc
@@ -103,6 +112,7 @@ all_step v k many true rest e f h x a l =
     elim (cases_eq x k) [ inl same ↦ rw same e | inr other ↦ f h x (omega arith) (omega arith) ]
 all_step v k many false rest e f h x a l = absurd cc
 
+-- if `next_from` finds none, the view names all that it looks at
 pub no_next : (v : View) (k many : ℕ) → next_from v k many ≡ None → (x : ℕ) → k ≤ x → x < k + many → has v x ≡ true
 unfolding next_from
 no_next v k zero h x a l = absurd (omega arith)
@@ -125,6 +135,7 @@ previous_step v k p false rest e f h =
     let same = same_Some k p h in
     record { below = omega arith; out = rw (← same) e; between = λ x a l. absurd (omega arith) }
 
+-- the predecessor that is found is the nearest server below outside the view
 pub previous_is : (v : View) (i p : ℕ) → predecessor v i ≡ Some p → IsPrevious v i p
 unfolding predecessor
 previous_is v zero p h = grind arith
@@ -140,6 +151,7 @@ none_step : (v : View) (k : ℕ) (b : Bool) (rest : Option ℕ)
 none_step v k true rest e f h x l = elim (cases_eq x k) [ inl same ↦ rw same e | inr other ↦ f h x (omega arith) ]
 none_step v k false rest e f h x l = absurd cc
 
+-- if no predecessor is found, the view names all servers below
 pub no_previous : (v : View) (i : ℕ) → predecessor v i ≡ None → (x : ℕ) → x < i → has v x ≡ true
 unfolding predecessor
 no_previous v zero h x l = grind arith

@@ -41,6 +41,7 @@ made_small : (key : List ℕ) (line : StorageLine) (block ends : List ℕ)
 made_small key line block ends same small =
     ap (λ f. finished f block ends) (cond-false _ _ _ (le-ltb limit line.size (omega arith)))
 
+-- a block within the limit is refused for its expiry time, whatever its ends
 pub made_expiry : (key : List ℕ) (line : StorageLine) (block ends : List ℕ)
     → length block ≡ line.size
     → length block ≤ limit
@@ -58,6 +59,7 @@ made_put : (key : List ℕ) (line : StorageLine) (block ends : List ℕ)
 made_put key line block ends same small none =
     made_small key line block ends same small ∙ ap (λ f. finished f block ends) (cond-false _ _ _ none)
 
+-- data that has no expiry time and is followed by CR LF is stored
 pub made_store : (key : List ℕ) (line : StorageLine) (block : List ℕ)
     → length block ≡ line.size
     → length block ≤ limit
@@ -65,6 +67,7 @@ pub made_store : (key : List ℕ) (line : StorageLine) (block : List ℕ)
     → made key line block crlf ≡ Store key (op_of line.verb block) line.silent
 made_store key line block same small none = made_put key line block crlf same small none
 
+-- a block that isn't followed by CR LF is refused for its ends
 pub made_chunk : (key : List ℕ) (line : StorageLine) (block ends : List ℕ)
     → length block ≡ line.size
     → length block ≤ limit

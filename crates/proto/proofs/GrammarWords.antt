@@ -297,26 +297,31 @@ pub get_asked : (unique : Bool) (fields : List (List ℕ))
 get_asked true fields h = rw (keys_found fields h) refl
 get_asked false fields h = rw (keys_found fields h) refl
 
+-- the fields of a storage command ask for its block
 pub store_asked : (storing : Storing) (fields : List (List ℕ)) (key : List ℕ) (line : StorageLine)
     → AreStorage storing fields key line
     → asked_of (Store storing) fields ≡ Some (Behind (block_of key line))
 store_asked storing fields key line h = ap (option_map Behind) (store_found storing fields key line h)
 
+-- the fields of an incr ask for it
 pub incr_asked : (fields : List (List ℕ)) (key : List ℕ) (amount : ℕ) (silent : Bool)
     → AreCounter fields key amount silent
     → asked_of Incr fields ≡ Some (Whole (requests.Arith key (ops.Incr amount) silent))
 incr_asked fields key amount silent h = rw (counter_found fields key amount silent h) refl
 
+-- the fields of a decr ask for it
 pub decr_asked : (fields : List (List ℕ)) (key : List ℕ) (amount : ℕ) (silent : Bool)
     → AreCounter fields key amount silent
     → asked_of Decr fields ≡ Some (Whole (requests.Arith key (ops.Decr amount) silent))
 decr_asked fields key amount silent h = rw (counter_found fields key amount silent h) refl
 
+-- the fields of a delete ask for it
 pub delete_asked : (fields : List (List ℕ)) (key : List ℕ) (silent : Bool)
     → AreDelete fields key silent
     → asked_of Delete fields ≡ Some (Whole (requests.Delete key silent))
 delete_asked fields key silent h = rw (delete_found fields key silent h) refl
 
+-- a flush_all, with `noreply` or without, asks for a flush
 pub flush_asked : (silent : Bool) → asked_of FlushAll (noreply silent) ≡ Some (Whole (requests.Flush silent))
 flush_asked true = refl
 flush_asked false = refl
@@ -337,6 +342,7 @@ some_asked Quit fields h = (_, ap (asked_of Quit) h)
 misfit : (word : Word) (fields : List (List ℕ)) → asked_of word fields ≡ None → Fitting word fields → ⊥
 misfit word fields none h = let some = (some_asked word fields h).1 in cc
 
+-- fields that don't fit a command ask for nothing
 pub misfit_asked : (word : Word) (fields : List (List ℕ)) → (Fitting word fields → ⊥) → asked_of word fields ≡ None
 misfit_asked word fields h = by_asked (asked_of word fields) refl
   where
@@ -368,6 +374,7 @@ word_spelled field word e =
     word_step field Incr word _ e λ e. word_step field Decr word _ e λ e. word_step field Delete word _ e λ e. word_step
     field FlushAll word _ e λ e. word_step field Quit word _ e λ e. cc
 
+-- the spelling of a command word is found as it
 pub word_found : (word : Word) → word_of (spelling word) ≡ Some word
 word_found Get = refl
 word_found Gets = refl
@@ -386,6 +393,7 @@ word_found Quit = refl
 unknown : (field : List ℕ) → word_of field ≡ None → (word : Word) → field ≢ spelling word
 unknown field none word is = let found : word_of field ≡ Some word = ap word_of is ∙ word_found word in cc
 
+-- a field that spells no command word is found as none
 pub unknown_asked : (field : List ℕ) → ((word : Word) → field ≢ spelling word) → word_of field ≡ None
 unknown_asked field h = by_found (word_of field) refl
   where

@@ -226,6 +226,7 @@ passed_along : (run : Run) → IsRun run → IsPassed run.held.passing run.held.
 passed_along run Opens = tt
 passed_along run (Acts earlier action is allowed) = acted_passed earlier action (passed_along earlier is)
 
+-- along every run an open session with no turn to give holds less than a line and the largest block
 pub holds_little : (run : Run)
     → IsRun run
     → (next_of run.held).0 ≡ None

@@ -7,6 +7,7 @@ use Rattle.proto.specs.Words.{line_limit}
 use Rattle.proto.specs.Fronts.{IsKnown}
 use Rattle.proto.proofs.LineLaws.{asked_kept}
 
+-- a line that announces a block to put announces it still when more bytes come
 pub known_more : (pending : Option Pending) (bytes more : List ℕ)
     → IsKnown pending bytes
     → IsKnown pending (bytes ++ more)

@@ -70,6 +70,7 @@ by_end_kept most (Some i) bytes more found e h =
     let within : i < length bytes = omega (arith, length-take most bytes) in
     rw (place, take-append-le i bytes more (omega arith)) h
 
+-- what is asked for within the first bytes is asked for when more come
 pub asked_kept : (most : ℕ) (bytes more : List ℕ) (found : Asked × ℕ)
     → asked_within most bytes ≡ Some found
     → asked_within most (bytes ++ more) ≡ Some found

@@ -130,6 +130,7 @@ told (Some (Calls call form), left) = (form, refl)
 pub tells_of : (step : Step) (h : Held) → step ≡ step_of (next_of h) → Tells step (next_of h)
 tells_of step h is = rw is (told (next_of h))
 
+-- a step that is returned tells which turn was given
 pub told_by : {E : Type 0} (r : Result Step E) (h : Held)
     → IfOk r (λ step. step ≡ step_of (next_of h))
     → IfOk r (λ step. Tells step (next_of h))
@@ -149,6 +150,7 @@ left_fewer h (Some (Calls call form), left) few = few
 step_leaves_fewer : (h : Held) → LeavesFewer (step_of (next_of h)) h (next_of h).1
 step_leaves_fewer h = left_fewer h (next_of h) (fewer h)
 
+-- a step that is returned leaves fewer turns
 pub fewer_by : {E : Type 0} (r : Result Step E) (h left : Held)
     → IfOk r (λ step. step ≡ step_of (next_of h))
     → OnOk r (left ≡ (next_of h).1)

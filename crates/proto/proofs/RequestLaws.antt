@@ -51,6 +51,7 @@ pub record Takes (bytes : List ℕ) (found : Request × ℕ) : Type 0 where
   pub most : found.1 ≤ length bytes
   pub gets : GetsSome found.0
 
+-- a request that is found takes some of the bytes
 pub takes : (bytes : List ℕ) (found : Request × ℕ) → front bytes ≡ Some found → Takes bytes found
 takes bytes found is =
     let spelled = found_is_spelled bytes found is in

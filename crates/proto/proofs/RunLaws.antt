@@ -60,6 +60,7 @@ gives_all run is none =
     sym (append-nil run.given)
     ∙ (ap (λ ts. run.given ++ ts) (sym ((next_gives_first run.held).none none)) ∙ any_cutting run is)
 
+-- if no turn is to come, the session is closed exactly if its stream has come to its last request
 pub closes_at_last : (run : Run)
     → IsRun run
     → (next_of run.held).0 ≡ None

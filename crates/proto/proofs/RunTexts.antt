@@ -120,10 +120,12 @@ by_asked_count (Some form) ts os bytes is =
     ∙ (sym (ap length (calls_of_more is.0 (Calls is.1 form ∷ [])) ∙ length-append (calls_of is.0) (is.1 ∷ []))
     ∙ ap (λ given. length (calls_of given)) (sym is.2))
 
+-- the output, taken and left, is the texts of the turns that were given
 pub output_is_texts : (run : Run) → IsRun run → run.taken ++ run.held.out ≡ outcome_texts run.given run.outcomes
 output_is_texts run is =
     by_asked_texts run.held.asked run.given run.outcomes (run.taken ++ run.held.out) (written run is)
 
+-- each call that was given has come to something, but the open one
 pub calls_have_outcomes : (run : Run)
     → IsRun run
     → length run.outcomes + open_calls run.held.asked ≡ length (calls_of run.given)

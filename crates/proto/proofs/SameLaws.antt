@@ -33,6 +33,7 @@ answered_same : (h : Held) (asked : Option Form) (reply : Reply) → SameToCome 
 answered_same h None reply = record { turns = λ more. refl; end = λ more. refl; most = refl }
 answered_same h (Some form) reply = same_to_come h None (h.out ++ text form reply)
 
+-- an answer keeps the turns to come
 pub answer_keeps_turns : (h : Held) (reply : Reply) → SameToCome h (answered_by h.asked h reply)
 answer_keeps_turns h reply = answered_same h h.asked reply
 
@@ -40,8 +41,10 @@ refused_same : (h : Held) (asked : Option Form) → SameToCome h (refused_by ask
 refused_same h None = record { turns = λ more. refl; end = λ more. refl; most = refl }
 refused_same h (Some form) = same_to_come h None (h.out ++ refusal_text form)
 
+-- a refusal keeps the turns to come
 pub refusal_keeps_turns : (h : Held) → SameToCome h (refused_by h.asked h)
 refusal_keeps_turns h = refused_same h h.asked
 
+-- output that is taken away keeps the turns to come
 pub taken_keeps_turns : (h : Held) (n : ℕ) → SameToCome h (taken_from h n)
 taken_keeps_turns h n = same_to_come h h.asked (drop n h.out)

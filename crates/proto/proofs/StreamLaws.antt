@@ -235,6 +235,7 @@ passed_twice (Some p) xs ys =
     let same : p.left - length xs - length ys ≡ p.left - length (xs ++ ys) = omega (arith, length-append xs ys) in
     ap (λ left. Some (record p { left = left })) same
 
+-- a piece without bytes changes nothing
 pub fed_none : (h : Held) → fed h [] ≡ h
 fed_none h = by_closed h.unread h.passing h.later h.unique h.asked h.out h.closed
   where
@@ -253,6 +254,7 @@ fed_none h = by_closed h.unread h.passing h.later h.unique h.asked h.out h.close
     by_closed unread passing later unique asked out false =
         rw (kept_none passing, passed_none passing, append-nil unread) refl
 
+-- two pieces one after another are one piece
 pub fed_twice : (h : Held) (xs ys : List ℕ) → fed (fed h xs) ys ≡ fed h (xs ++ ys)
 fed_twice h xs ys = by_closed h.unread h.passing h.later h.unique h.asked h.out h.closed
   where

@@ -69,6 +69,7 @@ pub answer_writes : (h : Held) (form : Form) (reply : Reply)
     → (answered_by h.asked h reply).out ≡ h.out ++ text form reply
 answer_writes h form reply e = rw e refl
 
+-- after an answer no call is open
 pub answer_idle : (h : Held) (reply : Reply) → (answered_by h.asked h reply).asked ≡ None
 answer_idle h reply = by_asked h.asked refl
   where
@@ -82,6 +83,7 @@ pub refusal_writes : (h : Held) (form : Form)
     → (refused_by h.asked h).out ≡ h.out ++ refusal_text form
 refusal_writes h form e = rw e refl
 
+-- after a refusal no call is open
 pub refusal_idle : (h : Held) → (refused_by h.asked h).asked ≡ None
 refusal_idle h = by_asked h.asked refl
   where

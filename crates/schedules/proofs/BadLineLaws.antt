@@ -227,6 +227,7 @@ bad_homes all front rest m n first count split number counted servers h = elim (
             (only_error (events_of count (length homes) (counted_from (m + length x.passed + 1) x.later))
             (shown count homes) n e)
 
+-- the bad line that is named of some lines is the first that isn't as stated
 pub bad_servers : (all : List (List ℕ)) (n : ℕ)
     → schedule_of_lines (length all + 1) (counted_from 1 all) ≡ Err n
     → IsFirstOf all n

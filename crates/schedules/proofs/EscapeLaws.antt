@@ -191,6 +191,7 @@ bytes_read (b ∷ bytes) text n (front, rest, first, later, is) room =
     from_front (x ∷ xs) (suc n) some read room more =
         let others = more n (omega (arith, length-append xs rest)) in rw (read, others) refl
 
+-- a text that spells bytes is read as them
 pub spelled_bytes_read : (bytes text : List ℕ) → SpellsBytes bytes text → unescape text ≡ Some bytes
 spelled_bytes_read bytes text h = bytes_read bytes text (length text) h (omega arith)
 
@@ -229,6 +230,7 @@ bytes_spelled (suc n) (x ∷ xs) bytes room h =
         let shorter : length p.1 ≤ n = omega arith in
         by_rest p (unescape_upto n p.1) e front (λ bs is. more p.1 bs shorter is)
 
+-- a text that is read as bytes spells them
 pub read_bytes_spelled : (bytes text : List ℕ) → unescape text ≡ Some bytes → SpellsBytes bytes text
 read_bytes_spelled bytes text h = bytes_spelled (length text) text bytes (omega arith) h
 
@@ -238,6 +240,7 @@ one_byte_read b text h =
     let read : front_byte text ≡ Some (b, []) = rw append-nil at (byte_read b text [] h) in
     rw read refl
 
+-- a text that is read as one byte spells it
 pub one_byte_spelled : (b : ℕ) (text : List ℕ) → one_byte text ≡ Some b → SpellsByte b text
 one_byte_spelled b text h = by_front (front_byte text) refl h
   where

@@ -5,6 +5,7 @@ use Rattle.world.specs.Scenes.{are_homes, is_count}
 use Rattle.schedules.specs.Schedules.{ScheduleShown}
 use Rattle.schedules.specs.SpelledSchedules.{SpellsSchedule}
 
+-- of a text that spells a schedule, the count of servers and the homes are in range
 pub can_run : (text : List ℕ) (s : ScheduleShown)
     → SpellsSchedule text s
     → (is_count s.count ≡ true) × (are_homes s.count s.homes ≡ true)

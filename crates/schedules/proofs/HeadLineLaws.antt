@@ -20,9 +20,11 @@ use Rattle.schedules.proofs.NumberLaws.{number_read, number_spelled}
 use Rattle.schedules.proofs.CutLaws.{cut_spelled}
 use Rattle.schedules.proofs.EventLineLaws.{then_parts, by_word, parts_are}
 
+-- `servers N` is read as its number
 pub servers_read : (count : ℕ) (line : List ℕ) → IsServersLine count line → servers_line line ≡ Some count
 servers_read count line h = rw (h.2, number_read 1 17 count (lit≤ tt) h.0 (omega (arith, h.1))) refl
 
+-- what is read as a number of servers is a line `servers N`
 pub servers_spelled : (line : List ℕ) (count : ℕ) → servers_line line ≡ Some count → IsServersLine count line
 servers_spelled line count h =
     let c = then_parts _ (cut space line) count h in
@@ -102,6 +104,7 @@ homes_found count (home ∷ homes) fits some few each =
     le-leb _ 64 (omega (arith, length_numbers (home ∷ homes))) in
     rw (fields, enough, numbers_read count (home ∷ homes) fits each) refl
 
+-- `homes H ..` is read as its homes
 pub homes_read : (count : ℕ) (homes line : List ℕ)
     → count ≤ 2 ^ 64
     → IsHomesLine count homes line
@@ -115,6 +118,7 @@ with_homes : (homes rest : List ℕ)
 with_homes [] rest some is = absurd (omega arith)
 with_homes (home ∷ homes) rest some is = rw is refl
 
+-- what is read as homes is a line `homes H ..`
 pub homes_spelled : (count : ℕ) (line homes : List ℕ)
     → count ≤ 2 ^ 64
     → homes_line count line ≡ Some homes

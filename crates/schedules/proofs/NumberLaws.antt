@@ -104,5 +104,6 @@ free_digits byte (c ∷ cs) low h =
     and_from (not (c == byte)) (list_all (λ b. not (b == byte)) cs)
     (not_from_false _ (ne_eqb c byte (λ e. omega arith))) (free_digits byte cs low h.1)
 
+-- no space stands in how a number is written
 pub no_space_in_number : (n : ℕ) → n < 2 ^ 64 → list_all (λ b. not (b == space)) (decimal n) ≡ true
 no_space_in_number n small = free_digits space (decimal n) (lit< tt) (decimal_is_IsNumeral n small).0.1

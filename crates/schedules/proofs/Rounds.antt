@@ -22,11 +22,13 @@ one_pair_more front i j =
     (filter_of_map_range_with_len_more (λ p. not (nat_eq p.0 p.1)) (λ k. (i, k)) 0 j j (omega arith))
     ∙ sym (append_assoc front (pairs_with j i) (cond (not (nat_eq i j)) ((i, j) ∷ []) []))
 
+-- one more server is paired with this one, if it is another
 pub other_more : (front : List (ℕ × ℕ)) (i j : ℕ)
     → nat_eq i j ≡ false
     → front ++ pairs_with (j + 1) i ≡ (front ++ pairs_with j i) ++ (i, j) ∷ []
 other_more front i j other = rw other at (one_pair_more front i j)
 
+-- a server isn't paired with itself
 pub same_more : (front : List (ℕ × ℕ)) (i j : ℕ)
     → nat_eq i j ≡ true
     → front ++ pairs_with (j + 1) i ≡ front ++ pairs_with j i

@@ -56,6 +56,7 @@ events_read count connections (s ∷ said) [] h = absurd h
 events_read count connections (s ∷ said) (l ∷ ls) h =
     rw (event_read s l.1 h.0, events_read count connections said ls h.1) refl
 
+-- the count of a chain's servers is a number of eight bytes
 pub wide : (count : ℕ) → count ≤ 16 → count ≤ 2 ^ 64
 wide count few = let enough : 16 ≤ 2 ^ 64 = lit≤ tt in omega arith
 

@@ -18,6 +18,7 @@ pub record IsFirstOf (all : List (List ℕ)) (n : ℕ) : Type 0 where
   pub as_stated : AreAsStated (counted_lines before)
   pub bad : IsBadNext before others
 
+-- a fault names one line
 pub same_Err : {X : Type 0} (m n : ℕ) → ◌≡◌ {A = Result X ℕ} (Err m) (Err n) → m ≡ n
 same_Err {X} m n e = let some : Some m ≡ Some n = ap (λ (r : Result X ℕ). result_err r) e in same_Some m n some
 
@@ -27,17 +28,20 @@ pub one_counts : (front : List (List ℕ)) (line : List ℕ)
     → counted_lines (front ++ line ∷ []) ≡ counted_lines front ++ line ∷ []
 one_counts front line counts = filter-append (λ l. not (is_passed_over l)) front (line ∷ []) ∙ rw counts refl
 
+-- a line that is passed over adds none to those that count
 pub one_passed : (front : List (List ℕ)) (line : List ℕ)
     → is_passed_over line ≡ true
     → counted_lines (front ++ line ∷ []) ≡ counted_lines front
 one_passed front line passed =
     filter-append (λ l. not (is_passed_over l)) front (line ∷ []) ∙ (rw passed (append-nil (counted_lines front)))
 
+-- the number of the line behind one more is one more
 pub one_longer : (front : List (List ℕ)) (line : List ℕ) (m : ℕ)
     → m ≡ length front + 1
     → m + 1 ≡ length (front ++ line ∷ []) + 1
 one_longer front line m is = omega (arith, length-append front (line ∷ []))
 
+-- a line is taken from the front of those to come to the end of those before
 pub regrouped : (all front later : List (List ℕ)) (line : List ℕ)
     → all ≡ front ++ line ∷ later
     → all ≡ (front ++ line ∷ []) ++ later
@@ -53,6 +57,7 @@ are_more [] (l ∷ ls) s line h is = absurd h
 are_more (t ∷ said) [] s line h is = absurd h
 are_more (t ∷ said) (l ∷ ls) s line h is = (h.0, are_more said ls s line h.1 is)
 
+-- the last of some lines of events is one
 pub last_is : (said : List EventLine) (ls : List (List ℕ)) (line : List ℕ)
     → AreEventLines said (ls ++ line ∷ [])
     → (s : EventLine) × IsEventLine s line

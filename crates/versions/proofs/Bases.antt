@@ -44,6 +44,7 @@ item-base_of (e ∷ es) q =
     ∙ ap (λ b. cond b e.1.item (item_in (record_at es q))) (sym (same_tie q e.0))
     ∙ item_of_choice (is_at (place_cmp q) e.0) e.1 (record_at es q)
 
+-- records that give each key the same item stand for the same base
 pub same_base : (records others : List (List ℕ × Record))
     → ((q : List ℕ) → item_in (record_at others q) ≡ item_in (record_at records q))
     → base_of others ≡ base_of records
@@ -64,6 +65,7 @@ same_by : {A : Type 0} (f : List ℕ → A) (k q : List ℕ) (b : Bool) → (b �
 same_by f k q true h = ap f (h refl)
 same_by f k q false h = refl
 
+-- at the key that is noted the numbers gain this one, and at another they stay
 pub noted_by : (f : List ℕ → List ℕ) (n : ℕ) (k q : List ℕ) (b : Bool)
     → (b ≡ true → k ≡ q)
     → cond b (f k ++ n ∷ []) (f q) ≡ f q ++ cond b (n ∷ []) []
@@ -101,6 +103,7 @@ numbers_of_choice false r o = refl
 abbrev pub Replaced : List (List ℕ × Record) → List (List ℕ × Record) → List ℕ → Record → Type 0
 Replaced es fs k w = (q : List ℕ) → record_at fs q ≡ cond (is_at (place_cmp k) q) (Some w) (record_at es q)
 
+-- a record that is replaced by one with its item leaves each key's item as it is
 pub items_stay : (es fs : List (List ℕ × Record)) (k : List ℕ) (w : Record)
     → w.item ≡ item_in (record_at es k)
     → Replaced es fs k w
@@ -111,6 +114,7 @@ items_stay es fs k w is h q =
     ∙ ap (λ i. cond (is_at (place_cmp k) q) i (item_in (record_at es q))) is
     ∙ same_by (λ x. item_in (record_at es x)) k q (is_at (place_cmp k) q) (place_tie k q)
 
+-- a record that is replaced by one with its numbers leaves each key's numbers as they are
 pub numbers_stay : (es fs : List (List ℕ × Record)) (k : List ℕ) (w : Record)
     → w.numbers ≡ numbers_in (record_at es k)
     → Replaced es fs k w
@@ -195,6 +199,7 @@ abbrev pub first_of : Option Item → Option Item → Option Item
 first_of None o = o
 first_of (Some i) o = Some i
 
+-- these items with one put at a key, if there is one to put
 abbrev pub with_put : Items → List ℕ → Option Item → Items
 with_put items key None = items
 with_put items key (Some item) = insert items key item

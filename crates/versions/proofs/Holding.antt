@@ -16,6 +16,7 @@ use Rattle.versions.proofs.Lists.{last_up_to-taken, last-within, numbers-rise, n
 use Rattle.versions.proofs.Logs.{item-after_log, log-take, log-drop, log-push, item_from-take}
 use Rattle.versions.proofs.Bases.{item-base_of}
 
+-- the records of a store, each with its key
 abbrev pub Records : Type 0
 Records = List (List ℕ × Record)
 
@@ -25,6 +26,7 @@ from_zero : (low : ℕ) (ns : List ℕ) → IsRising low ns → IsRising 0 ns
 from_zero low [] h = tt
 from_zero low (n ∷ ns) h = (omega (arith, h.0), h.1)
 
+-- the numbers of a key rise
 pub numbers_held-rise : (rs : Records) (cl : List ℕ) (es : List LogEntry) (floor acked last : ℕ)
     → IsHeld rs cl es floor acked last
     → (key : List ℕ)
@@ -32,6 +34,7 @@ pub numbers_held-rise : (rs : Records) (cl : List ℕ) (es : List LogEntry) (flo
 numbers_held-rise rs cl es floor acked last h key =
     rw (h.index.of_keys key) (from_zero floor _ (numbers-rise (is_set key) floor es h.store.log))
 
+-- the numbers of the clears rise
 pub clears_held-rise : (rs : Records) (cl : List ℕ) (es : List LogEntry) (floor acked last : ℕ)
     → IsHeld rs cl es floor acked last
     → IsRising 0 cl
@@ -60,6 +63,7 @@ newest_is rs cl es floor acked last h key =
     ∙ ap (λ i. item_from i es floor (last_of (numbers_of (is_set key) es)) (last_of (numbers_of is_cleared es)))
     (item-base_of rs key))
 
+-- a key's item from its last number, and the last clear's, is that after all entries
 pub newest-held : (rs : Records) (cl : List ℕ) (es : List LogEntry) (floor acked last : ℕ)
     → IsHeld rs cl es floor acked last
     → (key : List ℕ) (r : Record)
@@ -70,6 +74,7 @@ newest-held rs cl es floor acked last h key r is =
     sym (newest_is rs cl es floor acked last h key
     ∙ from_record r _ (λ i ns. item_from i es floor (last_of ns) (last_of cl)) is)
 
+-- a key without record has no item after all entries
 pub newest-absent : (rs : Records) (cl : List ℕ) (es : List LogEntry) (floor acked last : ℕ)
     → IsHeld rs cl es floor acked last
     → (key : List ℕ)
@@ -80,6 +85,7 @@ newest-absent rs cl es floor acked last h key is =
     ∙ ap (λ o. item_from (item_in o) es floor (last_of (numbers_in o)) (last_of cl)) is
     ∙ item_from_none es floor (last_of cl)
 
+-- the last number of a key is that of an entry above the floor
 pub newest-within : (rs : Records) (cl : List ℕ) (es : List LogEntry) (floor acked last : ℕ)
     → IsHeld rs cl es floor acked last
     → (key : List ℕ) (r : Record)
@@ -126,6 +132,7 @@ at_is rs cl es floor acked last n h above known key =
         last-within (is_set key) floor (take k es) (log-take floor k es log) in
         rw len at h
 
+-- a key's item from its last number up to n, and the last clear's, is that at n
 pub at-held : (rs : Records) (cl : List ℕ) (es : List LogEntry) (floor acked last n : ℕ)
     → IsHeld rs cl es floor acked last
     → floor ≤ n
@@ -138,6 +145,7 @@ at-held rs cl es floor acked last n h above known key r is =
     sym (at_is rs cl es floor acked last n h above known key
     ∙ from_record r _ (λ i ns. item_from i es floor (last_up_to n ns) (last_up_to n cl)) is)
 
+-- a key without record has no item at n
 pub at-absent : (rs : Records) (cl : List ℕ) (es : List LogEntry) (floor acked last n : ℕ)
     → IsHeld rs cl es floor acked last
     → floor ≤ n
@@ -154,6 +162,7 @@ wider_above : (low high more : ℕ) (o : Option ℕ) → high ≤ more → IsWit
 wider_above low high more None le h = tt
 wider_above low high more (Some k) le h = (h.0, omega (arith, h.1))
 
+-- the last number of a key up to n is that of an entry above the floor
 pub at-within : (rs : Records) (cl : List ℕ) (es : List LogEntry) (floor acked last n : ℕ)
     → IsHeld rs cl es floor acked last
     → floor ≤ n
@@ -251,6 +260,7 @@ held-drop rs ss cl dl es fs floor acked last n h above below index entries =
 
 -- ---- one entry is item_from
 
+-- the base with the first entry's change is the base after that entry
 pub next_base : (rs ss : Records) (es fs : List LogEntry) (e : LogEntry)
     → es ≡ e ∷ fs
     → base_of ss ≡ changed (base_of rs) e.target e.change
@@ -259,6 +269,7 @@ next_base rs ss es fs e is h = rw is h
 
 -- ---- some entries are item_from
 
+-- the items after two lists of entries are those after the second, from those after the first
 pub items_after-append : (items : Items) (es fs : List LogEntry)
     → items_after items (es ++ fs) ≡ items_after (items_after items es) fs
 items_after-append items [] fs = refl
@@ -280,6 +291,7 @@ drop_suc (suc k) (e ∷ es) = drop_suc k es
 drop_more : (k : ℕ) (es : List LogEntry) → drop (k + 1) es ≡ drop 1 (drop k es)
 drop_more k es = rw add-one (drop_suc k es)
 
+-- one entry more has moved to the base
 pub more_settled : (items : Items) (k : ℕ) (es fs : List LogEntry) (b c : Items)
     → fs ≡ drop k es
     → b ≡ items_after items (take k es)
@@ -288,20 +300,24 @@ pub more_settled : (items : Items) (k : ℕ) (es fs : List LogEntry) (b c : Item
 more_settled items k es fs b c is h g =
     rw (g, is, h, take_more k es) (sym (items_after-append items (take k es) (take 1 (drop k es))))
 
+-- one entry more is taken off those above the floor
 pub more_dropped : (k : ℕ) (es fs gs : List LogEntry) → fs ≡ drop k es → gs ≡ drop 1 fs → gs ≡ drop (k + 1) es
 more_dropped k es fs gs is h = h ∙ ap (drop 1) is ∙ sym (drop_more k es)
 
 -- ---- two tests of a key: a result is there exactly if both fail
 
+-- if neither of two tests holds, it is right to say that none does
 pub is_neither : (a b : Bool)
     → a ≡ false
     → b ≡ false
     → (true ≡ true → not (a || b) ≡ true) × (not (a || b) ≡ true → true ≡ true)
 is_neither a b is same = (λ t. rw (is, same) refl, λ h. refl)
 
+-- if the first of two tests holds, it is right to deny that none does
 pub is_first : (a b : Bool) → a ≡ true → (false ≡ true → not (a || b) ≡ true) × (not (a || b) ≡ true → false ≡ true)
 is_first a b is = (λ f. cc, rw is (λ h. h))
 
+-- if the second of two tests holds, it is right to deny that none does
 pub is_second : (a b : Bool) → b ≡ true → (false ≡ true → not (a || b) ≡ true) × (not (a || b) ≡ true → false ≡ true)
 is_second true b is = (λ f. cc, λ h. h)
 is_second false b is = (λ f. cc, rw is (λ h. h))

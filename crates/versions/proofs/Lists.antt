@@ -20,6 +20,7 @@ last_of-at (m ∷ k ∷ ns) n some is =
     let is' : n ≡ get_or (k ∷ ns) (length (k ∷ ns) - 1) n = rw place at is in
     ap (λ o. Some (unwrap_or o m)) (last_of-at (k ∷ ns) n (omega arith) is')
 
+-- an empty list has no last number
 pub last_of-none : (ns : List ℕ) → length ns ≡ 0 → last_of ns ≡ None
 last_of-none [] e = refl
 last_of-none (n ∷ ns) e = absurd (omega arith)
@@ -30,6 +31,7 @@ append_step : (b : Bool) (n : ℕ) (ks ls ms : List ℕ) → ks ≡ ls ++ ms →
 append_step true n ks ls ms e = ap (λ r. n ∷ r) e
 append_step false n ks ls ms e = e
 
+-- the numbers of two lists of entries are those of the first, and then those of the second
 pub numbers_of-append : (test : LogEntry → Bool) (es fs : List LogEntry)
     → numbers_of test (es ++ fs) ≡ numbers_of test es ++ numbers_of test fs
 numbers_of-append test [] fs = refl
@@ -176,6 +178,7 @@ or_swap false true true d = refl
 or_swap false true false d = refl
 or_swap false false c d = refl
 
+-- one of the entries passes either test exactly if one passes the first or one passes the second
 pub any-or : (p q : LogEntry → Bool) (es : List LogEntry)
     → list_any (λ e. p e || q e) es ≡ (list_any p es || list_any q es)
 any-or p q [] = refl
@@ -216,6 +219,7 @@ rising_le low (n ∷ ns) zero (suc j) d h le below =
 rising_le low (n ∷ ns) (suc i) zero d h le below = absurd (omega arith)
 rising_le low (n ∷ ns) (suc i) (suc j) d h le below = rising_le n ns i j d h.1 (omega arith) (omega arith)
 
+-- in rising numbers those up to n come first, as a binary search asks
 pub partitioned-rising : (low n : ℕ) (ns : List ℕ) → IsRising low ns → IsPartitionedBy (λ k. nat_le k n) ns
 partitioned-rising low n ns h i j d le below e =
     let order = rising_le low ns i j d h le below in grind (arith, nat_tests, order, e)
@@ -236,6 +240,7 @@ front_of p (n ∷ ns) (suc k) t f le =
     (ap (λ r. n ∷ r) (front_of p ns k (λ i d h. t (suc i) d (omega arith))
     (λ i d h g. f (suc i) d (omega arith) (omega arith)) (omega arith)))
 
+-- the numbers up to n are those before the point that the search finds
 pub front-from_point : (n : ℕ) (ns : List ℕ) (k : ℕ)
     → IsPartitionPoint (λ y. nat_le y n ≡ true) (λ y. nat_le y n ≡ false) ns k
     → k ≤ length ns
@@ -243,6 +248,7 @@ pub front-from_point : (n : ℕ) (ns : List ℕ) (k : ℕ)
 front-from_point n ns k h le =
     front_of (λ m. nat_le m n) ns k (λ i d g. h.0 i d (omega arith) g) (λ i d g e. h.1 i d g e) le
 
+-- the last of the first k numbers, as `get` answers it
 pub last_of-front : (ns : List ℕ) (k : ℕ) (r : Option (Bor ℕ))
     → 0 < k
     → k ≤ length ns

@@ -122,16 +122,19 @@ item-after_log q items floor (e ∷ es) log =
 
 -- ---- parts of a log
 
+-- a beginning of a log is a log
 pub log-take : (floor k : ℕ) (es : List LogEntry) → IsLog floor es → IsLog floor (take k es)
 log-take floor zero es log = tt
 log-take floor (suc k) [] log = tt
 log-take floor (suc k) (e ∷ es) log = (log.0, log.1, log-take (floor + 1) k es log.2)
 
+-- what follows a beginning of a log is a log
 pub log-drop : (floor k n : ℕ) (es : List LogEntry) → n ≡ floor + k → IsLog floor es → IsLog n (drop k es)
 log-drop floor zero n es is log = let same : n ≡ floor = omega arith in rw same log
 log-drop floor (suc k) n [] is log = tt
 log-drop floor (suc k) n (e ∷ es) is log = log-drop (floor + 1) k n es (omega arith) log.2
 
+-- a log with its next entry is a log
 pub log-push : (floor : ℕ) (es : List LogEntry) (e : LogEntry)
     → IsEntry e
     → e.number ≡ floor + length es + 1

@@ -4,6 +4,7 @@ use Rattle.versions.specs.Entries.{LogEntry, IsEntry}
 use Rattle.versions.specs.Stores.{StoreState, IsStore, last_number, pushed, acked_to, dropped_to}
 use Rattle.versions.proofs.Logs.{log-push, log-drop}
 
+-- a store with its next entry is one
 pub store-pushed : (s : StoreState) (e : LogEntry)
     → IsEntry e
     → e.number ≡ last_number s + 1
@@ -16,9 +17,11 @@ store-pushed s e valid next h = record {
       length-append s.rest (e ∷ []) in omega (arith, h.acked_held, l);
 }
 
+-- a store whose acknowledged number rises up to the last one is one
 pub store-acked : (s : StoreState) (n : ℕ) → s.acked ≤ n → n ≤ last_number s → IsStore s → IsStore (acked_to s n)
 store-acked s n low high h = record { log = h.log; floor_acked = omega (arith, h.floor_acked); acked_held = high }
 
+-- a store whose floor rises up to the acknowledged number is one
 pub store-dropped : (s : StoreState) (n : ℕ) → s.floor ≤ n → n ≤ s.acked → IsStore s → IsStore (dropped_to s n)
 store-dropped s n low high h = record {
   log = log-drop s.floor (n - s.floor) n s.rest (omega arith) h.log;
@@ -27,6 +30,7 @@ store-dropped s n low high h = record {
       length-drop (n - s.floor) s.rest in omega (arith, h.acked_held, l);
 }
 
+-- a floor that rises leaves the last number as it is
 pub last-dropped : (s : StoreState) (n : ℕ)
     → s.floor ≤ n
     → n ≤ last_number s

@@ -72,9 +72,11 @@ ends_there bytes s e = record {
   ends_so = ap (λ (r : List ℕ). end_at (front r)) (rest_none bytes s e) ∙ ap end_at e;
 }
 
+-- at a bad front no frame is left, and a stream ends so
 pub malformed_ends : (bytes : List ℕ) → IsMalformed bytes → IsEnd bytes ends.Malformed
 malformed_ends bytes h = ends_there bytes Malformed (malformed_to bytes h)
 
+-- at an older server's front no frame is left, and a stream ends so
 pub old_ends : (bytes : List ℕ) → IsOld bytes → IsEnd bytes ends.Old
 old_ends bytes h = ends_there bytes Old (old_to bytes h)
 
@@ -97,6 +99,7 @@ rest_stops bytes = by_length (length bytes) bytes (omega arith)
         by_front (Err s) e ih = (s, e)
         by_front (Ok x) e ih = let less = front_takes bytes x.0 x.1 e in ih x.1 (omega arith)
 
+-- no frame stands after the frames of a stream
 pub no_more : (bytes : List ℕ) → HasFrame (rest_in bytes) → ⊥
 no_more bytes h =
     let stop = rest_stops bytes in
@@ -117,6 +120,7 @@ first_and_later f fs bytes rest more first later = record {
       ∙ ap (λ (t : List ℕ). t ++ more) (sym (flat_map-cons spelling f fs));
 }
 
+-- the frames of a stream follow one another from its front
 pub frames_are_first : (bytes : List ℕ) → IsBytes bytes → AreFirst (frames_in bytes) bytes (rest_in bytes)
 frames_are_first bytes fits = by_length (length bytes) bytes fits
   where
@@ -134,11 +138,13 @@ frames_are_first bytes fits = by_length (length bytes) bytes fits
             first_and_later x.0 (frames_upto k x.1) bytes x.1 (rest_upto k x.1) first
             (ih x.1 (bytes_behind (spelling x.0) x.1 bytes first.spelled fits))
 
+-- frames that follow one another from the front are the first ones of the stream
 pub frames_behind : (fs : List Frame) (bytes rest : List ℕ)
     → AreFirst fs bytes rest
     → frames_in bytes ≡ fs ++ frames_in rest
 frames_behind fs bytes rest h = ap frames_in h.spelled ∙ written_again fs rest h.in_range
 
+-- the end of a stream is that of the bytes after frames that follow one another from its front
 pub end_behind : (fs : List Frame) (bytes rest : List ℕ) → AreFirst fs bytes rest → end_in bytes ≡ end_in rest
 end_behind fs bytes rest h = ap end_in h.spelled ∙ again fs h.in_range
   where
@@ -153,6 +159,7 @@ end_behind fs bytes rest h = ap end_in h.spelled ∙ again fs h.in_range
         (record { in_range = h.0; spelled = regrouped }))
         ∙ again fs h.1
 
+-- at first no frame has been handed on
 pub none_yet : (bytes : List ℕ) → AreFirst [] bytes bytes
 none_yet bytes = record { in_range = tt; spelled = refl }
 
@@ -164,6 +171,7 @@ all_in_range : (fs gs : List Frame)
 all_in_range [] gs h g = g
 all_in_range (f ∷ fs) gs h g = (h.0, all_in_range fs gs h.1 g)
 
+-- several frames more from the front of the unread bytes are handed on
 pub then_frames : (fs gs : List Frame) (bytes unread rest : List ℕ)
     → AreFirst fs bytes unread
     → AreFirst gs unread rest
@@ -179,12 +187,14 @@ then_frames fs gs bytes unread rest h g = record {
 one_first : (f : Frame) (bytes rest : List ℕ) → IsFirst f bytes rest → AreFirst (f ∷ []) bytes rest
 one_first f bytes rest first = first_and_later f [] bytes rest rest first (none_yet rest)
 
+-- one frame more from the front of the unread bytes is handed on
 pub one_more : (fs : List Frame) (f : Frame) (bytes unread rest : List ℕ)
     → AreFirst fs bytes unread
     → IsFirst f unread rest
     → AreFirst (fs ++ f ∷ []) bytes rest
 one_more fs f bytes unread rest h first = then_frames fs (f ∷ []) bytes unread rest h (one_first f unread rest first)
 
+-- a piece more comes after the unread bytes
 pub more_behind : (fs : List Frame) (bytes unread piece : List ℕ)
     → AreFirst fs bytes unread
     → AreFirst fs (bytes ++ piece) (unread ++ piece)
@@ -232,6 +242,7 @@ first_come f fs read rest first h =
       end_some read f rest e ∙ h.2,
     )
 
+-- whatever has come of frames that were written, its frames are the first of these, and no front is bad
 pub read_in_order : (fs : List Frame) (read more : List ℕ)
     → AllByRecursion IsFrame fs
     → flat_map spelling fs ≡ read ++ more
@@ -260,6 +271,7 @@ read_in_order (f ∷ fs) read more h e =
 
 -- ---- which front tells which end
 
+-- if a stream ends with its input, what stands after its frames isn't whole
 pub input_is : (bytes : List ℕ) → IsBytes bytes → end_in bytes ≡ ends.Input → IsPartial (rest_in bytes)
 input_is bytes fits e = by_stop (rest_stops bytes).0 (rest_stops bytes).1
   where
@@ -272,6 +284,7 @@ input_is bytes fits e = by_stop (rest_stops bytes).0 (rest_stops bytes).1
     by_stop Malformed stopped = let is : end_in bytes ≡ ends.Malformed = ap end_at stopped in absurd cc
     by_stop Old stopped = let is : end_in bytes ≡ ends.Old = ap end_at stopped in absurd cc
 
+-- if what stands after its frames isn't whole, a stream ends with its input
 pub is_input : (bytes : List ℕ) → IsBytes bytes → IsPartial (rest_in bytes) → end_in bytes ≡ ends.Input
 is_input bytes fits h = by_stop (rest_stops bytes).0 (rest_stops bytes).1
   where
@@ -284,6 +297,7 @@ is_input bytes fits h = by_stop (rest_stops bytes).0 (rest_stops bytes).1
     by_stop Malformed stopped = absurd (h.not_malformed (malformed_from (rest_in bytes) fits_behind stopped))
     by_stop Old stopped = absurd (h.not_old (old_from (rest_in bytes) stopped))
 
+-- if a stream ends in a bad front, one stands after its frames
 pub malformed_is : (bytes : List ℕ) → IsBytes bytes → end_in bytes ≡ ends.Malformed → IsMalformed (rest_in bytes)
 malformed_is bytes fits e = by_stop (rest_stops bytes).0 (rest_stops bytes).1
   where
@@ -296,9 +310,11 @@ malformed_is bytes fits e = by_stop (rest_stops bytes).0 (rest_stops bytes).1
     by_stop Malformed stopped = malformed_from (rest_in bytes) fits_behind stopped
     by_stop Old stopped = let is : end_in bytes ≡ ends.Old = ap end_at stopped in absurd cc
 
+-- if a bad front stands after its frames, a stream ends so
 pub is_malformed : (bytes : List ℕ) → IsMalformed (rest_in bytes) → end_in bytes ≡ ends.Malformed
 is_malformed bytes h = ap end_at (malformed_to (rest_in bytes) h)
 
+-- if a stream ends in an older server's front, one stands after its frames
 pub old_is : (bytes : List ℕ) → end_in bytes ≡ ends.Old → IsOld (rest_in bytes)
 old_is bytes e = by_stop (rest_stops bytes).0 (rest_stops bytes).1
   where
@@ -307,5 +323,6 @@ old_is bytes e = by_stop (rest_stops bytes).0 (rest_stops bytes).1
     by_stop Malformed stopped = let is : end_in bytes ≡ ends.Malformed = ap end_at stopped in absurd cc
     by_stop Old stopped = old_from (rest_in bytes) stopped
 
+-- if an older server's front stands after its frames, a stream ends so
 pub is_old : (bytes : List ℕ) → IsOld (rest_in bytes) → end_in bytes ≡ ends.Old
 is_old bytes h = ap end_at (old_to (rest_in bytes) h)

@@ -18,6 +18,7 @@ use Rattle.wire.proofs.Readers.{IsBytes, IsBytes-take, IsReader, in_turn, made, 
 
 -- ---- a range
 
+-- a value that passes the test of its range is the one that was read
 pub within_ok : {A : Type 0} (b : Bool) (x y : A) → within b x ≡ Ok y → (b ≡ true) × (x ≡ y)
 within_ok true x y e = (refl, cc)
 within_ok false x y e = absurd cc
@@ -26,6 +27,7 @@ within_bad : {A : Type 0} (b : Bool) (x : A) → within b x ≡ Err Malformed �
 within_bad true x e = absurd cc
 within_bad false x e = refl
 
+-- the test of a range waits for no bytes
 pub within_short : {A : Type 0} (b : Bool) (x : A) (k : ℕ) → within b x ≡ Err (Short k) → ⊥
 within_short true x k e = cc
 within_short false x k e = cc
@@ -36,6 +38,7 @@ within_old false x e = cc
 
 -- ---- a byte
 
+-- a byte that is read is in its range, and stands at the front
 pub byte_takes : (range : ℕ → Bool) (bytes : List ℕ) (x : ℕ) (rest : List ℕ)
     → byte_at range bytes ≡ Ok (x, rest)
     → (text : List ℕ) × (byte range).Spells x text × (bytes ≡ text ++ rest)
@@ -92,6 +95,7 @@ byte_shrinks range (b ∷ bytes) x rest e =
     let w = within_ok (range b) (b, bytes) (x, rest) e in
     let behind : bytes ≡ rest = ap (λ (p : ℕ × List ℕ). p.1) w.1 in rw (← behind) (omega arith)
 
+-- a byte is read as the format says
 pub byte_reader : (range : ℕ → Bool) → IsReader (byte_at range) (byte range)
 byte_reader range = record {
   takes = λ bytes x rest fits e. byte_takes range bytes x rest e;
@@ -120,6 +124,7 @@ here n bytes =
 abbrev pub counted : {A : Type 0} → ℕ → (List ℕ → Result A Stop) → List ℕ → Result A Stop
 counted n f bytes = cond (nat_lt (length bytes) n) (Err (Short (n - length bytes))) (f bytes)
 
+-- what comes of n bytes at the front comes only if they are there
 pub counted_ok : {A : Type 0} (n : ℕ) (f : List ℕ → Result A Stop) (bytes : List ℕ) (x : A)
     → counted n f bytes ≡ Ok x
     → (n ≤ length bytes) × (f bytes ≡ Ok x)
@@ -129,6 +134,7 @@ counted_ok n f bytes x e =
       | inr long ↦ (long.1, (rw long.0 at e))
     ]
 
+-- if bytes are missing, they are n less those that are there
 pub counted_short : {A : Type 0} (n : ℕ) (f : List ℕ → Result A Stop) (bytes : List ℕ) (k : ℕ)
     → ((k : ℕ) → f bytes ≡ Err (Short k) → ⊥)
     → counted n f bytes ≡ Err (Short k)
@@ -159,6 +165,7 @@ counted_at n f bytes le = rw (le-ltb (length bytes) n le) refl
 
 -- ---- numbers
 
+-- what is known of a width: its numbers are written as so many bytes, and read again
 pub record IsWide (w : Width) : Type 0 where
   pub len : (n : ℕ) → length (to_be_bytes w n) ≡ byte_len w
   pub back : (bytes : List ℕ)
@@ -168,6 +175,7 @@ pub record IsWide (w : Width) : Type 0 where
   pub again : (n : ℕ) → n < 2 ^ (8 * byte_len w) → from_be_bytes w (to_be_bytes w n) ≡ n
   pub below : (bytes : List ℕ) → IsBytes bytes → from_be_bytes w bytes < 2 ^ (8 * byte_len w)
 
+-- numbers of two bytes are read again as they were written
 pub wide16 : IsWide w16
 wide16 = record {
   len = λ n. refl;
@@ -176,6 +184,7 @@ wide16 = record {
   below = λ bytes fits. omega (arith, fits 0, fits 1);
 }
 
+-- numbers of four bytes are read again as they were written
 pub wide32 : IsWide w32
 wide32 = record {
   len = λ n. refl;
@@ -184,6 +193,7 @@ wide32 = record {
   below = λ bytes fits. omega (arith, fits 0, fits 1, fits 2, fits 3);
 }
 
+-- numbers of eight bytes are read again as they were written
 pub wide64 : IsWide w64
 wide64 = record {
   len = λ n. refl;
@@ -232,6 +242,7 @@ judged_more : (w : Width) (range : ℕ → Bool) (bytes more : List ℕ) → byt
 judged_more w range bytes more long =
     rw (take-append-le (byte_len w) bytes more long, drop-append-le (byte_len w) bytes more long) refl
 
+-- a number of two, four or eight bytes is read as the format says
 pub number_reader : (w : Width) (range : ℕ → Bool) → IsWide w → IsReader (number_at w range) (number w range)
 number_reader w range wide = record {
   takes = λ bytes x rest fits e.
@@ -313,9 +324,11 @@ number_reader w range wide = record {
 
 -- ---- any n bytes
 
+-- the first n bytes, and those after them
 abbrev pub cut : ℕ → List ℕ → Read (List ℕ)
 cut n bytes = Ok (take n bytes, drop n bytes)
 
+-- any n bytes are read as the format says
 pub bytes_reader : (n : ℕ) → IsReader (bytes_at n) (bytes_of n)
 bytes_reader n = record {
   takes = λ bytes x rest fits e.
@@ -437,5 +450,6 @@ text_same (suc n) (b ∷ bytes) =
     by_tests false false true = refl
     by_tests false false false = refl
 
+-- n bytes of a key are read as the format says
 pub text_reader : (n : ℕ) → IsReader (text_at n) (text_of is_key_byte n)
 text_reader n = same_reader (text_by_byte n) (text_at n) (text_of is_key_byte n) (text_same n) (by_byte_reader n)

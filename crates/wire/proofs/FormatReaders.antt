@@ -310,6 +310,7 @@ pub behind_format_reader : IsReader (λ bytes. byte_at any bytes >>= λ kind. of
     (followed (byte any) format.of_kind)
 behind_format_reader = in_turn (byte_at any) (byte any) of_kind_at format.of_kind (byte_reader any) of_kind_reader
 
+-- a whole frame is read as the format says, if older servers aren't told apart
 pub plain_reader : IsReader plain_front format.frame
 plain_reader =
     in_turn (byte_at (λ b. b == 2)) (byte (λ b. b == 2))

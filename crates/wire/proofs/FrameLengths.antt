@@ -337,6 +337,7 @@ partial_is_short bytes fits h = by_front (front bytes) refl
     by_front (Err Malformed) e = absurd (h.not_malformed (malformed_from bytes fits e))
     by_front (Err Old) e = absurd (h.not_old (old_from bytes e))
 
+-- no frame is longer than the longest
 pub frame_is_within : (f : Frame) → IsFrame f → length (spelling f) ≤ longest
 frame_is_within f h =
     let read : plain_front (spelling f ++ []) ≡ Ok (f, []) = plain_reader.again f (spelling f) [] (frame_to f h) in
@@ -397,6 +398,7 @@ long_key = (replicate 250 97, refl, refl)
 so_many : (n : ℕ) → (block : List ℕ) × (length block ≡ n)
 so_many n = (replicate n 0, length-replicate n 0)
 
+-- some frame is as long as the longest
 pub longest_there : (f : Frame) × IsFrame f × (length (spelling f) ≡ longest)
 longest_there =
     let key = long_key in
@@ -417,5 +419,6 @@ all_but_one f n h long =
       omega (arith, length-take n (spelling f)),
     )
 
+-- some front that waits is shorter than the longest frame by one byte alone
 pub short_by_one : (bytes : List ℕ) × IsPartial bytes × (length bytes + 1 ≡ longest)
 short_by_one = all_but_one longest_there.0 1048865 longest_there.1 longest_there.2

@@ -71,6 +71,7 @@ first_from bytes f rest fits e =
           record { in_range = s.0; spelled = t.2 ∙ ap (λ (t : List ℕ). t ++ rest) s.1 }
     ]
 
+-- a frame that stands at the front is read
 pub first_to : (bytes : List ℕ) (f : Frame) (rest : List ℕ) → IsFirst f bytes rest → front bytes ≡ Ok (f, rest)
 first_to bytes f rest h =
     let read : plain_front bytes ≡ Ok (f, rest) =
@@ -80,6 +81,7 @@ first_to bytes f rest h =
       | inr other ↦ other.1 ∙ read
     ]
 
+-- what is read as a bad front is one
 pub malformed_from : (bytes : List ℕ) → IsBytes bytes → front bytes ≡ Err Malformed → IsMalformed bytes
 malformed_from bytes fits e =
     elim (by_format bytes) [
@@ -87,6 +89,7 @@ malformed_from bytes fits e =
       | inr other ↦ record { bad = plain_reader.bad bytes fits (sym other.1 ∙ e); not_old = other.0 }
     ]
 
+-- a bad front is read as one
 pub malformed_to : (bytes : List ℕ) → IsMalformed bytes → front bytes ≡ Err Malformed
 malformed_to bytes h =
     elim (by_format bytes) [
@@ -94,6 +97,7 @@ malformed_to bytes h =
       | inr other ↦ other.1 ∙ plain_reader.refuses bytes h.bad
     ]
 
+-- what is read as an older server's front is one
 pub old_from : (bytes : List ℕ) → front bytes ≡ Err Old → IsOld bytes
 old_from bytes e =
     elim (by_format bytes) [
@@ -101,6 +105,7 @@ old_from bytes e =
       | inr other ↦ absurd (plain_reader.never_old bytes (sym other.1 ∙ e))
     ]
 
+-- an older server's front is read as one
 pub old_to : (bytes : List ℕ) → IsOld bytes → front bytes ≡ Err Old
 old_to bytes h =
     elim (by_format bytes) [
@@ -108,6 +113,7 @@ old_to bytes h =
       | inr other ↦ absurd (other.0 h)
     ]
 
+-- what waits for more bytes isn't whole
 pub partial_from : (bytes : List ℕ) (k : ℕ) → front bytes ≡ Err (Short k) → IsPartial bytes
 partial_from bytes k e = record {
   no_frame = λ h. ok_not_err (front bytes) (h.0, h.1) (Short k) (first_to bytes h.0 h.1 h.2) e;
@@ -127,11 +133,13 @@ plain_short bytes k e =
 pub frame_not_malformed : (bytes : List ℕ) (x : Frame × List ℕ) → front bytes ≡ Ok x → IsMalformed bytes → ⊥
 frame_not_malformed bytes x e h = ok_not_err (front bytes) x Malformed e (malformed_to bytes h)
 
+-- if a frame is read no older server speaks
 pub frame_not_old : (bytes : List ℕ) (x : Frame × List ℕ) → front bytes ≡ Ok x → IsOld bytes → ⊥
 frame_not_old bytes x e h = ok_not_err (front bytes) x Old e (old_to bytes h)
 
 -- ---- more bytes
 
+-- a frame that is read is read too when more bytes come
 pub front_stays : (bytes more : List ℕ) (f : Frame) (rest : List ℕ)
     → front bytes ≡ Ok (f, rest)
     → front (bytes ++ more) ≡ Ok (f, rest ++ more)
@@ -146,6 +154,7 @@ front_stays bytes more f rest e =
           ]
     ]
 
+-- an older server's front stays so when more bytes come
 pub old_stays : (bytes more : List ℕ) → front bytes ≡ Err Old → front (bytes ++ more) ≡ Err Old
 old_stays bytes more e =
     let o = old_from bytes e in old_to (bytes ++ more) (o.0 ++ more, ap (λ (t : List ℕ). t ++ more) o.1)
@@ -158,10 +167,12 @@ old_before (b ∷ bytes) more o = inr (bytes, ap (λ (b : ℕ). b ∷ bytes) (fi
     first_is : (b : ℕ) (rest more : List ℕ) → b ∷ rest ≡ 1 ∷ more → b ≡ 1
     first_is b rest more e = cc
 
+-- with no bytes there, a byte is waited for
 pub nothing_read : front [] ≡ Err (Short 1)
 unfolding front
 nothing_read = refl
 
+-- a bad front stays so when more bytes come
 pub malformed_stays : (bytes more : List ℕ) → front bytes ≡ Err Malformed → front (bytes ++ more) ≡ Err Malformed
 malformed_stays bytes more e =
     elim (by_format bytes) [
@@ -178,6 +189,7 @@ malformed_stays bytes more e =
           ]
     ]
 
+-- a front that waits for more bytes than come waits for the others
 pub front_waits : (bytes more : List ℕ) (k : ℕ)
     → front bytes ≡ Err (Short k)
     → length more < k
@@ -211,6 +223,7 @@ front_takes bytes f rest e =
     one_more : (n : ℕ) (rest : List ℕ) → length ((n ∷ []) ++ rest) ≡ 1 + length rest
     one_more n rest = omega arith
 
+-- at most one frame stands at a front
 pub one_frame : (f g : Frame) (bytes more others : List ℕ)
     → IsFirst f bytes more
     → IsFirst g bytes others
@@ -247,6 +260,7 @@ beginning_short f some rest h e more = by_front (front some) refl
         absurd (ok_not_err (front (some ++ rest)) (f, []) Malformed whole (malformed_stays some rest e))
     by_front (Err Old) e = absurd (ok_not_err (front (some ++ rest)) (f, []) Old whole (old_stays some rest e))
 
+-- a beginning of a frame that isn't all of it isn't whole
 pub beginning_waits : (f : Frame) (some rest : List ℕ)
     → IsFrame f
     → spelling f ≡ some ++ rest
@@ -268,6 +282,7 @@ no_error : (r : Read Frame) (s : Stop) → IsOk r → r ≡ Err s → ⊥
 no_error (Ok x) s h e = cc
 no_error (Err t) s h e = cc
 
+-- who runs out of memory has met no bad front
 pub wanted_not_malformed : (fault : ReadFault) (bytes : List ℕ)
     → fault ≡ Memory
     → Fails fault (front bytes)
@@ -276,10 +291,12 @@ pub wanted_not_malformed : (fault : ReadFault) (bytes : List ℕ)
 wanted_not_malformed fault bytes e h m =
     no_error (front bytes) Malformed (subst (λ fault. Fails fault (front bytes)) e h) (malformed_to bytes m)
 
+-- who runs out of memory has met no older server
 pub wanted_not_old : (fault : ReadFault) (bytes : List ℕ) → fault ≡ Memory → Fails fault (front bytes) → IsOld bytes → ⊥
 wanted_not_old fault bytes e h o =
     no_error (front bytes) Old (subst (λ fault. Fails fault (front bytes)) e h) (old_to bytes o)
 
+-- who runs out of memory has a frame at the front
 pub wanted_frame : (fault : ReadFault) (bytes : List ℕ)
     → IsBytes bytes
     → fault ≡ Memory
@@ -305,10 +322,12 @@ rest_behind bytes f rest h =
 
 -- ---- what a reader of frames keeps in mind
 
+-- a front at which bytes are missing waits for as many
 pub waiting : (k : ℕ) (bytes : List ℕ) → 0 < k → IsMissing k bytes → front bytes ≡ Err (Short k)
 waiting zero bytes lt h = absurd (omega arith)
 waiting (suc k) bytes lt h = h
 
+-- with a piece more, as many bytes less are missing
 pub missing_fed : (k : ℕ) (bytes piece : List ℕ) → IsMissing k bytes → IsMissing (k - length piece) (bytes ++ piece)
 missing_fed k bytes piece h = by_left (k - length piece) refl
   where

@@ -16,6 +16,7 @@ pub record IsWithin {A : Type 0} (most : ℕ) (read : List ℕ → Read A) : Typ
   pub takes : (bytes : List ℕ) (x : A) (rest : List ℕ) → read bytes ≡ Ok (x, rest) → length bytes ≤ most + length rest
   pub waits : (bytes : List ℕ) (k : ℕ) → read bytes ≡ Err (Short k) → length bytes < most
 
+-- a reader that keeps within a length keeps within a larger one
 pub wider : {A : Type 0} (most larger : ℕ) (r : List ℕ → Read A) → most ≤ larger → IsWithin most r → IsWithin larger r
 wider most larger r le h = record {
   takes = λ bytes x rest e. omega (arith, h.takes bytes x rest e);
@@ -79,6 +80,7 @@ within_chosen m false r s first second = second
 
 -- ---- fields
 
+-- a reader of a byte takes off one byte at most
 pub within_byte : (range : ℕ → Bool) → IsWithin 1 (byte_at range)
 within_byte range = record { takes = byte_takes_one range; waits = byte_waits_one range }
   where
@@ -101,6 +103,7 @@ within_byte range = record { takes = byte_takes_one range; waits = byte_waits_on
 after : (n : ℕ) (bytes rest : List ℕ) → n ≤ length bytes → drop n bytes ≡ rest → length bytes ≤ n + length rest
 after n bytes rest le same = rw (← same) (omega (arith, length-drop n bytes))
 
+-- a reader of a number takes off its width at most
 pub within_number : (w : Width) (range : ℕ → Bool) → IsWithin (byte_len w) (number_at w range)
 within_number w range = record {
   takes = λ bytes x rest e.
@@ -119,6 +122,7 @@ behind_cut : (n : ℕ) (bytes x rest : List ℕ) → cut n bytes ≡ Ok (x, rest
 behind_cut n bytes x rest e =
     let pair : (take n bytes, drop n bytes) ≡ (x, rest) = cc in ap (λ (p : List ℕ × List ℕ). p.1) pair
 
+-- a reader of n bytes takes off n at most
 pub within_bytes : (n : ℕ) → IsWithin n (bytes_at n)
 within_bytes n = record {
   takes = λ bytes x rest e. let c = counted_ok n (cut n) bytes (x, rest) e in after n bytes rest c.0
@@ -149,6 +153,7 @@ text_waits n bytes k true e =
       | inr le ↦ let went : text_judged n true bytes ≡ cut n bytes = rw (le-ltb (length bytes) n le) refl in absurd cc
     ]
 
+-- a reader of n bytes of a key takes off n at most
 pub within_text : (n : ℕ) → IsWithin n (text_at n)
 within_text n = record {
   takes = λ bytes x rest e. text_takes n bytes x rest (list_all is_key_byte (take n bytes)) e;

@@ -13,9 +13,11 @@ use Rattle.wire.specs.Fronts.{Read, ◌>>=◌}
 abbrev pub IsBytes : List ℕ → Type 0
 IsBytes bytes = (i : ℕ) → get_or bytes i 0 < 256
 
+-- bytes after a front are bytes
 pub IsBytes-drop : (n : ℕ) (bytes : List ℕ) → IsBytes bytes → IsBytes (drop n bytes)
 IsBytes-drop n bytes h i = rw get_or-drop (h (n + i))
 
+-- bytes up to a place are bytes
 pub IsBytes-take : (n : ℕ) (bytes : List ℕ) → IsBytes bytes → IsBytes (take n bytes)
 IsBytes-take n bytes h i =
     elim (cases_lt i n) [
@@ -75,6 +77,7 @@ pub bind_at : {A B : Type 0} (r : Result A Stop) (f : A → Result B Stop) (x : 
     → (r >>= f) ≡ y
 bind_at r f x y e h = ap (λ r. r >>= f) e ∙ h
 
+-- if the first step stops, nothing more is read
 pub bind_stop : {A B : Type 0} (r : Result A Stop) (f : A → Result B Stop) (s : Stop) → r ≡ Err s → (r >>= f) ≡ Err s
 bind_stop r f s e = ap (λ r. r >>= f) e
 

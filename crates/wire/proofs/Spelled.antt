@@ -36,6 +36,7 @@ pub from_made : {A B : Type 0} (p : Part A) (f : A → B) (y : B) (text : List �
 from_made p f y text s =
     (s.0, subst (p.Spells s.0) (sym (s.5 ∙ ap (λ (t : List ℕ). s.1 ++ t) s.4.1 ∙ append-nil s.1)) s.3, s.4.0)
 
+-- what is made of a part is spelled as the part is
 pub to_made : {A B : Type 0} (p : Part A) (f : A → B) (x : A) (text : List ℕ)
     → p.Spells x text
     → (followed p (λ x. makes (f x))).Spells (f x) text
@@ -43,9 +44,11 @@ to_made p f x text s = (x, text, [], s, (refl, refl), sym (append-nil text))
 
 -- ---- ranges
 
+-- who passes the test of a greatest number is at most that
 pub at_most_is : (most n : ℕ) → at_most most n ≡ true → n ≤ most
 at_most_is most n e = leb-true n most e
 
+-- who passes the test of an end is below that
 pub below_is : (end n : ℕ) → below end n ≡ true → n < end
 below_is end n e = ltb-true n end e
 
@@ -69,6 +72,7 @@ text_to (b ∷ x) h =
     let p = and_parts (is_key_byte b) (list_all is_key_byte x) h in
     (b, b ∷ [], x, (p.0, refl), to_made (text_of is_key_byte (length x)) (λ bs. b ∷ bs) x x (text_to x p.1), refl)
 
+-- what the format spells as a key is the key's spelling
 pub key_from : (x text : List ℕ) → format.key.Spells x text → (text ≡ key_spelling x) × IsKey x
 key_from x text s =
     let h = text_from s.0 x s.2 s.4 in
@@ -78,6 +82,7 @@ key_from x text s =
       and_from (is_key_length (length x)) (list_all is_key_byte x) range h.2,
     )
 
+-- the format spells each key by its spelling
 pub key_to : (x : List ℕ) → IsKey x → format.key.Spells x (key_spelling x)
 key_to x h =
     let p = and_parts (is_key_length (length x)) (list_all is_key_byte x) h in
@@ -87,6 +92,7 @@ positive_if : (n : ℕ) → (n == 0) ≡ false → 1 ≤ n
 positive_if zero e = absurd cc
 positive_if (suc n) e = omega arith
 
+-- what the format spells as a target is the target's spelling
 pub target_from : (on : Target) (text : List ℕ)
     → format.target.Spells on text
     → (text ≡ target_spelling on) × IsTarget on
@@ -110,6 +116,7 @@ target_from on text s =
           subst (λ on. (text ≡ target_spelling on) × IsTarget on) (sym m.2) h
     ]
 
+-- the format spells each target by its spelling
 pub target_to : (on : Target) → IsTarget on → format.target.Spells on (target_spelling on)
 target_to All h = (0, 0 ∷ [], [], (refl, refl), (refl, refl), refl)
 target_to (One k) h =
@@ -141,16 +148,19 @@ target_to (One k) h =
 pub joined : (text a b x y : List ℕ) → text ≡ a ++ b → a ≡ x → b ≡ y → text ≡ x ++ y
 joined text a b x y e ea eb = e ∙ ap (λ (a : List ℕ). a ++ b) ea ∙ ap (λ (b : List ℕ). x ++ b) eb
 
+-- what the format spells as data is the data's spelling, and within the limit
 pub block_from : (x text : List ℕ) → format.block.Spells x text → (text ≡ block_spelling x) × (length x ≤ limit)
 block_from x text s = (
   joined text s.1 s.2 (four_bytes (length x)) x s.5 (s.3.2 ∙ ap four_bytes (sym s.4.0)) s.4.1,
   subst (λ n. n ≤ limit) (sym s.4.0) (at_most_is limit s.0 s.3.1),
 )
 
+-- the format spells data within the limit by its spelling
 pub block_to : (x : List ℕ) → length x ≤ limit → format.block.Spells x (block_spelling x)
 block_to x le =
     (length x, four_bytes (length x), x, (omega arith, le-leb (length x) limit le, refl), (refl, refl), refl)
 
+-- what the format spells as flags and data is their spelling, in range
 pub flagged_from : (x : ℕ × List ℕ) (text : List ℕ)
     → format.flagged.Spells x text
     → (text ≡ four_bytes x.0 ++ block_spelling x.1) × (x.0 < 2 ^ 32) × (length x.1 ≤ limit)
@@ -161,6 +171,7 @@ flagged_from x text s =
     × (length x.1 ≤ limit)) (sym m.2)
     (joined text s.1 s.2 (four_bytes s.0) (block_spelling m.0) s.5 s.3.2 h.0, s.3.0, h.1)
 
+-- the format spells flags and data that are in range by their spelling
 pub flagged_to : (x : ℕ × List ℕ)
     → x.0 < 2 ^ 32
     → length x.1 ≤ limit
@@ -187,6 +198,7 @@ by_part Q p make n code y text e h s =
     let m = from_made p make y text s in
     subst (λ c. Q c y text) (sym (eqb-true code n e)) (subst (λ y. Q n y text) (sym m.2) (h m.0 text m.1))
 
+-- a value that is made of nothing more, if the code is this one
 pub by_value : {B : Type 0} (Q : ℕ → B → List ℕ → Type 0) (value : B) (n code : ℕ) (y : B) (text : List ℕ)
     → (code == n) ≡ true
     → Q n value []
@@ -348,16 +360,19 @@ key_operation_from code op text s0 =
       ]
     ]
 
+-- what the format spells as an operation is one that is sent, by its bytes
 pub op_from : (all : Bool) (op : Op) (text : List ℕ) → (format.operation all).Spells op text → SentOp all op text
 op_from all op text s =
     by_code all 10 Flush format.key_operation SentOp
     (record { spelled = refl; fits = tt; widths = tt; update = refl; aimed = refl }) key_operation_from op text s
 
+-- a number of eight bytes makes a value
 pub amount_to : {A : Type 0} (f : ℕ → A) (n : ℕ)
     → n < 2 ^ 64
     → (followed (number w64 any) (λ n. makes (f n))).Spells (f n) (eight_bytes n)
 amount_to f n lt = to_made (number w64 any) f n (eight_bytes n) (lt, refl, refl)
 
+-- the format spells each update that fits by its bytes
 pub op_to : (op : Op)
     → Fits op
     → HasWidths op

@@ -31,6 +31,7 @@ use Rattle.wire.proofs.SpelledGreetings.{greeting_from, introduction_to, accepta
 
 -- ---- replies
 
+-- a reply that is sent, and its bytes
 pub record SentReply (all : Bool) (told : Reply) (text : List ℕ) : Type 0 where
   pub spelled : text ≡ reply_spelling told
   pub width : HasReplyWidth told
@@ -105,6 +106,7 @@ reply_to Flushed w v = (10, 10 ∷ [], [], (refl, refl), (refl, refl), refl)
 
 -- ---- changes
 
+-- a change that is sent, and its bytes
 pub record SentChange (number : ℕ) (all : Bool) (done : Change) (text : List ℕ) : Type 0 where
   pub spelled : text ≡ change_spelling done
   pub width : HasChangeWidth done

@@ -35,6 +35,7 @@ introduction_from f text s =
           (joined text s.1 s.2 (s.0 ∷ []) (eight_bytes start.0 ++ key_spelling m.0) s.5 s.3.1 behind),
     )
 
+-- the format spells each introduction that is in range by its bytes
 pub introduction_to : (opener : Introduction)
     → IsIntroduction opener
     → format.introduction.Spells (frames.Introduction opener) (introduction_spelling opener)
@@ -72,6 +73,7 @@ acceptance_from f text s =
           (joined text s.1 s.2 (eight_bytes s.0) (to_be_bytes w16 m.0) s.5 s.3.2 m.1.2),
     )
 
+-- the format spells each acceptance that is in range by its bytes
 pub acceptance_to : (answer : Acceptance)
     → IsAcceptance answer
     → format.acceptance.Spells (Accepted answer) (acceptance_spelling answer)
@@ -115,6 +117,7 @@ refusal_from f text s =
     let spelled : s.0 ∷ s.2 ≡ text = sym (s.5 ∙ ap (λ (t : List ℕ). t ++ s.2) s.3.1) in
     subst (λ t. SentFrame 9 f t) spelled (refusal_of_from s.0 f s.2 s.4)
 
+-- the format spells each refusal by its code
 pub refusal_to : (reason : Reason) → format.refusal.Spells (Refused reason) (code_of reason ∷ [])
 refusal_to reasons.Servers = (1, 1 ∷ [], [], (refl, refl), (refl, refl), refl)
 refusal_to reasons.Chain = (2, 2 ∷ [], [], (refl, refl), (refl, refl), refl)
@@ -131,6 +134,7 @@ noted_from f text s =
 
 -- ---- by kinds
 
+-- what the format spells from kind 7 on is a frame of that kind, by its bytes
 pub greeting_from : (kind : ℕ) (f : Frame) (text : List ℕ)
     → (format.greeting kind).Spells f text
     → SentFrame kind f text

@@ -138,6 +138,7 @@ follows [] h sound = ap frames_in (sym (append-nil h.unread))
 follows (Feed piece ∷ actions) h sound = after_piece piece actions h sound (follows actions) h.closed refl
 follows (Next ∷ actions) h sound = after_next actions h sound (follows actions) (front h.unread) refl
 
+-- the frames that a reader gave, and has still to give, are those of all its bytes as one stream
 pub any_cutting : (actions : List Action)
     → (driven fresh actions).0 ++ frames_in (driven fresh actions).1.unread ≡ frames_in (stream_of actions)
 any_cutting actions = follows actions fresh sound
@@ -159,6 +160,7 @@ written_again (f ∷ fs) more h =
     (record { in_range = h.0; spelled = regrouped }))
     ∙ ap (λ (fs : List Frame). f ∷ fs) (written_again fs more h.1)
 
+-- what was written is read again, whatever follows it, and however all of it is cut
 pub written_is_read : (actions : List Action) (fs : List Frame) (more : List ℕ)
     → AllByRecursion IsFrame fs
     → stream_of actions ≡ flat_map spelling fs ++ more

@@ -79,6 +79,7 @@ served_at w [] c old served at_c = cc
 served_at w (k ∷ ks) zero old served at_c = ap Some (sym at_c)
 served_at w (k ∷ ks) (suc c) old served at_c = served_at w ks c old served at_c
 
+-- at a connection that is there, and whose home lives, `work` gives its begun call to the home
 pub worked_one : (w : World) (c : ℕ) (o : Option Connection) (k : Connection)
     → o ≡ Some k
     → home_lives w o ≡ true

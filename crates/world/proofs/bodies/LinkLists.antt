@@ -9,6 +9,7 @@ use Rattle.node.specs.Lawful.{IsBody}
 use Rattle.world.specs.Links.{AreMessages, messages_between, with_messages}
 use Rattle.world.specs.Worlds.{World, lives, link, with_link, takes, delivered}
 
+-- messages that may be given to a server, with one more at the end that may be
 pub messages_more : (ms : List Peer) (m : Peer) → AreMessages ms → IsBody m.body → AreMessages (ms ++ m ∷ [])
 messages_more [] m are is = (is, tt)
 messages_more (x ∷ ms) m are is = (are.0, messages_more ms m are.1 is)

@@ -9,6 +9,7 @@ use Rattle.world.proofs.calls.ConnectionsDone.{issued_begun, issued_once, next_d
 use Rattle.world.proofs.calls.ConnectionsDone.{waiting_done, asks_done}
 use Rattle.world.proofs.calls.LegalLogs.{ids_done, seen_done, decided_done}
 
+-- an action of a living server keeps all that is known of calls
 pub calling_done : (t : Traced) (i : ℕ) (cause : Cause) (a : Action) → IsStep t i cause a → Calling (done t i a)
 calling_done t i cause a g = record {
   begun = λ o k x h. issued_begun t i cause a o k x g h;

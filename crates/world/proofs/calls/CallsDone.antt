@@ -55,6 +55,7 @@ entered_or_old t i (Enter port call) k x h =
 entered_or_old t i (Ask port key) k x h = inl (rw append-nil at h)
 entered_or_old t i (Show port key) k x h = inl (rw append-nil at h)
 
+-- after an action each issued update was issued before it, or is the one that entered
 pub in_issued : (t : Traced) (i : ℕ) (cause : Cause) (a : Action)
     → IsStep t i cause a
     → (o k : ℕ) (x : CallId)
@@ -184,6 +185,7 @@ pending_other t i cause a j u g other lt h =
       with_other t i cause a j u.port u.call g other p.2,
     )
 
+-- after an action each open update's id names an issued update whose call is with the server
 pub pending_done : (t : Traced) (i : ℕ) (cause : Cause) (a : Action) (j : ℕ) (u : OpenUpdate)
     → IsStep t i cause a
     → j < count (done t i a)
@@ -226,6 +228,7 @@ asking_act t i cause a r g h =
           (ap (λ (x : OpenRead). x.key) new.3)) g h
     ]
 
+-- after an action each open read's call is with its server
 pub asking_done : (t : Traced) (i : ℕ) (cause : Cause) (a : Action) (j : ℕ) (r : OpenRead)
     → IsStep t i cause a
     → j < count (done t i a)

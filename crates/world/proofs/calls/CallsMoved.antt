@@ -139,6 +139,7 @@ works_begun : (t : Traced) (c : ℕ) (g : CanWork t c) (k : Connection)
 works_begun t c g k h = let same : k ≡ g.connection = same_Some k g.connection (sym h ∙ g.here) in progress_asked k
     (ap (λ (x : Connection). x.stage) same ∙ g.stage)
 
+-- a move that is an action is a step of a living server, as the laws allow
 pub step_of_move : (t : Traced) (i : ℕ) (cause : Cause) (a : Action)
     → CanDo t i cause a
     → Lawful t
@@ -147,6 +148,7 @@ pub step_of_move : (t : Traced) (i : ℕ) (cause : Cause) (a : Action)
 step_of_move t i cause a g l later =
     record { lives = g.lives; lawful = l; known = g.known; sound = g.sound; guard = g.guard; later = later }
 
+-- each move keeps what is known of calls
 pub calling_moved : (t : Traced) (m : Move)
     → IsMove t m
     → Lawful t
@@ -172,6 +174,7 @@ calling_moved t (Takes i j ms) g l later framed logged =
     calling_passive t _ (passive_unlinked t i j g.message ms later g.here) l
 calling_moved t (Fails i) g l later framed logged = calling_passive t _ (passive_failing t i later) l
 
+-- each move keeps what is known of answered reads
 pub read_moved : (t : Traced) (m : Move)
     → IsMove t m
     → Lawful t
@@ -218,6 +221,7 @@ never_replied n homes x reply h =
     let f = fresh_at homes x.connection k.0 k.1 in
     none_there x.place reply (ap (λ rs. slice_get rs x.place) (sym (ap (λ (k : Connection). k.replies) f.2)) ∙ k.2)
 
+-- what is known of calls holds before any event
 pub calling_outset : (n : ℕ) (homes : List ℕ) → Calling (outset n homes)
 calling_outset n homes =
     let t = outset n homes in
@@ -237,6 +241,7 @@ calling_outset n homes =
       issues = λ i j m h. absurd (nothing_in m (rw (link_outset n homes i j) at h));
     }
 
+-- what is known of answered reads holds before any event
 pub read_outset : (n : ℕ) (homes : List ℕ) → Read (outset n homes)
 read_outset n homes =
     record { reads = λ k r h. absurd (none_there k r h); once = λ j k r q h f e. absurd (none_there j r h) }

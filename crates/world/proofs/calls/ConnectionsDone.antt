@@ -92,6 +92,7 @@ with_out t o c call h update = (
   inr (place_of t.world c h.connection h.here, inl h.stage),
 )
 
+-- after an action each issued update is a begun call of a connection at its origin
 pub issued_begun : (t : Traced) (i : ℕ) (cause : Cause) (a : Action) (o k : ℕ) (x : CallId)
     → IsStep t i cause a
     → slice_get (issued_by (done t i a) o) k ≡ Some x
@@ -111,6 +112,7 @@ new_once : (t : Traced) (i : ℕ) (cause : Cause) (a : Action) (o k p l : ℕ) (
     → ⊥
 new_once t i cause a o k p l x g new old = (entered_known t i cause a o k x g new).0.4 p l x old new.name
 
+-- after an action no update is issued twice
 pub issued_once : (t : Traced) (i : ℕ) (cause : Cause) (a : Action) (o p k l : ℕ) (x : CallId)
     → IsStep t i cause a
     → slice_get (issued_by (done t i a) o) k ≡ Some x
@@ -143,6 +145,7 @@ next_act t s (Enter port call) = omega arith
 next_act t s (Ask port key) = omega arith
 next_act t s (Show port key) = omega arith
 
+-- after an action a server's next id is the one after those of its issued updates
 pub next_done : (t : Traced) (i : ℕ) (cause : Cause) (a : Action) (o : ℕ)
     → IsStep t i cause a
     → o < count (done t i a)
@@ -195,6 +198,7 @@ alone_act t i cause (Ask port key) r q g h f e =
 alone_act t i cause (Show port key) r q g h f e =
     g.lawful.calling.alone i r q (within t i cause (Show port key) g) h f e
 
+-- after an action no two open reads of a server have the same port
 pub alone_done : (t : Traced) (i : ℕ) (cause : Cause) (a : Action) (j : ℕ) (r q : OpenRead)
     → IsStep t i cause a
     → j < count (done t i a)
@@ -214,6 +218,7 @@ alone_done t i cause a j r q g lt h f e =
 
 -- ---- replies
 
+-- after an action each reply that was handed over is that of a committed entry or of an answered read
 pub handed_done : (t : Traced) (i : ℕ) (cause : Cause) (a : Action) (x : CallId) (reply : Reply)
     → IsStep t i cause a
     → reply_to (done t i a).world x ≡ Some reply
@@ -224,6 +229,7 @@ handed_done t i cause a x reply g h =
 same_reply : (r q : Reply) → Replied r ≡ Replied q → r ≡ q
 same_reply r q h = cc
 
+-- after an action each reply that waits is that of a committed entry or of an answered read
 pub waiting_done : (t : Traced) (i : ℕ) (cause : Cause) (a : Action) (c : ℕ) (l : Connection) (reply : Reply)
     → IsStep t i cause a
     → slice_get (done t i a).world.connections c ≡ Some l
@@ -254,6 +260,7 @@ sent_asks t i cause y (Ack n) g = tt
 sent_asks t i cause y (Query ask key) g = tt
 sent_asks t i cause y (Answer ask n) g = tt
 
+-- after an action each update on its way to a head was issued by its sender
 pub asks_done : (t : Traced) (i : ℕ) (cause : Cause) (a : Action) (x y : ℕ) (m : Peer)
     → IsStep t i cause a
     → In m (link (done t i a).world x y)

@@ -9,15 +9,18 @@ joined_step : (b : Bool) (n m k : ℕ) → n ≡ m + k → cond b (suc n) n ≡ 
 joined_step true n m k e = omega (arith, e)
 joined_step false n m k e = e
 
+-- two joined logs have as many entries of an origin as both together
 pub entries-joined : (o : ℕ) (es fs : List LogEntry) → entries_of o (es ++ fs) ≡ entries_of o es + entries_of o fs
 unfolding entries_of
 entries-joined o [] fs = omega arith
 entries-joined o (e ∷ es) fs = joined_step (e.origin == o) _ _ _ (entries-joined o es fs)
 
+-- a single entry is one of its own origin, and none of another
 pub entries-one : (o : ℕ) (e : LogEntry) → entries_of o (e ∷ []) ≡ cond (e.origin == o) 1 0
 unfolding entries_of
 entries-one o e = refl
 
+-- an empty log has no entry of any origin
 pub entries-none : (o : ℕ) → entries_of o [] ≡ 0
 unfolding entries_of
 entries-none o = refl

@@ -9,9 +9,11 @@ use Rattle.world.specs.Calls.{CallId}
 use Rattle.world.proofs.trace.Traces.{Traced}
 use Rattle.world.proofs.trace.Layers.{Later, IsNamed, IsIssued, IsDecided, IsAnswer, Asks}
 
+-- an entry of a call is that call's later on
 pub named_later : (t u : Traced) (e : LogEntry) (x : CallId) → Later t u → IsNamed t e x → IsNamed u e x
 named_later t u e x l h = (h.0, l.issued e.origin (e.id - 1) x h.1)
 
+-- an issued update is an issued one later on
 pub issued_later : (t u : Traced) (origin id : ℕ) (call : Call)
     → Later t u
     → IsIssued t origin id call
@@ -32,6 +34,7 @@ pub decided_as : (t : Traced) (es fs : List LogEntry) (k : ℕ) (e : LogEntry)
 decided_as t es fs k e same h =
     record { call = h.call; issued = h.issued; target = h.target; decided = rw same h.decided }
 
+-- an entry that is what its call decides is what that decides later on
 pub decided_later : (t u : Traced) (es : List LogEntry) (k : ℕ) (e : LogEntry)
     → Later t u
     → IsDecided t es k e
@@ -44,10 +47,12 @@ decided_later t u es k e l h =
       decided = h.decided;
     }
 
+-- what a call was answered is its answer later on
 pub answer_later : (t u : Traced) (x : CallId) (reply : Reply) → Later t u → IsAnswer t x reply → IsAnswer u x reply
 answer_later t u x reply l (inl h) = inl (h.0, h.1, l.committed h.0 h.1 h.2, named_later t u h.1 x l h.3, h.4)
 answer_later t u x reply l (inr h) = inr (h.0, h.1, l.reads h.0 h.1 h.2, h.3, h.4)
 
+-- what a message asks for was issued, also later on
 pub asks_later : (t u : Traced) (i : ℕ) (b : Body) → Later t u → Asks t i b → Asks u i b
 asks_later t u i (Op id call) l h = issued_later t u i id call l h
 asks_later t u i (Forward e) l h = tt

@@ -134,6 +134,7 @@ passed_next t i cause e g m =
           (l.calling.decided m.from (length (log t i)) e at);
     }
 
+-- an entry that a step appends has the next id of its origin, and is what its call decides
 pub next_entry : (t : Traced) (i : ℕ) (cause : Cause) (e : LogEntry) → IsStep t i cause (Append e) → IsNextEntry t i e
 next_entry t i cause e g =
     elim g.guard.1 [ inl made ↦ made_next t i cause e g made | inr passed ↦ passed_next t i cause e g passed ]
@@ -198,6 +199,7 @@ new_front : (t : Traced) (i : ℕ) (cause : Cause) (a : Action) (j k : ℕ) (e :
 new_front t i cause a j k e g new =
     rw (new.here, new.place) (begins_taken (log t i) (log (done t i a) i) (g.later.logs i))
 
+-- after an action the ids of an origin are 1, 2, 3 and so on in each log
 pub ids_done : (t : Traced) (i : ℕ) (cause : Cause) (a : Action) (j k : ℕ) (e : LogEntry)
     → IsStep t i cause a
     → slice_get (log (done t i a) j) k ≡ Some e
@@ -209,6 +211,7 @@ ids_done t i cause a j k e g h =
           (next_entry t i cause e (subst (λ b. IsStep t i cause b) new.is g)).id
     ]
 
+-- after an action each entry of a log is what its call decides on what those before it leave
 pub decided_done : (t : Traced) (i : ℕ) (cause : Cause) (a : Action) (j k : ℕ) (e : LogEntry)
     → IsStep t i cause a
     → slice_get (log (done t i a) j) k ≡ Some e
@@ -274,6 +277,7 @@ seen_act t i cause (Ask port key) o g l =
 seen_act t i cause (Show port key) o g l =
     none_new o _ (log t i) (g.lawful.calling.seen i o (within t i cause (Show port key) g) l)
 
+-- after an action what a server has seen of an origin is how many entries of it its log has
 pub seen_done : (t : Traced) (i : ℕ) (cause : Cause) (a : Action) (j o : ℕ)
     → IsStep t i cause a
     → j < count (done t i a)

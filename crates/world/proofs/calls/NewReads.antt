@@ -30,6 +30,7 @@ use Rattle.node.proofs.OpenLists.{read_above}
 use Rattle.world.proofs.calls.Untouched.{untouched, untouched_later}
 use Rattle.world.proofs.calls.StepInputs.{IsStep, within, known_of}
 
+-- a read that is answered: its call is with the server, it shows committed entries, and its reply is put out
 pub record IsNewRead (t : Traced) (i : ℕ) (a : Action) (r : AnsweredRead) : Type 0 where
   pub port : ℕ
   pub call : Call
@@ -148,6 +149,7 @@ shown_read t i cause port key q g is =
 one_same : (r q : AnsweredRead) → r ∷ [] ≡ q ∷ [] → q ≡ r
 one_same r q h = cc
 
+-- each read that a step answers is of a call that is with the server, and shows committed entries
 pub new_read : (t : Traced) (i : ℕ) (cause : Cause) (a : Action) (r : AnsweredRead)
     → IsStep t i cause a
     → new_reads t i a ≡ r ∷ []

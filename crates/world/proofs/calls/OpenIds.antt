@@ -16,11 +16,13 @@ pub place_of : (w : World) (c : ℕ) (k : Connection)
     → (open_id w c).place ≡ length k.replies
 place_of w c k h = ap open_place h
 
+-- the open call of a connection is named by the place after its replies
 pub open_id_is : (w : World) (c : ℕ) (k : Connection)
     → slice_get w.connections c ≡ Some k
     → open_id w c ≡ record { connection = c; place = length k.replies }
 open_id_is w c k h = ap (λ n. record { connection = c; place = n }) (ap open_place h)
 
+-- an open call is begun under the name of its connection's open call
 pub open_begun : (w : World) (c : ℕ) (k : Connection) (call : Call)
     → slice_get w.connections c ≡ Some k
     → open_call k ≡ Some call
@@ -34,11 +36,13 @@ pub same_connection : (w : World) (c : ℕ) (k l : Connection)
     → k ≡ l
 same_connection w c k l h g = same_Some k l (sym h ∙ g)
 
+-- a call that is with its server is begun under the name of its connection's open call
 pub with_begun : (t : Traced) (i c : ℕ) (call : Call)
     → IsWith t i c call
     → begun_call t.world (open_id t.world c) ≡ Some call
 with_begun t i c call h = open_begun t.world c h.connection call h.here h.asked
 
+-- of one connection there is one call with one server
 pub with_same : (t : Traced) (i j c : ℕ) (call other : Call)
     → IsWith t i c call
     → IsWith t j c other

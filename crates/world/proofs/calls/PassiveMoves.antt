@@ -55,17 +55,20 @@ pub record IsHanded (k l : Connection) : Type 0 where
   pub before : k.stage ≡ Replied reply
   pub stage : l.stage ≡ Idle
 
+-- what becomes of a connection by a move that isn't a server's action
 pub data Progress (k l : Connection) : Type 0 where
   Stays : (h : IsSame k l) → Progress k l
   Starts : (h : IsStarted k l) → Progress k l
   Works : (h : IsWorked k l) → Progress k l
   Hands : (h : IsHanded k l) → Progress k l
 
+-- a connection may stay as it is
 pub stays_self : (k : Connection) → Progress k k
 stays_self k = Stays (record { home = refl; calls = refl; replies = refl; stage = refl })
 
 -- ---- the move
 
+-- u is behind t by a move that isn't a server's action
 pub record IsPassive (t u : Traced) : Type 0 where
   pub later : Later t u
   pub server : (k : ℕ) → server u.world k ≡ server t.world k
@@ -227,6 +230,7 @@ passive_waiting t u q lawful c l reply here stage =
     let was = lawful.calling.waiting c k.0 reply k.1 (sym s.stage ∙ stage) in
     rw s.replies (answer_later t u _ reply q.later was)
 
+-- a move that isn't a server's action keeps what is known of calls
 pub calling_passive : (t u : Traced) → IsPassive t u → Lawful t → Calling u
 calling_passive t u q l =
     let few = λ (i : ℕ) (h : i < count u). (let h' : i < count t = rw (← q.later.count) h in h') in
@@ -255,6 +259,7 @@ passive_read t u q r is =
     let l = q.after r.id.connection is.connection is.here in
     read_later t u r l.0 q.later is l.1 (progress_over is.connection l.0 r.id.place l.2 is.over)
 
+-- a move that isn't a server's action keeps what is known of answered reads
 pub read_passive : (t u : Traced) → IsPassive t u → Lawful t → Read u
 read_passive t u q l = record {
   reads = λ k r h. passive_read t u q r (l.read.reads k r (rw q.reads at h));

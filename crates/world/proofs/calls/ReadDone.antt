@@ -27,6 +27,7 @@ use Rattle.world.proofs.calls.NewReads.{IsNewRead, new_read}
 
 -- ---- the call of an answered read isn't with its server
 
+-- the call of this place has a reply, which was handed over or waits
 abbrev pub IsOver : ℕ → Connection → Type 0
 IsOver place c = (place < length c.replies) ⊎ ((place ≡ length c.replies) × (reply : Reply) × (c.stage ≡ Replied reply))
 
@@ -64,6 +65,7 @@ pub item_kept : (t u : Traced) (n : ℕ) (key : List ℕ)
 item_kept t u n key b l =
     ap (λ es. item_at (items_after opening_table.items es) key) (sym (begins-take n t.committed u.committed b l))
 
+-- an answered read is one later on, as long as its call's reply waits or was handed over
 pub read_later : (t u : Traced) (r : AnsweredRead) (k : Connection)
     → Later t u
     → (is : IsRead t r)
@@ -197,6 +199,7 @@ reads_once t i cause a j k r q g h f same =
       ]
     ]
 
+-- an action keeps what is known of answered reads
 pub read_done : (t : Traced) (i : ℕ) (cause : Cause) (a : Action) → IsStep t i cause a → Read (done t i a)
 read_done t i cause a g = record {
   reads = λ k r h. elim (in_reads t i a k r h) [

@@ -49,6 +49,7 @@ apart t i u r l lt update h g =
     let read : is_update u.call.op ≡ false = rw both.1 v.3 in
     absurd cc
 
+-- an open update and an open read of a server have different ports
 pub port_apart : (t : Traced) (i : ℕ) (cause : Cause) (a : Action) (u : OpenUpdate) (r : OpenRead)
     → IsStep t i cause a
     → In u (server t.world i).pend

@@ -21,6 +21,7 @@ pub record IsStep (t : Traced) (i : ℕ) (cause : Cause) (a : Action) : Type 0 w
   pub guard : Guard cause (server t.world i) a
   pub later : Later t (done t i a)
 
+-- who does a step is one of the chain
 pub within : (t : Traced) (i : ℕ) (cause : Cause) (a : Action) → IsStep t i cause a → i < count t
 within t i cause a g = (alive t.world i g.lives).within
 

@@ -14,6 +14,7 @@ untouched_one items key e h =
     let p = or_parts (sets key e.target e.change) (is_clear e.change) h in
     item-changed items e.target e.change key ∙ rw (p.1, p.0) refl
 
+-- a key that no entry touches keeps its item
 pub untouched : (items : Items) (key : List ℕ) (es : List LogEntry)
     → list_any (touches key) es ≡ false
     → item_at (items_after items es) key ≡ item_at items key

@@ -31,6 +31,7 @@ pub record SessionLaws : Type 0 where
 abbrev pub IsOpenTurn : Option Form → List Turn → Type 0
 IsOpenTurn asked ts = (call : Call) × (form : Form) × (ts ≡ Calls call form ∷ []) × (asked ≡ Some form)
 
+-- the open turns at a stage: none if no call is open, and otherwise one
 abbrev pub IsOpen : Stage → Option Form → List Turn → Type 0
 IsOpen Idle asked ts = ts ≡ []
 IsOpen Begun asked ts = IsOpenTurn asked ts
@@ -49,6 +50,7 @@ pub record Along (k : Connection) (m : Course) : Type 0 where
   pub split : (more : List ℕ) → turns (m.stream ++ more) ≡ past ++ (open_turn ++ to_come (fed k.session more))
   pub end : (more : List ℕ) → will_close (fed k.session more) ≡ ends (m.stream ++ more)
 
+-- a piece keeps a connection along its course
 pub along_piece : (bytes : List ℕ) (k : Connection) (m : Course)
     → Along k m
     → Along (came bytes k) (on_piece bytes k.session.closed m)
@@ -212,6 +214,7 @@ by_step m k before (Some (Calls call form), left) end e p is answered called = r
   end = end;
 }
 
+-- a begin keeps a connection along its course
 pub along_begin : SessionLaws
     → FaultsTakeBytes
     → (s : Stage) (k : Connection) (m : Course)
@@ -264,6 +267,7 @@ along_answer law reply call form k m a one asked =
       end = λ more. (law.answers k.session reply).end more ∙ a.end more;
     }
 
+-- a hand keeps a connection along its course
 pub along_hand : SessionLaws
     → (s : Stage) (k : Connection) (m : Course)
     → k.stage ≡ s
@@ -293,9 +297,11 @@ along_stage stage k m a o =
       end = a.end;
     }
 
+-- a call that goes to its server leaves the connection where it is along its course
 pub along_asked : (k : Connection) (m : Course) → k.stage ≡ Begun → Along k m → Along (asked k) m
 along_asked k m e a = along_stage Asked k m a (rw e at a.opened)
 
+-- a reply that waits leaves the connection where it is along its course
 pub along_replied : (reply : Reply) (s : Stage) (k : Connection) (m : Course)
     → k.stage ≡ s
     → Along k m
@@ -311,17 +317,21 @@ pub whole_of : (k : Connection) (m : Course) (a : Along k m)
     → turns m.stream ≡ a.past ++ (a.open_turn ++ to_come (fed k.session []))
 whole_of k m a = ap turns (sym (append-nil m.stream)) ∙ a.split []
 
+-- the past turns are those of the stream up to the place
 pub past_of : (k : Connection) (m : Course) (a : Along k m) → take m.place (turns m.stream) ≡ a.past
 past_of k m a = rw (← a.place, whole_of k m a) (take-append_seam a.past _)
 
+-- a connection along its course was sent the texts of the past turns
 pub sent_along : (k : Connection) (m : Course) → Along k m → k.session.out ≡ sent_bytes m k.replies
 sent_along k m a = rw (past_of k m a) a.said
 
+-- a connection along its course has as many replies as calls are among the past turns
 pub answered_along : (k : Connection) (m : Course)
     → Along k m
     → length k.replies ≡ length (calls_of (take m.place (turns m.stream)))
 answered_along k m a = rw (past_of k m a) a.answered
 
+-- the begun calls of a connection along its course are the first of the stream's turns
 pub begun_along : (k : Connection) (m : Course)
     → Along k m
     → k.calls ≡ take (length k.calls) (calls_of (turns m.stream))

@@ -247,6 +247,7 @@ along_fresh (home ∷ homes) zero k is = let one : fresh home ≡ k =
     })
 along_fresh (home ∷ homes) (suc c) k is = along_fresh homes c k is
 
+-- after each schedule each connection is along its course
 pub along_run : SessionLaws
     → FaultsTakeBytes
     → (count : ℕ) (homes : List ℕ) (events : List Event) (c : ℕ) (k : Connection)
@@ -255,6 +256,7 @@ pub along_run : SessionLaws
 along_run law takes count homes events c k is =
     run_along law takes c (opening_world count homes) outset events (along_fresh homes c) k is
 
+-- after each schedule a connection was sent the texts of the turns up to its place
 pub sent_is : SessionLaws
     → FaultsTakeBytes
     → (count : ℕ) (homes : List ℕ) (events : List Event) (c : ℕ) (k : Connection)
@@ -262,6 +264,7 @@ pub sent_is : SessionLaws
     → k.session.out ≡ sent_bytes (course_of count homes events c) k.replies
 sent_is law takes count homes events c k is = sent_along k _ (along_run law takes count homes events c k is)
 
+-- after each schedule a connection's begun calls are the first ones of its stream
 pub begun_is : SessionLaws
     → FaultsTakeBytes
     → (count : ℕ) (homes : List ℕ) (events : List Event) (c : ℕ) (k : Connection)
@@ -269,6 +272,7 @@ pub begun_is : SessionLaws
     → k.calls ≡ take (length k.calls) (calls_of (turns (course_of count homes events c).stream))
 begun_is law takes count homes events c k is = begun_along k _ (along_run law takes count homes events c k is)
 
+-- after each schedule a connection has as many replies as there are calls up to its place
 pub answered_is : SessionLaws
     → FaultsTakeBytes
     → (count : ℕ) (homes : List ℕ) (events : List Event) (c : ℕ) (k : Connection)

@@ -61,6 +61,7 @@ emits (None, left) e = by_closed left.closed e
 emits (Some (Faulty fault), left) e = (fault, refl)
 emits (Some (Calls call form), left) e = cc
 
+-- one fault more is passed, and what stands behind the faults stays
 pub passed_step : FaultsTakeBytes
     → (h left : Held)
     → Emit ≡ step_of (next_of h)
@@ -68,6 +69,7 @@ pub passed_step : FaultsTakeBytes
     → past_faults left ≡ past_faults h
 passed_step law h left e is = let fault = emits (next_of h) e in passed_one law h left fault.0 fault.1 is
 
+-- behind a fault fewer can come, so that passing them ends
 pub shorter_step : FaultsTakeBytes
     → (h left : Held)
     → Emit ≡ step_of (next_of h)

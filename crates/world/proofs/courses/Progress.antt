@@ -74,6 +74,7 @@ same_open Begun k m a o = by_turn k m a o
 same_open Asked k m a o = by_turn k m a o
 same_open (Replied reply) k m a o = by_turn k m a o
 
+-- a connection along its course has passed, has open and has still to give the turns of its stream
 pub at_along : (k : Connection) (m : Course) → Along k m → IsAt k m
 at_along k m a = record {
   place =
@@ -202,6 +203,7 @@ module _ (law : SessionLaws) (takes : FaultsTakeBytes) where
       let there = ap (λ (w : World). slice_get w.connections c) last ∙ b.0 in
       left_after w c _ k there (ap (λ w. lives w k.home) last ∙ b.1) a b.2
 
+  -- a begin at a living home after which no call is open has passed all turns of the stream
   pub begin_passes_all : (count : ℕ) (homes : List ℕ) (events : List Event) (c : ℕ) (k : Connection)
       → Begins count homes (events ++ Begin c ∷ []) c k
       → let m = course_of count homes (events ++ Begin c ∷ []) c in m.place ≡ length (turns m.stream)
@@ -209,6 +211,7 @@ module _ (law : SessionLaws) (takes : FaultsTakeBytes) where
       let a = along_run law takes count homes (events ++ Begin c ∷ []) c k b.0 in
       all_past k _ a b.2 (spent count homes events c k b).none
 
+  -- after a begin that leaves no call open the session is closed exactly if the stream has come to its end
   pub begin_closes : (count : ℕ) (homes : List ℕ) (events : List Event) (c : ℕ) (k : Connection)
       → Begins count homes (events ++ Begin c ∷ []) c k
       → k.session.closed ≡ ends (course_of count homes (events ++ Begin c ∷ []) c).stream
@@ -218,6 +221,7 @@ module _ (law : SessionLaws) (takes : FaultsTakeBytes) where
       (spent count homes events c k b).closed
       ∙ ap will_close (sym (fed_none k.session)) ∙ a.end [] ∙ ap ends (append-nil m.stream)
 
+  -- after each schedule each connection has passed, has open and has still to give the turns of its stream
   pub is_at : (count : ℕ) (homes : List ℕ) (events : List Event) (c : ℕ) (k : Connection)
       → slice_get (run_of count homes events).connections c ≡ Some k
       → IsAt k (course_of count homes events c)

@@ -83,6 +83,7 @@ later_writes : (keys : List (List ℕ)) (h : Held) → Writes h.out (by_later ke
 later_writes [] h = passing_writes h.passing h
 later_writes (key ∷ keys) h = keys_write (key ∷ keys) h.unique h
 
+-- a session's step writes a fault's text or nothing, and the call that it gives is open
 pub next_writes : (h : Held) → Writes h.out (next_of h)
 next_writes h = by_closed h.closed
   where
@@ -90,9 +91,11 @@ next_writes h = by_closed h.closed
     by_closed true = refl
     by_closed false = later_writes h.later h
 
+-- bytes that come to a closed session have no effect
 pub fed_closed : (h : Held) (xs : List ℕ) → h.closed ≡ true → fed h xs ≡ h
 fed_closed h xs closed = rw closed refl
 
+-- bytes that come leave a session's output as it is
 pub fed_out : (h : Held) (xs : List ℕ) → (fed h xs).out ≡ h.out
 fed_out h xs = by_closed h.closed
   where
@@ -101,6 +104,7 @@ fed_out h xs = by_closed h.closed
     by_closed true = refl
     by_closed false = refl
 
+-- bytes that come leave a session's open call as it is
 pub fed_asked : (h : Held) (xs : List ℕ) → (fed h xs).asked ≡ h.asked
 fed_asked h xs = by_closed h.closed
   where
@@ -110,6 +114,7 @@ fed_asked h xs = by_closed h.closed
     by_closed true = refl
     by_closed false = refl
 
+-- an answer writes the reply's text behind the output
 pub answered_out : (asked : Option Form) (form : Form) (h : Held) (reply : Reply)
     → asked ≡ Some form
     → (answered_by asked h reply).out ≡ h.out ++ text form reply

@@ -14,6 +14,7 @@ use Rattle.world.specs.Worlds.{World, link, sent_in, worked, delivered, happens,
 use Rattle.world.specs.OtherSteps.{sent_in_by, worked_by, delivered_by, happens_by, run_from_by, run_by}
 use Rattle.world.specs.WrongSteps.{as_ever, step_by}
 
+-- a server that joins as ever takes the ordinary step
 pub steps_as_ever : (s : ServerState) (input : Input) → step_by as_ever s input ≡ step s input
 steps_as_ever s (Called port asked) = refl
 steps_as_ever s (From i peer) = refl
@@ -44,6 +45,7 @@ runs_as : (w : World) (es : List Event) → run_from_by step w es ≡ run_from w
 runs_as w [] = refl
 runs_as w (e ∷ es) = ap (λ w. run_from_by step w es) (happens_as w e) ∙ runs_as (happens w e) es
 
+-- with the ordinary step a run is the ordinary one
 pub run_as_ever : (count : ℕ) (homes : List ℕ) (events : List Event)
     → run_by step count homes events ≡ run_of count homes events
 run_as_ever count homes events = runs_as (opening_world count homes) events

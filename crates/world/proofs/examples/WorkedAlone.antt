@@ -16,6 +16,7 @@ use Rattle.world.specs.Transcripts.{transcript_of}
 use Rattle.world.specs.WorkedSchedules.{set_of, alone_homes, alone_events, alone_transcript}
 use Rattle.world.proofs.examples.WorkedOrders.{calls_in, replies_in}
 
+-- the server that is left alone answers its client's set, and nothing waits
 pub middle_server_left_alone : transcript_of (run_of 3 alone_homes alone_events) ≡ alone_transcript
 unfolding alone_events line_limit has union single is_below adds next_from predecessor most appended entered widened
     taken_all sent_again forwarded replies_to trimmed left_open replies risen passed_on take_update promoted_to_head
@@ -23,9 +24,11 @@ unfolding alone_events line_limit has union single is_below adds next_from prede
     with_connection put_all
 middle_server_left_alone = refl
 
+-- the client's set
 abbrev pub set : Call
 set = set_of (codes "a") (codes "p")
 
+-- after the schedule the set is begun, and nothing else
 pub called : calls_in (run_of 3 alone_homes alone_events) ≡ (set ∷ []) ∷ []
 unfolding alone_events line_limit has union single is_below adds next_from predecessor most appended entered widened
     taken_all sent_again forwarded replies_to trimmed left_open replies risen passed_on take_update promoted_to_head
@@ -33,6 +36,7 @@ unfolding alone_events line_limit has union single is_below adds next_from prede
     with_connection put_all
 called = refl
 
+-- after the schedule the set is answered
 pub replied : replies_in (run_of 3 alone_homes alone_events) ≡ (Stored ∷ []) ∷ []
 unfolding alone_events line_limit has union single is_below adds next_from predecessor most appended entered widened
     taken_all sent_again forwarded replies_to trimmed left_open replies risen passed_on take_update promoted_to_head

@@ -44,18 +44,23 @@ unfolding dirty_events line_limit has union single is_below adds next_from prede
     trimmed passed_on take_update dirty_read answered server link with_server with_link with_connection put_all
 shown_computed = refl
 
+-- the read of the dirty key finds nothing, while the set has no reply yet
 pub dirty_read_before_commit : transcript_of (run_of 3 dirty_homes dirty_events) ≡ dirty_transcript
 dirty_read_before_commit = rw (shown_computed, get-empty key_cmp (codes "a")) refl
 
+-- the key that is set and read
 abbrev pub key : List ℕ
 key = codes "a"
 
+-- the first client's set
 abbrev pub set : Call
 set = set_of key (codes "p")
 
+-- the second client's get
 abbrev pub get : Call
 get = get_of key
 
+-- after the schedule both calls are begun
 pub called : calls_in (run_of 3 dirty_homes dirty_events) ≡ (set ∷ []) ∷ (get ∷ []) ∷ []
 unfolding dirty_events line_limit has union single is_below adds next_from predecessor most appended entered asked
     trimmed passed_on take_update dirty_read answered server link with_server with_link with_connection put_all
@@ -66,5 +71,6 @@ unfolding dirty_events line_limit has union single is_below adds next_from prede
     trimmed passed_on take_update dirty_read answered server link with_server with_link with_connection put_all
 replies_computed = refl
 
+-- the set has no reply, and the get found nothing
 pub replied : replies_in (run_of 3 dirty_homes dirty_events) ≡ [] ∷ (Value None ∷ []) ∷ []
 replied = replies_computed ∙ ap (λ found. [] ∷ (Value found ∷ []) ∷ []) (get-empty key_cmp key)

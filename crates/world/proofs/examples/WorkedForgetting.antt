@@ -31,22 +31,26 @@ forgets w x quiet begun home none law =
     let answered : IsSome (reply_to w x) = law quiet x begun home in
     let no = rw none at answered in cc
 
+-- a server that knows nothing of the call that its client waits for has forgotten it
 pub stuck_forgets : NoneForgotten stuck → ⊥
 unfolding has server link
 stuck_forgets = forgets stuck (name 0 0) refl refl refl refl
 
 -- ---- an entry that is never forwarded
 
+-- if the head forwards no entry, nothing waits, and the set has no reply
 pub unforwarded_shown : transcript_of (run_by never_forwarding 2 head_homes set_taken_events) ≡ forgotten_transcript
 unfolding set_taken_events line_limit has union single is_below adds next_from predecessor most appended entered trimmed
     left_open replies risen passed_on take_update server link with_server with_link with_connection put_all
 unforwarded_shown = refl
 
+-- a head that forwards no entry forgets the set of its client
 pub unforwarded_forgets : NoneForgotten (run_by never_forwarding 2 head_homes set_taken_events) → ⊥
 unfolding set_taken_events line_limit has union single is_below adds next_from predecessor most appended entered trimmed
     left_open replies risen passed_on take_update server link with_server with_link with_connection put_all
 unforwarded_forgets = forgets (run_by never_forwarding 2 head_homes set_taken_events) (name 0 0) refl refl refl refl
 
+-- with the step of `node` the entry is still on its way
 pub forwarded_waits : is_quiet (run_of 2 head_homes set_taken_events) ≡ false
 unfolding set_taken_events line_limit has union single is_below adds next_from predecessor most appended entered trimmed
     left_open replies risen passed_on take_update server link with_server with_link with_connection put_all
@@ -54,6 +58,7 @@ forwarded_waits = refl
 
 -- ---- a new tail that keeps silent
 
+-- if a new tail acknowledges nothing, nothing waits, and the set has no reply
 pub silent_shown : transcript_of (run_by silent_at_tail 2 head_homes new_tail_events) ≡ forgotten_transcript
 unfolding new_tail_events line_limit has union single is_below adds next_from predecessor most appended entered widened
     taken_all sent_again forwarded replies_to trimmed left_open replies risen passed_on take_update promoted_to_head
@@ -61,6 +66,7 @@ unfolding new_tail_events line_limit has union single is_below adds next_from pr
     with_connection put_all
 silent_shown = refl
 
+-- a new tail that acknowledges nothing forgets the set
 pub silent_forgets : NoneForgotten (run_by silent_at_tail 2 head_homes new_tail_events) → ⊥
 unfolding new_tail_events line_limit has union single is_below adds next_from predecessor most appended entered widened
     taken_all sent_again forwarded replies_to trimmed left_open replies risen passed_on take_update promoted_to_head
@@ -68,6 +74,7 @@ unfolding new_tail_events line_limit has union single is_below adds next_from pr
     with_connection put_all
 silent_forgets = forgets (run_by silent_at_tail 2 head_homes new_tail_events) (name 0 0) refl refl refl refl
 
+-- with the step of `node` the reply still waits
 pub acknowledged_waits : is_quiet (run_of 2 head_homes new_tail_events) ≡ false
 unfolding new_tail_events line_limit has union single is_below adds next_from predecessor most appended entered widened
     taken_all sent_again forwarded replies_to trimmed left_open replies risen passed_on take_update promoted_to_head
@@ -77,6 +84,7 @@ acknowledged_waits = refl
 
 -- ---- a new successor that is not sent what it misses
 
+-- if a new successor isn't caught up, nothing waits, and the set has no reply
 pub missed_shown : transcript_of (run_by not_caught_up 3 head_homes new_successor_events) ≡ forgotten_transcript
 unfolding new_successor_events line_limit has union single is_below adds next_from predecessor most appended entered
     widened taken_all sent_again forwarded replies_to trimmed left_open replies risen passed_on take_update
@@ -84,6 +92,7 @@ unfolding new_successor_events line_limit has union single is_below adds next_fr
     with_connection put_all
 missed_shown = refl
 
+-- a head that doesn't catch its new successor up forgets the set
 pub missed_forgets : NoneForgotten (run_by not_caught_up 3 head_homes new_successor_events) → ⊥
 unfolding new_successor_events line_limit has union single is_below adds next_from predecessor most appended entered
     widened taken_all sent_again forwarded replies_to trimmed left_open replies risen passed_on take_update
@@ -91,6 +100,7 @@ unfolding new_successor_events line_limit has union single is_below adds next_fr
     with_connection put_all
 missed_forgets = forgets (run_by not_caught_up 3 head_homes new_successor_events) (name 0 0) refl refl refl refl
 
+-- with the step of `node` the entry is still on its way to the new successor
 pub sent_waits : is_quiet (run_of 3 head_homes new_successor_events) ≡ false
 unfolding new_successor_events line_limit has union single is_below adds next_from predecessor most appended entered
     widened taken_all sent_again forwarded replies_to trimmed left_open replies risen passed_on take_update

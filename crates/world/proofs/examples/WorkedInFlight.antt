@@ -13,16 +13,19 @@ use Rattle.world.specs.WorkedSchedules.{name, flight_homes, flight_events, fligh
 use Rattle.world.proofs.examples.WorkedOrders.{calls_in, replies_in}
 use Rattle.world.proofs.examples.WorkedInTime.{first, second}
 
+-- both sets are answered, and nothing waits
 pub flight_is_shown : transcript_of (run_of 2 flight_homes flight_events) ≡ flight_transcript
 unfolding flight_events line_limit has union single is_below adds next_from predecessor most appended entered trimmed
     left_open replies risen passed_on take_update server link with_server with_link with_connection put_all
 flight_is_shown = refl
 
+-- after the schedule both sets are begun
 pub called : calls_in (run_of 2 flight_homes flight_events) ≡ (first ∷ []) ∷ (second ∷ []) ∷ []
 unfolding flight_events line_limit has union single is_below adds next_from predecessor most appended entered trimmed
     left_open replies risen passed_on take_update server link with_server with_link with_connection put_all
 called = refl
 
+-- after the schedule both sets are answered
 pub replied : replies_in (run_of 2 flight_homes flight_events) ≡ (Stored ∷ []) ∷ (Stored ∷ []) ∷ []
 unfolding flight_events line_limit has union single is_below adds next_from predecessor most appended entered trimmed
     left_open replies risen passed_on take_update server link with_server with_link with_connection put_all
@@ -34,6 +37,7 @@ unfolding flight_events line_limit has union single is_below adds next_from pred
     left_open replies risen passed_on take_update server link with_server with_link with_connection put_all
 called_soon = refl
 
+-- after four events neither has a reply
 pub replied_late : replies_in (run_of 2 flight_homes (take 4 flight_events)) ≡ [] ∷ [] ∷ []
 unfolding flight_events line_limit has union single is_below adds next_from predecessor most appended entered trimmed
     left_open replies risen passed_on take_update server link with_server with_link with_connection put_all
@@ -45,6 +49,7 @@ unfolding flight_events line_limit has union single is_below adds next_from pred
     left_open replies risen passed_on take_update server link with_server with_link with_connection put_all
 first_given = refl
 
+-- after five events the second set isn't given to its server
 pub second_not : is_given (run_of 2 flight_homes (take 5 flight_events)) (name 1 0) ≡ false
 unfolding flight_events line_limit has union single is_below adds next_from predecessor most appended entered trimmed
     left_open replies risen passed_on take_update server link with_server with_link with_connection put_all

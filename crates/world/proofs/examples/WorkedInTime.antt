@@ -14,22 +14,27 @@ use Rattle.world.specs.Orders.{Precedes}
 use Rattle.world.specs.WorkedSchedules.{name, set_of, sets_homes, sets_events, sets_transcript}
 use Rattle.world.proofs.examples.WorkedOrders.{calls_in, replies_in}
 
+-- both sets are answered, and nothing waits
 pub sets_are_shown : transcript_of (run_of 2 sets_homes sets_events) ≡ sets_transcript
 unfolding sets_events line_limit has union single is_below adds next_from predecessor most appended entered trimmed
     left_open replies risen passed_on take_update server link with_server with_link with_connection put_all
 sets_are_shown = refl
 
+-- the set that is answered first
 abbrev pub first : Call
 first = set_of (codes "a") (codes "p")
 
+-- the set that begins once the first is answered
 abbrev pub second : Call
 second = set_of (codes "b") (codes "q")
 
+-- after the schedule both sets are begun
 pub called : calls_in (run_of 2 sets_homes sets_events) ≡ (first ∷ []) ∷ (second ∷ []) ∷ []
 unfolding sets_events line_limit has union single is_below adds next_from predecessor most appended entered trimmed
     left_open replies risen passed_on take_update server link with_server with_link with_connection put_all
 called = refl
 
+-- after the schedule both sets are answered
 pub replied : replies_in (run_of 2 sets_homes sets_events) ≡ (Stored ∷ []) ∷ (Stored ∷ []) ∷ []
 unfolding sets_events line_limit has union single is_below adds next_from predecessor most appended entered trimmed
     left_open replies risen passed_on take_update server link with_server with_link with_connection put_all

@@ -19,6 +19,7 @@ use Rattle.world.proofs.examples.WorkedInTime.{first, second, called, replied, f
 pub exchanged_legal : IsLegal (said sets_exchanged)
 exchanged_legal = (refl, (refl, tt))
 
+-- the second set, which the exchanged order has first
 abbrev pub front : Entry
 front = entry (name 1 0) second Stored
 

@@ -15,6 +15,7 @@ use Rattle.world.specs.Orders.{Entry, StandsAt, IsLinearization}
 abbrev pub calls_in : World → List (List Call)
 calls_in w = map (λ k. k.calls) w.connections
 
+-- the replies of each connection
 abbrev pub replies_in : World → List (List Reply)
 replies_in w = map (λ k. k.replies) w.connections
 
@@ -40,6 +41,7 @@ pub calls_under : (count : ℕ) (homes : List ℕ) (events : List Event) (calls 
 calls_under count homes events calls same x =
     by_rows (λ k. k.calls) (run_of count homes events).connections x.connection x.place ∙ ap (λ rows. under rows x) same
 
+-- a call's reply is the one that these rows of replies have under its name
 pub replies_under : (count : ℕ) (homes : List ℕ) (events : List Event) (replies : List (List Reply))
     → replies_in (run_of count homes events) ≡ replies
     → (x : CallId) → reply_to (run_of count homes events) x ≡ under replies x

@@ -36,15 +36,19 @@ use Rattle.world.specs.WorkedSchedules.{set_of, incr_of, get_of, resent_homes, r
 use Rattle.world.specs.WorkedSchedules.{resent_events, resent_transcript}
 use Rattle.world.proofs.examples.WorkedOrders.{calls_in, replies_in}
 
+-- the key of the counter
 abbrev pub key : List ℕ
 key = codes "n"
 
+-- the set that puts 7 there
 abbrev pub set : Call
 set = set_of key (codes "7")
 
+-- the incr by 1, which is sent again
 abbrev pub incr : Call
 incr = incr_of key
 
+-- the get behind it
 abbrev pub get : Call
 get = get_of key
 
@@ -52,12 +56,15 @@ get = get_of key
 abbrev pub seven : Item
 seven = record { flags = 0; bytes = codes "7"; unique = 1 }
 
+-- the item that the incr puts, with these digits
 abbrev pub eight_with : List ℕ → Item
 eight_with digits = record { flags = 0; bytes = digits; unique = 2 }
 
+-- the item that the incr puts, with the digits of 8
 abbrev pub eight : Item
 eight = eight_with (decimal 8)
 
+-- the items behind the set
 abbrev pub one_put : Items
 one_put = insert empty key seven
 
@@ -72,6 +79,7 @@ entry_on found = record {
   change = (decision found (Incr 1) 2).1;
 }
 
+-- a server of the chain that has acknowledged the set, and has these other parts
 abbrev pub acting : ℕ → ℕ → List LogEntry → ℕ → List OpenUpdate → ℕ → ServerState
 acting id view rest seen pend next_id = record {
   id = id;
@@ -115,12 +123,14 @@ middle first rest seen down up = record {
       } ∷ [];
 }
 
+-- the entry that the first head made of the incr
 abbrev pub first : LogEntry
 first = entry_on (item_at one_put key)
 
 abbrev asked_twice : World
 asked_twice = middle first [] 1 [] (record { view = 1; body = Op 2 incr } ∷ [])
 
+-- the world behind the next head's entry e of the incr: it is forwarded to the tail
 abbrev pub taken_twice : LogEntry → World
 taken_twice e = middle first (e ∷ []) 2 (record { view = 1; body = Forward e } ∷ []) []
 
@@ -141,9 +151,11 @@ run_on : (w : World) (es fs : List Event) → run_from w (es ++ fs) ≡ run_from
 run_on w [] fs = refl
 run_on w (e ∷ es) fs = run_on (happens w e) es fs
 
+-- behind the set the counter is 7
 pub found_seven : item_at one_put key ≡ Some seven
 found_seven = get-insert nat_list_cmp_total empty key seven key
 
+-- behind the incr the counter is 8
 pub found_eight : item_at (insert one_put key eight) key ≡ Some eight
 found_eight = get-insert nat_list_cmp_total one_put key eight key
 
@@ -188,6 +200,7 @@ shown_last = refl
 text_eight : item_text key false (Some eight) ≡ codes "VALUE n 0 1\r\n8\r\n"
 text_eight = rw (decimal_digit 8 (omega arith), decimal_digit 0 (omega arith), decimal_digit 1 (omega arith)) refl
 
+-- the incr that is sent again acts once: the get shows 8
 pub resent_call_acts : transcript_of (run_of 3 resent_homes resent_events) ≡ resent_transcript
 resent_call_acts =
     ap transcript_of ends ∙ shown_last
@@ -203,6 +216,7 @@ unfolding resent_behind line_limit has union single is_below adds next_from pred
     with_connection put_all
 called_last = refl
 
+-- after the schedule the set, the incr and the get are begun
 pub called : calls_in (run_of 3 resent_homes resent_events) ≡ (set ∷ incr ∷ get ∷ []) ∷ []
 called = ap calls_in ends ∙ called_last
 
@@ -213,5 +227,6 @@ unfolding resent_behind line_limit has union single is_below adds next_from pred
     with_connection put_all
 replied_last = refl
 
+-- after the schedule all three are answered, the get with 8
 pub replied : replies_in (run_of 3 resent_homes resent_events) ≡ (Stored ∷ Number 8 ∷ Value (Some eight) ∷ []) ∷ []
 replied = ap replies_in ends ∙ replied_last ∙ ap (λ found. (Stored ∷ Number 8 ∷ Value found ∷ []) ∷ []) found_eight

@@ -25,6 +25,7 @@ use Rattle.world.proofs.order.OneOrder.{one_order}
 use Rattle.world.proofs.examples.WorkedResent.{set, incr, get, eight, eight_with, seven, entry_on, taken_twice}
 use Rattle.world.proofs.examples.WorkedResent.{ends_with, called, replied}
 
+-- a call of the client, by its place
 abbrev pub the : ℕ → CallId
 the place = record { connection = 0; place = place }
 

@@ -122,6 +122,7 @@ lives_run w (e ∷ es) i =
     lives_run (happens w e) es i ∙ ap (λ b. b && not (is_failed_by es i)) (lives_after w e i)
     ∙ and_not (lives w i) (is_failure e i) (is_failed_by es i)
 
+-- after each schedule a server of the chain lives exactly if no event is its failure
 pub lives_where_not_failed : (count : ℕ) (homes : List ℕ) (events : List Event) (i : ℕ)
     → lives (run_of count homes events) i ≡ (nat_lt i count && not (is_failed_by events i))
 lives_where_not_failed count homes events i =

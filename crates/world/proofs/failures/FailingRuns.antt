@@ -49,6 +49,7 @@ stepper_lives w (Hand c) s h = absurd cc
 
 -- ---- events with failures
 
+-- with failures in place of some events there are as many events
 pub length-failures : (es : List Event) (rs : List (ℕ × ℕ)) → length (with_failures es rs) ≡ length es
 length-failures es [] = refl
 length-failures es ((k, s) ∷ rs) = length-failures (slice_set es k (Fail s)) rs ∙ length-set es k (Fail s)

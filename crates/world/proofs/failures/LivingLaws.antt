@@ -82,9 +82,11 @@ blanked-unseen x t (z ∷ ys) (suc i) y h = ap (λ zs. cond (t zero) x z ∷ zs)
 
 -- ---- links with those to some servers blanked
 
+-- the links of a world, a row for each sender
 abbrev pub Rows : Type 0
 Rows = List (List (List Peer))
 
+-- these links with nothing on those to servers that pass a test
 abbrev pub blank_links : (ℕ → Bool) → Rows → Rows
 blank_links t rows = map (blanked [] t) rows
 
@@ -144,6 +146,7 @@ part_twice w =
 count_same : (w : World) → length (living_part w).servers ≡ length w.servers
 count_same w = length-blanked nobody (has w.failed) w.servers
 
+-- what of a world counts has the same servers living
 pub lives_same : (w : World) (i : ℕ) → lives (living_part w) i ≡ lives w i
 lives_same w i = ap (λ n. nat_lt i n && not (has w.failed i)) (count_same w)
 

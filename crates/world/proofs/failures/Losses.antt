@@ -53,6 +53,7 @@ lost_here w j h =
 
 -- ---- a notice
 
+-- what comes of a notice that a living server takes, refused or not, is what comes of its event
 pub told_comes : (w : World) (i j : ℕ) → lives w i ≡ true → has_failed w j ≡ true
     → (r : Option ℕ) (v : World) → Takes w i (Gone j) r v → Comes w (Tell i j) r v
 told_comes w i j alive gone None v is =
@@ -94,6 +95,7 @@ lost_delivered w i j m left alive here is s x same gone = (
       ∙ ap (λ k. living_part (happens w (Fail k))) (sym same),
 )
 
+-- what comes of a message that a living server takes, refused or not, is what comes of its event
 pub delivered_comes : (v w : World) → v ≡ w → (i j : ℕ) (m : Peer) (left : Rows) → lives w j ≡ true
     → Some m ≡ slice_get (messages_between v.links i j) 0
     → left ≡ with_messages v.links i j (drop 1 (messages_between v.links i j))

@@ -141,5 +141,6 @@ goes_apart i j n v (Ack m) g e = omega (arith, g.0, e)
 goes_apart i j n v (Query ask key) g e = omega (arith, g.0, e)
 goes_apart i j n v (Answer ask m) g e = omega (arith, g.0, e)
 
+-- no message goes to its own sender
 pub sender_apart : (t : Traced) (i a : ℕ) (m : Peer) → IsAddressed t i a m → i ≢ a
 sender_apart t i a m h = goes_apart i a (count t) m.view m.body h.goes

@@ -50,14 +50,17 @@ IsSafeRequest (Flush silent) = Unit {0}
 IsSafeRequest Quit = Unit {0}
 IsSafeRequest (Bad fault) = Unit {0}
 
+-- a block that is to be put has data within the limit
 abbrev pub IsSafeFate : Fate → ℕ → Type 0
 IsSafeFate (Put key verb silent) size = size ≤ limit
 IsSafeFate (Refuse fault) size = Unit {0}
 
+-- what a line asks, whole or behind a block, has data within the limit
 abbrev pub IsSafe : Asked → Type 0
 IsSafe (Whole request) = IsSafeRequest request
 IsSafe (Behind block) = IsSafeFate block.fate block.size
 
+-- what a line asks, if it asks for anything, has data within the limit
 abbrev pub IfSafe : Option Asked → Type 0
 IfSafe None = Unit {0}
 IfSafe (Some asked) = IsSafe asked
@@ -129,6 +132,7 @@ line_safe line =
     cond_both (nat_le 1 (length line) && slice_index line (length line - 1) == cr) (by_fields fields)
     (Whole (Bad Command)) (λ asked. IsSafe asked) (λ t. fields_safe fields) (λ f. tt)
 
+-- what a remembered line asks, if there is one, has data within the limit
 abbrev pub IsSafeLine : Option (Asked × ℕ) → Type 0
 IsSafeLine None = Unit {0}
 IsSafeLine (Some line) = IsSafe line.0
@@ -158,6 +162,7 @@ finished_safe (Put key verb silent) size block ends h l =
     cond_both (bytes_eq ends crlf) _ _ (λ request. IsSafeRequest request)
     (λ t. op_fits verb block (omega arith)) (λ f. tt)
 
+-- the request at the front, if there is one, has data within the limit
 abbrev pub IsSafeFront : Option (Request × ℕ) → Type 0
 IsSafeFront None = Unit {0}
 IsSafeFront (Some front) = IsSafeRequest front.0
@@ -178,6 +183,7 @@ asked_front bytes (Some line) h = completed_safe bytes line.0 line.1 h
 front_safe : (bytes : List ℕ) → IsSafeFront (front bytes)
 front_safe bytes = asked_front bytes (asked_at bytes) (end_safe line_limit bytes (first_lf (take line_limit bytes)))
 
+-- what is found at the front, if it is a request, has data within the limit
 abbrev pub IsSafeFound : Found → Type 0
 IsSafeFound (Requested request n) = IsSafeRequest request
 IsSafeFound (Refused passing) = Unit {0}
@@ -190,6 +196,7 @@ found_safe None None h = tt
 
 -- ---- the next turn
 
+-- a turn that is given, if it is a call, fits and suits its target
 abbrev pub HasCall : Given → Type 0
 HasCall (None, left) = Unit {0}
 HasCall (Some (Faulty fault), left) = Unit {0}

@@ -62,6 +62,7 @@ fit_by (Some (Faulty fault), left) k f h = h
 fit_by (Some (Calls call form), left) k f h =
     λ p x e. elim (pushed_cases k.calls call p x e) [ inl old ↦ h p x old | inr new ↦ rw new.1 (f call form refl) ]
 
+-- the calls of a connection still fit when its next one begins
 pub fit_begun : NextFits → (stage : Stage) (k : Connection) → AllFit k → AllFit (begun stage k)
 fit_begun law Idle k h =
     fit_by (past_faults k.session) k
@@ -93,6 +94,7 @@ fit_changed c change d k l f (inr h) g = rw h.1 g
 
 -- ---- connections, links and failures
 
+-- the shape is kept by a change of a connection after which its calls fit
 pub framed_reconnected : (t : Traced) (c : ℕ) (change : Connection → Connection)
     → Framed t
     → Later t (reconnected t c change)
@@ -114,6 +116,7 @@ framed_reconnected t c change f later fit = record {
       fit_changed c change d old.0 k fit old.2 (λ n x e. f.calls d n old.0 x old.1 e) p call g);
 }
 
+-- the shape is kept if a message is taken off a link
 pub framed_unlinked : (t : Traced) (i j : ℕ) (m : Peer) (ms : List Peer)
     → link t.world i j ≡ m ∷ ms
     → Framed t
@@ -136,6 +139,7 @@ framed_unlinked t i j m ms e f later =
       calls = f.calls;
     }
 
+-- the shape is kept by a failure
 pub framed_failing : (t : Traced) (i : ℕ) → Framed t → Later t (failing t i) → Framed (failing t i)
 unfolding failing server link
 framed_failing t i f later = record {
@@ -154,6 +158,7 @@ framed_failing t i f later = record {
 
 -- ---- all moves
 
+-- the shape is kept by each move
 pub framed_moved : NextFits → (t : Traced) (m : Move) → IsMove t m → Framed t → Later t (moved t m) → Framed (moved t m)
 framed_moved law t (Does i cause a) g f later = framed_done t i cause a f g later
 framed_moved law t (Comes c bytes) g f later =

@@ -63,6 +63,7 @@ square_set links n i j ms h = record {
   ];
 }
 
+-- other messages on a link leave as many rows, and as many links in each
 pub square-with_link : (w : World) (n i j : ℕ) (ms : List Peer)
     → IsSquare w.links n
     → IsSquare (with_link w i j ms).links n
@@ -81,6 +82,7 @@ unfolding done with_server
 square_done t n i a h =
     square-put_all (with_server t.world i (act (server t.world i) a).state) n i (act (server t.world i) a).outputs h
 
+-- a world of this shape has as many rows as servers, and as many links in each
 pub square : (t : Traced) → Framed t → IsSquare t.world.links (count t)
 square t f = record { rows = f.rows; row = f.row }
 
@@ -191,6 +193,7 @@ calls_done t i a f c p k call h g =
     same_calls (λ (x : Connection). x.calls) (λ x stage. refl) (act (server t.world i) a).outputs c old.0 k old.2 in
     f.calls c p old.0 call old.1 (rw same at g)
 
+-- the shape is kept by an action that its server may do
 pub framed_done : (t : Traced) (i : ℕ) (cause : Cause) (a : Action)
     → Framed t
     → CanDo t i cause a

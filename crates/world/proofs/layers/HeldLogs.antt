@@ -14,6 +14,7 @@ use Rattle.node.proofs.Lists.{In, pushed_cases}
 use Rattle.world.proofs.lists.Beginnings.{slice_get-drop}
 use Rattle.world.proofs.trace.Layers.{Holds}
 
+-- the opening store is that of the empty log
 pub holds_opening : Holds [] opening_store
 holds_opening = record {
   within = omega arith;
@@ -29,6 +30,7 @@ pub held_last : (es : List LogEntry) (s : StoreState) → Holds es s → last_nu
 held_last es s h = let l : length s.rest ≡ length es - s.floor =
     ap length h.rest ∙ length-drop s.floor es in omega (arith, h.within, l)
 
+-- with one more entry in both, the store is that of the log
 pub holds-pushed : (es : List LogEntry) (s : StoreState) (e : LogEntry)
     → Holds es s
     → IsEntry e
@@ -47,6 +49,7 @@ holds-pushed es s e h valid next =
           [ inl old ↦ h.numbered k f old | inr new ↦ rw (new.0, new.1) (omega (arith, next, last), valid) ];
     }
 
+-- the store stays that of the log as its acknowledged number rises up to the last one
 pub holds-acked_to : (es : List LogEntry) (s : StoreState) (n : ℕ)
     → Holds es s
     → s.acked ≤ n
@@ -77,6 +80,7 @@ held_items es s n h low =
     ∙ sym (items_after-append opening_table.items (take s.floor es) (take (n - s.floor) (drop s.floor es)))
     ∙ ap (λ fs. items_after opening_table.items fs) (sym parts)
 
+-- a key's item at a number, from the floor on, is that after so many entries of the log
 pub held_value : (es : List LogEntry) (s : StoreState) (key : List ℕ) (n : ℕ)
     → Holds es s
     → s.floor ≤ n
@@ -92,6 +96,7 @@ held_after es s n h low =
     let sum : s.floor + (n - s.floor) ≡ n = omega arith in
     ap (λ fs. drop (n - s.floor) fs) h.rest ∙ drop-drop (n - s.floor) s.floor es ∙ ap (λ m. drop m es) sum
 
+-- the store stays that of the log as its floor rises up to the acknowledged number
 pub holds-dropped_to : (es : List LogEntry) (s : StoreState) (n : ℕ)
     → Holds es s
     → s.floor ≤ n
@@ -114,6 +119,7 @@ pub record IsHeld (es : List LogEntry) (floor : ℕ) (e : LogEntry) : Type 0 whe
   pub high : e.number ≤ length es
   pub valid : IsEntry e
 
+-- an entry that the store has above its floor stands at its place in the log
 pub held_entry : (es : List LogEntry) (s : StoreState) (e : LogEntry) → Holds es s → In e s.rest → IsHeld es s.floor e
 held_entry es s e h i =
     let at : slice_get es (s.floor + i.0) ≡ Some e =

@@ -19,6 +19,7 @@ pub record IsAlive (w : World) (i : ℕ) : Type 0 where
   pub within : i < length w.servers
   pub out : has w.failed i ≡ false
 
+-- who passes the test of living is one of the chain, and hasn't failed
 pub alive : (w : World) (i : ℕ) → lives w i ≡ true → IsAlive w i
 alive w i h = let p = living_parts w i h in record { within = p.0; out = p.1 }
 

@@ -65,6 +65,7 @@ tail_is_last t i f h tail =
     let lt = (alive t.world i h).within in
     last_found t.world i (alive t.world i h) (λ k more less. f.known i k lt (above_tail t i f lt tail k more less))
 
+-- the last number of a living tail, in its own view, is how many entries are committed
 pub tail_log : (t : Traced) (i : ℕ)
     → Framed t
     → Logged t

@@ -73,6 +73,7 @@ pub record IsKept (t u : Traced) : Type 0 where
   pub within : (i : ℕ) → i < count u → (server u.world i).store.acked ≤ length u.committed
   pub sent : (i j : ℕ) (m : Peer) → In m (link u.world i j) → In m (link t.world i j) ⊎ Carries u i m.view m.body
 
+-- logs and acknowledged numbers hold in a later world of which all that `IsKept` asks is shown
 pub logged_from : (t u : Traced) → Logged t → Later t u → Framed u → IsKept t u → Logged u
 logged_from t u l later f k = record {
   holds = k.holds;
@@ -122,6 +123,7 @@ pub record IsFit (t : Traced) (i : ℕ) (a : Action) : Type 0 where
   pub within : (act (server t.world i) a).state.store.acked ≤ length t.committed
   pub sent : (j : ℕ) (body : Body) → a ≡ Send j body → Carries t i (server t.world i).view body
 
+-- an action of a living server that shows all that `IsFit` asks keeps logs and acknowledged numbers
 pub kept_done : (t : Traced) (i : ℕ) (a : Action)
     → Framed t
     → Logged t

@@ -20,6 +20,7 @@ grows_reconnected t c change = rw (committed_reconnected t c change) (begins_sam
 grows_unlinked : (t : Traced) (i j : ℕ) (ms : List Peer) → Begins t.committed (unlinked t i j ms).committed
 grows_unlinked t i j ms = rw (committed_unlinked t i j ms) (begins_same t.committed)
 
+-- the committed entries only grow by a move
 pub grows_moved : (t : Traced) (m : Move) → IsMove t m → Lawful t → Begins t.committed (moved t m).committed
 grows_moved t (Does i cause a) h w = grows_done t i a w.framed w.logged h.lives
 grows_moved t (Comes c bytes) h w = grows_reconnected t c (where_home_lives t.world (came bytes))
@@ -29,6 +30,7 @@ grows_moved t (Hands c) h w = grows_reconnected t c (where_home_lives t.world (�
 grows_moved t (Takes i j ms) h w = grows_unlinked t i j ms
 grows_moved t (Fails i) h w = grows_failing t i w.logged
 
+-- logs and acknowledged numbers hold behind each move
 pub logged_moved : (t : Traced) (m : Move)
     → IsMove t m
     → Lawful t

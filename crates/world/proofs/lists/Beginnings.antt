@@ -5,6 +5,7 @@ use Rattle.std.specs.Prelude.{slice_get}
 use Rattle.std.proofs.lemmas.Option.{same_Some, none-some as none_some}
 use Rattle.node.proofs.Lists.{Begins, pushed_cases}
 
+-- a list begins itself
 pub begins_same : {X : Type 0} (xs : List X) → Begins xs xs
 begins_same xs k x h = h
 
@@ -12,6 +13,7 @@ begins_same xs k x h = h
 pub begins_as : {X : Type 0} (us xs ys vs : List X) → us ≡ xs → Begins xs ys → vs ≡ ys → Begins us vs
 begins_as us xs ys vs e b f = rw (e, f) b
 
+-- the empty list begins each list
 pub begins_nil : {X : Type 0} (xs : List X) → Begins [] xs
 begins_nil xs k x h = absurd (none_some x h)
 
@@ -22,6 +24,7 @@ pub begins-push : {X : Type 0} (xs ys : List X) (y : X)
     → Begins (xs ++ y ∷ []) ys
 begins-push xs ys y b h k x e = elim (pushed_cases xs y k x e) [ inl old ↦ b k x old | inr new ↦ rw (new.0, new.1) h ]
 
+-- a beginning is no longer than the whole
 pub begins-length : {X : Type 0} (xs ys : List X) → Begins xs ys → length xs ≤ length ys
 begins-length [] ys b = omega arith
 begins-length (x ∷ xs) [] b = absurd (none_some x (b 0 x refl))
@@ -47,6 +50,7 @@ begins-take (suc n) (x ∷ xs) (y ∷ ys) b l =
     let rest : take n ys ≡ take n xs = begins-take n xs ys (λ k z h. b (suc k) z h) (omega arith) in
     cc
 
+-- what stands in a list behind its first n stands n places later in the whole
 pub slice_get-drop : {X : Type 0} (n : ℕ) (xs : List X) (k : ℕ) → slice_get (drop n xs) k ≡ slice_get xs (n + k)
 slice_get-drop zero xs k = rw zero-add refl
 slice_get-drop (suc n) [] k = refl

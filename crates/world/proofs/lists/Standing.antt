@@ -4,11 +4,13 @@ use Rattle.std.proofs.Common.{inl, inr, arith}
 use Rattle.std.specs.Prelude.{slice_get, IsSome}
 use Rattle.world.specs.Connections.{Connection, changed_at}
 
+-- at a place below its length a list has an element
 pub get_within : {X : Type 0} (xs : List X) (i : ℕ) → i < length xs → IsSome (slice_get xs i)
 get_within [] i h = absurd (omega arith)
 get_within (x ∷ xs) zero h = refl
 get_within (x ∷ xs) (suc i) h = get_within xs i (omega arith)
 
+-- an option that isn't empty holds something
 pub some_of : {X : Type 0} (o : Option X) → IsSome o → (x : X) × (o ≡ Some x)
 some_of None h = cc
 some_of (Some x) h = (x, refl)
@@ -28,6 +30,7 @@ changed_cases (k ∷ ks) (suc c) (suc d) change new h =
       | inr same ↦ inr (same.0, ap suc same.1, same.2, same.3)
     ]
 
+-- where a connection stands after a change of one, a connection stood before it
 pub stood_before : (ks : List Connection) (c d : ℕ) (change : Connection → Connection) (new : Connection)
     → slice_get (changed_at ks c change) d ≡ Some new
     → (old : Connection) × (slice_get ks d ≡ Some old)

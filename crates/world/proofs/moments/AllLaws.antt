@@ -10,6 +10,7 @@ use Rattle.world.proofs.layers.LoggedMoves.{grows_moved, logged_moved}
 use Rattle.world.proofs.layers.LoggedEvents.{logged_outset}
 use Rattle.world.proofs.calls.CallsMoved.{calling_moved, read_moved, calling_outset, read_outset}
 
+-- each move keeps every layer
 pub laws : Laws
 laws = record {
   fits = next_fits;
@@ -20,6 +21,7 @@ laws = record {
   read = read_moved;
 }
 
+-- each layer holds before any event
 pub first_laws : FirstLaws
 first_laws = record {
   logged = λ n homes few. logged_outset n homes;

@@ -62,13 +62,16 @@ pub record GoesOn (before : Memory) (t u : Traced) : Type 0 where
 abbrev pub Goes : Traced → Traced → Type 0
 Goes t u = (before : Memory) → GoesOn before t u
 
+-- a lawful world comes of itself by no move
 pub stays : (t : Traced) → Lawful t → Goes t t
 unfolding all_moved
 stays t l before = record { moves = []; are = tt; is = refl; later = later_same t; lawful = l }
 
+-- by the laws of all layers what was known is known still after a move
 pub later_by : Laws → (t : Traced) (m : Move) → IsMove t m → Lawful t → Later t (moved t m)
 later_by laws t m g l = later_moved t m g l.framed (laws.grows t m g l)
 
+-- by the laws of all layers a lawful world is lawful after a move
 pub lawful_by : Laws → (t : Traced) (m : Move) → IsMove t m → Lawful t → Lawful (moved t m)
 lawful_by laws t m g l =
     let later = later_by laws t m g l in
@@ -94,6 +97,7 @@ goes_first laws before t m g r l v b = record {
   lawful = b.lawful;
 }
 
+-- a world that comes by moves, and one that comes of it by more
 pub goes_then : (before : Memory) (t u v : Traced) (a : GoesOn before t u)
     → GoesOn (recalled_last before t a.moves a.are) u v
     → GoesOn before t v
@@ -106,6 +110,7 @@ goes_then before t u v a b = record {
   lawful = b.lawful;
 }
 
+-- a world that comes by moves, and one that comes of it, whatever was taken off before
 pub goes_both : (t u v : Traced) → Goes t u → Goes u v → Goes t v
 goes_both t u v a b before = goes_then before t u v (a before) (b _)
 
@@ -145,6 +150,7 @@ kept_through laws P kept before t (m ∷ ms) are l p =
     kept_through laws P kept (recalled t m are.0 before) (moved t m) ms are.2 lawful
     (kept before t m are.0 are.1 l (later_by laws t m are.0 l) lawful p)
 
+-- what each move keeps holds of a world that comes by moves of one of which it holds
 pub kept_on : Laws → (P : Memory → Traced → Type 0)
     → ((before : Memory) (t : Traced) (m : Move) (g : IsMove t m) → Recalls before m → Lawful t → Later t (moved t m)
     → Lawful (moved t m) → P before t → P (recalled t m g before) (moved t m))

@@ -42,6 +42,7 @@ pub record Reaches (t : Traced) (w : World) : Type 0 where
   pub world : after.world ≡ w
   pub all : AllLawful w
 
+-- a lawful world is behind itself
 pub reached : (t : Traced) → Lawful t → AllLawful t.world → Reaches t t.world
 reached t l all = record { after = t; goes = stays t l; world = refl; all = all }
 
@@ -53,6 +54,7 @@ fits_known t i (Called port call) known = (known.0, tt)
 fits_known t i (From j m) known = (known.0.fit, known.0.entry)
 fits_known t i (Gone j) known = (tt, tt)
 
+-- the server that took an input is what its step made of it
 pub server-acted : (w : World) (i : ℕ) (a : Outcome) → i < length w.servers → server (acted w i a) i ≡ a.state
 server-acted w i a l = server-put_all (with_server w i a.state) i a.outputs i ∙ server_same w i a.state l
 
@@ -238,6 +240,7 @@ tells laws t i j l all =
 
 -- ---- all events
 
+-- behind each event stands a traced world that comes by moves
 pub happened : Laws → (t : Traced) (e : Event) → Lawful t → AllLawful t.world → Reaches t (happens t.world e)
 happened laws t (Piece c bytes) l all =
     subst (λ w. Reaches t w) (world_reconnected t c _)

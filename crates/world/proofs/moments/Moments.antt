@@ -11,6 +11,7 @@ use Rattle.world.proofs.trace.Outsets.{count_outset, framed_outset, lawful_outse
 use Rattle.world.proofs.moments.Goings.{Laws, Goes, stays, goes_both}
 use Rattle.world.proofs.moments.Happenings.{AllLawful, Reaches, happened}
 
+-- a lawful world behind each beginning of these events, each of which comes by moves of those before
 pub record Moments (t : Traced) (events : List Event) : Type 0 where
   -- the traced world behind the first k events
   pub at : ℕ → Traced
@@ -56,6 +57,7 @@ goes_on t e es r m l zero (suc k) h =
 goes_on t e es r m l (suc j) zero h = absurd (omega (arith, h))
 goes_on t e es r m l (suc j) (suc k) h = m.goes j k (omega (arith, h))
 
+-- events from a lawful world on have their moments
 pub moments : Laws → (events : List Event) (t : Traced) → Lawful t → AllLawful t.world → Moments t events
 moments laws [] t l all =
     record {
@@ -84,10 +86,12 @@ moments laws (e ∷ es) t l all =
 
 -- ---- from moment to moment
 
+-- a run of two lists of events is a run of the first, and then of the second
 pub run-append : (es fs : List Event) (w : World) → run_from w (es ++ fs) ≡ run_from (run_from w es) fs
 run-append [] fs w = refl
 run-append (e ∷ es) fs w = run-append es fs (happens w e)
 
+-- the first k + 1 events are the first k and the next one
 pub taken_more : (es : List Event) (k : ℕ) (e : Event) → slice_get es k ≡ Some e → take (suc k) es ≡ take k es ++ e ∷ []
 taken_more [] k e h = absurd cc
 taken_more (x ∷ es) zero e h = ap (λ y. y ∷ []) (same_Some x e h)
@@ -109,6 +113,7 @@ pub record FirstLaws : Type 0 where
   pub calling : (n : ℕ) (homes : List ℕ) → n ≤ 16 → Calling (outset n homes)
   pub read : (n : ℕ) (homes : List ℕ) → n ≤ 16 → Read (outset n homes)
 
+-- by the laws of all layers a chain of at most 16 servers is lawful before any event
 pub lawful_first : FirstLaws → (n : ℕ) (homes : List ℕ) → n ≤ 16 → Lawful (outset n homes)
 lawful_first first n homes few =
     record {
@@ -118,6 +123,7 @@ lawful_first first n homes few =
       read = first.read n homes few;
     }
 
+-- by the laws of all layers each schedule has its moments
 pub moments_of : Laws
     → FirstLaws
     → (n : ℕ) (homes : List ℕ) (events : List Event)

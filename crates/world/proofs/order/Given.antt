@@ -231,6 +231,7 @@ module _ (t : Traced) (l : Lawful t) (issued : AllIssued t) (x : CallId)
       let answer = l.calling.waiting x.connection k reply here e in
       inl (answered_issued k reply here (subst (λ n. IsAnswer t (at_place x.connection n) reply) (sym same) answer))
 
+  -- an update that was given to its server was issued by it, unless it had no id or number left
   pub given_is_issued : (g : IsGivenAt t.world x)
       → In x (issued_by t g.connection.home) ⊎ IsFull t g.connection.home
   given_is_issued g = elim (cases_lt x.place (length g.connection.replies)) [

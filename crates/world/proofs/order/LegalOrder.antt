@@ -43,6 +43,7 @@ module _ (name : LogEntry → CallId) (asked : CallId → Call) (table : ℕ →
       (sym (ap (λ (p : Reply × PlainTable). p.0) here), rw (ap (λ (p : Reply × PlainTable). p.1) here) later))
       (λ t. later)
 
+  -- if each update makes the next table, and each read shows its own one, the order is legal from the table on
   pub legal : (rs : List AnsweredRead) (n : ℕ) (es : List LogEntry)
       → ((j : ℕ) (r : AnsweredRead) → slice_get rs j ≡ Some r → Shows r)
       → ((k : ℕ) (e : LogEntry) → slice_get es k ≡ Some e → Makes (n + k) e)

@@ -27,11 +27,13 @@ use Rattle.world.proofs.order.LegalOrder.{Makes, Shows}
 
 -- ---- what stands at a place
 
+-- what stands at a place is read there, whatever the default
 pub index_is : {X : Type 0} (xs : List X) (k : ℕ) (d x : X) → slice_get xs k ≡ Some x → slice_index_or xs k d ≡ x
 index_is [] k d x h = absurd cc
 index_is (y ∷ xs) zero d x h = same_Some y x h
 index_is (y ∷ xs) (suc k) d x h = index_is xs k d x h
 
+-- what stands in a list stands, changed, in the changed list
 pub get_mapped : {X Y : Type 0} (f : X → Y) (xs : List X) (k : ℕ) (x : X)
     → slice_get xs k ≡ Some x
     → slice_get (map f xs) k ≡ Some (f x)
@@ -39,6 +41,7 @@ get_mapped f [] k x h = absurd cc
 get_mapped f (y ∷ xs) zero x h = ap (λ z. Some (f z)) (same_Some y x h)
 get_mapped f (y ∷ xs) (suc k) x h = get_mapped f xs k x h
 
+-- what stands in a changed list comes of what stands in the list
 pub mapped_get : {X Y : Type 0} (f : X → Y) (xs : List X) (k : ℕ) (y : Y)
     → slice_get (map f xs) k ≡ Some y
     → (x : X) × (slice_get xs k ≡ Some x) × (f x ≡ y)
@@ -91,13 +94,16 @@ call_or (Some call) = call
 pub name_of : Traced → LogEntry → CallId
 name_of t e = slice_index_or (issued_by t e.origin) (e.id - 1) no_name
 
+-- the call of this name, as it was begun
 pub asked_of : Traced → CallId → Call
 asked_of t x = call_or (begun_call t.world x)
 
+-- the name that is found for an entry is that of its call
 pub named_is : (t : Traced) (e : LogEntry) (x : CallId) → IsNamed t e x → name_of t e ≡ x
 unfolding name_of
 named_is t e x h = index_is (issued_by t e.origin) (e.id - 1) no_name x h.1
 
+-- what is found for a begun call is that call
 pub asked_is : (t : Traced) (x : CallId) (call : Call) → begun_call t.world x ≡ Some call → asked_of t x ≡ call
 unfolding asked_of
 asked_is t x call h = ap call_or h
@@ -106,14 +112,17 @@ asked_is t x call h = ap call_or h
 abbrev pub ranked : Traced → List Placed
 ranked t = placed (name_of t) (asked_of t) t.reads 0 t.committed
 
+-- the order of the calls of a traced world
 abbrev pub order_of : Traced → List Entry
 order_of t = map (λ (p : Placed). p.entry) (ranked t)
 
 -- ---- the tables along the order
 
+-- the table after the first n committed entries
 abbrev pub table_of : Traced → ℕ → PlainTable
 table_of t n = record { items = items_after opening_table.items (take n t.committed); count = n }
 
+-- nothing stands in an empty list
 pub nothing_there : {X : Type 0} (xs : List X) → xs ≡ [] → (k : ℕ) (x : X) → slice_get xs k ≡ Some x → ⊥
 nothing_there [] none k x h = absurd cc
 nothing_there (y ∷ xs) none k x h = absurd cc
@@ -141,6 +150,7 @@ makes items k e call next target update decided is =
     (ap (λ n. (e.reply, record { items = changed items e.target e.change; count = n }))
     (let m : k + 1 ≡ suc k = omega arith in m))
 
+-- each committed update makes of the table of the entries before it the next one
 pub all_make : (t : Traced)
     → Lawful t
     → (k : ℕ) (e : LogEntry)
@@ -174,6 +184,7 @@ shows : (table : PlainTable) (call : Call) (key : List ℕ) (item : Option Item)
     → apply table call.target call.op ≡ (Value item, table)
 shows table call key item read target is = rw (is_read call.op read, target, is) refl
 
+-- each answered read shows what is in the table of its number
 pub all_show : (t : Traced)
     → Lawful t
     → (j : ℕ) (r : AnsweredRead)
@@ -185,18 +196,23 @@ all_show t l j r h =
 
 -- ---- what stands in the order
 
+-- p is the k-th committed entry, in its place of the order
 abbrev pub IsUpdateAt : Traced → ℕ → LogEntry → Placed → Type 0
 IsUpdateAt t k e p = (slice_get t.committed k ≡ Some e) × (p ≡ of_update (name_of t) (asked_of t) k e)
 
+-- p is the j-th answered read, in its place of the order
 abbrev pub IsReadAt : Traced → ℕ → AnsweredRead → Placed → Type 0
 IsReadAt t j r p = (slice_get t.reads j ≡ Some r) × (p ≡ of_read (name_of t) (asked_of t) j r)
 
+-- what stands in the order is one of the committed entries, or of the answered reads
 abbrev pub Sources : Traced → Placed → Type 0
 Sources t p = ((k : ℕ) × (e : LogEntry) × IsUpdateAt t k e p) ⊎ ((j : ℕ) × (r : AnsweredRead) × IsReadAt t j r p)
 
+-- 0 plus n is n
 pub front : (n : ℕ) → 0 + n ≡ n
 front n = omega arith
 
+-- what stands in the order is a committed entry or an answered read
 pub comes_from : (t : Traced) (p : Placed) → In p (ranked t) → Sources t p
 comes_from t p h = elim (source (name_of t) (asked_of t) t.reads 0 t.committed p h) [
   | inl u ↦ inl (u.0, u.1, (u.2, u.3 ∙ ap (λ x. of_update (name_of t) (asked_of t) x u.1) (front u.0)))
@@ -209,6 +225,7 @@ pub record Stands (t : Traced) (i : ℕ) (x : CallId) : Type 0 where
   pub here : slice_get (ranked t) i ≡ Some rank
   pub same : rank.entry.id ≡ x
 
+-- each call that stands in the order stands there with a rank
 pub stands : (t : Traced) (i : ℕ) (x : CallId) → StandsAt (order_of t) i x → Stands t i x
 stands t i x s =
     let p = mapped_get (λ (p : Placed). p.entry) (ranked t) i s.entry s.here in

@@ -39,6 +39,7 @@ id_committed t l k e h = elim l.logged.source [
       (l.calling.ids one.0 k e (rw (one.2) at h))
 ]
 
+-- each committed entry is that of the call whose name is found for it
 pub is_named : (t : Traced)
     → Lawful t
     → (k : ℕ) (e : LogEntry)

@@ -32,6 +32,7 @@ since_outset n homes = record {
 }
 
 module _ (n : ℕ) (homes : List ℕ) (events : List Event) (few : n ≤ 16) where
+  -- the moments of the schedule
   pub all : Moments (outset n homes) events
   all = all_moments n homes events few
 

@@ -22,20 +22,24 @@ pub record Placed : Type 0 where
 abbrev pub IsBefore : Placed → Placed → Type 0
 IsBefore p q = (p.number < q.number) ⊎ ((p.number ≡ q.number) × (p.turn < q.turn))
 
+-- one stands before each of these
 abbrev pub IsBelow : Placed → List Placed → Type 0
 IsBelow p [] = Unit {0}
 IsBelow p (q ∷ qs) = IsBefore p q × IsBelow p qs
 
+-- each stands before all behind it
 abbrev pub Sorted : List Placed → Type 0
 Sorted [] = Unit {0}
 Sorted (p ∷ ps) = IsBelow p ps × Sorted ps
 
 -- the name of an update, and the call of a name
 module _ (name : LogEntry → CallId) (asked : CallId → Call) where
+  -- the k-th entry, counted from 0, with its rank: its number, and the first turn
   abbrev pub of_update : ℕ → LogEntry → Placed
   of_update k e =
       record { number = suc k; turn = 0; entry = record { id = name e; call = asked (name e); reply = e.reply } }
 
+  -- the q-th answered read, with its rank: its number, and a turn after the update of this number
   abbrev pub of_read : ℕ → AnsweredRead → Placed
   of_read q r =
       record { number = r.number; turn = suc q; entry = record { id = r.id; call = asked r.id; reply = Value r.item } }
@@ -52,15 +56,18 @@ module _ (name : LogEntry → CallId) (asked : CallId → Call) where
 
 -- ---- sorted lists
 
+-- what comes before each element of a list comes before all of them
 pub below_each : (p : Placed) (ps : List Placed) → ((x : Placed) → In x ps → IsBefore p x) → IsBelow p ps
 below_each p [] f = tt
 below_each p (q ∷ ps) f = (f q (0, refl), below_each p ps (λ x h. f x (suc h.0, h.1)))
 
+-- what comes before all elements of a list comes before each
 pub each_below : (p : Placed) (ps : List Placed) (x : Placed) → IsBelow p ps → In x ps → IsBefore p x
 each_below p [] x b h = absurd cc
 each_below p (q ∷ ps) x b (zero, h) = rw (same_Some q x h) at b.0
 each_below p (q ∷ ps) x b (suc k, h) = each_below p ps x b.1 (k, h)
 
+-- two sorted lists are one, if each of the first comes before each of the second
 pub sorted_joined : (ps qs : List Placed)
     → Sorted ps
     → Sorted qs
@@ -86,9 +93,11 @@ sorted_places (x ∷ ps) zero (suc j) p q s l h g = rw (same_Some x p h) at (eac
 sorted_places (x ∷ ps) (suc i) zero p q s l h g = absurd (omega arith)
 sorted_places (x ∷ ps) (suc i) (suc j) p q s l h g = sorted_places ps i j p q s.1 (omega arith) h g
 
+-- none comes before itself
 pub never_before_itself : (p : Placed) → IsBefore p p → ⊥
 never_before_itself p h = elim h [ inl less ↦ absurd (omega arith) | inr less ↦ absurd (omega (arith, less.1)) ]
 
+-- of two only one comes before the other
 pub never_both : (p q : Placed) → IsBefore p q → IsBefore q p → ⊥
 never_both p q h g = elim h [
   | inl less ↦ elim g [ inl more ↦ absurd (omega arith) | inr more ↦ absurd (omega (arith, more.0)) ]

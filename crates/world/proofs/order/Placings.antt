@@ -91,6 +91,7 @@ module _ (name : LogEntry → CallId) (asked : CallId → Call) where
   from_read rs n es p (j, r, h, e, is) =
       inr (j, r, h, omega (arith, e), is ∙ ap (λ x. of_read name asked x r) (at_front j))
 
+  -- what stands in the order is one of these updates or of these reads
   pub source : (rs : List AnsweredRead) (n : ℕ) (es : List LogEntry) (p : Placed)
       → In p (placed name asked rs n es)
       → IsPlaced rs n es p
@@ -120,6 +121,7 @@ module _ (name : LogEntry → CallId) (asked : CallId → Call) where
     | inr r ↦ rw r.4 r.3
   ]
 
+  -- the order is sorted by ranks
   pub sorted : (rs : List AnsweredRead) (n : ℕ) (es : List LogEntry) → Sorted (placed name asked rs n es)
   unfolding placed
   sorted rs n [] = sorted_reads n 0 rs
@@ -147,6 +149,7 @@ module _ (name : LogEntry → CallId) (asked : CallId → Call) where
         | inr other ↦ elim other [ inl less ↦ inl less | inr greater ↦ absurd (omega arith) ]
       ]
 
+  -- each of these updates stands in the order
   pub update_found : (rs : List AnsweredRead) (n : ℕ) (es : List LogEntry) (k : ℕ) (e : LogEntry)
       → slice_get es k ≡ Some e
       → In (of_update name asked (n + k) e) (placed name asked rs n es)
@@ -165,6 +168,7 @@ module _ (name : LogEntry → CallId) (asked : CallId → Call) where
       let move : n + suc k ≡ suc n + k = omega arith in
       in_behind (reads_at name asked n 0 rs) _ _ (rw move (suc later.0, later.1))
 
+  -- each of these reads stands in the order, if its number is among those of the updates
   pub read_placed : (rs : List AnsweredRead) (n : ℕ) (es : List LogEntry) (j : ℕ) (r : AnsweredRead)
       → slice_get rs j ≡ Some r
       → n ≤ r.number

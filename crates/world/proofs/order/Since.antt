@@ -49,6 +49,7 @@ IsKnownSince t u i (Some (Called port call)) = Unit {0}
 IsKnownSince t u i (Some (From j m)) = SaysSince t u j i m.body
 IsKnownSince t u i (Some (Gone j)) = Unit {0}
 
+-- what holds with regard to an earlier moment gives what is said of entries and answers
 pub newer : (t u : Traced) → Lawful u → Since t u → Newer t u
 newer t u l s = record {
   entries = λ k e h. elim l.logged.source [
@@ -58,6 +59,7 @@ newer t u l s = record {
   answers = s.answers;
 }
 
+-- what is said of a message with regard to an earlier moment is so later, as no next ask falls
 pub says_later : (t u v : Traced) (i j : ℕ) (b : Body)
     → ((k : ℕ) → (server u.world k).next_ask ≤ (server v.world k).next_ask)
     → SaysSince t u i j b
@@ -68,6 +70,7 @@ says_later t u v i j (Ack n) f h = tt
 says_later t u v i j (Query ask key) f h = let g = f i in omega (arith, h, g)
 says_later t u v i j (Answer ask n) f h = (let g = f j in omega (arith, h.0, g), h.1)
 
+-- an option that holds something isn't empty
 pub is_some : {X : Type 0} (o : Option X) (x : X) → o ≡ Some x → IsSome o
 is_some None x e = absurd cc
 is_some (Some y) x e = refl

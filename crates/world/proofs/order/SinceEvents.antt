@@ -98,6 +98,7 @@ IsMoveSince z t (Hands c) = Unit {0}
 IsMoveSince z t (Takes i j ms) = Unit {0}
 IsMoveSince z t (Fails i) = Unit {0}
 
+-- each move keeps what holds with regard to an earlier moment
 pub since_moved : (z t : Traced) (m : Move)
     → IsMove t m
     → Lawful t

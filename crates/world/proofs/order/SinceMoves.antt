@@ -244,6 +244,7 @@ says_done t u i cause a later s known g x y m h =
       | inr new ↦ rw (new.0, new.3) (sends_since t u i cause y new.1 later known (subst (λ b. IsStep u i cause b) new.2 g))
     ])
 
+-- each action keeps what holds with regard to an earlier moment
 pub since_done : (t u : Traced) (i : ℕ) (cause : Cause) (a : Action)
     → Later t u
     → Since t u

@@ -77,6 +77,7 @@ held_moved z before t m g r l next lawful h = record {
   recalls = recalled_since z t before m g next h.since h.recalls;
 }
 
+-- what holds with regard to a moment holds of each world that comes by moves later on
 pub since_on : Laws → (z t u : Traced) → Goes t u → Lawful t → Later z t → Since z t → Since z u
 since_on laws z t u goes l later s =
     (kept_on laws (Held z) (held_moved z) None t u (goes None) l

@@ -245,17 +245,20 @@ module _ (n : ℕ) (homes : List ℕ) (events : List Event) (few : n ≤ 16) whe
   TellsAwaited w = (i j : ℕ) → lives w i ≡ true → has_failed w j ≡ true
       → AreAwaited w.connections i (step (server w i) (Gone j)).outputs
 
+  -- each reply that is put out when a call goes to its server is awaited
   pub works_awaited : WorksAwaited (run_of n homes events)
   works_awaited = subst WorksAwaited world
       (awaited_works last ((all n homes events few).lawful (length events))
       ((all n homes events few).all (length events)))
 
+  -- each reply that is put out at a delivery is awaited
   pub delivers_awaited : DeliversAwaited (run_of n homes events)
   delivers_awaited =
       subst DeliversAwaited world
       (awaited_delivers last ((all n homes events few).lawful (length events))
       ((all n homes events few).all (length events)))
 
+  -- each reply that is put out at the news of a failure is awaited
   pub tells_awaited : TellsAwaited (run_of n homes events)
   tells_awaited = subst TellsAwaited world
       (awaited_tells last ((all n homes events few).lawful (length events))

@@ -20,6 +20,7 @@ in_step_from : (events : List Event) (w : World) → AllInStep w → AllInStep (
 in_step_from [] w all = all
 in_step_from (e ∷ es) w all = in_step_from es (happens w e) (in_step_happens w e all)
 
+-- after each schedule each call of a connection but the open one has its reply
 pub in_step : (count : ℕ) (homes : List ℕ) (events : List Event) → AllInStep (run_of count homes events)
 in_step count homes events = in_step_from events (opening_world count homes) (in_step_outset count homes)
 

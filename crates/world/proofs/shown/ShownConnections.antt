@@ -26,11 +26,13 @@ use Rattle.world.proofs.shown.ShownCalls.{in_step}
 
 -- ---- the calls of one connection
 
+-- of the calls that are shown with replies the calls are those that were begun
 pub calls_are : (calls : List Call) (replies : List Reply) → calls_in (calls_shown calls replies) ≡ calls
 calls_are [] replies = refl
 calls_are (call ∷ calls) [] = ap (λ cs. call ∷ cs) (calls_are calls [])
 calls_are (call ∷ calls) (reply ∷ replies) = ap (λ cs. call ∷ cs) (calls_are calls replies)
 
+-- as many calls are shown as were begun
 pub length-shown : (calls : List Call) (replies : List Reply) → length (calls_shown calls replies) ≡ length calls
 length-shown [] replies = refl
 length-shown (call ∷ calls) [] = omega (arith, length-shown calls [])
@@ -40,6 +42,7 @@ no_replies : (calls : List Call) → replies_in (calls_shown calls []) ≡ []
 no_replies [] = refl
 no_replies (call ∷ calls) = no_replies calls
 
+-- the replies that are shown are those that were given, if there are no more of them than calls
 pub replies_are : (calls : List Call) (replies : List Reply)
     → length replies ≤ length calls
     → replies_in (calls_shown calls replies) ≡ replies
@@ -70,6 +73,7 @@ pub record IsShown (ks : List Connection) (c : ℕ) (shown : ConnectionShown) : 
   pub here : slice_get ks c ≡ Some connection
   pub same : connection_shown connection ≡ shown
 
+-- what is shown in a place is shown of a connection that stands there
 pub is_shown : (ks : List Connection) (c : ℕ) (shown : ConnectionShown)
     → slice_get (map connection_shown ks) c ≡ Some shown
     → IsShown ks c shown
@@ -133,6 +137,7 @@ module _ (count : ℕ) (homes : List ℕ) (events : List Event) (t : TranscriptS
   abbrev stream_calls : ℕ → List Call
   stream_calls c = calls_of (turns (course_of count homes events c).stream)
 
+  -- if each connection's begun calls are the first of its stream, so are those that are shown
   pub begun_shown : Each count homes events (λ c k. k.calls ≡ take (length k.calls) (stream_calls c))
       → EachShown t (λ c k. calls_in k.calls ≡ take (length k.calls) (stream_calls c))
   begun_shown law c k here =
@@ -144,6 +149,7 @@ module _ (count : ℕ) (homes : List ℕ) (events : List Event) (t : TranscriptS
   abbrev answered_calls : ℕ → ℕ
   answered_calls c = length (calls_of (past (course_of count homes events c)))
 
+  -- if each connection has as many replies as calls were answered, so many are shown
   pub answered_shown : Each count homes events (λ c k. length k.replies ≡ answered_calls c)
       → EachShown t (λ c k. length (replies_in k.calls) ≡ answered_calls c)
   answered_shown law c k here =
@@ -157,6 +163,7 @@ module _ (count : ℕ) (homes : List ℕ) (events : List Event) (t : TranscriptS
       subst (λ n. IsSome call.reply ↔ p < n) (ap length (sym (replies_of_shown c k s)))
       (has_reply_there c p k call there s)
 
+  -- if at most one call of each connection is open, at most one is shown without a reply
   pub one_open_shown : Each count homes events (λ c k. length k.calls ≤ length k.replies + 1)
       → EachShown t (λ c k. length k.calls ≤ length (replies_in k.calls) + 1)
   one_open_shown law c k here =

@@ -153,5 +153,6 @@ module _ (t : Traced) (h : Lawful t) (s : Streaming t.world) (rest : IsAtRest t.
   level_from (suc many) i l a = level_found many i (successor (server t.world i).view (count t) i) l a refl
       (λ j b above. level_from many j (omega (arith, l, above)) b)
 
+  -- at rest each living server has the committed entries, and has acknowledged them all
   pub all_level : (i : ℕ) → lives t.world i ≡ true → IsLevel t i
   all_level i a = level_from (count t) i (omega arith) a

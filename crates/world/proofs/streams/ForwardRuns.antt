@@ -24,6 +24,7 @@ use Rattle.world.proofs.streams.Streaming.{forwarded_number, brought, IsRun, sen
 
 -- ---- runs
 
+-- a run up to a number and one from there on are one run
 pub run-append : (xs ys : List ℕ) (f m n : ℕ) → IsRun f m xs → IsRun m n ys → IsRun f n (xs ++ ys)
 run-append [] ys f m n h g = rw h g
 run-append (x ∷ xs) ys f m n h g = (h.0, run-append xs ys (f + 1) m n h.1 g)
@@ -39,6 +40,7 @@ run_up (x ∷ xs) f n h = omega (arith, run_up xs (f + 1) n h.1)
 
 -- ---- what messages and outputs bring
 
+-- two lists of messages bring what the first brings, and then what the second does
 pub brought-append : (picked : Body → List ℕ) (ms ns : List Peer)
     → brought picked (ms ++ ns) ≡ brought picked ms ++ brought picked ns
 brought-append picked [] ns = refl
@@ -51,6 +53,7 @@ sent_step : (b : Bool) (m : Peer) (ms ns all : List Peer)
 sent_step true m ms ns all h = ap (λ rest. m ∷ rest) h
 sent_step false m ms ns all h = h
 
+-- of two lists of outputs there goes to server y what goes of the first, and then of the second
 pub sent_to-append : (y : ℕ) (os ps : List Output) → sent_to y (os ++ ps) ≡ sent_to y os ++ sent_to y ps
 sent_to-append y [] ps = refl
 sent_to-append y (To j m ∷ os) ps = sent_step (j == y) m (sent_to y os) (sent_to y ps) _ (sent_to-append y os ps)
@@ -60,6 +63,7 @@ sent_to-append y (Replied c reply ∷ os) ps = sent_to-append y os ps
 abbrev pub brought_to : (Body → List ℕ) → ℕ → List Output → List ℕ
 brought_to picked y os = brought picked (sent_to y os)
 
+-- two lists of outputs bring to server y what the first brings, and then what the second does
 pub brought_to-append : (picked : Body → List ℕ) (y : ℕ) (os ps : List Output)
     → brought_to picked y (os ++ ps) ≡ brought_to picked y os ++ brought_to picked y ps
 brought_to-append picked y os ps =
@@ -84,6 +88,7 @@ reply_none : (picked : Body → List ℕ) (y : ℕ) (reply : Reply) (u : Option 
 reply_none picked y reply None = refl
 reply_none picked y reply (Some u) = refl
 
+-- the reply to a closed call brings no server anything
 pub closed_none : (picked : Body → List ℕ) (y id : ℕ) (pend : List OpenUpdate) (e : LogEntry)
     → brought_to picked y (reply_to id pend e) ≡ []
 closed_none picked y id pend e =
@@ -94,6 +99,7 @@ closed_none picked y id pend e =
 abbrev pub numbers_to : ℕ → List Output → List ℕ
 numbers_to y os = brought_to forwarded_number y os
 
+-- a forward to server y brings it the entry's number
 pub number_there : (s : ServerState) (y : ℕ) (o : Option ℕ) (e : LogEntry)
     → o ≡ Some y
     → numbers_to y (message_to s o (Forward e)) ≡ e.number ∷ []
@@ -104,6 +110,7 @@ in_step : (b : Bool) (m n : Peer) (ms : List Peer) → In m ms → In m (cond b 
 in_step true m n ms h = (suc h.0, h.1)
 in_step false m n ms h = h
 
+-- a message to server y that is put out is among those that go to it
 pub in_sent : (y : ℕ) (m : Peer) (os : List Output) (k : ℕ) → slice_get os k ≡ Some (To y m) → In m (sent_to y os)
 in_sent y m [] k h = absurd cc
 in_sent y m (To j n ∷ os) zero h =
@@ -119,6 +126,7 @@ pub record HasLink (w : World) (i j : ℕ) : Type 0 where
   pub row : i < length w.links
   pub place : j < length (get_or w.links i [])
 
+-- a link that is there holds the messages that are put on it
 pub same_link : (w : World) (i j : ℕ) (ms : List Peer) → HasLink w i j → link (with_link w i j ms) i j ≡ ms
 unfolding link with_link
 same_link w i j ms h = rw (get_or-set_same w.links i _ [] h.row) (get_or-set_same (get_or w.links i []) j ms [] h.place)
@@ -130,6 +138,7 @@ set_row w i j ms = set (get_or w.links i []) j ms
 other_link : (w : World) (i j y : ℕ) (ms : List Peer) → y ≢ j → link (with_link w i j ms) i y ≡ link w i y
 other_link w i j y ms other = elim (link_cases w i j i y ms) [ inl c ↦ absurd (other c.1) | inr e ↦ e ]
 
+-- other messages on a link leave each link where it is
 pub has_link-with_link : (w : World) (i j x y : ℕ) (ms : List Peer) → HasLink w x y → HasLink (with_link w i j ms) x y
 unfolding with_link
 has_link-with_link w i j x y ms h = record {
@@ -156,6 +165,7 @@ first_step : (b : Bool) (m : Peer) (old ms : List Peer) → (old ++ cond b (m �
 first_step true m old ms = append_assoc old (m ∷ []) ms
 first_step false m old ms = append_assoc old [] ms
 
+-- a changed connection leaves each link where it is
 pub has_link-with_connection : (w : World) (c : ℕ) (change : Connection → Connection) (x y : ℕ)
     → HasLink w x y
     → HasLink (with_connection w c change) x y

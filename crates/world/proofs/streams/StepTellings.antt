@@ -39,11 +39,13 @@ use Rattle.node.proofs.RuleLaws.{same_is}
 use Rattle.world.proofs.streams.Streaming.{forwarded_number, IsRun}
 use Rattle.world.proofs.streams.ForwardRuns.{run-append, brought_to-append, none_brought, closed_none, numbers_to, number_there}
 
+-- either server y is the one, or it isn't
 pub some_or_not : (found : Option ℕ) (y : ℕ) → (found ≡ Some y) ⊎ (found ≡ Some y → ⊥)
 some_or_not None y = inr (λ e. absurd cc)
 some_or_not (Some x) y =
     elim (cases_eq x y) [ inl same ↦ inl (ap Some same) | inr other ↦ inr (λ e. other (same_Some x y e)) ]
 
+-- two that are both server k are the same
 pub same_self : (a b : Option ℕ) (k : ℕ) → a ≡ Some k → b ≡ Some k → is_same a b ≡ true
 same_self a b k e g = rw (e, g) (eq-eqb k k refl)
 
@@ -287,6 +289,7 @@ does_last (a ∷ later) c s g = omega (arith, act_last c s a g.0, does_last late
 abbrev pub Acks : ℕ → Outcome → Type 0
 Acks x a = (m : Peer) × (n : ℕ) × In (To x m) a.outputs × (m.body ≡ Ack n) × (a.state.store.acked ≤ n)
 
+-- what a step tells the neighbours, whether they stayed or are new
 pub record Informs (s : ServerState) (a : Outcome) : Type 0 where
   pub last : last_number s.store ≤ last_number a.state.store
   pub same : (y : ℕ)

@@ -31,6 +31,7 @@ use Rattle.world.proofs.streams.Ways.{Comes, Starts, Hands, Fails, Works, Delive
 
 -- ---- what changes no server and no link
 
+-- servers and links stay, and who has failed has failed still
 pub record IsStill (w u : World) : Type 0 where
   pub servers : (x : ℕ) → server u x ≡ server w x
   pub count : length u.servers ≡ length w.servers
@@ -156,6 +157,7 @@ stepped w v a input r =
 
 -- ---- each event
 
+-- in a world of this shape there is a link from each server of the chain to each
 pub has_link : (t : Traced) → Framed t → (i j : ℕ) → i < count t → j < count t → HasLink t.world i j
 has_link t f i j a b =
     let within : i < length t.world.links = omega (arith, f.rows, a) in

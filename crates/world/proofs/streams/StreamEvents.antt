@@ -76,6 +76,7 @@ module _ (t u : Traced) (h : Follows t u) (streaming : Streaming t.world) where
 
 -- ---- the outset
 
+-- the streams stand before any event, when no server has anything to send
 pub streaming_outset : (n : ℕ) (homes : List ℕ) → Streaming (outset n homes).world
 streaming_outset n homes =
     let t = outset n homes in

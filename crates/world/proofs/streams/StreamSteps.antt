@@ -25,9 +25,11 @@ use Rattle.world.proofs.layers.LoggedLaws.{still_out}
 
 -- ---- what a lawful world tells
 
+-- a server's last number is the length of its log
 pub last_is : (t : Traced) → Logged t → (i : ℕ) → i < count t → last_number (server t.world i).store ≡ length (log t i)
 last_is t h i l = held_last (log t i) (server t.world i).store (h.holds i l)
 
+-- no server's last number falls
 pub last_later : (t u : Traced)
     → Logged t
     → Logged u
@@ -37,6 +39,7 @@ pub last_later : (t u : Traced)
     → last_number (server t.world i).store ≤ last_number (server u.world i).store
 last_later t u h g l i a = omega (arith, last_is t h i a, last_is u g i (rw l.count a), begins-length _ _ (l.logs i))
 
+-- a server's successor is that of its view in the chain of the world
 pub next_in : (t : Traced)
     → Framed t
     → (i : ℕ)
@@ -78,6 +81,7 @@ module _ (t u : Traced) (h : Follows t u) (a : ℕ) (input : Input) (p : Stepped
   informs : Informs (server t.world a) (step (server t.world a) input)
   informs = informs_step (server t.world a) input (h.servers a p.here) p.fit p.valid
 
+  -- who is linked to its successor behind another's step was so before it
   pub linked_other : (x y : ℕ) → x ≢ a → Linked u.world x y → Linked t.world x y
   linked_other x y other l = record {
     here = rw (← h.later.count) l.here;
@@ -87,6 +91,7 @@ module _ (t u : Traced) (h : Follows t u) (a : ℕ) (input : Input) (p : Stepped
     alive = ap (λ v. has v y) (sym p.failed) ∙ l.alive;
   }
 
+  -- what another server forwards stays on its way
   pub forwards_other : (x y : ℕ)
       → x ≢ a
       → link u.world x y ≡ link t.world x y
@@ -102,6 +107,7 @@ module _ (t u : Traced) (h : Follows t u) (a : ℕ) (input : Input) (p : Stepped
         run = rw (p.others x other, same) s.run;
       }
 
+  -- what the server that steps forwards goes on
   pub forwards_own : (y : ℕ) → (Linked t.world a y → Stream t.world a y) → Linked u.world a y → Stream u.world a y
   forwards_own y f l =
       let o = step (server t.world a) input in
@@ -152,6 +158,7 @@ module _ (t u : Traced) (h : Follows t u) (a : ℕ) (input : Input) (p : Stepped
 
   -- ---- acknowledged numbers
 
+  -- who is linked to its predecessor behind another's step was so before it
   pub linked_back_other : (x y : ℕ) → y ≢ a → LinkedBack u.world x y → LinkedBack t.world x y
   linked_back_other x y other l = record {
     here = rw (← h.later.count) l.here;
@@ -161,6 +168,7 @@ module _ (t u : Traced) (h : Follows t u) (a : ℕ) (input : Input) (p : Stepped
     alive = ap (λ v. has v x) (sym p.failed) ∙ l.alive;
   }
 
+  -- what another server tells its predecessor stays on its way
   pub acks_other : (x y : ℕ)
       → y ≢ a
       → link u.world y x ≡ link t.world y x
@@ -173,6 +181,7 @@ module _ (t u : Traced) (h : Follows t u) (a : ℕ) (input : Input) (p : Stepped
         | inr g ↦ inr (g.0, g.1, rw same g.2, g.3, omega (arith, ap (λ s. s.store.acked) (p.others y other), g.4))
       ]
 
+  -- what the server that steps tells its predecessor goes on
   pub acks_own : (x : ℕ) → (LinkedBack t.world x a → IsTold t.world x a) → LinkedBack u.world x a → IsTold u.world x a
   acks_own x f l =
       let o = step (server t.world a) input in

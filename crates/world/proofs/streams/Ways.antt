@@ -42,6 +42,7 @@ pub record Telling (w u : World) : Type 0 where
   pub lives : lives w i ≡ true
   pub world : u ≡ takes w i (Gone j)
 
+-- how the world u comes of w by an event
 pub data Way (w u : World) : Type 0 where
   Stays : u ≡ w → Way w u
   Comes : (c : ℕ) (bytes : List ℕ) → u ≡ with_connection w c (where_home_lives w (came bytes)) → Way w u
@@ -101,17 +102,20 @@ way w (Hand c) = Hands c refl
 
 -- ---- what a change of a connection or of a link leaves of servers
 
+-- a changed connection leaves the servers as they are
 pub servers_connected : (w : World) (c : ℕ) (change : Connection → Connection)
     → (length (with_connection w c change).servers ≡ length w.servers)
     × ((x : ℕ) → server (with_connection w c change) x ≡ server w x)
 unfolding with_connection server
 servers_connected w c change = (refl, λ x. refl)
 
+-- a changed link leaves the servers as they are
 pub servers_linked : (w : World) (i j : ℕ) (ms : List Peer)
     → (length (with_link w i j ms).servers ≡ length w.servers) × ((x : ℕ) → server (with_link w i j ms) x ≡ server w x)
 unfolding with_link server
 servers_linked w i j ms = (refl, λ x. refl)
 
+-- a changed link leaves the connections as they are
 pub connections_linked : (w : World) (i j : ℕ) (ms : List Peer) → (with_link w i j ms).connections ≡ w.connections
 unfolding with_link
 connections_linked w i j ms = refl

@@ -15,13 +15,16 @@ use Rattle.world.proofs.trace.Traces.{last_living}
 
 -- ---- the last living server
 
+-- who lives is one of the chain, and hasn't failed
 pub living_parts : (w : World) (i : ℕ) → lives w i ≡ true → (i < length w.servers) × (has w.failed i ≡ false)
 living_parts w i h =
     let p = and_parts (nat_lt i (length w.servers)) (not (has w.failed i)) h in (ltb-true _ _ p.0, not-true _ p.1)
 
+-- who is one of the chain and hasn't failed lives
 pub living_from : (w : World) (i : ℕ) → i < length w.servers → has w.failed i ≡ false → lives w i ≡ true
 living_from w i l h = and_from _ _ (lt-ltb _ _ l) (not_from_false _ h)
 
+-- the last living server lives
 pub last_lives : (w : World) (k : ℕ) → last_living w ≡ Some k → lives w k ≡ true
 last_lives w k h = let r = previous_is w.failed (length w.servers) k h in living_from w k r.below r.out
 

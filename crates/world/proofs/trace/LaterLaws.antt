@@ -11,6 +11,7 @@ use Rattle.world.proofs.trace.TraceLaws.{new_entries, new_issued, new_reads, cou
 use Rattle.world.proofs.trace.TraceLaws.{server_other, log_other, log_done, issued_other, issued_done, reads_done}
 use Rattle.world.proofs.trace.TraceLaws.{begun_done, replied_done}
 
+-- at the same moment all that is known is known
 pub later_same : (t : Traced) → Later t t
 later_same t = record {
   count = refl;
@@ -27,6 +28,7 @@ later_same t = record {
   replies = λ x reply h. h;
 }
 
+-- what is known from a moment to a second, and on to a third, is known to the third
 pub later_on : (t u v : Traced) → Later t u → Later u v → Later t v
 later_on t u v a b = record {
   count = b.count ∙ a.count;
@@ -45,6 +47,7 @@ later_on t u v a b = record {
 
 -- ---- a server's action
 
+-- what each server knows and has numbered only grows by an action of one of them
 pub grown_done : (t : Traced) (i : ℕ) (cause : Cause) (a : Action)
     → i < count t
     → Guard cause (server t.world i) a
@@ -56,6 +59,7 @@ grown_done t i cause a l g k =
       | inr other ↦ rw (server_other t i a k other) (grown_same (server t.world k))
     ]
 
+-- each log only grows by an action
 pub logs_done : (t : Traced) (i : ℕ) (a : Action) → i < length t.logs → (k : ℕ) → Begins (log t k) (log (done t i a) k)
 logs_done t i a l k =
     elim (cases_eq k i) [
@@ -63,6 +67,7 @@ logs_done t i a l k =
       | inr other ↦ rw (log_other t i a k other) (λ n x h. h)
     ]
 
+-- each server's issued updates only grow by an action
 pub issued_grow : (t : Traced) (i : ℕ) (a : Action)
     → i < length t.issued
     → (k : ℕ)
@@ -73,6 +78,7 @@ issued_grow t i a l k =
       | inr other ↦ rw (issued_other t i a k other) (λ n x h. h)
     ]
 
+-- what was known is known still after an action, if the committed entries only grow by it
 pub later_done : (t : Traced) (i : ℕ) (cause : Cause) (a : Action)
     → Framed t
     → i < count t

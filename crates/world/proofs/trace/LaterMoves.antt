@@ -25,24 +25,28 @@ use Rattle.world.proofs.trace.ChangeLaws.{connection_reconnected}
 
 -- ---- calls and replies by their names
 
+-- a begun call stands at its place among the calls of its connection
 pub call_stands : (w : World) (x : CallId) (call : Call)
     → begun_call w x ≡ Some call
     → (k : Connection) × (slice_get w.connections x.connection ≡ Some k) × (slice_get k.calls x.place ≡ Some call)
 call_stands w x call h = option_and_then_some (λ (k : Connection). slice_get k.calls x.place)
     (slice_get w.connections x.connection) call h (λ k e g. (k, e, g))
 
+-- what stands among the calls of a connection is a begun call
 pub call_found : (w : World) (x : CallId) (k : Connection) (call : Call)
     → slice_get w.connections x.connection ≡ Some k
     → slice_get k.calls x.place ≡ Some call
     → begun_call w x ≡ Some call
 call_found w x k call e h = rw e h
 
+-- the reply to a call stands at the call's place among the replies of its connection
 pub reply_stands : (w : World) (x : CallId) (reply : Reply)
     → reply_to w x ≡ Some reply
     → (k : Connection) × (slice_get w.connections x.connection ≡ Some k) × (slice_get k.replies x.place ≡ Some reply)
 reply_stands w x reply h = option_and_then_some (λ (k : Connection). slice_get k.replies x.place)
     (slice_get w.connections x.connection) reply h (λ k e g. (k, e, g))
 
+-- what stands among the replies of a connection is the reply to the call of this place
 pub reply_found : (w : World) (x : CallId) (k : Connection) (reply : Reply)
     → slice_get w.connections x.connection ≡ Some k
     → slice_get k.replies x.place ≡ Some reply
@@ -57,27 +61,33 @@ pub record Kept (k l : Connection) : Type 0 where
   pub calls : Begins k.calls l.calls
   pub replies : Begins k.replies l.replies
 
+-- a connection that doesn't change keeps its home, calls and replies
 pub kept_same : (k : Connection) → Kept k k
 kept_same k = record { home = refl; calls = λ n x h. h; replies = λ n x h. h }
 
+-- bytes that come leave a connection's home, calls and replies as they are
 pub kept_came : (bytes : List ℕ) (k : Connection) → Kept k (came bytes k)
 kept_came bytes k = record { home = refl; calls = λ n x h. h; replies = λ n x h. h }
 
+-- whatever turn a session gives next, home and replies stay, and calls only grow
 pub kept_by : (given : Given) (k : Connection) → Kept k (begun_by given k)
 kept_by (None, left) k = record { home = refl; calls = λ n x h. h; replies = λ n x h. h }
 kept_by (Some (Faulty fault), left) k = record { home = refl; calls = λ n x h. h; replies = λ n x h. h }
 kept_by (Some (Calls call form), left) k =
     record { home = refl; calls = λ n x h. get_front k.calls (call ∷ []) n x h; replies = λ n x h. h }
 
+-- a begin leaves home and replies as they are, and calls only grow
 pub kept_begun : (stage : Stage) (k : Connection) → Kept k (begun stage k)
 kept_begun Idle k = kept_by (past_faults k.session) k
 kept_begun Begun k = kept_same k
 kept_begun Asked k = kept_same k
 kept_begun (Replied reply) k = kept_same k
 
+-- a call that goes to its server leaves home, calls and replies as they are
 pub kept_asked : (k : Connection) → Kept k (asked k)
 kept_asked k = record { home = refl; calls = λ n x h. h; replies = λ n x h. h }
 
+-- a hand leaves home and calls as they are, and replies only grow
 pub kept_handed : (stage : Stage) (k : Connection) → Kept k (handed stage k)
 kept_handed Idle k = kept_same k
 kept_handed Begun k = kept_same k
@@ -85,6 +95,7 @@ kept_handed Asked k = kept_same k
 kept_handed (Replied reply) k =
     record { home = refl; calls = λ n x h. h; replies = λ n x h. get_front k.replies (reply ∷ []) n x h }
 
+-- a change that leaves the home and only adds calls and replies does so also where only living homes change
 pub kept_where_home_lives : (w : World) (change : Connection → Connection)
     → ((k : Connection) → Kept k (change k))
     → (k : Connection)
@@ -99,6 +110,7 @@ kept_changed : (c : ℕ) (change : Connection → Connection) (d : ℕ) (k l : C
 kept_changed c change d k l f (inl h) = rw h.1 (f k)
 kept_changed c change d k l f (inr h) = rw h.1 (kept_same k)
 
+-- what was known is known still after a change of a connection by which calls and replies only grow
 pub later_reconnected : (t : Traced) (c : ℕ) (change : Connection → Connection)
     → ((k : Connection) → Kept k (change k))
     → Later t (reconnected t c change)
@@ -128,6 +140,7 @@ later_reconnected t c change f =
 
 -- ---- links and failures
 
+-- what was known is known still after a message was taken off a link
 pub later_unlinked : (t : Traced) (i j : ℕ) (ms : List Peer) → Later t (unlinked t i j ms)
 unfolding unlinked with_link server log issued_by
 later_unlinked t i j ms =
@@ -147,6 +160,7 @@ later_unlinked t i j ms =
       replies = λ x reply h. h;
     }
 
+-- what was known is known still after a failure, if the committed entries only grow by it
 pub later_failing : (t : Traced) (i : ℕ) → Begins t.committed (failing t i).committed → Later t (failing t i)
 unfolding failing server log issued_by
 later_failing t i c =
@@ -168,6 +182,7 @@ later_failing t i c =
 
 -- ---- all moves
 
+-- what was known is known still after a move, if the committed entries only grow by it
 pub later_moved : (t : Traced) (m : Move)
     → IsMove t m
     → Framed t

@@ -64,6 +64,7 @@ pub record IsAddressed (t : Traced) (i j : ℕ) (m : Peer) : Type 0 where
   pub fit : IsBody m.body
   pub entry : HasEntry m.body
 
+-- shapes: how many servers, links and logs there are, whom servers know to have failed, where messages go
 pub record Framed (t : Traced) : Type 0 where
   pub most : count t ≤ 16
   pub rows : length t.world.links ≡ count t
@@ -103,6 +104,7 @@ Carries t i v (Ack n) =
 Carries t i v (Query ask key) = Unit {0}
 Carries t i v (Answer ask n) = n ≤ length t.committed
 
+-- each store is that of its log, later logs begin earlier ones, and every living log begins with the committed entries
 pub record Logged (t : Traced) : Type 0 where
   pub holds : (i : ℕ) → i < count t → Holds (log t i) (server t.world i).store
   pub begins : (i j : ℕ) → i < j → j < count t → has (server t.world j).view i ≡ false → Begins (log t j) (log t i)
@@ -159,6 +161,7 @@ IsAnswer t x reply =
     ((k : ℕ) × (e : LogEntry) × (slice_get t.committed k ≡ Some e) × IsNamed t e x × (e.reply ≡ reply))
     ⊎ ((k : ℕ) × (r : AnsweredRead) × (slice_get t.reads k ≡ Some r) × (r.id ≡ x) × (Value r.item ≡ reply))
 
+-- what a message carries of calls: an `Op` is an update that its sender issued
 abbrev pub Asks : Traced → ℕ → Body → Type 0
 Asks t i (Op id call) = IsIssued t i id call
 Asks t i (Forward e) = Unit {0}
@@ -166,6 +169,7 @@ Asks t i (Ack n) = Unit {0}
 Asks t i (Query ask key) = Unit {0}
 Asks t i (Answer ask n) = Unit {0}
 
+-- which update each entry is, which open call each open update or read is, and what replies are answers to
 pub record Calling (t : Traced) : Type 0 where
   -- an issued update is a begun call of a connection at its origin, and no longer the one that would be issued next
   pub begun : (o k : ℕ) (x : CallId) → slice_get (issued_by t o) k ≡ Some x
@@ -205,6 +209,7 @@ pub record Calling (t : Traced) : Type 0 where
 
 -- ---- answered reads
 
+-- an answered read: it shows what the first committed entries of its number leave, and its call isn't open any more
 pub record IsRead (t : Traced) (r : AnsweredRead) : Type 0 where
   pub call : Call
   pub connection : Connection
@@ -218,6 +223,7 @@ pub record IsRead (t : Traced) (r : AnsweredRead) : Type 0 where
   pub over : (r.id.place < length connection.replies)
       ⊎ ((r.id.place ≡ length connection.replies) × (reply : Reply) × (connection.stage ≡ Replied reply))
 
+-- each answered read is one, and none is answered twice
 pub record Read (t : Traced) : Type 0 where
   pub reads : (k : ℕ) (r : AnsweredRead) → slice_get t.reads k ≡ Some r → IsRead t r
   pub once : (j k : ℕ) (r q : AnsweredRead)
@@ -240,6 +246,7 @@ pub record Newer (t u : Traced) : Type 0 where
 
 -- ---- all together, and what is known of an input
 
+-- what every traced world of a run keeps
 pub record Lawful (t : Traced) : Type 0 where
   pub framed : Framed t
   pub logged : Logged t

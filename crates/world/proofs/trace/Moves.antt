@@ -29,6 +29,7 @@ pub data Move : Type 0 where
   -- a server fails
   Fails : (i : ℕ) → Move
 
+-- the traced world after a move
 abbrev pub moved : Traced → Move → Traced
 moved t (Does i cause a) = done t i a
 moved t (Comes c bytes) = reconnected t c (where_home_lives t.world (came bytes))
@@ -82,6 +83,7 @@ pub record Taken : Type 0 where
 abbrev pub Memory : Type 0
 Memory = Option Taken
 
+-- the message that was taken off last, after a move
 abbrev pub recalled : (t : Traced) (m : Move) → IsMove t m → Memory → Memory
 recalled t (Does i cause a) g before = before
 recalled t (Comes c bytes) g before = before
@@ -98,12 +100,14 @@ IsOf before i (Some (Called port call)) = Unit {0}
 IsOf before i (Some (From j m)) = before ≡ Some (record { from = j; to = i; message = m })
 IsOf before i (Some (Gone j)) = Unit {0}
 
+-- what is left of an input after an action comes of the same message
 pub of_left : (before : Memory) (i : ℕ) (cause : Cause) → IsOf before i cause → IsOf before i (left cause)
 of_left before i None h = tt
 of_left before i (Some (Called port call)) h = tt
 of_left before i (Some (From j m)) h = h
 of_left before i (Some (Gone j)) h = tt
 
+-- a message that a server works on in a move is the one that was taken off last
 abbrev pub Recalls : Memory → Move → Type 0
 Recalls before (Does i cause a) = IsOf before i cause
 Recalls before (Comes c bytes) = Unit {0}
@@ -118,6 +122,7 @@ unfoldable pub all_moved : Traced → List Move → Traced
 all_moved t [] = t
 all_moved t (m ∷ ms) = all_moved (moved t m) ms
 
+-- each of these moves may be made after those before it, with this memory before the first
 abbrev pub AreMoves : Memory → Traced → List Move → Type 0
 AreMoves before t [] = Unit {0}
 AreMoves before t (m ∷ ms) = (g : IsMove t m) × Recalls before m × AreMoves (recalled t m g before) (moved t m) ms
@@ -127,11 +132,13 @@ abbrev pub recalled_last : (before : Memory) (t : Traced) (ms : List Move) → A
 recalled_last before t [] are = before
 recalled_last before t (m ∷ ms) are = recalled_last (recalled t m are.0 before) (moved t m) ms are.2
 
+-- moves of two lists are made one list after the other
 pub moved-append : (t : Traced) (ms ns : List Move) → all_moved t (ms ++ ns) ≡ all_moved (all_moved t ms) ns
 unfolding all_moved
 moved-append t [] ns = refl
 moved-append t (m ∷ ms) ns = moved-append (moved t m) ms ns
 
+-- moves that may be made after other ones may be made with them in front
 pub are-append : (before : Memory) (t : Traced) (ms ns : List Move) (are : AreMoves before t ms)
     → AreMoves (recalled_last before t ms are) (all_moved t ms) ns
     → AreMoves before t (ms ++ ns)

@@ -16,6 +16,7 @@ use Rattle.world.proofs.trace.Traces.{log, issued_by, count, outset}
 use Rattle.world.proofs.trace.Layers.{Framed}
 use Rattle.world.proofs.trace.IdLaws.{nowhere}
 
+-- there are as many opening servers as were asked for
 pub length-opening_servers : (n k : ℕ) → length (opening_servers n k) ≡ k
 length-opening_servers n zero = refl
 length-opening_servers n (suc k) =
@@ -31,22 +32,27 @@ opening_at n (suc k) i l =
       | inr other ↦ get_front (opening_servers n k) (opening k n ∷ []) i (opening i n) (opening_at n k i (omega arith))
     ]
 
+-- a chain at its outset has its n servers
 pub count_outset : (n : ℕ) (homes : List ℕ) → count (outset n homes) ≡ n
 count_outset n homes = length-opening_servers n n
 
+-- each server at the outset is one before any input
 pub server_outset : (n : ℕ) (homes : List ℕ) (i : ℕ) → i < n → server (outset n homes).world i ≡ opening i n
 unfolding server
 server_outset n homes i l = get_or_from_slice_get (opening_servers n n) i (opening i n) nobody (opening_at n n i l)
 
+-- a list of equal elements has this one at every place, the default being the same
 pub all_alike : {X : Type 0} (n i : ℕ) (x : X) → get_or (replicate n x) i x ≡ x
 all_alike zero i x = refl
 all_alike (suc n) zero x = refl
 all_alike (suc n) (suc i) x = all_alike n i x
 
+-- each log is empty at the outset
 pub log_outset : (n : ℕ) (homes : List ℕ) (i : ℕ) → log (outset n homes) i ≡ []
 unfolding log
 log_outset n homes i = all_alike n i []
 
+-- no update is issued at the outset
 pub issued_outset : (n : ℕ) (homes : List ℕ) (i : ℕ) → issued_by (outset n homes) i ≡ []
 unfolding issued_by
 issued_outset n homes i = all_alike n i []
@@ -57,6 +63,7 @@ row_cases zero i row = inr refl
 row_cases (suc n) zero row = inl refl
 row_cases (suc n) (suc i) row = row_cases n i row
 
+-- each link is empty at the outset
 pub link_outset : (n : ℕ) (homes : List ℕ) (i j : ℕ) → link (outset n homes).world i j ≡ []
 unfolding link
 link_outset n homes i j =
@@ -78,9 +85,11 @@ fresh_at [] c k h = absurd cc
 fresh_at (x ∷ homes) zero k h = (x, refl, sym (same_Some (fresh x) k h))
 fresh_at (x ∷ homes) (suc c) k h = fresh_at homes c k h
 
+-- nothing stands in an empty list
 pub nothing_in : {X : Type 0} (x : X) → In x [] → ⊥
 nothing_in x (k, h) = absurd cc
 
+-- a chain of at most 16 servers has its shape at the outset
 pub framed_outset : (n : ℕ) (homes : List ℕ) → n ≤ 16 → Framed (outset n homes)
 framed_outset n homes few =
     let c = count_outset n homes in

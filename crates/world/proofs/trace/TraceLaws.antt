@@ -32,14 +32,17 @@ use Rattle.world.proofs.trace.Traces.{logs_after, issued_after, done}
 
 -- ---- what an action adds
 
+-- what an action adds to its server's log
 abbrev pub new_entries : Action → List LogEntry
 new_entries (Append e) = e ∷ []
 new_entries a = []
 
+-- what an action adds to its server's issued updates
 abbrev pub new_issued : Traced → Action → List CallId
 new_issued t (Enter port call) = open_id t.world port ∷ []
 new_issued t a = []
 
+-- what an action adds to the answered reads
 abbrev pub new_reads : Traced → ℕ → Action → List AnsweredRead
 new_reads t i (Finish r n) =
     record {
@@ -63,26 +66,32 @@ Reconnected t i a c k k' = Answers (act (server t.world i) a).outputs c k k'
 
 -- ---- an action of server i
 
+-- an action leaves the count of servers as it is
 pub count_done : (t : Traced) (i : ℕ) (a : Action) → count (done t i a) ≡ count t
 unfolding done with_server
 count_done t i a = ap (λ (ss : List ServerState). length ss) (servers-put_all _ i _) ∙ length-set t.world.servers i _
 
+-- an action fails no server
 pub failed_done : (t : Traced) (i : ℕ) (a : Action) → (done t i a).world.failed ≡ t.world.failed
 unfolding done with_server
 failed_done t i a = failed-put_all _ i _
 
+-- the same servers live before an action and after it
 pub lives_done : (t : Traced) (i : ℕ) (a : Action) (k : ℕ) → lives (done t i a).world k ≡ lives t.world k
 lives_done t i a k = rw (count_done t i a, failed_done t i a) refl
 
+-- the last living server is the same before an action and after it
 pub last_living_done : (t : Traced) (i : ℕ) (a : Action) → last_living (done t i a).world ≡ last_living t.world
 last_living_done t i a = rw (count_done t i a, failed_done t i a) refl
 
+-- the server that acts is what its action made of it
 pub server_done : (t : Traced) (i : ℕ) (a : Action)
     → i < count t
     → server (done t i a).world i ≡ (act (server t.world i) a).state
 unfolding done
 server_done t i a l = server-put_all _ i _ i ∙ server_same t.world i _ l
 
+-- the other servers stay as they were
 pub server_other : (t : Traced) (i : ℕ) (a : Action) (k : ℕ) → k ≢ i → server (done t i a).world k ≡ server t.world k
 unfolding done
 server_other t i a k other = server-put_all _ i _ k ∙ server_apart t.world i k _ other
@@ -161,6 +170,7 @@ enters (Enter port call) = inl (port, call, refl)
 enters (Ask port key) = inr (λ t. (refl, λ i. refl))
 enters (Show port key) = inr (λ t. (refl, λ i. refl))
 
+-- the logs of other servers stay as they were
 pub log_other : (t : Traced) (i : ℕ) (a : Action) (k : ℕ) → k ≢ i → log (done t i a) k ≡ log t k
 unfolding log done
 log_other t i a k other =
@@ -169,6 +179,7 @@ log_other t i a k other =
       | inr old ↦ ap (λ logs. get_or logs k []) (old.1 t i)
     ]
 
+-- the log of the server that acts gains the action's entries
 pub log_done : (t : Traced) (i : ℕ) (a : Action) → i < length t.logs → log (done t i a) i ≡ log t i ++ new_entries a
 unfolding log done
 log_done t i a l =
@@ -178,6 +189,7 @@ log_done t i a l =
           ∙ sym (ap (λ es. log t i ++ es) old.0 ∙ append-nil (log t i))
     ]
 
+-- the issued updates of other servers stay as they were
 pub issued_other : (t : Traced) (i : ℕ) (a : Action) (k : ℕ) → k ≢ i → issued_by (done t i a) k ≡ issued_by t k
 unfolding issued_by done
 issued_other t i a k other =
@@ -186,6 +198,7 @@ issued_other t i a k other =
       | inr old ↦ ap (λ all. get_or all k []) ((old t).1 i)
     ]
 
+-- the issued updates of the server that acts gain those of the action
 pub issued_done : (t : Traced) (i : ℕ) (a : Action)
     → i < length t.issued
     → issued_by (done t i a) i ≡ issued_by t i ++ new_issued t a
@@ -197,6 +210,7 @@ issued_done t i a l =
           ∙ sym (ap (λ xs. issued_by t i ++ xs) (old t).0 ∙ append-nil (issued_by t i))
     ]
 
+-- the answered reads gain those of the action
 pub reads_done : (t : Traced) (i : ℕ) (a : Action) → (done t i a).reads ≡ t.reads ++ new_reads t i a
 unfolding done
 reads_done t i (Widen v) = sym (append-nil t.reads)
@@ -218,12 +232,14 @@ pub committed_done : (t : Traced) (i : ℕ) (a : Action) (k : ℕ)
 unfolding done log
 committed_done t i a k h = rw h refl
 
+-- what becomes of a connection by an action
 pub connection_done : (t : Traced) (i : ℕ) (a : Action) (c : ℕ) (k : Connection)
     → slice_get t.world.connections c ≡ Some k
     → (k' : Connection) × (slice_get (done t i a).world.connections c ≡ Some k') × Reconnected t i a c k k'
 unfolding done with_server
 connection_done t i a c k h = connection-put_all _ i _ c k h
 
+-- a connection after an action is what became of one before it
 pub connection_before : (t : Traced) (i : ℕ) (a : Action) (c : ℕ) (k' : Connection)
     → slice_get (done t i a).world.connections c ≡ Some k'
     → (k : Connection) × (slice_get t.world.connections c ≡ Some k) × Reconnected t i a c k k'
@@ -259,6 +275,7 @@ begun_done t i a x =
     (same_calls (λ k. k.calls) (λ k stage. refl) (act (server t.world i) a).outputs x.connection k k' r)) _
     _ refl refl
 
+-- an action hands over no reply
 pub replied_done : (t : Traced) (i : ℕ) (a : Action) (x : CallId) → reply_to (done t i a).world x ≡ reply_to t.world x
 replied_done t i a x =
     kept_by_done (λ o. option_and_then (λ k. slice_get k.replies x.place) o) t i a x.connection
@@ -266,6 +283,7 @@ replied_done t i a x =
     (same_calls (λ k. k.replies) (λ k stage. refl) (act (server t.world i) a).outputs x.connection k k' r)) _
     _ refl refl
 
+-- the name of a connection's open call stays through an action
 pub open_id_done : (t : Traced) (i : ℕ) (a : Action) (c : ℕ) → open_id (done t i a).world c ≡ open_id t.world c
 open_id_done t i a c =
     kept_by_done (λ o. record { connection = c; place = open_place o }) t i a c

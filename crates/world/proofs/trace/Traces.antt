@@ -30,9 +30,11 @@ pub record Traced : Type 0 where
   pub committed : List LogEntry
   pub reads : List AnsweredRead
 
+-- the whole log of server i
 unfoldable pub log : Traced → ℕ → List LogEntry
 log t i = slice_index_or t.logs i []
 
+-- the updates that server i issued, in the order of their ids
 unfoldable pub issued_by : Traced → ℕ → List CallId
 issued_by t i = slice_index_or t.issued i []
 
@@ -63,10 +65,12 @@ abbrev pub logs_after : Traced → ℕ → Action → List (List LogEntry)
 logs_after t i (Append e) = slice_set t.logs i (log t i ++ e ∷ [])
 logs_after t i a = t.logs
 
+-- the issued updates after an action: a call that enters is one more
 abbrev pub issued_after : Traced → ℕ → Action → List (List CallId)
 issued_after t i (Enter port call) = slice_set t.issued i (issued_by t i ++ open_id t.world port ∷ [])
 issued_after t i a = t.issued
 
+-- the answered reads after an action: an open read that is answered, or one of a clean key, is one more
 abbrev pub reads_after : Traced → ℕ → Action → List AnsweredRead
 reads_after t i (Finish r n) =
     t.reads ++ record

@@ -18,6 +18,7 @@ use Rattle.node.proofs.Lists.{In, in_pushed}
 
 -- ---- one server, one link
 
+-- at a place of a list, after one was set, is the new element or what was there
 pub set_cases : {X : Type 0} (xs : List X) (i k : ℕ) (x d : X)
     → ((k ≡ i) × (get_or (set xs i x) k d ≡ x)) ⊎ (get_or (set xs i x) k d ≡ get_or xs k d)
 set_cases [] i k x d = inr refl
@@ -26,14 +27,17 @@ set_cases (y ∷ xs) zero (suc k) x d = inr refl
 set_cases (y ∷ xs) (suc i) zero x d = inr refl
 set_cases (y ∷ xs) (suc i) (suc k) x d = let h = set_cases xs i k x d in grind arith
 
+-- a server that was put in its place is there
 pub server_same : (w : World) (i : ℕ) (s : ServerState) → i < length w.servers → server (with_server w i s) i ≡ s
 unfolding server with_server
 server_same w i s l = get_or-set_same w.servers i s nobody l
 
+-- another server than the one that was put in its place is as it was
 pub server_apart : (w : World) (i k : ℕ) (s : ServerState) → k ≢ i → server (with_server w i s) k ≡ server w k
 unfolding server with_server
 server_apart w i k s other = get_or-set_other w.servers i k s nobody other
 
+-- a link, after one was changed, has the new messages or those that it had
 pub link_cases : (w : World) (i j a b : ℕ) (ms : List Peer)
     → ((a ≡ i) × (b ≡ j) × (link (with_link w i j ms) a b ≡ ms)) ⊎ (link (with_link w i j ms) a b ≡ link w a b)
 unfolding link with_link
@@ -52,6 +56,7 @@ link_cases w i j a b ms =
 abbrev pub Changes : ℕ → (Connection → Connection) → ℕ → Connection → Connection → Type 0
 Changes c change d k k' = ((d ≡ c) × (k' ≡ change k)) ⊎ ((d ≢ c) × (k' ≡ k))
 
+-- a connection that is in a list is there after a change of one, with that change or without
 pub changed_one : (ks : List Connection) (c : ℕ) (change : Connection → Connection) (d : ℕ) (k : Connection)
     → slice_get ks d ≡ Some k
     → (k' : Connection) × (slice_get (changed_at ks c change) d ≡ Some k') × Changes c change d k k'
@@ -63,6 +68,7 @@ changed_one (x ∷ ks) (suc c) change (suc d) k h =
     let r = changed_one ks c change d k h in
     (r.0, r.1, elim r.2 [ inl g ↦ inl (ap suc g.0, g.1) | inr g ↦ inr (λ e. g.0 (omega arith), g.1) ])
 
+-- a connection that is in a list after a change of one was there before it
 pub unchanged_one : (ks : List Connection) (c : ℕ) (change : Connection → Connection) (d : ℕ) (k' : Connection)
     → slice_get (changed_at ks c change) d ≡ Some k'
     → (k : Connection) × (slice_get ks d ≡ Some k) × Changes c change d k k'
@@ -76,18 +82,21 @@ unchanged_one (x ∷ ks) (suc c) change (suc d) k' h =
 
 -- ---- outputs
 
+-- outputs leave the servers as they are
 pub servers-put_all : (w : World) (i : ℕ) (os : List Output) → (put_all w i os).servers ≡ w.servers
 unfolding put_all with_link with_connection
 servers-put_all w i [] = refl
 servers-put_all w i (To j peer ∷ os) = servers-put_all (put w i (To j peer)) i os
 servers-put_all w i (Answered c reply ∷ os) = servers-put_all (put w i (Answered c reply)) i os
 
+-- outputs fail no server
 pub failed-put_all : (w : World) (i : ℕ) (os : List Output) → (put_all w i os).failed ≡ w.failed
 unfolding put_all with_link with_connection
 failed-put_all w i [] = refl
 failed-put_all w i (To j peer ∷ os) = failed-put_all (put w i (To j peer)) i os
 failed-put_all w i (Answered c reply ∷ os) = failed-put_all (put w i (Answered c reply)) i os
 
+-- outputs leave each server as it is
 pub server-put_all : (w : World) (i : ℕ) (os : List Output) (k : ℕ) → server (put_all w i os) k ≡ server w k
 unfolding server
 server-put_all w i os k = ap (λ ss. get_or ss k nobody) (servers-put_all w i os)
@@ -103,11 +112,13 @@ put_to w i j x y peer m h =
       | inr e ↦ inl (rw e at h)
     ]
 
+-- a change of a connection leaves the links as they are
 pub link-with_connection : (w : World) (c : ℕ) (change : Connection → Connection) (x y : ℕ)
     → link (with_connection w c change) x y ≡ link w x y
 unfolding link with_connection
 link-with_connection w c change x y = refl
 
+-- a message on a link behind outputs stood there before, or is one of them
 pub link-put_all : (w : World) (i : ℕ) (os : List Output) (x y : ℕ) (m : Peer)
     → In m (link (put_all w i os) x y)
     → In m (link w x y) ⊎ ((x ≡ i) × In (To y m) os)
@@ -172,6 +183,7 @@ behind_first : (o : Output) (os : List Output) (c : ℕ) (k k' : Connection) →
 behind_first o os c k k' (inl e) = inl e
 behind_first o os c k k' (inr g) = inr (g.0, (suc g.1.0, g.1.1), g.2, g.3, g.4)
 
+-- what becomes of a connection behind the outputs of a server
 pub connection-put_all : (w : World) (i : ℕ) (os : List Output) (c : ℕ) (k : Connection)
     → slice_get w.connections c ≡ Some k
     → (k' : Connection) × (slice_get (put_all w i os).connections c ≡ Some k') × Answers os c k k'
@@ -185,6 +197,7 @@ connection-put_all w i (Answered d reply ∷ os) c k h =
     let r = connection-put_all (put w i (Answered d reply)) i os c one.0 one.1 in
     (r.0, r.1, answers_then (Answered d reply) os c k one.0 r.0 (answers_one c d reply k one.0 one.2) r.2)
 
+-- a connection behind outputs is what became of one before them
 pub connection-before_all : (w : World) (i : ℕ) (os : List Output) (c : ℕ) (k' : Connection)
     → slice_get (put_all w i os).connections c ≡ Some k'
     → (k : Connection) × (slice_get w.connections c ≡ Some k) × Answers os c k k'

@@ -171,6 +171,7 @@ module _ (t u : Traced) (h : Follows t u) (asking : Asking t.world) where
   asking_happens (Stands still) = asking_still t.world u.world still asking
   asking_happens (Steps a input s) = asking_step a input s
 
+-- before any event no read is open
 pub asking_outset : (n : ℕ) (homes : List ℕ) → Asking (outset n homes).world
 asking_outset n homes i j l r waits =
     absurd (nothing_in r (rw (server_outset n homes i (rw (count_outset n homes) at l.here)) at waits))

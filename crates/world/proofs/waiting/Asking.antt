@@ -76,6 +76,7 @@ heeds t i a m h addressed from lawful =
 
 -- ---- a query reaches the tail
 
+-- a query that reaches the tail is answered with a number that isn't below its read's mark
 pub query_met : (t : Traced) (i a : ℕ) (m : Peer) (ms : List Peer) (r : OpenRead) (key : List ℕ)
     → Lawful t
     → link t.world i a ≡ m ∷ ms
@@ -122,6 +123,7 @@ query_met t i a m ms r key h first is from lawful waits to unaware =
 
 -- ---- an answer reaches who asked
 
+-- a read that its tail answers with a number from its mark on isn't open behind the delivery
 pub answer_met : (t : Traced) (i j : ℕ) (m : Peer) (ms : List Peer) (r : OpenRead) (n : ℕ)
     → Lawful t
     → link t.world j i ≡ m ∷ ms

@@ -36,11 +36,13 @@ log_below t i h l =
 
 -- ---- upper bounds
 
+-- at most k updates were issued, and no server has used more than k ids or asks
 pub record Bounded (k : ℕ) (w : World) : Type 0 where
   pub all : issued_in w ≤ k
   pub ids : (i : ℕ) → i < length w.servers → (server w i).next_id ≤ k + 1
   pub asks : (i : ℕ) → i < length w.servers → (server w i).next_ask ≤ k + 1
 
+-- as long as few ids and asks are used, every server has an id, an ask and a number left
 pub room : (k : ℕ) (t : Traced)
     → Lawful t
     → Bounded k t.world
@@ -161,6 +163,7 @@ no_call : (n : ℕ) (homes : List ℕ) (c : ℕ) (k : Connection)
 no_call n homes c k here begun = let f = fresh_at homes c k here in let e : Idle ≡ Begun =
     ap (λ (x : Connection). x.stage) (sym f.2) ∙ begun in cc
 
+-- before any event no update is issued, and no id or ask is used
 pub bounded_outset : (n : ℕ) (homes : List ℕ) → Bounded 0 (outset n homes).world
 bounded_outset n homes =
     let w = (outset n homes).world in
@@ -178,6 +181,7 @@ bounded_outset n homes =
 
 -- ---- the first event uses none, so that there are fewer than events
 
+-- behind the first event no update is issued, and no id or ask is used, since no call was begun before it
 pub bounded_first : (n : ℕ) (homes : List ℕ)
     → n ≤ 16
     → (u : World)

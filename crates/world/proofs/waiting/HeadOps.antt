@@ -1,4 +1,5 @@
--- What a step sends to the head: the ids of the new own updates, or of all that wait if the head is a new one, in order.
+-- What a step sends to the head: the ids of the new own updates, or of all that wait if the head is a new one, in
+-- order.
 use Rattle.std.proofs.Common.{◌≡◌, ℕ, ◌+◌, ◌≤◌, ◌==◌, Bool, true, false, cond, List, [], ◌∷◌, ◌++◌, Option, Some, None}
 use Rattle.std.proofs.Common.{refl, arith, inl, inr, ap, sym, subst, ◌∙◌, append_assoc}
 use Rattle.std.proofs.lemmas.Bool.{cond_both, both_ways, eq-eqb, ne_eqb, false_from_ne_true}
@@ -152,6 +153,7 @@ head_between s u t h g k was is =
       below = λ x l. g.view x (first.below x l);
     })
 
+-- the actions of a step send a head that stays the ids that are due, in order
 pub does_op : (actions : List Action) (c : Cause) (d : Due) (s : ServerState) (h m last : ℕ)
     → AreGuarded c s actions
     → AreInTurn d s actions
@@ -221,6 +223,7 @@ act_new_head d s (Enter port call) h other is = absurd (other is)
 act_new_head d s (Ask port key) h other is = absurd (other is)
 act_new_head d s (Show port key) h other is = absurd (other is)
 
+-- the actions of a step send a new head all ids behind one that this server has seen
 pub does_new_op : (actions : List Action) (c : Cause) (d : Due) (s : ServerState) (h : ℕ)
     → AreGuarded c s actions
     → AreInTurn d s actions

@@ -25,9 +25,11 @@ open_calls Begun = 1
 open_calls Asked = 1
 open_calls (Replied reply) = 1
 
+-- of this connection each call but the open one has its reply
 abbrev pub InStep : Connection → Type 0
 InStep k = length k.calls ≡ length k.replies + open_calls k.stage
 
+-- of every connection each call but the open one has its reply
 abbrev pub AllInStep : World → Type 0
 AllInStep w = (c : ℕ) (k : Connection) → slice_get w.connections c ≡ Some k → InStep k
 
@@ -105,5 +107,6 @@ in_step_way w u (Tells r) all = rw r.world (in_step_taken w r.i (Gone r.j) all)
 pub in_step_happens : (w : World) (e : Event) → AllInStep w → AllInStep (happens w e)
 in_step_happens w e all = in_step_way w (happens w e) (way w e) all
 
+-- before any event no connection has a call
 pub in_step_outset : (n : ℕ) (homes : List ℕ) → AllInStep (opening_world n homes)
 in_step_outset n homes c k here = let f = fresh_at homes c k here in rw f.2 refl

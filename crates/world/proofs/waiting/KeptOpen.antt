@@ -28,6 +28,7 @@ use Rattle.world.proofs.waiting.StaysOpen.{out_or_in}
 abbrev pub AnswersPort : ℕ → Bool → List Output → Type 0
 AnswersPort c shows os = (reply : Reply) × In (Answered c reply) os × (is_value reply ≡ shows)
 
+-- each own call that was open is so still, or has a reply of its kind put out
 pub record KeepsOpen (s : ServerState) (o : Outcome) : Type 0 where
   pub updates : (u : OpenUpdate) → In u s.pend → In u o.state.pend ⊎ AnswersPort u.port false o.outputs
   pub reads : (r : OpenRead) → In r s.asks → In r o.state.asks ⊎ AnswersPort r.port true o.outputs
@@ -38,6 +39,7 @@ answers_front c shows os ps x = (x.0, in_front os ps (Answered c x.0) x.1, x.2)
 answers_behind : (c : ℕ) (shows : Bool) (os ps : List Output) → AnswersPort c shows ps → AnswersPort c shows (os ++ ps)
 answers_behind c shows os ps x = (x.0, in_behind os ps (Answered c x.0) x.1, x.2)
 
+-- two rules that leave each own call open or answer it do so one after the other
 pub open_then : (s : ServerState) (a : Outcome) (rule : ServerState → Outcome)
     → KeepsOpen s a
     → KeepsOpen a.state (rule a.state)
@@ -54,6 +56,7 @@ open_then s a rule h g =
       ];
     }
 
+-- a rule that closes no own call leaves each open
 pub open_still : (s : ServerState) (o : Outcome)
     → ((u : OpenUpdate) → In u s.pend → In u o.state.pend)
     → ((r : OpenRead) → In r s.asks → In r o.state.asks)
@@ -108,5 +111,6 @@ open_all [] c s g = open_still s _ (λ u i. i) (λ r i. i)
 open_all (a ∷ later) c s g =
     open_then s (act s a) (λ t. does t later) (open_act c s a g.0 g.1) (open_all later (left c) (act s a).state g.2)
 
+-- a rule that is a list of guarded actions leaves each own call open, or answers it
 pub open_done : (c : Cause) (s : ServerState) (o : Outcome) → IsDone c s o → KeepsOpen s o
 open_done c s o d = subst (λ x. KeepsOpen s x) (sym d.same) (open_all d.actions c s d.guarded)

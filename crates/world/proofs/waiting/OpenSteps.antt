@@ -1,5 +1,5 @@
--- What a step makes of the own updates: they stay numbered in order, what is new goes to the head, and who is the head has
--- taken them all, as long as numbers are left.
+-- What a step makes of the own updates: they stay numbered in order, what is new goes to the head, and who is the head
+-- has taken them all, as long as numbers are left.
 use Rattle.std.proofs.Common.{◌≡◌, ℕ, ◌+◌, ◌<◌, ◌≤◌, false, List, [], ◌∷◌, ◌++◌, length, slice_index_or, Some, refl}
 use Rattle.std.proofs.Common.{arith, ◌⊎◌, inl, inr, ap, sym, subst, ◌∙◌}
 use Rattle.table.specs.declared.operations.Call.{Call}
@@ -114,6 +114,7 @@ does_long (a ∷ later) c input s u f id low g x =
 
 -- ---- steps
 
+-- what a step does for own updates, and what it sends to a head that stays or is new
 pub record Serves (s : ServerState) (input : Input) (a : Outcome) : Type 0 where
   pub id : a.state.id ≡ s.id
   pub few : a.state.next_id ≤ s.next_id + takes_of (Some input)

@@ -56,6 +56,7 @@ pub record AreOwn (next_id seen : ℕ) (waits takes : List ℕ) : Type 0 where
   pub taken : IsRun answered seen takes
   pub high : seen ≤ last
 
+-- a server's own updates that wait, and own entries that aren't acknowledged, have the ids after the answered ones
 abbrev pub Own : ServerState → Type 0
 Own s = AreOwn s.next_id (seen_of s s.id) (ids s.pend) (ids_of s.id (unacked s.store))
 
@@ -91,6 +92,7 @@ pub record Sends (w : World) (o h : ℕ) : Type 0 where
 
 -- ---- what holds between steps
 
+-- what holds of own updates, and of those on their way to heads, between steps
 pub record Opening (w : World) : Type 0 where
   pub own : (o : ℕ) → o < length w.servers → Own (server w o)
   pub first : (o : ℕ) → o < length w.servers → HasSeen (server w o)

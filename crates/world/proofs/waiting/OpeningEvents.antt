@@ -149,6 +149,7 @@ own_opening i n =
       λ _. omega (arith, none),
     )
 
+-- before any event no update is open
 pub opening_outset : (n : ℕ) (homes : List ℕ) → Opening (outset n homes).world
 opening_outset n homes =
     let t = outset n homes in

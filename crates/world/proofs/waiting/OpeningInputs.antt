@@ -48,6 +48,7 @@ module _ (t : Traced) (l : Lawful t) (i a : ℕ) (m : Peer) (there : In m (link 
 
   -- ---- an entry
 
+  -- an own entry that comes from the predecessor is the server's next one
   pub expected : IsExpected (server t.world a) (From i m)
   expected e is u grown same from number own =
       let s = server t.world a in

@@ -43,6 +43,7 @@ none_of [] f = refl
 none_of (m ∷ ms) f = op_step m.body (op_ids ms) (λ id call h. f m (0, refl) id call h)
     (none_of ms (λ x g id call h. f x (suc g.0, g.1) id call h))
 
+-- whom a server takes for the head is that of its view in the chain of the world
 pub head_in : (t : Traced)
     → Framed t
     → (i : ℕ)
@@ -101,6 +102,7 @@ below_or_above x y other = elim (cases_lt x y) [
 
 module _ (t u : Traced) (h : Follows t u) (a : ℕ) (input : Input) (p : Stepped t.world u.world a input)
     (serves : Serves (server t.world a) input (step (server t.world a) input)) where
+  -- who has a head behind another's step had it before
   pub headed_other : (x y : ℕ) → x ≢ a → Headed u.world x y → Headed t.world x y
   headed_other x y other l = record {
     here = rw (← h.later.count) l.here;
@@ -118,6 +120,7 @@ module _ (t u : Traced) (h : Follows t u) (a : ℕ) (input : Input) (p : Stepped
     | inr other ↦ omega (arith, ap (λ s. seen_of s x) (p.others y other))
   ]
 
+  -- what another server sends to its head stays on its way
   pub sends_other : (x y : ℕ)
       → x ≢ a
       → link u.world x y ≡ link t.world x y
@@ -135,6 +138,7 @@ module _ (t u : Traced) (h : Follows t u) (a : ℕ) (input : Input) (p : Stepped
         run = rw same s.run;
       }
 
+  -- what the server that steps sends to its head goes on
   pub sends_own : (y : ℕ) → (Headed t.world a y → Sends t.world a y) → Headed u.world a y → Sends u.world a y
   sends_own y f l =
       let o = step (server t.world a) input in

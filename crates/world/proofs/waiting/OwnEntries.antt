@@ -34,6 +34,7 @@ abbrev pub Along : (Due → ServerState → Type 0) → Due → ServerState → 
 Along P d s [] = P d s
 Along P d s (a ∷ later) = P d s × Along P (due d s a) (act s a).state later
 
+-- what holds along actions holds behind the last one
 pub along_end : (P : Due → ServerState → Type 0) (actions : List Action) (d : Due) (s : ServerState)
     → Along P d s actions
     → P (due_in_the_end d s actions) (does s actions).state
@@ -41,6 +42,7 @@ unfolding does
 along_end P [] d s h = h
 along_end P (a ∷ later) d s h = along_end P later (due d s a) (act s a).state h.1
 
+-- what holds along actions holds before the first one
 pub along_now : (P : Due → ServerState → Type 0) (actions : List Action) (d : Due) (s : ServerState)
     → Along P d s actions
     → P d s
@@ -49,6 +51,7 @@ along_now P (a ∷ later) d s h = h.0
 
 -- ---- what is seen
 
+-- an action lowers no greatest id seen
 pub act_seen : (s : ServerState) (a : Action) (o : ℕ) → IsSound s → o < 16 → seen_of s o ≤ seen_of (act s a).state o
 unfolding act widened entered asked trimmed
 act_seen s (Widen v) o h low = omega arith
@@ -62,6 +65,7 @@ act_seen s (Enter port call) o h low = omega arith
 act_seen s (Ask port key) o h low = omega arith
 act_seen s (Show port key) o h low = omega arith
 
+-- actions, one after another, lower no greatest id seen
 pub does_seen : (actions : List Action) (c : Cause) (s : ServerState) (o : ℕ)
     → AreGuarded c s actions
     → o < 16
@@ -109,6 +113,7 @@ head_stays u t g h first =
       below = λ x l. g.view x (was.below x (omega (arith, l, g.id)));
     }))
 
+-- an appended entry doesn't change whether a server is the head
 pub head_appended : (u : ServerState) (e : LogEntry) → is_head (appended u e) ≡ is_head u
 unfolding appended
 head_appended u e = refl
@@ -158,6 +163,7 @@ fresh_appended c input s u e f (inl m) = inl (head_appended u e ∙ m.head)
 fresh_appended c input s u e f (inr p) =
     inr (inr (p.from, p.message, e, f _ p.came, p.body, omega (arith, p.next, last_appended u e)))
 
+-- the action of appending appends
 pub act_appended : (u : ServerState) (e : LogEntry) → (act u (Append e)).state ≡ appended u e
 unfolding act
 act_appended u e = refl
@@ -220,6 +226,7 @@ passed_next input s u e expected g (inr (inr x)) p =
 
 -- ---- own ids
 
+-- own updates stay numbered in order along the actions of a step
 pub own_along : (actions : List Action) (c : Cause) (input : Input) (s u : ServerState) (d : Due)
     → IsOf c input
     → IsExpected s input

@@ -31,6 +31,7 @@ joined_step : (b : Bool) (x : ℕ) (xs ys all : List ℕ) → all ≡ xs ++ ys �
 joined_step true x xs ys all h = ap (λ rest. x ∷ rest) h
 joined_step false x xs ys all h = h
 
+-- two joined logs have the ids that the first has of an origin, and then those that the second has
 pub ids_of-append : (o : ℕ) (es fs : List LogEntry) → ids_of o (es ++ fs) ≡ ids_of o es ++ ids_of o fs
 ids_of-append o [] fs = refl
 ids_of-append o (e ∷ es) fs = joined_step (e.origin == o) e.id (ids_of o es) (ids_of o fs) _ (ids_of-append o es fs)
@@ -63,6 +64,7 @@ own_step true o next_id seen us e rest h =
 
 -- ---- appending
 
+-- an entry that is appended isn't acknowledged yet
 pub unacked_appended : (s : ServerState) (e : LogEntry)
     → IsStore s.store
     → unacked (appended s e).store ≡ unacked s.store ++ e ∷ []

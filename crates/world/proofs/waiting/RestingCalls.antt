@@ -63,6 +63,7 @@ module _ (t : Traced) (h : Lawful t) (rest : IsAtRest t.world)
   nothing_there i j m a b there =
       nothing_in m (subst (λ ms. In m ms) (rest.links i j a b) there)
 
+  -- at rest no read of a living server is open
   pub reads_closed : Asking t.world → (i : ℕ) (r : OpenRead) → lives t.world i ≡ true → In r (server t.world i).asks → ⊥
   reads_closed asking i r a waits =
       let here = (living_parts t.world i a).0 in
@@ -99,6 +100,7 @@ module _ (t : Traced) (h : Lawful t) (rest : IsAtRest t.world)
       ∙ drop_all (server t.world i).store.acked (log t i)
       (omega (arith, level.acked, ap (λ (es : List LogEntry). length es) level.log))
 
+  -- at rest no own update of a living server is open
   pub updates_closed : Opening t.world
       → ((i : ℕ) → lives t.world i ≡ true → IsLevel t i)
       → (i : ℕ) (u : OpenUpdate)

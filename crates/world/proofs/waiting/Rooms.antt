@@ -90,6 +90,7 @@ origin_bound t l i k e at = elim (cases_lt e.origin (count t)) [
       absurd (omega (arith, within, ap (λ xs. length xs) (none_issued t l e.origin high)))
 ]
 
+-- as long as no more updates were issued than there are numbers, every server has numbers left
 pub has_rooms : (t : Traced) → Lawful t → issued_in t.world ≤ most → HasRooms t.world
 has_rooms t l few = record {
   own = λ i here.

@@ -39,6 +39,7 @@ use Rattle.world.proofs.waiting.Stages.{AllOpen, Fits, IsKept, acted_open}
 
 -- ---- replies that fit
 
+-- an update may have a reply that shows no item
 pub fits_update : (call : Call) (reply : Reply)
     → is_update call.op ≡ true
     → is_value reply ≡ false
@@ -64,12 +65,14 @@ never_begun (None, left) k e a = let g : Idle ≡ Asked = sym e ∙ a in cc
 never_begun (Some (Faulty fault), left) k e a = let g : Idle ≡ Asked = sym e ∙ a in cc
 never_begun (Some (Calls call form), left) k e a = let g : Begun ≡ Asked = a in cc
 
+-- a connection whose call is with its server behind a begin is as it was before
 pub same_begun : (s : Stage) (k : Connection) → k.stage ≡ s → (begun s k).stage ≡ Asked → begun s k ≡ k
 same_begun Idle k e a = absurd (never_begun (past_faults k.session) k e a)
 same_begun Begun k e a = refl
 same_begun Asked k e a = refl
 same_begun (Replied reply) k e a = refl
 
+-- a connection whose call is with its server behind a hand is as it was before
 pub same_handed : (s : Stage) (k : Connection) → k.stage ≡ s → (handed s k).stage ≡ Asked → handed s k ≡ k
 same_handed Idle k e a = refl
 same_handed Begun k e a = refl
@@ -111,6 +114,7 @@ handed_mild k a = let same =
     same_handed k.stage k refl a in
     (ap (λ (x : Connection). x.home) same, ap (λ (x : Connection). x.stage) (sym same) ∙ a)
 
+-- after one connection's call went to its server, a connection is that one, or as it was before
 pub connections_asked : (w : World) (c d : ℕ) (k' : Connection)
     → slice_get (with_connection w c asked).connections d ≡ Some k'
     → ((k : Connection) × (slice_get w.connections c ≡ Some k) × (d ≡ c) × (k' ≡ asked k))
@@ -270,6 +274,7 @@ module _ (t : Traced) (h : Lawful t) (servers : (i : ℕ) → i < count t → Is
       let l = (living_parts t.world r.i r.lives).0 in
       rw r.world (acted_open t.world r.i (Gone r.j) l (kept_all t.world r.i (Gone r.j) l tt tt (λ x. refl) refl))
 
+-- before any event no call is with a server
 pub open_outset : (n : ℕ) (homes : List ℕ) → AllOpen (opening_world n homes)
 open_outset n homes c k here stage =
     absurd (let f = fresh_at homes c k here in let e : Idle ≡ Asked = ap (λ (x : Connection). x.stage) (sym f.2)

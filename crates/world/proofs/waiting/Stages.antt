@@ -29,6 +29,7 @@ Fits c k os = (reply : Reply) × In (Answered c reply) os × (may_have (open_cal
 
 -- ---- what outputs make of a stage
 
+-- a connection whose call is with its server behind outputs got no reply by them
 pub still_asked : (os : List Output) (c : ℕ) (k k' : Connection) → Answers os c k k' → k'.stage ≡ Asked → k' ≡ k
 still_asked os c k k' (inl e) a = e
 still_asked os c k k' (inr r) a =
@@ -86,6 +87,7 @@ abbrev pub IsKept : World → ℕ → Outcome → Type 0
 IsKept v a o = (c : ℕ) (k : Connection) → slice_get v.connections c ≡ Some k → k.stage ≡ Asked
     → ((k.home ≢ a) × IsOpenAt (server v k.home) c) ⊎ ((k.home ≡ a) × (IsOpenAt o.state c ⊎ Fits c k o.outputs))
 
+-- if each call with a server waits there or is answered by server a's step, those still with one wait there
 pub acted_open : (v : World) (a : ℕ) (input : Input)
     → a < length v.servers
     → IsKept v a (step (server v a) input)

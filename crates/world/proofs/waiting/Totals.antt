@@ -6,10 +6,12 @@ use Rattle.std.proofs.lemmas.Bool.{cases_eq, eq-eqb, ne_eqb}
 use Rattle.versions.specs.Entries.{LogEntry}
 use Rattle.world.proofs.trace.Layers.{entries_of}
 
+-- the sum of f over the first n numbers
 abbrev pub total : (ℕ → ℕ) → ℕ → ℕ
 total f zero = 0
 total f (suc n) = total f n + f n
 
+-- if no summand is greater, the sum isn't either
 pub total_low : (f g : ℕ → ℕ) (n : ℕ) → ((o : ℕ) → o < n → f o ≤ g o) → total f n ≤ total g n
 total_low f g zero h = omega arith
 total_low f g (suc n) h = omega (arith, total_low f g n (λ o l. h o (omega (arith, l))), h n (omega arith))
@@ -55,6 +57,7 @@ total_grows f g k (suc n) a h one = elim (cases_eq n a) [
   | inr other ↦ omega (arith, total_grows f g k n a h one, h n other)
 ]
 
+-- the sum of zeros is zero
 pub total_none : (f : ℕ → ℕ) (n : ℕ) → ((o : ℕ) → f o ≡ 0) → total f n ≡ 0
 total_none f zero h = refl
 total_none f (suc n) h = omega (arith, total_none f n h, h n)
@@ -76,6 +79,7 @@ one_more c (suc n) i l = elim (cases_eq i n) [
   | inr other ↦ (let rest = one_more c n i (omega (arith, l, other)) in rw (ne_eqb i n other) (omega (arith, rest)))
 ]
 
+-- a log has as many entries as there are of all origins together
 pub entries_total : (es : List LogEntry) (n : ℕ)
     → ((k : ℕ) (e : LogEntry) → slice_get es k ≡ Some e → e.origin < n)
     → length es ≡ total (λ o. entries_of o es) n

@@ -5,6 +5,7 @@ use Rattle.node.specs.declared.servers.OpenUpdate.{OpenUpdate}
 use Rattle.node.specs.Numbering.{left_open, replies}
 use Rattle.node.proofs.forwarding.settle_first.Given as goal
 
+-- settling the entries that are left, in the calls open so far, is settling all; the calls stay in order
 abbrev pub invariant-loop-settled : goal.invariant-loop-settled
 invariant-loop-settled l = record {
   order : IsRising 0 (map (λ (u : OpenUpdate). u.id) l.pend.items);

@@ -3,6 +3,7 @@ use Rattle.node.proofs.NoticeShapes.{past_failed, past_living, all_looked_at}
 use Rattle.node.proofs.masters.notices.Goals as goal
 use Rattle.node.proofs.masters.notices.Goals.{then-not-has+in_ok-push, else-not-has}
 
+-- one server more was looked at: if it lives, its notice is given
 pub loop-i-preserved : goal.loop-i-preserved
 loop-i-preserved c = elim c.if-not-has.branch [
   | then-not-has+in_ok-push w ↦ rw (w.given-is, w.in_ok-push.ensures.items)
@@ -11,5 +12,6 @@ loop-i-preserved c = elim c.if-not-has.branch [
       (past_failed _ _ c.loop-i.i _ _ _ c.loop-i-test.true (sym c.has.ensures ∙ w.if-not-has.false) c.loop-i.invariant)
 ]
 
+-- all servers were looked at: one notice is given for each that lives
 pub returns : goal.returns
 returns c = all_looked_at _ _ c.loop-i.i _ _ _ (omega (arith, c.loop-i-test.false)) c.loop-i.invariant

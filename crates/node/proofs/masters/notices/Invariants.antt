@@ -2,5 +2,6 @@ use Rattle.std.proofs.Common.{◌≡◌, ◌-◌, ◌++◌}
 use Rattle.node.specs.Masters.{notices_from}
 use Rattle.node.proofs.masters.notices.Given as goal
 
+-- the notices given so far with those of the servers that are left are all notices
 abbrev pub invariant-loop-i : goal.invariant-loop-i
 invariant-loop-i l = notices_from l.gone l.j 0 l.count ≡ l.given.items ++ notices_from l.gone l.j l.i (l.count - l.i)

@@ -3,6 +3,7 @@ use Rattle.std.proofs.lemmas.List.Sorted.{answers_always}
 use Rattle.node.proofs.Orders.{searched}
 use Rattle.node.proofs.queues.place_of.Goals as goal
 
+-- in a queue in the order of its numbers the binary search finds the place of this number
 pub returns : goal.returns
 returns g c =
     let found = c.binary_search_by_key.ensures in

@@ -1,6 +1,7 @@
 use Rattle.std.proofs.Common.{◌++◌, ◌∙◌, sym, ap, arith}
 use Rattle.proto.proofs.lone_sets.number_before.Goals as goal
 
+-- the digits at the front spell the number, and the text stands after them
 pub returns : goal.returns
 returns c = record {
   field = c.split_at.result.0.now;

@@ -2,6 +2,7 @@ use Rattle.std.proofs.Common.{arith}
 use Rattle.proto.proofs.LoneSetLaws.{plain_set_made}
 use Rattle.proto.proofs.lone_sets.plain_set.Goals as goal
 
+-- the parts that are cut off one after another are those of a plain set
 pub returns : goal.returns
 returns c =
     plain_set_made c.args.bytes.now c.in_ok-line.line.now c.split_at.result.0.now c.in_ok-after.field-0.now

@@ -5,6 +5,7 @@ use Rattle.proto.specs.Words.{first_end}
 use Rattle.proto.proofs.FieldLaws.{Popped, popped_key, no_key_left}
 use Rattle.proto.proofs.requests.pop_key.Goals as goal
 
+-- if no key stands at the front, none is left
 pub returns-in_default-clause-ok : goal.returns-in_default-clause-ok
 returns-in_default-clause-ok c =
     let none = no_key_left c.args.text.now c.in_ok-slice.field-0 c.first_end-at.result c.requires.keys
@@ -19,9 +20,11 @@ first c =
     c.requires.keys (c.first_end-at.ensures ∙ ap first_end c.as_slice.ensures) past c.in_ok-slice.ensures.ok
     c.pass.ensures (c.in-Some.ensures.valid.0 refl)
 
+-- the fields that are left are keys
 pub returns-clause-keys : goal.returns-clause-keys
 returns-clause-keys c = (first c).keys
 
+-- the key that is taken off was the first, and the others are left
 pub returns-clause-ok : goal.returns-clause-ok
 returns-clause-ok c = (
   sym c.in-Ok.ensures.cases,

@@ -3,6 +3,7 @@ use Rattle.std.proofs.lemmas.Bool.Decides.{nat_tests}
 use Rattle.schedules.proofs.Texts.{read_on-front, read_on-none, read_on-end}
 use Rattle.schedules.proofs.escapes.unescape.Goals as goal
 
+-- if the front of what is left spells no byte, the text spells none
 pub returns-in_default : goal.returns-in_default
 returns-in_default c =
     let some : 0 < length c.loop-rest.rest.now = grind (arith, nat_tests, c.is_empty.ensures, c.loop-rest-test.true) in
@@ -10,6 +11,7 @@ returns-in_default c =
     c.loop-rest.rest.now (omega (arith, c.loop-rest.invariant.room)) some c.in_default.ensures.front
     ∙ c.loop-rest.invariant.read
 
+-- one more byte is read
 pub loop-rest-preserved : goal.loop-rest-preserved
 loop-rest-preserved c =
     let some : 0 < length c.loop-rest.rest.now = grind (arith, nat_tests, c.is_empty.ensures, c.loop-rest-test.true) in
@@ -22,6 +24,7 @@ loop-rest-preserved c =
           ∙ c.loop-rest.invariant.read;
     })
 
+-- with nothing left, all bytes of the text are read
 pub returns : goal.returns
 returns c =
     let none : length c.loop-rest.rest.now ≡ 0 = grind (arith, nat_tests, c.is_empty.ensures, c.loop-rest-test.false) in

@@ -6,6 +6,7 @@ use Rattle.std.proofs.lemmas.Iterator.{YieldsList-from_slice}
 use Rattle.std.proofs.lemmas.Iterator.Consumers.{YieldsList-from_filter, count_from_yields_List}
 use Rattle.schedules.proofs.head_lines.fits.Goals as goal
 
+-- a text has one field more than it has spaces
 pub returns : goal.returns
 returns c =
     let text = c.args.text.now in

@@ -5,6 +5,7 @@ use Rattle.std.proofs.lemmas.Iterator.Consumers.{YieldsList-from_filter, count_f
 use Rattle.world.specs.declared.transcripts.CallTranscript.{CallTranscript}
 use Rattle.schedules.proofs.printing.answered.Goals as goal
 
+-- the calls that are counted are those with a reply
 pub returns : goal.returns
 returns c =
     count_from_yields_List c.filter.result c.count.result c.count.ensures.ran

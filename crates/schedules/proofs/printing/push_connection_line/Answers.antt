@@ -10,6 +10,7 @@ joined : (t u v w x y a b d e f : List ℕ)
     → y ≡ t ++ ((((a ++ b) ++ d) ++ e) ++ f)
 joined t u v w x y a b d e f h i j k l = rw (l, k, j, i, h) (simp append_assoc)
 
+-- the labels and numbers that are written, one after another, are the connection's line
 pub returns : goal.returns
 returns c =
     let answered = rw c.answered.ensures at c.in_ok-push_number-4.ensures in

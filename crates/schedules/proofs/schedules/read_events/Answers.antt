@@ -2,6 +2,7 @@ use Rattle.std.proofs.Common.{◌∙◌, sym}
 use Rattle.schedules.proofs.Readings.{line_read}
 use Rattle.schedules.proofs.schedules.read_events.Goals as goal
 
+-- the events of one line more were read
 pub loop-line-preserved : goal.loop-line-preserved
 loop-line-preserved c =
     rw c.in_ok-push_events.ensures

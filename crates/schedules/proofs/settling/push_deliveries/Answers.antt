@@ -5,6 +5,7 @@ use Rattle.std.proofs.lemmas.Result.{on_ok_weaker}
 use Rattle.world.specs.declared.events.Event.TheVariants.{Deliver}
 use Rattle.schedules.proofs.settling.push_deliveries.Goals as goal
 
+-- a delivery is added for each pair
 pub returns : goal.returns
 returns c =
     on_ok_weaker c.extend.result (λ h. h.0)

@@ -3,6 +3,7 @@ use Rattle.schedules.proofs.Rounds.{other_more, same_more}
 use Rattle.schedules.proofs.settling.push_pairs_with.Goals as goal
 use Rattle.schedules.proofs.settling.push_pairs_with.Goals.{then-i-j+in_ok-push, else-i-j}
 
+-- one server more is paired with this one, if it is another
 pub loop-j-preserved : goal.loop-j-preserved
 loop-j-preserved c =
     let front = c.args.pairs.now.items in

@@ -5,6 +5,7 @@ use Rattle.std.proofs.lemmas.Result.{on_ok_weaker}
 use Rattle.world.specs.declared.events.Event.TheVariants.{Work}
 use Rattle.schedules.proofs.settling.push_works.Goals as goal
 
+-- a work is added for each connection
 pub returns : goal.returns
 returns c =
     on_ok_weaker c.extend.result (λ h. h.0)

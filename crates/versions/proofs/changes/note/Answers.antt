@@ -4,6 +4,7 @@ use Rattle.versions.specs.Records.{numbers_in, record_at}
 use Rattle.versions.proofs.Bases.{noted_key}
 use Rattle.versions.proofs.changes.note.Goals as goal
 
+-- the number of an entry that sets a key is added at this key
 pub returns-in-Some-clause-numbers : goal.returns-in-Some-clause-numbers
 returns-in-Some-clause-numbers c =
     let entry = c.args.entry.now in

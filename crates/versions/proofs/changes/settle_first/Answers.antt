@@ -2,6 +2,7 @@ use Rattle.versions.specs.Records.{base_of}
 use Rattle.versions.proofs.Holding.{more_dropped, more_settled}
 use Rattle.versions.proofs.changes.settle_first.Goals as goal
 
+-- one entry more has moved to the base
 pub loop-moved-preserved : goal.loop-moved-preserved
 loop-moved-preserved c =
     let before = c.loop-moved.invariant in

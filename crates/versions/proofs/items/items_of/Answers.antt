@@ -7,6 +7,7 @@ use Rattle.versions.specs.Stores.{items_put}
 use Rattle.versions.proofs.Bases.{base-puts}
 use Rattle.versions.proofs.items.items_of.Goals as goal
 
+-- the items of all records, put one after another, make the base
 pub returns : goal.returns
 returns c =
     let es = c.args.records.now.entries in

@@ -2,5 +2,6 @@ use Rattle.std.proofs.Common.{◌≡◌, ◌++◌}
 use Rattle.versions.specs.Records.{puts_of}
 use Rattle.versions.proofs.items.items_of.Given as goal
 
+-- the items found so far with those of the records that are left are those of all
 abbrev pub invariant-loop-place : goal.invariant-loop-place
 invariant-loop-place l = l.found.items ++ puts_of l.place-iterator ≡ puts_of l.records.entries

@@ -4,6 +4,7 @@ use Rattle.versions.specs.Numbers.{last_of}
 use Rattle.versions.proofs.Lists.{partitioned-rising, front-from_point, last_of-front}
 use Rattle.versions.proofs.numbers.last_up_to_in.Goals as goal
 
+-- the number before the point that the search finds is the last one up to n
 pub returns : goal.returns
 returns c =
     let queue = c.args.queue.now in
@@ -18,6 +19,7 @@ returns c =
     (rw (← queue.ok.0) c.get.ensures.variant) c.get.ensures.lookup
     ∙ ap last_of (sym (front-from_point c.args.n queue.items after point within))
 
+-- if the search finds none up to n, there is no last one
 pub returns-then-after-eq0 : goal.returns-then-after-eq0
 returns-then-after-eq0 c =
     let queue = c.args.queue.now in

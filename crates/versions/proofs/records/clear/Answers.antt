@@ -4,6 +4,7 @@ use Rattle.table.specs.Keys.{place_cmp}
 use Rattle.versions.proofs.Bases.{cleared}
 use Rattle.versions.proofs.records.clear.Goals as goal
 
+-- each record has lost its item and kept its numbers, and is there still if it has any
 pub returns : goal.returns
 returns c =
     let left = cleared _ (λ f k v b w g t. search rules) c.args.records.now.entries _ _ c.retain.ensures.filtered

@@ -5,11 +5,13 @@ use Rattle.versions.specs.Records.{item_in, numbers_in, record_at}
 use Rattle.versions.proofs.Bases.{items_stay, numbers_stay}
 use Rattle.versions.proofs.records.note.Goals as goal
 
+-- a number that is added to a record leaves each key's item as it is
 pub returns-in-Some-clause-items : goal.returns-in-Some-clause-items
 returns-in-Some-clause-items c =
     let value = c.in-Some.ensures.value in
     items_stay _ _ _ _ (ap item_in value) ((c.get_mut.follows.holds _).3 (sym (ap is_some value))).0
 
+-- a number that is refused leaves each key's numbers as they are
 pub returns-in-Some-clause-err : goal.returns-in-Some-clause-err
 returns-in-Some-clause-err c =
     let value = c.in-Some.ensures.value in
@@ -17,6 +19,7 @@ returns-in-Some-clause-err c =
     (λ e. numbers_stay _ _ _ _ (e ∙ ap numbers_in value) ((c.get_mut.follows.holds _).3 (sym (ap is_some value))).0)
     c.push.ensures.err
 
+-- a new record has no item, so each key's item stays
 pub returns-in_ok-insert-in-None-clause-items : goal.returns-in_ok-insert-in-None-clause-items
 returns-in_ok-insert-in-None-clause-items c =
     items_stay c.args.records.now.entries _ c.args.key.now (record { item = None; numbers = c.push-in-None.new.self })

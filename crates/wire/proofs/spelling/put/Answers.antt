@@ -4,6 +4,7 @@ use Rattle.wire.specs.Spellings.{introduction_spelling, silent_spelling, spellin
 use Rattle.wire.proofs.Appends.{then_more}
 use Rattle.wire.proofs.spelling.put.Goals as goal
 
+-- an introduction is written by its spelling
 pub returns-in-Introduction : goal.returns-in-Introduction
 returns-in-Introduction c =
     let old = c.args.out.now.items in
@@ -13,6 +14,7 @@ returns-in-Introduction c =
     c.put_head-in-Introduction.ensures.text c.put_introduction.ensures
     ∙ ap (λ frame. old ++ spelling frame) (sym c.in-Introduction.is)
 
+-- an acceptance is written by its spelling
 pub returns-in-Accepted : goal.returns-in-Accepted
 returns-in-Accepted c =
     let old = c.args.out.now.items in
@@ -22,6 +24,7 @@ returns-in-Accepted c =
     c.put_head-in-Accepted.ensures.text c.put_acceptance.ensures
     ∙ ap (λ frame. old ++ spelling frame) (sym c.in-Accepted.is)
 
+-- a greeting in a reign is written by its spelling
 pub returns-in-Reign : goal.returns-in-Reign
 returns-in-Reign c =
     let old = c.args.out.now.items in
@@ -31,6 +34,7 @@ returns-in-Reign c =
     c.put_head-in-Reign.ensures.text c.put_reign.ensures
     ∙ ap (λ frame. old ++ spelling frame) (sym c.in-Reign.is)
 
+-- a beat is written by its spelling
 pub returns-in-Beat : goal.returns-in-Beat
 returns-in-Beat c =
     let old = c.args.out.now.items in
@@ -40,6 +44,7 @@ returns-in-Beat c =
     c.put_head-in-Beat.ensures.text c.put_beat.ensures
     ∙ ap (λ frame. old ++ spelling frame) (sym c.in-Beat.is)
 
+-- what answers a beat is written by its spelling
 pub returns-in-Alive : goal.returns-in-Alive
 returns-in-Alive c =
     let old = c.args.out.now.items in
@@ -49,6 +54,7 @@ returns-in-Alive c =
     c.put_head-in-Alive.ensures.text c.put_alive.ensures
     ∙ ap (λ frame. old ++ spelling frame) (sym c.in-Alive.is)
 
+-- a notice of silence is written by its spelling
 pub returns-in-Silent : goal.returns-in-Silent
 returns-in-Silent c =
     let old = c.args.out.now.items in

@@ -4,6 +4,7 @@ use Rattle.wire.specs.Spellings.{eight_bytes}
 use Rattle.wire.proofs.Appends.{then_more, spelled_so}
 use Rattle.wire.proofs.spelling.put_alive.Goals as goal
 
+-- how a server is, is written field by field
 pub returns : goal.returns
 returns c =
     let alive = c.args.alive.now in

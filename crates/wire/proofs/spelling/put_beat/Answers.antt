@@ -2,6 +2,7 @@ use Rattle.wire.specs.Spellings.{eight_bytes}
 use Rattle.wire.proofs.Appends.{then_more, spelled_so}
 use Rattle.wire.proofs.spelling.put_beat.Goals as goal
 
+-- a beat is written field by field
 pub returns : goal.returns
 returns c =
     let beat = c.args.beat.now in

@@ -3,6 +3,7 @@ use Rattle.wire.specs.Spellings.{eight_bytes, body_spelling}
 use Rattle.wire.proofs.Appends.{then_more, spelled_so}
 use Rattle.wire.proofs.spelling.put_body.Goals as goal
 
+-- an answer is written by its spelling
 pub returns-in-Answer : goal.returns-in-Answer
 returns-in-Answer c =
     let old = c.args.out.now.items in

@@ -3,6 +3,7 @@ use Rattle.wire.specs.Spellings.{eight_bytes, target_spelling, reply_spelling, c
 use Rattle.wire.proofs.Appends.{then_more, spelled_so}
 use Rattle.wire.proofs.spelling.put_entry.Goals as goal
 
+-- an entry is written field by field
 pub returns : goal.returns
 returns c =
     let e = c.args.entry.now in

@@ -3,6 +3,7 @@ use Rattle.wire.specs.Spellings.{eight_bytes, four_bytes, block_spelling, op_spe
 use Rattle.wire.proofs.Appends.{then_more, spelled_so}
 use Rattle.wire.proofs.spelling.put_op.Goals as goal
 
+-- a cas is written by its spelling
 pub returns-in-Cas : goal.returns-in-Cas
 returns-in-Cas c =
     let old = c.args.out.now.items in

@@ -10,5 +10,6 @@ invariant-passing l = record {
   idle : l.session.asked ≡ None;
 }
 
+-- each round fewer faults are to come at most
 abbrev pub decreases-passing : goal.decreases-passing
 decreases-passing l = most_faults l.session

@@ -1,6 +1,7 @@
 use Rattle.world.proofs.courses.Progress.{begin_passes_all, begin_closes}
 use Rattle.world.proofs.laws.begin_leaves_no_request.Goals as goal
 
+-- a begin at a living home after which no call is open has passed all turns of the stream
 pub returns-clause-passed : goal.returns-clause-passed
 returns-clause-passed c count homes events d k here alive none =
     begin_passes_all (record {
@@ -10,6 +11,7 @@ returns-clause-passed c count homes events d k here alive none =
     })
     c.faults_take_bytes.ensures count homes events d k (here, alive, none)
 
+-- the session is closed then exactly if the stream has come to its last request
 pub returns-clause-closed : goal.returns-clause-closed
 returns-clause-closed c count homes events d k here alive none =
     begin_closes (record {

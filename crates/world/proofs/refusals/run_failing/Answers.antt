@@ -7,6 +7,7 @@ use Rattle.world.proofs.shown.ShownConnections.{none_forgotten_shown, taken_coun
 use Rattle.world.proofs.failures.FailingRuns.{failing_shown, length-failures}
 use Rattle.world.proofs.refusals.run_failing.Goals as goal
 
+-- what is shown is the transcript of the events with the failures in place of refused steps
 pub returns-in_ok-transcript-in-Ok-clause-transcript : goal.returns-in_ok-transcript-in-Ok-clause-transcript
 returns-in_ok-transcript-in-Ok-clause-transcript c =
     let start = c.into_world-world.ensures ∙ ap (λ (s : SceneState). s.world) c.in_ok-new.ensures.opening in
@@ -14,6 +15,7 @@ returns-in_ok-transcript-in-Ok-clause-transcript c =
     c.in-Ok.ensures.run c.in_ok-transcript-in-Ok.ensures in
     is
 
+-- each named server would have stepped at its event, and lived until then
 pub returns-in_ok-transcript-in-Ok-clause-stepped : goal.returns-in_ok-transcript-in-Ok-clause-stepped
 returns-in_ok-transcript-in-Ok-clause-stepped c =
     let start = c.into_world-world.ensures ∙ ap (λ (s : SceneState). s.world) c.in_ok-new.ensures.opening in
@@ -21,6 +23,7 @@ returns-in_ok-transcript-in-Ok-clause-stepped c =
     subst (λ (w : World). WouldStep w c.args.events.now c.in-Ok.refused.items p.0 p.1) start
     (c.in-Ok.ensures.run.stepped n p here)
 
+-- each connection is shown to have been sent the texts of the turns up to its place
 pub returns-in_ok-transcript-in-Ok-clause-sent : goal.returns-in_ok-transcript-in-Ok-clause-sent
 returns-in_ok-transcript-in-Ok-clause-sent c =
     let start = c.into_world-world.ensures ∙ ap (λ (s : SceneState). s.world) c.in_ok-new.ensures.opening in
@@ -30,6 +33,7 @@ returns-in_ok-transcript-in-Ok-clause-sent c =
     sent_shown c.args.count c.args.homes.now events _ is
     (c.sent_bytes_follow_the_stream.ensures c.args.count c.args.homes.now events)
 
+-- the calls that are shown are the first of the connection's stream
 pub returns-in_ok-transcript-in-Ok-clause-calls : goal.returns-in_ok-transcript-in-Ok-clause-calls
 returns-in_ok-transcript-in-Ok-clause-calls c =
     let start = c.into_world-world.ensures ∙ ap (λ (s : SceneState). s.world) c.in_ok-new.ensures.opening in
@@ -39,6 +43,7 @@ returns-in_ok-transcript-in-Ok-clause-calls c =
     begun_shown c.args.count c.args.homes.now events _ is
     (c.calls_follow_the_stream.ensures.begun c.args.count c.args.homes.now events)
 
+-- as many have replies as there are calls up to the connection's place
 pub returns-in_ok-transcript-in-Ok-clause-answered : goal.returns-in_ok-transcript-in-Ok-clause-answered
 returns-in_ok-transcript-in-Ok-clause-answered c =
     let start = c.into_world-world.ensures ∙ ap (λ (s : SceneState). s.world) c.in_ok-new.ensures.opening in
@@ -48,6 +53,7 @@ returns-in_ok-transcript-in-Ok-clause-answered c =
     answered_shown c.args.count c.args.homes.now events _ is
     (c.calls_follow_the_stream.ensures.answered c.args.count c.args.homes.now events)
 
+-- the calls that are shown with a reply are the first of their connection
 pub returns-in_ok-transcript-in-Ok-clause-in_turn : goal.returns-in_ok-transcript-in-Ok-clause-in_turn
 returns-in_ok-transcript-in-Ok-clause-in_turn c =
     let start = c.into_world-world.ensures ∙ ap (λ (s : SceneState). s.world) c.in_ok-new.ensures.opening in
@@ -56,6 +62,7 @@ returns-in_ok-transcript-in-Ok-clause-in_turn c =
     let events = with_failures c.args.events.now c.in-Ok.refused.items in
     in_turn_shown c.args.count c.args.homes.now events _ is
 
+-- at most one call of a connection is shown without a reply
 pub returns-in_ok-transcript-in-Ok-clause-one_open : goal.returns-in_ok-transcript-in-Ok-clause-one_open
 returns-in_ok-transcript-in-Ok-clause-one_open c =
     let start = c.into_world-world.ensures ∙ ap (λ (s : SceneState). s.world) c.in_ok-new.ensures.opening in
@@ -65,6 +72,7 @@ returns-in_ok-transcript-in-Ok-clause-one_open c =
     one_open_shown c.args.count c.args.homes.now events _ is
     (c.one_open.ensures c.args.count c.args.homes.now events)
 
+-- if nothing waits, each call that is shown at a living home has its reply
 pub returns-in_ok-transcript-in-Ok-clause-none_forgotten : goal.returns-in_ok-transcript-in-Ok-clause-none_forgotten
 returns-in_ok-transcript-in-Ok-clause-none_forgotten c =
     let start = c.into_world-world.ensures ∙ ap (λ (s : SceneState). s.world) c.in_ok-new.ensures.opening in

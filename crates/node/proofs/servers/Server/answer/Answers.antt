@@ -8,6 +8,7 @@ use Rattle.node.proofs.SoundLaws.{read-found}
 use Rattle.node.proofs.Orders.{rising-reads}
 use Rattle.node.proofs.servers.Server.answer.Goals as goal
 
+-- a number from the read's mark on is at least the floor, so the store still has the items at it
 pub at-requires-clause-above : goal.at-requires-clause-above
 at-requires-clause-above c =
     let inside = c.self.inside in
@@ -18,6 +19,7 @@ at-requires-clause-above c =
     c.in-Some.read.now reads found in
     omega (arith, within.0, c.if-n-read.false)
 
+-- the open reads are in the order of their asks, as the search needs
 pub look_up-requires : goal.look_up-requires
 look_up-requires c =
     let s = c.args.self.now in

@@ -6,6 +6,7 @@ use Rattle.node.specs.Joining.{asked_again}
 use Rattle.node.proofs.Repeats.{asked_step, asked_end}
 use Rattle.node.proofs.servers.Server.ask_again.Goals as goal
 
+-- one open read more has asked the tail again
 pub loop-read-preserved : goal.loop-read-preserved
 loop-read-preserved c =
     let put : c.send.new.outputs.items ≡ c.loop-read.outputs.items ++ message_to c.args.self.now
@@ -14,6 +15,7 @@ loop-read-preserved c =
     asked_step c.args.self.now (deque_iter_rest c.loop-read.read-iterator) (deque_iter_rest c.next.new.self)
     c.in-Some.read.now _ _ _ c.in-Some.ensures.steps c.loop-read.invariant put
 
+-- all open reads have asked the tail again
 pub returns : goal.returns
 returns c =
     asked_end c.args.self.now (deque_iter_rest c.loop-read.read-iterator) _ _ c.in-None.ensures.steps.0

@@ -7,6 +7,7 @@ use Rattle.node.specs.Joining.{forwarded}
 use Rattle.node.proofs.Repeats.{forwarded_step, forwarded_end}
 use Rattle.node.proofs.servers.Server.forward_after.Goals as goal
 
+-- one entry more was forwarded
 pub loop-entry-preserved : goal.loop-entry-preserved
 loop-entry-preserved c =
     let put : c.send.new.outputs.items ≡ c.loop-entry.outputs.items ++ message_to c.args.self.now (next c.args.self.now)
@@ -15,6 +16,7 @@ loop-entry-preserved c =
     forwarded_step c.args.self.now (deque_iter_rest c.loop-entry.entry-iterator) (deque_iter_rest c.next.new.self)
     c.in-Some.entry.now _ _ _ c.in-Some.ensures.steps c.loop-entry.invariant put
 
+-- all entries above the number were forwarded
 pub returns : goal.returns
 returns c =
     forwarded_end c.args.self.now (deque_iter_rest c.loop-entry.entry-iterator) _ _ c.in-None.ensures.steps.0

@@ -4,6 +4,7 @@ use Rattle.node.proofs.DoneSteps.{heard}
 use Rattle.node.proofs.RuleLaws.{good-join, when_ok}
 use Rattle.node.proofs.servers.Server.from_peer.Goals as goal
 
+-- a server is sound with the message's view joined, as taking in the body needs
 pub receive-requires-clause-chain : goal.receive-requires-clause-chain
 receive-requires-clause-chain c =
     let is : is_heard c.args.self.now c.args.i c.args.peer.view ≡ true = search rules in

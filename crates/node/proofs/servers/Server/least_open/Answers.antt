@@ -5,6 +5,7 @@ use Rattle.node.specs.Steps.{least_open}
 use Rattle.node.proofs.SoundLaws.{least_at_front}
 use Rattle.node.proofs.servers.Server.least_open.Goals as goal
 
+-- the first open read has the least mark
 pub returns-in-Some-clause-least : goal.returns-in-Some-clause-least
 returns-in-Some-clause-least c =
     let inside = c.self.inside in
@@ -15,6 +16,7 @@ returns-in-Some-clause-least c =
     (least_at_front 0 inside.store.floor inside.asks.items inside.next_ask inside.store.acked c.in-Some.read.now
     reads some c.in-Some.ensures.lookup).0
 
+-- the mark of the first open read is at most the acknowledged number
 pub returns-in-Some-clause-high : goal.returns-in-Some-clause-high
 returns-in-Some-clause-high c =
     let inside = c.self.inside in

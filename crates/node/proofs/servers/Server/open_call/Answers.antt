@@ -4,6 +4,7 @@ use Rattle.std.proofs.lemmas.Option.{slice_get_past, slice_get_read}
 use Rattle.node.specs.declared.servers.OpenUpdate.{OpenUpdate}
 use Rattle.node.proofs.servers.Server.open_call.Goals as goal
 
+-- the copy of the call at this place, with its id, is the own open call there
 pub returns-in_ok-clone-in-Some : goal.returns-in_ok-clone-in-Some
 returns-in_ok-clone-in-Some c =
     let pend = c.self.inside.pend in
@@ -12,6 +13,7 @@ returns-in_ok-clone-in-Some c =
     ap (λ x. Some (c.in-Some.update.now.id, x)) (search rules) ∙ ap (option_map (λ (u : OpenUpdate). (u.id, u.call)))
     (sym at) ∙ search rules
 
+-- past the last own open call there is none
 pub returns-in-None : goal.returns-in-None
 returns-in-None c =
     let pend = c.self.inside.pend in

@@ -35,6 +35,7 @@ no_more : (rest : List LogEntry) (whole done : List FaceStep)
     → done ≡ whole
 no_more rest whole done none h = sym (h ∙ ap (λ r. done ++ r) (none_left rest none) ∙ append-nil done)
 
+-- the step of one entry more was put
 pub loop-entry-preserved : goal.loop-entry-preserved
 loop-entry-preserved c =
     let e = c.in-Some.entry.now in
@@ -44,6 +45,7 @@ loop-entry-preserved c =
     one_more (deque_iter_rest c.loop-entry.entry-iterator) (deque_iter_rest c.next.new.self) e _ _ _
     c.in-Some.ensures.steps c.loop-entry.invariant put
 
+-- the steps of all entries above the number were put
 pub returns : goal.returns
 returns c =
     no_more (deque_iter_rest c.loop-entry.entry-iterator) _ _ c.in-None.ensures.steps.0 c.loop-entry.invariant

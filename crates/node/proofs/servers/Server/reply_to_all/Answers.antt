@@ -7,6 +7,7 @@ use Rattle.node.specs.Joining.{replies_to}
 use Rattle.node.proofs.Repeats.{replied_step, replied_end}
 use Rattle.node.proofs.servers.Server.reply_to_all.Goals as goal
 
+-- one open read more was answered
 pub loop-read-preserved : goal.loop-read-preserved
 loop-read-preserved c =
     let put : c.push.new.self.items ≡ c.loop-read.outputs.items ++ reply_at c.in-Some.read.now.port
@@ -15,6 +16,7 @@ loop-read-preserved c =
     replied_step c.args.self.now (deque_iter_rest c.loop-read.read-iterator) (deque_iter_rest c.next.new.self)
     c.in-Some.read.now _ _ _ c.in-Some.ensures.steps c.loop-read.invariant put
 
+-- all open reads were answered
 pub returns : goal.returns
 returns c =
     replied_end c.args.self.now (deque_iter_rest c.loop-read.read-iterator) _ _ c.in-None.ensures.steps.0

@@ -5,6 +5,7 @@ use Rattle.node.specs.Servers.{ServerState}
 use Rattle.node.proofs.Orders.{rising-updates}
 use Rattle.node.proofs.servers.Server.rise.Goals as goal
 
+-- own open calls are in the order of their ids, as closing them needs
 pub settle_first-requires : goal.settle_first-requires
 settle_first-requires c =
     let s = c.args.self.now in

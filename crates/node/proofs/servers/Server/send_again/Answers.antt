@@ -6,6 +6,7 @@ use Rattle.node.specs.Joining.{sent_again}
 use Rattle.node.proofs.Repeats.{sent_step, sent_end}
 use Rattle.node.proofs.servers.Server.send_again.Goals as goal
 
+-- one own open call more was sent to the head again
 pub loop-update-preserved : goal.loop-update-preserved
 loop-update-preserved c =
     let put : c.send.new.outputs.items ≡ c.loop-update.outputs.items ++ message_to c.args.self.now
@@ -14,6 +15,7 @@ loop-update-preserved c =
     sent_step c.args.self.now (deque_iter_rest c.loop-update.update-iterator) (deque_iter_rest c.next.new.self)
     c.in-Some.update.now _ _ _ c.in-Some.ensures.steps c.loop-update.invariant put
 
+-- all own open calls were sent to the head again
 pub returns : goal.returns
 returns c =
     sent_end c.args.self.now (deque_iter_rest c.loop-update.update-iterator) _ _ c.in-None.ensures.steps.0

@@ -6,11 +6,13 @@ use Rattle.node.proofs.Retaking.{call_at_is, no_call_at, waiting, pend-taken, ta
 use Rattle.node.proofs.SoundLaws.{sound-taken}
 use Rattle.node.proofs.servers.Server.take_all.Goals as goal
 
+-- no own call is at the place, so all are taken
 pub returns-in_default : goal.returns-in_default
 returns-in_default c =
     taken_end _ c.loop-i.self c.loop-i.i
     (no_call_at c.loop-i.self.pend c.loop-i.i (sym c.in_default.is ∙ c.in_ok-id.ensures)) c.loop-i.invariant.rest
 
+-- an own open call fits, as taking it needs
 pub take_quietly-taken-requires-clause-call : goal.take_quietly-taken-requires-clause-call
 take_quietly-taken-requires-clause-call c =
     let at =
@@ -19,6 +21,7 @@ take_quietly-taken-requires-clause-call c =
     c.loop-i.invariant.sound.updates at.rest in
     rw at.is_call waits.0
 
+-- an own open call is an update, as taking it needs
 pub take_quietly-taken-requires-clause-update : goal.take_quietly-taken-requires-clause-update
 take_quietly-taken-requires-clause-update c =
     let at =
@@ -27,6 +30,7 @@ take_quietly-taken-requires-clause-update c =
     c.loop-i.invariant.sound.updates at.rest in
     rw at.is_call waits.1
 
+-- one own open call more was taken
 pub loop-i-preserved : goal.loop-i-preserved
 loop-i-preserved c =
     let s = c.loop-i.self in
@@ -45,6 +49,7 @@ loop-i-preserved c =
           (rw at.is_call waits.0) (rw at.is_call waits.1) sound);
     }
 
+-- each place was looked at, so all own open calls are taken
 pub returns : goal.returns
 returns c =
     let calls : c.self.inside.pend.items ≡ c.args.self.now.pend = ap (λ (t : ServerState). t.pend) c.self.view_is in

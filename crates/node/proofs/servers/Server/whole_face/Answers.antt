@@ -5,6 +5,7 @@ use Rattle.versions.specs.Stores.{StoreState, entries_after}
 use Rattle.node.proofs.Openings.{whole-face_by}
 use Rattle.node.proofs.servers.Server.whole_face.Goals as goal
 
+-- the change that is given makes of an empty face the server's face
 pub returns : goal.returns
 returns c =
     let s = c.args.self.now in

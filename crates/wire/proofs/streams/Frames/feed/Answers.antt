@@ -3,6 +3,7 @@ use Rattle.wire.specs.Streams.{IsMissing}
 use Rattle.wire.proofs.FrontLaws.{missing_fed}
 use Rattle.wire.proofs.streams.Frames.feed.Goals as goal
 
+-- with a piece more, as many bytes less are missing
 pub invariant_of-self-2 : goal.invariant_of-self-2
 invariant_of-self-2 c =
     subst (λ bytes. IsMissing c.saturating_sub-self-inside.result bytes) (sym c.in_ok-extend_from_slice.ensures.ok)

@@ -3,6 +3,7 @@ use Rattle.std.proofs.lemmas.List.{length-append}
 use Rattle.world.proofs.bodies.ServerLists.{opened_more, running_more}
 use Rattle.world.proofs.servers.Servers.new.Goals as goal
 
+-- one server more is there, before any input
 pub loop-id-preserved : goal.loop-id-preserved
 loop-id-preserved c =
     let so_far = c.loop-id.invariant in

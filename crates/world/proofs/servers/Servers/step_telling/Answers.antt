@@ -5,6 +5,7 @@ use Rattle.world.specs.Worlds.{nobody}
 use Rattle.world.proofs.bodies.ToldSteps.{stepped_at, told_is}
 use Rattle.world.proofs.servers.Servers.step_telling.Goals as goal
 
+-- what is told is what the server made of the input
 pub returns-in-Ok-copies_of_outputs-clause-told : goal.returns-in-Ok-copies_of_outputs-clause-told
 returns-in-Ok-copies_of_outputs-clause-told c =
     let s = slice_index_or c.args.self.now c.args.i nobody in

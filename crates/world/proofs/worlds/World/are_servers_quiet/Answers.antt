@@ -4,6 +4,7 @@ use Rattle.world.specs.Quiet.{is_server_quiet}
 use Rattle.world.proofs.bodies.AllBelow.{all_broken}
 use Rattle.world.proofs.worlds.World.are_servers_quiet.Goals as goal
 
+-- a living server that isn't quiet breaks the test of all
 pub returns-then-not-is_server_quiet : goal.returns-then-not-is_server_quiet
 returns-then-not-is_server_quiet c =
     let within : c.loop-j.j < length c.args.self.now.servers = search rules in

@@ -3,6 +3,7 @@ use Rattle.world.proofs.failures.FailingRuns.{noted, one_more}
 use Rattle.world.proofs.worlds.World.attempt_all.Goals as goal
 use Rattle.world.proofs.worlds.World.attempt_all.Goals.{in-Some+in_ok-push, in_default}
 
+-- one event more has happened, or was refused
 pub loop-place-preserved : goal.loop-place-preserved
 loop-place-preserved c =
     let so_far = c.loop-place.refused.items in

@@ -5,6 +5,7 @@ use Rattle.world.proofs.bodies.LinkLists.{message_delivered, none_delivered}
 use Rattle.world.proofs.bodies.DeedLaws.{message_deed, no_message_deed}
 use Rattle.world.proofs.worlds.World.deliver_telling.Goals as goal
 
+-- the first message of the link is given to the server
 pub returns-in-Some-clause-ok : goal.returns-in-Some-clause-ok
 returns-in-Some-clause-ok c =
     let alive : lives c.args.self.now c.args.j ≡ true = sym c.lives.ensures.lives ∙ c.if-not-lives.false in
@@ -12,6 +13,7 @@ returns-in-Some-clause-ok c =
     (message_delivered _ _ c.self.view_is c.args.i c.args.j c.in-Some.message c.pop.new.self alive
     c.in-Some.ensures.first c.in-Some.ensures.rest) c.take_telling.ensures.ok
 
+-- what the server made of the message is told
 pub returns-in-Some-clause-deed : goal.returns-in-Some-clause-deed
 returns-in-Some-clause-deed c =
     let alive : lives c.args.self.now c.args.j ≡ true = sym c.lives.ensures.lives ∙ c.if-not-lives.false in
@@ -19,9 +21,11 @@ returns-in-Some-clause-deed c =
     (message_deed _ _ c.self.view_is c.args.i c.args.j c.in-Some.message _ alive c.in-Some.ensures.first)
     c.take_telling.ensures.deed
 
+-- from a link without messages nothing is delivered
 pub returns-in-None-clause-ok : goal.returns-in-None-clause-ok
 returns-in-None-clause-ok c =
     none_delivered _ _ c.self.view_is c.args.i c.args.j c.pop.new.self c.in-None.ensures.first c.in-None.ensures.rest
 
+-- of a link without messages it is told that nothing was done
 pub returns-in-None-clause-deed : goal.returns-in-None-clause-deed
 returns-in-None-clause-deed c = no_message_deed _ _ c.self.view_is c.args.i c.args.j c.in-None.ensures.first

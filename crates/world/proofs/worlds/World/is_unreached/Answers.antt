@@ -4,6 +4,7 @@ use Rattle.world.specs.Links.{is_empty}
 use Rattle.world.proofs.bodies.AllBelow.{all_broken}
 use Rattle.world.proofs.worlds.World.is_unreached.Goals as goal
 
+-- a link to the server that holds a message breaks the test of all
 pub returns-then-not-is_empty : goal.returns-then-not-is_empty
 unfolding link
 returns-then-not-is_empty c =

@@ -12,5 +12,6 @@ invariant-loop-output l = record {
   fit : AreFit (into_iter_items l.outputs);
 }
 
+-- each round one output less is left
 abbrev pub decreases-loop-output : goal.decreases-loop-output
 decreases-loop-output l = length (into_iter_items l.outputs)

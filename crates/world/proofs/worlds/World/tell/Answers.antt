@@ -4,6 +4,7 @@ use Rattle.world.specs.Worlds.{lives, has_failed}
 use Rattle.world.proofs.failures.Losses.{told_comes}
 use Rattle.world.proofs.worlds.World.tell.Goals as goal
 
+-- a living server that is told of a failed one takes the notice, or is lost
 pub returns-then-has_failed-clause-ok : goal.returns-then-has_failed-clause-ok
 returns-then-has_failed-clause-ok c =
     let alive : lives c.args.self.now c.args.i ≡ true = sym c.lives.ensures.lives ∙ c.if-lives.true in

@@ -6,6 +6,7 @@ use Rattle.world.specs.LivingParts.{living_part}
 use Rattle.world.proofs.failures.Losses.{one_place, worked_comes, worked_lost, unworked}
 use Rattle.world.proofs.worlds.World.work.Goals as goal
 
+-- the begun call goes to its server, and what that puts out goes its ways
 pub returns-in_ok-put_all-in-Ok-clause-ok : goal.returns-in_ok-put_all-in-Ok-clause-ok
 returns-in_ok-put_all-in-Ok-clause-ok c =
     let served : home_lives c.args.self.now (slice_get c.args.self.now.connections c.args.c)
@@ -21,6 +22,7 @@ returns-in_ok-put_all-in-Ok-clause-ok c =
     c.in-Ok.outputs.items served c.index-connection.ensures c.home-home.ensures call_is asked_is
     c.in-Ok.ensures.state c.in-Ok.ensures.outputs
 
+-- if the server's step is refused, the server is lost
 pub returns-in-Err-clause-ok : goal.returns-in-Err-clause-ok
 returns-in-Err-clause-ok c =
     let served : home_lives c.args.self.now (slice_get c.args.self.now.connections c.args.c)
@@ -32,6 +34,7 @@ returns-in-Err-clause-ok c =
     c.index-connection.ensures c.home-home.ensures call_is c.in-Err.ensures.err in
     (comes.0, ap living_part c.lose.ensures ∙ comes.1)
 
+-- if no call was begun, nothing happens
 pub returns-in_default-clause-ok : goal.returns-in_default-clause-ok
 returns-in_default-clause-ok c =
     let served : home_lives c.args.self.now (slice_get c.args.self.now.connections c.args.c)

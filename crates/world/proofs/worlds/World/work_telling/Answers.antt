@@ -8,6 +8,7 @@ use Rattle.world.proofs.bodies.ConnectionLists.{call_worked, none_worked}
 use Rattle.world.proofs.bodies.DeedLaws.{served_work, called_deed}
 use Rattle.world.proofs.worlds.World.work_telling.Goals as goal
 
+-- the begun call goes to its server, and what that puts out goes its ways
 pub returns-in-Some-clause-ok : goal.returns-in-Some-clause-ok
 returns-in-Some-clause-ok c =
     let served : home_lives c.args.self.now (slice_get c.args.self.now.connections c.args.c) ≡ true =
@@ -19,6 +20,7 @@ returns-in-Some-clause-ok c =
     (call_worked _ _ c.self.view_is c.args.c c.home-home.result old c.ask_telling.new.self c.in-Some.call served
     c.index_mut-connection.ensures.value c.home-home.ensures call_is asked_is) c.take_telling.ensures.ok
 
+-- what the server made of the call is told
 pub returns-in-Some-clause-deed : goal.returns-in-Some-clause-deed
 returns-in-Some-clause-deed c =
     let served : home_lives c.args.self.now (slice_get c.args.self.now.connections c.args.c) ≡ true =
@@ -29,6 +31,7 @@ returns-in-Some-clause-deed c =
     (called_deed _ _ c.self.view_is c.args.c c.home-home.result old c.in-Some.call _ served
     c.index_mut-connection.ensures.value c.home-home.ensures call_is) c.take_telling.ensures.deed
 
+-- if no call was begun, nothing happens
 pub returns-in-None-clause-ok : goal.returns-in-None-clause-ok
 returns-in-None-clause-ok c =
     let served : home_lives c.args.self.now (slice_get c.args.self.now.connections c.args.c) ≡ true =
@@ -39,6 +42,7 @@ returns-in-None-clause-ok c =
     none_worked _ _ c.self.view_is c.args.c old c.ask_telling.new.self served
     c.index_mut-connection.ensures.value none kept
 
+-- if no call was begun, it is told that nothing was done
 pub returns-in-None-clause-deed : goal.returns-in-None-clause-deed
 returns-in-None-clause-deed c =
     let served : home_lives c.args.self.now (slice_get c.args.self.now.connections c.args.c) ≡ true =
