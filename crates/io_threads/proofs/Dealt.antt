@@ -2,10 +2,11 @@
 use Rattle.std.proofs.Common.{◌≡◌, ◌∙◌, ◌∷◌, ◌++◌, ◌+◌, ℕ, zero, suc, List, [], All, length, refl, ap, set, subst}
 use Rattle.std.proofs.Common.{sym}
 use Rattle.std.proofs.lemmas.List.Elements.{All-nil, All-append, All-cons, All-head, All-set, All-tail, All-weaker}
+use Rattle.atomic_table.specs.Seated.{TableId}
 use Rattle.node.specs.Nodes.{NodeState}
 use Rattle.faces.specs.Courses.{Origin}
-use Rattle.rail.specs.declared.events.Event.{Event}
 use Rattle.rail.specs.declared.stands.Stand.{Stand}
+use Rattle.rail.specs.Inlets.{InletState, LeadTo, inlet_at, inlets_from}
 use Rattle.rail.specs.Seats.{SeatState}
 use Rattle.rail.specs.Servers.{IsOpened, seat_at, seats_from, stand_at, stands_from}
 use Rattle.rail.specs.Workers.{WorkerState}
@@ -14,23 +15,23 @@ use Rattle.seats.specs.SeatPools.{Pooling}
 use Rattle.io_threads.specs.Pools.{AreAllAt, AreOf, BeginsAs, IsRepliedAt}
 
 -- all are of this server, and sent nothing
-all_at : (o : Origin) (k n : ℕ) → All (λ (stand : Stand). IsRepliedAt o stand.seat) (stands_from o k n)
-all_at o k zero = All-nil (λ (stand : Stand). IsRepliedAt o stand.seat)
-all_at o k (suc n) =
-    All-cons (λ (stand : Stand). IsRepliedAt o stand.seat) (stand_at o k) (stands_from o (k + 1) n) (refl, refl)
-    (all_at o (k + 1) n)
+all_at : (o : Origin) (b : TableId) (k n : ℕ) → All (λ (stand : Stand). IsRepliedAt o stand.seat) (stands_from o b k n)
+all_at o b k zero = All-nil (λ (stand : Stand). IsRepliedAt o stand.seat)
+all_at o b k (suc n) =
+    All-cons (λ (stand : Stand). IsRepliedAt o stand.seat) (stand_at o b k) (stands_from o b (k + 1) n) (refl, refl)
+    (all_at o b (k + 1) n)
 
-all_seats_at : (o : Origin) (k n : ℕ) → All (IsRepliedAt o) (seats_from o k n)
-all_seats_at o k zero = All-nil (IsRepliedAt o)
-all_seats_at o k (suc n) =
-    All-cons (IsRepliedAt o) (seat_at o k) (seats_from o (k + 1) n) (refl, refl) (all_seats_at o (k + 1) n)
+all_seats_at : (o : Origin) (b : TableId) (k n : ℕ) → All (IsRepliedAt o) (seats_from o b k n)
+all_seats_at o b k zero = All-nil (IsRepliedAt o)
+all_seats_at o b k (suc n) =
+    All-cons (IsRepliedAt o) (seat_at o b k) (seats_from o b (k + 1) n) (refl, refl) (all_seats_at o b (k + 1) n)
 
-length_from : (o : Origin) (k n : ℕ) → length (stands_from o k n) ≡ n
-length_from o k zero = refl
-length_from o k (suc n) = ap suc (length_from o (k + 1) n)
+length_from : (o : Origin) (b : TableId) (k n : ℕ) → length (stands_from o b k n) ≡ n
+length_from o b k zero = refl
+length_from o b k (suc n) = ap suc (length_from o b (k + 1) n)
 
 module _ (node : NodeState) (readers more inlets : ℕ) (w : WorkerState) (beside : List Stand) (others : List SeatState)
-    (brought : List (List Event)) (opened : IsOpened node readers more inlets w beside others brought) where
+    (brought : List InletState) (opened : IsOpened node readers more inlets w beside others brought) where
   -- the stands and the seats of a server that was opened are all of its worker's server, and no pool is of another
   opened_at : AreOf w.published.origin beside others []
   opened_at =
@@ -38,8 +39,9 @@ module _ (node : NodeState) (readers more inlets : ℕ) (w : WorkerState) (besid
       let are : AreOf opened.origin beside others [] =
       record {
         stands = subst (All (λ (stand : Stand). IsRepliedAt opened.origin stand.seat)) (sym opened.stands)
-            (all_at opened.origin 0 readers);
-        seats = subst (All (IsRepliedAt opened.origin)) (sym opened.seats) (all_seats_at opened.origin readers more);
+            (all_at opened.origin opened.inbox 0 readers);
+        seats = subst (All (IsRepliedAt opened.origin)) (sym opened.seats)
+            (all_seats_at opened.origin opened.inbox readers more);
         pools = All-nil (λ (pool : Pooling). pool.seen.origin ≡ opened.origin);
       } in
       subst (λ (o : Origin). AreOf o beside others []) (sym same) are
@@ -55,7 +57,7 @@ module _ (node : NodeState) (readers more inlets : ℕ) (w : WorkerState) (besid
 
   -- there is a stand for each reader
   pub opened_stands : length beside ≡ readers
-  opened_stands = ap length opened.stands ∙ length_from opened.origin 0 readers
+  opened_stands = ap length opened.stands ∙ length_from opened.origin opened.inbox 0 readers
 
   -- its worker begins as the node
   pub opened_worker : BeginsAs node w
@@ -66,6 +68,22 @@ module _ (node : NodeState) (readers more inlets : ℕ) (w : WorkerState) (besid
         taken = ap (λ (v : WorkerState). v.taken) opened.worker;
         goes = ap (λ (v : WorkerState). v.goes) opened.worker;
       }
+
+all_lead : (b : TableId) (k n : ℕ) → LeadTo b (inlets_from b k n)
+all_lead b k zero = All-nil (λ (inlet : InletState). inlet.inbox ≡ b)
+all_lead b k (suc n) =
+    All-cons (λ (inlet : InletState). inlet.inbox ≡ b) (inlet_at b k) (inlets_from b (k + 1) n) refl
+    (all_lead b (k + 1) n)
+
+-- the inlets of a server that was opened lead to its worker's inbox
+pub opened_lead : (node : NodeState) (readers more inlets : ℕ) (w : WorkerState) (beside : List Stand)
+    (others : List SeatState) (brought : List InletState)
+    → IsOpened node readers more inlets w beside others brought → LeadTo w.inbox brought
+opened_lead node readers more inlets w beside others brought opened =
+    let at : opened.inbox ≡ w.inbox = sym (ap (λ (v : WorkerState). v.inbox) opened.worker) in
+    subst (LeadTo w.inbox) (sym opened.brought_by)
+    (subst (λ (b : TableId). LeadTo b (inlets_from opened.inbox (readers + more) inlets)) at
+    (all_lead opened.inbox (readers + more) inlets))
 
 -- one more pool of this server
 pub one_more : (o : Origin) (pools after : List Pooling) (pool : Pooling)

@@ -48,8 +48,8 @@ const PASSES: usize = 4;
 /// unless memory was refused, and that what it took is what the connection counts as written.
 #[derive(Drop)]
 pub struct Client<S: Read + Write> {
+    // The fields lie in this order, and what each event looks at before the talk: one line of the processor's memory.
     wire: Wire<S>,
-    talk: Talk,
     // Whether there may be input, and whether more output may be taken.
     is_readable: bool,
     is_writable: bool,
@@ -58,10 +58,12 @@ pub struct Client<S: Read + Write> {
     is_gone: bool,
     // Whether memory was refused to what was read last.
     is_refused: bool,
+    talk: Talk,
 }
 
 impl<S: Read + Write> Model for Client<S> {
     ghost use Rattle.std.specs.Coded.{codes};
+    ghost use Rattle.atomic_table.specs.Seated.{table_id_coded};
     ghost use Rattle.logbook.specs.Pages.{book_coded};
     ghost use Rattle.table.specs.Items.{coded_item};
     ghost use Rattle.versions.specs.Stores.{coded_items};
@@ -69,7 +71,7 @@ impl<S: Read + Write> Model for Client<S> {
 
     ghost Value = { Visiting };
 
-    ghost coded = { Prim.hlevel (codes, coded_item, coded_items, book_coded) };
+    ghost coded = { Prim.hlevel (codes, coded_item, coded_items, book_coded, table_id_coded) };
 
     ghost view = { λ c. record {
       talk = c.talk;
@@ -131,6 +133,12 @@ impl<S: Read + Write> Client<S> {
         self.is_writable |= ready.writing;
         self.has_ended |= ready.ended;
         self.is_gone |= ready.gone;
+    }
+
+    // How much output is due, and one more if it wants input.
+    pub(crate) fn look_at(&self) -> usize {
+        let due = self.talk.output().len();
+        due.wrapping_add(usize::from(self.talk.wants_input()))
     }
 
     /// Goes on for a while, and says why it goes no further: `HasPaused` tells what each answer means. Once memory was

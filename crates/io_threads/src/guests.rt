@@ -32,8 +32,9 @@ pub(crate) enum Waits {
 pub(crate) struct Guest {
     // Before the client, as it is dropped first: who sees its connection end finds room.
     pub(crate) entry: Entry,
-    pub(crate) client: Client<TcpStream>,
+    // Before the client, so that it lies beside what each event looks at.
     pub(crate) waits: Waits,
+    pub(crate) client: Client<TcpStream>,
 }
 
 /// The clients of one thread at one server, by keys, and the seats that the thread has there. The type keeps that the
@@ -96,9 +97,12 @@ impl Guests {
         is_ready_for(&self.pool, &mut self.clients, key, ready)
     }
 
-    /// A client that waited for its socket waits for its turn.
-    pub(crate) fn has_turn(&mut self, key: usize) {
-        has_turn(&self.pool, &mut self.clients, key)
+    /// Looks at a client: how much output is due there, and one more if it wants input. None counts as nothing.
+    pub(crate) fn look_at(&self, key: usize) -> usize {
+        match self.clients.get(key) {
+            Some(guest) => guest.client.look_at(),
+            None => 0,
+        }
     }
 
     /// Has a client go on, and says why it goes no further. The slice is room for what is read, and the leash is that
@@ -210,17 +214,6 @@ fn collect<R: Wait>(rt: &R, pool: &mut SeatPool, clients: &Slab<Guest>)
     ensures known { KnowsAll pool.new.seen clients.now }
 {
     pool.collect(rt);
-}
-
-// A client that waited for its socket is to have its turn.
-#[tactic(auto, using(crate::proofs::Knowing::knowing))]
-fn has_turn(pool: &SeatPool, clients: &mut Slab<Guest>, key: usize)
-    requires known { KnowsAll pool.now.seen clients.old }
-    ensures known { KnowsAll pool.now.seen clients.new }
-{
-    if let Some(guest) = clients.get_mut(key) {
-        guest.waits = Waits::Turn;
-    }
 }
 
 // Takes the reply to a client's call.

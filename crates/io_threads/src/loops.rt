@@ -56,6 +56,8 @@ pub(crate) struct IoThread<R: Wait + Drop, T: Stations + Drop> {
     // The servers that it is to visit, and the one that it visited last.
     due: ServerSet,
     last: u8,
+    // What was seen when it looked ahead. Nobody asks for it.
+    seen: usize,
 }
 
 impl<R: Wait + Copy + Drop, T: Stations + Drop> Beginning<R, T> {
@@ -110,6 +112,7 @@ impl<R: Wait + Copy + Drop, T: Stations + Drop> Beginning<R, T> {
             piece,
             due: ServerSet::new(),
             last: 0,
+            seen: 0,
         }
     }
 }
@@ -179,8 +182,22 @@ impl<R: Wait + Clock + Copy + Drop, T: Stations + Drop> IoThread<R, T> {
         open_at
     }
 
-    // Notes which clients are ready, and takes new ones in.
+    // Looks at each client whose socket is ready, before the first of them goes on. With many clients each has left the
+    // processor's near memory by its next request, and comes back while others are looked at.
+    fn look_ahead(&mut self) {
+        let mut seen = 0usize;
+        for event in self.events.iter() {
+            let Token(token) = event.token();
+            if let Some(lounge) = self.lounges.get(token % SERVERS) {
+                seen = seen.wrapping_add(lounge.look_at(token / SERVERS));
+            }
+        }
+        self.seen = seen;
+    }
+
+    // Has each client go on whose socket is ready, and takes new ones in.
     fn take_events(&mut self) {
+        self.look_ahead();
         let mut is_woken = false;
         for event in self.events.iter() {
             let Token(token) = event.token();
@@ -193,7 +210,8 @@ impl<R: Wait + Clock + Copy + Drop, T: Stations + Drop> IoThread<R, T> {
                     ended: event.is_read_closed(),
                     gone: event.is_error() || event.is_write_closed(),
                 };
-                lounge.is_ready_for(token / SERVERS, ready);
+                let key = token / SERVERS;
+                lounge.is_ready_for(&self.rt, key, ready, self.piece.as_mut_slice());
             }
         }
         if is_woken {

@@ -142,14 +142,17 @@ impl Lounge {
         }
     }
 
-    /// A client's socket was found ready for this. If it is gone while its call or its output waits, it is closed at
-    /// once.
-    pub(crate) fn is_ready_for(&mut self, key: usize, ready: Ready) {
+    /// A client's socket was found ready for this. If it waits for that, it goes on for a while. If it is gone while
+    /// its call or its output waits, it is closed at once.
+    pub(crate) fn is_ready_for<R: Wait + Clock>(
+        &mut self,
+        rt: &R,
+        key: usize,
+        ready: Ready,
+        piece: &mut [u8],
+    ) {
         match self.guests.is_ready_for(key, ready) {
-            Some(Waits::Socket) => {
-                self.guests.has_turn(key);
-                self.enqueue(key);
-            }
+            Some(Waits::Socket) => self.go(rt, key, piece),
             Some(Waits::Seat) => {
                 if ready.gone {
                     self.line.leave(key);
@@ -170,6 +173,11 @@ impl Lounge {
             }
             Some(Waits::Turn) | None => {}
         }
+    }
+
+    /// Looks at a client, so that it is near once it goes on.
+    pub(crate) fn look_at(&self, key: usize) -> usize {
+        self.guests.look_at(key)
     }
 
     /// Closes all clients, without a further byte, if the server is marked and they weren't closed before.

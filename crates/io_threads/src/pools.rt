@@ -2,6 +2,7 @@
 ghost use Rattle.std.specs.Prelude.{◌≡◌, ◌≤◌, ◌+◌, [], true, vec_len, All, IfOk, OnOk};
 ghost use Rattle.node.specs.Nodes.{is_idle};
 ghost use Rattle.faces.specs.Courses.{Origin};
+ghost use Rattle.rail.specs.Inlets.{LeadTo};
 ghost use Rattle.seats.specs.Replies.{HasAllReplies};
 ghost use Rattle.seats.specs.SeatPools.{with_free};
 ghost use Rattle.seats.specs.Submitters.{unused};
@@ -26,9 +27,9 @@ pub struct Pooled<R: Wait + Drop> {
 
 /// Opens a server that begins as this node, with these many seats, which are dealt out to the threads in turn: that of
 /// port 0 to the first thread, that of port 1 to the second, and so on. All are seats of the worker's server. Each
-/// thread has one reader, and the face has room for no more. The mark is set as soon as the server answers no more
-/// calls, and the gauge tells whether its items may take more memory. Refused if memory is out, or no reader could be
-/// made.
+/// thread has one reader, and the face has room for no more. The inlets lead to the worker's inbox. The mark is set as
+/// soon as the server answers no more calls, and the gauge tells whether its items may take more memory. Refused if
+/// memory is out, or no reader could be made.
 pub fn open_pools<R: Wait + Drop>(
     rt: R,
     alloc: Global,
@@ -46,6 +47,7 @@ pub fn open_pools<R: Wait + Drop>(
     ensures worker { IfOk result (λ pooled. BeginsAs node pooled.worker) }
     ensures pools { IfOk result (λ pooled. AreAllAt pooled.worker.published.origin pooled.pools.items) }
     ensures threads { IfOk result (λ pooled. vec_len pooled.pools ≡ threads) }
+    ensures inlets { IfOk result (λ pooled. LeadTo pooled.worker.inbox pooled.inlets.items) }
 {
     let Server {
         worker,

@@ -34,7 +34,7 @@ refusal host desk id opener =
 
 -- who is accepted has the inlet that waited for it; a master has brought nothing
 abbrev pub HasPlace : DeskState → ℕ → Who → Type 0
-HasPlace desk id (Server j brought) = waiting desk.places id ≡ Some brought
+HasPlace desk id (Server j inlet) = waiting desk.places id ≡ Some inlet
 HasPlace desk id (Master told) = told ≡ []
 
 -- At some desk who greets so is accepted, has the inlet that waited there, and is told who has failed as far as it is

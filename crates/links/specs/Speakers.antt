@@ -3,6 +3,7 @@ use Rattle.std.specs.Prelude.{ℕ, List, [], ◌∷◌, ◌++◌, ◌≡◌, ◌
 use Rattle.ends.specs.Ends.{WritesBeginning}
 use Rattle.node.specs.declared.messages.Input.TheVariants as inputs
 use Rattle.peers.specs.declared.identities.Identity.{Identity}
+use Rattle.rail.specs.Inlets.{with_event}
 use Rattle.rail.specs.declared.events.Event.TheVariants.{Took}
 use Rattle.wire.specs.declared.frames.Frame.{Frame}
 use Rattle.wire.specs.declared.frames.Frame.TheVariants.{Hello, Peer, Gone, Introduction, Accepted, Refused, Noted}
@@ -15,24 +16,24 @@ use Rattle.links.specs.Orders.{Answers, bytes_of}
 
 -- who greets with this id: a master by 16, else the server of that id
 abbrev pub Greets : ℕ → Who → Type 0
-Greets id (Server j brought) = (j ≡ id) × (id ≢ 16)
+Greets id (Server j inlet) = (j ≡ id) × (id ≢ 16)
 Greets id (Master told) = id ≡ 16
 
 -- what a frame makes of who speaks, if it is heard: a server sends messages, a master notices and orders, and what is
 -- brought to the server are the messages and notices, in order. A notice of silence is brought if it is of the reign
 -- that the server is in. Nobody greets twice, and who has opened the connection answers nothing
 abbrev pub Hears : Who → Frame → Who → Type 0
-Hears (Server i brought) (Hello id) now = ⊥
-Hears (Server i brought) (Peer peer) now = now ≡ Server i (brought ++ Took (inputs.From i peer) ∷ [])
-Hears (Server i brought) (Gone j) now = ⊥
-Hears (Server i brought) (Introduction opener) now = ⊥
-Hears (Server i brought) (Accepted answer) now = ⊥
-Hears (Server i brought) (Refused reason) now = ⊥
-Hears (Server i brought) (Noted j) now = ⊥
-Hears (Server i brought) (Reign reign) now = ⊥
-Hears (Server i brought) (Beat beat) now = ⊥
-Hears (Server i brought) (Alive alive) now = ⊥
-Hears (Server i brought) (Silent silent) now = ⊥
+Hears (Server i inlet) (Hello id) now = ⊥
+Hears (Server i inlet) (Peer peer) now = now ≡ Server i (with_event inlet (Took (inputs.From i peer)))
+Hears (Server i inlet) (Gone j) now = ⊥
+Hears (Server i inlet) (Introduction opener) now = ⊥
+Hears (Server i inlet) (Accepted answer) now = ⊥
+Hears (Server i inlet) (Refused reason) now = ⊥
+Hears (Server i inlet) (Noted j) now = ⊥
+Hears (Server i inlet) (Reign reign) now = ⊥
+Hears (Server i inlet) (Beat beat) now = ⊥
+Hears (Server i inlet) (Alive alive) now = ⊥
+Hears (Server i inlet) (Silent silent) now = ⊥
 Hears (Master told) (Hello id) now = ⊥
 Hears (Master told) (Peer peer) now = ⊥
 Hears (Master told) (Gone j) now = now ≡ Master (told ++ j ∷ [])
@@ -47,7 +48,7 @@ Hears (Master told) (Silent silent) now = (now ≡ Master (told ++ silent.id ∷
 
 -- what a response says of who speaks: a notice is noted exactly if it was brought
 abbrev pub Notes : Who → Response → Who → Type 0
-Notes (Server i brought) response now = response ≡ responses.Nothing
+Notes (Server i inlet) response now = response ≡ responses.Nothing
 Notes (Master told) responses.Nothing now = ⊥
 Notes (Master told) (responses.Noted j) now = now ≡ Master (told ++ j ∷ [])
 Notes (Master told) (responses.Alive alive) now = now ≡ Master told

@@ -1,6 +1,7 @@
 //! The notices that a master has brought.
 ghost use Rattle.std.specs.Prelude.{◌≡◌, ◌++◌, ◌∷◌, [], OnOk, OnErr};
 ghost use Rattle.node.specs.declared.messages.Input.TheVariants.{Gone};
+ghost use Rattle.rail.specs.Inlets.{with_event};
 ghost use Rattle.rail.specs.declared.events.Event.TheVariants.{Took};
 
 use crate::histories::History;
@@ -44,7 +45,7 @@ impl Notices {
         inlet: &mut Inlet,
         j: u8,
     ) -> Result<(), TakeFault>
-        ensures brought { OnOk result (inlet.new ≡ inlet.old ++ Took (Gone j) ∷ []) }
+        ensures brought { OnOk result (inlet.new ≡ with_event inlet.old (Took (Gone j))) }
         ensures told { OnOk result (self.new ≡ self.old ++ j ∷ []) }
         ensures refused { OnErr result (self.new ≡ self.old) }
     {

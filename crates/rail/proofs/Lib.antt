@@ -8,4 +8,5 @@ pub mod Turning
 pub mod Opening
 pub mod PortBits
 pub mod Refusing
+pub mod Staying
 pub mod Beginnings

@@ -2,6 +2,7 @@
 use Rattle.std.proofs.Common.{◌≡◌, ◌∙◌, ap, refl, ℕ, ◌+◌, zero, suc, List, [], ◌∷◌, ◌++◌, length, true, arith}
 use Rattle.std.specs.Coded.{codes}
 use mathlib.Core.HLevel.{is_prop→PathP}
+use Rattle.atomic_table.specs.Seated.{TableId}
 use Rattle.logbook.specs.Pages.{book_coded}
 use Rattle.versions.specs.Stores.{coded_items}
 use Rattle.node.specs.Nodes.{NodeState, is_idle}
@@ -10,6 +11,7 @@ use Rattle.node.proofs.PortLaws.{idle-none_open}
 use Rattle.faces.specs.Courses.{Origin}
 use Rattle.faces.specs.Readers.{yet_to_look}
 use Rattle.rail.specs.declared.stands.Stand.{Stand}
+use Rattle.rail.specs.Inlets.{InletState, inlet_at, inlets_from}
 use Rattle.rail.specs.Letters.{PostState, post_at}
 use Rattle.rail.specs.Seats.{SeatState}
 use Rattle.rail.specs.Turns.{ArePosts}
@@ -22,20 +24,32 @@ posts_more o k (suc n) m is =
     ap (posts_from o k) e ∙ ap (λ (ps : List PostState). post_at o k ∷ ps)
     (posts_more o (k + 1) n m (omega (arith, is)))
 
-pub stands_more : (o : Origin) (k n m : ℕ)
+pub stands_more : (o : Origin) (b : TableId) (k n m : ℕ)
     → m ≡ k + n
-    → stands_from o k (n + 1) ≡ stands_from o k n ++ stand_at o m ∷ []
-stands_more o k zero m is = ap (λ (j : ℕ). stand_at o j ∷ []) (let e : k ≡ m = omega (arith, is) in e)
-stands_more o k (suc n) m is =
+    → stands_from o b k (n + 1) ≡ stands_from o b k n ++ stand_at o b m ∷ []
+stands_more o b k zero m is = ap (λ (j : ℕ). stand_at o b j ∷ []) (let e : k ≡ m = omega (arith, is) in e)
+stands_more o b k (suc n) m is =
     let e : suc n + 1 ≡ suc (n + 1) = omega arith in
-    ap (stands_from o k) e ∙ ap (λ (ps : List Stand). stand_at o k ∷ ps) (stands_more o (k + 1) n m (omega (arith, is)))
+    ap (stands_from o b k) e ∙ ap (λ (ps : List Stand). stand_at o b k ∷ ps)
+    (stands_more o b (k + 1) n m (omega (arith, is)))
 
-pub seats_more : (o : Origin) (k n m : ℕ) → m ≡ k + n → seats_from o k (n + 1) ≡ seats_from o k n ++ seat_at o m ∷ []
-seats_more o k zero m is = ap (λ (j : ℕ). seat_at o j ∷ []) (let e : k ≡ m = omega (arith, is) in e)
-seats_more o k (suc n) m is =
+pub seats_more : (o : Origin) (b : TableId) (k n m : ℕ)
+    → m ≡ k + n
+    → seats_from o b k (n + 1) ≡ seats_from o b k n ++ seat_at o b m ∷ []
+seats_more o b k zero m is = ap (λ (j : ℕ). seat_at o b j ∷ []) (let e : k ≡ m = omega (arith, is) in e)
+seats_more o b k (suc n) m is =
     let e : suc n + 1 ≡ suc (n + 1) = omega arith in
-    ap (seats_from o k) e ∙ ap (λ (ss : List SeatState). seat_at o k ∷ ss)
-    (seats_more o (k + 1) n m (omega (arith, is)))
+    ap (seats_from o b k) e ∙ ap (λ (ss : List SeatState). seat_at o b k ∷ ss)
+    (seats_more o b (k + 1) n m (omega (arith, is)))
+
+pub inlets_more : (b : TableId) (k n m : ℕ)
+    → m ≡ k + n
+    → inlets_from b k (n + 1) ≡ inlets_from b k n ++ inlet_at b m ∷ []
+inlets_more b k zero m is = ap (λ (j : ℕ). inlet_at b j ∷ []) (let e : k ≡ m = omega (arith, is) in e)
+inlets_more b k (suc n) m is =
+    let e : suc n + 1 ≡ suc (n + 1) = omega arith in
+    ap (inlets_from b k) e ∙ ap (λ (xs : List InletState). inlet_at b k ∷ xs)
+    (inlets_more b (k + 1) n m (omega (arith, is)))
 
 -- the posts of the first n ports and of one more
 pub posts_next : (o : Origin) (k n m : ℕ)
@@ -58,11 +72,11 @@ pub idle_below : (n : NodeState) (ports : ℕ) → is_idle n ≡ true → AreOpe
 idle_below n ports idle = λ port reads above. idle-none_open n port reads idle
 
 -- a reader that hasn't looked and a seat before any call make that stand
-pub is_stand_at : (o : Origin) (k : ℕ) (s : Stand)
+pub is_stand_at : (o : Origin) (b : TableId) (k : ℕ) (s : Stand)
     → s.reader ≡ yet_to_look (course_at o)
-    → s.seat ≡ seat_at o k
-    → s ≡ stand_at o k
-is_stand_at o k s reader seat = λ i. record {
+    → s.seat ≡ seat_at o b k
+    → s ≡ stand_at o b k
+is_stand_at o b k s reader seat = λ i. record {
   reader = reader i;
   seat = seat i;
   together = is_prop→PathP (λ j. (seat j).origin ≡ (reader j).seen.origin)

@@ -1,5 +1,6 @@
 pub mod Events
 pub mod Inbox
+pub mod Inlets
 pub mod Letters
 pub mod Links
 pub mod Mails

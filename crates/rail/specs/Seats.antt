@@ -1,5 +1,6 @@
 -- Seats.
 use Rattle.std.specs.Prelude.{ℕ, List, [], ◌∷◌, ◌++◌}
+use Rattle.atomic_table.specs.Seated.{TableId}
 use Rattle.faces.specs.Courses.{Origin, Course}
 use Rattle.rail.specs.declared.events.Event.{Event}
 use Rattle.rail.specs.declared.events.Event.TheVariants.{Took}
@@ -10,16 +11,26 @@ use Rattle.node.specs.declared.messages.Input.TheVariants.{Call as Called}
 use Rattle.table.specs.declared.operations.Call.{Call}
 use Rattle.table.specs.declared.operations.Reply.{Reply}
 
--- a seat: its server, its port there, what it sent, and the replies that it took
+-- a seat: its server, the inbox to which it sends and its number among the senders there (`InletState`), its port, what
+-- it sent, and the replies that it took
 pub record SeatState : Type 0 where
   pub origin : Origin
+  pub inbox : TableId
+  pub number : ℕ
   pub port : ℕ
   pub sent : List Event
   pub got : List Letter
 
--- what a seat shows of the passes of its replies and of its calls
-abbrev pub seat_of : Stamp → Ticket → SeatState
-seat_of replies calls = record { origin = replies.origin; port = replies.port; sent = calls.put; got = replies.list }
+-- what a seat shows of its inbox, and of the passes of its replies and of its calls
+abbrev pub seat_of : TableId → Stamp → Ticket → SeatState
+seat_of inbox replies calls = record {
+  origin = replies.origin;
+  inbox = inbox;
+  number = calls.from;
+  port = replies.port;
+  sent = calls.put;
+  got = replies.list;
+}
 
 -- a seat that sent one call more
 abbrev pub with_call : SeatState → Call → SeatState

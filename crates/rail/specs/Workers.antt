@@ -2,6 +2,7 @@
 use Rattle.std.specs.Prelude.{◌≡◌, ◌≢◌, ◌⊎◌, ℕ, Bool, true, false, List, [], ◌∷◌, ◌++◌, length, Option, None, Some}
 use Rattle.std.specs.declared.result.Result.{Result}
 use Rattle.std.specs.declared.result.Result.TheVariants.{Ok, Err}
+use Rattle.atomic_table.specs.Seated.{TableId}
 use Rattle.node.specs.declared.messages.Input.{Input}
 use Rattle.node.specs.Lawful.{IsLawful}
 use Rattle.node.specs.Replies.{AreOpenBelow, AreRepliesBelow}
@@ -17,8 +18,10 @@ use Rattle.rail.specs.Letters.{PostState}
 use Rattle.rail.specs.Links.{LinksState}
 use Rattle.rail.specs.Turns.{messages_of, outputs_after, HasPut, IsCut, ArePosts, AreClosed, HasReplied}
 
--- what it took, in order; what it has published, and whether it goes on; and what it put for each seat
+-- its inbox (`InletState`), and what it took there, in order; what it has published, and whether it goes on; and what
+-- it put for each seat
 pub record WorkerState : Type 0 where
+  pub inbox : TableId
   pub taken : List Message
   pub published : Course
   pub goes : Bool

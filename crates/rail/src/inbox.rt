@@ -140,6 +140,8 @@ impl Gate {
             (λ s. view s.pass ≡ sender (view self.old.pass).made ((view self.old.pass).ports + 1) []) }
         ensures made { IfOk result
             (λ _. view self.new.pass ≡ taker ((view self.old.pass).made + 1) ((view self.old.pass).ports + 1) []) }
+        ensures inbox { IfOk result (λ s. s.pass.table_id ≡ self.old.pass.table_id) }
+        ensures same { self.new.pass.table_id ≡ self.old.pass.table_id }
     {
         let to = self.to.try_clone()?;
         let from = self.made;
@@ -154,6 +156,8 @@ impl Gate {
         ensures slot { IfOk result (λ s. view s.pass ≡ sender (view self.old.pass).made 0 []) }
         ensures made { IfOk result
             (λ _. view self.new.pass ≡ taker ((view self.old.pass).made + 1) (view self.old.pass).ports []) }
+        ensures inbox { IfOk result (λ s. s.pass.table_id ≡ self.old.pass.table_id) }
+        ensures same { self.new.pass.table_id ≡ self.old.pass.table_id }
     {
         let to = self.to.try_clone()?;
         let from = self.made;
@@ -164,7 +168,8 @@ impl Gate {
 
     /// The receiver. No more senders are made.
     pub fn close(self) -> Inbox
-        ensures { view result.pass ≡ view self.pass }
+        ensures pass { view result.pass ≡ view self.pass }
+        ensures inbox { result.pass.table_id ≡ self.pass.table_id }
     {
         let Gate { inbox, pass, .. } = self;
         Inbox { inbox, pass }
@@ -177,6 +182,8 @@ impl Slot {
         requires { IsBelow (view self.old.pass).ports event }
         ensures sent { HasSent (view self.old.pass) (view self.new.pass) event result }
         ensures ports { (view self.new.pass).ports ≡ (view self.old.pass).ports }
+        ensures number { (view self.new.pass).from ≡ (view self.old.pass).from }
+        ensures inbox { self.new.pass.table_id ≡ self.old.pass.table_id }
     {
         let message = Message {
             from: self.from,
@@ -194,6 +201,7 @@ impl Inbox {
     /// find none although one stands there. Refused with Closed if every sender is gone.
     pub fn try_take<R: Wait>(&mut self, rt: &R) -> Result<Option<Message>, RailFault>
         ensures taken { IsTry HasGot (view self.old.pass) (view self.new.pass) result }
+        ensures inbox { self.new.pass.table_id ≡ self.old.pass.table_id }
         ensures fault { IfErr result (λ fault. fault ≡ RailFault.Closed) }
     {
         match self.inbox.try_recv_as::<Takes, R>(rt, &mut self.pass) {
@@ -207,6 +215,7 @@ impl Inbox {
     /// Refused with Closed if every sender is gone.
     pub fn take<R: Wait>(&mut self, rt: &R) -> Result<Message, RailFault>
         ensures taken { IsTake HasGot (view self.old.pass) (view self.new.pass) result }
+        ensures inbox { self.new.pass.table_id ≡ self.old.pass.table_id }
         ensures fault { IfErr result (λ fault. fault ≡ RailFault.Closed) }
     {
         for _ in 0..TRIES {

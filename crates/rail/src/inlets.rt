@@ -1,9 +1,10 @@
 //! Inlets, by which a worker is brought other servers' messages, and told of failures.
-ghost use Rattle.std.specs.Prelude.{◌≡◌, ◌++◌, ◌∷◌, [], OnOk, OnErr, IfErr};
+ghost use Rattle.std.specs.Prelude.{◌≡◌, OnOk, OnErr, IfErr};
 ghost use Rattle.crossbeam_channel.specs.Claims.{view};
 ghost use Rattle.node.specs.Lawful.{IsBody};
 ghost use Rattle.node.specs.declared.messages.Input.TheVariants.{From, Gone};
 ghost use Rattle.rail.specs.Events.{IsBelow};
+ghost use Rattle.rail.specs.Inlets.{inlet_of, with_event};
 ghost use Rattle.rail.specs.declared.events.Event.TheVariants.{Took, Stop, End};
 
 use crate::RailFault;
@@ -13,20 +14,25 @@ use node::{Input, Peer};
 use std::marker::Model;
 use std::sync::Wait;
 
-/// One who brings a server messages and notices. Contracts see what it sent.
+/// One who brings a server messages and notices. Contracts see to which inbox it leads, its number among the senders
+/// there, and what it sent (`InletState`).
 #[derive(Drop)]
 pub struct Inlet {
     slot: Slot,
 }
 
 impl Model for Inlet {
-    ghost use Rattle.std.specs.Prelude.{List, ◌≡◌};
+    ghost use Rattle.std.specs.Prelude.{◌≡◌};
+    ghost use Rattle.std.specs.Coded.{codes};
+    ghost use Rattle.atomic_table.specs.Seated.{table_id_coded};
     ghost use Rattle.crossbeam_channel.specs.Claims as claims;
-    ghost use Rattle.rail.specs.declared.events.Event.{Event};
+    ghost use Rattle.rail.specs.Inlets.{InletState, inlet_of};
 
-    ghost Value = { List Event };
+    ghost Value = { InletState };
 
-    ghost view = { λ i. (claims.view i.slot.pass).put };
+    ghost coded = { Prim.hlevel (codes, table_id_coded) };
+
+    ghost view = { λ i. inlet_of i.slot.pass.table_id (claims.view i.slot.pass) };
 
     ghost invariant = { λ i. (claims.view i.slot.pass).ports ≡ 0 };
 }
@@ -34,7 +40,7 @@ impl Model for Inlet {
 impl Inlet {
     pub(crate) fn new(slot: Slot) -> Inlet
         requires { (view slot.pass).ports ≡ 0 }
-        ensures { result ≡ (view slot.pass).put }
+        ensures { result ≡ inlet_of slot.pass.table_id (view slot.pass) }
     {
         Inlet { slot }
     }
@@ -42,7 +48,7 @@ impl Inlet {
     /// Brings a message from server `i`. Refused with Closed if the worker is gone. It may wait, as may the others.
     pub fn bring<R: Wait>(&mut self, rt: &R, i: u8, peer: Peer) -> Result<(), RailFault>
         requires { IsBody peer.body }
-        ensures ok { OnOk result (self.new ≡ self.old ++ Took (From i peer) ∷ []) }
+        ensures ok { OnOk result (self.new ≡ with_event self.old (Took (From i peer))) }
         ensures err { OnErr result (self.new ≡ self.old) }
         ensures fault { IfErr result (λ fault. fault ≡ RailFault.Closed) }
     {
@@ -51,7 +57,7 @@ impl Inlet {
 
     /// Brings the notice that server `j` has failed. Refused with Closed if the worker is gone.
     pub fn gone<R: Wait>(&mut self, rt: &R, j: u8) -> Result<(), RailFault>
-        ensures ok { OnOk result (self.new ≡ self.old ++ Took (Gone j) ∷ []) }
+        ensures ok { OnOk result (self.new ≡ with_event self.old (Took (Gone j))) }
         ensures err { OnErr result (self.new ≡ self.old) }
         ensures fault { IfErr result (λ fault. fault ≡ RailFault.Closed) }
     {
@@ -61,7 +67,7 @@ impl Inlet {
     /// Fails the server: from then on its worker puts out nothing, and each seat that waits there gets Closed. Refused
     /// with Closed if the worker is gone.
     pub fn stop<R: Wait>(&mut self, rt: &R) -> Result<(), RailFault>
-        ensures ok { OnOk result (self.new ≡ self.old ++ Stop ∷ []) }
+        ensures ok { OnOk result (self.new ≡ with_event self.old Stop) }
         ensures err { OnErr result (self.new ≡ self.old) }
         ensures fault { IfErr result (λ fault. fault ≡ RailFault.Closed) }
     {
@@ -70,7 +76,7 @@ impl Inlet {
 
     /// Ends the worker's loop. Refused with Closed if the worker is gone.
     pub fn end<R: Wait>(&mut self, rt: &R) -> Result<(), RailFault>
-        ensures ok { OnOk result (self.new ≡ self.old ++ End ∷ []) }
+        ensures ok { OnOk result (self.new ≡ with_event self.old End) }
         ensures err { OnErr result (self.new ≡ self.old) }
         ensures fault { IfErr result (λ fault. fault ≡ RailFault.Closed) }
     {
@@ -79,7 +85,7 @@ impl Inlet {
 
     fn send<R: Wait>(&mut self, rt: &R, event: Event) -> Result<(), RailFault>
         requires { IsBelow 0 event }
-        ensures ok { OnOk result (self.new ≡ self.old ++ event ∷ []) }
+        ensures ok { OnOk result (self.new ≡ with_event self.old event) }
         ensures err { OnErr result (self.new ≡ self.old) }
         ensures fault { IfErr result (λ fault. fault ≡ RailFault.Closed) }
     {

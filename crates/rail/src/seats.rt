@@ -16,8 +16,8 @@ use std::marker::Model;
 use std::sync::Wait;
 use table::{Call, Reply};
 
-/// A seat at a server: it submits calls, and takes their replies. Contracts see whose seat it is, what it sent, and the
-/// replies that it took (`SeatState`).
+/// A seat at a server: it submits calls, and takes their replies. Contracts see whose seat it is, to which inbox it
+/// sends and as which number, what it sent, and the replies that it took (`SeatState`).
 #[derive(Drop)]
 pub struct Seat {
     port: usize,
@@ -28,6 +28,7 @@ pub struct Seat {
 impl Model for Seat {
     ghost use Rattle.std.specs.Prelude.{◌≡◌, ◌<◌};
     ghost use Rattle.std.specs.Coded.{codes};
+    ghost use Rattle.atomic_table.specs.Seated.{table_id_coded};
     ghost use Rattle.logbook.specs.Pages.{book_coded};
     ghost use Rattle.versions.specs.Stores.{coded_items};
     ghost use Rattle.crossbeam_channel.specs.Claims as claims;
@@ -35,9 +36,9 @@ impl Model for Seat {
 
     ghost Value = { SeatState };
 
-    ghost coded = { Prim.hlevel (codes, coded_items, book_coded) };
+    ghost coded = { Prim.hlevel (codes, coded_items, book_coded, table_id_coded) };
 
-    ghost view = { λ s. seat_of (claims.view s.letters.pass) (claims.view s.slot.pass) };
+    ghost view = { λ s. seat_of s.slot.pass.table_id (claims.view s.letters.pass) (claims.view s.slot.pass) };
 
     ghost invariant = { λ s. (s.port ≡ (claims.view s.letters.pass).port)
         × (s.port < (claims.view s.slot.pass).ports) };
@@ -47,7 +48,8 @@ impl Seat {
     pub(crate) fn new(port: usize, slot: Slot, letters: Letters) -> Seat
         requires letters { port ≡ (view letters.pass).port }
         requires slot { port < (view slot.pass).ports }
-        ensures { result ≡ record (seat_of (view letters.pass) (view slot.pass)) { port = port } }
+        ensures { result ≡
+            record (seat_of slot.pass.table_id (view letters.pass) (view slot.pass)) { port = port } }
     {
         Seat {
             port,

@@ -1,10 +1,11 @@
 //! A running server: its worker, and those who sit beside it.
-ghost use Rattle.std.specs.Prelude.{◌≡◌, ◌⊎◌, ◌<◌, ◌≤◌, ◌+◌, [], true, false, replicate, IfOk, IfErr, MatchResult};
+ghost use Rattle.std.specs.Prelude.{◌≡◌, ◌⊎◌, ◌<◌, ◌≤◌, ◌+◌, ◌^◌, [], true, false, IfOk, IfErr, OnOk, MatchResult};
 ghost use Rattle.crossbeam_channel.specs.Claims.{view};
 ghost use Rattle.faces.specs.Readers.{yet_to_look};
 ghost use Rattle.node.specs.Nodes.{is_idle};
 ghost use Rattle.node.specs.Lawful.{IsLawful};
 ghost use Rattle.rail.specs.Inbox.{taker};
+ghost use Rattle.rail.specs.Inlets.{inlet_at, inlets_from};
 ghost use Rattle.rail.specs.Letters.{post_at};
 ghost use Rattle.rail.specs.Servers.{IsOpened, course_at, posts_from, seat_at, seats_from, stand_at, stands_from};
 
@@ -99,10 +100,13 @@ fn beside(
     ensures publisher { publisher.new ≡ publisher.old }
     ensures gate { IfOk result
         (λ _. ((view gate.new.pass).ports ≡ readers + more) × ((view gate.new.pass).got ≡ [])) }
-    ensures stands { IfOk result (λ r. r.0.items ≡ stands_from publisher.old.published.origin 0 readers) }
-    ensures seats { IfOk result (λ r. r.1.items ≡ seats_from publisher.old.published.origin readers more) }
+    ensures inbox { OnOk result (gate.new.pass.table_id ≡ gate.old.pass.table_id) }
+    ensures stands { IfOk result
+        (λ r. r.0.items ≡ stands_from publisher.old.published.origin gate.old.pass.table_id 0 readers) }
+    ensures seats { IfOk result
+        (λ r. r.1.items ≡ seats_from publisher.old.published.origin gate.old.pass.table_id readers more) }
     ensures posts { IfOk result (λ r. r.2.items ≡ posts_from publisher.old.published.origin 0 (readers + more)) }
-    ensures inlets { IfOk result (λ r. r.3.items ≡ replicate inlets []) }
+    ensures inlets { IfOk result (λ r. r.3.items ≡ inlets_from gate.old.pass.table_id (readers + more) inlets) }
     ensures fault { IfErr result (λ fault. (fault ≡ RailFault.Memory) ⊎ (fault ≡ RailFault.NoReader)) }
 {
     let (stands, mut posts) = all_stands(alloc, publisher, gate, readers)?;
@@ -130,7 +134,9 @@ fn all_stands(
     requires first { publisher.old.published.inputs ≡ [] }
     ensures publisher { publisher.new ≡ publisher.old }
     ensures gate { IfOk result (λ _. view gate.new.pass ≡ taker readers readers []) }
-    ensures stands { IfOk result (λ r. r.0.items ≡ stands_from publisher.old.published.origin 0 readers) }
+    ensures inbox { OnOk result (gate.new.pass.table_id ≡ gate.old.pass.table_id) }
+    ensures stands { IfOk result
+        (λ r. r.0.items ≡ stands_from publisher.old.published.origin gate.old.pass.table_id 0 readers) }
     ensures posts { IfOk result (λ r. r.1.items ≡ posts_from publisher.old.published.origin 0 readers) }
     ensures fault { IfErr result (λ fault. (fault ≡ RailFault.Memory) ⊎ (fault ≡ RailFault.NoReader)) }
 {
@@ -156,7 +162,8 @@ fn one_stand(
     requires first { publisher.old.published.inputs ≡ [] }
     ensures publisher { publisher.new ≡ publisher.old }
     ensures gate { IfOk result (λ _. view gate.new.pass ≡ taker (port + 1) (port + 1) []) }
-    ensures stand { IfOk result (λ r. r.0 ≡ stand_at publisher.old.published.origin port) }
+    ensures inbox { OnOk result (gate.new.pass.table_id ≡ gate.old.pass.table_id) }
+    ensures stand { IfOk result (λ r. r.0 ≡ stand_at publisher.old.published.origin gate.old.pass.table_id port) }
     ensures post { IfOk result (λ r. r.1 ≡ post_at publisher.old.published.origin port) }
     ensures fault { IfErr result (λ fault. (fault ≡ RailFault.Memory) ⊎ (fault ≡ RailFault.NoReader)) }
 {
@@ -190,7 +197,8 @@ fn stand_of(
     requires reader { reader ≡ yet_to_look published.now }
     requires first { published.now.inputs ≡ [] }
     ensures gate { IfOk result (λ _. view gate.new.pass ≡ taker (port + 1) (port + 1) []) }
-    ensures stand { IfOk result (λ r. r.0 ≡ stand_at published.now.origin port) }
+    ensures inbox { OnOk result (gate.new.pass.table_id ≡ gate.old.pass.table_id) }
+    ensures stand { IfOk result (λ r. r.0 ≡ stand_at published.now.origin gate.old.pass.table_id port) }
     ensures post { IfOk result (λ r. r.1 ≡ post_at published.now.origin port) }
 {
     let (seat, post) = one_seat(alloc, published, gate, port)?;
@@ -207,7 +215,8 @@ fn one_seat(
     requires gate { view gate.old.pass ≡ taker port port [] }
     requires few { port < 16 }
     ensures gate { IfOk result (λ _. view gate.new.pass ≡ taker (port + 1) (port + 1) []) }
-    ensures seat { IfOk result (λ r. r.0 ≡ seat_at published.now.origin port) }
+    ensures inbox { OnOk result (gate.new.pass.table_id ≡ gate.old.pass.table_id) }
+    ensures seat { IfOk result (λ r. r.0 ≡ seat_at published.now.origin gate.old.pass.table_id port) }
     ensures post { IfOk result (λ r. r.1 ≡ post_at published.now.origin port) }
 {
     let (post, letters) = open_queue(alloc, REPLIES, published, port)?;
@@ -228,7 +237,9 @@ fn more_seats(
     requires few { first + count ≤ 16 }
     requires posts { posts.old.items ≡ posts_from published.now.origin 0 first }
     ensures gate { IfOk result (λ _. view gate.new.pass ≡ taker (first + count) (first + count) []) }
-    ensures seats { IfOk result (λ seats. seats.items ≡ seats_from published.now.origin first count) }
+    ensures inbox { OnOk result (gate.new.pass.table_id ≡ gate.old.pass.table_id) }
+    ensures seats { IfOk result
+        (λ seats. seats.items ≡ seats_from published.now.origin gate.old.pass.table_id first count) }
     ensures posts { IfOk result (λ _. posts.new.items ≡ posts_from published.now.origin 0 (first + count)) }
 {
     let mut seats = Vec::new(alloc);
@@ -240,17 +251,32 @@ fn more_seats(
     Ok(seats)
 }
 
-// Inlets, as many as asked for.
+// Inlets, as many as asked for, numbered after the senders so far.
 fn all_inlets(alloc: Global, gate: &mut Gate, count: usize) -> Result<Vec<Inlet>, AllocError>
     requires few { ((view gate.old.pass).made ≤ 16) × (count ≤ 16) }
     requires gate { view gate.old.pass ≡ taker (view gate.old.pass).made (view gate.old.pass).ports [] }
     ensures gate { IfOk result
         (λ _. ((view gate.new.pass).ports ≡ (view gate.old.pass).ports) × ((view gate.new.pass).got ≡ [])) }
-    ensures inlets { IfOk result (λ inlets. inlets.items ≡ replicate count []) }
+    ensures inbox { OnOk result (gate.new.pass.table_id ≡ gate.old.pass.table_id) }
+    ensures inlets { IfOk result
+        (λ inlets. inlets.items ≡ inlets_from gate.old.pass.table_id (view gate.old.pass).made count) }
 {
     let mut inlets = Vec::new(alloc);
     for _ in 0..count {
-        inlets.push(Inlet::new(gate.inlet()?))?;
+        let inlet = one_inlet(gate)?;
+        inlets.push(inlet)?;
     }
     Ok(inlets)
+}
+
+// One more inlet.
+fn one_inlet(gate: &mut Gate) -> Result<Inlet, AllocError>
+    requires { (view gate.old.pass).made < 2 ^ 63 }
+    ensures gate { IfOk result (λ _. view gate.new.pass ≡
+        taker ((view gate.old.pass).made + 1) (view gate.old.pass).ports []) }
+    ensures inbox { OnOk result (gate.new.pass.table_id ≡ gate.old.pass.table_id) }
+    ensures inlet { IfOk result (λ inlet. inlet ≡ inlet_at gate.old.pass.table_id (view gate.old.pass).made) }
+{
+    let slot = gate.inlet()?;
+    Ok(Inlet::new(slot))
 }

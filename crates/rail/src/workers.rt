@@ -33,8 +33,8 @@ pub enum Turn {
     End,
 }
 
-/// The one that owns a server's node. Contracts see what it took, what it has published, whether it goes on, and what
-/// it put for each seat (`WorkerState`).
+/// The one that owns a server's node. Contracts see its inbox, what it took, what it has published, whether it goes on,
+/// and what it put for each seat (`WorkerState`).
 pub struct Worker<R: Wait + Drop> {
     rt: R,
     inbox: Inbox,
@@ -50,6 +50,7 @@ pub struct Worker<R: Wait + Drop> {
 impl<R: Wait + Drop> Model for Worker<R> {
     ghost use Rattle.std.specs.Prelude.{is_some};
     ghost use Rattle.std.specs.Coded.{codes};
+    ghost use Rattle.atomic_table.specs.Seated.{table_id_coded};
     ghost use Rattle.logbook.specs.Pages.{book_coded};
     ghost use Rattle.table.specs.Items.{coded_item};
     ghost use Rattle.versions.specs.Stores.{coded_items};
@@ -58,9 +59,10 @@ impl<R: Wait + Drop> Model for Worker<R> {
 
     ghost Value = { WorkerState };
 
-    ghost coded = { Prim.hlevel (codes, coded_item, coded_items, book_coded) };
+    ghost coded = { Prim.hlevel (codes, coded_item, coded_items, book_coded, table_id_coded) };
 
     ghost view = { λ w. record {
+      inbox = w.inbox.pass.table_id;
       taken = (claims.view w.inbox.pass).got;
       published = w.told;
       goes = is_some w.publisher;
@@ -96,6 +98,7 @@ impl<R: Wait + Drop> Worker<R> {
         requires lawful { IsLawful (server_after publisher.published) }
         requires open { AreOpenBelow (length posts.items) (server_after publisher.published) }
         ensures { result ≡ record {
+          inbox = inbox.pass.table_id;
           taken = [];
           published = publisher.published;
           goes = true;
@@ -141,6 +144,9 @@ impl<R: Wait + Drop> Worker<R> {
     /// server.
     pub fn turn<L: Links>(&mut self, links: &mut L) -> Result<Turn, RailFault>
         ensures turn { IsTurn self.old self.new (L.state links.old) (L.state links.new) result }
+        // It stays the worker of its server, and takes from one inbox.
+        ensures server { self.new.published.origin ≡ self.old.published.origin }
+        ensures inbox { self.new.inbox ≡ self.old.inbox }
         // What was put is what the wires were given.
         ensures carried { HaveCarried (L.state links.old) (L.state links.new) }
         ensures fault { IfErr result (λ fault. (fault ≡ RailFault.Memory) ⊎ (fault ≡ RailFault.Closed)) }
@@ -155,6 +161,9 @@ impl<R: Wait + Drop> Worker<R> {
     /// one stands there, while another thread is sending.
     pub fn turn_if_any<L: Links>(&mut self, links: &mut L) -> Result<Option<Turn>, RailFault>
         ensures turn { MayBeTurn self.old self.new (L.state links.old) (L.state links.new) result }
+        // It stays the worker of its server, and takes from one inbox.
+        ensures server { self.new.published.origin ≡ self.old.published.origin }
+        ensures inbox { self.new.inbox ≡ self.old.inbox }
         // What was put is what the wires were given.
         ensures carried { HaveCarried (L.state links.old) (L.state links.new) }
         ensures fault { IfErr result (λ fault. (fault ≡ RailFault.Memory) ⊎ (fault ≡ RailFault.Closed)) }
@@ -168,6 +177,7 @@ impl<R: Wait + Drop> Worker<R> {
     #[tactic(auto, using(crate::proofs::Carrying::carried_none))]
     fn take_turn<L: Links>(&mut self, links: &mut L) -> Result<Turn, RailFault>
         ensures turn { IsTurn self.old self.new (L.state links.old) (L.state links.new) result }
+        ensures inbox { self.new.inbox ≡ self.old.inbox }
         ensures carried { HaveCarried (L.state links.old) (L.state links.new) }
     {
         match self.inbox.take(&self.rt) {
@@ -182,6 +192,7 @@ impl<R: Wait + Drop> Worker<R> {
     #[tactic(auto, using(crate::proofs::Carrying::carried_none))]
     fn take_turn_if_any<L: Links>(&mut self, links: &mut L) -> Result<Option<Turn>, RailFault>
         ensures turn { MayBeTurn self.old self.new (L.state links.old) (L.state links.new) result }
+        ensures inbox { self.new.inbox ≡ self.old.inbox }
         ensures carried { HaveCarried (L.state links.old) (L.state links.new) }
     {
         match self.inbox.try_take(&self.rt) {
@@ -202,6 +213,7 @@ impl<R: Wait + Drop> Worker<R> {
     fn act<L: Links>(&mut self, message: Message, links: &mut L) -> Result<Turn, RailFault>
         requires port { IsBelow (length self.old.posts) message.event }
         ensures taken { self.new.taken ≡ self.old.taken }
+        ensures inbox { self.new.inbox ≡ self.old.inbox }
         ensures did { Did self.old self.new (L.state links.old) (L.state links.new) message result }
         ensures carried { HaveCarried (L.state links.old) (L.state links.new) }
     {
@@ -220,6 +232,7 @@ impl<R: Wait + Drop> Worker<R> {
     fn advance<L: Links>(&mut self, input: FitInput, links: &mut L) -> Result<Turn, RailFault>
         requires port { AreCallsBelow (length self.old.posts) (input ∷ []) }
         ensures taken { self.new.taken ≡ self.old.taken }
+        ensures inbox { self.new.inbox ≡ self.old.inbox }
         ensures did { Advanced self.old self.new (L.state links.old) (L.state links.new) input result }
         ensures carried { HaveCarried (L.state links.old) (L.state links.new) }
     {
@@ -250,6 +263,7 @@ impl<R: Wait + Drop> Worker<R> {
     // The server is stopped from now on.
     fn stop(&mut self)
         ensures taken { self.new.taken ≡ self.old.taken }
+        ensures inbox { self.new.inbox ≡ self.old.inbox }
         ensures stopped { IsStopped self.old self.new }
     {
         if let Some(publisher) = self.publisher.take() {

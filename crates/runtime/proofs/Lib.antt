@@ -2,4 +2,6 @@
 pub mod Dealt
 pub mod Leased
 pub mod Sent
+pub mod Standing
+pub mod Turning
 pub mod Wired

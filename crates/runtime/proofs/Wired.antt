@@ -1,15 +1,31 @@
 -- Which parts of a process belong to which server.
-use Rattle.std.proofs.Common.{◌≡◌, ◌≢◌, ℕ, zero, suc, ◌+◌, ◌<◌, List, [], ◌∷◌, ◌++◌, None, length}
+use Rattle.std.proofs.Common.{◌≡◌, ◌≢◌, ℕ, zero, suc, ◌+◌, ◌<◌, List, [], ◌∷◌, ◌++◌, All, None, length}
 use Rattle.std.proofs.Common.{slice_index_or, slice_set, refl, ap, sym, ◌∙◌, subst, append_assoc, append-nil, arith}
-use Rattle.rail.specs.declared.events.Event.{Event}
+use Rattle.std.proofs.lemmas.List.Elements.{All-nil, All-push, All-same}
+use Rattle.rail.specs.Inlets.{InletState}
 use Rattle.seats.specs.declared.in_process_links.Link.{Link}
 use Rattle.seats.specs.declared.in_process_links.InProcessLinks.{InProcessLinks}
 use Rattle.runtime.specs.declared.sides.Opened.{Opened}
 use Rattle.runtime.specs.declared.sides.Side.{Side}
-use Rattle.runtime.specs.Wiring.{AreDealt, AreSidesOf, IsDealt, IsSideOf, all_inlets_in, inlets_in, inlets_of}
-use Rattle.runtime.specs.Wiring.{list_at, listed}
+use Rattle.runtime.specs.Wiring.{AreDealt, AreSidesOf, IsDealt, IsSideOf, LeadsHome, all_inlets_in, inlets_in}
+use Rattle.runtime.specs.Wiring.{inlets_of, list_at, listed}
 use Rattle.runtime.specs.Wiring.{numbers, senders}
 use Rattle.runtime.proofs.Dealt.{all_dealt_more, all_dealt_none, dealt_more, dealt_none, map_at, map_pushed, map_set}
+
+-- no server yet
+pub home_none : {R : Type 0} (servers : List (Opened R)) → servers ≡ [] → All (λ (s : Opened R). LeadsHome s) servers
+home_none {R} servers none =
+    All-same (λ (s : Opened R). LeadsHome s) servers [] none (All-nil (λ (s : Opened R). LeadsHome s))
+
+-- one server more
+pub home_more : {R : Type 0} (before after : List (Opened R)) (server : Opened R)
+    → All (λ (s : Opened R). LeadsHome s) before
+    → LeadsHome server
+    → after ≡ before ++ server ∷ []
+    → All (λ (s : Opened R). LeadsHome s) after
+home_more {R} before after server all home pushed =
+    All-same (λ (s : Opened R). LeadsHome s) after (before ++ server ∷ []) pushed
+    (All-push (λ (s : Opened R). LeadsHome s) before server all home)
 
 -- no link yet
 pub links_none : {R : Type 0} (id : ℕ) (servers : List (Opened R)) (links : List Link) → links ≡ []
@@ -31,7 +47,7 @@ pub links_more : {R : Type 0} (id j : ℕ) (before now after : List (Opened R)) 
     → more ≡ links ++ link ∷ []
     → IsDealt id (inlets_of before) (inlets_of after) (inlets_in more)
 links_more {R} id j before now after links more server server' link dealt is within at took own whole put pushed =
-    let inlets : Opened R → List (List Event) = λ s. s.pooled.inlets.items in
+    let inlets : Opened R → List InletState = λ s. s.pooled.inlets.items in
     let as_many : j ≡ length (inlets_in links) = is ∙ sym (length_mapped links) in
     let here : list_at (inlets_of now) j ≡ server'.pooled.inlets.items ++ listed link.inlet =
     map_at inlets j now server within ∙ (ap inlets (sym at) ∙ took) in

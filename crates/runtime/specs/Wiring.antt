@@ -1,9 +1,18 @@
 -- Which parts of a process belong to which server.
 use Rattle.std.specs.Prelude.{◌≡◌, ◌≢◌, ℕ, zero, suc, ◌<◌, ◌≤◌, List, [], ◌∷◌, ◌++◌, Option, Some, None, length, map}
-use Rattle.rail.specs.declared.events.Event.{Event}
+use Rattle.std.specs.Prelude.{All}
+use Rattle.node.specs.Servers.{ServerState, opening}
+use Rattle.rail.specs.Inlets.{InletState, LeadTo}
+use Rattle.rail.specs.Workers.{WorkerState}
 use Rattle.links.specs.Waiting.{at_place}
+use Rattle.seats.specs.SeatPools.{Pooling}
+use Rattle.seats.specs.declared.gauges.Gauge.{Gauge}
+use Rattle.seats.specs.declared.marks.Mark.{Mark}
+use Rattle.io_threads.specs.Pools.{AreAllAt}
+use Rattle.io_threads.specs.declared.fronts.Gate.{Gate}
 use Rattle.seats.specs.declared.in_process_links.Link.{Link}
 use Rattle.seats.specs.declared.in_process_links.InProcessLinks.{InProcessLinks}
+use Rattle.runtime.specs.declared.homes.Home.{Home}
 use Rattle.runtime.specs.declared.sides.Opened.{Opened}
 use Rattle.runtime.specs.declared.sides.Side.{Side}
 
@@ -37,21 +46,59 @@ abbrev pub row : {A : Type 0} → ℕ → (ℕ → A) → List A
 row zero f = []
 row (suc n) f = f zero ∷ row n (λ j. f (suc j))
 
--- the inlets of each server that are left, as what they have sent
-abbrev pub inlets_of : {R : Type 0} → List (Opened R) → List (List (List Event))
+-- the inlets that a server has lead to its worker's inbox
+abbrev pub LeadsHome : {R : Type 0} → Opened R → Type 0
+LeadsHome server = LeadTo server.pooled.worker.inbox server.pooled.inlets.items
+
+-- the inlets of each server that are left
+abbrev pub inlets_of : {R : Type 0} → List (Opened R) → List (List InletState)
 inlets_of servers = map (λ server. server.pooled.inlets.items) servers
 
 -- the inlets of the links of one server, by the servers that they go to
-abbrev pub inlets_in : List Link → List (Option (List Event))
+abbrev pub inlets_in : List Link → List (Option InletState)
 inlets_in links = map (λ link. link.inlet) links
 
 -- the inlets of the links of each server
-abbrev pub all_inlets_in : {R : Type 0} → List (InProcessLinks R) → List (List (Option (List Event)))
+abbrev pub all_inlets_in : {R : Type 0} → List (InProcessLinks R) → List (List (Option InletState))
 all_inlets_in all = map (λ links. inlets_in links.links.items) all
 
 -- the servers whose links these are
 abbrev pub senders : {R : Type 0} → List (InProcessLinks R) → List ℕ
 senders all = map (λ links. links.id) all
+
+-- What a server has beside its inlets: its worker, the seats of each thread, its mark and its gauge.
+pub record Core : Type 0 where
+  pub worker : WorkerState
+  pub pools : List Pooling
+  pub failed : Mark
+  pub gauge : Gauge
+
+-- what this server has beside its inlets
+abbrev pub core_of : {R : Type 0} → Opened R → Core
+core_of server =
+    record {
+      worker = server.pooled.worker;
+      pools = server.pooled.pools.items;
+      failed = server.failed;
+      gauge = server.gauge;
+    }
+
+-- the same of each of these servers
+abbrev pub cores_of : {R : Type 0} → List (Opened R) → List Core
+cores_of servers = map (λ server. core_of server) servers
+
+-- how the server of each worker began
+abbrev pub starts_of : {R : Type 0} → List (Opened R) → List ServerState
+starts_of servers = map (λ core. core.worker.published.origin.start) (cores_of servers)
+
+-- servers 0, 1 and so on, this many, of a chain of `count`, before any input
+abbrev pub openings : ℕ → ℕ → List ServerState
+openings zero count = []
+openings (suc n) count = openings n count ++ opening n count ∷ []
+
+-- the seats of each thread are all of the worker's server
+abbrev pub HasOwnPools : Core → Type 0
+HasOwnPools core = AreAllAt core.worker.published.origin core.pools
 
 -- Server `id` took an inlet of each other server, the last one that was left, and none of its own. A server of which
 -- none was taken has none left.
@@ -88,10 +135,28 @@ pub record IsPlaced {A : Type 0} (id servers : ℕ) (inlets : List A) (place : �
 pub record IsSideOf {R : Type 0} (server : Opened R) (side : Side) : Type 0 where
   pub pools : side.pools.items ≡ server.pooled.pools.items
   pub mark : side.home.failed ≡ server.failed
-  pub inlet : (rest : List (List Event)) × (server.pooled.inlets.items ≡ rest ++ side.home.inlet ∷ [])
+  pub inlet : (rest : List InletState) × (server.pooled.inlets.items ≡ rest ++ side.home.inlet ∷ [])
 
 -- the same of each of these servers
 abbrev pub AreSidesOf : {R : Type 0} → List (Opened R) → List Side → Type 0
 AreSidesOf [] sides = sides ≡ []
 AreSidesOf (server ∷ servers) [] = ⊥
 AreSidesOf (server ∷ servers) (side ∷ sides) = IsSideOf server side × AreSidesOf servers sides
+
+-- The seats of each of these are of the server of its place, where the first one is server k.
+abbrev pub AreSeatedFrom : ℕ → List Side → Type 0
+AreSeatedFrom k [] = Unit {0}
+AreSeatedFrom k (side ∷ sides) =
+    All (λ pool. pool.seen.origin.start.id ≡ k) side.pools.items × AreSeatedFrom (suc k) sides
+
+-- what the program's own threads see of each server
+abbrev pub homes_of : List Side → List Home
+homes_of sides = map (λ side. side.home) sides
+
+-- the seats of each server, by threads
+abbrev pub pools_of : List Side → List (List Pooling)
+pools_of sides = map (λ side. side.pools.items) sides
+
+-- the seats behind each gate, by threads
+abbrev pub pools_in : List Gate → List (List Pooling)
+pools_in gates = map (λ gate. gate.pools.items) gates

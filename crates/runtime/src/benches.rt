@@ -1,16 +1,19 @@
 //! A worker with its links, and what there is to do at it.
-ghost use Rattle.runtime.specs.Findings.{Finds};
+ghost use Rattle.std.specs.Prelude.{◌≡◌};
 
 use crate::endings::Ended;
 use rail::{PortSet, RailFault, Turn, Weight, Worker};
 use seats::{InProcessLinks, ServerSet};
 use std::sync::Wait;
 
-/// One server's worker with its links.
+/// One server's worker with its links. The type keeps that both are those of the server with this id.
 #[derive(Drop)]
 pub(crate) struct Bench<R: Wait + Drop> {
+    id: u8,
     worker: Worker<R>,
     links: InProcessLinks<R>,
+    ghost own: { worker.published.origin.start.id ≡ id },
+    ghost sender: { links.id ≡ id },
 }
 
 /// What there was to do at a worker.
@@ -31,22 +34,28 @@ pub(crate) enum Found {
 }
 
 impl<R: Wait + Drop> Bench<R> {
-    /// A worker and its links.
-    pub(crate) fn new(worker: Worker<R>, links: InProcessLinks<R>) -> Bench<R> {
-        Bench { worker, links }
+    ghost use Rattle.std.specs.Prelude.{◌≡◌};
+    ghost use Rattle.runtime.specs.Findings.{Finds};
+
+    /// The worker of server `id`, and that server's links.
+    pub(crate) fn new(id: u8, worker: Worker<R>, links: InProcessLinks<R>) -> Bench<R>
+        requires worker { worker.published.origin.start.id ≡ id }
+        requires links { links.id ≡ id }
+    {
+        Bench { id, worker, links }
     }
 
-    /// Takes a turn of the worker, which is that of server `id`, if there is a message.
-    pub(crate) fn turn(&mut self, id: u8) -> Found
-        ensures { Finds id self.old.worker self.new.worker result }
+    /// Takes a turn of the worker, if there is a message. A note of its end is of its server.
+    pub(crate) fn turn(&mut self) -> Found
+        ensures { Finds self.old.id self.old.worker self.new.worker result }
     {
         match self.worker.turn_if_any(&mut self.links) {
             Ok(None) => Found::Nothing,
             Ok(Some(Turn::Went)) => Found::Message,
-            Ok(Some(Turn::Stopped)) => Found::Stopped(Ended::of(id, &self.worker)),
+            Ok(Some(Turn::Stopped)) => Found::Stopped(Ended::of(self.id, &self.worker)),
             Ok(Some(Turn::End)) => Found::End,
-            Err(RailFault::Closed) => Found::Closed(Ended::of(id, &self.worker)),
-            Err(_) => Found::Refused(Ended::of(id, &self.worker)),
+            Err(RailFault::Closed) => Found::Closed(Ended::of(self.id, &self.worker)),
+            Err(_) => Found::Refused(Ended::of(self.id, &self.worker)),
         }
     }
 

@@ -1,6 +1,9 @@
 //! A chain of servers in one process, which serves clients over TCP.
 
-ghost use Rattle.std.specs.Prelude.{◌≤◌};
+ghost use Rattle.std.specs.Prelude.{◌≡◌, ◌≤◌, vec_len, IfOk};
+ghost use Rattle.std.specs.Arc.{arc_value};
+ghost use Rattle.runtime.specs.Halls.{ids};
+ghost use Rattle.runtime.specs.Wiring.{AreSeatedFrom, homes_of, numbers, pools_in, pools_of};
 
 use crate::cluster_faults::ClusterFault;
 use crate::halls::Hall;
@@ -13,7 +16,7 @@ use io_threads::{Desks, Front, FrontSettings, Gate, open_desks, open_front};
 use masters::keep_alive;
 use mio::Poll;
 use node::{Master, SERVERS};
-use seats::{Allowance, Leash};
+use seats::{Allowance, Leash, Mark, SeatPool};
 use std::alloc::Global;
 use std::net::{Ipv4Addr, Net, TcpListener, TcpStream};
 use std::sync::{Arc, Wait};
@@ -114,7 +117,8 @@ impl<R: Wait + Copy + Drop + Send + 'static> Cluster<R> {
     }
 }
 
-// The servers of a chain with their links, and what the threads that will serve their clients wait at.
+// The servers of a chain with their links, and what the threads that will serve their clients wait at. In the hall each
+// worker stands at the place of its server's id, and at the same place are the seats of that server.
 fn open_chain<R: Wait + Copy + Drop + Net>(
     rt: R,
     alloc: Global,
@@ -123,6 +127,9 @@ fn open_chain<R: Wait + Copy + Drop + Net>(
     allowance: Allowance,
 ) -> Result<Chain<R>, ClusterFault>
     requires chain { (1 ≤ count) × (count ≤ 16) }
+    ensures hall { IfOk result (λ chain. ids (arc_value chain.hall) ≡ numbers count) }
+    ensures count { IfOk result (λ chain. vec_len chain.sides ≡ count) }
+    ensures sides { IfOk result (λ chain. AreSeatedFrom 0 chain.sides.items) }
 {
     let mut servers = all_servers(rt, alloc, count, shape, allowance)?;
     let links = all_links(rt, alloc, count, &mut servers)?;
@@ -137,12 +144,15 @@ fn open_chain<R: Wait + Copy + Drop + Net>(
     })
 }
 
-// What the program's own thread sees of each server, and where its clients come in.
+// What the program's own thread sees of each server, and where its clients come in, in the order of the servers.
 fn all_gates(
     alloc: Global,
     listeners: Vec<TcpListener>,
     sides: Vec<Side>,
-) -> Result<(Vec<Home>, Vec<Gate>), ClusterFault> {
+) -> Result<(Vec<Home>, Vec<Gate>), ClusterFault>
+    ensures homes { IfOk result (λ all. all.0.items ≡ homes_of sides.items) }
+    ensures pools { IfOk result (λ all. pools_in all.1.items ≡ pools_of sides.items) }
+{
     let mut homes = Vec::new(alloc);
     let mut gates = Vec::new(alloc);
     let mut listeners = listeners.into_iter();
@@ -153,14 +163,21 @@ fn all_gates(
         let Side { pools, home } = side;
         let mark = home.failed.share()?;
         homes.push(home)?;
-        gates.push(Gate {
-            listener,
-            pools,
-            mark,
-            leash: Leash::loose(),
-        })?;
+        gates.push(loose_gate(listener, pools, mark))?;
     }
     Ok((homes, gates))
+}
+
+// Where the clients of a server without a lease come in.
+fn loose_gate(listener: TcpListener, pools: Vec<SeatPool>, mark: Mark) -> Gate
+    ensures { result.pools.items ≡ pools.items }
+{
+    Gate {
+        listener,
+        pools,
+        mark,
+        leash: Leash::loose(),
+    }
 }
 
 // The listeners of all servers.

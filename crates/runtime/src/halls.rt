@@ -94,9 +94,9 @@ impl<R: Wait + Drop> Station<R> {
     // Takes a turn, if there is a message. If the server has ended, the note of that is put where others look. If
     // memory was refused, the alarm is rung too.
     fn turn(&self, bench: &mut Bench<R>, alarm: &Alarm) -> Found
-        ensures { Finds self.now.id bench.old.worker bench.new.worker result }
+        ensures { Finds bench.old.id bench.old.worker bench.new.worker result }
     {
-        let found = bench.turn(self.id);
+        let found = bench.turn();
         match found {
             Found::Nothing | Found::Message => {}
             Found::Stopped(ended) => self.ending.put(ended),
@@ -137,9 +137,9 @@ impl<R: Wait + Drop> Hall<R> {
         }
     }
 
-    /// Adds the worker of the next server, whose id this is, with its links. The note of its end is put there as soon
-    /// as the server is stopped, or out of memory, or nobody is left who could send it anything. After each turn the
-    /// gauge is told what the server holds.
+    /// Adds the worker of the next server, whose id this is, with that server's links. The note of its end is put there
+    /// as soon as the server is stopped, or out of memory, or nobody is left who could send it anything. After each
+    /// turn the gauge is told what the server holds.
     pub(crate) fn add(
         &mut self,
         id: u8,
@@ -148,11 +148,13 @@ impl<R: Wait + Drop> Hall<R> {
         ending: Ending,
         gauge: Gauge,
     ) -> Result<(), AllocError>
+        requires worker { worker.published.origin.start.id ≡ id }
+        requires links { links.id ≡ id }
         ensures { OnOk result (ids self.new ≡ ids self.old ++ id ∷ []) }
     {
         let station = Station {
             id,
-            bench: Mutex::new(Bench::new(worker, links)),
+            bench: Mutex::new(Bench::new(id, worker, links)),
             due: AtomicBool::new(false),
             ended: AtomicBool::new(false),
             ending,

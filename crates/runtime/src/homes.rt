@@ -1,7 +1,8 @@
 //! What the program's own threads know of the servers of a cluster.
-ghost use Rattle.std.specs.Prelude.{◌≡◌, ◌<◌, ◌≤◌, ◌++◌, ◌∷◌, [], ℕ, Ok, OnOk, OnErr};
+ghost use Rattle.std.specs.Prelude.{◌≡◌, ◌<◌, ◌≤◌, ℕ, Ok, OnOk, OnErr};
 ghost use Rattle.node.specs.Views.{single, union};
 ghost use Rattle.node.specs.declared.messages.Input.TheVariants.{Gone};
+ghost use Rattle.rail.specs.Inlets.{with_event};
 ghost use Rattle.rail.specs.declared.events.Event.TheVariants.{Took, Stop};
 
 use crate::endings::{Ended, EndedSet, Ending};
@@ -53,7 +54,7 @@ impl Home {
     // Has the callers answer no more calls, and the worker stop. Refused only if the worker hasn't stopped and can't be
     // told to: then its inbox got nothing.
     fn stop<R: Wait>(&mut self, rt: &R) -> Result<Stopping, StopFault>
-        ensures told { result ≡ Ok Stopping.Told → self.new.inlet ≡ self.old.inlet ++ Stop ∷ [] }
+        ensures told { result ≡ Ok Stopping.Told → self.new.inlet ≡ with_event self.old.inlet Stop }
         ensures done { (ended : ℕ) → result ≡ Ok (Stopping.Done ended) → self.new.inlet ≡ self.old.inlet }
         ensures refused { OnErr result (self.new.inlet ≡ self.old.inlet) }
     {
@@ -69,7 +70,7 @@ impl Home {
 
     // Tells the server that another has ended. Refused if its worker is gone.
     fn tell<R: Wait>(&mut self, rt: &R, ended: Ended) -> Result<(), RailFault>
-        ensures ok { OnOk result (self.new.inlet ≡ self.old.inlet ++ Took (Gone ended) ∷ []) }
+        ensures ok { OnOk result (self.new.inlet ≡ with_event self.old.inlet (Took (Gone ended))) }
         ensures err { OnErr result (self.new.inlet ≡ self.old.inlet) }
     {
         self.inlet.gone(rt, ended.id())

@@ -2,7 +2,7 @@
 ghost use Rattle.std.specs.Prelude.{◌≡◌, IfOk};
 ghost use Rattle.std.specs.Arc.{arc_value};
 ghost use Rattle.leases.specs.Shared.{is_timed};
-ghost use Rattle.links.specs.Lobbies.{cuts_of};
+ghost use Rattle.links.specs.Lobbies.{cuts_of, host_of};
 ghost use Rattle.links.specs.Places.{waiting};
 ghost use Rattle.runtime.specs.Held.{may_end};
 ghost use Rattle.runtime.specs.Wiring.{IsPlaced};
@@ -25,8 +25,8 @@ use std::sync::{Arc, Wait};
 use std::thread::Threads;
 use std::time::Clock;
 
-/// The lobby of a server, which other servers and masters enter, and the server's lease, which has the term of its
-/// settings. The mark is set if the server is called gone.
+/// The lobby of the server that the settings name, which other servers and masters enter, and the server's lease, which
+/// has the term of the settings. The mark is set if the server is called gone.
 pub(crate) fn new_lobby<R: Clock + Copy + Drop>(
     rt: R,
     alloc: Global,
@@ -34,7 +34,8 @@ pub(crate) fn new_lobby<R: Clock + Copy + Drop>(
     inlets: Vec<Inlet>,
     failed: &Mark,
 ) -> Result<Arc<Lobby<Connections<R>>, Global>, ServerFault>
-    ensures { IfOk result (λ lobby. may_end (cuts_of (arc_value lobby)) ≡ is_timed settings.now.term) }
+    ensures host { IfOk result (λ lobby. (host_of (arc_value lobby)).id ≡ settings.now.numbers.id) }
+    ensures lease { IfOk result (λ lobby. may_end (cuts_of (arc_value lobby)) ≡ is_timed settings.now.term) }
 {
     let ServerNumbers { id, servers, .. } = settings.numbers;
     let host = Identity {

@@ -1,6 +1,9 @@
 //! The command `server`: one server of a chain in a process of its own.
 ghost use Rattle.std.specs.Prelude.{◌≡◌, ◌⊎◌, IfOk};
+ghost use Rattle.node.specs.Nodes.{fresh};
 ghost use Rattle.leases.specs.Shared.{is_timed};
+ghost use Rattle.io_threads.specs.Pools.{AreAllAt, BeginsAs};
+ghost use Rattle.runtime.specs.Wiring.{HasOwnPools, LeadsHome, core_of};
 
 use crate::banners::tell_server;
 use crate::file_limits::warn_of_files;
@@ -96,7 +99,8 @@ struct Ports {
 
 impl<R: Wait + Clock + Eprint + Copy + Drop + Send + 'static> Running<R> {
     // Opens the ports, starts the threads that serve peers, connects to the other servers, and waits until they have
-    // connected too. The server's clients are held back if its lease has a term.
+    // connected too. The worker is that of the server that the settings name, and the seats are that server's. Its
+    // clients are held back if its lease has a term.
     fn open<X: Sink>(
         rt: R,
         alloc: Global,
@@ -106,7 +110,11 @@ impl<R: Wait + Clock + Eprint + Copy + Drop + Send + 'static> Running<R> {
     ) -> Result<Running<R>, ServerFault>
     where
         R: Threads + Net<Listener = TcpListener, Stream = TcpStream> + Sync,
-        ensures { IfOk result (λ running. running.front.leash ≡ is_timed settings.now.term) }
+        ensures server { IfOk result
+            (λ running. running.worker.published.origin.start.id ≡ settings.now.numbers.id) }
+        ensures pools { IfOk result
+            (λ running. AreAllAt running.worker.published.origin running.front.pools.items) }
+        ensures lease { IfOk result (λ running. running.front.leash ≡ is_timed settings.now.term) }
     {
         let Ports { clients, peers } = Ports::open(&rt, settings)?;
         warn(&peers, errors);
@@ -280,13 +288,19 @@ pub fn warn_of<X: Sink>(address: SocketAddr, errors: &mut X) {
     }
 }
 
-// The server before any input, with an inlet for each other server and for the master.
+// The server that the settings name, before any input, with an inlet for each other server and for the master.
+#[tactic(auto, using(crate::proofs::Standing::begins_too))]
 fn idle_server<R: Wait + Copy + Drop>(
     rt: R,
     alloc: Global,
     settings: &ServerSettings,
     shape: Shape,
-) -> Result<Opened<R>, ServerFault> {
+) -> Result<Opened<R>, ServerFault>
+    ensures worker { IfOk result (λ opened. let numbers = settings.now.numbers in
+        BeginsAs (fresh numbers.id numbers.servers) opened.pooled.worker) }
+    ensures pools { IfOk result (λ opened. HasOwnPools (core_of opened)) }
+    ensures inlets { IfOk result (λ opened. LeadsHome opened) }
+{
     let servers = settings.numbers.servers;
     if servers == 0 || servers > SERVERS {
         return Err(ServerFault::Run);

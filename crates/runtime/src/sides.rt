@@ -1,9 +1,12 @@
 //! The parts of a chain of servers in one process, before their threads are started.
-ghost use Rattle.std.specs.Prelude.{◌≡◌, ◌≢◌, ◌≤◌, ◌++◌, ◌∷◌, [], None, true, vec_len, IfOk, OnOk, OnErr};
+ghost use Rattle.std.specs.Prelude.{◌≡◌, ◌≢◌, ◌≤◌, ◌++◌, ◌∷◌, [], None, true, vec_len, All, IfOk, IfSome, IsSome};
+ghost use Rattle.std.specs.Prelude.{OnOk, OnErr};
 ghost use Rattle.node.specs.Nodes.{fresh, is_idle};
+ghost use Rattle.io_threads.specs.Pools.{AreAllAt, BeginsAs};
 ghost use Rattle.runtime.specs.Halls.{ids};
-ghost use Rattle.runtime.specs.Wiring.{AreDealt, AreSidesOf, IsDealt, IsSideOf, all_inlets_in, inlets_in, inlets_of};
-ghost use Rattle.runtime.specs.Wiring.{listed, numbers, senders};
+ghost use Rattle.runtime.specs.Wiring.{AreDealt, AreSidesOf, HasOwnPools, IsDealt, IsSideOf, LeadsHome, all_inlets_in};
+ghost use Rattle.runtime.specs.Wiring.{core_of, cores_of, inlets_in, inlets_of, listed, numbers, openings, senders};
+ghost use Rattle.runtime.specs.Wiring.{starts_of};
 
 use crate::cluster_faults::ClusterFault;
 use crate::dealing::inlet_for;
@@ -38,8 +41,9 @@ pub struct Side {
     pub home: Home,
 }
 
-/// The `count` servers of a chain, with an inlet for each other server and for the program's own thread. The items of
-/// each may take as much memory.
+/// The `count` servers of a chain, each at the place of its id, with an inlet for each other server and for the
+/// program's own thread. The items of each may take as much memory.
+#[tactic(auto, using(crate::proofs::Wired::home_none, crate::proofs::Standing::starts_none, crate::proofs::Standing::own_none))]
 pub fn all_servers<R: Wait + Copy + Drop>(
     rt: R,
     alloc: Global,
@@ -48,12 +52,16 @@ pub fn all_servers<R: Wait + Copy + Drop>(
     allowance: Allowance,
 ) -> Result<Vec<Opened<R>>, ClusterFault>
     requires chain { (1 ≤ count) × (count ≤ 16) }
-    ensures { IfOk result (λ servers. vec_len servers ≡ count) }
+    ensures count { IfOk result (λ servers. vec_len servers ≡ count) }
+    ensures workers { IfOk result (λ servers. starts_of servers.items ≡ openings count count) }
+    ensures pools { IfOk result (λ servers. All HasOwnPools (cores_of servers.items)) }
+    ensures inlets { IfOk result (λ servers. All (λ server. LeadsHome server) servers.items) }
 {
     let mut servers = Vec::new(alloc);
     for id in 0..count {
         let node = idle_node(alloc, id, count)?;
-        servers.push(open_server(rt, alloc, node, count, shape, allowance)?)?;
+        let server = open_server(rt, alloc, node, count, shape, allowance)?;
+        servers.push(server)?;
     }
     Ok(servers)
 }
@@ -69,6 +77,9 @@ pub(crate) fn open_server<R: Wait + Copy + Drop>(
 ) -> Result<Opened<R>, ClusterFault>
     requires chain { (1 ≤ count) × (count ≤ 16) }
     requires idle { is_idle node ≡ true }
+    ensures worker { IfOk result (λ opened. BeginsAs node opened.pooled.worker) }
+    ensures pools { IfOk result (λ opened. HasOwnPools (core_of opened)) }
+    ensures inlets { IfOk result (λ opened. LeadsHome opened) }
 {
     let (failed, gauge) = match mark_and_gauge(alloc, allowance) {
         Ok(both) => both,
@@ -114,7 +125,8 @@ pub(crate) fn idle_node(alloc: Global, id: u8, count: u8) -> Result<Node, Cluste
     }
 }
 
-/// The links of all servers, in the order of their ids, for which each takes an inlet of each other one.
+/// The links of all servers, in the order of their ids, for which each takes an inlet of each other one, and nothing
+/// else.
 #[tactic(auto, using(crate::proofs::Wired::all_none))]
 pub fn all_links<R: Wait + Copy + Drop>(
     rt: R,
@@ -127,6 +139,7 @@ pub fn all_links<R: Wait + Copy + Drop>(
     ensures dealt { IfOk result (λ all.
         AreDealt (inlets_of servers.old.items) (inlets_of servers.new.items) (all_inlets_in all.items)) }
     ensures servers { vec_len servers.new ≡ vec_len servers.old }
+    ensures cores { cores_of servers.new.items ≡ cores_of servers.old.items }
 {
     let mut all = Vec::new(alloc);
     for id in 0..count {
@@ -147,6 +160,7 @@ fn links_of<R: Wait + Drop>(
     ensures dealt { IfOk result (λ links.
         IsDealt id (inlets_of servers.old.items) (inlets_of servers.new.items) (inlets_in links.items)) }
     ensures servers { vec_len servers.new ≡ vec_len servers.old }
+    ensures cores { cores_of servers.new.items ≡ cores_of servers.old.items }
 {
     let mut links = Vec::new(alloc);
     for j in 0..servers.len() {
@@ -160,26 +174,31 @@ fn link_to<R: Wait + Drop>(id: u8, j: usize, server: &mut Opened<R>) -> Link
     ensures taken { server.old.pooled.inlets.items ≡ server.new.pooled.inlets.items ++ listed result.inlet }
     ensures own { j ≡ id → result.inlet ≡ None }
     ensures whole { j ≢ id → result.inlet ≡ None → server.new.pooled.inlets.items ≡ [] }
+    ensures core { core_of server.new ≡ core_of server.old }
 {
     Link::new(inlet_for(usize::from(id), j, &mut server.pooled.inlets))
 }
 
-/// The hall of all workers, by their servers' ids, and what each server has beside its own.
+/// The hall of all workers, by their servers' ids, and what each server has beside its own. The worker of each server
+/// gets the links of that server: the hall takes no others.
 pub fn all_sides<R: Wait + Drop>(
     alloc: Global,
     desks: &Arc<Desks, Global>,
     servers: Vec<Opened<R>>,
     links: Vec<InProcessLinks<R>>,
 ) -> Result<(Hall<R>, Vec<Side>), ClusterFault>
+    requires workers { starts_of servers.items ≡ openings (vec_len servers) (vec_len servers) }
+    requires links { senders links.items ≡ numbers (vec_len links) }
     ensures count { IfOk result (λ all. vec_len all.1 ≡ vec_len servers) }
     ensures hall { IfOk result (λ all. ids all.0 ≡ numbers (vec_len servers)) }
     ensures sides { IfOk result (λ all. AreSidesOf servers.items all.1.items) }
 {
     let mut hall = Hall::new(alloc, Arc::try_clone(desks)?);
     let mut sides = Vec::new(alloc);
-    let mut links = links.into_iter();
+    let mut left = links.into_iter();
     for server in servers {
-        let side = add_linked(alloc, &mut hall, sides.len(), server, links.next())?;
+        let own = left.next();
+        let side = add_linked(alloc, &mut hall, sides.len(), server, own)?;
         sides.push(side)?;
     }
     Ok((hall, sides))
@@ -194,6 +213,9 @@ fn add_linked<R: Wait + Drop>(
     server: Opened<R>,
     links: Option<InProcessLinks<R>>,
 ) -> Result<Side, ClusterFault>
+    requires worker { server.pooled.worker.published.origin.start.id ≡ place }
+    requires links { IfSome links (λ links. links.id ≡ place) }
+    ensures links { OnOk result (IsSome links) }
     ensures hall { OnOk result (ids hall.new ≡ ids hall.old ++ place ∷ []) }
     ensures side { IfOk result (λ side. IsSideOf server side) }
 {
@@ -214,6 +236,8 @@ fn add_server<R: Wait + Drop>(
     server: Opened<R>,
     links: InProcessLinks<R>,
 ) -> Result<Side, ClusterFault>
+    requires worker { server.pooled.worker.published.origin.start.id ≡ place }
+    requires links { links.id ≡ place }
     ensures hall { OnOk result (ids hall.new ≡ ids hall.old ++ place ∷ []) }
     ensures side { IfOk result (λ side. IsSideOf server side) }
 {
@@ -257,6 +281,8 @@ fn add_worker<R: Wait + Drop>(
     links: InProcessLinks<R>,
     gauge: Gauge,
 ) -> Result<Ending, ClusterFault>
+    requires worker { worker.published.origin.start.id ≡ place }
+    requires links { links.id ≡ place }
     ensures { OnOk result (ids hall.new ≡ ids hall.old ++ place ∷ []) }
 {
     let Ok(id) = u8::try_from(place) else {

@@ -6,3 +6,4 @@ pub mod Submitted
 pub mod Looked
 pub mod TalkLaws
 pub mod Sent
+pub mod ServerBits

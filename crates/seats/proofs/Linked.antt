@@ -7,7 +7,7 @@ use Rattle.rail.specs.declared.events.Event.{Event}
 use Rattle.rail.specs.declared.events.Event.TheVariants.{Took}
 use Rattle.seats.specs.declared.in_process_links.Link.{Link}
 use Rattle.seats.specs.InProcessLinks.{before_last, failures_at, last_brought, last_put, sent_at, sent_by, sent_on}
-use Rattle.seats.specs.InProcessLinks.{without_last}
+use Rattle.seats.specs.InProcessLinks.{all_leads, leads, without_last}
 
 -- after one event more the last one is that
 last_of : (to : ℕ) (i : ℕ) (peer : Peer) (es : List Event)
@@ -68,6 +68,15 @@ unsent_at zero (l ∷ ls) d x within same = ap (λ es. es ∷ sent_on ls) same
 unsent_at (suc place) (l ∷ ls) d x within same =
     ap (λ rest. sent_by l.inlet ∷ rest) (unsent_at place ls d x (omega (arith, within)) same)
 
+-- a link whose inlet leads where it led
+pub same_leads : (place : ℕ) (ls : List Link) (d x : Link) → place < length ls
+    → leads x.inlet ≡ leads (slice_index_or ls place d).inlet
+    → all_leads (slice_set ls place x) ≡ all_leads ls
+same_leads place [] d x within same = absurd (omega (arith, within))
+same_leads zero (l ∷ ls) d x within same = ap (λ lead. lead ∷ all_leads ls) same
+same_leads (suc place) (l ∷ ls) d x within same =
+    ap (λ rest. leads l.inlet ∷ rest) (same_leads place ls d x (omega (arith, within)) same)
+
 -- a link that has failed has failures
 pub failed_at : (place : ℕ) (ls : List Link) (x : Link)
     → place < length ls
@@ -124,4 +133,4 @@ tells_beyond place ls out = rw (beyond place ls out) refl
 
 -- what a message that is put on a link changes
 pub ruleset putting =
-    (put_at, before_at, given_at, others_at, unsent_at, failed_at, more_failed, as_failed, beyond)
+    (put_at, before_at, given_at, others_at, unsent_at, same_leads, failed_at, more_failed, as_failed, beyond)

@@ -1,20 +1,19 @@
 -- The seats of a pool.
-use Rattle.std.proofs.Common.{◌≡◌, ◌∙◌, ◌∷◌, ◌++◌, ◌+◌, [], Bool, true, false, if◌then◌else◌, List, All, ap, sym}
-use Rattle.std.proofs.Common.{subst, append-nil, arith, length, refl, MatchOption, None, Option, option_to_list, Some}
+use Rattle.std.proofs.Common.{◌≡◌, ◌∙◌, ◌∷◌, ◌++◌, [], List, All, ap, sym, subst, append-nil, append_assoc, arith}
+use Rattle.std.proofs.Common.{refl}
 use Rattle.std.proofs.lemmas.List.Elements.{All-push, All-same, All-tail}
 use Rattle.faces.specs.Courses.{Course, IsLater, Origin}
 use Rattle.rail.specs.Seats.{SeatState}
-use Rattle.seats.specs.SeatPools.{IsFreeAt, Pooling, with_free}
+use Rattle.seats.specs.SeatPools.{HasAllSeats, IsFreeAt, IsOneOut, Pooling, here}
 use Rattle.seats.specs.Submitters.{Submitting, unused}
 
--- one more, or not
-pub all_pushed : (P : Submitting → Type 0) (b : Bool) (xs ys : List Submitting) (s : Submitting)
-    → ys ≡ (if b then xs ++ s ∷ [] else xs)
+-- one more
+pub all_pushed : (P : Submitting → Type 0) (xs ys : List Submitting) (s : Submitting)
+    → ys ≡ xs ++ s ∷ []
     → All P xs
     → P s
     → All P ys
-all_pushed P true xs ys s e all one = All-same P ys (xs ++ s ∷ []) e (All-push P xs s all one)
-all_pushed P false xs ys s e all one = All-same P ys xs e all
+all_pushed P xs ys s e all one = All-same P ys (xs ++ s ∷ []) e (All-push P xs s all one)
 
 -- a seat of this server
 pub added : (seen now : Course) (seat : SeatState) (s : Submitting) → s ≡ unused seat → seat.origin ≡ now.origin
@@ -41,23 +40,28 @@ pub at_reader : (P : Origin → Submitting → Type 0) (seen now : Course) (s : 
     → P seen.origin s
 at_reader P seen now s same at = subst (λ (x : Course). P x.origin s) (sym same) at
 
-nothing_in : (xs : List Submitting) → length xs ≡ 0 → xs ≡ []
-nothing_in [] none = refl
-nothing_in (x ∷ xs) none = absurd (omega (arith, none))
+-- either none of its seats is out, or one
+pub not_both : {X : Type 0} (p q : Pooling) → p ≡ q → here p ≡ p.seats → IsOneOut q → X
+not_both p q same none out = absurd (omega (arith, none, subst IsOneOut (sym same) out))
 
--- a free seat was taken out, or there was none
-pub taken_out : (p q : Pooling) (found : Option Submitting) → q.seen ≡ p.seen → q.looks ≡ p.looks → q.left ≡ p.left
-    → p.free ≡ q.free ++ option_to_list found
-    → MatchOption found ((length p.free ≡ 0) × (length q.free ≡ 0)) (λ _. length q.free + 1 ≡ length p.free)
-    → MatchOption found ((q ≡ p) × (p.free ≡ [])) (λ seat. p ≡ with_free q seat)
-taken_out p q None seen looks left free cases = (
-  λ i. record {
-    seen = seen i;
-    looks = looks i;
-    free = sym (free ∙ append-nil q.free) i;
-    left = left i;
-  },
-  nothing_in p.free cases.0,
-)
-taken_out p q (Some seat) seen looks left free cases =
-    λ i. record { seen = sym seen i; looks = sym looks i; free = free i; left = sym left i }
+-- all its seats are as they were
+pub all_seats : (p : Pooling) → HasAllSeats p p
+all_seats p = record { more = []; seats = refl; count = refl; free = sym (append-nil p.free) }
+
+-- one that was left is free
+pub one_freed : (p before after : Pooling) (s : Submitting) → before ≡ p → after.seats ≡ before.seats
+    → here after ≡ here before
+    → after.free ≡ before.free ++ s ∷ []
+    → HasAllSeats p after
+one_freed p before after s view seats count free =
+    subst (λ q. HasAllSeats q after) view (record { more = s ∷ []; seats = seats; count = count; free = free })
+
+-- and after two steps
+pub all_seats_then : (p q r : Pooling) → HasAllSeats p q → HasAllSeats q r → HasAllSeats p r
+all_seats_then p q r a b =
+    record {
+      more = a.more ++ b.more;
+      seats = b.seats ∙ a.seats;
+      count = b.count ∙ a.count;
+      free = b.free ∙ (ap (λ xs. xs ++ b.more) a.free ∙ append_assoc p.free a.more b.more);
+    }

@@ -1,10 +1,12 @@
 -- Links between the servers of one process: which have failed, and what was put on them, in order.
 use Rattle.std.specs.Prelude.{ℕ, zero, suc, List, [], ◌∷◌, ◌++◌, Option, Some, None, if◌then◌else◌}
+use Rattle.atomic_table.specs.Seated.{TableId}
 use Rattle.node.specs.declared.messages.Peer.{Peer}
 use Rattle.node.specs.declared.messages.Input.{Input}
 use Rattle.node.specs.declared.messages.Input.TheVariants.{Call as Called, From, Gone}
 use Rattle.rail.specs.declared.events.Event.{Event}
 use Rattle.rail.specs.declared.events.Event.TheVariants.{Took, Stop, End}
+use Rattle.rail.specs.Inlets.{InletState}
 use Rattle.seats.specs.declared.in_process_links.Link.{Link}
 
 -- whether each link has failed, as a count: the link to a server that isn't there has failed
@@ -14,9 +16,19 @@ failures_at (x ∷ xs) zero = if x.has_failed then 1 else 0
 failures_at (x ∷ xs) (suc j) = failures_at xs j
 
 -- what an inlet sent, and nothing without one
-abbrev pub sent_by : Option (List Event) → List Event
+abbrev pub sent_by : Option InletState → List Event
 sent_by None = []
-sent_by (Some events) = events
+sent_by (Some inlet) = inlet.sent
+
+-- where an inlet leads: its inbox, and its number there
+abbrev pub leads : Option InletState → Option (TableId × ℕ)
+leads None = None
+leads (Some inlet) = Some (inlet.inbox, inlet.number)
+
+-- where the inlet of each link leads
+abbrev pub all_leads : List Link → List (Option (TableId × ℕ))
+all_leads [] = []
+all_leads (x ∷ xs) = leads x.inlet ∷ all_leads xs
 
 -- what each link's inlet sent
 abbrev pub sent_on : List Link → List (List Event)

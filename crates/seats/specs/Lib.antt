@@ -1,5 +1,7 @@
 pub mod Replies
 pub mod InProcessLinks
+pub mod Reached
+pub mod ServerSets
 pub mod Submitters
 pub mod SeatPools
 pub mod Talks

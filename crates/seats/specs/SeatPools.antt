@@ -1,24 +1,49 @@
 -- The seats of one thread at one server.
-use Rattle.std.specs.Prelude.{◌≡◌, ◌≤◌, ℕ, List, [], ◌∷◌, ◌++◌, None, All}
+use Rattle.std.specs.Prelude.{◌≡◌, ◌≤◌, ◌<◌, ◌+◌, ℕ, suc, List, [], ◌∷◌, ◌++◌, None, All, length}
 use Rattle.faces.specs.Courses.{Course, Origin}
 use Rattle.faces.specs.Readers.{Looking}
 use Rattle.seats.specs.Submitters.{Submitting}
 
 -- What a pool's reader has seen or was told of, and each course whose face stood when it looked; its seats at which no
--- call is open, the next one last; and those for whose replies nobody waits any more.
+-- call is open, the next one last; those for whose replies nobody waits any more; and how many it has, with those that
+-- were taken out.
 pub record Pooling : Type 0 where
   pub seen : Course
   pub looks : List Course
   pub free : List Submitting
   pub left : List Submitting
+  pub seats : ℕ
 
 -- a pool without seats
 abbrev pub without_seats : Looking → Pooling
-without_seats reader = record { seen = reader.seen; looks = reader.looks; free = []; left = [] }
+without_seats reader = record { seen = reader.seen; looks = reader.looks; free = []; left = []; seats = 0 }
 
--- one seat more is free
+-- it has one seat more, which is free
 abbrev pub with_free : Pooling → Submitting → Pooling
-with_free p s = record p { free = p.free ++ s ∷ [] }
+with_free p s = record p { free = p.free ++ s ∷ []; seats = suc p.seats }
+
+-- a seat that was out is free
+abbrev pub put_back : Pooling → Submitting → Pooling
+put_back p s = record p { free = p.free ++ s ∷ [] }
+
+-- a seat that was out has an open call, for whose reply nobody waits any more
+abbrev pub put_left : Pooling → Submitting → Pooling
+put_left p s = record p { left = p.left ++ s ∷ [] }
+
+-- how many of its seats are here
+abbrev pub here : Pooling → ℕ
+here p = length p.free + length p.left
+
+-- a seat of it is out
+abbrev pub IsOneOut : Pooling → Type 0
+IsOneOut p = here p < p.seats
+
+-- It has as many seats as before, as many of them are here, and those that were free still are.
+pub record HasAllSeats (before after : Pooling) : Type 0 where
+  pub more : List Submitting
+  pub seats : after.seats ≡ before.seats
+  pub count : here after ≡ here before
+  pub free : after.free ≡ before.free ++ more
 
 -- the reader is as it was
 abbrev pub HasSameReader : Pooling → Pooling → Type 0
@@ -26,7 +51,7 @@ HasSameReader p q = (q.seen ≡ p.seen) × (q.looks ≡ p.looks)
 
 -- the seats are those that it had
 abbrev pub HasSameSeats : Pooling → Pooling → Type 0
-HasSameSeats p q = (q.free ≡ p.free) × (q.left ≡ p.left)
+HasSameSeats p q = (q.free ≡ p.free) × (q.left ≡ p.left) × (q.seats ≡ p.seats)
 
 -- a seat of this server
 abbrev pub IsAt : Origin → Submitting → Type 0
@@ -36,10 +61,11 @@ IsAt origin s = s.seat.origin ≡ origin
 abbrev pub IsFreeAt : Origin → Submitting → Type 0
 IsFreeAt origin s = (s.seat.origin ≡ origin) × (s.waiting ≡ None)
 
--- What a pool of n seats holds: those that are free, and those that were left, are of this server. There is room
--- for each seat among either.
+-- What a pool of n seats holds: those that are free, and those that were left, are of this server, and no more than
+-- it has. There is room for each seat among either.
 pub record IsPool (origin : Origin) (seats : ℕ) (free left : List Submitting) (room space : ℕ) : Type 0 where
   pub are_free : All (IsFreeAt origin) free
   pub are_left : All (IsAt origin) left
+  pub count : length free + length left ≤ seats
   pub frees : seats ≤ room
   pub leaves : seats ≤ space

@@ -1,9 +1,14 @@
 //! Links between the servers of one process: a message is brought into the other server's inbox.
-ghost use Rattle.std.specs.Prelude.{◌≡◌, ◌≢◌, ◌≤◌, ◌<◌, ◌++◌, ◌∷◌, [], ℕ, nat_lt, OnOk, OnErr, IfErr};
-ghost use Rattle.node.specs.Lawful.{IsBody};
+ghost use Rattle.std.specs.Prelude.{◌≡◌, ◌≢◌, ◌⊎◌, ◌≤◌, ◌<◌, ◌%◌, ◌==◌, ◌||◌, ◌++◌, ◌∷◌, [], ℕ, false, nat_lt};
+ghost use Rattle.std.specs.Prelude.{OnOk, OnErr, IfErr, MatchResult};
+ghost use Rattle.node.specs.Lawful.{IsBody, IsFit};
 ghost use Rattle.node.specs.declared.messages.Input.TheVariants.{From};
+ghost use Rattle.node.specs.declared.messages.Output.TheVariants.{To};
 ghost use Rattle.rail.specs.declared.events.Event.TheVariants.{Took};
-ghost use Rattle.seats.specs.InProcessLinks.{before_last, failures_at, last_put, sent_at, sent_on};
+ghost use Rattle.rail.specs.declared.faults.RailFault.TheVariants.{Memory, LinkDown};
+ghost use Rattle.seats.specs.InProcessLinks.{all_leads, before_last, failures_at, last_put, sent_at, sent_on};
+ghost use Rattle.seats.specs.Reached.{HasSameLinks, failures_of, given_to, id_of, put_on, reached_of};
+ghost use Rattle.seats.specs.ServerSets.{has_server};
 
 use crate::server_sets::ServerSet;
 use boxcar::tag::{Names, Tag};
@@ -37,7 +42,7 @@ impl Link {
     ghost use Rattle.node.specs.Lawful.{IsBody};
     ghost use Rattle.node.specs.declared.messages.Input.TheVariants.{From};
     ghost use Rattle.rail.specs.declared.events.Event.TheVariants.{Took};
-    ghost use Rattle.seats.specs.InProcessLinks.{sent_by};
+    ghost use Rattle.seats.specs.InProcessLinks.{leads, sent_by};
 
     /// A link that hasn't failed, or has if there is no inlet.
     pub fn new(inlet: Option<Inlet>) -> Link
@@ -52,6 +57,7 @@ impl Link {
     fn bring<R: Wait>(&mut self, rt: &R, id: u8, peer: Peer) -> Result<(), RailFault>
         requires { IsBody peer.body }
         ensures ok { OnOk result (sent_by self.new.inlet ≡ sent_by self.old.inlet ++ Took (From id peer) ∷ []) }
+        ensures inlet { leads self.new.inlet ≡ leads self.old.inlet }
         ensures up { OnOk result (self.new.has_failed ≡ self.old.has_failed) }
         ensures err { OnErr result (sent_by self.new.inlet ≡ sent_by self.old.inlet) }
         ensures down { OnErr result (self.new.has_failed ≡ true) }
@@ -76,6 +82,7 @@ impl<R: Wait + Drop> InProcessLinks<R> {
         ensures id { result.id ≡ id }
         ensures list { result.receivers ≡ [] }
         ensures links { result.links.items ≡ links.items }
+        ensures reached { (j : ℕ) → has_server (reached_of result) j ≡ false }
     {
         InProcessLinks {
             rt,
@@ -87,7 +94,12 @@ impl<R: Wait + Drop> InProcessLinks<R> {
     }
 
     /// The servers that were sent something since this was last asked.
-    pub fn take_reached(&mut self) -> ServerSet {
+    pub fn take_reached(&mut self) -> ServerSet
+        ensures id { self.new.id ≡ self.old.id }
+        ensures reached { result ≡ reached_of self.old }
+        ensures none { (j : ℕ) → has_server (reached_of self.new) j ≡ false }
+        ensures links { HasSameLinks self.old self.new }
+    {
         let reached = self.reached;
         self.reached = ServerSet::new();
         reached
@@ -115,7 +127,23 @@ impl<R: Wait + Drop> Links for InProcessLinks<R> {
         has_failed(self.links.as_slice(), to)
     }
 
-    fn put(&mut self, _published: &Published, to: u8, peer: &Peer) -> Result<(), RailFault> {
+    fn put(&mut self, _published: &Published, to: u8, peer: &Peer) -> Result<(), RailFault>
+        requires fit { IsFit (To to peer.now) }
+        requires up { failures_of self.old to ≡ 0 }
+        ensures ok { OnOk result (put_on self.new ≡ put_on self.old ++ (to, peer.now) ∷ []) }
+        ensures err { OnErr result (put_on self.new ≡ put_on self.old) }
+        ensures given { OnOk result
+            (given_to self.new to ≡ given_to self.old to ++ Took (From (id_of self.old) peer.now) ∷ []) }
+        ensures ungiven { OnErr result (given_to self.new to ≡ given_to self.old to) }
+        ensures elsewhere { (j : ℕ) → j ≢ to → given_to self.new j ≡ given_to self.old j }
+        ensures id { id_of self.new ≡ id_of self.old }
+        ensures failures { (j : ℕ) → failures_of self.old j ≤ failures_of self.new j }
+        ensures fault { IfErr result (λ f. (f ≡ Memory) ⊎ ((f ≡ LinkDown) × (0 < failures_of self.new to))) }
+        // The server that it goes to counts as one that was sent something.
+        ensures reached { MatchResult result
+            (λ _. (j : ℕ) → has_server (reached_of self.new) j ≡ ((j == to % 32) || has_server (reached_of self.old) j))
+            (λ _. reached_of self.new ≡ reached_of self.old) }
+    {
         let peer = peer.clone()?;
         bring_to(&self.rt, &mut self.links, self.id, to, peer)?;
         self.receivers.add(to);
@@ -137,7 +165,7 @@ fn has_failed(links: &[Link], to: u8) -> bool
     }
 }
 
-// Brings a message to a server whose link hasn't failed.
+// Brings a message to a server whose link hasn't failed. Each link's inlet leads where it led.
 #[tactic(auto, using(crate::proofs::Linked::putting))]
 fn bring_to<R: Wait>(
     rt: &R,
@@ -155,6 +183,7 @@ fn bring_to<R: Wait>(
     ensures elsewhere { (j : ℕ) → j ≢ to →
         sent_at (sent_on links.new.items) j ≡ sent_at (sent_on links.old.items) j }
     ensures err { OnErr result (sent_on links.new.items ≡ sent_on links.old.items) }
+    ensures inlets { all_leads links.new.items ≡ all_leads links.old.items }
     ensures failures { (j : ℕ) → failures_at links.old.items j ≤ failures_at links.new.items j }
     ensures fault { IfErr result (λ fault. (fault ≡ RailFault.LinkDown) × (0 < failures_at links.new.items to)) }
 {

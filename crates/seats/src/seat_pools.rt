@@ -1,6 +1,6 @@
 //! The seats of one thread at one server.
-ghost use Rattle.std.specs.Prelude.{◌≡◌, ◌<◌, ◌≤◌, OnOk, vec_capacity, vec_len};
-ghost use Rattle.std.specs.VecDeque.{deque_capacity};
+ghost use Rattle.std.specs.Prelude.{◌≡◌, ◌<◌, ◌≤◌, ◌+◌, MatchBool, OnOk, vec_capacity, vec_len};
+ghost use Rattle.std.specs.VecDeque.{deque_capacity, deque_len};
 
 use crate::gauges::Gauge;
 use crate::marks::Mark;
@@ -15,7 +15,8 @@ use std::sync::Wait;
 use table::{Call, Reply};
 
 /// What one thread has at one server: a reader, and seats that its connections take in turn. Contracts see what the
-/// reader has seen or was told of, at which faces it has looked, and the seats that are here (`Pooling`).
+/// reader has seen or was told of, at which faces it has looked, the seats that are here, and how many it has
+/// (`Pooling`). No seat is lost: one that isn't here was taken out.
 #[derive(Drop)]
 pub struct SeatPool {
     reader: Reader,
@@ -33,6 +34,7 @@ pub struct SeatPool {
 
 impl Model for SeatPool {
     ghost use Rattle.std.specs.Coded.{codes};
+    ghost use Rattle.atomic_table.specs.Seated.{table_id_coded};
     ghost use Rattle.logbook.specs.Pages.{book_coded};
     ghost use Rattle.versions.specs.Stores.{coded_items};
     ghost use Rattle.std.specs.Prelude.{vec_capacity};
@@ -41,13 +43,14 @@ impl Model for SeatPool {
 
     ghost Value = { Pooling };
 
-    ghost coded = { Prim.hlevel (codes, coded_items, book_coded) };
+    ghost coded = { Prim.hlevel (codes, coded_items, book_coded, table_id_coded) };
 
     ghost view = { λ p. record {
       seen = p.reader.seen;
       looks = p.reader.looks;
       free = p.free.items;
       left = p.left.items;
+      seats = p.seats;
     } };
 
     ghost invariant = { λ p.
@@ -62,7 +65,8 @@ impl SeatPool {
     ghost use Rattle.faces.specs.Courses.{IsLater};
     ghost use Rattle.faces.specs.Readers.{HasLookedAtMostOnce};
     ghost use Rattle.seats.specs.Replies.{HasAllReplies, ShowsClean};
-    ghost use Rattle.seats.specs.SeatPools.{HasSameReader, HasSameSeats, IsAt, IsFreeAt, with_free, without_seats};
+    ghost use Rattle.seats.specs.SeatPools.{HasAllSeats, HasSameReader, HasSameSeats, IsAt, IsFreeAt, IsOneOut, here};
+    ghost use Rattle.seats.specs.SeatPools.{put_back, put_left, with_free, without_seats};
     ghost use Rattle.seats.specs.Submitters.{IsAnswered, unused};
 
     /// A pool without seats, at the reader's server, which has this mark and this gauge.
@@ -89,7 +93,10 @@ impl SeatPool {
         // Whatever the answer.
         ensures reader { HasSameReader self.old self.new }
     {
-        let seats = self.seats.saturating_add(1);
+        let Some(seats) = self.seats.checked_add(1) else {
+            drop(seat);
+            return Err(AllocError);
+        };
         match make_room(&mut self.free, &mut self.left, seats) {
             Ok(()) => {
                 self.seats = seats;
@@ -144,6 +151,7 @@ impl SeatPool {
     pub fn collect<R: Wait>(&mut self, rt: &R)
         ensures later { IsLater self.old.seen self.new.seen }
         ensures looks { self.new.looks ≡ self.old.looks }
+        ensures seats { HasAllSeats self.old self.new }
     {
         for _ in 0..self.left.len() {
             self.collect_one(rt);
@@ -154,13 +162,14 @@ impl SeatPool {
     fn collect_one<R: Wait>(&mut self, rt: &R)
         ensures later { IsLater self.old.seen self.new.seen }
         ensures looks { self.new.looks ≡ self.old.looks }
+        ensures seats { HasAllSeats self.old self.new }
     {
-        if let Some(mut submitter) = self.left.pop_front() {
-            drop(submitter.take(rt, &mut self.reader));
-            if submitter.is_free() {
-                drop(self.free.push(submitter));
+        if let Some(mut seat) = self.left.pop_front() {
+            drop(seat.take(rt, &mut self.reader));
+            if seat.is_free() {
+                self.free.push_reserved(seat);
             } else {
-                drop(self.left.push_back(submitter));
+                self.left.push_back_reserved(seat);
             }
         }
     }
@@ -169,28 +178,40 @@ impl SeatPool {
     pub(crate) fn take_free(&mut self) -> Option<Submitter>
         ensures reader { HasSameReader self.old self.new }
         ensures taken { MatchOption result ((self.new ≡ self.old) × (self.old.free ≡ []))
-            (λ seat. self.old ≡ with_free self.new seat) }
+            (λ seat. self.old ≡ put_back self.new seat) }
         ensures free { IfSome result (IsFreeAt self.old.seen.origin) }
+        ensures out { OnSome result (IsOneOut self.new) }
     {
         self.free.pop()
     }
 
-    /// Takes a seat back at which no call is open.
-    pub(crate) fn put(&mut self, submitter: Submitter)
-        requires { IsFreeAt self.old.seen.origin submitter }
-        ensures { HasSameReader self.old self.new }
+    /// Takes a seat back at which no call is open. If none of its seats is out, it is another pool's, and is dropped.
+    pub(crate) fn put(&mut self, free: Submitter)
+        requires { IsFreeAt self.old.seen.origin free }
+        ensures reader { HasSameReader self.old self.new }
+        ensures back { IsOneOut self.old → self.new ≡ put_back self.old free }
+        ensures other { here self.old ≡ self.old.seats → self.new ≡ self.old }
     {
-        // There is room for each seat.
-        drop(self.free.push(submitter));
+        if is_one_out(&self.free, &self.left, self.seats) {
+            self.free.push_reserved(free);
+        } else {
+            drop(free);
+        }
     }
 
-    /// Takes a seat back, for whose reply nobody waits any more.
-    pub(crate) fn leave(&mut self, submitter: Submitter)
-        requires { IsAt self.old.seen.origin submitter }
-        ensures { HasSameReader self.old self.new }
+    /// Takes a seat back, for whose reply nobody waits any more. If none of its seats is out, it is another pool's, and
+    /// is dropped.
+    pub(crate) fn leave(&mut self, left: Submitter)
+        requires { IsAt self.old.seen.origin left }
+        ensures reader { HasSameReader self.old self.new }
+        ensures back { IsOneOut self.old → self.new ≡ put_left self.old left }
+        ensures other { here self.old ≡ self.old.seats → self.new ≡ self.old }
     {
-        // There is room for each seat.
-        drop(self.left.push_back(submitter));
+        if is_one_out(&self.free, &self.left, self.seats) {
+            self.left.push_back_reserved(left);
+        } else {
+            drop(left);
+        }
     }
 
     /// The reply to the open call of a seat that was taken out, as `Submitter::take` says.
@@ -211,6 +232,16 @@ impl SeatPool {
     {
         submitter.take(rt, &mut self.reader)
     }
+}
+
+// Whether one of n seats is out: neither free nor left.
+fn is_one_out(free: &Vec<Submitter>, left: &VecDeque<Submitter>, seats: usize) -> bool
+    requires { vec_len free.now + deque_len left.now ≤ seats }
+    ensures { MatchBool result
+        (vec_len free.now + deque_len left.now < seats)
+        (vec_len free.now + deque_len left.now ≡ seats) }
+{
+    free.len() + left.len() < seats
 }
 
 // Makes room for one more free seat, and for n in all among those that are free, and among those that were left.

@@ -33,13 +33,14 @@ pub struct Submitter {
 
 impl Model for Submitter {
     ghost use Rattle.std.specs.Coded.{codes};
+    ghost use Rattle.atomic_table.specs.Seated.{table_id_coded};
     ghost use Rattle.logbook.specs.Pages.{book_coded};
     ghost use Rattle.versions.specs.Stores.{coded_items};
     ghost use Rattle.seats.specs.Submitters.{Submitting, IsOpen, submitting};
 
     ghost Value = { Submitting };
 
-    ghost coded = { Prim.hlevel (codes, coded_items, book_coded) };
+    ghost coded = { Prim.hlevel (codes, coded_items, book_coded, table_id_coded) };
 
     ghost view = { λ s. submitting s.stage s.seat };
 

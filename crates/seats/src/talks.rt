@@ -8,7 +8,7 @@ ghost use Rattle.faces.specs.Readers.{HasLookedAtMostOnce};
 ghost use Rattle.serving.specs.Connections.{HasOutcome, MayRefuse};
 ghost use Rattle.serving.specs.Serving.{CameTo};
 ghost use Rattle.serving.specs.Wanted.{IsAsking};
-ghost use Rattle.seats.specs.declared.talks.Standing.TheVariants.{Idle, Over, Unsent};
+ghost use Rattle.seats.specs.declared.talks.Standing.TheVariants.{Idle, Over, Reading, Unsent};
 ghost use Rattle.seats.specs.declared.talks.Went.TheVariants.{Seat};
 ghost use Rattle.seats.specs.SeatPools.{HasSameReader};
 ghost use Rattle.seats.specs.Talks.{HasLookedFor, HoldsFree, IsReplied};
@@ -64,14 +64,16 @@ pub const MOST_CALLS: usize = 32;
 /// call had its reply (`Talking`).
 #[derive(Drop)]
 pub struct Talk {
-    connection: Connection,
-    standing: Standing,
+    // The fields lie in this order: what a call by a look touches lies close together.
     first: Told,
     seen: Told,
+    connection: Connection,
+    standing: Standing,
 }
 
 impl Model for Talk {
     ghost use Rattle.std.specs.Coded.{codes};
+    ghost use Rattle.atomic_table.specs.Seated.{table_id_coded};
     ghost use Rattle.logbook.specs.Pages.{book_coded};
     ghost use Rattle.table.specs.Items.{coded_item};
     ghost use Rattle.versions.specs.Stores.{coded_items};
@@ -79,7 +81,7 @@ impl Model for Talk {
 
     ghost Value = { Talking };
 
-    ghost coded = { Prim.hlevel (codes, coded_item, coded_items, book_coded) };
+    ghost coded = { Prim.hlevel (codes, coded_item, coded_items, book_coded, table_id_coded) };
 
     ghost view = { λ t. record {
       connected = t.connection;
@@ -143,7 +145,7 @@ impl Talk {
             record self.old { connected = record self.old.connected { failed = true } }) }
     {
         self.connection.feed(piece)?;
-        stand_at(&mut self.standing, Standing::Idle);
+        stand_idle(&mut self.standing);
         Ok(())
     }
 
@@ -154,7 +156,7 @@ impl Talk {
             record self.old { connected = record self.old.connected { ended = true }; standing = Idle } }
     {
         self.connection.input_ended();
-        stand_at(&mut self.standing, Standing::Idle);
+        stand_idle(&mut self.standing);
     }
 
     /// Goes on as far as it can: it makes the calls of what was read, one after another, each by a look at once, or at
@@ -332,7 +334,7 @@ impl Talk {
             ),
             Ok(Wants::Write) => Ok(Some(Went::Write)),
             Ok(Wants::Read) => {
-                stand_at(&mut self.standing, Standing::Reading);
+                stand_reading(&mut self.standing);
                 Ok(Some(Went::Input))
             }
             Ok(Wants::End(end)) => Ok(Some(Went::End(end))),
@@ -397,6 +399,7 @@ fn ask(
     pool: &mut SeatPool,
     call: Call,
 ) -> Result<Option<Went>, ServeFault>
+    requires idle { standing.old ≡ Idle }
     requires asking { IsAsking call.target call.op connection.old }
     requires known { IsLater seen.old pool.old.seen }
     ensures known { IsLater seen.new pool.new.seen }
@@ -417,7 +420,6 @@ fn ask(
     match settle(connection, seen, pool, &call) {
         Ok(true) => {
             drop(call);
-            stand_at(standing, Standing::Idle);
             Ok(None)
         }
         Ok(false) => {
@@ -444,6 +446,22 @@ fn unsent(standing: Standing) -> Call
             unreachable!()
         }
     }
+}
+
+// No call waits from now on. It wanted input, so nothing is moved out.
+fn stand_idle(standing: &mut Standing)
+    requires { standing.old ≡ Reading }
+    ensures { standing.new ≡ Idle }
+{
+    *standing = Standing::Idle;
+}
+
+// From now on it wants input. No call waited, so nothing is moved out.
+fn stand_reading(standing: &mut Standing)
+    requires { standing.old ≡ Idle }
+    ensures { standing.new ≡ Reading }
+{
+    *standing = Standing::Reading;
 }
 
 // From now on it stands so. What it stood at is dropped, whatever that was.

@@ -113,3 +113,8 @@ pub record IsReached (read : List ℕ) (outcomes : List Outcome) (written : List
   pub given : List Turn
   pub is_run : IsRun (record { stream = read; given = given; outcomes = outcomes; taken = written; held = held })
   pub asked : IsAsked (take (open_calls held.asked) (drop (length outcomes) (calls_of (turns read)))) held.asked
+
+-- if it is known to rest, all that was read is answered, whether or not the input has ended
+abbrev pub IsResting : Bool → List ℕ → List Outcome → List ℕ → Held → Type 0
+IsResting rests read outcomes written held =
+    rests ≡ true → (ended failed : Bool) → IsAnswered false (reached read outcomes written held ended failed)

@@ -39,21 +39,24 @@ pub struct Connection {
     written: Passed,
     ended: bool,
     failed: bool,
+    // Whether all that was read is known to be answered, so that the session isn't asked again before more is read.
+    rests: bool,
 }
 
 impl Model for Connection {
-    ghost use Rattle.serving.specs.Connections.{Connected, IsReached, reached};
+    ghost use Rattle.serving.specs.Connections.{Connected, IsReached, IsResting, reached};
 
     ghost Value = { Connected };
 
     ghost view = { λ c. reached c.read c.outcomes.all c.written c.session c.ended c.failed };
 
-    ghost invariant = { λ c. IsReached c.read c.outcomes.all c.written c.session };
+    ghost invariant = { λ c. IsReached c.read c.outcomes.all c.written c.session
+        × IsResting c.rests c.read c.outcomes.all c.written c.session };
 }
 
 impl Connection {
     ghost use Rattle.std.specs.Prelude.{◌≡◌, ◌≤◌, ◌++◌, ℕ, List, [], false, true, take, drop, length};
-    ghost use Rattle.std.specs.Prelude.{IsOk, IsErr, IfOk, OnOk, OnErr, MatchResult};
+    ghost use Rattle.std.specs.Prelude.{IsOk, IsErr, IfOk, IsTrue, OnOk, OnErr, MatchResult};
     ghost use Rattle.serving.specs.Connections.{unused, IsAnswered, IsBegun, IsLooked, HasOutcome, MayHave};
     ghost use Rattle.serving.specs.Connections.{MayRefuse};
     ghost use Rattle.serving.specs.Wanted.{IsWanted, HasStepped};
@@ -71,6 +74,7 @@ impl Connection {
             written: Passed::new(),
             ended: false,
             failed: false,
+            rests: false,
         }
     }
 
@@ -97,6 +101,7 @@ impl Connection {
         if self.failed {
             return Err(AllocError);
         }
+        self.rests = false;
         match self.session.feed(piece) {
             Ok(()) => {
                 self.read.add(piece);
@@ -131,6 +136,9 @@ impl Connection {
         if self.has_failed() {
             return Err(AllocError);
         }
+        if self.rests() {
+            return Ok(self.at_rest(End::Input));
+        }
         'turns: loop {
             if self.output().len() >= OUTPUT {
                 return Ok(Wants::Write);
@@ -138,7 +146,10 @@ impl Connection {
             match self.turn()? {
                 Step::Call(target, op) => return Ok(Wants::Call(target, op)),
                 Step::Emit => {}
-                Step::Wait => return Ok(self.at_rest(End::Input)),
+                Step::Wait => {
+                    self.rest();
+                    return Ok(self.at_rest(End::Input));
+                }
                 Step::Close => return Ok(self.at_rest(End::Closed)),
             }
         }
@@ -151,6 +162,7 @@ impl Connection {
         ensures ok { OnOk result (HasOutcome (Replied reply.now) self.old self.new) }
         ensures err { OnErr result (self.new ≡ record self.old { failed = true }) }
     {
+        self.rests = false;
         match self.session.answer(reply) {
             Ok(()) => {
                 self.outcomes = self.outcomes.then(reply);
@@ -170,6 +182,7 @@ impl Connection {
         ensures ok { OnOk result (HasOutcome Refused self.old self.new) }
         ensures err { OnErr result (self.new ≡ record self.old { failed = true }) }
     {
+        self.rests = false;
         match self.session.refuse() {
             Ok(()) => {
                 self.outcomes = self.outcomes.then_refused();
@@ -215,6 +228,7 @@ impl Connection {
         ensures idle { OnErr result (self.new.waiting ≡ []) }
         ensures failed { MatchResult result (λ _. self.new.failed ≡ false) (λ _. self.new.failed ≡ true) }
     {
+        self.rests = false;
         match self.session.next() {
             Ok(step) => Ok(step),
             Err(_) => {
@@ -222,6 +236,21 @@ impl Connection {
                 Err(AllocError)
             }
         }
+    }
+
+    // Whether all that was read is known to be answered.
+    fn rests(&self) -> bool
+        ensures { IsTrue result → IsAnswered false self.now }
+    {
+        self.rests
+    }
+
+    // All that was read is answered, and so it stays until more is read.
+    fn rest(&mut self)
+        requires { IsAnswered false self.old }
+        ensures { self.new ≡ self.old }
+    {
+        self.rests = true;
     }
 
     // All is answered, and this is the end if nothing more is read.

@@ -2,7 +2,7 @@
 
 use super::clients::{answers, client, listen};
 use io_threads::{Desks, Front, FrontSettings, Gate, open_desks, open_front};
-use runtime::{Hall, Shape, Side, all_links, all_servers, all_sides};
+use runtime::{ClusterFault, Hall, Shape, Side, all_links, all_servers, all_sides};
 use seats::{Allowance, Leash};
 use std::alloc::Global;
 use std::net::{Net, TcpListener, TcpStream};
@@ -74,9 +74,19 @@ pub fn three_sides<R: Wait + Threads + Copy + Drop>(
     desks: &Arc<Desks, Global>,
 ) -> Option<(Hall<R>, Vec<Side>)> {
     let shape = Shape::new(&rt, Some(1), 1);
-    let mut servers = all_servers(rt, alloc, 3, shape, Allowance::new(None, 3)).ok()?;
-    let links = all_links(rt, alloc, 3, &mut servers).ok()?;
-    all_sides(alloc, desks, servers, links).ok()
+    hall_of_three(rt, alloc, desks, shape).ok()
+}
+
+// The same for these numbers of threads and seats, or why there is none.
+fn hall_of_three<R: Wait + Copy + Drop>(
+    rt: R,
+    alloc: Global,
+    desks: &Arc<Desks, Global>,
+    shape: Shape,
+) -> Result<(Hall<R>, Vec<Side>), ClusterFault> {
+    let mut servers = all_servers(rt, alloc, 3, shape, Allowance::new(None, 3))?;
+    let links = all_links(rt, alloc, 3, &mut servers)?;
+    all_sides(alloc, desks, servers, links)
 }
 
 // A port of each server.

@@ -9,6 +9,7 @@ abbrev pub invariant-loop-port : goal.invariant-loop-port
 invariant-loop-port l = record {
   publisher : l.publisher ≡ l.fn.publisher;
   gate : view l.gate.pass ≡ taker l.port l.port [];
-  stands : l.stands.items ≡ stands_from l.fn.publisher.published.origin 0 l.port;
+  inbox : l.gate.pass.table_id ≡ l.fn.gate.pass.table_id;
+  stands : l.stands.items ≡ stands_from l.fn.publisher.published.origin l.fn.gate.pass.table_id 0 l.port;
   posts : l.posts.items ≡ posts_from l.fn.publisher.published.origin 0 l.port;
 }

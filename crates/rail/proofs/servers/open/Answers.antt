@@ -1,10 +1,13 @@
 use Rattle.std.proofs.Common.{◌∙◌, ◌+◌, sym, ap, subst, true, length, List, []}
+use Rattle.atomic_table.specs.Seated.{TableId}
 use Rattle.node.specs.declared.messages.Input.{Input}
 use Rattle.node.specs.Replies.{AreOpenBelow}
 use Rattle.node.specs.Runs.{after}
 use Rattle.faces.specs.Publishers.{Publishing}
 use Rattle.rail.specs.declared.inbox.Ticket.{Ticket}
+use Rattle.rail.specs.Inlets.{inlets_from}
 use Rattle.rail.specs.Letters.{PostState}
+use Rattle.rail.specs.Servers.{seats_from, stands_from}
 use Rattle.rail.specs.Turns.{ArePosts}
 use Rattle.rail.proofs.Opening.{are_opened, length_opened, idle_below}
 use Rattle.rail.proofs.servers.«open».Goals as goal
@@ -12,7 +15,7 @@ use Rattle.rail.proofs.servers.«open».Goals as goal
 pub new-worker-requires-clause-ports : goal.new-worker-requires-clause-ports
 new-worker-requires-clause-ports g c =
     let made = c.in-Ok-beside.ensures in
-    ap (λ (v : Ticket). v.ports) c.close.ensures
+    ap (λ (v : Ticket). v.ports) c.close.ensures.pass
     ∙ (made.gate.0
     ∙ sym (ap length made.posts
     ∙ length_opened c.in-Ok.publisher.published.origin 0 (c.args.readers + c.args.more)))
@@ -38,17 +41,21 @@ returns-in-Ok-beside g c =
     let same = c.beside.ensures.publisher in
     let made = c.in-Ok-beside.ensures in
     let none = ap (λ (x : Publishing). x.published.inputs) same ∙ c.in-Ok.ensures.inputs in
+    let o = c.in-Ok.publisher.published.origin in
+    let inbox = sym (c.close.ensures.inbox ∙ made.inbox) in
     record {
-      origin = c.in-Ok.publisher.published.origin;
+      origin = o;
+      inbox = c.close.result.pass.table_id;
       start = c.in-Ok.ensures.start;
       worker = c.new-worker.ensures
           ∙ (λ i. record {
+            inbox = c.close.result.pass.table_id;
             taken = [];
             published = record { origin = (same i).published.origin; inputs = none i };
             goes = true;
             posts = made.posts i;
           });
-      stands = made.stands;
-      seats = made.seats;
-      brought_by = made.inlets;
+      stands = made.stands ∙ ap (λ (b : TableId). stands_from o b 0 c.args.readers) inbox;
+      seats = made.seats ∙ ap (λ (b : TableId). seats_from o b c.args.readers c.args.more) inbox;
+      brought_by = made.inlets ∙ ap (λ (b : TableId). inlets_from b (c.args.readers + c.args.more) c.args.inlets) inbox;
     }

@@ -9,4 +9,4 @@ returns-clause-stand c =
     let o = c.args.published.now.origin in
     let reader : c.args.reader ≡ yet_to_look (course_at o) =
     c.requires.reader ∙ (λ i. yet_to_look (record { origin = o; inputs = c.requires.first i })) in
-    is_stand_at o c.args.port _ reader c.in_ok-seat.ensures.seat
+    is_stand_at o c.args.gate.now.pass.table_id c.args.port _ reader c.in_ok-seat.ensures.seat

@@ -1,4 +1,4 @@
-use Rattle.std.proofs.Common.{◌≡◌, ap, length, length-append, arith, rules}
+use Rattle.std.proofs.Common.{◌≡◌, ◌∙◌, ap, length, length-append, arith, rules}
 use Rattle.runtime.proofs.Wired.{all_more, senders_more}
 use Rattle.runtime.proofs.sides.all_links.Goals as goal
 
@@ -9,6 +9,7 @@ loop-id-preserved g c =
     record {
       count = omega (arith, simp length-append at (ap length c.in_ok-push.ensures.items));
       servers = search rules;
+      cores = c.links_of.ensures.cores ∙ c.loop-id.invariant.cores;
       senders = senders_more c.loop-id.id c.loop-id.all.items c.push.new.self.items c.new.result
           c.loop-id.invariant.senders c.new.ensures.id c.in_ok-push.ensures.items;
       dealt = all_more c.loop-id.id c.args.servers.now.items c.loop-id.servers.items c.links_of.new.servers.items

@@ -1,6 +1,12 @@
-use Rattle.std.proofs.Common.{◌≡◌, vec_len}
+use Rattle.std.proofs.Common.{◌≡◌, All, vec_len}
+use Rattle.runtime.specs.Wiring.{HasOwnPools, LeadsHome, cores_of, openings, starts_of}
 use Rattle.runtime.proofs.sides.all_servers.Given as goal
 
--- the number that was made
+-- the servers that were made
 abbrev pub invariant-loop-id : goal.invariant-loop-id
-invariant-loop-id g l = vec_len l.servers ≡ l.id
+invariant-loop-id g l = record {
+  count : vec_len l.servers ≡ l.id;
+  workers : starts_of l.servers.items ≡ openings l.id l.count;
+  pools : All HasOwnPools (cores_of l.servers.items);
+  inlets : All (λ server. LeadsHome server) l.servers.items;
+}

@@ -1,6 +1,8 @@
 use Rattle.std.proofs.Common.{◌≡◌, ◌+◌, ◌++◌, ◌∷◌, [], ap, sym, ◌∙◌, length, vec_len, arith, rules}
 use Rattle.std.specs.Vec.Iter.{into_iter_items}
 use Rattle.runtime.specs.Wiring.{numbers}
+use Rattle.runtime.proofs.Standing.{sender_here, senders_first, senders_next, worker_here, workers_first}
+use Rattle.runtime.proofs.Standing.{workers_next}
 use Rattle.runtime.proofs.Wired.{numbers_next, sides_all, sides_more, sides_none}
 use Rattle.runtime.proofs.sides.all_sides.Goals as goal
 
@@ -11,8 +13,25 @@ loop-server-init g c =
     record {
       count = search rules;
       hall = c.new-hall.ensures ∙ sym (ap numbers c.new-sides.ensures.len);
+      workers = workers_first (vec_len c.args.servers) (vec_len c.new-sides.result) c.args.servers.items
+          (into_iter_items c.into_iter-server-iterator.result) c.requires.workers same c.new-sides.ensures.len;
+      links = senders_first (vec_len c.args.links) (vec_len c.new-sides.result) c.args.links.items
+          (into_iter_items c.into_iter-left.result) c.requires.links c.into_iter-left.ensures.rest
+          c.new-sides.ensures.len;
       sides = sides_none c.args.servers.items (into_iter_items c.into_iter-server-iterator.result)
           c.new-sides.result.items same c.new-sides.ensures.items;
+    }
+
+pub add_linked-requires : goal.add_linked-requires
+add_linked-requires g c =
+    let place : c.len.result ≡ vec_len c.loop-server.sides = search rules in
+    record {
+      worker = worker_here (vec_len c.loop-server.sides) c.len.result (into_iter_items c.loop-server.server-iterator)
+          (into_iter_items c.next.new.self) c.in-Some.server c.loop-server.invariant.workers
+          c.in-Some.ensures.steps.0 place;
+      links = sender_here (vec_len c.loop-server.sides) c.len.result (into_iter_items c.loop-server.left)
+          (into_iter_items c.next-own.new.self) c.next-own.result c.loop-server.invariant.links c.next-own.ensures.items
+          place;
     }
 
 pub loop-server-preserved : goal.loop-server-preserved
@@ -25,6 +44,12 @@ loop-server-preserved g c =
           ∙ (ap (λ ns. ns ++ c.len.result ∷ []) c.loop-server.invariant.hall
           ∙ (ap (λ n. numbers (vec_len c.loop-server.sides) ++ n ∷ []) place
           ∙ (sym (numbers_next (vec_len c.loop-server.sides)) ∙ ap numbers (sym more))));
+      workers = workers_next (vec_len c.loop-server.sides) (vec_len c.push.new.self)
+          (into_iter_items c.loop-server.server-iterator) (into_iter_items c.next.new.self) c.in-Some.server
+          c.loop-server.invariant.workers c.in-Some.ensures.steps.0 more;
+      links = senders_next (vec_len c.loop-server.sides) (vec_len c.push.new.self) (into_iter_items c.loop-server.left)
+          (into_iter_items c.next-own.new.self) c.next-own.result c.loop-server.invariant.links c.next-own.ensures.items
+          c.in_ok-side.ensures.links more;
       sides = sides_more c.args.servers.items (into_iter_items c.loop-server.server-iterator)
           (into_iter_items c.next.new.self) c.in-Some.server c.loop-server.sides.items c.push.new.self.items
           c.in_ok-side.side c.loop-server.invariant.sides c.in-Some.ensures.steps.0 c.in_ok-side.ensures.side

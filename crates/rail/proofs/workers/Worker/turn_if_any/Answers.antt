@@ -1,4 +1,5 @@
 use Rattle.rail.proofs.Refusing.{any_fault, any_closed, any_memory, any_stops}
+use Rattle.rail.proofs.Staying.{any_server}
 use Rattle.rail.proofs.workers.Worker.turn_if_any.Goals as goal
 
 pub returns-clause-fault : goal.returns-clause-fault
@@ -24,3 +25,9 @@ returns-clause-stops g c =
     let l = g.L.Links.state c.args.links.now in
     let done = c.take_turn_if_any in
     any_stops c.args.self.now done.new.self l (g.L.Links.state done.new.links) done.result done.ensures.turn
+
+pub returns-clause-server : goal.returns-clause-server
+returns-clause-server g c =
+    let l = g.L.Links.state c.args.links.now in
+    let done = c.take_turn_if_any in
+    any_server c.args.self.now done.new.self l (g.L.Links.state done.new.links) done.result done.ensures.turn

@@ -1,4 +1,4 @@
-use Rattle.std.proofs.Common.{◌∷◌, ◌++◌, ◌∙◌, [], List, ap, arith}
+use Rattle.std.proofs.Common.{◌∷◌, ◌++◌, ◌∙◌, [], List, ap, arith, length}
 use Rattle.std.proofs.lemmas.List.Elements.{All-push, All-same}
 use Rattle.seats.specs.SeatPools.{IsAt, IsFreeAt, Pooling}
 use Rattle.seats.specs.Submitters.{Submitting}
@@ -18,6 +18,14 @@ invariant_of-self c =
           (ap (λ (p : Pooling). p.seen) c.self.view_is)));
       are_left = All-same (IsAt s.reader.seen.origin) c.make_room.new.left.items s.left.items c.make_room.ensures.left
           c.self.invariant.are_left;
+      count = omega (
+        arith,
+        c.self.invariant.count,
+        c.in-Some.ensures,
+        ap (λ (xs : List Submitting). length xs) c.make_room.ensures.free,
+        ap (λ (xs : List Submitting). length xs) c.make_room.ensures.left,
+        c.push_reserved.ensures.len,
+      );
       frees = omega (arith, c.in-Ok.ensures.all, c.push_reserved.ensures.capacity);
       leaves = c.in-Ok.ensures.all.1;
     }

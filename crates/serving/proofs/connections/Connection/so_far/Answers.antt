@@ -8,5 +8,5 @@ returns c =
     let s = c.self.inside in
     record {
       begun = λ more. subst (λ v. IsBegun v (v.read ++ more)) c.self.view_is
-          (begun s.read s.outcomes.all s.written s.session s.ended s.failed c.self.invariant more);
+          (begun s.read s.outcomes.all s.written s.session s.ended s.failed c.self.invariant.0 more);
     }

@@ -1,0 +1,20 @@
+use Rattle.std.proofs.Common.{◌≡◌, ◌∙◌, ap, map, sym, vec_len}
+use Rattle.runtime.specs.Wiring.{Core, numbers, openings, starts_of}
+use Rattle.runtime.proofs.Standing.{seated}
+use Rattle.runtime.proofs.clusters.open_chain.Goals as goal
+
+pub all_sides-requires : goal.all_sides-requires
+all_sides-requires g c =
+    let same : starts_of c.all_links.new.servers.items ≡ starts_of c.in_ok-servers.servers.items =
+    ap (λ cs. map (λ (x : Core). x.worker.published.origin.start) cs) c.all_links.ensures.cores in
+    let size : vec_len c.all_links.new.servers ≡ c.args.count =
+    c.all_links.ensures.servers ∙ c.in_ok-servers.ensures.count in
+    record {
+      workers = same ∙ (c.in_ok-servers.ensures.workers ∙ ap (λ n. openings n n) (sym size));
+      links = c.in_ok-links.ensures.senders ∙ ap numbers (sym c.in_ok-links.ensures.count);
+    }
+
+pub returns-clause-sides : goal.returns-clause-sides
+returns-clause-sides g c =
+    seated c.args.count c.in_ok-servers.servers.items c.all_links.new.servers.items c.in_ok-hall.sides.items
+    c.in_ok-servers.ensures.workers c.in_ok-servers.ensures.pools c.all_links.ensures.cores c.in_ok-hall.ensures.sides
