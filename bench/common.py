@@ -6,11 +6,14 @@ import subprocess
 import sys
 import tempfile
 
+from live_parts.setting import Beside
+
 TOP = os.path.dirname(os.path.dirname(os.path.abspath(__file__)))
 PROGRAM = os.path.join(TOP, "crates", "craq", "out", "craq")
 EXAMPLE = os.path.join(TOP, "examples", "set_then_gets.schedule")
 RUNS = 5
 CALL = "begin 0\nwork 0\nhand 0\n"
+BESIDE = Beside()
 COUNTING = sys.argv[1:] == ["--instructions"]
 if sys.argv[1:] and not COUNTING:
     sys.exit(f"usage: {sys.argv[0]} [--instructions]")
@@ -64,6 +67,12 @@ def in_pieces(text, ends, length, connection=0):
             answered += 1
         lines.append(f"begin {connection}\n")
     return "".join(lines)
+
+
+def tell_how(of=""):
+    """Says what the numbers are, and of times whether the machine was idle."""
+    print(f"(instructions{of}, by valgrind)" if COUNTING else
+          f"(processor time, the least of {RUNS} runs, on {BESIDE.told()})")
 
 
 def processor_seconds():

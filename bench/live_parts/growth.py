@@ -1,26 +1,27 @@
 """What a call costs against the number of keys, of servers, and of updates of one key; how long a flush makes clients
 wait. Each count has fresh servers."""
 import socket
+import statistics
 import time
 from contextlib import contextmanager
-from tempfile import TemporaryDirectory
+from itertools import zip_longest
 
-from live_parts.peers import READY, Craq
+from live_parts.chains import Craq
+from live_parts.peers import READY, running
+from live_parts.speeds import Case
 
 SIZE = 100
 ALONE, FOUR = [], ["--connections", 4, "--depth", 16]
+# The sets of which the cost of a hop is seen: one at a time, by the head's client; then 4 and 16, by clients of each.
+HOPS = [Case("set", SIZE, connections, depth) for connections, depth in [(1, 1), (4, 16), (16, 1)]]
 
 
 @contextmanager
 def filled(generator, peer, keys):
     """The peer, running, with `keys` keys."""
-    with TemporaryDirectory() as folder:
-        peer.open(folder)
-        try:
-            generator.fill(peer, SIZE, keys)
-            yield peer
-        finally:
-            peer.end()
+    with running([peer]):
+        generator.fill(peer, SIZE, keys)
+        yield peer
 
 
 def timed(generator, peer, sets, seconds, *words):
@@ -53,13 +54,39 @@ def servers_table(generator, program, counts, seconds):
     return table
 
 
+def hops_table(samples, case, chains):
+    """What a set costs in each of these chains, which are called by their number of servers."""
+    named = {count: name for count, name in chains.items() if samples.has(case, name)}
+    counts, more = list(named), "each server more"
+    rates, waits, used = ([samples.median(case, name, field) for name in named.values()]
+                          for field in ("rate", "p50", "processor"))
+    # not the median: its clock ticks are too coarse for one run
+    system = [samples.mean(case, name, "system") for name in named.values()]
+    columns = [["servers", *map(str, counts), "all"], ["sets a second", *texts(rates, "{:,.0f}")],
+               ["p50", *texts(waits)], [more, *rises(counts, waits)],
+               ["processor", *texts(used)], [more, *rises(counts, used)], ["of it the system's", *texts(system)]]
+    return list(map(list, zip_longest(*columns, fillvalue="")))
+
+
+def texts(column, form="{:.1f}"):
+    return map(form.format, column)
+
+
+def rises(counts, column):
+    """How much a column rises for each server more: from the row before, and at last along the line that fits best."""
+    steps = zip(counts, counts[1:], column, column[1:])
+    each = [(after - before) / (greater - less) for less, greater, before, after in steps]
+    line = [statistics.linear_regression(counts, column).slope] if each else []
+    return ["", *texts([*each, *line])]
+
+
 def updates_table(generator, makers, counts):
     table = [["", "updates", "an update", "processor", "p99.9"]]
     for name, make in makers.items():
         for count in counts:
             with filled(generator, make(), 1) as peer:
-                words = ["--sets", 1, "--keys", 1, "--connections", 16, "--depth", 16, "--count", count]
-                load = generator.run(peer, SIZE, *words)
+                words = ["--sets", 1, "--keys", 1, "--connections", 16, "--depth", 16]
+                load = generator.run(peer, SIZE, *words, calls=count)
             table.append([name, f"{count:,}", f"{1e6 / load.rate:.1f}", f"{load.processor:.1f}", f"{load.p999:,.0f}"])
     return table
 

@@ -4,7 +4,8 @@
  * i modulo the count of ports. Every value names its key and the write that made it, and its filler follows from these:
  * so each reply is checked whole. A wrong, missing, surplus or late one is an error. One line of JSON is printed.
  *
- * --pids names processes whose processor time is read at both ends of the counted time. --fill sets every key once, in
+ * --pids names processes whose processor time is read at both ends of the counted time: all of it, and the part that
+ * the system took for them, which is known to a hundredth of a second. --fill sets every key once, in
  * order, over one connection. --canned takes the block of bytes x that echo answers for each value.
  */
 #define _GNU_SOURCE
@@ -65,16 +66,42 @@ static uint64_t clock_ns(clockid_t clock)
 
 static uint64_t now_ns(void) { return clock_ns(CLOCK_MONOTONIC); }
 
-/* The processor time of the watched processes, with that of their threads that have ended. */
-static uint64_t watched_ns(void)
+/* The processor time that the system took for this process. */
+static uint64_t system_ns(int pid)
 {
-    uint64_t sum = 0;
+    char name[32], text[512];
+    unsigned long long ticks = 0;
+    snprintf(name, sizeof name, "/proc/%d/stat", pid);
+    FILE *file = fopen(name, "r");
+    if (!file)
+        return 0;
+    text[fread(text, 1, sizeof text - 1, file)] = 0;
+    fclose(file);
+    const char *at = strrchr(text, ')');        /* then 12 fields, and this one */
+    if (!at || sscanf(at + 1, " %*s %*s %*s %*s %*s %*s %*s %*s %*s %*s %*s %*s %llu", &ticks) != 1)
+        return 0;
+    return ticks * (1000000000u / (uint64_t)sysconf(_SC_CLK_TCK));
+}
+
+struct used { uint64_t all, system; };
+
+/* The processor time of the watched processes, with that of their threads that have ended. */
+static struct used watched(void)
+{
+    struct used sum = {0};
     for (int i = 0; i < pid_count; i++) {
         clockid_t clock;
         if (clock_getcpuclockid(pids[i], &clock) == 0)
-            sum += clock_ns(clock);
+            sum.all += clock_ns(clock);
+        sum.system += system_ns(pids[i]);
     }
     return sum;
+}
+
+static struct used watched_since(struct used before)
+{
+    struct used now = watched();
+    return (struct used){now.all - before.all, now.system - before.system};
 }
 
 /* ---- random numbers, keys and values ---- */
@@ -622,7 +649,7 @@ static void make_filler(void)
         filler[i] = "abcdefghijklmnopqrstuvwxyzABCDEFGHIJKLMNOPQRSTUVWXYZ0123456789+-"[draw(&state) % 64];
 }
 
-static void report(const struct worker *workers, int count, double took, uint64_t processor_ns)
+static void report(const struct worker *workers, int count, double took, struct used used)
 {
     struct worker *sum = room(sizeof *sum);
     for (int i = 0; i < count; i++) {
@@ -637,8 +664,8 @@ static void report(const struct worker *workers, int count, double took, uint64_
     printf("{\"seconds\": %.6f, \"gets\": %llu, \"sets\": %llu, \"p50\": %.2f, \"p99\": %.2f, \"p999\": %.2f, ", took,
            (unsigned long long)sum->gets, (unsigned long long)sum->sets, quantile(times, .5), quantile(times, .99),
            quantile(times, .999));
-    printf("\"processor\": %.6f, \"errors\": %llu, \"first_error\": \"%s\"}\n", (double)processor_ns / 1e9,
-           (unsigned long long)sum->errors, sum->first_error);
+    printf("\"processor\": %.6f, \"system\": %.6f, \"errors\": %llu, \"first_error\": \"%s\"}\n",
+           (double)used.all / 1e9, (double)used.system / 1e9, (unsigned long long)sum->errors, sum->first_error);
     exit(sum->errors ? 1 : 0);
 }
 
@@ -664,7 +691,7 @@ int main(int argc, char **argv)
             open_connection(&all[i], ports[i % port_count], (unsigned)depth);
     counted_from = now_ns() + (uint64_t)(fill || limit ? 0 : warm_up * 1e9);
     counted_to = fill || limit ? UINT64_MAX : counted_from + (uint64_t)(seconds * 1e9);
-    uint64_t used = watched_ns();
+    struct used used = watched();
     if (fill) {
         fill_keys(&workers[0]);
     } else {
@@ -673,15 +700,15 @@ int main(int argc, char **argv)
                 stop("no thread");
         if (!limit) {
             sleep_until(counted_from);
-            used = watched_ns();
+            used = watched();
             sleep_until(counted_to);
-            used = watched_ns() - used;
+            used = watched_since(used);
         }
         for (int i = 0; i < threads; i++)
             pthread_join(workers[i].thread, NULL);
     }
     uint64_t ended = now_ns();
     if (fill || limit)
-        used = watched_ns() - used;
+        used = watched_since(used);
     report(workers, threads, (double)((ended < counted_to ? ended : counted_to) - counted_from) / 1e9, used);
 }

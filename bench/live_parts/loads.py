@@ -6,9 +6,11 @@ import sys
 from collections import namedtuple
 
 PARTS = os.path.dirname(os.path.abspath(__file__))
-PATIENCE = 120
+PATIENCE = 180  # seconds for one run; and more for one of so many calls, by what a busy machine does a second at least
+SLOWEST = 2_000
 
-Load = namedtuple("Load", "rate p50 p99 p999 processor seconds")
+# Calls a second, latencies, and the processor time a call with that part of it that the system took, in microseconds.
+Load = namedtuple("Load", "rate p50 p99 p999 processor system")
 
 
 class Failed(Exception):
@@ -29,13 +31,14 @@ class Generator:
     def __init__(self, folder):
         self.program, self.runs, self.replies, self.seed = compiled("load", folder), 0, 0, 0
 
-    def run(self, peer, size, *words):
-        """One run against this peer. Keys of different sizes have different prefixes, so that both can be there."""
+    def run(self, peer, size, *words, calls=0):
+        """One run against this peer, of so many calls or as the words say. Keys of different sizes have different
+        prefixes, so that both can be there."""
         self.seed += 1
-        own = ["--size", size, "--prefix", f"{size:04}", "--seed", self.seed]
+        own = ["--size", size, "--prefix", f"{size:04}", "--seed", self.seed, "--count", calls]
         words = [self.program, *peer.words(size), *map(str, [*own, *words])]
         try:
-            done = subprocess.run(words, stdout=subprocess.PIPE, text=True, timeout=PATIENCE + 60)
+            done = subprocess.run(words, stdout=subprocess.PIPE, text=True, timeout=PATIENCE + calls / SLOWEST)
         except subprocess.TimeoutExpired:
             raise Failed(f"{peer.name}: not ended: {' '.join(words)}") from None
         if not done.stdout:
@@ -46,8 +49,8 @@ class Generator:
         count = told["gets"] + told["sets"]
         self.runs += 1
         self.replies += count
-        each = told["processor"] / count * 1e6 if count else 0.0
-        return Load(count / told["seconds"], told["p50"], told["p99"], told["p999"], each, told["seconds"])
+        used = [told[field] / count * 1e6 if count else 0.0 for field in ("processor", "system")]
+        return Load(count / told["seconds"], told["p50"], told["p99"], told["p999"], *used)
 
     def fill(self, peer, size, keys):
-        return self.run(peer, size, "--fill", "--keys", keys)
+        return self.run(peer, size, "--fill", "--keys", keys, calls=keys)

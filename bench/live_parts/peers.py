@@ -1,23 +1,31 @@
-"""The servers that bench/live measures: each starts its processes on free ports of 127.0.0.1, and ends them itself."""
+"""The servers that benchmarks measure, but for those of craq (chains.py): each starts its processes on free ports of
+127.0.0.1, and ends them itself."""
 import ctypes
 import os
+import resource
 import shutil
 import signal
 import socket
 import subprocess
 import sys
 import time
+from contextlib import ExitStack, contextmanager
+from tempfile import TemporaryDirectory
 
 SIZES = [100, 4096]
-SEATS = 16
 KEY_LENGTH = 13
 READY = 30
 PR_SET_PDEATHSIG = 1
 LIBC = ctypes.CDLL(None)
+# As many files as the launcher of craq lets it open.
+MOST_FILES = 1 << 20
 
 
-def end_with_parent():
+def before_start():
+    """A server ends with this process, and may open as many files as the system and that launcher allow."""
     LIBC.prctl(PR_SET_PDEATHSIG, signal.SIGKILL)
+    _, most = resource.getrlimit(resource.RLIMIT_NOFILE)
+    resource.setrlimit(resource.RLIMIT_NOFILE, (most if 0 <= most < MOST_FILES else MOST_FILES, most))
 
 
 def free_ports(count):
@@ -46,7 +54,7 @@ class Peer:
         self.name, self.processes, self.first = name, [], None
 
     def start(self, words, **how):
-        process = subprocess.Popen(words, preexec_fn=end_with_parent, stderr=subprocess.DEVNULL, **how)
+        process = subprocess.Popen(words, preexec_fn=before_start, stderr=subprocess.DEVNULL, **how)
         self.processes.append(process)
         return process
 
@@ -157,77 +165,14 @@ def read_lines(client, count):
     return text.split(b"\r\n")
 
 
-class Craq(Peer):
-    """`craq cluster`: connections go to its servers in turn, the first to the head."""
-
-    def __init__(self, name, program, servers):
-        super().__init__(name)
-        self.program, self.servers = program, servers
-
-    def open(self, _folder):
-        self.first = free_ports(self.servers)
-        numbers = ["--servers", self.servers, "--port", self.first, "--seats", SEATS, "--connections", 2048]
-        words = [*self.program, "cluster", *map(str, numbers)]
-        process = self.start(words, stdin=subprocess.PIPE, stdout=subprocess.PIPE, text=True)
-        if process.stdout.readline() != "ready\n":
-            self.end()
-            sys.exit(f"{self.name} isn't ready")
-
-    def ports(self, _size):
-        return [self.first + place for place in range(self.servers)]
-
-
-class CraqServers(Peer):
-    """A chain of `craq server` processes: connections go to them in turn, the first to the head."""
-
-    def __init__(self, name, program, servers, more=()):
-        """`more` are words for each server."""
-        super().__init__(name)
-        self.program, self.servers, self.more = program, servers, more
-
-    def open(self, _folder):
-        self.first = free_ports(2 * self.servers)
-        numbers = ["--servers", self.servers, "--port", self.first, "--peer-port", self.first + self.servers]
-        for place in range(self.servers):
-            words = [*self.program, "server", "--id", place, *numbers, "--seats", SEATS, "--connections", 2048]
-            words += self.more
-            self.start(list(map(str, words)), stdin=subprocess.DEVNULL, stdout=subprocess.PIPE, text=True)
-        if any(process.stdout.readline() != "ready\n" for process in self.processes):
-            self.end()
-            sys.exit(f"{self.name} isn't ready")
-
-    def ports(self, _size):
-        return [self.first + place for place in range(self.servers)]
-
-
-class CraqBeaten(CraqServers):
-    """The same with a master that beats, and leases of so many seconds if a number is given. The master's processor
-    time isn't counted."""
-
-    def __init__(self, name, program, servers, lease=None):
-        super().__init__(name, program, servers, ("--lease", lease) if lease else ())
-        self.lease = lease
-
-    def open(self, folder):
-        super().open(folder)
-        numbers = ["--servers", self.servers, "--peer-port", self.first + self.servers]
-        words = [*self.program, "master", *numbers, "--watch"]
-        master = self.start(list(map(str, words)), stdin=subprocess.DEVNULL, stdout=subprocess.PIPE, text=True)
-        self.wait_for_reign(master)
-
-    def wait_for_reign(self, master):
-        """Until the master reigns, and has heard of each lease."""
-        reigns, leases = 0, 0
-        for line in master.stdout:
-            reigns += "takes reign" in line
-            leases += "has a lease of" in line
-            if reigns and leases == (self.servers if self.lease else 0):
-                return
-        self.end()
-        sys.exit(f"the master of {self.name} ends")
-
-    def counted(self):
-        return self.processes[:self.servers]
+@contextmanager
+def running(peers):
+    """These peers, which run until the block ends."""
+    with TemporaryDirectory() as folder, ExitStack() as stack:
+        for peer in peers:
+            stack.callback(peer.end)
+            peer.open(folder)
+        yield peers
 
 
 def is_there(program):

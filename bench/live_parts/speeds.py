@@ -3,7 +3,7 @@ import statistics
 import time
 from collections import defaultdict, namedtuple
 
-from live_parts.peers import SIZES
+from live_parts.peers import SIZES, running
 
 Case = namedtuple("Case", "mix size connections depth")
 
@@ -27,8 +27,14 @@ class Samples:
     def add(self, case, peer, turn, load):
         self.loads[case, peer][turn] = load
 
+    def numbers(self, case, peer, field):
+        return [getattr(load, field) for load in self.loads[case, peer].values()]
+
     def median(self, case, peer, field):
-        return statistics.median(getattr(load, field) for load in self.loads[case, peer].values())
+        return statistics.median(self.numbers(case, peer, field))
+
+    def mean(self, case, peer, field):
+        return statistics.mean(self.numbers(case, peer, field))
 
     def ratios(self, case, peer, other, field="rate"):
         """Of the calls a second or another number, round by round."""
@@ -49,24 +55,51 @@ def quartiles(numbers):
     return statistics.quantiles(numbers, n=4, method="inclusive")
 
 
-def measure(generator, peers, cases, rounds, seconds, limit):
-    """This many rounds; no run begins after the limit, in seconds."""
-    until, samples = time.monotonic() + limit, Samples()
-    for peer in peers:
-        for size in SIZES:
-            if peer.name != "echo":
-                generator.fill(peer, size, KEYS)
-    for turn in range(rounds):
-        for place, case in enumerate(cases):
+class Course:
+    """Rounds of runs of so many seconds, of these cases; no run begins after the limit, in seconds."""
+
+    def __init__(self, generator, cases, seconds, limit):
+        self.generator, self.cases, self.seconds = generator, cases, seconds
+        self.until, self.samples = time.monotonic() + limit, Samples()
+
+    def is_over(self):
+        return time.monotonic() > self.until
+
+    def fill(self, peers):
+        for peer in peers:
+            for size in SIZES:
+                if peer.name != "echo":
+                    self.generator.fill(peer, size, KEYS)
+
+    def go_round(self, peers, turn):
+        """Each peer has each case once, in an order that goes round."""
+        for place, case in enumerate(self.cases):
             first = (turn + place) % len(peers)
             for peer in peers[first:] + peers[:first]:
-                if time.monotonic() > until:
-                    return samples
-                samples.add(case, peer.name, turn, one_run(generator, peer, case, seconds))
-    return samples
+                if self.is_over():
+                    return
+                self.samples.add(case, peer.name, turn, self.one_run(peer, case))
+
+    def one_run(self, peer, case):
+        seconds = self.seconds * (4 if case.connections in MANY else 1)
+        words = ["--sets", MIXES[case.mix], "--connections", case.connections, "--depth", case.depth, "--keys", KEYS]
+        return self.generator.run(peer, case.size, *words, "--seconds", seconds, "--warm-up", max(.01, seconds / 8))
 
 
-def one_run(generator, peer, case, seconds):
-    seconds *= 4 if case.connections in MANY else 1
-    words = ["--sets", MIXES[case.mix], "--connections", case.connections, "--depth", case.depth, "--keys", KEYS]
-    return generator.run(peer, case.size, *words, "--seconds", seconds, "--warm-up", max(.01, seconds / 8))
+def measure(course, peers, rounds):
+    """This many rounds of peers that run."""
+    course.fill(peers)
+    for turn in range(rounds):
+        course.go_round(peers, turn)
+    return course.samples
+
+
+def measure_anew(course, makers, rounds):
+    """The same of peers that are started anew for each round, since one start of a program can be faster than another:
+    so what differs between two starts is part of what the quartiles show."""
+    for turn in range(rounds):
+        if not course.is_over():
+            with running([make() for make in makers]) as peers:
+                course.fill(peers)
+                course.go_round(peers, turn)
+    return course.samples

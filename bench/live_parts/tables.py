@@ -23,21 +23,31 @@ def short(number):
     return f"{number:.2f}" if number < 10 else f"{number:,.0f}"
 
 
-def ratio_table(samples, cases, names, base):
-    """The base's calls a second, and the ratio of each other peer to it: the median, and the quartiles."""
-    table = [CASE_HEAD + [f"{base}, a second"] + [name for name in names if name != base]]
+def exact(ratio):
+    """For ratios that are near to 1."""
+    return f"{ratio:.3f}"
+
+
+def ratio_text(ratios, shown=short):
+    """The median, and the quartiles."""
+    low, middle, high = map(shown, quartiles(ratios))
+    return f"{middle} ({low} to {high})"
+
+
+# What is compared: the unit, and how a number of it is shown.
+COMPARED = {"rate": ("a second", "{:,.0f}"), "processor": ("microseconds", "{:.2f}")}
+
+
+def ratio_table(samples, cases, names, base, field="rate", shown=short):
+    """The base's median, and the ratio of each other peer to it: the median, and the quartiles."""
+    unit, form = COMPARED[field]
+    others = [name for name in names if name != base]
+    table = [[*CASE_HEAD, f"{base}, {unit}", *others]]
     for case in cases:
-        if not samples.has(case, base):
-            continue
-        row = case_texts(case) + [f"{samples.median(case, base, 'rate'):,.0f}"]
-        for name in names:
-            ratios = samples.ratios(case, name, base)
-            if name != base and ratios:
-                low, middle, high = quartiles(ratios)
-                row.append(f"{short(middle)} ({short(low)} to {short(high)})")
-            elif name != base:
-                row.append("")
-        table.append(row)
+        if samples.has(case, base):
+            ratios = [samples.ratios(case, name, base, field) for name in others]
+            table.append([*case_texts(case), form.format(samples.median(case, base, field)),
+                          *(ratio_text(each, shown) if each else "" for each in ratios)])
     return table
 
 
