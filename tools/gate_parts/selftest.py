@@ -304,6 +304,16 @@ def append(file, text):
         it.write(text)
 
 
+def replaced(file, old, new):
+    """Writes `new` in place of `old`, which has to stand in the file once."""
+    with open(file, encoding="utf-8") as it:
+        text = it.read()
+    if text.count(old) != 1:
+        raise ValueError(f"{old} stands {text.count(old)} times in {file}")
+    with open(file, "w", encoding="utf-8") as it:
+        it.write(text.replace(old, new))
+
+
 def taken_after(change):
     """Which crates stand in the record, once `change` was made to a repository that it was written for."""
     with tempfile.TemporaryDirectory(prefix="gate-self-") as room:
@@ -353,11 +363,23 @@ RECORDS = {
     "a cheap crate is drawn more often": draws,
     "the same sources stand in it": lambda: taken_after(lambda room: None) == {"low", "high"},
     "a changed source of the crate does not": lambda: taken_after(
-        lambda room: append(f"{room}/crates/high/src/lib.rt", "// more\n")
+        lambda room: replaced(f"{room}/crates/high/src/lib.rt", "one + 1", "1 + one")
     ) == {"low"},
     "a changed source below it does not": lambda: taken_after(
-        lambda room: append(f"{room}/crates/low/src/lib.rt", "// more\n")
+        lambda room: replaced(f"{room}/crates/low/src/lib.rt", "one + 1", "1 + one")
     ) == set(),
+    "a token more does not": lambda: taken_after(
+        lambda room: append(f"{room}/crates/high/src/lib.rt", ";\n")
+    ) == {"low"},
+    "other comments do": lambda: taken_after(
+        lambda room: replaced(f"{room}/crates/low/src/lib.rt", "//! Small functions", "//! A few\n//! functions")
+    ) == {"low", "high"},
+    "a text that can't be read does not": lambda: taken_after(
+        lambda room: append(f"{room}/crates/high/src/lib.rt", '"\n')
+    ) == {"low"},
+    "an edit that can't be applied any longer does not": lambda: taken_after(
+        lambda room: replaced(f"{room}/crates/high/src/lib.rt", "//! Small functions", "//!     x + 1: small functions")
+    ) == {"low"},
     "a changed edit does not": lambda: taken_after(
         lambda room: append(f"{room}/crates/low/must-fail/adds_two.edit", "\n")
     ) == {"high"},
