@@ -6,8 +6,10 @@ isn't refused there once more from nothing, as the kit does it. Goals are stated
 calls, so a function with an open goal of its own is refused for itself also if it calls another edited function, if that
 one says itself what it ensures."""
 import collections
+import itertools
 import os
 import re
+from concurrent.futures import ThreadPoolExecutor
 
 from kept import SUBJECT
 from kit import rt, rtlib
@@ -30,6 +32,8 @@ LOST_NAMES = re.compile(r"has no field|is not in scope|has no `|was not admitted
 # Changes the code that is proved, and nothing of what it does.
 NO_OP = b" let _gate = 0u8;"
 NO_OPS = 3
+# A batch has at least this many edits, if there are several batches side by side.
+LEAST = 4
 
 
 def tried_alone(crate, edit, flags, folder=None):
@@ -40,11 +44,11 @@ def tried_alone(crate, edit, flags, folder=None):
 
 
 class Trial:
-    """The must-fail edits of one crate, tried over what a check of the crate kept."""
+    """The must-fail edits of one crate, tried over what a check of the crate kept, `side_by_side` checks at a time."""
 
-    def __init__(self, crate, kept, flags):
-        self.crate, self.kept, self.flags = crate, kept, flags
-        self.verdicts, self.log, self.batches = {}, [], 0
+    def __init__(self, crate, kept, flags, side_by_side=1):
+        self.crate, self.kept, self.flags, self.side_by_side = crate, kept, flags, side_by_side
+        self.verdicts, self.log, self.batches = {}, [], itertools.count(1)
         self.functions, self.texts, self.waiting = [], {}, set()
 
     def run(self, edits):
@@ -54,14 +58,17 @@ class Trial:
         for path in {it.path for it in self.functions}:
             with open(f"{self.crate.folder}/{path}", "rb") as file:
                 self.texts[path] = file.read()
-        self.try_in_batches(edits)
-        alone = [it for it in edits if it not in self.verdicts]
-        for it in alone:
-            with self.kept.opened() as room:
-                self.verdicts[it] = tried_alone(self.crate, it, self.flags, room)
+        with ThreadPoolExecutor(self.side_by_side) as pool:
+            self.try_in_batches(edits, pool)
+            alone = [it for it in edits if it not in self.verdicts]
+            self.verdicts.update(zip(alone, pool.map(self.alone, alone)))
         if alone:
             self.log.append(f"alone: {len(alone)}: {' '.join(os.path.basename(it) for it in alone)}")
         return self.judged(edits)
+
+    def alone(self, edit):
+        with self.kept.opened() as room:
+            return tried_alone(self.crate, edit, self.flags, room)
 
     def judged(self, edits):
         """As the verdicts say, if the crate without an edit is proved over the kept work; else each from nothing."""
@@ -74,7 +81,7 @@ class Trial:
             for it in edits
         ]
 
-    def try_in_batches(self, edits):
+    def try_in_batches(self, edits, pool):
         places = {it: place_of(it, self.crate, self.functions, self.texts) for it in edits}
         places = {it: place for it, place in places.items() if place}
         left = list(places)
@@ -84,7 +91,9 @@ class Trial:
                 first_of.setdefault(places[it][0], it)
             tried = list(first_of.values())
             self.waiting = set()
-            passed = self.batch({it: places[it] for it in tried})
+            count = max(1, min(self.side_by_side, len(tried) // LEAST))
+            batches = [{it: places[it] for it in tried[at::count]} for at in range(count)]
+            passed = sum(pool.map(self.batch, batches))
             # one that stands on another of its batch has one more turn, without those that passed
             again = [it for it in tried if it in self.waiting and it not in self.verdicts] if passed else []
             left = [it for it in left if it not in first_of.values()] + again
@@ -108,7 +117,6 @@ class Trial:
         texts = {path: applied(self.texts[path], spots).decode() for path, spots in changes.items()}
         with self.kept.opened() as room:
             ran = rt.checked(self.crate, texts, self.flags, room)
-        self.batches += 1
         self.keep_log(ran.stdout)
         return self.passed_of(places, no_ops, texts, ran)
 
@@ -158,7 +166,7 @@ class Trial:
     def keep_log(self, said):
         folder = os.environ.get("GATE_LOGS")
         if folder:
-            with open(f"{folder}/{self.crate.name}.batch{self.batches}.log", "w", encoding="utf-8") as it:
+            with open(f"{folder}/{self.crate.name}.batch{next(self.batches)}.log", "w", encoding="utf-8") as it:
                 it.write(said)
 
 

@@ -28,6 +28,9 @@ from typing import NamedTuple
 # What N processes of one check divide its seconds by, and what they multiply its processor seconds by.
 SPEED = {1: 1.0, 2: 1.75, 3: 2.2, 4: 2.5}
 WORK = {1: 1.0, 2: 1.15, 3: 1.33, 4: 1.5}
+# The same of edits, which are tried in several checks side by side. They share no memory.
+EDITS_SPEED = {1: 1.0, 2: 1.8, 3: 2.5, 4: 3.2}
+EDITS_WORK = {1: 1.0, 2: 1.1, 3: 1.2, 4: 1.25}
 # What each process after the first adds to a check's memory, as a part of the first's: most is shared.
 MORE_MEMORY = 0.25
 # A check may take so much more memory than it did when it was measured.
@@ -48,7 +51,7 @@ HEAD = """\
 # largest process. Measured by runs; 0 is none, or not measured. They order work, and no verdict rests on them.
 """
 # Kinds of work that use one process, whatever they are given.
-NARROW = ("edits", "tools")
+NARROW = ("tools",)
 # Kinds of work that cost what another does: a seed is a check of the crate from nothing.
 LIKE = {"seed": "proof", "tools": "tests"}
 
@@ -91,9 +94,19 @@ def write_costs(file, costs):
             it.write(" ".join([name, *(f"{number:.0f}" for number in costs[name])]) + "\n")
 
 
-def at_one_job(seconds, jobs):
-    """The processor seconds that would have been used at one process, of those used at `jobs`."""
-    return seconds / WORK[min(jobs, max(WORK))]
+def at_one_job(key, seconds, jobs):
+    """The processor seconds that the task would have used at one process, of those that it used at `jobs`."""
+    return seconds / work_of(key, min(jobs, max(WORK)))
+
+
+def speed_of(key, jobs):
+    """What `jobs` processes divide the task's seconds by."""
+    return (EDITS_SPEED if kind_of(key) == "edits" else SPEED)[jobs]
+
+
+def work_of(key, jobs):
+    """What `jobs` processes multiply the task's processor seconds by."""
+    return (EDITS_WORK if kind_of(key) == "edits" else WORK)[jobs]
 
 
 def usable(free, most=None):
@@ -131,7 +144,7 @@ class Plan:
         return 1e6 * known * MARGIN if known else self.tasks[key][2]
 
     def held(self, key, jobs):
-        return self.memory[key] * (1 + MORE_MEMORY * (jobs - 1))
+        return self.memory[key] * (1 + (1 if kind_of(key) == "edits" else MORE_MEMORY) * (jobs - 1))
 
     def choose(self):
         """Finds how many processes each task should get, so that all ends soonest by the costs."""
@@ -157,7 +170,7 @@ class Plan:
         self.wanted, self.behind = wanted, {}
         for key in reversed(self.order):
             after = max((self.behind[it] for it in self.above[key]), default=0)
-            self.behind[key] = self.seconds[key] / SPEED[wanted[key]] + after
+            self.behind[key] = self.seconds[key] / speed_of(key, wanted[key]) + after
 
     def differing(self, picks):
         """Seconds of each task that differ from the expected ones."""
@@ -282,7 +295,7 @@ def played(plan, running=None, done=(), seconds=None):
     and the bytes held at most of all tasks, or of what is left if some are `done` and some running ({key: (jobs,
     seconds since it began)})."""
     now, used, most, running, seconds = 0.0, 0.0, 0.0, running or {}, seconds or plan.seconds
-    ends = [(max(0.0, seconds[key] / SPEED[jobs] - gone), str(key), key) for key, (jobs, gone) in running.items()]
+    ends = [(max(0.0, seconds[key] / speed_of(key, jobs) - gone), str(key), key) for key, (jobs, gone) in running.items()]
     heapq.heapify(ends)
     running = {key: jobs for key, (jobs, _) in running.items()}
     queue = Queue(plan, running, done)
@@ -292,12 +305,12 @@ def played(plan, running=None, done=(), seconds=None):
             key, jobs = chosen
             queue.begun(key)
             running[key] = jobs
-            heapq.heappush(ends, (now + seconds[key] / SPEED[jobs], str(key), key))
+            heapq.heappush(ends, (now + seconds[key] / speed_of(key, jobs), str(key), key))
             most = max(most, sum(plan.held(*it) for it in running.items()))
             continue
         end, _, key = heapq.heappop(ends)
         now = max(now, end)
-        used += seconds[key] * WORK[running.pop(key)]
+        used += seconds[key] * work_of(key, running.pop(key))
         queue.ended(key)
     return now, used, most
 
@@ -390,7 +403,9 @@ def selftest():
         "memory is kept": 0 < tight.most[1] <= 2.5e9 and len(tight.given) == 4,
         "a task that needs more memory than there is runs alone": large.most == [2, 9e9],
         "tasks of one kind share its cost by their lines": shares == [300, 600],
-        "edits get one process": kinds.jobs()["a", "edits 2"] == 1,
+        "edits get several checks side by side": kinds.jobs()["a", "edits 2"] > 1,
+        "checks of edits share no memory": kinds.plan.held(("a", "edits 2"), 3) == 3 * kinds.plan.memory["a", "edits 2"],
+        "what edits used is told for one process": at_one_job(("a", "edits 2"), 125, 4) == 100,
         "a seed costs what a proof does": seeds.seconds["a", "seed"] == 40,
         "what nobody measured goes by its lines": [*unknown.seconds.values()] == [OF_A_LINE * 100],
         "work of no lines costs nothing": idle.plan.seconds["a", "tests"] == 0 and idle.given["a", "tests"],

@@ -3,8 +3,9 @@ which was refused.
 
 Edits test how strong contracts are. Their verdicts depend on what a check reads of the crate, without and with each edit,
 and of the crates below it, on the kit and on the gate's own scripts, and on nothing else: a sum over exactly these stands
-in the record. Comments are not read. A crate with another sum is tried. In each run one crate that could be taken from the record is tried all the same; if one of its
-edits is not refused then, the gate fails. Which one is drawn by the sums: one that costs half as much comes twice as often.
+in the record. Comments are not read. A crate with another sum is tried. In each run one crate that could be taken from the
+record is tried all the same; if one of its edits is not refused then, the gate fails. Which one is drawn by the sums: one
+that costs half as much comes twice as often.
 
 A row is a crate's name, the kit, the sum, and how many edits the crate has. A run with `--costs` writes a row as soon as a
 crate's edits are tried, in place of the one that it had with this kit."""

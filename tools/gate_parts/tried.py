@@ -5,6 +5,7 @@ import threading
 import lanes
 import record
 from edits import Trial, tried_alone
+from meter import METER
 
 FLAGS = ["--jobs", "1"]
 
@@ -34,7 +35,7 @@ class Tried:
     def now(self, crate, edits, kept):
         if not kept or not edits:
             return [tried_alone(crate, it, FLAGS) for it in edits]
-        trial = Trial(crate, kept, FLAGS)
+        trial = Trial(crate, kept, FLAGS, METER.jobs.get((crate.name, "edits"), 1))
         found = trial.run(edits)
         self.logs[crate.name] = trial.log
         kept.remove()
