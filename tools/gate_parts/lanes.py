@@ -6,10 +6,11 @@ once all keys of `waits` have ended; `lines` is its work in lines of code, 0 if 
 bytes that the kit expects; call(given, jobs) does it with that many processes, and what it returns stands in `given`
 under its key from then on. A call itself looks in `given` whether what it waits for went well.
 
-The task that is ready and has the longest chain of others after it begins first. How many processes each gets is found by
-playing the whole on the clock of the costs, again and again with one change, and keeping what ends sooner. It is played
-with other costs too, which differ a little: else what ends soonest by the costs ends late once one of them is wrong. No
-verdict rests on the costs: a wrong figure costs time alone.
+The task that is ready and has the longest chain of others after it begins first, with one process more than there are
+lanes idle, if there are four lanes or more. How many processes each gets is found by playing the whole on the clock of the
+costs, again and again with one change, and keeping what ends sooner. It is played with other costs too, which differ a
+little: else what ends soonest by the costs ends late once one of them is wrong. No verdict rests on the costs: a wrong
+figure costs time alone.
 
   lanes.py --selftest     tries the order and the limits on made-up tasks
 """
@@ -39,6 +40,8 @@ MARGIN = 1.15
 OF_A_LINE = 0.3
 # Shorter tasks get one process.
 SHORT = 60
+# With this many lanes, what begins the longest chain may have one process more than there are lanes idle.
+WIDE = 4
 # How many changes of a plan are played, with how many other costs each, and how far these are from the measured ones.
 STEPS = 1200
 OTHERS = 3
@@ -187,12 +190,15 @@ class Plan:
         if idle < 1:
             return None
         room = self.room - sum(self.held(key, jobs) for key, jobs in running.items())
+        longest = max((self.behind[it] for it in (*running, *queue.ready)), default=0)
         for key in queue.ready:
             if running and self.held(key, 1) > room:
                 continue
             # the last task gets the lanes that nobody else waits for
             wanted = idle if queue.count == 1 and kind_of(key) not in NARROW else self.wanted[key]
-            jobs = max(1, min(wanted, idle, max(SPEED)))
+            # all wait for the longest chain, so it doesn't begin with one process because a lane is free too late
+            more = self.lanes >= WIDE and self.behind[key] == longest
+            jobs = max(1, min(wanted, idle + more, max(SPEED)))
             while jobs > 1 and self.held(key, jobs) > room:
                 jobs -= 1
             return key, jobs
@@ -399,7 +405,8 @@ def selftest():
         ),
         "one lane runs one task at a time": one.most[0] == 1,
         "the chain gets several processes": wide.jobs()["mid", "proof"] > 1 >= wide.jobs()["short", "proof"],
-        "lanes are kept": wide.most[0] <= 4 and tight.most[0] <= 4,
+        "lanes are kept, but for one process of the longest chain": wide.most[0] <= 5 and tight.most[0] <= 5,
+        "a few lanes are kept": Watched(fork, costs, 2, 1e12).most[0] <= 2,
         "memory is kept": 0 < tight.most[1] <= 2.5e9 and len(tight.given) == 4,
         "a task that needs more memory than there is runs alone": large.most == [2, 9e9],
         "tasks of one kind share its cost by their lines": shares == [300, 600],
