@@ -15,7 +15,7 @@ use Rattle.command_line.specs.Commands.{IsAskedFor}
 use Rattle.command_line.specs.FileWords.{NamesFile}
 use Rattle.command_line.specs.Words.{IsNamed, program_app}
 use Rattle.command_line.specs.ProcessWords.{NamesHosts, NamesMaster, NamesServer}
-use Rattle.command_line.specs.declared.numbers.Numbers.{Numbers}
+use Rattle.command_line.specs.declared.cluster_numbers.ClusterNumbers.{ClusterNumbers}
 use Rattle.command_line.specs.declared.processes.Hosts.{Hosts}
 use Rattle.command_line.specs.declared.processes.MasterNumbers.{MasterNumbers}
 use Rattle.command_line.specs.declared.processes.ServerNumbers.{ServerNumbers}
@@ -231,7 +231,7 @@ pub unnamed : (o : Option (Text × List Row))
     → ((file : List ℕ) → NamesFile (codes "scenario") o file → ⊥)
     → ((file : List ℕ) → NamesFile (codes "trace") o file → ⊥)
     → ((file : List ℕ) → NamesFile (codes "draw") o file → ⊥)
-    → ((numbers : Numbers) → NamesNumbers o numbers → ⊥)
+    → ((numbers : ClusterNumbers) → NamesNumbers o numbers → ⊥)
     → ((numbers : ServerNumbers) (hosts : Hosts) → NamesServer o numbers → NamesHosts (codes "server") o hosts → ⊥)
     → ((numbers : MasterNumbers) (hosts : Hosts) → NamesMaster o numbers → NamesHosts (codes "master") o hosts → ⊥)
     → (command : Command) → IsNamed o command → ⊥

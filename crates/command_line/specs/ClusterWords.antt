@@ -5,7 +5,7 @@ use Rattle.clap.specs.declared.builder.command.Command.{Command}
 use Rattle.clap.specs.declared.builder.value_parser.ValueParser.TheVariants.{Signed, Unsigned}
 use Rattle.command_line.specs.Options.{GivesFlag, GivesNumber, GivesNumberIfAny, ReadsAs}
 use Rattle.command_line.specs.Options.{flag_rule, number_or_rule, number_rule, required_rule}
-use Rattle.command_line.specs.declared.numbers.Numbers.{Numbers}
+use Rattle.command_line.specs.declared.cluster_numbers.ClusterNumbers.{ClusterNumbers}
 
 -- `--servers N`, `--port P`, `--seats S`, `--threads T`, `--connections C`, `--serves K` and `--memory MIB`, with their
 -- least and their greatest numbers; `--quiet`
@@ -50,7 +50,7 @@ cluster_app =
     with_serving (with_rule listening serves_rule)
 
 -- the command that was found is `cluster`, with these numbers
-pub record NamesNumbers (found : Option (Text × List Row)) (numbers : Numbers) : Type 0 where
+pub record NamesNumbers (found : Option (Text × List Row)) (numbers : ClusterNumbers) : Type 0 where
   pub rows : List Row
   pub named : found ≡ Some (codes "cluster", rows)
   pub servers : GivesNumber 1 16 (codes "servers") rows numbers.servers

@@ -5,20 +5,21 @@ ghost use Rattle.command_line.specs.ClusterWords.{AddsServing, NamesNumbers, clu
 ghost use Rattle.command_line.specs.ClusterWords.{memory_rule, port_rule, quiet_rule, seats_rule, servers_rule};
 ghost use Rattle.command_line.specs.ClusterWords.{serves_rule, threads_rule};
 ghost use Rattle.command_line.specs.Options.{HasRule, ReadsAs};
-ghost use Rattle.command_line.specs.declared.numbers.Numbers.{Numbers};
+ghost use Rattle.command_line.specs.declared.cluster_numbers.ClusterNumbers.{ClusterNumbers};
 
+use crate::cluster_numbers::ClusterNumbers;
 use crate::given::{
     flag_given, given_to, large_number, middle_number, number_if_any, port_number, small_number,
 };
-use crate::numbers::Numbers;
 use crate::options::{and_option, flag_option, number_option};
 use clap::{Arg, ArgMatches, Command as Parser, value_parser};
 use std::alloc::{AllocError, Global};
 
 /// The numbers that were given to `cluster`, if that is the command.
-pub fn numbers_given<'a>(matches: &ArgMatches<'a>) -> Option<Numbers>
+pub fn numbers_given<'a>(matches: &ArgMatches<'a>) -> Option<ClusterNumbers>
     ensures given { IfSome result (NamesNumbers (subcommand_rows_of matches.now)) }
-    ensures none { result ≡ None → (numbers : Numbers) → NamesNumbers (subcommand_rows_of matches.now) numbers → ⊥ }
+    ensures none { result ≡ None → (numbers : ClusterNumbers) → NamesNumbers (subcommand_rows_of matches.now) numbers
+        → ⊥ }
 {
     let given = given_to(matches, "cluster")?;
     let servers = small_number(given, "servers", 1, 16)?;
@@ -29,7 +30,7 @@ pub fn numbers_given<'a>(matches: &ArgMatches<'a>) -> Option<Numbers>
     let serves = large_number(given, "serves", 1_000_000)?;
     let memory = number_if_any(given, "memory", 1, 1_048_576)?;
     let quiet = flag_given(given, "quiet");
-    Some(Numbers {
+    Some(ClusterNumbers {
         servers,
         port,
         seats,

@@ -1,6 +1,6 @@
 //! What a command line asks for.
 
-use crate::numbers::Numbers;
+use crate::cluster_numbers::ClusterNumbers;
 use crate::processes::{Hosts, MasterNumbers, ServerNumbers};
 use std::alloc::AllocError;
 use thiserror::Error;
@@ -46,7 +46,7 @@ pub enum Telling {
 #[derive(Drop)]
 pub enum Serve {
     /// Runs a chain in one process.
-    Cluster(Numbers),
+    Cluster(ClusterNumbers),
     /// Runs one server of a chain of processes.
     Server(ServerNumbers, Hosts),
     /// Tells the servers of such a chain of failures.

@@ -1,7 +1,8 @@
 //! What words on a command line ask for. Each row is a line of words, which `|` parts.
 
 use command_line::{
-    Command, Hosts, MasterNumbers, Numbers, Print, Serve, ServerNumbers, UsageFault, read_command,
+    ClusterNumbers, Command, Hosts, MasterNumbers, Print, Serve, ServerNumbers, UsageFault,
+    read_command,
 };
 use std::alloc::{AllocError, Global};
 use std::test::Fail;
@@ -141,7 +142,7 @@ fn numbers_out_of_range_are_refused(rt: HostRuntime) -> Result<(), Fail> {
     Ok(())
 }
 
-fn is_cluster(asked: &Result<Command, UsageFault>, wanted: &Numbers) -> bool {
+fn is_cluster(asked: &Result<Command, UsageFault>, wanted: &ClusterNumbers) -> bool {
     match asked {
         Ok(Command::Serve(Serve::Cluster(numbers))) => *numbers == *wanted,
         _ => false,
@@ -149,7 +150,7 @@ fn is_cluster(asked: &Result<Command, UsageFault>, wanted: &Numbers) -> bool {
 }
 
 // Whether a line asks for a chain of these numbers.
-fn asks_for_chain(alloc: Global, line: &str, wanted: &Numbers) -> bool {
+fn asks_for_chain(alloc: Global, line: &str, wanted: &ClusterNumbers) -> bool {
     let asked = read(alloc, line);
     let given = is_cluster(&asked, wanted);
     drop(asked);
@@ -159,7 +160,7 @@ fn asks_for_chain(alloc: Global, line: &str, wanted: &Numbers) -> bool {
 #[test]
 fn words_give_the_numbers_of_a_chain(rt: HostRuntime) -> Result<(), Fail> {
     let line = "craq|cluster|--servers|3|--port=4000|--serves|9|--memory|64|--threads|2";
-    let numbers = Numbers {
+    let numbers = ClusterNumbers {
         servers: 3,
         port: 4000,
         seats: 16,

@@ -4,7 +4,7 @@ use Rattle.command_line.specs.declared.commands.Telling.{Telling}
 use Rattle.command_line.specs.declared.commands.Telling.TheVariants.{Trace, Draw}
 use Rattle.ends.specs.Ends.{WritesBeginning}
 use Rattle.schedules.specs.Schedules.{ScheduleShown, schedule_of}
-use Rattle.world.specs.Deeds.{trace_of}
+use Rattle.world.specs.EventEffects.{trace_of}
 use Rattle.traces.specs.Arrows.{arrows_of}
 use Rattle.traces.specs.Pictures.{Draws}
 use Rattle.traces.specs.Printing.{trace_text}

@@ -5,17 +5,17 @@ use Rattle.std.proofs.lemmas.Bool.Decides.{nat_tests}
 use mathlib.Core.List.{IsPrefix}
 use prog.Atomic.{either}
 use Rattle.logbook.specs.Pages.{Cell, cell, keeps, no_nib, step, Moves, Goes}
-use Rattle.faces.specs.declared.logs.Entry.{Entry}
+use Rattle.faces.specs.declared.logs.HistoryItem.{HistoryItem}
 use Rattle.faces.specs.Logs.{IsBegun, IsCounted, Adds}
 use Rattle.faces.proofs.Beginnings.{prefix_whole, begun_length, still_begun}
 
-abbrev pub shown : List Entry → List Entry
+abbrev pub shown : List HistoryItem → List HistoryItem
 shown log = []
 
-abbrev pub moved : List Entry → List Entry → ℕ → Type 0
+abbrev pub moved : List HistoryItem → List HistoryItem → ℕ → Type 0
 moved xs ys n = Unit {0}
 
-pub adds_goes : (log v : List Entry) (e : Entry) (old : ℕ)
+pub adds_goes : (log v : List HistoryItem) (e : HistoryItem) (old : ℕ)
     → length (drop 1 v) ≡ old
     → IsBegun v
     → IsBegun log
@@ -40,7 +40,7 @@ adds_goes log v e old len begun has pre true is =
 adds_goes log v e old len begun has pre false is =
     let all : log ++ [] ≡ log = append-nil log in
     let n : either (length (drop 1 log) == old) (old + 1) (length (drop 1 log)) ≡ length (drop 1 (log ++ [])) =
-    rw is (ap (λ (l : List Entry). length (drop 1 l)) (sym all)) in (
+    rw is (ap (λ (l : List HistoryItem). length (drop 1 l)) (sym all)) in (
       keeps,
       [],
       None,
@@ -51,7 +51,7 @@ adds_goes log v e old len begun has pre false is =
     )
 
 -- whatever the book is, the exchange adds the entry to all that was seen, or finds that the log is longer
-pub adds_moves : (v : List Entry) (e : Entry) (old : ℕ) → length (drop 1 v) ≡ old → IsBegun v
+pub adds_moves : (v : List HistoryItem) (e : HistoryItem) (old : ℕ) → length (drop 1 v) ≡ old → IsBegun v
     → Moves IsCounted shown moved 0 (v, (no_nib, None)) (λ n. either (n == old) (old + 1) n)
     (Adds (step 0 old (old + 1) e) (v, (no_nib, None)))
 adds_moves v e old len begun cs log kept pre away =

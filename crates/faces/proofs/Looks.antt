@@ -4,13 +4,13 @@ use Rattle.std.proofs.lemmas.Result.{IfOk-weaker}
 use Rattle.std.specs.declared.result.Result.{Result}
 use Rattle.node.specs.Faces.{FaceState}
 use Rattle.faces.specs.declared.boards.Knowledge.{Knowledge}
-use Rattle.faces.specs.Courses.{Course, IsLater, shown_after}
+use Rattle.faces.specs.Histories.{History, IsLater, shown_after}
 use Rattle.faces.specs.Shown.{Shown}
 use Rattle.faces.specs.Boards.{IsShownBy, Knows}
 use Rattle.faces.specs.Readers.{HasLookedAtMostOnce}
 
 -- it knows whose face it saw
-pub knows_after : (w u : Knowledge) (stood before after : Course)
+pub knows_after : (w u : Knowledge) (stood before after : History)
     → u ≡ w
     → Knows w stood.origin
     → stood.origin ≡ before.origin
@@ -22,39 +22,39 @@ knows_after w u stood before after left knows same later = (
 )
 
 -- the answer is the look at the face that stood
-pub found_after : {L E : Type 0} (r : Result L E) (look_in : FaceState → L) (face : Shown) (after : Course)
+pub found_after : {L E : Type 0} (r : Result L E) (look_in : FaceState → L) (face : Shown) (after : History)
     → IsShownBy face
-    → IfOk r (λ look. (look ≡ look_in face.face) × (after ≡ face.course))
+    → IfOk r (λ look. (look ≡ look_in face.face) × (after ≡ face.history))
     → IfOk r (λ look. look ≡ look_in (shown_after after))
 found_after r look_in face after shown found =
-    IfOk-weaker r (λ look. (look ≡ look_in face.face) × (after ≡ face.course))
+    IfOk-weaker r (λ look. (look ≡ look_in face.face) × (after ≡ face.history))
     (λ look. look ≡ look_in (shown_after after))
-    (λ look h. h.0 ∙ (ap look_in shown ∙ ap (λ (c : Course). look_in (shown_after c)) (sym h.1))) found
+    (λ look h. h.0 ∙ (ap look_in shown ∙ ap (λ (c : History). look_in (shown_after c)) (sym h.1))) found
 
--- the place has seen one course more
-pub seen_after : (old : List Course) (w u : Knowledge) (stood : Course) (face : Shown)
+-- the place has seen one history more
+pub seen_after : (old : List History) (w u : Knowledge) (stood : History) (face : Shown)
     → u ≡ w
-    → w.courses ≡ old ++ stood ∷ []
-    → face.course ≡ stood
-    → u.courses ≡ old ++ face.course ∷ []
-seen_after old w u stood face left courses same =
-    ap (λ (v : Knowledge). v.courses) left ∙ (courses ∙ ap (λ (c : Course). old ++ c ∷ []) (sym same))
+    → w.histories ≡ old ++ stood ∷ []
+    → face.history ≡ stood
+    → u.histories ≡ old ++ face.history ∷ []
+seen_after old w u stood face left histories same =
+    ap (λ (v : Knowledge). v.histories) left ∙ (histories ∙ ap (λ (c : History). old ++ c ∷ []) (sym same))
 
 -- and it is the one after which the answer is
-pub looked_after : {L E : Type 0} (r : Result L E) (F : L → Type 0) (old : List Course) (u : Knowledge)
-    (stood after : Course)
-    → u.courses ≡ old ++ stood ∷ []
+pub looked_after : {L E : Type 0} (r : Result L E) (F : L → Type 0) (old : List History) (u : Knowledge)
+    (stood after : History)
+    → u.histories ≡ old ++ stood ∷ []
     → IfOk r (λ look. F look × (after ≡ stood))
-    → OnOk r (u.courses ≡ old ++ after ∷ [])
-looked_after r F old u stood after courses found =
-    IfOk-weaker r (λ look. F look × (after ≡ stood)) (λ _. u.courses ≡ old ++ after ∷ [])
-    (λ look h. courses ∙ ap (λ (c : Course). old ++ c ∷ []) (sym h.1)) found
+    → OnOk r (u.histories ≡ old ++ after ∷ [])
+looked_after r F old u stood after histories found =
+    IfOk-weaker r (λ look. F look × (after ≡ stood)) (λ _. u.histories ≡ old ++ after ∷ [])
+    (λ look h. histories ∙ ap (λ (c : History). old ++ c ∷ []) (sym h.1)) found
 
 -- a place that found no face has seen what it had
-pub never_looked : (v w : Knowledge) → w ≡ v → HasLookedAtMostOnce v.courses w.courses
-never_looked v w same = inl (ap (λ (k : Knowledge). k.courses) same)
+pub never_looked : (v w : Knowledge) → w ≡ v → HasLookedAtMostOnce v.histories w.histories
+never_looked v w same = inl (ap (λ (k : Knowledge). k.histories) same)
 
--- one that found a face has seen one course more
-pub once_looked : (old : List Course) (w u : Knowledge) (stood : Course) → u ≡ w → w.courses ≡ old ++ stood ∷ []
-    → HasLookedAtMostOnce old u.courses
-once_looked old w u stood left courses = inr (stood, ap (λ (k : Knowledge). k.courses) left ∙ courses)
+-- one that found a face has seen one history more
+pub once_looked : (old : List History) (w u : Knowledge) (stood : History) → u ≡ w → w.histories ≡ old ++ stood ∷ []
+    → HasLookedAtMostOnce old u.histories
+once_looked old w u stood left histories = inr (stood, ap (λ (k : Knowledge). k.histories) left ∙ histories)

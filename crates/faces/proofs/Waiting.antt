@@ -293,8 +293,8 @@ pub first_taken : (n : ℕ) (before now now' : Versions) (bs bs' : List Tombston
     → IsQueued now bs
     → IsBetween n before now
     → IsQueued now' bs' × IsBetween n before now'
-first_taken n before now now' bs bs' b d pop front le took queued between =
-    let here : d ≡ b = front ∙ ap (λ (l : List Tombstone). slice_index_or l 0 d) pop in
+first_taken n before now now' bs bs' b d pop log_position le took queued between =
+    let here : d ≡ b = log_position ∙ ap (λ (l : List Tombstone). slice_index_or l 0 d) pop in
     let low : b.number ≤ n = subst (λ (x : Tombstone). x.number ≤ n) here le in
     subst (λ (m : Versions). IsQueued m bs' × IsBetween n before m) (sym took)
     (taken_queued n now b bs' low (subst (IsQueued now) pop queued), taken_between n before now b.key between)
@@ -306,9 +306,9 @@ pub ends_above : (n : ℕ) (before now : Versions) (bs : List Tombstone) (d : To
     → IsQueued now bs
     → IsBetween n before now
     → now ≡ without_removed n before
-ends_above n before now bs d front above queued between =
+ends_above n before now bs d log_position above queued between =
     all_taken n before now bs between queued
-    (above_by n bs d (λ some. subst (λ (x : Tombstone). n < x.number) front above) queued.rising)
+    (above_by n bs d (λ some. subst (λ (x : Tombstone). n < x.number) log_position above) queued.rising)
 
 -- or if the queue is empty
 pub ends_empty : (n : ℕ) (before now : Versions) (bs : List Tombstone)

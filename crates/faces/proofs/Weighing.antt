@@ -17,8 +17,8 @@ use Rattle.std.specs.FinMap.Entries.{by_order, below_all}
 use Rattle.std.proofs.lemmas.Map.Keys.{sorted_head, sorted_tail}
 use Rattle.std.proofs.lemmas.Map.Lookups.{exact_bytes}
 use Rattle.std.proofs.lemmas.Map.Views.{tells_apart}
-use Rattle.table.specs.Keys.{key_cmp, place_cmp}
-use Rattle.table.proofs.PlaceLaws.{placed_at, get_place, place_put, place_removed}
+use Rattle.table.specs.Keys.{key_cmp, tree_key_cmp}
+use Rattle.table.proofs.TreeKeyLaws.{placed_at, get_tree_key, tree_key_put, tree_key_removed}
 use Rattle.node.specs.declared.faces.Version.{Version}
 use Rattle.node.specs.Faces.{Versions}
 use Rattle.faces.specs.Tombstones.{map_of}
@@ -140,19 +140,19 @@ bytes_removed m k = removed_by m k (maps.get m k) refl
 -- ---- trees
 
 others : {X : Type 0} (k : List ℕ) (es : List (List ℕ × X))
-    → AllByRecursion (λ q. place_cmp k q ≡ Less) (keys_of es)
+    → AllByRecursion (λ q. tree_key_cmp k q ≡ Less) (keys_of es)
     → placed_at es k ≡ None
 others k [] h = refl
 others k (e ∷ es) h = ap (λ r. cond (is_eq r) (Some e.1) (placed_at es k)) h.0 ∙ others k es h.1
 
 -- a tree has as many versions as the map of its entries
 pub tree_len : (es : List (List ℕ × Version))
-    → IsStrictlySortedBy place_cmp (keys_of es)
+    → IsStrictlySortedBy tree_key_cmp (keys_of es)
     → maps.len (maps.from_entries {R = key_cmp} es) ≡ length es
 tree_len [] h = len-empty key_cmp Version
 tree_len (e ∷ es) h =
-    let none = get_place es e.0 ∙ others e.0 es (sorted_head place_cmp e.0 (keys_of es) h) in
-    let rest = tree_len es (sorted_tail place_cmp e.0 (keys_of es) h) in
+    let none = get_tree_key es e.0 ∙ others e.0 es (sorted_head tree_key_cmp e.0 (keys_of es) h) in
+    let rest = tree_len es (sorted_tail tree_key_cmp e.0 (keys_of es) h) in
     len-insert nat_list_cmp_total (maps.from_entries es) e.0 e.1
     ∙ ap (λ (o : Option Version). cond (is_some o) (maps.len (maps.from_entries {R = key_cmp} es))
     (maps.len (maps.from_entries {R = key_cmp} es) + 1)) none
@@ -163,22 +163,22 @@ there : (es : List (List ℕ × Version)) (p k : List ℕ) (o : Option Version)
     → p ≡ k
     → o ≡ placed_at es p
     → maps.get (map_of es) k ≡ o
-there es p k o same at = get_place es k ∙ ap (placed_at es) (sym same) ∙ sym at
+there es p k o same at = get_tree_key es k ∙ ap (placed_at es) (sym same) ∙ sym at
 
 -- trees that differ at a key's place by its absence, or by a new version
 pub map_removed : (es fs : List (List ℕ × Version)) (p k : List ℕ)
     → p ≡ k
-    → ((q : List ℕ) → placed_at fs q ≡ cond (is_at (place_cmp p) q) None (placed_at es q))
+    → ((q : List ℕ) → placed_at fs q ≡ cond (is_at (tree_key_cmp p) q) None (placed_at es q))
     → map_of fs ≡ maps.remove (map_of es) k
-map_removed es fs p k same h = place_removed es fs p h ∙ ap (maps.remove (map_of es)) same
+map_removed es fs p k same h = tree_key_removed es fs p h ∙ ap (maps.remove (map_of es)) same
 
 pub map_set : (es fs : List (List ℕ × Version)) (p k : List ℕ) (w v : Version)
     → p ≡ k
     → w ≡ v
-    → ((q : List ℕ) → placed_at fs q ≡ cond (is_at (place_cmp p) q) (Some w) (placed_at es q))
+    → ((q : List ℕ) → placed_at fs q ≡ cond (is_at (tree_key_cmp p) q) (Some w) (placed_at es q))
     → map_of fs ≡ maps.insert (map_of es) k v
 map_set es fs p k w v same version h =
-    place_put es fs p w h ∙ (λ i. maps.insert (map_of es) (same i) (version i))
+    tree_key_put es fs p w h ∙ (λ i. maps.insert (map_of es) (same i) (version i))
 
 -- a version that was there is counted
 pub counted : (es : List (List ℕ × Version)) (p k : List ℕ) (v : Version) (bytes : ℕ)
@@ -195,7 +195,7 @@ counted es p k v bytes same at is =
 -- what is left once a version was taken away
 pub count_removed : (es fs : List (List ℕ × Version)) (p k : List ℕ) (o : Option Version) (bytes left : ℕ)
     → p ≡ k
-    → ((q : List ℕ) → placed_at fs q ≡ cond (is_at (place_cmp p) q) None (placed_at es q))
+    → ((q : List ℕ) → placed_at fs q ≡ cond (is_at (tree_key_cmp p) q) None (placed_at es q))
     → o ≡ placed_at es p
     → bytes_of (map_of es) ≡ bytes
     → left + bytes_at k o ≡ bytes
@@ -212,7 +212,7 @@ pub count_set : (es fs : List (List ℕ × Version)) (p k : List ℕ) (w v : Ver
     (bytes sum now : ℕ)
     → p ≡ k
     → w ≡ v
-    → ((q : List ℕ) → placed_at fs q ≡ cond (is_at (place_cmp p) q) (Some w) (placed_at es q))
+    → ((q : List ℕ) → placed_at fs q ≡ cond (is_at (tree_key_cmp p) q) (Some w) (placed_at es q))
     → o ≡ placed_at es p
     → bytes_of (map_of es) ≡ bytes
     → sum ≡ bytes + bytes_with k v

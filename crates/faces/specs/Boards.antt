@@ -4,16 +4,16 @@ use mathlib.Core.Option.{some}
 use lib.ListN.{get_elem?}
 use Rattle.faces.specs.declared.faces.Face.{Face}
 use Rattle.faces.specs.declared.boards.Knowledge.{Knowledge}
-use Rattle.faces.specs.Courses.{Origin, Course, IsLater, nowhere, shown_after}
+use Rattle.faces.specs.Histories.{Origin, History, IsLater, nowhere, shown_after}
 use Rattle.faces.specs.Shown.{Shown}
 
 -- a place that knows nothing
 abbrev pub newcomer : Knowledge
-newcomer = record { knows = false; origin = nowhere; courses = [] }
+newcomer = record { knows = false; origin = nowhere; histories = [] }
 
 -- a place that knows whose face stands, and hasn't seen it
 abbrev pub seated : Origin → Knowledge
-seated origin = record { knows = true; origin = origin; courses = [] }
+seated origin = record { knows = true; origin = origin; histories = [] }
 
 -- it knows whose face stands
 abbrev pub Knows : Knowledge → Origin → Type 0
@@ -21,23 +21,23 @@ Knows v origin = (v.knows ≡ true) × (v.origin ≡ origin)
 
 -- what stands is the server's face after the inputs that it says
 abbrev pub IsShownBy : Shown → Type 0
-IsShownBy x = x.face ≡ shown_after x.course
+IsShownBy x = x.face ≡ shown_after x.history
 
--- This course is one of the server that a place knows, if any, and begins with all that the place has seen.
-pub record Fits (c : Course) (v : Knowledge) : Type 0 where
+-- This history is one of the server that a place knows, if any, and begins with all that the place has seen.
+pub record Fits (c : History) (v : Knowledge) : Type 0 where
   pub server : v.knows ≡ true → v.origin ≡ c.origin
-  pub seen : All (λ d. IsLater d c) v.courses
+  pub seen : All (λ d. IsLater d c) v.histories
 
 -- and what stands begins with all that any place has seen
 abbrev pub Keeps : Face → List Knowledge → Type 0
-Keeps x views = IsShownBy x × ((seat : ℕ) (v : Knowledge) → get_elem? views seat ≡ some v → Fits x.course v)
+Keeps x views = IsShownBy x × ((seat : ℕ) (v : Knowledge) → get_elem? views seat ≡ some v → Fits x.history v)
 
 -- What a look tells of what stands, or a change of what stands from then on: that it is the server's face after the
 -- inputs that it says; whose face it is, as before; and that these inputs are what the place has now seen, once more,
 -- and begin with all that it had seen.
 pub record Tells (v : Knowledge) (x y : Face) (w : Knowledge) : Type 0 where
   pub shown : IsShownBy y
-  pub server : Knows w y.course.origin
-  pub same : v.knows ≡ true → v.origin ≡ y.course.origin
-  pub courses : w.courses ≡ v.courses ++ y.course ∷ []
-  pub later : All (λ d. IsLater d y.course) v.courses
+  pub server : Knows w y.history.origin
+  pub same : v.knows ≡ true → v.origin ≡ y.history.origin
+  pub histories : w.histories ≡ v.histories ++ y.history ∷ []
+  pub later : All (λ d. IsLater d y.history) v.histories

@@ -1,5 +1,5 @@
 pub mod Logs
-pub mod Courses
+pub mod Histories
 pub mod Outputs
 pub mod Tombstones
 pub mod Versions

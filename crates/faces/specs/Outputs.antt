@@ -1,10 +1,10 @@
--- What a server put out for the last input of a course.
+-- What a server put out for the last input of a history.
 use Rattle.std.specs.Prelude.{◌≡◌, ◌⊎◌, List, [], ◌∷◌}
 use Rattle.node.specs.declared.messages.Input.{Input}
 use Rattle.node.specs.declared.messages.Output.{Output}
 use Rattle.node.specs.Servers.{ServerState}
 use Rattle.node.specs.Steps.{step}
-use Rattle.faces.specs.Courses.{Course}
+use Rattle.faces.specs.Histories.{History}
 
 -- what the step of the last of these inputs put out
 abbrev pub last_outputs : ServerState → List Input → List Output
@@ -17,6 +17,6 @@ abbrev pub IsAmong : Output → List Output → Type 0
 IsAmong o [] = ⊥
 IsAmong o (x ∷ xs) = (x ≡ o) ⊎ IsAmong o xs
 
--- the step of the course's last input put this out
-abbrev pub PutsOut : Course → Output → Type 0
+-- the step of the history's last input put this out
+abbrev pub PutsOut : History → Output → Type 0
 PutsOut c o = IsAmong o (last_outputs c.origin.start c.inputs)

@@ -7,22 +7,22 @@ use Rattle.node.specs.Faces.{FaceState, look_at}
 use Rattle.node.specs.declared.looks.Look.TheVariants.{Clean}
 use Rattle.faces.specs.declared.faces.Face.{Face}
 use Rattle.faces.specs.declared.boards.Knowledge.{Knowledge}
-use Rattle.faces.specs.Courses.{Course, Origin}
+use Rattle.faces.specs.Histories.{History, Origin}
 use Rattle.faces.specs.Boards.{Knows}
 
--- What a reader has seen or was told of; and each course whose face stood when it looked, in order. Only a look at what
--- stands lengthens these.
+-- What a reader has seen or was told of; and each history whose face stood when it looked, in order. Only a look at
+-- what stands lengthens these.
 pub record Looking : Type 0 where
-  pub seen : Course
-  pub looks : List Course
+  pub seen : History
+  pub looks : List History
 
 -- a reader that has seen or was told of this, and hasn't looked yet
-abbrev pub yet_to_look : Course → Looking
+abbrev pub yet_to_look : History → Looking
 yet_to_look seen = record { seen = seen; looks = [] }
 
--- No look is forgotten, and there is one more at most: at the face that stood then, after this course.
-abbrev pub HasLookedAtMostOnce : List Course → List Course → Type 0
-HasLookedAtMostOnce before after = (after ≡ before) ⊎ ((stood : Course) × (after ≡ before ++ stood ∷ []))
+-- No look is forgotten, and there is one more at most: at the face that stood then, after this history.
+abbrev pub HasLookedAtMostOnce : List History → List History → Type 0
+HasLookedAtMostOnce before after = (after ≡ before) ⊎ ((stood : History) × (after ≡ before ++ stood ∷ []))
 
 -- a look at this key of a face finds an item
 abbrev pub ShowsItem : FaceState → List ℕ → Type 0
@@ -34,7 +34,7 @@ module _ {P A : Type 0} where
   IsPlaceOf None origin = ⊥
   IsPlaceOf (Some place) origin = Knows (view place.place) origin
 
-  -- the courses whose faces stood when it looked
-  abbrev pub looks_of : Option (Place Face Knowledge P A) → List Course
+  -- the histories whose faces stood when it looked
+  abbrev pub looks_of : Option (Place Face Knowledge P A) → List History
   looks_of None = []
-  looks_of (Some place) = (view place.place).courses
+  looks_of (Some place) = (view place.place).histories

@@ -6,7 +6,7 @@ use Rattle.left_right.specs.Sides.{view}
 use Rattle.faces.specs.declared.faces.Face.{Face}
 use Rattle.faces.specs.declared.acts.Act.{Act}
 use Rattle.faces.specs.declared.boards.Knowledge.{Knowledge}
-use Rattle.faces.specs.Courses.{Course, shown_after}
+use Rattle.faces.specs.Histories.{History, shown_after}
 use Rattle.faces.specs.Boards.{Knows}
 
 module _ {P A S : Type 0} {g : Ghosts Face Act S} where
@@ -14,9 +14,9 @@ module _ {P A S : Type 0} {g : Ghosts Face Act S} where
   abbrev pub pending : Writer Face Act Knowledge P A S g → List Act
   pending w = drop w.behind w.log.items
 
-  -- What stands is the server's face after this course, and nothing is pending.
-  pub record Shows (w : Writer Face Act Knowledge P A S g) (c : Course) : Type 0 where
-    pub course : w.desk.shown.value.course ≡ c
+  -- What stands is the server's face after this history, and nothing is pending.
+  pub record Shows (w : Writer Face Act Knowledge P A S g) (c : History) : Type 0 where
+    pub history : w.desk.shown.value.history ≡ c
     pub face : w.desk.shown.value.face ≡ shown_after c
     pub nothing : pending w ≡ []
     pub knows : Knows (view w.desk.place) c.origin

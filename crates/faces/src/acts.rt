@@ -2,7 +2,7 @@
 ghost use Rattle.std.specs.Prelude.{◌≡◌, ◌++◌, map, IfOk, OnOk};
 ghost use Rattle.faces.specs.Shown.{act_of, acts_of};
 
-use crate::fronts::Front;
+use crate::log_positions::LogPosition;
 use crate::shared_versions::SharedVersion;
 use node::{FaceChange, FaceStep};
 use std::alloc::{AllocError, Global};
@@ -16,7 +16,7 @@ pub enum Act {
     /// Every key has the version of this number without item from now on.
     Clear(u64),
     /// The acknowledged number is this one, and the face is the server's after these inputs.
-    Reach(u64, Front),
+    Reach(u64, LogPosition),
 }
 
 impl Act {
@@ -35,13 +35,17 @@ impl Act {
 }
 
 /// The acts of a change: its steps in order, and then the acknowledged number.
-pub fn acts_of(alloc: Global, change: FaceChange, front: Front) -> Result<Vec<Act>, AllocError>
-    ensures { IfOk result (λ acts. acts.items ≡ acts_of change.steps.items change.acked front) }
+pub fn acts_of(
+    alloc: Global,
+    change: FaceChange,
+    log_position: LogPosition,
+) -> Result<Vec<Act>, AllocError>
+    ensures { IfOk result (λ acts. acts.items ≡ acts_of change.steps.items change.acked log_position) }
 {
     let FaceChange { steps, acked } = change;
     let mut acts = Vec::new(alloc);
     put_steps(alloc, steps, &mut acts)?;
-    acts.push(Act::Reach(acked, front))?;
+    acts.push(Act::Reach(acked, log_position))?;
     Ok(acts)
 }
 

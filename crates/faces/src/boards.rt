@@ -4,13 +4,13 @@ ghost use Rattle.std.specs.Prelude.{◌≡◌, [], true, fold, MatchResult, IfOk
 ghost use Rattle.left_right.specs.Sides.{view};
 ghost use Rattle.faces.specs.Boards.{IsShownBy, seated};
 ghost use Rattle.faces.specs.Showing.{pending, Shows};
-ghost use Rattle.faces.specs.Courses.{IsLater, shown_after};
+ghost use Rattle.faces.specs.Histories.{IsLater, shown_after};
 ghost use Rattle.faces.specs.Shown.{acts_of, applied};
 ghost use Rattle.node.specs.Faces.{face_changed};
 
 use crate::acts::Act;
 use crate::faces::Face;
-use crate::fronts::Front;
+use crate::log_positions::LogPosition;
 use crate::published::Published;
 use atomic_table::{Join, Split};
 use crossbeam_utils::rule::{Outcome, Protocol};
@@ -23,15 +23,15 @@ use std::marker::Model;
 use std::sync::Wait;
 
 /// Which running server it is, and what it began with. No value of it is made.
-pub struct Name {
+pub struct HistoryOrigin {
     unused: u8,
 }
 
-impl Model for Name {
+impl Model for HistoryOrigin {
     ghost use Rattle.std.specs.Coded.{codes};
     ghost use Rattle.logbook.specs.Pages.{book_coded};
     ghost use Rattle.versions.specs.Stores.{coded_items};
-    ghost use Rattle.faces.specs.Courses.{Origin, nowhere};
+    ghost use Rattle.faces.specs.Histories.{Origin, nowhere};
 
     ghost Value = { Origin };
 
@@ -40,18 +40,18 @@ impl Model for Name {
     ghost view = { λ n. nowhere };
 }
 
-/// What a place at the board knows: the server, once it has looked; and what it has seen, look by look: the course
+/// What a place at the board knows: the server, once it has looked; and what it has seen, look by look: the history
 /// whose face stood then. The writer's place has seen what it showed. No value of it is made.
 pub struct Knowledge {
     pub knows: bool,
-    pub origin: Name,
-    pub courses: LinkedList<Front>,
+    pub origin: HistoryOrigin,
+    pub histories: LinkedList<LogPosition>,
 }
 
 /// The rule of the board.
-pub struct Posted;
+pub struct BoardRule;
 
-impl Protocol<Face, Knowledge> for Posted {
+impl Protocol<Face, Knowledge> for BoardRule {
     ghost use Rattle.faces.specs.Boards.{Keeps, newcomer};
 
     ghost holds = { Keeps };
@@ -60,18 +60,18 @@ impl Protocol<Face, Knowledge> for Posted {
 }
 
 /// A look at the face, and a change of it.
-pub struct Takes;
+pub struct BoardSteps;
 
-impl Outcome<Face, Knowledge> for Takes {
+impl Outcome<Face, Knowledge> for BoardSteps {
     ghost use Rattle.faces.specs.Boards.{Tells};
 
     ghost then = { λ v x y w. Tells v x y w };
 }
 
 /// A reader's place learns from the writer's whose face stands. It hasn't seen it.
-pub struct Notes;
+pub struct ReaderLearns;
 
-impl Split<Knowledge> for Notes {
+impl Split<Knowledge> for ReaderLearns {
     ghost use Rattle.faces.specs.Boards.{seated};
 
     ghost left = { λ v. v };
@@ -79,7 +79,7 @@ impl Split<Knowledge> for Notes {
     ghost right = { λ v. seated v.origin };
 }
 
-impl Join<Knowledge> for Notes {
+impl Join<Knowledge> for ReaderLearns {
     ghost use Rattle.faces.specs.Boards.{newcomer};
 
     ghost both = { λ v w. w };
@@ -87,15 +87,15 @@ impl Join<Knowledge> for Notes {
     ghost spent = { newcomer };
 }
 
-pub type FacePlace = Place<Face, Knowledge, Posted>;
+pub type FacePlace = Place<Face, Knowledge, BoardRule>;
 
-pub type FaceWriter = Writer<Face, Act, Knowledge, Posted>;
+pub type FaceWriter = Writer<Face, Act, Knowledge, BoardRule>;
 
 /// The first face is shown, and the writer knows whose it is.
 pub fn begin<R: Wait>(rt: &R, writer: FaceWriter) -> (FaceWriter, Result<Published, AllocError>)
     requires nothing { pending writer ≡ [] }
     requires face { IsShownBy writer.desk.shown.value }
-    ensures { MatchResult result.1 (λ p. Shows result.0 p × (p ≡ writer.desk.shown.value.course)) (λ _. Unit {0}) }
+    ensures { MatchResult result.1 (λ p. Shows result.0 p × (p ≡ writer.desk.shown.value.history)) (λ _. Unit {0}) }
 {
     show(rt, writer)
 }
@@ -109,7 +109,7 @@ pub fn place(writer: &mut FaceWriter) -> Result<FacePlace, AllocError>
         × (view writer.new.desk.place ≡ view writer.old.desk.place) }
 {
     let mut place = writer.factory().reader()?;
-    place.learn::<Notes>(writer.tell::<Notes>());
+    place.learn::<ReaderLearns>(writer.tell::<ReaderLearns>());
     Ok(place)
 }
 
@@ -119,14 +119,14 @@ pub fn publish<R: Wait>(
     alloc: Global,
     writer: FaceWriter,
     change: FaceChange,
-    front: Front,
+    log_position: LogPosition,
 ) -> (FaceWriter, Result<Published, AllocError>)
     requires nothing { pending writer ≡ [] }
-    requires later { IsLater writer.desk.shown.value.course front }
-    requires face { face_changed writer.desk.shown.value.face change.steps.items change.acked ≡ shown_after front }
-    ensures { MatchResult result.1 (λ p. Shows result.0 p × (p ≡ front)) (λ _. Unit {0}) }
+    requires later { IsLater writer.desk.shown.value.history log_position }
+    requires face { face_changed writer.desk.shown.value.face change.steps.items change.acked ≡ shown_after log_position }
+    ensures { MatchResult result.1 (λ p. Shows result.0 p × (p ≡ log_position)) (λ _. Unit {0}) }
 {
-    let (writer, noted) = append(alloc, writer, change, front);
+    let (writer, noted) = append(alloc, writer, change, log_position);
     match noted {
         Ok(()) => show(rt, writer),
         Err(_) => (writer, Err(AllocError)),
@@ -135,14 +135,14 @@ pub fn publish<R: Wait>(
 
 // Shows what is pending, which makes the face of the same server after the inputs that it says: no fewer than before.
 fn show<R: Wait>(rt: &R, writer: FaceWriter) -> (FaceWriter, Result<Published, AllocError>)
-    requires later { IsLater writer.desk.shown.value.course
-        (fold applied writer.desk.shown.value (pending writer)).course }
+    requires later { IsLater writer.desk.shown.value.history
+        (fold applied writer.desk.shown.value (pending writer)).history }
     requires face { IsShownBy (fold applied writer.desk.shown.value (pending writer)) }
     ensures { MatchResult result.1
-        (λ p. Shows result.0 p × (p ≡ (fold applied writer.desk.shown.value (pending writer)).course))
+        (λ p. Shows result.0 p × (p ≡ (fold applied writer.desk.shown.value (pending writer)).history))
         (λ _. Unit {0}) }
 {
-    let (writer, shown) = writer.publish_as::<Takes, R>(rt);
+    let (writer, shown) = writer.publish_as::<BoardSteps, R>(rt);
     match shown {
         Ok(()) => {
             let published = Published::shown(&writer);
@@ -157,12 +157,12 @@ fn append(
     alloc: Global,
     writer: FaceWriter,
     change: FaceChange,
-    front: Front,
+    log_position: LogPosition,
 ) -> (FaceWriter, Result<(), AllocError>)
     requires nothing { pending writer ≡ [] }
     ensures desk { result.0.desk ≡ writer.desk }
     ensures acts { MatchResult result.1
-        (λ _. pending result.0 ≡ acts_of change.steps.items change.acked front)
+        (λ _. pending result.0 ≡ acts_of change.steps.items change.acked log_position)
         (λ _. Unit {0}) }
 {
     let mut writer = writer;
@@ -176,7 +176,7 @@ fn append(
         }
     }
     let done = writer
-        .append(Act::Reach(acked, front))
+        .append(Act::Reach(acked, log_position))
         .map_err(|_| AllocError);
     (writer, done)
 }

@@ -8,7 +8,7 @@ ghost use Rattle.faces.specs.Weights.{weight_of};
 ghost use Rattle.faces.specs.declared.acts.Act.TheVariants.{Clear, Reach};
 
 use crate::acts::{Act, acts_of};
-use crate::fronts::Front;
+use crate::log_positions::LogPosition;
 use crate::tombstones::{set, take_away};
 use crate::version_trees::VersionTree;
 use crate::weights::Weight;
@@ -26,7 +26,7 @@ pub struct Face {
     tombstones: VecDeque<Tombstone>,
     cleared: u64,
     acked: u64,
-    front: Front,
+    log_position: LogPosition,
 }
 
 impl Model for Face {
@@ -43,7 +43,7 @@ impl Model for Face {
 
     ghost view = { λ f. record {
       face = record { versions = f.versions; cleared = f.cleared; acked = f.acked };
-      course = f.front;
+      history = f.log_position;
     } };
 
     ghost invariant = { λ f. IsQueued f.versions f.tombstones.items };
@@ -51,15 +51,15 @@ impl Model for Face {
 
 impl Face {
     /// A face without versions.
-    pub fn new(alloc: Global, front: Front) -> Face
-        ensures { result ≡ record { face = no_face; course = front } }
+    pub fn new(alloc: Global, log_position: LogPosition) -> Face
+        ensures { result ≡ record { face = no_face; history = log_position } }
     {
         Face {
             versions: VersionTree::new(alloc),
             tombstones: VecDeque::new(alloc),
             cleared: 0,
             acked: 0,
-            front,
+            log_position,
         }
     }
 
@@ -68,22 +68,22 @@ impl Face {
     pub fn copies(
         alloc: Global,
         change: FaceChange,
-        front: &Front,
+        log_position: &LogPosition,
     ) -> Result<(Face, Face), AllocError>
-        ensures first { IfOk result (λ faces. faces.0 ≡ shown_first change.steps.items change.acked front.now) }
-        ensures second { IfOk result (λ faces. faces.1 ≡ shown_first change.steps.items change.acked front.now) }
+        ensures first { IfOk result (λ faces. faces.0 ≡ shown_first change.steps.items change.acked log_position.now) }
+        ensures second { IfOk result (λ faces. faces.1 ≡ shown_first change.steps.items change.acked log_position.now) }
     {
-        let acts = acts_of(alloc, change, front.again())?;
-        let first = Face::filled(alloc, front, acts.as_slice())?;
-        let second = Face::filled(alloc, front, acts.as_slice())?;
+        let acts = acts_of(alloc, change, log_position.again())?;
+        let first = Face::filled(alloc, log_position, acts.as_slice())?;
+        let second = Face::filled(alloc, log_position, acts.as_slice())?;
         Ok((first, second))
     }
 
-    fn filled(alloc: Global, front: &Front, acts: &[Act]) -> Result<Face, AllocError>
+    fn filled(alloc: Global, log_position: &LogPosition, acts: &[Act]) -> Result<Face, AllocError>
         ensures { IfOk result
-            (λ face. face ≡ fold applied (record { face = no_face; course = front.now }) acts.now) }
+            (λ face. face ≡ fold applied (record { face = no_face; history = log_position.now }) acts.now) }
     {
-        let mut face = Face::new(alloc, front.again());
+        let mut face = Face::new(alloc, log_position.again());
         face.act_all(acts)?;
         Ok(face)
     }
@@ -99,10 +99,10 @@ impl Face {
     }
 
     /// The inputs that it is said to follow.
-    pub fn front(&self) -> &Front
-        ensures { result.now ≡ self.now.course }
+    pub fn log_position(&self) -> &LogPosition
+        ensures { result.now ≡ self.now.history }
     {
-        &self.front
+        &self.log_position
     }
 
     /// How much its versions weigh, in constant time.
@@ -146,8 +146,8 @@ impl Face {
                 self.clear(*number);
                 Ok(())
             }
-            Act::Reach(acked, front) => {
-                self.reach(*acked, front);
+            Act::Reach(acked, log_position) => {
+                self.reach(*acked, log_position);
                 Ok(())
             }
         }
@@ -161,15 +161,15 @@ impl Face {
         self.cleared = number;
     }
 
-    fn reach(&mut self, acked: u64, front: &Front)
-        ensures { self.new ≡ applied self.old (Reach acked front.now) }
+    fn reach(&mut self, acked: u64, log_position: &LogPosition)
+        ensures { self.new ≡ applied self.old (Reach acked log_position.now) }
     {
         take_away(&mut self.versions, &mut self.tombstones, acked);
         if self.cleared <= acked {
             self.cleared = 0;
         }
         self.acked = acked;
-        self.front = front.again();
+        self.log_position = log_position.again();
         self.versions.sweep();
     }
 }

@@ -5,7 +5,7 @@ ghost use lib.ListN.{get_elem?};
 ghost use Rattle.faces.specs.declared.faces.Face.{Face};
 ghost use Rattle.faces.specs.declared.boards.Knowledge.{Knowledge};
 ghost use Rattle.faces.specs.Boards.{Keeps};
-ghost use Rattle.faces.specs.Courses.{Course, IsLater};
+ghost use Rattle.faces.specs.Histories.{History, IsLater};
 
 /// For who compares what readers of one server were shown, or one of them and the publisher: each list that a place has
 /// seen, a reader's by a look or the publisher's by a publish, is a beginning of the list that is published. So of any
@@ -14,12 +14,12 @@ pub fn seen_begins_published()
     ensures each { (x : Face) (views : List Knowledge) (i : ℕ) (v : Knowledge)
         → Keeps x views
         → get_elem? views i ≡ some v
-        → All (λ c. IsLater c x.course) v.courses }
-    ensures any_two { (x : Face) (views : List Knowledge) (i j : ℕ) (v w : Knowledge) (c d : Course)
+        → All (λ c. IsLater c x.history) v.histories }
+    ensures any_two { (x : Face) (views : List Knowledge) (i j : ℕ) (v w : Knowledge) (c d : History)
         → Keeps x views
         → get_elem? views i ≡ some v
         → get_elem? views j ≡ some w
-        → Contains v.courses c
-        → Contains w.courses d
+        → Contains v.histories c
+        → Contains w.histories d
         → IsLater c d ⊎ IsLater d c }
 {}

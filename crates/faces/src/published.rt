@@ -1,19 +1,19 @@
 //! Notes of what a server has published.
 ghost use Rattle.std.specs.Prelude.{◌≡◌, MatchBool};
-ghost use Rattle.faces.specs.Courses.{IsLater, shown_after};
+ghost use Rattle.faces.specs.Histories.{IsLater, shown_after};
 ghost use Rattle.faces.specs.Showing.{Shows};
 ghost use Rattle.faces.specs.Weights.{weight_of};
 
 use crate::Weight;
 use crate::boards::FaceWriter;
-use crate::fronts::Front;
+use crate::log_positions::LogPosition;
 use std::marker::Model;
 
 /// What a server has published: its face after these inputs was shown. Only a publish makes one. Contracts see the
-/// inputs (`Course`).
+/// inputs (`History`).
 #[derive(Drop)]
 pub struct Published {
-    front: Front,
+    log_position: LogPosition,
     // Of that face.
     weight: Weight,
 }
@@ -24,47 +24,47 @@ impl Model for Published {
     ghost use Rattle.std.specs.Coded.{codes};
     ghost use Rattle.logbook.specs.Pages.{book_coded};
     ghost use Rattle.versions.specs.Stores.{coded_items};
-    ghost use Rattle.faces.specs.Courses.{Course, shown_after};
+    ghost use Rattle.faces.specs.Histories.{History, shown_after};
     ghost use Rattle.faces.specs.Weights.{weight_of};
 
-    ghost Value = { Course };
+    ghost Value = { History };
 
     ghost coded = { Prim.hlevel (codes, coded_items, book_coded) };
 
-    ghost view = { λ p. p.front };
+    ghost view = { λ p. p.log_position };
 
-    ghost invariant = { λ p. (p.weight.items ≡ (weight_of (shown_after p.front).versions).items)
-        × (p.weight.bytes ≡ (weight_of (shown_after p.front).versions).bytes) };
+    ghost invariant = { λ p. (p.weight.items ≡ (weight_of (shown_after p.log_position).versions).items)
+        × (p.weight.bytes ≡ (weight_of (shown_after p.log_position).versions).bytes) };
 }
 
-/// A note of what a server has published, for one of its readers. Contracts see the inputs (`Course`).
+/// A note of what a server has published, for one of its readers. Contracts see the inputs (`History`).
 #[derive(Drop)]
 pub struct Told {
-    front: Front,
+    log_position: LogPosition,
 }
 
 impl Model for Told {
     ghost use Rattle.std.specs.Coded.{codes};
     ghost use Rattle.logbook.specs.Pages.{book_coded};
     ghost use Rattle.versions.specs.Stores.{coded_items};
-    ghost use Rattle.faces.specs.Courses.{Course};
+    ghost use Rattle.faces.specs.Histories.{History};
 
-    ghost Value = { Course };
+    ghost Value = { History };
 
     ghost coded = { Prim.hlevel (codes, coded_items, book_coded) };
 
-    ghost view = { λ t. t.front };
+    ghost view = { λ t. t.log_position };
 }
 
 impl Published {
     /// For the publish alone: the writer shows the server's face after these inputs.
     pub(crate) fn shown(writer: &FaceWriter) -> Published
-        requires { Shows writer.now writer.now.desk.shown.value.course }
-        ensures { result ≡ writer.now.desk.shown.value.course }
+        requires { Shows writer.now writer.now.desk.shown.value.history }
+        ensures { result ≡ writer.now.desk.shown.value.history }
     {
         let face = writer.published();
         Published {
-            front: face.front().again(),
+            log_position: face.log_position().again(),
             weight: face.weight(),
         }
     }
@@ -76,10 +76,10 @@ impl Published {
         self.weight
     }
 
-    pub(crate) fn front(&self) -> &Front
+    pub(crate) fn log_position(&self) -> &LogPosition
         ensures { result.now ≡ self.now }
     {
-        &self.front
+        &self.log_position
     }
 
     /// A copy.
@@ -87,7 +87,7 @@ impl Published {
         ensures { result ≡ self.now }
     {
         Published {
-            front: self.front.again(),
+            log_position: self.log_position.again(),
             weight: self.weight,
         }
     }
@@ -97,17 +97,17 @@ impl Published {
         ensures { result ≡ self.now }
     {
         Told {
-            front: self.front.again(),
+            log_position: self.log_position.again(),
         }
     }
 }
 
 impl Told {
     /// For a reader: it has seen these inputs.
-    pub(crate) fn of(front: Front) -> Told
-        ensures { result ≡ front }
+    pub(crate) fn of(log_position: LogPosition) -> Told
+        ensures { result ≡ log_position }
     {
-        Told { front }
+        Told { log_position }
     }
 
     /// Whether it tells of all the inputs that the other one tells of. Of two lists of one server, one begins with the
@@ -116,7 +116,7 @@ impl Told {
         requires server { other.now.origin ≡ self.now.origin }
         ensures { MatchBool result (IsLater other.now self.now) (IsLater self.now other.now) }
     {
-        self.front.has_all_of(&other.front)
+        self.log_position.has_all_of(&other.log_position)
     }
 
     /// A copy.
@@ -124,13 +124,13 @@ impl Told {
         ensures { result ≡ self.now }
     {
         Told {
-            front: self.front.again(),
+            log_position: self.log_position.again(),
         }
     }
 
-    pub(crate) fn into_front(self) -> Front
+    pub(crate) fn into_log_position(self) -> LogPosition
         ensures { result ≡ self }
     {
-        self.front
+        self.log_position
     }
 }

@@ -2,7 +2,7 @@
 ghost use Rattle.std.specs.Prelude.{◌≡◌, ◌↔◌, ◌<◌, ◌^◌, [], true, false, IfOk, IfErr, OnOk, OnErr, IsErrOf};
 ghost use Rattle.node.specs.Lawful.{IsInput, AreFit};
 ghost use Rattle.faces.specs.Boards.{IsShownBy};
-ghost use Rattle.faces.specs.Courses.{shown_after, with_next};
+ghost use Rattle.faces.specs.Histories.{shown_after, with_next};
 ghost use Rattle.faces.specs.Outputs.{last_outputs};
 ghost use Rattle.faces.specs.Readers.{yet_to_look};
 ghost use Rattle.faces.specs.Showing.{pending};
@@ -10,7 +10,7 @@ ghost use Rattle.faces.specs.Weights.{weight_of};
 
 use crate::boards::{FaceWriter, begin, place, publish};
 use crate::faces::Face;
-use crate::fronts::Front;
+use crate::log_positions::LogPosition;
 use crate::logs::Log;
 use crate::published::Published;
 use crate::readers::Reader;
@@ -64,8 +64,8 @@ impl Publisher {
         ensures going { IfOk result (λ publisher. publisher.goes ≡ true) }
         ensures memory { IfErr result (λ fault. fault ≡ FaceFault.Memory) }
     {
-        let (log, front) = Front::open(&node);
-        let Ok(writer) = first_writer(alloc, &node, &front, readers) else {
+        let (log, log_position) = LogPosition::open(&node);
+        let Ok(writer) = first_writer(alloc, &node, &log_position, readers) else {
             drop(log);
             drop(node);
             return Err(FaceFault::Memory);
@@ -112,7 +112,7 @@ impl Publisher {
             return Err(FaceFault::Closed);
         };
         let place = place(writer)?;
-        Ok(Reader::new(place, self.published.front().again()))
+        Ok(Reader::new(place, self.published.log_position().again()))
     }
 
     /// Takes an input: the node makes its step, and the face after it is published. It gives all that the step put out.
@@ -135,17 +135,17 @@ impl Publisher {
             drop(input);
             return Err(FaceFault::Closed);
         };
-        let Some(front) = self.published.front().next(&self.log, &input) else {
+        let Some(log_position) = self.published.log_position().next(&self.log, &input) else {
             drop(input);
             writer.take(rt);
             return Err(FaceFault::Closed);
         };
         let Ok((outputs, change)) = self.node.step_face(input) else {
-            drop(front);
+            drop(log_position);
             writer.take(rt);
             return Err(FaceFault::Memory);
         };
-        let (writer, shown) = publish(rt, self.alloc, writer, change, front);
+        let (writer, shown) = publish(rt, self.alloc, writer, change, log_position);
         let Ok(published) = shown else {
             drop(outputs);
             writer.take(rt);
@@ -180,17 +180,17 @@ impl Publisher {
 fn first_writer(
     alloc: Global,
     node: &Node,
-    front: &Front,
+    log_position: &LogPosition,
     readers: usize,
 ) -> Result<FaceWriter, FaceFault>
     requires readers { (0 < readers) × (readers < 2 ^ 32) }
-    requires first { front.now.inputs ≡ [] }
-    requires start { front.now.origin.start ≡ node.now.server }
+    requires first { log_position.now.inputs ≡ [] }
+    requires start { log_position.now.origin.start ≡ node.now.server }
     ensures nothing { IfOk result (λ writer. pending writer ≡ []) }
     ensures face { IfOk result (λ writer. IsShownBy writer.desk.shown.value) }
-    ensures course { IfOk result (λ writer. writer.desk.shown.value.course ≡ front.now) }
+    ensures history { IfOk result (λ writer. writer.desk.shown.value.history ≡ log_position.now) }
 {
-    let (first, second) = Face::copies(alloc, node.face()?, front)?;
+    let (first, second) = Face::copies(alloc, node.face()?, log_position)?;
     let writer = FaceWriter::new(alloc, first, second, readers)?;
     Ok(writer)
 }

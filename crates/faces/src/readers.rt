@@ -3,13 +3,13 @@ ghost use Rattle.std.specs.Prelude.{◌≡◌, ◌++◌, ◌∷◌, [], IfOk, On
 ghost use Rattle.left_right.specs.Sides.{view};
 ghost use Rattle.node.specs.Faces.{look_at};
 ghost use Rattle.faces.specs.Boards.{Knows, seated};
-ghost use Rattle.faces.specs.Courses.{Course, IsLater, shown_after};
+ghost use Rattle.faces.specs.Histories.{History, IsLater, shown_after};
 ghost use Rattle.faces.specs.Readers.{HasLookedAtMostOnce, ShowsItem, yet_to_look};
 
 use crate::FaceFault;
-use crate::boards::{FacePlace, Takes};
+use crate::boards::{BoardSteps, FacePlace};
 use crate::faces::Face;
-use crate::fronts::Front;
+use crate::log_positions::LogPosition;
 use crate::published::Told;
 use node::Look;
 use std::marker::Model;
@@ -21,7 +21,7 @@ use table::{Item, Key};
 pub struct Reader {
     // None only while it looks.
     place: Option<FacePlace>,
-    front: Front,
+    log_position: LogPosition,
 }
 
 impl Model for Reader {
@@ -34,20 +34,20 @@ impl Model for Reader {
 
     ghost coded = { Prim.hlevel (codes, coded_items, book_coded) };
 
-    ghost view = { λ r. record { seen = r.front; looks = looks_of r.place } };
+    ghost view = { λ r. record { seen = r.log_position; looks = looks_of r.place } };
 
-    ghost invariant = { λ r. IsPlaceOf r.place r.front.origin };
+    ghost invariant = { λ r. IsPlaceOf r.place r.log_position.origin };
 }
 
 impl Reader {
     /// A reader that has seen nothing, or what it is told of here.
-    pub(crate) fn new(place: FacePlace, front: Front) -> Reader
-        requires server { view place.place ≡ seated front.origin }
-        ensures { result ≡ yet_to_look front }
+    pub(crate) fn new(place: FacePlace, log_position: LogPosition) -> Reader
+        requires server { view place.place ≡ seated log_position.origin }
+        ensures { result ≡ yet_to_look log_position }
     {
         Reader {
             place: Some(place),
-            front,
+            log_position,
         }
     }
 
@@ -65,14 +65,14 @@ impl Reader {
         ensures later { IsLater self.old.seen self.new.seen }
         ensures unchanged { OnErr result (self.new.seen ≡ self.old.seen) }
         // Memory comes only at an item, in a face that stood, after no fewer inputs than it has seen.
-        ensures memory { IsErrOf result FaceFault.Memory → (stood : Course)
+        ensures memory { IsErrOf result FaceFault.Memory → (stood : History)
             × (self.new.looks ≡ self.old.looks ++ stood ∷ []) × IsLater self.old.seen stood
             × ShowsItem (shown_after stood) key.now }
     {
         let Some(place) = self.place.take() else {
             unreachable!();
         };
-        let (place, found) = look_from(place, &mut self.front, key);
+        let (place, found) = look_from(place, &mut self.log_position, key);
         self.place = Some(place);
         found
     }
@@ -81,7 +81,7 @@ impl Reader {
     pub fn tell(&self) -> Told
         ensures { result ≡ self.now.seen }
     {
-        Told::of(self.front.again())
+        Told::of(self.log_position.again())
     }
 
     /// From now on it sees no less than what was told of. It doesn't look.
@@ -91,9 +91,9 @@ impl Reader {
         ensures told { IsLater told self.new.seen }
         ensures looks { self.new.looks ≡ self.old.looks }
     {
-        let front = told.into_front();
-        if front.has_all_of(&self.front) {
-            self.front = front;
+        let log_position = told.into_log_position();
+        if log_position.has_all_of(&self.log_position) {
+            self.log_position = log_position;
         }
     }
 }
@@ -101,24 +101,25 @@ impl Reader {
 // A look from a place, at the face that stands when it enters, unless more was seen already.
 fn look_from(
     place: FacePlace,
-    front: &mut Front,
+    log_position: &mut LogPosition,
     key: &Key,
 ) -> (FacePlace, Result<Look<Item>, FaceFault>)
-    requires server { Knows (view place.place) front.old.origin }
-    ensures server { Knows (view result.0.place) front.new.origin }
-    ensures found { IfOk result.1 (λ look. look ≡ look_at (shown_after front.new) key.now) }
+    requires server { Knows (view place.place) log_position.old.origin }
+    ensures server { Knows (view result.0.place) log_position.new.origin }
+    ensures found { IfOk result.1 (λ look. look ≡ look_at (shown_after log_position.new) key.now) }
     ensures looked { OnOk result.1
-        ((view result.0.place).courses ≡ (view place.place).courses ++ front.new ∷ []) }
-    ensures once { HasLookedAtMostOnce (view place.place).courses (view result.0.place).courses }
-    ensures later { IsLater front.old front.new }
-    ensures unchanged { OnErr result.1 (front.new ≡ front.old) }
-    ensures memory { IsErrOf result.1 FaceFault.Memory → (stood : Course)
-        × ((view result.0.place).courses ≡ (view place.place).courses ++ stood ∷ []) × IsLater front.old stood
+        ((view result.0.place).histories ≡ (view place.place).histories ++ log_position.new ∷ []) }
+    ensures once { HasLookedAtMostOnce (view place.place).histories (view result.0.place).histories }
+    ensures later { IsLater log_position.old log_position.new }
+    ensures unchanged { OnErr result.1 (log_position.new ≡ log_position.old) }
+    ensures memory { IsErrOf result.1 FaceFault.Memory → (stood : History)
+        × ((view result.0.place).histories ≡ (view place.place).histories
+        ++ stood ∷ []) × IsLater log_position.old stood
         × ShowsItem (shown_after stood) key.now }
 {
-    match place.enter_as::<Takes>() {
+    match place.enter_as::<BoardSteps>() {
         Ok(reading) => {
-            let found = see(front, reading.get(), key);
+            let found = see(log_position, reading.get(), key);
             (reading.leave(), found)
         }
         Err(place) => (place, Err(FaceFault::Closed)),
@@ -126,18 +127,18 @@ fn look_from(
 }
 
 // A look at this face, unless more was seen already.
-fn see(front: &mut Front, face: &Face, key: &Key) -> Result<Look<Item>, FaceFault>
-    requires server { face.now.course.origin ≡ front.old.origin }
-    ensures found { IfOk result (λ look. (look ≡ look_at face.now.face key.now) × (front.new ≡ face.now.course)) }
-    ensures later { IsLater front.old front.new }
-    ensures unchanged { OnErr result (front.new ≡ front.old) }
+fn see(log_position: &mut LogPosition, face: &Face, key: &Key) -> Result<Look<Item>, FaceFault>
+    requires server { face.now.history.origin ≡ log_position.old.origin }
+    ensures found { IfOk result (λ look. (look ≡ look_at face.now.face key.now) × (log_position.new ≡ face.now.history)) }
+    ensures later { IsLater log_position.old log_position.new }
+    ensures unchanged { OnErr result (log_position.new ≡ log_position.old) }
     ensures memory { IsErrOf result FaceFault.Memory →
-        IsLater front.old face.now.course × ShowsItem face.now.face key.now }
+        IsLater log_position.old face.now.history × ShowsItem face.now.face key.now }
 {
-    if !face.front().has_all_of(front) {
+    if !face.log_position().has_all_of(log_position) {
         return Err(FaceFault::Closed);
     }
     let look = face.look(key)?;
-    *front = face.front().again();
+    *log_position = face.log_position().again();
     Ok(look)
 }

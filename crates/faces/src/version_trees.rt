@@ -9,17 +9,17 @@ use crate::shared_versions::SharedVersion;
 use std::alloc::{AllocError, Global};
 use std::collections::BTreeMap;
 use std::marker::Model;
-use table::{Key, Place};
-use versions::Litter;
+use table::{Key, TreeKey};
+use versions::DeferredFree;
 
 /// The versions of keys. Contracts see them as a map by key.
 #[derive(Drop)]
 pub struct VersionTree {
-    tree: BTreeMap<Place, SharedVersion>,
+    tree: BTreeMap<TreeKey, SharedVersion>,
     // Of all keys and of their versions' data.
     bytes: u64,
     // What clears took away.
-    litter: Litter<SharedVersion>,
+    deferred_free: DeferredFree<SharedVersion>,
 }
 
 impl Model for VersionTree {
@@ -47,7 +47,7 @@ impl VersionTree {
         VersionTree {
             tree: BTreeMap::new(alloc),
             bytes: 0,
-            litter: Litter::new(alloc),
+            deferred_free: DeferredFree::new(alloc),
         }
     }
 
@@ -55,7 +55,7 @@ impl VersionTree {
     pub fn get(&self, key: &Key) -> Option<&SharedVersion>
         ensures { option_copied result ≡ maps.get self.now key.now }
     {
-        self.tree.get(key.place())
+        self.tree.get(key.tree_key())
     }
 
     /// Sets a key's version. Refused if memory is out, or if keys and data would be 2^64 bytes. Time is logarithmic in
@@ -67,7 +67,7 @@ impl VersionTree {
         let Some(bytes) = more(self.bytes, key, version) else {
             return Err(AllocError);
         };
-        let before = self.tree.insert(key.to_place()?, version.again()?)?;
+        let before = self.tree.insert(key.to_tree_key()?, version.again()?)?;
         self.bytes = match before {
             Some(before) => less(bytes, key, &before),
             None => bytes,
@@ -79,7 +79,7 @@ impl VersionTree {
     pub fn remove(&mut self, key: &Key)
         ensures { self.new ≡ maps.remove self.old key.now }
     {
-        if let Some(before) = self.tree.remove(key.place()) {
+        if let Some(before) = self.tree.remove(key.tree_key()) {
             self.bytes = less(self.bytes, key, &before);
         }
     }
@@ -88,7 +88,7 @@ impl VersionTree {
     pub fn clear(&mut self)
         ensures { self.new ≡ maps.empty }
     {
-        self.litter.take(&mut self.tree);
+        self.deferred_free.take(&mut self.tree);
         self.bytes = 0;
     }
 
@@ -96,7 +96,7 @@ impl VersionTree {
     pub fn sweep(&mut self)
         ensures { self.new ≡ self.old }
     {
-        self.litter.sweep();
+        self.deferred_free.sweep();
     }
 
     /// How much the versions weigh, in constant time.

@@ -1,12 +1,12 @@
 //! A client of a server over a socket in memory, whose input ends or fails anywhere, and whose output fails anywhere.
 ghost use Rattle.std.specs.Prelude.{IfSome};
-ghost use Rattle.faces.specs.Courses.{IsLater};
+ghost use Rattle.faces.specs.Histories.{IsLater};
 
 use super::servers::pooled;
 use io_threads::{Client, Pause, Pooled, Ready};
 use leases::{AnyEnd, Lease, SharedLease, Term, nanoseconds_of};
 use rail::Worker;
-use seats::{InProcessLinks, Leash, Mark, SeatPool};
+use seats::{InProcessLinks, Mark, OutputPermit, SeatPool};
 use std::alloc::Global;
 use std::io;
 use std::io::{Error, ErrorKind, Read, Write};
@@ -95,7 +95,7 @@ struct Alone<'a, R: Wait + Drop> {
     worker: Worker<R>,
     pool: SeatPool,
     client: Client<Socket<'a>>,
-    leash: Leash,
+    output_permit: OutputPermit,
 }
 
 // The client's socket is ready for all, and its input will end.
@@ -104,9 +104,9 @@ fn open_alone<R: Wait + Copy + Drop>(
     rt: R,
     alloc: Global,
     socket: Socket<'_>,
-    leash: Leash,
+    output_permit: OutputPermit,
 ) -> Option<Alone<'_, R>>
-    ensures known { IfSome result (λ alone. IsLater alone.client.talk.seen alone.pool.seen) }
+    ensures known { IfSome result (λ alone. IsLater alone.client.client_connection.seen alone.pool.seen) }
 {
     let mark = Mark::new(alloc).ok()?;
     let Pooled {
@@ -132,7 +132,7 @@ fn open_alone<R: Wait + Copy + Drop>(
         worker,
         pool,
         client,
-        leash,
+        output_permit,
     })
 }
 
@@ -153,11 +153,16 @@ trait Beside {
 }
 
 impl<R: Wait + Clock + Copy + Drop> Beside for Alone<'_, R> {
-    ghost known = { λ alone. IsLater alone.client.talk.seen alone.pool.seen };
+    ghost known = { λ alone. IsLater alone.client.client_connection.seen alone.pool.seen };
 
     fn go(&mut self) -> Pause {
         let mut piece = [0u8; 64];
-        self.client.go(&self.rt, &mut self.pool, piece.as_mut_slice(), &self.leash)
+        self.client.go(
+            &self.rt,
+            &mut self.pool,
+            piece.as_mut_slice(),
+            &self.output_permit,
+        )
     }
 
     fn hears(&mut self) -> bool {
@@ -169,7 +174,7 @@ impl<R: Wait + Clock + Copy + Drop> Beside for Alone<'_, R> {
 
 impl<R: Wait + Drop> Alone<'_, R> {
     fn end(self)
-        requires known { IsLater self.client.talk.seen self.pool.seen }
+        requires known { IsLater self.client.client_connection.seen self.pool.seen }
     {
         let Alone {
             rt: _rt,
@@ -177,10 +182,10 @@ impl<R: Wait + Drop> Alone<'_, R> {
             worker,
             mut pool,
             client,
-            leash,
+            output_permit,
         } = self;
         client.leave(&mut pool);
-        drop(leash);
+        drop(output_permit);
         drop(pool);
         drop(worker);
     }
@@ -236,7 +241,7 @@ fn served<R: Wait + Clock + Copy + Drop>(
         writes,
         seen: &seen,
     };
-    let mut alone = open_alone(rt, alloc, socket, Leash::loose())?;
+    let mut alone = open_alone(rt, alloc, socket, OutputPermit::loose())?;
     let is_over = is_over(&mut alone);
     alone.end();
     Some(Came {
@@ -272,8 +277,8 @@ fn a_first_read_that_fails(rt: HostRuntime) {
 // Whether a client whose input ends after n bytes is sent a beginning of the replies, and one whose read fails
 // there the same.
 fn is_same_if_read_fails<R: Wait + Clock + Copy + Drop>(rt: R, alloc: Global, n: usize) -> bool {
-    let front = REQUESTS.get(..n).unwrap_or_default();
-    let ended = served(rt, alloc, front, MANY, MANY);
+    let front_end = REQUESTS.get(..n).unwrap_or_default();
+    let ended = served(rt, alloc, front_end, MANY, MANY);
     let failed = served(rt, alloc, REQUESTS, n, MANY);
     match ended {
         Some(ended) => ended == over(ended.sent, 0) && failed == Some(over(ended.sent, 1)),
@@ -364,7 +369,7 @@ fn sent_by_lease<R: Wait + Clock + Copy + Drop>(
     alloc: Global,
 ) -> Option<(bool, usize, usize)> {
     let shared = lease_of_an_hour(alloc)?;
-    let leash = Leash::held_by(Arc::try_clone(&shared).ok()?);
+    let output_permit = OutputPermit::held_by(Arc::try_clone(&shared).ok()?);
     let seen = Seen::new();
     let socket = Socket {
         bytes: BAD,
@@ -373,7 +378,7 @@ fn sent_by_lease<R: Wait + Clock + Copy + Drop>(
         writes: MANY,
         seen: &seen,
     };
-    let mut alone = open_alone(rt, alloc, socket, leash)?;
+    let mut alone = open_alone(rt, alloc, socket, output_permit)?;
     let waits = waits_for_it(&rt, &shared, &seen, &mut alone);
     alone.end();
     Some((

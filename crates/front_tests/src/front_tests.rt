@@ -1,7 +1,7 @@
 //! Fronts over real sockets: few threads that serve many connections. Each port is one that nobody listens on.
 
 use super::served::{Served, Serves, TakesTurns, open, open_served};
-use io_threads::FrontSettings;
+use io_threads::FrontEndSettings;
 use std::alloc::Global;
 use std::io::{ErrorKind, Read, Write};
 use std::net::{Ipv4Addr, Net, TcpListener, TcpStream};
@@ -179,7 +179,7 @@ fn read_back<R: Net<Listener = TcpListener, Stream = TcpStream>>(
 }
 
 // What a server of some hundred connections allows.
-const HUNDREDS: FrontSettings = FrontSettings {
+const HUNDREDS: FrontEndSettings = FrontEndSettings {
     connections: 1024,
     serves: 300,
 };
@@ -263,7 +263,7 @@ fn is_refused<R: Net<Listener = TcpListener, Stream = TcpStream>>(
 
 #[test]
 fn a_held_call_blocks_no_other(rt: HostRuntime) {
-    let settings = FrontSettings {
+    let settings = FrontEndSettings {
         connections: 2,
         serves: 3,
     };
@@ -303,7 +303,7 @@ fn is_answered<R: Net<Listener = TcpListener, Stream = TcpStream>>(rt: &R, port:
 
 #[test]
 fn a_connection_beyond_the_limit_is_refused(rt: HostRuntime) {
-    let settings = FrontSettings {
+    let settings = FrontEndSettings {
         connections: 2,
         serves: 4,
     };
@@ -332,7 +332,7 @@ fn stores_are_refused<
 
 #[test]
 fn without_room_a_store_is_refused(rt: HostRuntime) {
-    let settings = FrontSettings {
+    let settings = FrontEndSettings {
         connections: 1,
         serves: 1,
     };
@@ -439,7 +439,7 @@ fn use_up<R: Net<Listener = TcpListener, Stream = TcpStream>>(rt: &R, port: u16)
 
 #[test]
 fn a_client_that_breaks_off_makes_room(rt: HostRuntime) {
-    let settings = FrontSettings {
+    let settings = FrontEndSettings {
         connections: 2,
         serves: 3000,
     };

@@ -1,5 +1,5 @@
-//! Tests of the front that serves clients (`io_threads`), by public functions. A crate with tests is proved twice, so
-//! they stand here, and the library is proved once.
+//! Tests of the front end that serves clients (`io_threads`), by public functions. A crate with tests is proved twice,
+//! so they stand here, and the library is proved once.
 #![tactic(auto)]
 
 #[cfg(test)]

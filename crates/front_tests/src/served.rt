@@ -1,10 +1,13 @@
-//! A server with a front over real sockets, at a port that nobody else listens on.
+//! A server with a front end over real sockets, at a port that nobody else listens on.
 
 use super::servers::pooled;
-use io_threads::{Desks, Elsewhere, Front, FrontSettings, Gate, Pooled, open_desks, open_front};
+use io_threads::{
+    FrontEnd, FrontEndSettings, LoopHandles, Pooled, ScheduledElsewhere, ServedServer,
+    open_front_end, open_loop_handles,
+};
 use mio::Poll;
 use rail::{Turn, Worker};
-use seats::{InProcessLinks, Leash, Mark, SeatPool};
+use seats::{InProcessLinks, Mark, OutputPermit, SeatPool};
 use std::alloc::Global;
 use std::net::{Ipv4Addr, Net, TcpListener, TcpStream};
 use std::sync::{Arc, Wait};
@@ -12,30 +15,40 @@ use std::thread;
 use std::thread::{JoinHandle, Threads};
 use std::time::Clock;
 
-/// The first server of a chain with a front. The others are gone. Its turns are a worker, or the thread that takes
+/// The first server of a chain with a front end. The others are gone. Its turns are a worker, or the thread that takes
 /// them.
 #[derive(Drop)]
 pub struct Served<T: Drop> {
     /// That of its clients.
     pub port: u16,
-    front: Front,
+    front_end: FrontEnd,
     turns: T,
     mark: Mark,
-    desks: Arc<Desks, Global>,
+    loop_handles: Arc<LoopHandles, Global>,
 }
 
 /// One whose turns are taken.
 pub trait TakesTurns {
     /// Takes turns until the server ends, and wakes who has a reply.
-    fn take_turns<R: Wait + Copy + Drop>(&mut self, rt: R, alloc: Global, desks: &Desks);
+    fn take_turns<R: Wait + Copy + Drop>(
+        &mut self,
+        rt: R,
+        alloc: Global,
+        loop_handles: &LoopHandles,
+    );
 }
 
 impl<W: Wait + Drop> TakesTurns for Worker<W> {
-    fn take_turns<R: Wait + Copy + Drop>(&mut self, rt: R, alloc: Global, desks: &Desks) {
+    fn take_turns<R: Wait + Copy + Drop>(
+        &mut self,
+        rt: R,
+        alloc: Global,
+        loop_handles: &LoopHandles,
+    ) {
         let mut links = InProcessLinks::new(rt, 0, Vec::new(alloc));
         for _ in rt.forever() {
             match self.turn(&mut links) {
-                Ok(Turn::Went) => desks.wake(0, self.take_replied()),
+                Ok(Turn::Went) => loop_handles.wake(0, self.take_replied()),
                 _ => return,
             }
         }
@@ -58,7 +71,7 @@ pub fn open_served<
     alloc: Global,
     servers: u8,
     threads: usize,
-    settings: FrontSettings,
+    settings: FrontEndSettings,
     memory: Option<u32>,
 ) -> Option<Served<JoinHandle<()>>> {
     open(rt, alloc, servers, threads, settings, memory)?.begin(rt, alloc)
@@ -79,7 +92,7 @@ pub fn open<
     alloc: Global,
     servers: u8,
     threads: usize,
-    settings: FrontSettings,
+    settings: FrontEndSettings,
     memory: Option<u32>,
 ) -> Option<Served<Worker<R>>> {
     let place = find_place(&rt, alloc, threads)?;
@@ -92,13 +105,13 @@ pub fn open<
     serve(rt, alloc, settings, place, pools, worker)
 }
 
-// Where a server's clients come in: its port, its mark, and the desks of its threads, with what these poll.
+// Where a server's clients come in: its port, its mark, and the loop handles of its threads, with what these poll.
 #[derive(Drop)]
 struct Place {
     port: u16,
     listener: TcpListener,
     mark: Mark,
-    desks: Arc<Desks, Global>,
+    loop_handles: Arc<LoopHandles, Global>,
     polls: Vec<Poll>,
 }
 
@@ -110,12 +123,12 @@ fn find_place<R: Net<Listener = TcpListener, Stream = TcpStream>>(
     let listener = TcpListener::bind(rt, (Ipv4Addr::LOCALHOST, 0)).ok()?;
     let port = listener.local_addr().ok()?.port();
     let mark = Mark::new(alloc).ok()?;
-    let (desks, polls) = open_desks(rt, alloc, threads).ok()?;
+    let (loop_handles, polls) = open_loop_handles(rt, alloc, threads).ok()?;
     Some(Place {
         port,
         listener,
         mark,
-        desks: Arc::new(alloc, desks).ok()?,
+        loop_handles: Arc::new(alloc, loop_handles).ok()?,
         polls,
     })
 }
@@ -124,7 +137,7 @@ fn find_place<R: Net<Listener = TcpListener, Stream = TcpStream>>(
 fn serve<R: Wait + Threads + Clock + Net + Copy + Drop + Send + 'static, T: Drop>(
     rt: R,
     alloc: Global,
-    settings: FrontSettings,
+    settings: FrontEndSettings,
     place: Place,
     pools: Vec<SeatPool>,
     turns: T,
@@ -133,38 +146,47 @@ fn serve<R: Wait + Threads + Clock + Net + Copy + Drop + Send + 'static, T: Drop
         port,
         listener,
         mark,
-        desks,
+        loop_handles,
         polls,
     } = place;
-    let gates = only_gate(alloc, listener, pools, &mark)?;
-    let elsewhere = Arc::new(alloc, Elsewhere).ok()?;
-    let front = open_front(rt, alloc, settings, &elsewhere, &desks, polls, gates).ok()?;
+    let served_servers = only_served_server(alloc, listener, pools, &mark)?;
+    let elsewhere = Arc::new(alloc, ScheduledElsewhere).ok()?;
+    let front_end = open_front_end(
+        rt,
+        alloc,
+        settings,
+        &elsewhere,
+        &loop_handles,
+        polls,
+        served_servers,
+    )
+    .ok()?;
     Some(Served {
         port,
-        front,
+        front_end,
         turns,
         mark,
-        desks,
+        loop_handles,
     })
 }
 
-// The gate of the only server of a front.
-fn only_gate(
+// The only server of a front end, as it is served.
+fn only_served_server(
     alloc: Global,
     listener: TcpListener,
     pools: Vec<SeatPool>,
     mark: &Mark,
-) -> Option<Vec<Gate>> {
-    let mut gates = Vec::new(alloc);
+) -> Option<Vec<ServedServer>> {
+    let mut served_servers = Vec::new(alloc);
     let mark = mark.share().ok()?;
-    let gate = Gate {
+    let served_server = ServedServer {
         listener,
         pools,
         mark,
-        leash: Leash::loose(),
+        output_permit: OutputPermit::loose(),
     };
-    gates.push(gate).ok()?;
-    Some(gates)
+    served_servers.push(served_server).ok()?;
+    Some(served_servers)
 }
 
 impl<T: TakesTurns + Drop + Send + 'static> Served<T> {
@@ -176,18 +198,18 @@ impl<T: TakesTurns + Drop + Send + 'static> Served<T> {
     ) -> Option<Served<JoinHandle<()>>> {
         let Served {
             port,
-            front,
+            front_end,
             turns,
             mark,
-            desks,
+            loop_handles,
         } = self;
-        let turns = start(rt, alloc, turns, &desks)?;
+        let turns = start(rt, alloc, turns, &loop_handles)?;
         Some(Served {
             port,
-            front,
+            front_end,
             turns,
             mark,
-            desks,
+            loop_handles,
         })
     }
 }
@@ -197,15 +219,15 @@ fn start<R: Wait + Threads + Copy + Drop + Send + 'static, T: TakesTurns + Drop 
     rt: R,
     alloc: Global,
     turns: T,
-    desks: &Arc<Desks, Global>,
+    loop_handles: &Arc<LoopHandles, Global>,
 ) -> Option<JoinHandle<()>> {
-    let Ok(desks) = Arc::try_clone(desks) else {
+    let Ok(loop_handles) = Arc::try_clone(loop_handles) else {
         drop(turns);
         return None;
     };
     let started = thread::spawn(&rt, move || {
         let mut turns = turns;
-        turns.take_turns(rt, alloc, &desks);
+        turns.take_turns(rt, alloc, &loop_handles);
     });
     started.ok()
 }
@@ -229,12 +251,16 @@ impl Serves for Served<JoinHandle<()>> {
 
     fn fall_silent(&self) {
         self.mark.set();
-        self.desks.wake_all();
+        self.loop_handles.wake_all();
     }
 
     fn end<R: Threads>(self, rt: &R) {
-        let Served { front, turns, .. } = self;
-        front.end(rt);
+        let Served {
+            front_end,
+            turns,
+            ..
+        } = self;
+        front_end.end(rt);
         turns.join(rt);
     }
 }

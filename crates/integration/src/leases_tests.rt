@@ -2,8 +2,8 @@
 
 use crate::making::{Fault, all_hold, all_true};
 use leases::{
-    Answer, AnyEnd, Claim, Deed, Due, Lease, Order, Paces, Report, Roll, SECOND, SharedLease, Term,
-    Ward, Warden, Watch, nanoseconds_of, next_reign,
+    Answer, AnyEnd, Claim, Due, Lease, MasterMachine, Order, Paces, Report, Roll, SECOND,
+    ServerRecord, SharedLease, Term, Watch, WatchDue, nanoseconds_of, next_epoch,
 };
 use std::alloc::Global;
 use std::test::Fail;
@@ -27,7 +27,7 @@ fn is_kept_up(term: Option<Term>) -> bool {
     }
 }
 
-// A lease to which a beat of reign 7 came.
+// A lease to which a beat of epoch 7 came.
 fn beaten(stamp: u64, now: u64) -> Lease {
     let mut lease = Lease::new(two_seconds());
     lease.enter(7);
@@ -36,7 +36,7 @@ fn beaten(stamp: u64, now: u64) -> Lease {
 }
 
 // What is due first for a server that was heard at 1 s, with a beat each 300 ms.
-fn first_due(now: u64) -> Deed {
+fn first_due(now: u64) -> WatchDue {
     let mut watch = Watch::new(two_seconds(), Paces::usual(), 5, SECOND);
     watch.next(true, now)
 }
@@ -50,20 +50,20 @@ fn unanswered() -> Watch {
 }
 
 // What is due for it then.
-fn due_then(now: u64) -> Deed {
+fn due_then(now: u64) -> WatchDue {
     let mut watch = unanswered();
     watch.next(true, now)
 }
 
 // What is due for it at a time, once it was told at 4 s.
-fn due_later(now: u64) -> Deed {
+fn due_later(now: u64) -> WatchDue {
     let mut watch = unanswered();
     watch.next(true, 4 * SECOND);
     watch.answered(6, 4 * SECOND);
     watch.next(true, now)
 }
 
-fn due_after_refusal() -> Deed {
+fn due_after_refusal() -> WatchDue {
     let mut watch = Watch::new(None, Paces::usual(), 5, SECOND);
     watch.refused();
     watch.next(true, SECOND)
@@ -102,7 +102,7 @@ fn a_lease_runs_from_the_stamp() -> Result<(), Fail> {
 }
 
 #[test]
-fn a_server_is_in_its_latest_reign() -> Result<(), Fail> {
+fn a_server_is_in_its_latest_epoch() -> Result<(), Fail> {
     let mut lease = beaten(SECOND, SECOND);
     let (enters, is_of) = (lease.enter(6), lease.is_of(7));
     lease.beat(6, 2 * SECOND, 2 * SECOND);
@@ -115,29 +115,29 @@ fn a_server_is_in_its_latest_reign() -> Result<(), Fail> {
 #[test]
 fn a_watch_beats_and_then_tells() -> Result<(), Fail> {
     all_true(&[
-        first_due(1_200_000_000) == Deed::Wait(100_000_000),
-        first_due(1_300_000_000) == Deed::Beat(Some(5)),
-        due_then(4_000_000_000) == Deed::TellServer,
+        first_due(1_200_000_000) == WatchDue::Wait(100_000_000),
+        first_due(1_300_000_000) == WatchDue::Beat(Some(5)),
+        due_then(4_000_000_000) == WatchDue::TellServer,
         // A master that is late itself sends a beat first.
-        first_due(4_000_000_000) == Deed::Beat(Some(5)),
-        due_then(5_000_000_000) == Deed::Beat(Some(5)),
-        due_later(3_211_000_000) == Deed::Wait(1),
-        due_later(3_211_000_001) == Deed::TellSilent,
-        due_after_refusal() == Deed::TellGone,
+        first_due(4_000_000_000) == WatchDue::Beat(Some(5)),
+        due_then(5_000_000_000) == WatchDue::Beat(Some(5)),
+        due_later(3_211_000_000) == WatchDue::Wait(1),
+        due_later(3_211_000_001) == WatchDue::TellSilent,
+        due_after_refusal() == WatchDue::TellGone,
     ])
 }
 
-// The reign that a server tells after an order, and whether its lease holds then. It is in reign 7, and was prolonged
+// The epoch that a server tells after an order, and whether its lease holds then. It is in epoch 7, and was prolonged
 // at 1 s.
 fn told_after(order: Order, now: u64) -> Option<(u64, bool)> {
     let mut lease = beaten(SECOND, SECOND);
     match lease.hear(order, 0, now) {
-        Answer::Tells(report) => Some((report.reign, now < report.end)),
+        Answer::Tells(report) => Some((report.epoch, now < report.end)),
         Answer::Notes(_) => None,
     }
 }
 
-// The server of which a notice is taken in reign 7.
+// The server of which a notice is taken in epoch 7.
 fn noted_after(order: Order) -> Option<u8> {
     let mut lease = beaten(SECOND, SECOND);
     match lease.hear(order, 0, SECOND) {
@@ -182,7 +182,7 @@ fn other_threads_ask() -> Result<(), Fail> {
     ])
 }
 
-// Whether a reign is whole for server 1 of three, if server 0 entered it and knew these to be gone, and it knew those.
+// Whether an epoch is whole for server 1 of three, if server 0 entered it and knew these to be gone, and it knew those.
 fn whole_for_one(gone: u16, known: u16) -> bool {
     let mut roll = Roll::new(0b010, 0b101);
     roll.enters(0b001, gone);
@@ -191,7 +191,7 @@ fn whole_for_one(gone: u16, known: u16) -> bool {
 }
 
 #[test]
-fn a_reign_is_whole_or_not() -> Result<(), Fail> {
+fn an_epoch_is_whole_or_not() -> Result<(), Fail> {
     all_true(&[
         !whole_for_one(0, 0),
         whole_for_one(0, 0b100),
@@ -200,7 +200,7 @@ fn a_reign_is_whole_or_not() -> Result<(), Fail> {
     ])
 }
 
-// A master of name 3 that started at 1 s, and then heard of reign 9 of another, and of a lease that ends at 5 s.
+// A master of name 3 that started at 1 s, and then heard of epoch 9 of another, and of a lease that ends at 5 s.
 fn followed() -> Claim {
     let mut claim = Claim::new(3, Paces::usual(), SECOND);
     let mut lease = Lease::new(two_seconds());
@@ -210,7 +210,7 @@ fn followed() -> Claim {
     claim
 }
 
-// The reign that it takes at this time, if it takes one.
+// The epoch that it takes at this time, if it takes one.
 fn claimed(met: bool, now: u64) -> Option<u64> {
     let mut claim = followed();
     if claim.is_due(met, now) {
@@ -221,58 +221,58 @@ fn claimed(met: bool, now: u64) -> Option<u64> {
 }
 
 #[test]
-fn a_master_takes_a_reign() -> Result<(), Fail> {
+fn a_master_takes_an_epoch() -> Result<(), Fail> {
     all_true(&[
         claimed(true, 2 * SECOND) == Some(0x1_0000_0003),
         claimed(false, 4 * SECOND).is_none(),
         claimed(false, 5 * SECOND) == Some(0x1_0000_0003),
         !followed().is_reigning(),
-        followed().reign() == 0,
+        followed().epoch() == 0,
     ])
 }
 
 #[test]
-fn reigns_end_in_the_masters_name() -> Result<(), Fail> {
+fn epochs_end_in_the_masters_name() -> Result<(), Fail> {
     all_true(&[
-        next_reign(0, 3) == Some(3),
-        next_reign(3, 3) == Some(0x1_0000_0003),
-        next_reign(0x1_0000_0003, 2) == Some(0x2_0000_0002),
-        next_reign(0xffff_ffff_ffff_fffe, 3).is_none(),
+        next_epoch(0, 3) == Some(3),
+        next_epoch(3, 3) == Some(0x1_0000_0003),
+        next_epoch(0x1_0000_0003, 2) == Some(0x2_0000_0002),
+        next_epoch(0xffff_ffff_ffff_fffe, 3).is_none(),
     ])
 }
 
-// What server 1 of three tells in a reign, at 2 s of its clock, if it knows these to be gone.
-fn report_in(reign: u64, gone: u16) -> Report {
+// What server 1 of three tells in an epoch, at 2 s of its clock, if it knows these to be gone.
+fn report_in(epoch: u64, gone: u16) -> Report {
     let mut lease = Lease::new(two_seconds());
-    lease.enter(reign);
+    lease.enter(epoch);
     lease.report(gone, 2 * SECOND)
 }
 
-// Server 1 of three, which a master of reign 7 has greeted.
-fn greeted() -> Ward {
-    let mut ward = Ward::new(1, 0b101, Paces::usual());
-    ward.begin(7);
-    ward
+// Server 1 of three, which a master of epoch 7 has greeted.
+fn greeted() -> ServerRecord {
+    let mut server_record = ServerRecord::new(1, 0b101, Paces::usual());
+    server_record.begin(7);
+    server_record
 }
 
-// What is due for it at 6 s, once it was heard in this reign at 5 s, and the others in reign 7, which know these to be
+// What is due for it at 6 s, once it was heard in this epoch at 5 s, and the others in epoch 7, which know these to be
 // gone.
-fn due_for(reign: u64, gone: u16) -> Due {
-    let mut ward = greeted();
-    ward.hear(1, &report_in(reign, 0), 5 * SECOND);
-    ward.hear(0, &report_in(7, 0), 5 * SECOND);
-    ward.hear(2, &report_in(7, gone), 5 * SECOND);
-    ward.next(6 * SECOND)
+fn due_for(epoch: u64, gone: u16) -> Due {
+    let mut server_record = greeted();
+    server_record.hear(1, &report_in(epoch, 0), 5 * SECOND);
+    server_record.hear(0, &report_in(7, 0), 5 * SECOND);
+    server_record.hear(2, &report_in(7, gone), 5 * SECOND);
+    server_record.next(6 * SECOND)
 }
 
 // What is due for it at this time, once it was heard at 1 s, and told at 4 s that it is gone.
 fn due_for_silent(now: u64) -> Due {
-    let mut ward = greeted();
-    ward.hear(1, &report_in(7, 0), SECOND);
-    ward.next(2 * SECOND);
-    ward.next(3 * SECOND);
-    ward.next(4 * SECOND);
-    ward.next(now)
+    let mut server_record = greeted();
+    server_record.hear(1, &report_in(7, 0), SECOND);
+    server_record.next(2 * SECOND);
+    server_record.next(3 * SECOND);
+    server_record.next(4 * SECOND);
+    server_record.next(now)
 }
 
 #[test]
@@ -296,9 +296,9 @@ fn a_master_calls_a_silent_server_gone() -> Result<(), Fail> {
 // What happens to a master of name 3 in a chain of two servers, and what it answers.
 #[derive(Clone, Copy)]
 enum Step {
-    // At 1 s it takes a reign: this one.
+    // At 1 s it takes an epoch: this one.
     Claims(u64),
-    // This server told of a reign when the master's clock showed this. Whether the master is followed by another.
+    // This server told of an epoch when the master's clock showed this. Whether the master is followed by another.
     Told(u8, u64, u64, bool),
     // Somebody has seen that server 1 does nothing more.
     Loses,
@@ -312,7 +312,7 @@ enum Step {
 // A tenth of a second.
 const TENTH: u64 = 100_000_000;
 
-fn tells(warden: &mut Warden, from: u64, until: u64) -> bool {
+fn tells(master_machine: &mut MasterMachine, from: u64, until: u64) -> bool {
     let mut now = from;
     let mut has_told = false;
     for _ in 0..100u8 {
@@ -320,7 +320,7 @@ fn tells(warden: &mut Warden, from: u64, until: u64) -> bool {
             break;
         }
         for id in 0..2u8 {
-            if let Due::Server(Order::Silent(_, _)) = warden.next(id, now) {
+            if let Due::Server(Order::Silent(_, _)) = master_machine.next(id, now) {
                 has_told = true;
             }
         }
@@ -329,26 +329,26 @@ fn tells(warden: &mut Warden, from: u64, until: u64) -> bool {
     has_told
 }
 
-fn goes(warden: &mut Warden, step: Step) -> bool {
+fn goes(master_machine: &mut MasterMachine, step: Step) -> bool {
     match step {
-        Step::Claims(reign) => warden.claim(SECOND) == Some(reign),
-        Step::Told(id, reign, now, followed) => {
-            id < 2 && warden.told(id, &report_in(reign, 0), now) == followed
+        Step::Claims(epoch) => master_machine.claim(SECOND) == Some(epoch),
+        Step::Told(id, epoch, now, followed) => {
+            id < 2 && master_machine.told(id, &report_in(epoch, 0), now) == followed
         }
         Step::Loses => {
-            warden.lose(1);
+            master_machine.lose(1);
             true
         }
-        Step::IsDue(due) => warden.next(1, SECOND) == due,
-        Step::Tells(from, until, wanted) => tells(warden, from, until) == wanted,
+        Step::IsDue(due) => master_machine.next(1, SECOND) == due,
+        Step::Tells(from, until, wanted) => tells(master_machine, from, until) == wanted,
     }
 }
 
 // The first step that goes otherwise than it says.
-fn other_step(warden: &mut Warden, steps: &[Step]) -> Option<usize> {
+fn other_step(master_machine: &mut MasterMachine, steps: &[Step]) -> Option<usize> {
     let mut place = 0_usize;
     for step in steps {
-        if !goes(warden, *step) {
+        if !goes(master_machine, *step) {
             return Some(place);
         }
         place = place.wrapping_add(1);
@@ -356,13 +356,13 @@ fn other_step(warden: &mut Warden, steps: &[Step]) -> Option<usize> {
     None
 }
 
-// The same of a master that has just started, and that both servers told in no reign how they are.
+// The same of a master that has just started, and that both servers told in no epoch how they are.
 fn other_of_new(alloc: Global, steps: &[Step]) -> Result<Option<usize>, Fault> {
-    let mut warden = Warden::new(alloc, 3, 2, Paces::usual(), SECOND)?;
-    warden.told(0, &report_in(0, 0), SECOND);
-    warden.told(1, &report_in(0, 0), SECOND);
-    let other = other_step(&mut warden, steps);
-    drop(warden);
+    let mut master_machine = MasterMachine::new(alloc, 3, 2, Paces::usual(), SECOND)?;
+    master_machine.told(0, &report_in(0, 0), SECOND);
+    master_machine.told(1, &report_in(0, 0), SECOND);
+    let other = other_step(&mut master_machine, steps);
+    drop(master_machine);
     Ok(other)
 }
 
@@ -421,14 +421,14 @@ fn a_master_that_was_cut_off_waits(rt: HostRuntime) -> Result<(), Fail> {
 
 static REIGNS: [Step; 2] = [Step::Claims(3), Step::IsDue(Due::Server(Order::Reign(3)))];
 
-// Server 0 told of the master's own reign.
+// Server 0 told of the master's own epoch.
 static GOES_ON: [Step; 3] = [
     Step::Claims(3),
     Step::Told(0, 3, SECOND, false),
     Step::IsDue(Due::Server(Order::Reign(3))),
 ];
 
-// Server 0 told of a later reign, in which the master isn't.
+// Server 0 told of a later epoch, in which the master isn't.
 static IS_FOLLOWED: [Step; 3] = [
     Step::Claims(3),
     Step::Told(0, 9, SECOND, true),

@@ -1,4 +1,4 @@
--- The running chain: servers with their inboxes, wires, and seats with their queues.
+-- The running chain: servers with their inboxes, channels, and seats with their queues.
 use Rattle.std.specs.Prelude.{ℕ, Bool, true, false, not, ◌==◌, nat_lt, List, [], ◌∷◌, slice_index_or, Option, None}
 use Rattle.std.specs.Prelude.{Some, if◌then◌else◌}
 use Rattle.table.specs.declared.operations.Call.{Call}
@@ -11,12 +11,12 @@ use Rattle.node.specs.declared.messages.Output.TheVariants.{To, Reply as Replied
 use Rattle.node.specs.Servers.{ServerState, opening}
 
 -- A running server: its node after all that it has published, of which readers see the face; what its inbox holds, the
--- oldest first; the input that it has taken and whose step isn't published; what is left to put of the steps that were
+-- oldest first; the input that it has taken and whose step is unpublished; what is left to put of the steps that were
 -- published, in order; and whether it has stopped.
 pub record RunningServer : Type 0 where
   pub node : ServerState
   pub inbox : List Input
-  pub turn : Option Input
+  pub unpublished : Option Input
   pub outbox : List Output
   pub stopped : Bool
 
@@ -28,12 +28,12 @@ pub record Seat : Type 0 where
   pub got : List Reply
   pub mail : List Reply
 
--- A running chain: how many servers it has; the servers, by their numbers; the wire from each to each with its
+-- A running chain: how many servers it has; the servers, by their numbers; the channel from each to each with its
 -- messages, the oldest first; and the seats, which are numbered over the whole chain.
 pub record Chain : Type 0 where
   pub count : ℕ
   pub servers : ℕ → RunningServer
-  pub wires : ℕ → ℕ → List Peer
+  pub channels : ℕ → ℕ → List Peer
   pub seats : ℕ → Seat
 
 -- ---- changes of one part
@@ -46,9 +46,9 @@ with_at f i x k = if k == i then x else f k
 abbrev pub with_running : Chain → ℕ → RunningServer → Chain
 with_running l i s = record l { servers = with_at l.servers i s }
 
--- with these messages on the wire from i to j
-abbrev pub with_wire : Chain → ℕ → ℕ → List Peer → Chain
-with_wire l i j ms = record l { wires = with_at l.wires i (with_at (l.wires i) j ms) }
+-- with these messages on the channel from i to j
+abbrev pub with_channel : Chain → ℕ → ℕ → List Peer → Chain
+with_channel l i j ms = record l { channels = with_at l.channels i (with_at (l.channels i) j ms) }
 
 -- with this as seat c
 abbrev pub with_seat : Chain → ℕ → Seat → Chain
@@ -59,7 +59,7 @@ with_seat l c s = record l { seats = with_at l.seats c s }
 -- a server that isn't of the chain counts as one that has stopped
 abbrev pub opening_running : ℕ → ℕ → RunningServer
 opening_running count i =
-    record { node = opening i count; inbox = []; turn = None; outbox = []; stopped = not (nat_lt i count) }
+    record { node = opening i count; inbox = []; unpublished = None; outbox = []; stopped = not (nat_lt i count) }
 
 -- a seat that has begun nothing
 abbrev pub opening_seat : ℕ → Seat
@@ -71,7 +71,7 @@ opening_chain count homes =
     record {
       count = count;
       servers = opening_running count;
-      wires = λ i j. [];
+      channels = λ i j. [];
       seats = λ c. opening_seat (slice_index_or homes c count);
     }
 

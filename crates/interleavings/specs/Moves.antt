@@ -14,7 +14,7 @@ use Rattle.node.specs.declared.looks.Look.{Look}
 use Rattle.node.specs.declared.looks.Look.TheVariants.{Clean, Dirty}
 use Rattle.node.specs.Faces.{face_of, look_at}
 use Rattle.node.specs.Steps.{step}
-use Rattle.interleavings.specs.Chains.{RunningServer, Seat, Chain, with_running, with_wire, with_seat, opening_chain}
+use Rattle.interleavings.specs.Chains.{RunningServer, Seat, Chain, with_running, with_channel, with_seat, opening_chain}
 use Rattle.interleavings.specs.Chains.{messages_to, without_message, replies_to, without_reply}
 use Rattle.interleavings.specs.Chains.{Sender, first_of, without_first_of}
 
@@ -26,9 +26,9 @@ pub data Move : Type 0 where
   Takes : (i : ℕ) (sender : Sender) → Move
   -- server i publishes the face after the step of the input that it took; what the step puts out is to be put
   Publishes : (i : ℕ) → Move
-  -- server i puts the first message that it has left for server j onto their wire
+  -- server i puts the first message that it has left for server j onto their channel
   Puts : (i j : ℕ) → Move
-  -- the oldest message on the wire from i to j comes into the inbox of j
+  -- the oldest message on the channel from i to j comes into the inbox of j
   Arrives : (i j : ℕ) → Move
   -- server i puts the first reply that it has left for seat c into that seat's queue
   Replies : (i c : ℕ) → Move
@@ -83,34 +83,34 @@ looking l c key s =
 -- a server takes this input of a sender, if there is one
 abbrev pub took : RunningServer → Sender → Option Input → RunningServer
 took s sender None = s
-took s sender (Some input) = record s { inbox = without_first_of sender s.inbox; turn = Some input }
+took s sender (Some input) = record s { inbox = without_first_of sender s.inbox; unpublished = Some input }
 
 -- one input at a time
 abbrev pub taking : RunningServer → Sender → RunningServer
 taking s sender =
-    if s.stopped then s else (if is_some s.turn then s else took s sender (first_of sender s.inbox))
+    if s.stopped then s else (if is_some s.unpublished then s else took s sender (first_of sender s.inbox))
 
 -- a server publishes the step of this input, if it has taken one
 abbrev pub published : RunningServer → Option Input → RunningServer
 published s None = s
 published s (Some input) =
-    record s { node = (step s.node input).state; turn = None; outbox = s.outbox ++ (step s.node input).outputs }
+    record s { node = (step s.node input).state; unpublished = None; outbox = s.outbox ++ (step s.node input).outputs }
 
--- a server that goes on publishes the step of its turn
+-- a server that goes on publishes the step of the input that it took
 abbrev pub publishing : RunningServer → RunningServer
-publishing s = if s.stopped then s else published s s.turn
+publishing s = if s.stopped then s else published s s.unpublished
 
--- server i puts the first of these messages, which it has left for server j, onto their wire
+-- server i puts the first of these messages, which it has left for server j, onto their channel
 abbrev pub put : Chain → ℕ → ℕ → List Peer → Chain
 put l i j [] = l
 put l i j (m ∷ ms) =
-    with_wire (with_running l i (record (l.servers i) { outbox = without_message j (l.servers i).outbox })) i j
-    (l.wires i j ++ m ∷ [])
+    with_channel (with_running l i (record (l.servers i) { outbox = without_message j (l.servers i).outbox })) i j
+    (l.channels i j ++ m ∷ [])
 
--- the first of these messages, which are on the wire from i to j, comes into the inbox of j
+-- the first of these messages, which are on the channel from i to j, comes into the inbox of j
 abbrev pub arrived : Chain → ℕ → ℕ → List Peer → Chain
 arrived l i j [] = l
-arrived l i j (m ∷ ms) = brought (with_wire l i j ms) j (From i m)
+arrived l i j (m ∷ ms) = brought (with_channel l i j ms) j (From i m)
 
 -- server i puts the first of these replies, which it has left for seat c, into the queue of that seat
 abbrev pub mailed : Chain → ℕ → ℕ → Seat → List Reply → Chain
@@ -131,7 +131,7 @@ done l (Sends c call) = sent l c call (l.seats c)
 done l (Takes i sender) = with_running l i (taking (l.servers i) sender)
 done l (Publishes i) = with_running l i (publishing (l.servers i))
 done l (Puts i j) = if (l.servers i).stopped then l else put l i j (messages_to j (l.servers i).outbox)
-done l (Arrives i j) = arrived l i j (l.wires i j)
+done l (Arrives i j) = arrived l i j (l.channels i j)
 done l (Replies i c) =
     if (l.servers i).stopped then l else mailed l i c (l.seats c) (replies_to c (l.servers i).outbox)
 done l (Receives c) = received l c (l.seats c) (l.seats c).mail

@@ -5,17 +5,17 @@ use Rattle.table.specs.Histories.{IsLegal}
 use Rattle.table.specs.declared.operations.Call.{Call}
 use Rattle.table.specs.declared.operations.Reply.{Reply}
 use Rattle.world.specs.Calls.{CallId}
-use Rattle.world.specs.Orders.{Entry, StandsAt}
+use Rattle.world.specs.Orders.{OrderedCall, StandsAt}
 use Rattle.interleavings.specs.Chains.{Chain}
 use Rattle.interleavings.specs.Moves.{Move, moved}
 
--- the call, once its seat has sent it, or has looked; a call's name is a seat, and a place among its calls
+-- the call, once its seat has sent it, or has looked; a call's name is a seat, and an ordinal among its calls
 abbrev pub begun_call : Chain → CallId → Option Call
-begun_call l x = slice_get (l.seats x.connection).calls x.place
+begun_call l x = slice_get (l.seats x.connection).calls x.ordinal
 
 -- its reply, once its seat has it
 abbrev pub reply_to : Chain → CallId → Option Reply
-reply_to l x = slice_get (l.seats x.connection).got x.place
+reply_to l x = slice_get (l.seats x.connection).got x.ordinal
 
 -- x precedes y: after some first k moves x is answered, and y isn't begun
 pub record Precedes (count : ℕ) (homes : List ℕ) (moves : List Move) (x y : CallId) : Type 0 where
@@ -24,11 +24,12 @@ pub record Precedes (count : ℕ) (homes : List ℕ) (moves : List Move) (x y : 
   pub not_begun : begun_call (moved count homes (take k moves)) y ≡ None
 
 -- The order h is a linearization of the run:
-pub record IsLinearization (count : ℕ) (homes : List ℕ) (moves : List Move) (h : List Entry) : Type 0 where
+pub record IsLinearization (count : ℕ) (homes : List ℕ) (moves : List Move) (h : List OrderedCall) : Type 0 where
   -- each reply in it is that of a single table, after all calls before it;
   pub legal : IsLegal (map (λ e. (e.call, e.reply)) h)
-  -- each entry is a begun call, as it was begun;
-  pub begun : (i : ℕ) (e : Entry) → slice_get h i ≡ Some e → begun_call (moved count homes moves) e.id ≡ Some e.call
+  -- each of its calls is one that was begun, as it was begun;
+  pub begun : (i : ℕ) (e : OrderedCall) → slice_get h i ≡ Some e
+      → begun_call (moved count homes moves) e.id ≡ Some e.call
   -- no call stands in it twice;
   pub once : (i j : ℕ) (x : CallId) → StandsAt h i x → StandsAt h j x → i ≡ j
   -- each answered call stands in it, with the reply that it got;

@@ -4,7 +4,7 @@ use Rattle.std.specs.Prelude.{◌≡◌, ℕ, ◌<◌, List, [], ◌∷◌, take
 use Rattle.table.specs.Histories.{IsLegal}
 use Rattle.table.specs.declared.operations.Reply.{Reply}
 use Rattle.world.specs.Calls.{CallId}
-use Rattle.world.specs.Orders.{Entry, StandsAt}
+use Rattle.world.specs.Orders.{OrderedCall, StandsAt}
 use Rattle.interleavings.specs.Chains.{Chain, opening_chain}
 use Rattle.interleavings.specs.Moves.{Move}
 use Rattle.interleavings.specs.Orders.{begun_call, reply_to}
@@ -29,10 +29,10 @@ pub record PrecedesBy (does : Doing) (count : ℕ) (homes : List ℕ) (moves : L
   pub not_begun : begun_call (moved_by does count homes (take k moves)) y ≡ None
 
 -- the order h is a linearization of the run
-pub record IsLinearizationBy (does : Doing) (count : ℕ) (homes : List ℕ) (moves : List Move) (h : List Entry) :
+pub record IsLinearizationBy (does : Doing) (count : ℕ) (homes : List ℕ) (moves : List Move) (h : List OrderedCall) :
     Type 0 where
   pub legal : IsLegal (map (λ e. (e.call, e.reply)) h)
-  pub begun : (i : ℕ) (e : Entry)
+  pub begun : (i : ℕ) (e : OrderedCall)
       → slice_get h i ≡ Some e
       → begun_call (moved_by does count homes moves) e.id ≡ Some e.call
   pub once : (i j : ℕ) (x : CallId) → StandsAt h i x → StandsAt h j x → i ≡ j
@@ -46,4 +46,4 @@ pub record IsLinearizationBy (does : Doing) (count : ℕ) (homes : List ℕ) (mo
 
 -- no order is one
 abbrev pub HasNoOrder : Doing → ℕ → List ℕ → List Move → Type 0
-HasNoOrder does count homes moves = (h : List Entry) → IsLinearizationBy does count homes moves h → ⊥
+HasNoOrder does count homes moves = (h : List OrderedCall) → IsLinearizationBy does count homes moves h → ⊥

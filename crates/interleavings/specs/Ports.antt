@@ -6,7 +6,7 @@ use Rattle.node.specs.declared.messages.Output.{Output}
 use Rattle.node.specs.declared.messages.Output.TheVariants.{To, Reply as Replied}
 use Rattle.node.specs.declared.servers.OpenRead.{OpenRead}
 use Rattle.node.specs.declared.servers.OpenUpdate.{OpenUpdate}
-use Rattle.node.specs.Servers.{ServerState, Outcome}
+use Rattle.node.specs.Servers.{ServerState, RuleResult}
 
 -- an open update at the new port
 abbrev pub with_port : (ℕ → ℕ) → OpenUpdate → OpenUpdate
@@ -32,5 +32,5 @@ abbrev pub renamed : (ℕ → ℕ) → ServerState → ServerState
 renamed f s = record s { pend = map (with_port f) s.pend; asks = map (read_with_port f) s.asks }
 
 -- what a rule makes of it, likewise
-abbrev pub renamed_outcome : (ℕ → ℕ) → Outcome → Outcome
+abbrev pub renamed_outcome : (ℕ → ℕ) → RuleResult → RuleResult
 renamed_outcome f a = record { state = renamed f a.state; outputs = map (output_to f) a.outputs }

@@ -77,20 +77,20 @@ pub record HasAll (k : Connection) : Type 0 where
 
 -- ---- the order of all calls, in the words of `Orders.antt`
 
--- A call's name: its connection, by a seat and the connection's number there, and its place among the connection's
+-- A call's name: its connection, by a seat and the connection's number there, and its ordinal among the connection's
 -- calls.
 pub record CallName : Type 0 where
   pub seat : ℕ
   pub number : ℕ
-  pub place : ℕ
+  pub ordinal : ℕ
 
 -- the call, once it was made
 abbrev pub call_made : ServingChain → CallName → Option Call
-call_made s x = slice_get (s.connections x.seat x.number).calls x.place
+call_made s x = slice_get (s.connections x.seat x.number).calls x.ordinal
 
 -- its reply, once its connection has it
 abbrev pub reply_got : ServingChain → CallName → Option Reply
-reply_got s x = slice_get (s.connections x.seat x.number).replies x.place
+reply_got s x = slice_get (s.connections x.seat x.number).replies x.ordinal
 
 -- An entry of an order: a call's name, the call, and its reply.
 pub record ServedEntry : Type 0 where

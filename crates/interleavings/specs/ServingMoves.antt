@@ -44,7 +44,7 @@ pub data ServingMove : Type 0 where
   Writes : (c n : ℕ) → ServingMove
   -- the connection ends, wherever it stands; seat c serves the next one
   Ends : (c : ℕ) → ServingMove
-  -- a move of servers, wires and queues
+  -- a move of servers, channels and queues
   Runs : (move : Move) → ServingMove
 
 -- the connection that seat c serves

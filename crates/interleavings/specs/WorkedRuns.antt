@@ -99,12 +99,12 @@ before_outlived_look =
     Notices 0 1 ∷ Takes 0 OfNotices ∷ Publishes 0 ∷ Sends 0 set ∷ Takes 0 (OfSeat 0) ∷ Publishes 0 ∷ Replies 0 0
     ∷ Receives 0 ∷ []
 
--- ---- Two servers, a client of the head, and wires that leave out a message: the forward of its set.
+-- ---- Two servers, a client of the head, and channels that leave out a message: the forward of its set.
 
 -- the moves
 unfoldable pub lossy_moves : List Move
 lossy_moves = Sends 0 set ∷ Takes 0 (OfSeat 0) ∷ Publishes 0 ∷ Puts 0 1 ∷ Arrives 0 1 ∷ []
 
--- what server i has still to do: its inbox, its turn, its outbox
+-- what server i has still to do: its inbox, its unpublished input, its outbox
 abbrev pub left_to_do : Chain → ℕ → List Input × Option Input × List Output
-left_to_do l i = ((l.servers i).inbox, (l.servers i).turn, (l.servers i).outbox)
+left_to_do l i = ((l.servers i).inbox, (l.servers i).unpublished, (l.servers i).outbox)

@@ -5,7 +5,7 @@ use Rattle.node.specs.declared.messages.Input.TheVariants.{Gone}
 use Rattle.node.specs.Faces.{face_of, look_at}
 use Rattle.node.specs.Servers.{opening}
 use Rattle.node.specs.Steps.{step}
-use Rattle.interleavings.specs.Chains.{RunningServer, Seat, Chain, with_running, with_wire, Sender, first_of}
+use Rattle.interleavings.specs.Chains.{RunningServer, Seat, Chain, with_running, with_channel, Sender, first_of}
 use Rattle.interleavings.specs.Chains.{without_first_of}
 use Rattle.interleavings.specs.Moves.{Takes, Publishes, Arrives, Looks, Notices, is_free, looked, brought, done}
 use Rattle.interleavings.specs.OtherMoves.{Doing}
@@ -32,23 +32,23 @@ took_early s sender None = s
 took_early s sender (Some input) =
     record s {
       inbox = without_first_of sender s.inbox;
-      turn = Some input;
+      unpublished = Some input;
       outbox = s.outbox ++ (step s.node input).outputs;
     }
 
 -- one input at a time
 abbrev pub taking_early : RunningServer → Sender → RunningServer
 taking_early s sender =
-    if s.stopped then s else (if is_some s.turn then s else took_early s sender (first_of sender s.inbox))
+    if s.stopped then s else (if is_some s.unpublished then s else took_early s sender (first_of sender s.inbox))
 
 -- the publish itself puts nothing out any more
 abbrev pub published_late : RunningServer → Option Input → RunningServer
 published_late s None = s
-published_late s (Some input) = record s { node = (step s.node input).state; turn = None }
+published_late s (Some input) = record s { node = (step s.node input).state; unpublished = None }
 
--- a server that goes on publishes the step of its turn
+-- a server that goes on publishes the step of the input that it took
 abbrev pub publishing_late : RunningServer → RunningServer
-publishing_late s = if s.stopped then s else published_late s s.turn
+publishing_late s = if s.stopped then s else published_late s s.unpublished
 
 -- moves with such puts
 abbrev pub with_early_puts : Doing
@@ -63,9 +63,9 @@ abbrev pub with_early_notices : Doing
 with_early_notices l (Notices i j) = if nat_lt j l.count then brought l i (Gone j) else l
 with_early_notices l m = done l m
 
--- ---- A wire leaves out a message: the first one is taken off it, and comes nowhere.
+-- ---- A channel leaves out a message: the first one is taken off it, and comes nowhere.
 
--- moves with such wires
-abbrev pub with_lossy_wires : Doing
-with_lossy_wires l (Arrives i j) = with_wire l i j (drop 1 (l.wires i j))
-with_lossy_wires l m = done l m
+-- moves with such channels
+abbrev pub with_lossy_channels : Doing
+with_lossy_channels l (Arrives i j) = with_channel l i j (drop 1 (l.channels i j))
+with_lossy_channels l m = done l m

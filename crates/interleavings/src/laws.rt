@@ -19,7 +19,7 @@ ghost use Rattle.interleavings.specs.Connections.{waits, may_have};
 ghost use Rattle.interleavings.specs.ServingMoves.{ServingMove, served_at, served};
 ghost use Rattle.interleavings.specs.Served.{unrefused, NoneRefused, IsServed, ServedEntry, IsOneOrder};
 ghost use Rattle.interleavings.specs.Served.{NoneUnanswered, AllHaveAll};
-ghost use Rattle.world.specs.Orders.{Entry};
+ghost use Rattle.world.specs.Orders.{OrderedCall};
 
 /// Every run of moves of a chain of up to 16 servers, with servers that stop at any move, has an order of its calls in
 /// which a single table would have answered them.
@@ -27,7 +27,7 @@ pub fn every_run_is_linearizable()
     ensures { (count : ℕ) (homes : List ℕ) (moves : List Move)
         → count ≤ 16
         → AreAsked moves
-        → (h : List Entry) × IsLinearization count homes moves h }
+        → (h : List OrderedCall) × IsLinearization count homes moves h }
 {}
 
 /// No call is forgotten: if nothing is left to do, each call of a seat whose server goes on has its reply. Fewer than 2^62
@@ -54,7 +54,7 @@ pub fn seats_may_have_own_ports()
     ensures order { (count : ℕ) (homes : List ℕ) (moves : List Move)
         → count ≤ 16
         → AreAsked moves
-        → (h : List Entry) × IsLinearizationBy (with_own_ports homes) count homes moves h }
+        → (h : List OrderedCall) × IsLinearizationBy (with_own_ports homes) count homes moves h }
     // A server and a port name one seat.
     ensures apart { (homes : List ℕ) (c d i : ℕ)
         → slice_get homes c ≡ Some i
@@ -101,7 +101,7 @@ pub fn without_refusals_all_is_replied()
 /// From bytes of clients to bytes of clients: every run of a chain that serves connections, with servers that stop,
 /// connections that end and stores that are refused at any move.
 pub fn clients_see_one_table()
-    // Its servers, wires and queues make a run of moves, with calls that clients can ask: so all that is proved of
+    // Its servers, channels and queues make a run of moves, with calls that clients can ask: so all that is proved of
     // these holds.
     ensures run { (count : ℕ) (homes : List ℕ) (moves : List ServingMove)
         → (ms : List Move) × AreAsked ms × ((served done count homes moves).chain ≡ moved count homes ms) }

@@ -3,7 +3,7 @@ ghost use Rattle.std.specs.Prelude.{◌≡◌, ℕ, false, List, [], ◌∷◌, 
 ghost use Rattle.table.specs.declared.operations.Reply.TheVariants.{Stored, Value};
 ghost use Rattle.proto.specs.Turns.{Replied, Refused};
 ghost use Rattle.node.specs.declared.messages.Body.TheVariants.{Ack};
-ghost use Rattle.world.specs.Orders.{Entry};
+ghost use Rattle.world.specs.Orders.{OrderedCall};
 ghost use Rattle.world.specs.WorkedSchedules.{name};
 ghost use Rattle.interleavings.specs.Chains.{messages_to};
 ghost use Rattle.interleavings.specs.Moves.{Move, Looks, read_of, moved, done};
@@ -12,7 +12,7 @@ ghost use Rattle.interleavings.specs.Orders.{begun_call, reply_to, IsLinearizati
 ghost use Rattle.interleavings.specs.Quiet.{IsQuiet};
 ghost use Rattle.interleavings.specs.OtherMoves.{moved_by, IsLinearizationBy, HasNoOrder};
 ghost use Rattle.interleavings.specs.WrongMoves.{with_older_looks, with_early_puts, with_early_notices};
-ghost use Rattle.interleavings.specs.WrongMoves.{with_lossy_wires};
+ghost use Rattle.interleavings.specs.WrongMoves.{with_lossy_channels};
 ghost use Rattle.interleavings.specs.WorkedRuns.{key, set, item, set_homes, set_moves, left_to_do};
 ghost use Rattle.interleavings.specs.WorkedRuns.{failover_homes, look_while_dirty, failover_moves};
 ghost use Rattle.interleavings.specs.WorkedRuns.{older_homes, before_older_look, early_homes};
@@ -95,28 +95,28 @@ pub fn early_notice_has_no_order()
     ensures { HasNoOrder with_early_notices 2 told_homes (before_outlived_look ++ Looks 1 key ∷ []) }
 {}
 
-/// If a wire may leave out a message, a call may be forgotten: nothing is left to do in a chain all of whose servers go
-/// on, and the call has no reply.
-pub fn lossy_wire_forgets_a_call()
-    ensures begun { begun_call (moved_by with_lossy_wires 2 set_homes lossy_moves) (name 0 0) ≡ Some set }
-    ensures forgotten { reply_to (moved_by with_lossy_wires 2 set_homes lossy_moves) (name 0 0) ≡ None }
-    ensures quiet { IsQuiet (moved_by with_lossy_wires 2 set_homes lossy_moves) }
-    ensures first { left_to_do (moved_by with_lossy_wires 2 set_homes lossy_moves) 0 ≡ ([], None, []) }
-    ensures second { left_to_do (moved_by with_lossy_wires 2 set_homes lossy_moves) 1 ≡ ([], None, []) }
-    ensures down { (moved_by with_lossy_wires 2 set_homes lossy_moves).wires 0 1 ≡ [] }
-    ensures back { (moved_by with_lossy_wires 2 set_homes lossy_moves).wires 1 0 ≡ [] }
-    ensures mail { ((moved_by with_lossy_wires 2 set_homes lossy_moves).seats 0).mail ≡ [] }
-    ensures head_goes_on { ((moved_by with_lossy_wires 2 set_homes lossy_moves).servers 0).stopped ≡ false }
-    ensures tail_goes_on { ((moved_by with_lossy_wires 2 set_homes lossy_moves).servers 1).stopped ≡ false }
+/// If a channel may leave out a message, a call may be forgotten: nothing is left to do in a chain all of whose servers
+/// go on, and the call has no reply.
+pub fn lossy_channel_forgets_a_call()
+    ensures begun { begun_call (moved_by with_lossy_channels 2 set_homes lossy_moves) (name 0 0) ≡ Some set }
+    ensures forgotten { reply_to (moved_by with_lossy_channels 2 set_homes lossy_moves) (name 0 0) ≡ None }
+    ensures quiet { IsQuiet (moved_by with_lossy_channels 2 set_homes lossy_moves) }
+    ensures first { left_to_do (moved_by with_lossy_channels 2 set_homes lossy_moves) 0 ≡ ([], None, []) }
+    ensures second { left_to_do (moved_by with_lossy_channels 2 set_homes lossy_moves) 1 ≡ ([], None, []) }
+    ensures down { (moved_by with_lossy_channels 2 set_homes lossy_moves).channels 0 1 ≡ [] }
+    ensures back { (moved_by with_lossy_channels 2 set_homes lossy_moves).channels 1 0 ≡ [] }
+    ensures mail { ((moved_by with_lossy_channels 2 set_homes lossy_moves).seats 0).mail ≡ [] }
+    ensures head_goes_on { ((moved_by with_lossy_channels 2 set_homes lossy_moves).servers 0).stopped ≡ false }
+    ensures tail_goes_on { ((moved_by with_lossy_channels 2 set_homes lossy_moves).servers 1).stopped ≡ false }
 {}
 
 /// With what the moves do, `IsLinearizationBy` is the law's `IsLinearization`: so the runs above differ from the law's
 /// by the moves that lack a rule alone.
 pub fn ordinary_moves()
-    ensures order { (count : ℕ) (homes : List ℕ) (moves : List Move) (h : List Entry)
+    ensures order { (count : ℕ) (homes : List ℕ) (moves : List Move) (h : List OrderedCall)
         → IsLinearizationBy done count homes moves h
         → IsLinearization count homes moves h }
-    ensures converse { (count : ℕ) (homes : List ℕ) (moves : List Move) (h : List Entry)
+    ensures converse { (count : ℕ) (homes : List ℕ) (moves : List Move) (h : List OrderedCall)
         → IsLinearization count homes moves h
         → IsLinearizationBy done count homes moves h }
 {}

@@ -4,21 +4,23 @@ use Rattle.std.proofs.Common.{sym}
 use Rattle.std.proofs.lemmas.List.Elements.{All-nil, All-append, All-cons, All-head, All-set, All-tail, All-weaker}
 use Rattle.atomic_table.specs.Seated.{TableId}
 use Rattle.node.specs.Nodes.{NodeState}
-use Rattle.faces.specs.Courses.{Origin}
-use Rattle.rail.specs.declared.stands.Stand.{Stand}
+use Rattle.faces.specs.Histories.{Origin}
+use Rattle.rail.specs.declared.thread_handles.ThreadHandle.{ThreadHandle}
 use Rattle.rail.specs.Inlets.{InletState, LeadTo, inlet_at, inlets_from}
 use Rattle.rail.specs.Seats.{SeatState}
-use Rattle.rail.specs.Servers.{IsOpened, seat_at, seats_from, stand_at, stands_from}
+use Rattle.rail.specs.Servers.{IsOpened, seat_at, seats_from, stand_at, thread_handles_from}
 use Rattle.rail.specs.Workers.{WorkerState}
 use Rattle.seats.specs.Replies.{HasAllReplies}
 use Rattle.seats.specs.SeatPools.{Pooling}
 use Rattle.io_threads.specs.Pools.{AreAllAt, AreOf, BeginsAs, IsRepliedAt}
 
 -- all are of this server, and sent nothing
-all_at : (o : Origin) (b : TableId) (k n : ℕ) → All (λ (stand : Stand). IsRepliedAt o stand.seat) (stands_from o b k n)
-all_at o b k zero = All-nil (λ (stand : Stand). IsRepliedAt o stand.seat)
+all_at : (o : Origin) (b : TableId) (k n : ℕ)
+    → All (λ (thread_handle : ThreadHandle). IsRepliedAt o thread_handle.seat) (thread_handles_from o b k n)
+all_at o b k zero = All-nil (λ (thread_handle : ThreadHandle). IsRepliedAt o thread_handle.seat)
 all_at o b k (suc n) =
-    All-cons (λ (stand : Stand). IsRepliedAt o stand.seat) (stand_at o b k) (stands_from o b (k + 1) n) (refl, refl)
+    All-cons (λ (thread_handle : ThreadHandle). IsRepliedAt o thread_handle.seat) (stand_at o b k)
+    (thread_handles_from o b (k + 1) n) (refl, refl)
     (all_at o b (k + 1) n)
 
 all_seats_at : (o : Origin) (b : TableId) (k n : ℕ) → All (IsRepliedAt o) (seats_from o b k n)
@@ -26,11 +28,12 @@ all_seats_at o b k zero = All-nil (IsRepliedAt o)
 all_seats_at o b k (suc n) =
     All-cons (IsRepliedAt o) (seat_at o b k) (seats_from o b (k + 1) n) (refl, refl) (all_seats_at o b (k + 1) n)
 
-length_from : (o : Origin) (b : TableId) (k n : ℕ) → length (stands_from o b k n) ≡ n
+length_from : (o : Origin) (b : TableId) (k n : ℕ) → length (thread_handles_from o b k n) ≡ n
 length_from o b k zero = refl
 length_from o b k (suc n) = ap suc (length_from o b (k + 1) n)
 
-module _ (node : NodeState) (readers more inlets : ℕ) (w : WorkerState) (beside : List Stand) (others : List SeatState)
+module _ (node : NodeState) (readers more inlets : ℕ) (w : WorkerState) (beside : List ThreadHandle)
+    (others : List SeatState)
     (brought : List InletState) (opened : IsOpened node readers more inlets w beside others brought) where
   -- the stands and the seats of a server that was opened are all of its worker's server, and no pool is of another
   opened_at : AreOf w.published.origin beside others []
@@ -38,7 +41,8 @@ module _ (node : NodeState) (readers more inlets : ℕ) (w : WorkerState) (besid
       let same : w.published.origin ≡ opened.origin = ap (λ (v : WorkerState). v.published.origin) opened.worker in
       let are : AreOf opened.origin beside others [] =
       record {
-        stands = subst (All (λ (stand : Stand). IsRepliedAt opened.origin stand.seat)) (sym opened.stands)
+        stands = subst (All (λ (thread_handle : ThreadHandle). IsRepliedAt opened.origin thread_handle.seat))
+            (sym opened.stands)
             (all_at opened.origin opened.inbox 0 readers);
         seats = subst (All (IsRepliedAt opened.origin)) (sym opened.seats)
             (all_seats_at opened.origin opened.inbox readers more);
@@ -55,7 +59,7 @@ module _ (node : NodeState) (readers more inlets : ℕ) (w : WorkerState) (besid
       → AreAllAt w.published.origin pools
   opened_pools pools all = all w.published.origin opened_at
 
-  -- there is a stand for each reader
+  -- there is a thread handle for each reader
   pub opened_stands : length beside ≡ readers
   opened_stands = ap length opened.stands ∙ length_from opened.origin opened.inbox 0 readers
 
@@ -76,7 +80,7 @@ all_lead b k (suc n) =
     (all_lead b (k + 1) n)
 
 -- the inlets of a server that was opened lead to its worker's inbox
-pub opened_lead : (node : NodeState) (readers more inlets : ℕ) (w : WorkerState) (beside : List Stand)
+pub opened_lead : (node : NodeState) (readers more inlets : ℕ) (w : WorkerState) (beside : List ThreadHandle)
     (others : List SeatState) (brought : List InletState)
     → IsOpened node readers more inlets w beside others brought → LeadTo w.inbox brought
 opened_lead node readers more inlets w beside others brought opened =
@@ -103,24 +107,24 @@ one_changed o pools after place pool all new same =
     (All-set (λ (p : Pooling). p.seen.origin ≡ o) pools place pool new all)
 
 -- no pool was made yet
-pub none_made : (o : Origin) (stands left : List Stand) (others : List SeatState) (pools : List Pooling)
+pub none_made : (o : Origin) (stands left : List ThreadHandle) (others : List SeatState) (pools : List Pooling)
     → left ≡ stands
     → pools ≡ []
     → AreOf o stands others []
     → AreOf o left others pools
 none_made o stands left others pools same none are =
     record {
-      stands = subst (All (λ (stand : Stand). IsRepliedAt o stand.seat)) (sym same) are.stands;
+      stands = subst (All (λ (thread_handle : ThreadHandle). IsRepliedAt o thread_handle.seat)) (sym same) are.stands;
       seats = are.seats;
       pools = subst (All (λ (pool : Pooling). pool.seen.origin ≡ o)) (sym none) are.pools;
     }
 
--- the same by what the list of stands is
-pub as_left : (o : Origin) (left next : List Stand) (others : List SeatState) (pools : List Pooling)
+-- the same by what the list of thread handles is
+pub as_left : (o : Origin) (left next : List ThreadHandle) (others : List SeatState) (pools : List Pooling)
     → left ≡ next
     → AreOf o left others pools
     → AreOf o next others pools
-as_left o left next others pools same are = subst (λ (l : List Stand). AreOf o l others pools) same are
+as_left o left next others pools same are = subst (λ (l : List ThreadHandle). AreOf o l others pools) same are
 
 -- the same by what the list of seats is
 pub as_more : (o : Origin) (more next : List SeatState) (pools : List Pooling)
@@ -129,40 +133,41 @@ pub as_more : (o : Origin) (more next : List SeatState) (pools : List Pooling)
     → AreOf o [] next pools
 as_more o more next pools same are = subst (λ (l : List SeatState). AreOf o [] l pools) same are
 
-module _ (o : Origin) (stand : Stand) (rest : List Stand) (more : List SeatState) (pools : List Pooling)
-    (are : AreOf o (stand ∷ rest) more pools) where
+module _ (o : Origin) (thread_handle : ThreadHandle) (rest : List ThreadHandle) (more : List SeatState)
+    (pools : List Pooling)
+    (are : AreOf o (thread_handle ∷ rest) more pools) where
   -- the next stand is of this server
-  next_stand : IsRepliedAt o stand.seat
-  next_stand = All-head (λ (s : Stand). IsRepliedAt o s.seat) stand rest are.stands
+  next_stand : IsRepliedAt o thread_handle.seat
+  next_stand = All-head (λ (s : ThreadHandle). IsRepliedAt o s.seat) thread_handle rest are.stands
 
   -- the pools are of the server of the next stand
-  pub may_be_made : All (λ (pool : Pooling). pool.seen.origin ≡ stand.seat.origin) pools
+  pub may_be_made : All (λ (pool : Pooling). pool.seen.origin ≡ thread_handle.seat.origin) pools
   may_be_made =
       All-weaker (λ (pool : Pooling). pool.seen.origin ≡ o)
-      (λ (pool : Pooling). pool.seen.origin ≡ stand.seat.origin)
+      (λ (pool : Pooling). pool.seen.origin ≡ thread_handle.seat.origin)
       (λ pool same. same ∙ sym next_stand.0) pools are.pools
 
   -- and it has all replies
-  pub stand_replied : HasAllReplies stand.seat
+  pub stand_replied : HasAllReplies thread_handle.seat
   stand_replied = next_stand.1
 
   -- and once its pool was made, all that are left are of this server
-  pub was_made : (after : List Pooling) → All (λ (pool : Pooling). pool.seen.origin ≡ stand.seat.origin) after
+  pub was_made : (after : List Pooling) → All (λ (pool : Pooling). pool.seen.origin ≡ thread_handle.seat.origin) after
       → AreOf o rest more after
   was_made after given =
       record {
-        stands = All-tail (λ (s : Stand). IsRepliedAt o s.seat) stand rest are.stands;
+        stands = All-tail (λ (s : ThreadHandle). IsRepliedAt o s.seat) thread_handle rest are.stands;
         seats = are.seats;
-        pools = All-weaker (λ (pool : Pooling). pool.seen.origin ≡ stand.seat.origin)
+        pools = All-weaker (λ (pool : Pooling). pool.seen.origin ≡ thread_handle.seat.origin)
             (λ (pool : Pooling). pool.seen.origin ≡ o) (λ pool same. same ∙ next_stand.0) after given;
       }
 
--- all stands have their pools: what is left are seats
-pub all_made : (o : Origin) (left : List Stand) (more rest : List SeatState) (pools : List Pooling)
+-- all thread handles have their pools: what is left are seats
+pub all_made : (o : Origin) (left : List ThreadHandle) (more rest : List SeatState) (pools : List Pooling)
     → AreOf o left more pools → rest ≡ more → AreOf o [] rest pools
 all_made o left more rest pools are same =
     record {
-      stands = All-nil (λ (s : Stand). IsRepliedAt o s.seat);
+      stands = All-nil (λ (s : ThreadHandle). IsRepliedAt o s.seat);
       seats = subst (All (IsRepliedAt o)) (sym same) are.seats;
       pools = are.pools;
     }

@@ -2,9 +2,9 @@
 use Rattle.std.proofs.Common.{◌≡◌, ◌∙◌, ◌≤◌, ◌<◌, ◌++◌, ℕ, List, [], Option, Some, None, IfSome, true, length}
 use Rattle.std.proofs.Common.{ap, append_assoc, append-nil, arith, sym}
 use Rattle.serving.specs.declared.connections.Wants.TheVariants.{End as Ends}
-use Rattle.serving.specs.declared.serving.End.{End}
+use Rattle.serving.specs.declared.endings.End.{End}
 use Rattle.serving.specs.Wanted.{IsWanted}
-use Rattle.seats.specs.declared.talks.Standing.TheVariants.{Reading, Over as Spent}
+use Rattle.seats.specs.declared.client_connections.CallStanding.TheVariants.{Reading, Over as Spent}
 use Rattle.io_threads.specs.declared.clients.Pause.{Pause}
 use Rattle.io_threads.specs.declared.clients.Pause.TheVariants.{Turn, Socket, Seat, Reply, Lease, Over}
 use Rattle.io_threads.specs.Clients.{AwaitsSocket, Input, Output, HasPassed, HasPaused, Visiting}
@@ -24,11 +24,11 @@ passed_then xs ys zs p q =
     record { more = p.more ++ q.more; is = q.is ∙ (ap (λ w. w ++ q.more) p.is ∙ append_assoc xs p.more q.more) }
 
 -- it wants input
-pub awaits_input : (v : Visiting) → v.talk.standing ≡ Reading → AwaitsSocket v
+pub awaits_input : (v : Visiting) → v.client_connection.standing ≡ Reading → AwaitsSocket v
 awaits_input v e = Input e
 
 -- output is due
-pub awaits_output : (v : Visiting) → 0 < length v.talk.connected.due → AwaitsSocket v
+pub awaits_output : (v : Visiting) → 0 < length v.client_connection.connected.due → AwaitsSocket v
 awaits_output v some = Output some
 
 -- memory was refused
@@ -44,11 +44,12 @@ pub past_fault : (faults : ℕ) (v : Visiting) → faults < v.faults → IsPast 
 past_fault faults v more = Failed more
 
 -- no reply comes any more
-pub past_loss : (faults : ℕ) (v : Visiting) → v.talk.standing ≡ Spent → IsPast faults v
+pub past_loss : (faults : ℕ) (v : Visiting) → v.client_connection.standing ≡ Spent → IsPast faults v
 past_loss faults v e = Fallen e
 
 -- it is at its end
-pub past_end : (faults : ℕ) (v : Visiting) (end : End) → IsWanted (Ends end) v.talk.connected → IsPast faults v
+pub past_end : (faults : ℕ) (v : Visiting) (end : End) → IsWanted (Ends end) v.client_connection.connected
+    → IsPast faults v
 past_end faults v end wanted = Ended end wanted
 
 -- what has failed since then has failed since earlier

@@ -5,21 +5,21 @@ use Rattle.std.proofs.Crossing.{crosses, frees, Arc-send, Vec-send}
 use Rattle.std.proofs.alloc.Global.TheSendSync as heap
 use Rattle.mio.proofs.event.events.Events.TheSendSync as events
 use Rattle.mio.proofs.poll.Poll.TheSendSync as poll
-use Rattle.seats.proofs.Sent.{leash_send}
+use Rattle.seats.proofs.Sent.{output_permit_send}
 use Rattle.seats.proofs.marks.Mark.TheSendSync as mark
 use Rattle.seats.proofs.seat_pools.SeatPool.TheSendSync as pool
-use Rattle.io_threads.proofs.desks.Desks.TheSendSync as desks
-use Rattle.io_threads.specs.contracts.desks.Desks as Desks
-use Rattle.io_threads.specs.contracts.loops.Beginning as Beginning
-use Rattle.io_threads.specs.contracts.lounges.Quarters as Quarters
+use Rattle.io_threads.proofs.loop_handles.LoopHandles.TheSendSync as loop_handles
+use Rattle.io_threads.specs.contracts.loop_handles.LoopHandles as LoopHandles
+use Rattle.io_threads.specs.contracts.loops.ThreadParts as ThreadParts
+use Rattle.io_threads.specs.contracts.connection_tables.ConnectionTableParts as ConnectionTableParts
 
-quarters_send : IsSend Quarters.the_row
-quarters_send = search (sendable, mark.the_field_send, pool.the_send, leash_send) depth 20
+table_parts_send : IsSend ConnectionTableParts.the_row
+table_parts_send = search (sendable, mark.the_field_send, pool.the_send, output_permit_send) depth 20
 
--- what a thread begins with may go to it, if the program's handle and the stations may
-pub beginning_send : (R T : RattleType) → IsSend R → IsSend T → IsSync T → IsSend (Beginning.the_row R T)
-beginning_send R T r t u =
-    let own = Vec-send Quarters.the_row quarters_send in
-    let stations = Arc-send T t u in
-    let handed = Arc-send Desks.the_row desks.the_send desks.the_sync in
+-- what a thread begins with may go to it, if the program's handle and the turn scheduler may
+pub thread_parts_send : (R T : RattleType) → IsSend R → IsSend T → IsSync T → IsSend (ThreadParts.the_row R T)
+thread_parts_send R T r t u =
+    let own = Vec-send ConnectionTableParts.the_row table_parts_send in
+    let turn_scheduler = Arc-send T t u in
+    let handed = Arc-send LoopHandles.the_row loop_handles.the_send loop_handles.the_sync in
     search (sendable, crosses, heap.the_field_send, poll.the_field_send, events.the_field_send, frees) depth 20

@@ -1,4 +1,4 @@
-pub mod Wires
+pub mod ClientSockets
 pub mod Clients
-pub mod Guests
+pub mod ServedClients
 pub mod Pools

@@ -1,8 +1,8 @@
 -- Stands and seats that are dealt out to threads.
 use Rattle.std.specs.Prelude.{◌≡◌, true, List, [], All}
 use Rattle.node.specs.Nodes.{NodeState}
-use Rattle.faces.specs.Courses.{Origin}
-use Rattle.rail.specs.declared.stands.Stand.{Stand}
+use Rattle.faces.specs.Histories.{Origin}
+use Rattle.rail.specs.declared.thread_handles.ThreadHandle.{ThreadHandle}
 use Rattle.rail.specs.Seats.{SeatState}
 use Rattle.rail.specs.Workers.{WorkerState}
 use Rattle.seats.specs.Replies.{HasAllReplies}
@@ -16,9 +16,11 @@ IsRepliedAt origin seat = (seat.origin ≡ origin) × HasAllReplies seat
 abbrev pub AreAllAt : Origin → List Pooling → Type 0
 AreAllAt origin pools = All (λ pool. pool.seen.origin ≡ origin) pools
 
--- These stands, these seats, and these pools of seats, are all of this server, and no call waits at any of the seats.
-pub record AreOf (origin : Origin) (left : List Stand) (more : List SeatState) (made : List Pooling) : Type 0 where
-  pub stands : All (λ stand. IsRepliedAt origin stand.seat) left
+-- These thread handles, these seats, and these pools of seats, are all of this server, and no call waits at any of the
+-- seats.
+pub record AreOf (origin : Origin) (left : List ThreadHandle) (more : List SeatState) (made : List Pooling) : Type
+    0 where
+  pub stands : All (λ thread_handle. IsRepliedAt origin thread_handle.seat) left
   pub seats : All (IsRepliedAt origin) more
   pub pools : All (λ pool. pool.seen.origin ≡ origin) made
 

@@ -1,7 +1,7 @@
 //! The thread that accepts connections, and hands each to one of the serving threads in turn.
 
-use crate::desks::{Arrival, Desks};
-use crate::entries::Porter;
+use crate::connection_permits::PermitIssuer;
+use crate::loop_handles::{Arrival, LoopHandles};
 use mio::net::{TcpListener, TcpStream};
 use mio::{Events, Interest, Poll, Token};
 use seats::Mark;
@@ -29,7 +29,7 @@ const REFUSAL: &[u8] = b"SERVER_ERROR too many connections\r\n";
 pub(crate) struct Entrance {
     // None once no more are accepted.
     listener: Option<TcpListener>,
-    porter: Porter,
+    permit_issuer: PermitIssuer,
     mark: Mark,
     // How many more are accepted, if that is limited.
     left: Option<u64>,
@@ -52,7 +52,7 @@ pub(crate) struct Acceptor<R: Wait + Drop> {
     events: Events,
     // By the servers' ids.
     entrances: Vec<Entrance>,
-    desks: Arc<Desks, Global>,
+    loop_handles: Arc<LoopHandles, Global>,
     threads: usize,
     // The thread that gets the next one.
     next: usize,
@@ -73,7 +73,7 @@ impl Entrance {
     ) -> Result<Entrance, AllocError> {
         Ok(Entrance {
             listener: Some(listener),
-            porter: Porter::new(alloc, connections)?,
+            permit_issuer: PermitIssuer::new(alloc, connections)?,
             mark,
             left: if serves == 0 { None } else { Some(serves) },
             is_ready: true,
@@ -120,7 +120,7 @@ impl<R: Wait + Drop> Acceptor<R> {
         rt: R,
         alloc: Global,
         entrances: Vec<Entrance>,
-        desks: Arc<Desks, Global>,
+        loop_handles: Arc<LoopHandles, Global>,
         threads: usize,
     ) -> Result<Acceptor<R>, AllocError>
     where
@@ -134,7 +134,7 @@ impl<R: Wait + Drop> Acceptor<R> {
             poll,
             events: Events::with_capacity(alloc, 64)?,
             entrances,
-            desks,
+            loop_handles,
             threads,
             next: 0,
             held: VecDeque::new(alloc),
@@ -176,7 +176,7 @@ impl<R: Wait + Drop> Acceptor<R> {
                 self.accept_some(id);
             }
             if self.is_done() {
-                self.desks.finish();
+                self.loop_handles.finish();
                 return;
             }
         }
@@ -231,10 +231,10 @@ impl<R: Wait + Drop> Acceptor<R> {
         if entrance.mark.is_set() {
             return;
         }
-        match entrance.porter.admit() {
-            Some(entry) => {
+        match entrance.permit_issuer.admit() {
+            Some(permit) => {
                 let arrival = Arrival {
-                    entry,
+                    permit,
                     stream,
                     server,
                 };
@@ -257,7 +257,7 @@ impl<R: Wait + Drop> Acceptor<R> {
 
     // Hands a connection to a thread, or keeps it for later. If memory is out for that it is closed.
     fn hand_on(&mut self, thread: usize, arrival: Arrival) {
-        if let Some(arrival) = self.desks.send(thread, arrival) {
+        if let Some(arrival) = self.loop_handles.send(thread, arrival) {
             drop(self.held.push_back(Held { thread, arrival }));
         }
     }

@@ -1,11 +1,11 @@
 //! A client's connection with its socket, which goes as far as it can without waiting.
 ghost use Rattle.std.specs.Prelude.{◌≡◌, ◌+◌, IfSome, MatchOption, OnSome};
-ghost use Rattle.seats.specs.declared.talks.Standing.TheVariants.{Reading};
+ghost use Rattle.seats.specs.declared.client_connections.CallStanding.TheVariants.{Reading};
 ghost use Rattle.io_threads.specs.Clients.{HasPassed};
-ghost use Rattle.io_threads.specs.Wires.{read_faults, write_faults};
+ghost use Rattle.io_threads.specs.ClientSockets.{read_faults, write_faults};
 
-use crate::wires::{Came, Gone, Wire};
-use seats::{Leash, SeatPool, Talk, Went};
+use crate::client_sockets::{ClientSocket, ReadOutcome, WriteOutcome};
+use seats::{ClientConnection, OutputPermit, SeatPool, Went};
 use std::alloc::Global;
 use std::io::{Read, Write};
 use std::marker::Model;
@@ -48,8 +48,9 @@ const PASSES: usize = 4;
 /// unless memory was refused, and that what it took is what the connection counts as written.
 #[derive(Drop)]
 pub struct Client<S: Read + Write> {
-    // The fields lie in this order, and what each event looks at before the talk: one line of the processor's memory.
-    wire: Wire<S>,
+    // The fields lie in this order, and what each event looks at before the client connection: one line of the
+    // processor's memory.
+    client_socket: ClientSocket<S>,
     // Whether there may be input, and whether more output may be taken.
     is_readable: bool,
     is_writable: bool,
@@ -58,7 +59,7 @@ pub struct Client<S: Read + Write> {
     is_gone: bool,
     // Whether memory was refused to what was read last.
     is_refused: bool,
-    talk: Talk,
+    client_connection: ClientConnection,
 }
 
 impl<S: Read + Write> Model for Client<S> {
@@ -74,30 +75,31 @@ impl<S: Read + Write> Model for Client<S> {
     ghost coded = { Prim.hlevel (codes, coded_item, coded_items, book_coded, table_id_coded) };
 
     ghost view = { λ c. record {
-      talk = c.talk;
-      given = c.wire.given;
-      taken = c.wire.taken;
+      client_connection = c.client_connection;
+      given = c.client_socket.given;
+      taken = c.client_socket.taken;
       refused = c.is_refused;
       gone = c.is_gone;
-      faults = c.wire.faults;
+      faults = c.client_socket.faults;
     } };
 
-    ghost invariant = { λ c. IsPassed c.wire.given c.wire.taken c.is_refused c.talk.connected };
+    ghost invariant = { λ c. IsPassed c.client_socket.given c.client_socket.taken c.is_refused
+        c.client_connection.connected };
 }
 
 impl<S: Read + Write> Client<S> {
     ghost use Rattle.std.specs.Prelude.{◌≡◌, ◌≢◌, ◌≤◌, ◌<◌, ◌++◌, ◌||◌, ℕ, List, [], true, false, length};
     ghost use Rattle.std.specs.Prelude.{IfNone, IfSome, MatchBool};
-    ghost use Rattle.faces.specs.Courses.{IsLater};
+    ghost use Rattle.faces.specs.Histories.{IsLater};
     ghost use Rattle.serving.specs.Connections.{IsBegun};
     ghost use Rattle.seats.specs.SeatPools.{HasSameReader};
-    ghost use Rattle.seats.specs.Talks.{IsFurther, begun};
-    ghost use Rattle.seats.specs.declared.talks.Standing.TheVariants.{Idle, Reading, Over as Spent};
+    ghost use Rattle.seats.specs.ClientConnections.{IsFurther, begun};
+    ghost use Rattle.seats.specs.declared.client_connections.CallStanding.TheVariants.{Idle, Reading, Over as Spent};
     ghost use Rattle.io_threads.specs.Clients.{HasPassed, HasPaused};
 
     /// A client that has said nothing. It allocates nothing.
     pub fn new(alloc: Global, socket: S, pool: &SeatPool) -> Client<S>
-        ensures talk { result.talk ≡ begun pool.now.seen }
+        ensures client_connection { result.client_connection ≡ begun pool.now.seen }
         ensures given { result.given ≡ [] }
         ensures taken { result.taken ≡ [] }
         ensures whole { result.refused ≡ false }
@@ -105,8 +107,8 @@ impl<S: Read + Write> Client<S> {
         ensures fresh { result.faults ≡ 0 }
     {
         Client {
-            wire: Wire::new(socket),
-            talk: Talk::new(alloc, pool),
+            client_socket: ClientSocket::new(socket),
+            client_connection: ClientConnection::new(alloc, pool),
             is_readable: false,
             is_writable: true,
             has_ended: false,
@@ -119,10 +121,10 @@ impl<S: Read + Write> Client<S> {
     /// is due for the bytes that it gave; and so it stays, whatever bytes may follow.
     pub fn so_far(&self)
         ensures begun { self.now.refused ≡ false
-            → (more : List ℕ) → IsBegun self.now.talk.connected (self.now.given ++ more) }
-        ensures taken { self.now.taken ≡ self.now.talk.connected.written }
+            → (more : List ℕ) → IsBegun self.now.client_connection.connected (self.now.given ++ more) }
+        ensures taken { self.now.taken ≡ self.now.client_connection.connected.written }
     {
-        self.talk.so_far();
+        self.client_connection.so_far();
     }
 
     /// Its socket was found ready for this. Once the connection is gone it stays so.
@@ -137,31 +139,32 @@ impl<S: Read + Write> Client<S> {
 
     // How much output is due, and one more if it wants input.
     pub(crate) fn look_at(&self) -> usize {
-        let due = self.talk.output().len();
-        due.wrapping_add(usize::from(self.talk.wants_input()))
+        let due = self.client_connection.output().len();
+        due.wrapping_add(usize::from(self.client_connection.wants_input()))
     }
 
     /// Goes on for a while, and says why it goes no further: `HasPaused` tells what each answer means. Once memory was
     /// refused to what was read, or the connection is gone, nothing is read, written, looked at or sent. The slice is
-    /// room for what is read. Before each write the leash is asked, after all that is due was made up. If it doesn't
-    /// let the server put anything out, what is due stays so. A leash that no lease holds lets all out.
+    /// room for what is read. Before each write the output permit is asked, after all that is due was made up. If it
+    /// doesn't let the server put anything out, what is due stays so. An output permit that no lease holds lets all
+    /// out.
     #[tactic(auto, using(crate::proofs::Later::seeing, crate::proofs::Pausing::passed, crate::proofs::Pausing::ending))]
     pub fn go<R: Wait + Clock>(
         &mut self,
         rt: &R,
         pool: &mut SeatPool,
         piece: &mut [u8],
-        leash: &Leash,
+        output_permit: &OutputPermit,
     ) -> Pause
-        requires known { IsLater self.old.talk.seen pool.old.seen }
-        ensures known { IsLater self.new.talk.seen pool.new.seen }
+        requires known { IsLater self.old.client_connection.seen pool.old.seen }
+        ensures known { IsLater self.new.client_connection.seen pool.new.seen }
         ensures later { IsLater pool.old.seen pool.new.seen }
-        ensures first { self.new.talk.first ≡ self.old.talk.first }
+        ensures first { self.new.client_connection.first ≡ self.old.client_connection.first }
         ensures given { HasPassed self.old.given self.new.given }
         ensures taken { HasPassed self.old.taken self.new.taken }
         ensures gone { self.new.gone ≡ self.old.gone }
         ensures paused { HasPaused result self.old.faults self.new }
-        ensures held { leash.now ≡ false → result ≢ Pause.Lease }
+        ensures held { output_permit.now ≡ false → result ≢ Pause.Lease }
         ensures refused { self.old.refused ≡ true →
             (result ≡ Pause.Over) × (self.new ≡ self.old) × (pool.new ≡ pool.old) }
         ensures left { self.old.gone ≡ true → (result ≡ Pause.Over) × (self.new ≡ self.old) × (pool.new ≡ pool.old) }
@@ -172,7 +175,7 @@ impl<S: Read + Write> Client<S> {
         if self.is_gone {
             return Pause::Over;
         }
-        self.go_on(rt, pool, piece, leash)
+        self.go_on(rt, pool, piece, output_permit)
     }
 
     // Takes a few steps.
@@ -182,21 +185,21 @@ impl<S: Read + Write> Client<S> {
         rt: &R,
         pool: &mut SeatPool,
         piece: &mut [u8],
-        leash: &Leash,
+        output_permit: &OutputPermit,
     ) -> Pause
-        requires known { IsLater self.old.talk.seen pool.old.seen }
+        requires known { IsLater self.old.client_connection.seen pool.old.seen }
         requires whole { self.old.refused ≡ false }
-        ensures known { IsLater self.new.talk.seen pool.new.seen }
+        ensures known { IsLater self.new.client_connection.seen pool.new.seen }
         ensures later { IsLater pool.old.seen pool.new.seen }
-        ensures first { self.new.talk.first ≡ self.old.talk.first }
+        ensures first { self.new.client_connection.first ≡ self.old.client_connection.first }
         ensures given { HasPassed self.old.given self.new.given }
         ensures taken { HasPassed self.old.taken self.new.taken }
         ensures gone { self.new.gone ≡ self.old.gone }
         ensures paused { HasPaused result self.old.faults self.new }
-        ensures held { leash.now ≡ false → result ≢ Pause.Lease }
+        ensures held { output_permit.now ≡ false → result ≢ Pause.Lease }
     {
         for _ in 0..PASSES {
-            if let Some(pause) = self.step(rt, pool, piece, leash) {
+            if let Some(pause) = self.step(rt, pool, piece, output_permit) {
                 return pause;
             }
         }
@@ -210,24 +213,24 @@ impl<S: Read + Write> Client<S> {
         rt: &R,
         pool: &mut SeatPool,
         piece: &mut [u8],
-        leash: &Leash,
+        output_permit: &OutputPermit,
     ) -> Option<Pause>
-        requires known { IsLater self.old.talk.seen pool.old.seen }
+        requires known { IsLater self.old.client_connection.seen pool.old.seen }
         requires whole { self.old.refused ≡ false }
-        ensures known { IsLater self.new.talk.seen pool.new.seen }
+        ensures known { IsLater self.new.client_connection.seen pool.new.seen }
         ensures later { IsLater pool.old.seen pool.new.seen }
-        ensures first { self.new.talk.first ≡ self.old.talk.first }
+        ensures first { self.new.client_connection.first ≡ self.old.client_connection.first }
         ensures given { HasPassed self.old.given self.new.given }
         ensures taken { HasPassed self.old.taken self.new.taken }
         ensures gone { self.new.gone ≡ self.old.gone }
         ensures faults { self.old.faults ≤ self.new.faults }
         ensures whole { IfNone result (self.new.refused ≡ false) }
         ensures paused { IfSome result (λ pause. HasPaused pause self.old.faults self.new) }
-        ensures held { leash.now ≡ false → IfSome result (λ pause. pause ≢ Pause.Lease) }
+        ensures held { output_permit.now ≡ false → IfSome result (λ pause. pause ≢ Pause.Lease) }
     {
-        match self.talk.go(rt, pool) {
+        match self.client_connection.go(rt, pool) {
             Ok(Went::Input) => self.read(piece),
-            Ok(Went::Write) => self.write(rt, leash),
+            Ok(Went::Write) => self.write(rt, output_permit),
             Ok(Went::Seat) => Some(Pause::Seat),
             Ok(Went::Reply) => Some(Pause::Reply),
             Ok(Went::More) => Some(Pause::Turn),
@@ -239,10 +242,10 @@ impl<S: Read + Write> Client<S> {
     // Reads once, if there may be input.
     #[tactic(auto, using(crate::proofs::Pausing::passed, crate::proofs::Pausing::ending))]
     fn read(&mut self, piece: &mut [u8]) -> Option<Pause>
-        requires reads { self.old.talk.standing ≡ Reading }
+        requires reads { self.old.client_connection.standing ≡ Reading }
         requires whole { self.old.refused ≡ false }
-        ensures seen { self.new.talk.seen ≡ self.old.talk.seen }
-        ensures first { self.new.talk.first ≡ self.old.talk.first }
+        ensures seen { self.new.client_connection.seen ≡ self.old.client_connection.seen }
+        ensures first { self.new.client_connection.first ≡ self.old.client_connection.first }
         ensures given { HasPassed self.old.given self.new.given }
         ensures taken { self.new.taken ≡ self.old.taken }
         ensures gone { self.new.gone ≡ self.old.gone }
@@ -254,17 +257,17 @@ impl<S: Read + Write> Client<S> {
         if !self.is_readable {
             return Some(Pause::Socket);
         }
-        match read(&mut self.wire, &mut self.talk, piece) {
-            Some(Came::Bytes(n)) => {
+        match read(&mut self.client_socket, &mut self.client_connection, piece) {
+            Some(ReadOutcome::Bytes(n)) => {
                 self.is_readable = n == piece.len() || self.has_ended;
                 None
             }
-            Some(Came::Nothing) => {
+            Some(ReadOutcome::Nothing) => {
                 self.is_readable = false;
                 Some(Pause::Socket)
             }
-            Some(Came::End) => None,
-            Some(Came::Fault) => Some(Pause::Over),
+            Some(ReadOutcome::End) => None,
+            Some(ReadOutcome::Fault) => Some(Pause::Over),
             None => {
                 self.is_refused = true;
                 Some(Pause::Over)
@@ -274,48 +277,49 @@ impl<S: Read + Write> Client<S> {
 
     // Writes once, if output may be taken, and the server may put it out.
     #[tactic(auto, using(crate::proofs::Pausing::passed, crate::proofs::Pausing::ending))]
-    fn write<R: Clock>(&mut self, rt: &R, leash: &Leash) -> Option<Pause>
-        requires writes { 0 < length self.old.talk.connected.due }
-        ensures seen { self.new.talk.seen ≡ self.old.talk.seen }
-        ensures first { self.new.talk.first ≡ self.old.talk.first }
+    fn write<R: Clock>(&mut self, rt: &R, output_permit: &OutputPermit) -> Option<Pause>
+        requires writes { 0 < length self.old.client_connection.connected.due }
+        ensures seen { self.new.client_connection.seen ≡ self.old.client_connection.seen }
+        ensures first { self.new.client_connection.first ≡ self.old.client_connection.first }
         ensures given { self.new.given ≡ self.old.given }
         ensures taken { HasPassed self.old.taken self.new.taken }
         ensures gone { self.new.gone ≡ self.old.gone }
         ensures faults { self.old.faults ≤ self.new.faults }
         ensures whole { self.new.refused ≡ self.old.refused }
         ensures paused { IfSome result (λ pause. HasPaused pause self.old.faults self.new) }
-        ensures held { leash.now ≡ false → IfSome result (λ pause. pause ≢ Pause.Lease) }
+        ensures held { output_permit.now ≡ false → IfSome result (λ pause. pause ≢ Pause.Lease) }
     {
         if !self.is_writable {
             return Some(Pause::Socket);
         }
-        if !leash.lets(rt) {
+        if !output_permit.lets(rt) {
             return Some(Pause::Lease);
         }
-        match write(&mut self.wire, &mut self.talk) {
-            Gone::Bytes(_) => None,
-            Gone::Nothing => {
+        match write(&mut self.client_socket, &mut self.client_connection) {
+            WriteOutcome::Bytes(_) => None,
+            WriteOutcome::Nothing => {
                 self.is_writable = false;
                 Some(Pause::Socket)
             }
-            Gone::Fault => Some(Pause::Over),
+            WriteOutcome::Fault => Some(Pause::Over),
         }
     }
 
     /// Takes the reply to the call that was sent, if it has come, and says whether it did. Some(false) if not; None if
     /// it never will, or memory is out. Nothing is read or written.
     pub fn hear<R: Wait>(&mut self, rt: &R, pool: &mut SeatPool) -> Option<bool>
-        requires known { IsLater self.old.talk.seen pool.old.seen }
-        ensures known { IsLater self.new.talk.seen pool.new.seen }
+        requires known { IsLater self.old.client_connection.seen pool.old.seen }
+        ensures known { IsLater self.new.client_connection.seen pool.new.seen }
         ensures later { IsLater pool.old.seen pool.new.seen }
-        ensures same { self.new ≡ record self.old { talk = self.new.talk } }
-        ensures first { self.new.talk.first ≡ self.old.talk.first }
-        ensures further { IsFurther self.old.talk.connected self.new.talk.connected }
+        ensures same { self.new ≡ record self.old { client_connection = self.new.client_connection } }
+        ensures first { self.new.client_connection.first ≡ self.old.client_connection.first }
+        ensures further { IsFurther self.old.client_connection.connected self.new.client_connection.connected }
         ensures heard { IfSome result
-            (λ heard. MatchBool heard (self.new.talk.standing ≡ Idle) (self.new.talk ≡ self.old.talk)) }
-        ensures over { IfNone result (self.new.talk.standing ≡ Spent) }
+            (λ heard. MatchBool heard (self.new.client_connection.standing ≡ Idle)
+            (self.new.client_connection ≡ self.old.client_connection)) }
+        ensures over { IfNone result (self.new.client_connection.standing ≡ Spent) }
     {
-        match self.talk.hear(rt, pool) {
+        match self.client_connection.hear(rt, pool) {
             Ok(true) => Some(true),
             Ok(false) => Some(false),
             Err(_) => None,
@@ -327,66 +331,77 @@ impl<S: Read + Write> Client<S> {
     pub fn leave(self, pool: &mut SeatPool)
     where
         S: Drop,
-        requires known { IsLater self.talk.seen pool.old.seen }
+        requires known { IsLater self.client_connection.seen pool.old.seen }
         ensures { HasSameReader pool.old pool.new }
     {
-        let Client { wire, talk, .. } = self;
-        drop(wire);
-        talk.leave(pool);
+        let Client {
+            client_socket,
+            client_connection,
+            ..
+        } = self;
+        drop(client_socket);
+        client_connection.leave(pool);
     }
 }
 
 // Reads once, and feeds what came. None if memory is refused to that.
 #[tactic(auto, using(crate::proofs::Pausing::passed))]
-fn read<S: Read + Write>(wire: &mut Wire<S>, talk: &mut Talk, piece: &mut [u8]) -> Option<Came>
-    requires reads { talk.old.standing ≡ Reading }
-    requires given { wire.old.given ≡ talk.old.connected.read }
-    requires taken { wire.old.taken ≡ talk.old.connected.written }
-    ensures given { OnSome result (wire.new.given ≡ talk.new.connected.read) }
-    ensures taken { wire.new.taken ≡ talk.new.connected.written }
-    ensures passed { HasPassed wire.old.given wire.new.given }
-    ensures untaken { wire.new.taken ≡ wire.old.taken }
-    ensures faults { MatchOption result (wire.new.faults ≡ wire.old.faults)
-        (λ came. wire.new.faults ≡ wire.old.faults + read_faults came) }
-    ensures waits { IfSome result (λ came. came ≡ Came.Nothing → talk.new ≡ talk.old) }
-    ensures seen { talk.new.seen ≡ talk.old.seen }
-    ensures first { talk.new.first ≡ talk.old.first }
+fn read<S: Read + Write>(
+    client_socket: &mut ClientSocket<S>,
+    client_connection: &mut ClientConnection,
+    piece: &mut [u8],
+) -> Option<ReadOutcome>
+    requires reads { client_connection.old.standing ≡ Reading }
+    requires given { client_socket.old.given ≡ client_connection.old.connected.read }
+    requires taken { client_socket.old.taken ≡ client_connection.old.connected.written }
+    ensures given { OnSome result (client_socket.new.given ≡ client_connection.new.connected.read) }
+    ensures taken { client_socket.new.taken ≡ client_connection.new.connected.written }
+    ensures passed { HasPassed client_socket.old.given client_socket.new.given }
+    ensures untaken { client_socket.new.taken ≡ client_socket.old.taken }
+    ensures faults { MatchOption result (client_socket.new.faults ≡ client_socket.old.faults)
+        (λ came. client_socket.new.faults ≡ client_socket.old.faults + read_faults came) }
+    ensures waits { IfSome result (λ came. came ≡ ReadOutcome.Nothing → client_connection.new ≡ client_connection.old) }
+    ensures seen { client_connection.new.seen ≡ client_connection.old.seen }
+    ensures first { client_connection.new.first ≡ client_connection.old.first }
 {
-    match wire.read(piece) {
-        Came::Bytes(n) => {
-            if talk.feed(&piece[..n]).is_err() {
+    match client_socket.read(piece) {
+        ReadOutcome::Bytes(n) => {
+            if client_connection.feed(&piece[..n]).is_err() {
                 return None;
             }
-            Some(Came::Bytes(n))
+            Some(ReadOutcome::Bytes(n))
         }
-        Came::End => {
-            talk.input_ended();
-            Some(Came::End)
+        ReadOutcome::End => {
+            client_connection.input_ended();
+            Some(ReadOutcome::End)
         }
-        Came::Nothing => Some(Came::Nothing),
-        Came::Fault => Some(Came::Fault),
+        ReadOutcome::Nothing => Some(ReadOutcome::Nothing),
+        ReadOutcome::Fault => Some(ReadOutcome::Fault),
     }
 }
 
 // Writes once, and counts what went.
 #[tactic(auto, using(crate::proofs::Pausing::passed))]
-fn write<S: Read + Write>(wire: &mut Wire<S>, talk: &mut Talk) -> Gone
-    requires taken { wire.old.taken ≡ talk.old.connected.written }
-    ensures given { wire.new.given ≡ wire.old.given }
-    ensures read { talk.new.connected.read ≡ talk.old.connected.read }
-    ensures taken { wire.new.taken ≡ talk.new.connected.written }
-    ensures passed { HasPassed wire.old.taken wire.new.taken }
-    ensures faults { wire.new.faults ≡ wire.old.faults + write_faults result }
-    ensures waits { result ≡ Gone.Nothing → talk.new ≡ talk.old }
-    ensures seen { talk.new.seen ≡ talk.old.seen }
-    ensures first { talk.new.first ≡ talk.old.first }
+fn write<S: Read + Write>(
+    client_socket: &mut ClientSocket<S>,
+    client_connection: &mut ClientConnection,
+) -> WriteOutcome
+    requires taken { client_socket.old.taken ≡ client_connection.old.connected.written }
+    ensures given { client_socket.new.given ≡ client_socket.old.given }
+    ensures read { client_connection.new.connected.read ≡ client_connection.old.connected.read }
+    ensures taken { client_socket.new.taken ≡ client_connection.new.connected.written }
+    ensures passed { HasPassed client_socket.old.taken client_socket.new.taken }
+    ensures faults { client_socket.new.faults ≡ client_socket.old.faults + write_faults result }
+    ensures waits { result ≡ WriteOutcome.Nothing → client_connection.new ≡ client_connection.old }
+    ensures seen { client_connection.new.seen ≡ client_connection.old.seen }
+    ensures first { client_connection.new.first ≡ client_connection.old.first }
 {
-    match wire.write(talk.output()) {
-        Gone::Bytes(n) => {
-            talk.written(n);
-            Gone::Bytes(n)
+    match client_socket.write(client_connection.output()) {
+        WriteOutcome::Bytes(n) => {
+            client_connection.written(n);
+            WriteOutcome::Bytes(n)
         }
-        Gone::Nothing => Gone::Nothing,
-        Gone::Fault => Gone::Fault,
+        WriteOutcome::Nothing => WriteOutcome::Nothing,
+        WriteOutcome::Fault => WriteOutcome::Fault,
     }
 }

@@ -3,23 +3,23 @@
 #![tactic(auto)]
 
 mod accepting;
+mod client_sockets;
 mod clients;
-mod desks;
-mod entries;
-mod fronts;
-mod guests;
+mod connection_permits;
+mod connection_tables;
+mod front_ends;
 mod limits;
-mod lines;
+mod loop_handles;
 mod loops;
-mod lounges;
 mod pools;
-mod stations;
-mod wires;
+mod served_clients;
+mod turn_schedulers;
+mod wait_queues;
 
 pub use clients::{Client, Pause, Ready};
-pub use desks::{Desks, open_desks};
-pub use fronts::{Front, FrontFault, FrontSettings, Gate, open_front};
+pub use front_ends::{FrontEnd, FrontEndFault, FrontEndSettings, ServedServer, open_front_end};
 pub use limits::{most_files, open_files, usual_threads};
-pub use lines::Line;
+pub use loop_handles::{LoopHandles, open_loop_handles};
 pub use pools::{Pooled, open_pools};
-pub use stations::{Elsewhere, Stations, Visit};
+pub use turn_schedulers::{ScheduledElsewhere, TurnScheduler, Visit};
+pub use wait_queues::WaitQueue;

@@ -1,4 +1,4 @@
-//! How many threads serve, and how many files a front may have open.
+//! How many threads serve, and how many files a front end may have open.
 ghost use Rattle.std.specs.Prelude.{◌≡◌, ◌+◌, ◌*◌, ◌<◌, ◌≤◌};
 
 use libc::types::rlimit;

@@ -1,9 +1,9 @@
 //! A serving thread: it waits for its sockets, serves what is ready, takes turns, and hands on the replies.
 
 use crate::clients::Ready;
-use crate::desks::{Desks, OpenAt, WAKE};
-use crate::lounges::{Lounge, Quarters, SERVERS};
-use crate::stations::Stations;
+use crate::connection_tables::{ConnectionTable, ConnectionTableParts, SERVERS};
+use crate::loop_handles::{LoopHandles, OpenAt, WAKE};
+use crate::turn_schedulers::TurnScheduler;
 use mio::{Events, Poll, Token};
 use seats::ServerSet;
 use std::alloc::{AllocError, Global};
@@ -27,30 +27,30 @@ const HELD: u64 = 10;
 
 /// What a serving thread begins with. Unlike the thread's own state it may be sent to another thread.
 #[derive(Drop)]
-pub(crate) struct Beginning<R: Wait + Drop, T: Stations + Drop> {
+pub(crate) struct ThreadParts<R: Wait + Drop, T: TurnScheduler + Drop> {
     rt: R,
     alloc: Global,
     me: usize,
-    stations: Arc<T, Global>,
-    desks: Arc<Desks, Global>,
+    turn_scheduler: Arc<T, Global>,
+    loop_handles: Arc<LoopHandles, Global>,
     poll: Poll,
     events: Events,
     // By the servers' ids.
-    quarters: Vec<Quarters>,
+    table_parts: Vec<ConnectionTableParts>,
     piece: Vec<u8>,
 }
 
 /// A serving thread.
 #[derive(Drop)]
-pub(crate) struct IoThread<R: Wait + Drop, T: Stations + Drop> {
+pub(crate) struct IoThread<R: Wait + Drop, T: TurnScheduler + Drop> {
     rt: R,
     me: usize,
-    stations: Arc<T, Global>,
-    desks: Arc<Desks, Global>,
+    turn_scheduler: Arc<T, Global>,
+    loop_handles: Arc<LoopHandles, Global>,
     poll: Poll,
     events: Events,
     // By the servers' ids. None if memory was out as it began.
-    lounges: Vec<Lounge>,
+    connection_tables: Vec<ConnectionTable>,
     // Where all reads go.
     piece: Vec<u8>,
     // The servers that it is to visit, and the one that it visited last.
@@ -60,55 +60,55 @@ pub(crate) struct IoThread<R: Wait + Drop, T: Stations + Drop> {
     seen: usize,
 }
 
-impl<R: Wait + Copy + Drop, T: Stations + Drop> Beginning<R, T> {
-    /// Of a thread with this desk, which waits here. Refused only if memory is out.
+impl<R: Wait + Copy + Drop, T: TurnScheduler + Drop> ThreadParts<R, T> {
+    /// Of a thread with this loop handle, which waits here. Refused only if memory is out.
     pub(crate) fn new(
         rt: R,
         alloc: Global,
         me: usize,
-        stations: Arc<T, Global>,
-        desks: Arc<Desks, Global>,
+        turn_scheduler: Arc<T, Global>,
+        loop_handles: Arc<LoopHandles, Global>,
         poll: Poll,
-        quarters: Vec<Quarters>,
-    ) -> Result<Beginning<R, T>, AllocError> {
-        Ok(Beginning {
+        table_parts: Vec<ConnectionTableParts>,
+    ) -> Result<ThreadParts<R, T>, AllocError> {
+        Ok(ThreadParts {
             rt,
             alloc,
             me,
-            stations,
-            desks,
+            turn_scheduler,
+            loop_handles,
             poll,
             events: Events::with_capacity(alloc, EVENTS)?,
-            quarters,
+            table_parts,
             piece: Vec::from_elem(alloc, 0u8, PIECE)?,
         })
     }
 
-    /// The thread itself. If memory is out for its lounges, it has none, and closes what is handed to it.
+    /// The thread itself. If memory is out for its connection tables, it has none, and closes what is handed to it.
     pub(crate) fn begin(self) -> IoThread<R, T> {
-        let Beginning {
+        let ThreadParts {
             rt,
             alloc,
             me,
-            stations,
-            desks,
+            turn_scheduler,
+            loop_handles,
             poll,
             events,
-            quarters,
+            table_parts,
             piece,
         } = self;
-        let lounges = match Lounge::open_all(alloc, quarters) {
-            Ok(lounges) => lounges,
+        let connection_tables = match ConnectionTable::open_all(alloc, table_parts) {
+            Ok(connection_tables) => connection_tables,
             Err(_) => Vec::new(alloc),
         };
         IoThread {
             rt,
             me,
-            stations,
-            desks,
+            turn_scheduler,
+            loop_handles,
             poll,
             events,
-            lounges,
+            connection_tables,
             piece,
             due: ServerSet::new(),
             last: 0,
@@ -117,7 +117,7 @@ impl<R: Wait + Copy + Drop, T: Stations + Drop> Beginning<R, T> {
     }
 }
 
-impl<R: Wait + Clock + Copy + Drop, T: Stations + Drop> IoThread<R, T> {
+impl<R: Wait + Clock + Copy + Drop, T: TurnScheduler + Drop> IoThread<R, T> {
     /// Serves until no more connections come and all are closed.
     pub(crate) fn run(&mut self) {
         let rt = self.rt;
@@ -127,7 +127,7 @@ impl<R: Wait + Clock + Copy + Drop, T: Stations + Drop> IoThread<R, T> {
             self.serve();
             self.turns_and_replies();
             if self.is_done() {
-                self.stations.leave(self.due);
+                self.turn_scheduler.leave(self.due);
                 return;
             }
         }
@@ -136,7 +136,12 @@ impl<R: Wait + Clock + Copy + Drop, T: Stations + Drop> IoThread<R, T> {
 
     // Waits for what is ready. With something to do it only looks.
     fn wait(&mut self) {
-        if self.due != ServerSet::new() || self.lounges.iter().any(|lounge| lounge.is_busy()) {
+        if self.due != ServerSet::new()
+            || self
+                .connection_tables
+                .iter()
+                .any(|connection_table| connection_table.is_busy())
+        {
             self.look();
             return;
         }
@@ -145,20 +150,24 @@ impl<R: Wait + Clock + Copy + Drop, T: Stations + Drop> IoThread<R, T> {
             self.sleep();
             return;
         }
-        self.desks.sleeps_at(self.me, open_at);
-        self.due.merge(self.stations.all_due());
+        self.loop_handles.sleeps_at(self.me, open_at);
+        self.due.merge(self.turn_scheduler.all_due());
         if self.turns_or_replies() || self.due != ServerSet::new() {
-            self.desks.is_awake(self.me);
+            self.loop_handles.is_awake(self.me);
             self.look();
             return;
         }
         self.sleep();
-        self.desks.is_awake(self.me);
+        self.loop_handles.is_awake(self.me);
     }
 
     // Waits for what is ready, not for long if output waits for a lease.
     fn sleep(&mut self) {
-        let limit = if self.lounges.iter().any(|lounge| lounge.holds_output()) {
+        let limit = if self
+            .connection_tables
+            .iter()
+            .any(|connection_table| connection_table.holds_output())
+        {
             Some(Duration::from_millis(HELD))
         } else {
             None
@@ -174,9 +183,9 @@ impl<R: Wait + Clock + Copy + Drop, T: Stations + Drop> IoThread<R, T> {
     // The servers whose replies it waits for.
     fn open_at(&self) -> OpenAt {
         let mut open_at = OpenAt::nowhere();
-        for lounge in self.lounges.iter() {
-            if lounge.awaits_reply() {
-                open_at.add(lounge.id());
+        for connection_table in self.connection_tables.iter() {
+            if connection_table.awaits_reply() {
+                open_at.add(connection_table.id());
             }
         }
         open_at
@@ -188,8 +197,8 @@ impl<R: Wait + Clock + Copy + Drop, T: Stations + Drop> IoThread<R, T> {
         let mut seen = 0usize;
         for event in self.events.iter() {
             let Token(token) = event.token();
-            if let Some(lounge) = self.lounges.get(token % SERVERS) {
-                seen = seen.wrapping_add(lounge.look_at(token / SERVERS));
+            if let Some(connection_table) = self.connection_tables.get(token % SERVERS) {
+                seen = seen.wrapping_add(connection_table.look_at(token / SERVERS));
             }
         }
         self.seen = seen;
@@ -203,7 +212,7 @@ impl<R: Wait + Clock + Copy + Drop, T: Stations + Drop> IoThread<R, T> {
             let Token(token) = event.token();
             if token == WAKE {
                 is_woken = true;
-            } else if let Some(lounge) = self.lounges.get_mut(token % SERVERS) {
+            } else if let Some(connection_table) = self.connection_tables.get_mut(token % SERVERS) {
                 let ready = Ready {
                     reading: event.is_readable(),
                     writing: event.is_writable(),
@@ -211,7 +220,7 @@ impl<R: Wait + Clock + Copy + Drop, T: Stations + Drop> IoThread<R, T> {
                     gone: event.is_error() || event.is_write_closed(),
                 };
                 let key = token / SERVERS;
-                lounge.is_ready_for(&self.rt, key, ready, self.piece.as_mut_slice());
+                connection_table.is_ready_for(&self.rt, key, ready, self.piece.as_mut_slice());
             }
         }
         if is_woken {
@@ -221,13 +230,13 @@ impl<R: Wait + Clock + Copy + Drop, T: Stations + Drop> IoThread<R, T> {
 
     // Takes in the connections that were handed to this thread.
     fn take_arrivals(&mut self) {
-        let Some(arrivals) = self.desks.arrivals(self.me) else {
+        let Some(arrivals) = self.loop_handles.arrivals(self.me) else {
             return;
         };
         let registry = self.poll.registry();
         for arrival in arrivals {
-            match self.lounges.get_mut(usize::from(arrival.server)) {
-                Some(lounge) => lounge.admit(registry, arrival),
+            match self.connection_tables.get_mut(usize::from(arrival.server)) {
+                Some(connection_table) => connection_table.admit(registry, arrival),
                 None => drop(arrival),
             }
         }
@@ -235,19 +244,19 @@ impl<R: Wait + Clock + Copy + Drop, T: Stations + Drop> IoThread<R, T> {
 
     // Has each client that may take steps take some. Clients of a server that is marked are closed.
     fn serve(&mut self) {
-        for lounge in self.lounges.iter_mut() {
-            lounge.mind_mark();
-            lounge.serve_queue(&self.rt, self.piece.as_mut_slice());
+        for connection_table in self.connection_tables.iter_mut() {
+            connection_table.mind_mark();
+            connection_table.serve_queue(&self.rt, self.piece.as_mut_slice());
         }
         self.note_sent();
     }
 
     // A turn is due at each server to which calls were sent.
     fn note_sent(&mut self) {
-        for lounge in self.lounges.iter_mut() {
-            if lounge.take_sent() {
-                self.stations.expect(lounge.id());
-                self.due.add(lounge.id());
+        for connection_table in self.connection_tables.iter_mut() {
+            if connection_table.take_sent() {
+                self.turn_scheduler.expect(connection_table.id());
+                self.due.add(connection_table.id());
             }
         }
     }
@@ -276,10 +285,10 @@ impl<R: Wait + Clock + Copy + Drop, T: Stations + Drop> IoThread<R, T> {
                 return any;
             };
             self.last = at;
-            let visit = self.stations.take_turns(at, TURNS);
+            let visit = self.turn_scheduler.take_turns(at, TURNS);
             self.due.merge(visit.due);
             if !visit.replied.is_empty() {
-                self.desks.wake_others(self.me, at, visit.replied);
+                self.loop_handles.wake_others(self.me, at, visit.replied);
             }
             any |= visit.turns != 0;
         }
@@ -289,8 +298,8 @@ impl<R: Wait + Clock + Copy + Drop, T: Stations + Drop> IoThread<R, T> {
     // Takes the replies that stand at its seats. Whether there were any.
     fn collect(&mut self) -> bool {
         let mut any = false;
-        for lounge in self.lounges.iter_mut() {
-            any |= lounge.collect(&self.rt, self.piece.as_mut_slice());
+        for connection_table in self.connection_tables.iter_mut() {
+            any |= connection_table.collect(&self.rt, self.piece.as_mut_slice());
         }
         self.note_sent();
         any
@@ -298,10 +307,12 @@ impl<R: Wait + Clock + Copy + Drop, T: Stations + Drop> IoThread<R, T> {
 
     // Whether no more connections come, and all are closed.
     fn is_done(&mut self) -> bool {
-        if !self.desks.has_finished() {
+        if !self.loop_handles.has_finished() {
             return false;
         }
         self.take_arrivals();
-        self.lounges.iter().all(|lounge| lounge.is_empty())
+        self.connection_tables
+            .iter()
+            .all(|connection_table| connection_table.is_empty())
     }
 }

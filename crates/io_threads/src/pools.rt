@@ -1,7 +1,7 @@
 //! Opens a server whose seats are dealt out to serving threads.
 ghost use Rattle.std.specs.Prelude.{◌≡◌, ◌≤◌, ◌+◌, [], true, vec_len, All, IfOk, OnOk};
 ghost use Rattle.node.specs.Nodes.{is_idle};
-ghost use Rattle.faces.specs.Courses.{Origin};
+ghost use Rattle.faces.specs.Histories.{Origin};
 ghost use Rattle.rail.specs.Inlets.{LeadTo};
 ghost use Rattle.seats.specs.Replies.{HasAllReplies};
 ghost use Rattle.seats.specs.SeatPools.{with_free};
@@ -9,7 +9,7 @@ ghost use Rattle.seats.specs.Submitters.{unused};
 ghost use Rattle.io_threads.specs.Pools.{AreAllAt, AreOf, BeginsAs};
 
 use node::Node;
-use rail::{Inlet, RailFault, Room, Seat, Server, Stand, Worker, open};
+use rail::{Inlet, RailFault, Room, Seat, Server, ThreadHandle, Worker, open};
 use seats::{Gauge, Mark, SeatPool};
 use std::alloc::{AllocError, Global};
 use std::sync::Wait;
@@ -77,11 +77,11 @@ pub fn open_pools<R: Wait + Drop>(
     }
 }
 
-// Makes a pool of each of these stands of one server, and deals its other seats out to them, in turn. Whatever server
-// that is, the pools are all of it.
+// Makes a pool of each of these thread handles of one server, and deals its other seats out to them, in turn. Whatever
+// server that is, the pools are all of it.
 fn deal(
     alloc: Global,
-    stands: Vec<Stand>,
+    stands: Vec<ThreadHandle>,
     others: Vec<Seat>,
     mark: &Mark,
     gauge: &Gauge,
@@ -92,8 +92,8 @@ fn deal(
     ensures count { IfOk result (λ pools. vec_len pools ≡ vec_len stands) }
 {
     let mut pools = Vec::new(alloc);
-    for stand in stands {
-        add_pool(alloc, &mut pools, stand, mark, gauge)?;
+    for thread_handle in stands {
+        add_pool(alloc, &mut pools, thread_handle, mark, gauge)?;
     }
     let mut next = 0usize;
     for seat in others {
@@ -114,16 +114,16 @@ fn place_after(place: usize, count: usize) -> usize {
 fn add_pool(
     alloc: Global,
     pools: &mut Vec<SeatPool>,
-    stand: Stand,
+    thread_handle: ThreadHandle,
     mark: &Mark,
     gauge: &Gauge,
 ) -> Result<(), AllocError>
-    requires server { All (λ pool. pool.seen.origin ≡ stand.seat.origin) pools.old.items }
-    requires replied { HasAllReplies stand.seat }
-    ensures server { All (λ pool. pool.seen.origin ≡ stand.seat.origin) pools.new.items }
+    requires server { All (λ pool. pool.seen.origin ≡ thread_handle.seat.origin) pools.old.items }
+    requires replied { HasAllReplies thread_handle.seat }
+    ensures server { All (λ pool. pool.seen.origin ≡ thread_handle.seat.origin) pools.new.items }
     ensures count { OnOk result (vec_len pools.new ≡ vec_len pools.old + 1) }
 {
-    let pool = pool_of(alloc, stand, mark, gauge)?;
+    let pool = pool_of(alloc, thread_handle, mark, gauge)?;
     pools.push(pool)?;
     Ok(())
 }
@@ -146,11 +146,16 @@ fn give(pools: &mut Vec<SeatPool>, place: usize, seat: Seat) -> Result<(), Alloc
 }
 
 // A pool with this stand's reader and seat.
-fn pool_of(alloc: Global, stand: Stand, mark: &Mark, gauge: &Gauge) -> Result<SeatPool, AllocError>
-    requires { HasAllReplies stand.seat }
-    ensures { IfOk result (λ pool. pool.seen.origin ≡ stand.seat.origin) }
+fn pool_of(
+    alloc: Global,
+    thread_handle: ThreadHandle,
+    mark: &Mark,
+    gauge: &Gauge,
+) -> Result<SeatPool, AllocError>
+    requires { HasAllReplies thread_handle.seat }
+    ensures { IfOk result (λ pool. pool.seen.origin ≡ thread_handle.seat.origin) }
 {
-    let Stand { reader, seat } = stand;
+    let ThreadHandle { reader, seat } = thread_handle;
     match share(mark, gauge) {
         Ok((mark, gauge)) => with_seat(SeatPool::new(alloc, reader, mark, gauge), seat),
         Err(error) => {

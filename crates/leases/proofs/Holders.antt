@@ -13,27 +13,27 @@ use Rattle.leases.proofs.Bits.{either_has, none_has}
 
 -- an order doesn't change the term, nor whom the server knows to be gone
 term-obeyed : (lease : LeaseState) (order : Order) (now : ℕ) → (obeyed lease order now).term ≡ lease.term
-term-obeyed lease (Reign reign) now = refl
-term-obeyed lease (Beat reign None) now = refl
-term-obeyed lease (Beat reign (Some stamp)) now =
-    elim (nat_eq reign lease.reign && nat_le stamp now) as
+term-obeyed lease (Reign epoch) now = refl
+term-obeyed lease (Beat epoch None) now = refl
+term-obeyed lease (Beat epoch (Some stamp)) now =
+    elim (nat_eq epoch lease.epoch && nat_le stamp now) as
     (λ v. (if v then prolonged lease stamp else lease).term ≡ lease.term) [
       | true ↦ refl
       | false ↦ refl
     ]
-term-obeyed lease (Silent reign id) now = refl
+term-obeyed lease (Silent epoch id) now = refl
 term-obeyed lease (Gone id) now = refl
 
 known-obeyed : (lease : LeaseState) (order : Order) (now : ℕ) → (obeyed lease order now).known ≡ lease.known
-known-obeyed lease (Reign reign) now = refl
-known-obeyed lease (Beat reign None) now = refl
-known-obeyed lease (Beat reign (Some stamp)) now =
-    elim (nat_eq reign lease.reign && nat_le stamp now) as
+known-obeyed lease (Reign epoch) now = refl
+known-obeyed lease (Beat epoch None) now = refl
+known-obeyed lease (Beat epoch (Some stamp)) now =
+    elim (nat_eq epoch lease.epoch && nat_le stamp now) as
     (λ v. (if v then prolonged lease stamp else lease).known ≡ lease.known) [
       | true ↦ refl
       | false ↦ refl
     ]
-known-obeyed lease (Silent reign id) now = refl
+known-obeyed lease (Silent epoch id) now = refl
 known-obeyed lease (Gone id) now = refl
 
 -- what is learned doesn't change the term, nor the end
@@ -63,27 +63,27 @@ term-hears lease [] = refl
 term-hears lease (x ∷ xs) = term-hears (hear lease x) xs ∙ term-hear lease x
 
 -- a lease whose end is later than it was runs from the stamp of the beat that came
-held_by_beat : (lease : LeaseState) (term now reign stamp gone read : ℕ) (xs : List Hearing)
+held_by_beat : (lease : LeaseState) (term now epoch stamp gone read : ℕ) (xs : List Hearing)
     → lease.term ≡ Some term
-    → (nat_eq reign lease.reign && nat_le stamp read) ≡ true
+    → (nat_eq epoch lease.epoch && nat_le stamp read) ≡ true
     → now < max lease.end (end_from lease.term stamp)
-    → (now < lease.end) ⊎ IsHeldBy lease term (Hears (Beat reign (Some stamp)) gone read ∷ xs) now
-held_by_beat lease term now reign stamp gone read xs is taken held =
-    let both : (nat_eq reign lease.reign ≡ true) × (nat_le stamp read ≡ true)
-    = and_parts (nat_eq reign lease.reign) (nat_le stamp read) taken in
-    let same : reign ≡ lease.reign = eqb-true reign lease.reign both.0 in
+    → (now < lease.end) ⊎ IsHeldBy lease term (Hears (Beat epoch (Some stamp)) gone read ∷ xs) now
+held_by_beat lease term now epoch stamp gone read xs is taken held =
+    let both : (nat_eq epoch lease.epoch ≡ true) × (nat_le stamp read ≡ true)
+    = and_parts (nat_eq epoch lease.epoch) (nat_le stamp read) taken in
+    let same : epoch ≡ lease.epoch = eqb-true epoch lease.epoch both.0 in
     let ends : end_from lease.term stamp ≡ min (stamp + term) (2 ^ 64 - 1) = ap (λ t. end_from t stamp) is in
     elim (cases_lt now lease.end) [
       | inl early ↦ inl early
       | inr late ↦ inr record {
         before = [];
         after = xs;
-        reign = reign;
+        epoch = epoch;
         stamp = stamp;
         gone = gone;
         read = read;
         came = refl;
-        own = (let own : lease.reign ≡ reign = cc in own);
+        own = (let own : lease.epoch ≡ epoch = cc in own);
         shown = leb-true stamp read both.1;
         held = within lease.end (end_from lease.term stamp) (stamp + term) (2 ^ 64 - 1) now ends held late;
       }
@@ -96,15 +96,15 @@ held_by_order : (lease : LeaseState) (term now : ℕ) (order : Order) (gone read
     → lease.term ≡ Some term
     → now < (obeyed lease order read).end
     → (now < lease.end) ⊎ IsHeldBy lease term (Hears order gone read ∷ xs) now
-held_by_order lease term now (Reign reign) gone read xs is held = inl held
-held_by_order lease term now (Beat reign None) gone read xs is held = inl held
-held_by_order lease term now (Beat reign (Some stamp)) gone read xs is held =
-    elim (cases_Bool (nat_eq reign lease.reign && nat_le stamp read)) [
-      | inl taken ↦ held_by_beat lease term now reign stamp gone read xs is taken
+held_by_order lease term now (Reign epoch) gone read xs is held = inl held
+held_by_order lease term now (Beat epoch None) gone read xs is held = inl held
+held_by_order lease term now (Beat epoch (Some stamp)) gone read xs is held =
+    elim (cases_Bool (nat_eq epoch lease.epoch && nat_le stamp read)) [
+      | inl taken ↦ held_by_beat lease term now epoch stamp gone read xs is taken
           (let end = rw taken at held in end)
       | inr left ↦ inl (rw left at held)
     ]
-held_by_order lease term now (Silent reign id) gone read xs is held = inl held
+held_by_order lease term now (Silent epoch id) gone read xs is held = inl held
 held_by_order lease term now (Gone id) gone read xs is held = inl held
 
 held_by_first : (lease : LeaseState) (term now : ℕ) (x : Hearing) (xs : List Hearing)
@@ -129,7 +129,7 @@ held_by_one (x ∷ xs) lease term now is held =
       | inr by ↦ inr record {
         before = x ∷ by.before;
         after = by.after;
-        reign = by.reign;
+        epoch = by.epoch;
         stamp = by.stamp;
         gone = by.gone;
         read = by.read;

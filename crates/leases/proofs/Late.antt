@@ -2,13 +2,13 @@
 use Rattle.std.proofs.Common.{ℕ, ◌+◌, ◌-◌, ◌*◌, ◌≤◌, ◌<◌, arith}
 use Rattle.leases.specs.declared.terms.TheConstants.{GRAIN}
 use Rattle.leases.specs.Clocks.{Clock}
-use Rattle.leases.specs.Leases.{Beat, Look}
+use Rattle.leases.specs.Leases.{Beat, LeasedAnswer}
 use Rattle.leases.specs.WrongRules.{IsLateByReceipt, IsLateByTerm, IsLateByLooking}
 
 pub late_by_receipt : (term wait : ℕ) → 0 < term
-    → (beat : Beat) × ((look : Look) × IsLateByReceipt term wait beat look)
+    → (beat : Beat) × ((look : LeasedAnswer) × IsLateByReceipt term wait beat look)
 late_by_receipt term wait some = (
-  record { reign = 1; stamped = 0; heard = 0; taken = wait },
+  record { epoch = 1; stamped = 0; heard = 0; taken = wait },
   (
     record { taken = wait; read = wait },
     record { sent = omega arith; came = omega arith; after = omega arith; held = omega arith; late = omega arith },
@@ -19,7 +19,7 @@ late_by_receipt term wait some = (
 near : (grain a b : ℕ) → a ≤ b → 10 * (11 * b - 11 * a) ≤ 11 * (10 * b - 10 * a + grain)
 near grain a b order = omega arith
 
-pub late_by_term : (master : Clock) × ((server : Clock) × ((term : ℕ) × ((beat : Beat) × ((look : Look)
+pub late_by_term : (master : Clock) × ((server : Clock) × ((term : ℕ) × ((beat : Beat) × ((look : LeasedAnswer)
     × IsLateByTerm master server term beat look))))
 late_by_term = (
   (λ x. 11 * x),
@@ -28,7 +28,7 @@ late_by_term = (
     (
       11,
       (
-        record { reign = 1; stamped = 0; heard = 0; taken = 0 },
+        record { epoch = 1; stamped = 0; heard = 0; taken = 0 },
         (
           record { taken = 1; read = 1 },
           record {
@@ -44,9 +44,9 @@ late_by_term = (
 )
 
 pub late_by_looking : (term wait : ℕ) → 0 < term
-    → (beat : Beat) × ((look : Look) × IsLateByLooking term wait beat look)
+    → (beat : Beat) × ((look : LeasedAnswer) × IsLateByLooking term wait beat look)
 late_by_looking term wait some = (
-  record { reign = 1; stamped = 0; heard = 0; taken = 0 },
+  record { epoch = 1; stamped = 0; heard = 0; taken = 0 },
   (
     record { taken = wait; read = 0 },
     record { before = omega arith; held = omega arith; heard = omega arith; late = omega arith },

@@ -3,7 +3,8 @@ use Rattle.std.proofs.Common.{◌≡◌, ℕ, ◌+◌, ◌-◌, ◌*◌, ◌≤�
 use Rattle.std.proofs.lemmas.Bool.{cases_lt, cases_order}
 use Rattle.leases.specs.declared.terms.TheConstants.{GRAIN}
 use Rattle.leases.specs.Clocks.{Clock, NeverFalls, passed, IsHardlyFaster}
-use Rattle.leases.specs.Leases.{Beat, Look, Notice, Pair, IsSound, IsNoticeByRule, IsAnswered, IsBeat, IsBeatByRule}
+use Rattle.leases.specs.Leases.{Beat, LeasedAnswer, Notice, Pair, IsSound, IsNoticeByRule, IsAnswered, IsBeat}
+use Rattle.leases.specs.Leases.{IsBeatByRule}
 use Rattle.leases.specs.Leases.{Entered, Ended}
 
 -- if x comes after y, the term has passed on the slower clock
@@ -17,17 +18,17 @@ term_has_passed term grain fast slow over pace = omega arith
 pub something_passed : (term grain a b : ℕ) → 0 < grain → b ≤ a → 11 * (term + grain) ≤ 10 * (b - a) → ⊥
 something_passed term grain a b positive back over = omega arith
 
--- The stamp of a beat whose reign the other server had entered is of an answer which the master had heard by its last
--- one: by the order of reigns.
+-- The stamp of a beat whose epoch the other server had entered is of an answer which the master had heard by its last
+-- one: by the order of epochs.
 pub stamped_before : (pair : Pair) (term : ℕ) (clock : Clock) (notice : Notice) (beat : Beat) (x : ℕ)
     → IsSound pair
     → IsNoticeByRule pair term clock notice
     → IsBeat pair notice beat
-    → pair.other x ≡ beat.reign
+    → pair.other x ≡ beat.epoch
     → x ≤ notice.told
     → beat.stamped ≤ notice.heard
 stamped_before pair term clock notice beat x sound by_rule beaten is by =
-    elim (cases_order beat.reign notice.reign) [
+    elim (cases_order beat.epoch notice.epoch) [
       | inl same ↦ (let heard : beat.heard ≤ notice.heard = beaten.last same in
           let stamped : beat.stamped ≤ beat.heard = beaten.stamped in
           omega arith)
@@ -37,23 +38,23 @@ stamped_before pair term clock notice beat x sound by_rule beaten is by =
       ]
     ]
   where
-    -- a beat of an earlier reign was taken before the server entered the notice's
-    entered_later : (y : ℕ) → pair.reign y ≡ notice.reign → y ≤ notice.heard → beat.reign < notice.reign
+    -- a beat of an earlier epoch was taken before the server entered the notice's
+    entered_later : (y : ℕ) → pair.epoch y ≡ notice.epoch → y ≤ notice.heard → beat.epoch < notice.epoch
         → beat.stamped ≤ notice.heard
     entered_later y entered early below =
-        let own : pair.reign beat.taken ≡ beat.reign = beaten.own in
+        let own : pair.epoch beat.taken ≡ beat.epoch = beaten.own in
         let stamped : beat.stamped ≤ beat.heard = beaten.stamped in
         let heard : beat.heard ≤ beat.taken = beaten.heard in
         elim (cases_lt beat.taken y) [
           | inl before ↦ omega arith
-          | inr after ↦ (let rises : pair.reign y ≤ pair.reign beat.taken = sound.reign y beat.taken after in
+          | inr after ↦ (let rises : pair.epoch y ≤ pair.epoch beat.taken = sound.epoch y beat.taken after in
               absurd (let no : ⊥ = omega arith in no))
         ]
 
-    -- no beat is of a later reign: the other server would have entered it before it was told
-    not_told : notice.reign < beat.reign → ⊥
+    -- no beat is of a later epoch: the other server would have entered it before it was told
+    not_told : notice.epoch < beat.epoch → ⊥
     not_told above =
-        let own : pair.other notice.told ≡ notice.reign = by_rule.own in
+        let own : pair.other notice.told ≡ notice.epoch = by_rule.own in
         let rises : pair.other x ≤ pair.other notice.told = sound.other x notice.told by in
         omega arith
 
@@ -91,14 +92,14 @@ too_late master server term grain heard decided taken read positive falls rises 
           omega arith)
     ]
 
--- a look that was answered by a beat for which the other server had entered the reign
-pub look_before : (pair : Pair) (term : ℕ) (clock : Clock) (notice : Notice) (beat : Beat) (x : ℕ) (look : Look)
+-- a look that was answered by a beat for which the other server had entered the epoch
+pub look_before : (pair : Pair) (term : ℕ) (clock : Clock) (notice : Notice) (beat : Beat) (x : ℕ) (look : LeasedAnswer)
     → IsSound pair
     → NeverFalls clock
     → IsHardlyFaster clock pair.clock
     → IsNoticeByRule pair term clock notice
     → IsBeat pair notice beat
-    → pair.other x ≡ beat.reign
+    → pair.other x ≡ beat.epoch
     → x ≤ notice.told
     → IsAnswered pair.clock term beat look
     → look.taken < notice.told
@@ -124,7 +125,7 @@ pub look_before_telling : (pair : Pair) (term : ℕ) (clock : Clock) (notice : N
     → IsNoticeByRule pair term clock notice
     → (beat : Beat)
     → IsBeatByRule pair term notice beat
-    → (look : Look)
+    → (look : LeasedAnswer)
     → IsAnswered pair.clock term beat look
     → look.taken < notice.told
 look_before_telling pair term clock notice sound falls pace by_rule any (Entered beat beaten x is by) look answered =

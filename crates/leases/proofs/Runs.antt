@@ -4,16 +4,16 @@ use Rattle.std.proofs.Common.{Some, refl, ap, sym, ◌∙◌, arith}
 use Rattle.std.proofs.lemmas.Bool.{cases_lt}
 use Rattle.leases.specs.declared.orders.Order.{Order}
 use Rattle.leases.specs.declared.orders.Order.TheVariants as orders
-use Rattle.leases.specs.declared.watches.Standing.{Standing}
-use Rattle.leases.specs.declared.watches.Standing.TheVariants.{Watched, Told, Over, Gone}
-use Rattle.leases.specs.declared.watches.Deed.{Deed}
-use Rattle.leases.specs.declared.watches.Deed.TheVariants.{Wait, Beat, TellServer, TellSilent, TellGone}
+use Rattle.leases.specs.declared.watches.WatchStanding.{WatchStanding}
+use Rattle.leases.specs.declared.watches.WatchStanding.TheVariants.{Watched, Told, Over, Gone}
+use Rattle.leases.specs.declared.watches.WatchDue.{WatchDue}
+use Rattle.leases.specs.declared.watches.WatchDue.TheVariants.{Wait, Beat, TellServer, TellSilent, TellGone}
 use Rattle.leases.specs.declared.terms.TheConstants.{GRAIN}
 use Rattle.leases.specs.Clocks.{Clock, NeverFalls, passed, IsHardlyFaster, IsSurelyOver}
-use Rattle.leases.specs.Leases.{Look, Notice, Pair, IsSound, IsNoticeByRule}
+use Rattle.leases.specs.Leases.{LeasedAnswer, Notice, Pair, IsSound, IsNoticeByRule}
 use Rattle.leases.specs.Holding.{unheld, holds, Hearing, Hears, hears, IsHeldBy}
 use Rattle.leases.specs.Watching.{WatchState, done, due, heard_at, happen}
-use Rattle.leases.specs.Runs.{Event, At, events_by, lease_after, IsRun, IsBrought}
+use Rattle.leases.specs.Runs.{TimedOrder, At, timed_orders_by, lease_after, IsRun, IsBrought}
 use Rattle.leases.specs.Runs.{Doing, Answered, Refused, Asked, Spared, doing_by, watch_after}
 use Rattle.leases.specs.Runs.{counted, heard_by, heard_after, SaysSilent, IsCalledSilent}
 use Rattle.leases.proofs.Looks.{look_before_telling}
@@ -29,26 +29,26 @@ first_is x y xs ys e = cc
 rest_is : (x y : Hearing) (xs ys : List Hearing) → x ∷ xs ≡ y ∷ ys → xs ≡ ys
 rest_is x y xs ys e = cc
 
--- if what was heard stands among the events
-pub record Placed (clock : Clock) (es : List Event) (before : List Hearing) (order : Order) (gone read : ℕ)
+-- if what was heard stands among the timed orders
+pub record Placed (clock : Clock) (es : List TimedOrder) (before : List Hearing) (order : Order) (gone read : ℕ)
     : Type 0 where
-  pub front : List Event
-  pub back : List Event
+  pub front : List TimedOrder
+  pub back : List TimedOrder
   pub instant : ℕ
   pub came : es ≡ front ++ At instant order gone ∷ back
-  pub same : events_by clock front ≡ before
+  pub same : timed_orders_by clock front ≡ before
   pub reads : clock instant ≡ read
 
-pub placed : (clock : Clock) (es : List Event) (before after : List Hearing) (order : Order) (gone read : ℕ)
-    → events_by clock es ≡ before ++ Hears order gone read ∷ after
+pub placed : (clock : Clock) (es : List TimedOrder) (before after : List Hearing) (order : Order) (gone read : ℕ)
+    → timed_orders_by clock es ≡ before ++ Hears order gone read ∷ after
     → Placed clock es before order gone read
 placed clock [] [] after order gone read e = absurd (nil_cons (Hears order gone read) after e)
 placed clock [] (b ∷ bs) after order gone read e = absurd (nil_cons b (bs ++ Hears order gone read ∷ after) e)
 placed clock (At x given these ∷ es) [] after order gone read e =
     here clock x given these es order gone read
-    (first_is (Hears given these (clock x)) (Hears order gone read) (events_by clock es) after e)
+    (first_is (Hears given these (clock x)) (Hears order gone read) (timed_orders_by clock es) after e)
   where
-    here : (clock : Clock) (x : ℕ) (given : Order) (these : ℕ) (es : List Event) (order : Order) (gone read : ℕ)
+    here : (clock : Clock) (x : ℕ) (given : Order) (these : ℕ) (es : List TimedOrder) (order : Order) (gone read : ℕ)
         → Hears given these (clock x) ≡ Hears order gone read
         → Placed clock (At x given these ∷ es) [] order gone read
     here clock x given these es order gone read first =
@@ -65,11 +65,11 @@ placed clock (At x given these ∷ es) [] after order gone read e =
         }
 placed clock (At x given these ∷ es) (b ∷ bs) after order gone read e =
     later clock x given these es b bs order gone read
-    (first_is (Hears given these (clock x)) b (events_by clock es) (bs ++ Hears order gone read ∷ after) e)
+    (first_is (Hears given these (clock x)) b (timed_orders_by clock es) (bs ++ Hears order gone read ∷ after) e)
     (placed clock es bs after order gone read
-    (rest_is (Hears given these (clock x)) b (events_by clock es) (bs ++ Hears order gone read ∷ after) e))
+    (rest_is (Hears given these (clock x)) b (timed_orders_by clock es) (bs ++ Hears order gone read ∷ after) e))
   where
-    later : (clock : Clock) (x : ℕ) (given : Order) (these : ℕ) (es : List Event) (b : Hearing) (bs : List Hearing)
+    later : (clock : Clock) (x : ℕ) (given : Order) (these : ℕ) (es : List TimedOrder) (b : Hearing) (bs : List Hearing)
         (order : Order) (gone read : ℕ)
         → Hears given these (clock x) ≡ b
         → Placed clock es bs order gone read
@@ -79,8 +79,8 @@ placed clock (At x given these ∷ es) (b ∷ bs) after order gone read e =
       back = by.back;
       instant = by.instant;
       came = ap (λ ys. At x given these ∷ ys) by.came;
-      same = (let tail : events_by clock by.front ≡ bs = by.same in
-          let whole : (Hears given these (clock x) ∷ events_by clock by.front) ≡ (b ∷ bs) = cc in whole);
+      same = (let tail : timed_orders_by clock by.front ≡ bs = by.same in
+          let whole : (Hears given these (clock x) ∷ timed_orders_by clock by.front) ≡ (b ∷ bs) = cc in whole);
       reads = by.reads;
     }
 
@@ -88,53 +88,55 @@ pub before_its_end : (read stamped stamp term : ℕ) → stamped ≡ stamp → r
 before_its_end read stamped stamp term is held = omega arith
 
 -- the law
-pub look_of_run : (pair : Pair) (term : ℕ) (clock : Clock) (notice : Notice) (events : List Event) (look : Look)
+pub look_of_run : (pair : Pair) (term : ℕ) (clock : Clock) (notice : Notice) (timed_orders : List TimedOrder)
+    (look : LeasedAnswer)
     → IsSound pair
     → NeverFalls clock
     → IsHardlyFaster clock pair.clock
     → IsNoticeByRule pair term clock notice
-    → IsRun pair term notice events
+    → IsRun pair term notice timed_orders
     → look.taken ≤ look.read
-    → holds (lease_after pair.clock term events) (pair.clock look.read) ≡ true
+    → holds (lease_after pair.clock term timed_orders) (pair.clock look.read) ≡ true
     → look.taken < notice.told
-look_of_run pair term clock notice events look sound falls pace by_rule run after held =
-    by_held (held_by_a_beat term (events_by pair.clock events) (pair.clock look.read) held)
+look_of_run pair term clock notice timed_orders look sound falls pace by_rule run after held =
+    by_held (held_by_a_beat term (timed_orders_by pair.clock timed_orders) (pair.clock look.read) held)
   where
-    by_beat : (reign stamp : ℕ) (x : ℕ) → pair.clock look.read < stamp + term
-        → IsBrought pair term notice x reign stamp → look.taken < notice.told
-    by_beat reign stamp x held brought =
+    by_beat : (epoch stamp : ℕ) (x : ℕ) → pair.clock look.read < stamp + term
+        → IsBrought pair term notice x epoch stamp → look.taken < notice.told
+    by_beat epoch stamp x held brought =
         look_before_telling pair term clock notice sound falls pace by_rule brought.beat brought.by_rule look
         (record {
           after = after;
           held = before_its_end (pair.clock look.read) (pair.clock brought.beat.stamped) stamp term brought.shown held;
         })
 
-    by_place : (before : List Hearing) (reign stamp gone read : ℕ)
-        → (hears (unheld (Some term)) before).reign ≡ reign
+    by_place : (before : List Hearing) (epoch stamp gone read : ℕ)
+        → (hears (unheld (Some term)) before).epoch ≡ epoch
         → pair.clock look.read < stamp + term
-        → Placed pair.clock events before (orders.Beat reign (Some stamp)) gone read
+        → Placed pair.clock timed_orders before (orders.Beat epoch (Some stamp)) gone read
         → look.taken < notice.told
-    by_place before reign stamp gone read own held by =
-        by_beat reign stamp by.instant held
-        (run.brought by.front by.back by.instant reign stamp gone by.came
-        (run.reign by.front by.back by.instant reign stamp gone by.came
-        ∙ (ap (λ hs. (hears (unheld (Some term)) hs).reign) by.same ∙ own)))
+    by_place before epoch stamp gone read own held by =
+        by_beat epoch stamp by.instant held
+        (run.brought by.front by.back by.instant epoch stamp gone by.came
+        (run.epoch by.front by.back by.instant epoch stamp gone by.came
+        ∙ (ap (λ hs. (hears (unheld (Some term)) hs).epoch) by.same ∙ own)))
 
-    by_held : IsHeldBy (unheld (Some term)) term (events_by pair.clock events) (pair.clock look.read)
+    by_held : IsHeldBy (unheld (Some term)) term (timed_orders_by pair.clock timed_orders) (pair.clock look.read)
         → look.taken < notice.told
     by_held by =
-        by_place by.before by.reign by.stamp by.gone by.read by.own by.held
-        (placed pair.clock events by.before by.after (orders.Beat by.reign (Some by.stamp)) by.gone by.read by.came)
+        by_place by.before by.epoch by.stamp by.gone by.read by.own by.held
+        (placed pair.clock timed_orders by.before by.after (orders.Beat by.epoch (Some by.stamp)) by.gone by.read
+        by.came)
 
 -- what a watch does leaves its term as it is
-term-done : (w : WatchState) (now : ℕ) (deed : Deed) → (done w now deed).term ≡ w.term
+term-done : (w : WatchState) (now : ℕ) (watch_due : WatchDue) → (done w now watch_due).term ≡ w.term
 term-done w now (Wait span) = refl
 term-done w now (Beat stamp) = refl
 term-done w now TellServer = refl
 term-done w now TellSilent = refl
 term-done w now TellGone = refl
 
-term-heard : (standing : Standing) (w : WatchState) (stamp now : ℕ) → (heard_at standing w stamp now).term ≡ w.term
+term-heard : (standing : WatchStanding) (w : WatchState) (stamp now : ℕ) → (heard_at standing w stamp now).term ≡ w.term
 term-heard Watched w stamp now = refl
 term-heard Told w stamp now = refl
 term-heard Over w stamp now = refl
@@ -164,7 +166,7 @@ max-clock clock a b falls =
           last ∙ ap clock (sym is))
     ]
 
-heard-counts : (clock : Clock) (standing : Standing) (w : WatchState) (heard x stamp : ℕ)
+heard-counts : (clock : Clock) (standing : WatchStanding) (w : WatchState) (heard x stamp : ℕ)
     → NeverFalls clock
     → w.heard ≡ clock heard
     → (heard_at standing w stamp (clock x)).heard ≡ clock (counted standing heard x)
@@ -174,7 +176,7 @@ heard-counts clock Told w heard x stamp falls is = is
 heard-counts clock Over w heard x stamp falls is = is
 heard-counts clock Gone w heard x stamp falls is = is
 
-heard-done : (w : WatchState) (now : ℕ) (deed : Deed) → (done w now deed).heard ≡ w.heard
+heard-done : (w : WatchState) (now : ℕ) (watch_due : WatchDue) → (done w now watch_due).heard ≡ w.heard
 heard-done w now (Wait span) = refl
 heard-done w now (Beat stamp) = refl
 heard-done w now TellServer = refl

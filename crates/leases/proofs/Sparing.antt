@@ -4,23 +4,25 @@ use Rattle.std.proofs.Common.{get_or, Option, None, Some, if◌then◌else◌, r
 use Rattle.std.proofs.lemmas.Bool.{cases_Bool}
 use Rattle.std.proofs.lemmas.List.{length-map, get_or-map}
 use Rattle.leases.specs.declared.orders.Order.TheVariants as orders
-use Rattle.leases.specs.declared.watches.Standing.{Standing}
-use Rattle.leases.specs.declared.watches.Standing.TheVariants.{Watched, Told, Over, Gone}
-use Rattle.leases.specs.declared.watches.Deed.{Deed}
-use Rattle.leases.specs.declared.watches.Deed.TheVariants.{Wait, Beat, TellServer, TellSilent, TellGone}
-use Rattle.leases.specs.declared.wards.Due.TheVariants as dues
+use Rattle.leases.specs.declared.watches.WatchStanding.{WatchStanding}
+use Rattle.leases.specs.declared.watches.WatchStanding.TheVariants.{Watched, Told, Over, Gone}
+use Rattle.leases.specs.declared.watches.WatchDue.{WatchDue}
+use Rattle.leases.specs.declared.watches.WatchDue.TheVariants.{Wait, Beat, TellServer, TellSilent, TellGone}
+use Rattle.leases.specs.declared.server_records.Due.TheVariants as dues
 use Rattle.leases.specs.Clocks.{wait_for}
 use Rattle.leases.specs.Watching.{WatchState, due, watched_due, told_due, standing_due, is_silent, is_late, gives_up}
 use Rattle.leases.specs.Watching.{brought}
-use Rattle.leases.specs.Wards.{WardState, spared, deed_of, due_for}
-use Rattle.leases.specs.Wardens.{WardenState, is_cut_off, sparing, all_spared, ward, nobody, due_at}
+use Rattle.leases.specs.ServerRecords.{ServerRecordState, spared, watch_due_of, due_for}
+use Rattle.leases.specs.MasterMachines.{MasterMachineState, is_cut_off, sparing, all_spared, server_record, nobody}
+use Rattle.leases.specs.MasterMachines.{due_at}
 
--- who is cut off has as many wards as before
-pub spared_count : (m : WardenState) (now : ℕ) → length (sparing m now).wards ≡ length m.wards
+-- who is cut off has as many server records as before
+pub spared_count : (m : MasterMachineState) (now : ℕ) → length (sparing m now).server_records ≡ length m.server_records
 spared_count m now = by_cut (is_cut_off m now)
   where
-    by_cut : (cut : Bool) → length (if cut then all_spared m.wards else m.wards) ≡ length m.wards
-    by_cut true = length-map m.wards (λ (w : WardState). spared w)
+    by_cut : (cut : Bool) → length (if cut then all_spared m.server_records else m.server_records) ≡ length
+        m.server_records
+    by_cut true = length-map m.server_records (λ (w : ServerRecordState). spared w)
     by_cut false = refl
 
 -- a server that is spared isn't called silent
@@ -49,7 +51,7 @@ watched_waits false false stamp span kept says = cc
 pub spared_waits : (w : WatchState) (whole : Bool) (now : ℕ) → w.spared ≡ true → due w whole now ≢ TellServer
 spared_waits w whole now is says = by_standing w.standing says
   where
-    by_standing : (standing : Standing) → standing_due standing w whole now ≡ TellServer → ⊥
+    by_standing : (standing : WatchStanding) → standing_due standing w whole now ≡ TellServer → ⊥
     by_standing Watched says =
         watched_waits (gives_up w (now - w.since) (now - w.sent)) (nat_le w.beat (now - w.sent))
         (brought whole w.stamp) (w.beat - (now - w.sent))
@@ -59,39 +61,41 @@ spared_waits w whole now is says = by_standing w.standing says
     by_standing Gone says = cc
 
 -- only a server that is called silent is sent that it was
-sent_silent : (w : WardState) (deed : Deed) (reign id : ℕ)
-    → due_for w deed ≡ dues.Server (orders.Silent reign id)
-    → deed ≡ TellServer
-sent_silent w (Wait span) reign id says = absurd (let no : ⊥ = cc in no)
-sent_silent w (Beat stamp) reign id says = absurd (by_in w.is_in says)
+sent_silent : (w : ServerRecordState) (watch_due : WatchDue) (epoch id : ℕ)
+    → due_for w watch_due ≡ dues.Server (orders.Silent epoch id)
+    → watch_due ≡ TellServer
+sent_silent w (Wait span) epoch id says = absurd (let no : ⊥ = cc in no)
+sent_silent w (Beat stamp) epoch id says = absurd (by_in w.is_in says)
   where
     by_in : (is_in : Bool)
-        → dues.Server (if is_in then orders.Beat w.reign stamp else orders.Reign w.reign)
-        ≡ dues.Server (orders.Silent reign id)
+        → dues.Server (if is_in then orders.Beat w.epoch stamp else orders.Reign w.epoch)
+        ≡ dues.Server (orders.Silent epoch id)
         → ⊥
     by_in true says = cc
     by_in false says = cc
-sent_silent w TellServer reign id says = refl
-sent_silent w TellSilent reign id says = absurd (let no : ⊥ = cc in no)
-sent_silent w TellGone reign id says = absurd (let no : ⊥ = cc in no)
+sent_silent w TellServer epoch id says = refl
+sent_silent w TellSilent epoch id says = absurd (let no : ⊥ = cc in no)
+sent_silent w TellGone epoch id says = absurd (let no : ⊥ = cc in no)
 
-pub spared_ward_waits : (w : WardState) (now reign id : ℕ)
-    → due_for (spared w) (deed_of (spared w) now) ≢ dues.Server (orders.Silent reign id)
-spared_ward_waits w now reign id says =
-    spared_waits (spared w).watch _ now refl (sent_silent (spared w) (deed_of (spared w) now) reign id says)
+pub spared_server_record_waits : (w : ServerRecordState) (now epoch id : ℕ)
+    → due_for (spared w) (watch_due_of (spared w) now) ≢ dues.Server (orders.Silent epoch id)
+spared_server_record_waits w now epoch id says =
+    spared_waits (spared w).watch _ now refl (sent_silent (spared w) (watch_due_of (spared w) now) epoch id says)
 
 -- so a master that is cut off sends that to nobody
-pub cut_off_waits : (m : WardenState) (id now reign other : ℕ)
+pub cut_off_waits : (m : MasterMachineState) (id now epoch other : ℕ)
     → is_cut_off m now ≡ true
-    → id < length m.wards
-    → due_at (sparing m now).wards id now ≢ dues.Server (orders.Silent reign other)
-cut_off_waits m id now reign other cut within says =
-    spared_ward_waits (ward m.wards id) now reign other (sym (ap (λ w. due_for w (deed_of w now)) same) ∙ says)
+    → id < length m.server_records
+    → due_at (sparing m now).server_records id now ≢ dues.Server (orders.Silent epoch other)
+cut_off_waits m id now epoch other cut within says =
+    spared_server_record_waits (server_record m.server_records id) now epoch other
+    (sym (ap (λ w. due_for w (watch_due_of w now)) same) ∙ says)
   where
     by_cut : (cut : Bool) → cut ≡ true
-        → ward (if cut then all_spared m.wards else m.wards) id ≡ spared (ward m.wards id)
-    by_cut true is = get_or-map (λ (w : WardState). spared w) m.wards id nobody nobody within
+        → server_record (if cut then all_spared m.server_records else m.server_records) id ≡ spared
+        (server_record m.server_records id)
+    by_cut true is = get_or-map (λ (w : ServerRecordState). spared w) m.server_records id nobody nobody within
     by_cut false is = absurd (let no : ⊥ = cc in no)
 
-    same : ward (sparing m now).wards id ≡ spared (ward m.wards id)
+    same : server_record (sparing m now).server_records id ≡ spared (server_record m.server_records id)
     same = by_cut (is_cut_off m now) cut

@@ -3,10 +3,10 @@ use Rattle.std.proofs.Common.{◌≡◌, ◌≢◌, ℕ, ◌+◌, ◌-◌, ◌*�
 use Rattle.std.proofs.Common.{List, [], ◌∷◌, Option, None, Some, if◌then◌else◌, refl, ap, arith}
 use Rattle.std.proofs.lemmas.Bool.{cases_Bool, leb-true}
 use Rattle.leases.specs.declared.terms.TheConstants.{GRAIN}
-use Rattle.leases.specs.declared.watches.Standing.{Standing}
-use Rattle.leases.specs.declared.watches.Standing.TheVariants.{Watched, Told, Over, Gone}
-use Rattle.leases.specs.declared.watches.Deed.{Deed}
-use Rattle.leases.specs.declared.watches.Deed.TheVariants.{Wait, Beat, TellServer, TellSilent, TellGone}
+use Rattle.leases.specs.declared.watches.WatchStanding.{WatchStanding}
+use Rattle.leases.specs.declared.watches.WatchStanding.TheVariants.{Watched, Told, Over, Gone}
+use Rattle.leases.specs.declared.watches.WatchDue.{WatchDue}
+use Rattle.leases.specs.declared.watches.WatchDue.TheVariants.{Wait, Beat, TellServer, TellSilent, TellGone}
 use Rattle.leases.specs.Clocks.{IsSurelyOver, wait_for}
 use Rattle.leases.specs.Watching.{WatchState, due, done, watched_due, told_due, standing_due, gives_up, brought}
 use Rattle.leases.specs.Watching.{heard_at, answered, spared_watch, happen, happens}
@@ -19,18 +19,18 @@ over_after term silence waited = tenth (term + GRAIN) silence waited
     tenth : (n m : ℕ) → n + n / 10 + 1 ≤ m → 11 * n ≤ 10 * m
     tenth n m waited = omega arith
 
--- a deed by which others are told of nobody
-data IsQuiet : Deed → Type 0 where
+-- something due by which others are told of nobody
+data IsQuiet : WatchDue → Type 0 where
   Waits : (span : ℕ) → IsQuiet (Wait span)
   Beats : (stamp : Option ℕ) → IsQuiet (Beat stamp)
   TellsServer : IsQuiet TellServer
 
-quiet_not_silent : (deed : Deed) → IsQuiet deed → deed ≡ TellSilent → ⊥
+quiet_not_silent : (watch_due : WatchDue) → IsQuiet watch_due → watch_due ≡ TellSilent → ⊥
 quiet_not_silent any (Waits span) says = cc
 quiet_not_silent any (Beats stamp) says = cc
 quiet_not_silent any TellsServer says = cc
 
-quiet_not_gone : (deed : Deed) → IsQuiet deed → deed ≡ TellGone → ⊥
+quiet_not_gone : (watch_due : WatchDue) → IsQuiet watch_due → watch_due ≡ TellGone → ⊥
 quiet_not_gone any (Waits span) says = cc
 quiet_not_gone any (Beats stamp) says = cc
 quiet_not_gone any TellsServer says = cc
@@ -73,7 +73,7 @@ pub tells_by_rule : (w : WatchState) (whole : Bool) (now : ℕ)
     → (t : ℕ) × ((w.term ≡ Some t) × IsSurelyOver t (now - w.heard))
 tells_by_rule w whole now = by_standing w.standing w whole now
   where
-    by_standing : (standing : Standing) (w : WatchState) (whole : Bool) (now : ℕ)
+    by_standing : (standing : WatchStanding) (w : WatchState) (whole : Bool) (now : ℕ)
         → standing ≢ Over
         → standing_due standing w whole now ≡ TellSilent
         → (t : ℕ) × ((w.term ≡ Some t) × IsSurelyOver t (now - w.heard))
@@ -85,7 +85,7 @@ tells_by_rule w whole now = by_standing w.standing w whole now
     by_standing Gone w whole now going says = absurd (let no : ⊥ = cc in no)
 
 -- others are told that it does nothing more if it is gone
-gone_if_told : (standing : Standing) (w : WatchState) (whole : Bool) (now : ℕ)
+gone_if_told : (standing : WatchStanding) (w : WatchState) (whole : Bool) (now : ℕ)
     → standing_due standing w whole now ≡ TellGone
     → standing ≡ Gone
 gone_if_told Watched w whole now says =
@@ -96,14 +96,15 @@ gone_if_told Over w whole now says = absurd (let no : ⊥ = cc in no)
 gone_if_told Gone w whole now says = refl
 
 -- nothing but a refusal makes it gone
-going_done : (w : WatchState) (now : ℕ) (deed : Deed) → w.standing ≢ Gone → (done w now deed).standing ≢ Gone
+going_done : (w : WatchState) (now : ℕ) (watch_due : WatchDue) → w.standing ≢ Gone
+    → (done w now watch_due).standing ≢ Gone
 going_done w now (Wait span) going = going
 going_done w now (Beat stamp) going = going
 going_done w now TellServer going = λ same. let no : ⊥ = cc in no
 going_done w now TellSilent going = λ same. let no : ⊥ = cc in no
 going_done w now TellGone going = going
 
-going_answered : (standing : Standing) (w : WatchState) (stamp now : ℕ)
+going_answered : (standing : WatchStanding) (w : WatchState) (stamp now : ℕ)
     → w.standing ≢ Gone → (heard_at standing w stamp now).standing ≢ Gone
 going_answered Watched w stamp now going = going
 going_answered Told w stamp now going = going
@@ -136,7 +137,7 @@ tells_after_refusal w xs whole now going says =
     gone_by_refusal xs w going (gone_if_told (happens w xs).standing (happens w xs) whole now says)
 
 -- what was heard later isn't before what was heard
-heard-done : (w : WatchState) (now : ℕ) (deed : Deed) → (done w now deed).heard ≡ w.heard
+heard-done : (w : WatchState) (now : ℕ) (watch_due : WatchDue) → (done w now watch_due).heard ≡ w.heard
 heard-done w now (Wait span) = refl
 heard-done w now (Beat stamp) = refl
 heard-done w now TellServer = refl
@@ -146,7 +147,7 @@ heard-done w now TellGone = refl
 heard_grows : (w : WatchState) (x : Happening) → w.heard ≤ (happen w x).heard
 heard_grows w (Answers stamp now) = by_standing w.standing w stamp now
   where
-    by_standing : (standing : Standing) (w : WatchState) (stamp now : ℕ)
+    by_standing : (standing : WatchStanding) (w : WatchState) (stamp now : ℕ)
         → w.heard ≤ (heard_at standing w stamp now).heard
     by_standing Watched w stamp now = omega arith
     by_standing Told w stamp now = omega arith
@@ -165,7 +166,8 @@ heard_rises w (x ∷ xs) =
     omega arith
 
 -- who isn't watched any more is never watched again
-stays_done : (w : WatchState) (now : ℕ) (deed : Deed) → w.standing ≢ Watched → (done w now deed).standing ≢ Watched
+stays_done : (w : WatchState) (now : ℕ) (watch_due : WatchDue) → w.standing ≢ Watched
+    → (done w now watch_due).standing ≢ Watched
 stays_done w now (Wait span) left = left
 stays_done w now (Beat stamp) left = left
 stays_done w now TellServer left = λ same. let no : ⊥ = cc in no
@@ -175,7 +177,7 @@ stays_done w now TellGone left = left
 stays_once : (w : WatchState) (x : Happening) → w.standing ≢ Watched → (happen w x).standing ≢ Watched
 stays_once w (Answers stamp now) left = by_standing w.standing w stamp now left
   where
-    by_standing : (standing : Standing) (w : WatchState) (stamp now : ℕ)
+    by_standing : (standing : WatchStanding) (w : WatchState) (stamp now : ℕ)
         → w.standing ≢ Watched → (heard_at standing w stamp now).standing ≢ Watched
     by_standing Watched w stamp now left = left
     by_standing Told w stamp now left = left
@@ -190,7 +192,7 @@ stays_left w [] left = left
 stays_left w (x ∷ xs) left = stays_left (happen w x) xs (stays_once w x left)
 
 -- and gets no beat any more
-no_beat : (standing : Standing) (w : WatchState) (whole : Bool) (now : ℕ) (stamp : Option ℕ)
+no_beat : (standing : WatchStanding) (w : WatchState) (whole : Bool) (now : ℕ) (stamp : Option ℕ)
     → standing ≢ Watched
     → standing_due standing w whole now ≡ Beat stamp
     → ⊥
@@ -214,7 +216,7 @@ pub no_beat_later : (w : WatchState) (xs : List Happening) (whole : Bool) (now :
 no_beat_later w xs whole now stamp left says =
     no_beat (happens w xs).standing (happens w xs) whole now stamp (stays_left w xs left) says
 
--- a beat brings back the stamp that was heard last, and that only in a whole reign
+-- a beat brings back the stamp that was heard last, and that only in a whole epoch
 pub brings_last : (w : WatchState) (whole : Bool) (now stamp : ℕ)
     → due w whole now ≡ Beat (Some stamp)
     → (whole ≡ true) × (stamp ≡ w.stamp)
@@ -233,7 +235,7 @@ brings_last w whole now stamp = by_standing w.standing w whole now stamp
         by_whole whole last stamp (let same : brought whole last ≡ Some stamp = cc in same)
     by_tests false false whole last stamp span says = absurd (let no : ⊥ = cc in no)
 
-    by_standing : (standing : Standing) (w : WatchState) (whole : Bool) (now stamp : ℕ)
+    by_standing : (standing : WatchStanding) (w : WatchState) (whole : Bool) (now stamp : ℕ)
         → standing_due standing w whole now ≡ Beat (Some stamp)
         → (whole ≡ true) × (stamp ≡ w.stamp)
     by_standing Watched w whole now stamp says =

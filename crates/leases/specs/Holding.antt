@@ -1,4 +1,4 @@
--- The server's side: which reign it is in, until when its lease runs, and what it does with what masters send.
+-- The server's side: which epoch it is in, until when its lease runs, and what it does with what masters send.
 use Rattle.std.specs.Prelude.{◌≡◌, ℕ, ◌+◌, ◌-◌, ◌^◌, ◌≤◌, ◌<◌, max, min, bit_or, Bool, true, ◌&&◌, nat_eq, nat_le}
 use Rattle.std.specs.Prelude.{nat_lt, List, [], ◌∷◌, ◌++◌, Option, None, Some, if◌then◌else◌}
 use Rattle.leases.specs.declared.orders.Order.{Order}
@@ -12,8 +12,8 @@ use Rattle.leases.specs.Sets.{has}
 pub record LeaseState : Type 0 where
   -- the term that was asked for, or none
   pub term : Option ℕ
-  -- the reign that it is in; 0 before the first
-  pub reign : ℕ
+  -- the epoch that it is in; 0 before the first
+  pub epoch : ℕ
   -- when the lease ends; without a term, the latest stamp that a beat brought back
   pub end : ℕ
   -- the servers that it knew to be gone while it held, server i being the bit of value 2^i
@@ -21,7 +21,7 @@ pub record LeaseState : Type 0 where
 
 -- the server has just started
 abbrev pub unheld : Option ℕ → LeaseState
-unheld term = record { term = term; reign = 0; end = 0; known = 0 }
+unheld term = record { term = term; epoch = 0; end = 0; known = 0 }
 
 -- a lease without a term always holds
 abbrev pub holds_until : Option ℕ → ℕ → ℕ → Bool
@@ -36,9 +36,9 @@ holds lease now = holds_until lease.term lease.end now
 abbrev pub learned : LeaseState → ℕ → ℕ → LeaseState
 learned lease gone now = if holds lease now then record lease { known = bit_or lease.known gone } else lease
 
--- it has entered a reign, unless it is in a later one
+-- it has entered an epoch, unless it is in a later one
 abbrev pub entered : LeaseState → ℕ → LeaseState
-entered lease reign = record lease { reign = max lease.reign reign }
+entered lease epoch = record lease { epoch = max lease.epoch epoch }
 
 -- when a lease ends that runs from this stamp on; a clock shows numbers below 2^64
 abbrev pub end_from : Option ℕ → ℕ → ℕ
@@ -49,38 +49,38 @@ end_from (Some term) stamp = min (stamp + term) (2 ^ 64 - 1)
 abbrev pub prolonged : LeaseState → ℕ → LeaseState
 prolonged lease stamp = record lease { end = max lease.end (end_from lease.term stamp) }
 
--- a beat is taken if it is of the server's reign, and its stamp is no later than what the clock shows
+-- a beat is taken if it is of the server's epoch, and its stamp is no later than what the clock shows
 abbrev pub beaten : LeaseState → ℕ → ℕ → ℕ → LeaseState
-beaten lease reign stamp now =
-    if nat_eq reign lease.reign && nat_le stamp now then prolonged lease stamp else lease
+beaten lease epoch stamp now =
+    if nat_eq epoch lease.epoch && nat_le stamp now then prolonged lease stamp else lease
 
 -- a beat without a stamp prolongs nothing
 abbrev pub beaten_by : LeaseState → ℕ → Option ℕ → ℕ → LeaseState
-beaten_by lease reign None now = lease
-beaten_by lease reign (Some stamp) now = beaten lease reign stamp now
+beaten_by lease epoch None now = lease
+beaten_by lease epoch (Some stamp) now = beaten lease epoch stamp now
 
--- what an order does to reign and end
+-- what an order does to epoch and end
 abbrev pub obeyed : LeaseState → Order → ℕ → LeaseState
-obeyed lease (Reign reign) now = entered lease reign
-obeyed lease (Beat reign stamp) now = beaten_by lease reign stamp now
-obeyed lease (Silent reign id) now = lease
+obeyed lease (Reign epoch) now = entered lease epoch
+obeyed lease (Beat epoch stamp) now = beaten_by lease epoch stamp now
+obeyed lease (Silent epoch id) now = lease
 obeyed lease (Gone id) now = lease
 
 -- what an order does, while the server knows these to be gone
 abbrev pub heeded : LeaseState → Order → ℕ → ℕ → LeaseState
 heeded lease order gone now = learned (obeyed lease order now) gone now
 
--- the server of which an order tells, if this is a notice to be taken: one of silence must be of the server's own reign
+-- the server of which an order tells, if this is a notice to be taken: one of silence must be of the server's own epoch
 abbrev pub noticed : LeaseState → Order → Option ℕ
-noticed lease (Reign reign) = None
-noticed lease (Beat reign stamp) = None
-noticed lease (Silent reign id) = if nat_eq reign lease.reign then Some id else None
+noticed lease (Reign epoch) = None
+noticed lease (Beat epoch stamp) = None
+noticed lease (Silent epoch id) = if nat_eq epoch lease.epoch then Some id else None
 noticed lease (Gone id) = Some id
 
 -- how the server is
 abbrev pub report_of : LeaseState → ℕ → ℕ → Report
 report_of lease gone now = record {
-  reign = lease.reign;
+  epoch = lease.epoch;
   stamp = now;
   end = lease.end;
   term = lease.term;
@@ -109,17 +109,17 @@ abbrev pub hears : LeaseState → List Hearing → LeaseState
 hears lease [] = lease
 hears lease (x ∷ xs) = hears (hear lease x) xs
 
--- A beat by which the lease holds: it is one of those that were heard, of the reign that the server was in, with a
+-- A beat by which the lease holds: it is one of those that were heard, of the epoch that the server was in, with a
 -- stamp that the clock had shown, and less than the term has passed since.
 pub record IsHeldBy (lease : LeaseState) (term : ℕ) (hearings : List Hearing) (now : ℕ) : Type 0 where
   pub before : List Hearing
   pub after : List Hearing
-  pub reign : ℕ
+  pub epoch : ℕ
   pub stamp : ℕ
   pub gone : ℕ
   pub read : ℕ
-  pub came : hearings ≡ before ++ Hears (Beat reign (Some stamp)) gone read ∷ after
-  pub own : (hears lease before).reign ≡ reign
+  pub came : hearings ≡ before ++ Hears (Beat epoch (Some stamp)) gone read ∷ after
+  pub own : (hears lease before).epoch ≡ epoch
   pub shown : stamp ≤ read
   pub held : now < stamp + term
 

@@ -4,9 +4,9 @@ pub mod Sets
 pub mod Holding
 pub mod Watching
 pub mod Rolls
-pub mod Wards
+pub mod ServerRecords
 pub mod Claims
-pub mod Wardens
+pub mod MasterMachines
 pub mod Runs
 pub mod Serving
 pub mod Shared

@@ -2,49 +2,49 @@
 use Rattle.std.specs.Prelude.{◌≡◌, ℕ, ◌≤◌, ◌<◌, max, Bool, true, List, [], ◌∷◌, ◌++◌, Some}
 use Rattle.leases.specs.declared.orders.Order.{Order}
 use Rattle.leases.specs.declared.orders.Order.TheVariants as orders
-use Rattle.leases.specs.declared.watches.Standing.{Standing}
-use Rattle.leases.specs.declared.watches.Standing.TheVariants.{Watched, Told, Over, Gone}
-use Rattle.leases.specs.declared.watches.Deed.TheVariants.{TellSilent}
+use Rattle.leases.specs.declared.watches.WatchStanding.{WatchStanding}
+use Rattle.leases.specs.declared.watches.WatchStanding.TheVariants.{Watched, Told, Over, Gone}
+use Rattle.leases.specs.declared.watches.WatchDue.TheVariants.{TellSilent}
 use Rattle.leases.specs.Clocks.{Clock}
-use Rattle.leases.specs.Leases.{Beat, Look, Pair, Notice, IsBeatByRule}
+use Rattle.leases.specs.Leases.{Beat, LeasedAnswer, Pair, Notice, IsBeatByRule}
 use Rattle.leases.specs.Holding.{LeaseState, unheld, holds, Hearing, Hears, hears}
 use Rattle.leases.specs.Watching.{WatchState, Happening, Answers, Refuses, Asks, Spares, happen, due}
 
 -- An order that a server heard at an instant, while it knew these to be gone.
-pub data Event : Type 0 where
-  At : ℕ → Order → ℕ → Event
+pub data TimedOrder : Type 0 where
+  At : ℕ → Order → ℕ → TimedOrder
 
 -- what that is by its clock
-abbrev pub event_by : Clock → Event → Hearing
-event_by clock (At x order gone) = Hears order gone (clock x)
+abbrev pub timed_order_by : Clock → TimedOrder → Hearing
+timed_order_by clock (At x order gone) = Hears order gone (clock x)
 
-abbrev pub events_by : Clock → List Event → List Hearing
-events_by clock [] = []
-events_by clock (e ∷ es) = event_by clock e ∷ events_by clock es
+abbrev pub timed_orders_by : Clock → List TimedOrder → List Hearing
+timed_orders_by clock [] = []
+timed_orders_by clock (e ∷ es) = timed_order_by clock e ∷ timed_orders_by clock es
 
 -- what a server with this term knows of its lease once it has heard these, from its start on
-abbrev pub lease_after : Clock → ℕ → List Event → LeaseState
-lease_after clock term events = hears (unheld (Some term)) (events_by clock events)
+abbrev pub lease_after : Clock → ℕ → List TimedOrder → LeaseState
+lease_after clock term timed_orders = hears (unheld (Some term)) (timed_orders_by clock timed_orders)
 
--- A beat of this reign with this stamp that was taken at an instant came about by the rule of beats.
+-- A beat of this epoch with this stamp that was taken at an instant came about by the rule of beats.
 pub record IsBrought (pair : Pair) (term : ℕ) (notice : Notice) (x r s : ℕ) : Type 0 where
   pub beat : Beat
   pub taken : beat.taken ≡ x
-  pub reign : beat.reign ≡ r
+  pub epoch : beat.epoch ≡ r
   pub shown : pair.clock beat.stamped ≡ s
   pub by_rule : IsBeatByRule pair term notice beat
 
 -- What the watched server of a pair heard, of masters that keep to the rule of beats.
-pub record IsRun (pair : Pair) (term : ℕ) (notice : Notice) (events : List Event) : Type 0 where
-  -- when it takes a beat it is in the reign that it entered last,
-  pub reign : (before after : List Event) (x reign stamp gone : ℕ)
-      → events ≡ before ++ At x (orders.Beat reign (Some stamp)) gone ∷ after
-      → pair.reign x ≡ (lease_after pair.clock term before).reign
-  -- and each beat of that reign was brought.
-  pub brought : (before after : List Event) (x reign stamp gone : ℕ)
-      → events ≡ before ++ At x (orders.Beat reign (Some stamp)) gone ∷ after
-      → pair.reign x ≡ reign
-      → IsBrought pair term notice x reign stamp
+pub record IsRun (pair : Pair) (term : ℕ) (notice : Notice) (timed_orders : List TimedOrder) : Type 0 where
+  -- when it takes a beat it is in the epoch that it entered last,
+  pub epoch : (before after : List TimedOrder) (x epoch stamp gone : ℕ)
+      → timed_orders ≡ before ++ At x (orders.Beat epoch (Some stamp)) gone ∷ after
+      → pair.epoch x ≡ (lease_after pair.clock term before).epoch
+  -- and each beat of that epoch was brought.
+  pub brought : (before after : List TimedOrder) (x epoch stamp gone : ℕ)
+      → timed_orders ≡ before ++ At x (orders.Beat epoch (Some stamp)) gone ∷ after
+      → pair.epoch x ≡ epoch
+      → IsBrought pair term notice x epoch stamp
 
 -- What a watch was told or asked at an instant.
 pub data Doing : Type 0 where
@@ -66,13 +66,13 @@ watch_after clock w [] = w
 watch_after clock w (d ∷ ds) = watch_after clock (happen w (doing_by clock d)) ds
 
 -- the instant of the last answer that counted, if those before were heard until this one
-abbrev pub counted : Standing → ℕ → ℕ → ℕ
+abbrev pub counted : WatchStanding → ℕ → ℕ → ℕ
 counted Watched heard x = max heard x
 counted Told heard x = heard
 counted Over heard x = heard
 counted Gone heard x = heard
 
-abbrev pub heard_by : Standing → ℕ → Doing → ℕ
+abbrev pub heard_by : WatchStanding → ℕ → Doing → ℕ
 heard_by standing heard (Answered x stamp) = counted standing heard x
 heard_by standing heard Refused = heard
 heard_by standing heard (Asked x whole) = heard
@@ -102,14 +102,14 @@ pub record IsCalledSilent (pair : Pair) (term : ℕ) (clock : Clock) (begun : �
   pub says : SaysSilent clock term begun w doings whole notice.decided
   -- the last answer that counted
   pub heard : notice.heard ≡ heard_after clock w begun doings
-  -- the server had entered the master's reign by then
-  pub entered : (x : ℕ) × ((pair.reign x ≡ notice.reign) × (x ≤ notice.heard))
+  -- the server had entered the master's epoch by then
+  pub entered : (x : ℕ) × ((pair.epoch x ≡ notice.epoch) × (x ≤ notice.heard))
   pub decided : notice.decided ≤ notice.told
-  -- the other one is in that reign, and goes on
-  pub own : pair.other notice.told ≡ notice.reign
+  -- the other one is in that epoch, and goes on
+  pub own : pair.other notice.told ≡ notice.epoch
   pub lives : notice.told < pair.end
 
 -- The watched server answers a look: its lease holds by a reading after the look, once it has heard these.
-pub record AnswersLook (pair : Pair) (term : ℕ) (events : List Event) (look : Look) : Type 0 where
+pub record AnswersLook (pair : Pair) (term : ℕ) (timed_orders : List TimedOrder) (look : LeasedAnswer) : Type 0 where
   pub after : look.taken ≤ look.read
-  pub held : holds (lease_after pair.clock term events) (pair.clock look.read) ≡ true
+  pub held : holds (lease_after pair.clock term timed_orders) (pair.clock look.read) ≡ true

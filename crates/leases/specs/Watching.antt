@@ -1,13 +1,13 @@
 -- The master's side: what it knows of one server, and what is due.
 use Rattle.std.specs.Prelude.{◌≡◌, ℕ, ◌-◌, ◌/◌, max, nat_le, Bool, true, false, not, ◌&&◌, List, [], ◌∷◌, ◌++◌}
 use Rattle.std.specs.Prelude.{Option, None, Some, if◌then◌else◌}
-use Rattle.leases.specs.declared.watches.Standing.{Standing}
-use Rattle.leases.specs.declared.watches.Standing.TheVariants.{Watched, Told, Over, Gone}
-use Rattle.leases.specs.declared.watches.Deed.{Deed}
-use Rattle.leases.specs.declared.watches.Deed.TheVariants.{Wait, Beat, TellServer, TellSilent, TellGone}
+use Rattle.leases.specs.declared.watches.WatchStanding.{WatchStanding}
+use Rattle.leases.specs.declared.watches.WatchStanding.TheVariants.{Watched, Told, Over, Gone}
+use Rattle.leases.specs.declared.watches.WatchDue.{WatchDue}
+use Rattle.leases.specs.declared.watches.WatchDue.TheVariants.{Wait, Beat, TellServer, TellSilent, TellGone}
 use Rattle.leases.specs.Clocks.{wait_for}
 
--- What a master knows of a server that is in its reign. Times are what the master's clock shows.
+-- What a master knows of a server that is in its epoch. Times are what the master's clock shows.
 pub record WatchState : Type 0 where
   -- the term of the server's lease, or none
   pub term : Option ℕ
@@ -23,11 +23,11 @@ pub record WatchState : Type 0 where
   pub stamp : ℕ
   -- when the last beat was sent
   pub sent : ℕ
-  pub standing : Standing
+  pub standing : WatchStanding
   -- it isn't called silent before it answers once more
   pub spared : Bool
 
--- the server has entered the reign, and answered that with this stamp
+-- the server has entered the epoch, and answered that with this stamp
 abbrev pub begun_watch : Option ℕ → ℕ → ℕ → ℕ → ℕ → WatchState
 begun_watch term beat after stamp now = record {
   term = term;
@@ -41,7 +41,7 @@ begun_watch term beat after stamp now = record {
   spared = false;
 }
 
--- the server isn't in the reign: a beat is due each time that a pace has passed, and nothing else
+-- the server isn't in the epoch: a beat is due each time that a pace has passed, and nothing else
 abbrev pub idle_watch : ℕ → ℕ → WatchState
 idle_watch beat after = record {
   term = None;
@@ -56,14 +56,14 @@ idle_watch beat after = record {
 }
 
 -- it does nothing more
-abbrev pub is_gone : Standing → Bool
+abbrev pub is_gone : WatchStanding → Bool
 is_gone Watched = false
 is_gone Told = false
 is_gone Over = false
 is_gone Gone = true
 
 -- it gets beats: it wasn't called silent, and isn't gone
-abbrev pub is_watched : Standing → Bool
+abbrev pub is_watched : WatchStanding → Bool
 is_watched Watched = true
 is_watched Told = false
 is_watched Over = false
@@ -83,31 +83,31 @@ is_late w pause = nat_le ((w.after - w.beat) / 2) (pause - w.beat)
 abbrev pub gives_up : WatchState → ℕ → ℕ → Bool
 gives_up w silence pause = (is_silent w.term w.after silence && not (is_late w pause)) && not w.spared
 
--- the stamp that a beat brings back, if the reign is whole: if each other server that isn't gone has entered it
+-- the stamp that a beat brings back, if the epoch is whole: if each other server that isn't gone has entered it
 abbrev pub brought : Bool → ℕ → Option ℕ
 brought true stamp = Some stamp
 brought false stamp = None
 
 -- what is due for a server that is watched, if it was silent for so long, and this much has passed since the last beat
-abbrev pub watched_due : WatchState → Bool → ℕ → ℕ → Deed
+abbrev pub watched_due : WatchState → Bool → ℕ → ℕ → WatchDue
 watched_due w whole silence pause =
     if gives_up w silence pause then TellServer
     else (if nat_le w.beat pause then Beat (brought whole w.stamp) else Wait (w.beat - pause))
 
 -- what is due for a server that was told
-abbrev pub told_due : Option ℕ → ℕ → ℕ → Deed
+abbrev pub told_due : Option ℕ → ℕ → ℕ → WatchDue
 told_due None beat silence = Wait beat
 told_due (Some term) beat silence =
     if nat_le (wait_for term) silence then TellSilent else Wait (wait_for term - silence)
 
-abbrev pub standing_due : Standing → WatchState → Bool → ℕ → Deed
+abbrev pub standing_due : WatchStanding → WatchState → Bool → ℕ → WatchDue
 standing_due Watched w whole now = watched_due w whole (now - w.since) (now - w.sent)
 standing_due Told w whole now = told_due w.term w.beat (now - w.heard)
 standing_due Over w whole now = TellSilent
 standing_due Gone w whole now = TellGone
 
 -- what is due when the master's clock shows this
-abbrev pub due : WatchState → Bool → ℕ → Deed
+abbrev pub due : WatchState → Bool → ℕ → WatchDue
 due w whole now = standing_due w.standing w whole now
 
 -- from when on its silence counts once a beat is sent: from now on if the beat is late
@@ -115,7 +115,7 @@ abbrev pub since_beat : WatchState → ℕ → ℕ
 since_beat w now = if is_late w (now - w.sent) then now else w.since
 
 -- what it knows once that was done
-abbrev pub done : WatchState → ℕ → Deed → WatchState
+abbrev pub done : WatchState → ℕ → WatchDue → WatchState
 done w now (Wait span) = w
 done w now (Beat stamp) = record w { since = since_beat w now; sent = now }
 done w now TellServer = record w { standing = Told }
@@ -123,7 +123,7 @@ done w now TellSilent = record w { standing = Over }
 done w now TellGone = w
 
 -- an answer counts as long as the server is watched
-abbrev pub heard_at : Standing → WatchState → ℕ → ℕ → WatchState
+abbrev pub heard_at : WatchStanding → WatchState → ℕ → ℕ → WatchState
 heard_at Watched w stamp now = record w {
   heard = max w.heard now;
   since = max w.since now;

@@ -1,18 +1,18 @@
-//! The master's side: which reign is its own, and when it takes a new one.
+//! The master's side: which epoch is its own, and when it takes a new one.
 ghost use Rattle.std.specs.Prelude.{◌≡◌, ◌≤◌, ◌<◌, ◌+◌, ◌%◌, ◌^◌, IfSome, IfNone};
 ghost use Rattle.leases.specs.Claims.{unclaimed, informed, is_reigning, is_vacant, is_due, claimed};
 
+use crate::epochs::next_epoch;
 use crate::orders::Report;
 use crate::paces::Paces;
-use crate::reigns::next_reign;
 use std::marker::Model;
 
-/// What a master knows of reigns. Times are nanoseconds of the master's own clock.
+/// What a master knows of epochs. Times are nanoseconds of the master's own clock.
 #[derive(Debug, Drop)]
 pub struct Claim {
     name: u32,
     after: u64,
-    reign: u64,
+    epoch: u64,
     highest: u64,
     moved: u64,
 }
@@ -25,7 +25,7 @@ impl Model for Claim {
     ghost view = { λ c. record {
       name = c.name;
       after = c.after;
-      reign = c.reign;
+      epoch = c.epoch;
       highest = c.highest;
       moved = c.moved;
     } };
@@ -39,7 +39,7 @@ impl Claim {
         Claim {
             name,
             after: paces.after,
-            reign: 0,
+            epoch: 0,
             highest: 0,
             moved: now,
         }
@@ -50,29 +50,29 @@ impl Claim {
     pub fn informed(&mut self, report: &Report, last: u64, now: u64)
         ensures { self.new ≡ informed self.old report.now last now }
     {
-        self.highest = self.highest.max(report.reign);
+        self.highest = self.highest.max(report.epoch);
         if last < report.end {
             self.moved = self.moved.max(now);
         }
     }
 
-    /// Its own reign; 0 before the first.
-    pub fn reign(&self) -> u64
-        ensures { result ≡ self.now.reign }
+    /// Its own epoch; 0 before the first.
+    pub fn epoch(&self) -> u64
+        ensures { result ≡ self.now.epoch }
     {
-        self.reign
+        self.epoch
     }
 
-    /// Whether its reign is the last one, as far as it knows. If not, it sends beats without stamps, so that it hears
+    /// Whether its epoch is the last one, as far as it knows. If not, it sends beats without stamps, so that it hears
     /// how the servers are.
     pub fn is_reigning(&self) -> bool
         ensures { result ≡ is_reigning self.now }
     {
-        0 < self.reign && self.reign == self.highest
+        0 < self.epoch && self.epoch == self.highest
     }
 
-    /// Whether it is to take a new reign when the clock shows `now`; `met` says whether it has met each server that
-    /// isn't gone. A master that starts takes one once it has; so it doesn't end the reign of another one that waits
+    /// Whether it is to take a new epoch when the clock shows `now`; `met` says whether it has met each server that
+    /// isn't gone. A master that starts takes one once it has; so it doesn't end the epoch of another one that waits
     /// for a silent server. One that was followed by another takes one once nobody prolongs leases any more.
     pub fn is_due(&self, met: bool, now: u64) -> bool
         ensures { result ≡ is_due self.now met now }
@@ -80,7 +80,7 @@ impl Claim {
         if self.is_reigning() {
             return false;
         }
-        self.reign == 0 && met || self.is_vacant(now)
+        self.epoch == 0 && met || self.is_vacant(now)
     }
 
     // Whether no master sends beats.
@@ -90,18 +90,18 @@ impl Claim {
         self.after <= now.saturating_sub(self.moved)
     }
 
-    /// Takes a new reign when the clock shows `now`: the next one that is above all that it has seen, and its own. What
+    /// Takes a new epoch when the clock shows `now`: the next one that is above all that it has seen, and its own. What
     /// it knew of who has entered begins anew. None if there is no such number below 2^64; then nothing changes.
     pub fn claim(&mut self, now: u64) -> Option<u64>
-        ensures above { IfSome result (λ reign. self.old.highest < reign) }
-        ensures own { IfSome result (λ reign. reign % 2 ^ 32 ≡ self.old.name) }
-        ensures state { IfSome result (λ reign. self.new ≡ claimed self.old reign now) }
+        ensures above { IfSome result (λ epoch. self.old.highest < epoch) }
+        ensures own { IfSome result (λ epoch. epoch % 2 ^ 32 ≡ self.old.name) }
+        ensures state { IfSome result (λ epoch. self.new ≡ claimed self.old epoch now) }
         ensures none { IfNone result ((2 ^ 64 ≤ self.old.highest + 2 ^ 32) × (self.new ≡ self.old)) }
     {
-        let reign = next_reign(self.highest, self.name)?;
-        self.reign = reign;
-        self.highest = reign;
+        let epoch = next_epoch(self.highest, self.name)?;
+        self.epoch = epoch;
+        self.highest = epoch;
         self.moved = now;
-        Some(reign)
+        Some(epoch)
     }
 }

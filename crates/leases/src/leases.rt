@@ -1,4 +1,4 @@
-//! The server's side: a lease, the reign whose beats prolong it, and what masters are answered.
+//! The server's side: a lease, the epoch whose beats prolong it, and what masters are answered.
 ghost use Rattle.std.specs.Prelude.{◌≡◌, ◌≤◌, ◌↔◌, IsTrue};
 ghost use Rattle.leases.specs.Holding.{unheld, holds, learned, entered, beaten, end_from, obeyed, noticed, heeded};
 ghost use Rattle.leases.specs.Holding.{report_of, answer_to};
@@ -11,7 +11,7 @@ use std::marker::Model;
 #[derive(Debug, Drop)]
 pub struct Lease {
     term: Option<Term>,
-    reign: u64,
+    epoch: u64,
     end: u64,
     known: u16,
 }
@@ -21,7 +21,7 @@ impl Model for Lease {
 
     ghost Value = { LeaseState };
 
-    ghost view = { λ l. record { term = l.term; reign = l.reign; end = l.end; known = l.known } };
+    ghost view = { λ l. record { term = l.term; epoch = l.epoch; end = l.end; known = l.known } };
 }
 
 impl Lease {
@@ -32,7 +32,7 @@ impl Lease {
     {
         Lease {
             term,
-            reign: 0,
+            epoch: 0,
             end: 0,
             known: 0,
         }
@@ -54,17 +54,17 @@ impl Lease {
         }
     }
 
-    // Enters a reign, or takes a beat.
+    // Enters an epoch, or takes a beat.
     fn obey(&mut self, order: Order, now: u64)
         ensures { self.new ≡ obeyed self.old order now }
     {
         match order {
-            Order::Reign(reign) => {
-                self.enter(reign);
+            Order::Reign(epoch) => {
+                self.enter(epoch);
             }
-            Order::Beat(reign, stamp) => {
+            Order::Beat(epoch, stamp) => {
                 if let Some(stamp) = stamp {
-                    self.beat(reign, stamp, now);
+                    self.beat(epoch, stamp, now);
                 }
             }
             Order::Silent(_, _) => {}
@@ -79,7 +79,7 @@ impl Lease {
         match order {
             Order::Reign(_) => None,
             Order::Beat(_, _) => None,
-            Order::Silent(reign, id) => { if reign == self.reign { Some(id) } else { None } }
+            Order::Silent(epoch, id) => { if epoch == self.epoch { Some(id) } else { None } }
             Order::Gone(id) => Some(id),
         }
     }
@@ -89,7 +89,7 @@ impl Lease {
         ensures { result ≡ report_of self.now gone now }
     {
         Report {
-            reign: self.reign,
+            epoch: self.epoch,
             stamp: now,
             end: self.end,
             term: self.term,
@@ -98,34 +98,34 @@ impl Lease {
         }
     }
 
-    /// A master of this reign greets. The server enters it, unless it is in a later one, and says whether it is in it
+    /// A master of this epoch greets. The server enters it, unless it is in a later one, and says whether it is in it
     /// now.
-    pub fn enter(&mut self, reign: u64) -> bool
-        ensures state { self.new ≡ entered self.old reign }
-        ensures is_in { IsTrue result ↔ (self.old.reign ≤ reign) }
+    pub fn enter(&mut self, epoch: u64) -> bool
+        ensures state { self.new ≡ entered self.old epoch }
+        ensures is_in { IsTrue result ↔ (self.old.epoch ≤ epoch) }
     {
-        if self.reign <= reign {
-            self.reign = reign;
+        if self.epoch <= epoch {
+            self.epoch = epoch;
             return true;
         }
         false
     }
 
-    /// Whether it takes beats of this reign, and its notices that others were silent.
-    pub fn is_of(&self, reign: u64) -> bool
-        ensures { IsTrue result ↔ (reign ≡ self.now.reign) }
+    /// Whether it takes beats of this epoch, and its notices that others were silent.
+    pub fn is_of(&self, epoch: u64) -> bool
+        ensures { IsTrue result ↔ (epoch ≡ self.now.epoch) }
     {
-        reign == self.reign
+        epoch == self.epoch
     }
 
-    /// A beat came, of this reign and with this stamp, and then the clock showed `now`. The lease runs its term from
+    /// A beat came, of this epoch and with this stamp, and then the clock showed `now`. The lease runs its term from
     /// the stamp on, which is what this server answered to an earlier beat: not from `now`, since a beat may have lain
-    /// somewhere, while its master waited for the lease to run out. A beat of another reign does nothing, and so does
+    /// somewhere, while its master waited for the lease to run out. A beat of another epoch does nothing, and so does
     /// one with a stamp that the clock can't have shown yet.
-    pub fn beat(&mut self, reign: u64, stamp: u64, now: u64)
-        ensures { self.new ≡ beaten self.old reign stamp now }
+    pub fn beat(&mut self, epoch: u64, stamp: u64, now: u64)
+        ensures { self.new ≡ beaten self.old epoch stamp now }
     {
-        if reign == self.reign && stamp <= now {
+        if epoch == self.epoch && stamp <= now {
             self.end = self.end.max(end_from(self.term, stamp));
         }
     }

@@ -5,11 +5,11 @@ use crate::terms::Term;
 /// What a master sends to a server.
 #[derive(Clone, Copy, Debug, PartialEq, Eq)]
 pub enum Order {
-    /// A master of this reign greets.
+    /// A master of this epoch greets.
     Reign(u64),
-    /// A beat of this reign. If it brings back a stamp it prolongs the lease.
+    /// A beat of this epoch. If it brings back a stamp it prolongs the lease.
     Beat(u64, Option<u64>),
-    /// In this reign that server was silent until its lease was surely over.
+    /// In this epoch that server was silent until its lease was surely over.
     Silent(u64, u8),
     /// That server does nothing more: its process has ended, or a person has seen to it.
     Gone(u8),
@@ -18,8 +18,8 @@ pub enum Order {
 /// How a server is. Times are nanoseconds of its own clock.
 #[derive(Clone, Copy, Debug, PartialEq, Eq)]
 pub struct Report {
-    /// The reign that it is in.
-    pub reign: u64,
+    /// The epoch that it is in.
+    pub epoch: u64,
     /// What its clock shows.
     pub stamp: u64,
     /// When its lease ends. Without a term, the latest stamp that a beat brought back.

@@ -1,11 +1,11 @@
-//! The master's side: for whom its reign is whole.
+//! The master's side: for whom its epoch is whole.
 ghost use Rattle.std.specs.Prelude.{◌≡◌};
 ghost use Rattle.leases.specs.Rolls.{unentered, enters, knows, is_whole};
 
 use std::marker::Model;
 
-/// The roll of a reign for one server that has entered it: which other servers have. Sets are bits, server i being that
-/// of value 2^i.
+/// The roll of an epoch for one server that has entered it: which other servers have. Sets are bits, server i being
+/// that of value 2^i.
 #[derive(Debug, Drop)]
 pub struct Roll {
     own: u16,
@@ -35,8 +35,8 @@ impl Roll {
         }
     }
 
-    /// Another server has entered the reign, and knew then that these are gone (`Report::gone`). It must be its answer
-    /// to the greeting, or the first one that was in the reign.
+    /// Another server has entered the epoch, and knew then that these are gone (`Report::gone`). It must be its answer
+    /// to the greeting, or the first one that was in the epoch.
     pub fn enters(&mut self, other: u16, gone: u16)
         ensures { self.new ≡ enters self.old other gone }
     {
@@ -52,7 +52,7 @@ impl Roll {
         self.known |= known;
     }
 
-    /// Whether the reign is whole for this server: each other one has entered it and didn't know then that this one is
+    /// Whether the epoch is whole for this server: each other one has entered it and didn't know then that this one is
     /// gone, or this one knew that one to be gone while its lease held. Only then may a beat prolong its lease.
     pub fn is_whole(&self) -> bool
         ensures { result ≡ is_whole self.now }

@@ -9,7 +9,7 @@ use std::marker::Model;
 
 /// How a watched server stands with its master.
 #[derive(Clone, Copy, Debug, PartialEq, Eq)]
-pub enum Standing {
+pub enum WatchStanding {
     /// It gets beats.
     Watched,
     /// It was told that it is gone, and gets no beat any more.
@@ -22,7 +22,7 @@ pub enum Standing {
 
 /// What is due.
 #[derive(Clone, Copy, Debug, PartialEq, Eq)]
-pub enum Deed {
+pub enum WatchDue {
     /// Nothing, for this many nanoseconds at most.
     Wait(u64),
     /// A beat, which brings back this stamp. A beat without a stamp is answered, and prolongs nothing.
@@ -36,7 +36,7 @@ pub enum Deed {
     TellGone,
 }
 
-/// What a master knows of one server that has entered its reign. Times are nanoseconds of the master's own clock, which
+/// What a master knows of one server that has entered its epoch. Times are nanoseconds of the master's own clock, which
 /// never goes back.
 #[derive(Debug, Drop)]
 pub struct Watch {
@@ -48,7 +48,7 @@ pub struct Watch {
     since: u64,
     stamp: u64,
     sent: u64,
-    standing: Standing,
+    standing: WatchStanding,
     // It isn't called silent before it answers once more.
     is_spared: bool,
 }
@@ -72,9 +72,9 @@ impl Model for Watch {
 }
 
 impl Watch {
-    ghost use Rattle.leases.specs.declared.watches.Standing.TheVariants.{Gone};
+    ghost use Rattle.leases.specs.declared.watches.WatchStanding.TheVariants.{Gone};
 
-    /// A watch over a server with a lease of this term, or with none, which has entered the master's reign and answered
+    /// A watch over a server with a lease of this term, or with none, which has entered the master's epoch and answered
     /// that with this stamp. Then the clock showed `now`.
     pub fn new(term: Option<Term>, paces: Paces, stamp: u64, now: u64) -> Watch
         ensures { result ≡ begun_watch term paces.beat paces.after stamp now }
@@ -87,12 +87,12 @@ impl Watch {
             since: now,
             stamp,
             sent: now,
-            standing: Standing::Watched,
+            standing: WatchStanding::Watched,
             is_spared: false,
         }
     }
 
-    /// The watch over a server that isn't in the reign: a beat is due each time that a pace has passed, and nothing
+    /// The watch over a server that isn't in the epoch: a beat is due each time that a pace has passed, and nothing
     /// else.
     pub(crate) fn idle(paces: Paces) -> Watch
         ensures { result ≡ idle_watch paces.beat paces.after }
@@ -105,7 +105,7 @@ impl Watch {
             since: 0,
             stamp: 0,
             sent: 0,
-            standing: Standing::Watched,
+            standing: WatchStanding::Watched,
             is_spared: false,
         }
     }
@@ -115,7 +115,7 @@ impl Watch {
     pub fn answered(&mut self, stamp: u64, now: u64)
         ensures { self.new ≡ answered self.old stamp now }
     {
-        if self.standing == Standing::Watched {
+        if self.standing == WatchStanding::Watched {
             self.heard = self.heard.max(now);
             self.since = self.since.max(now);
             self.stamp = stamp;
@@ -135,87 +135,87 @@ impl Watch {
     pub fn refused(&mut self)
         ensures { self.new ≡ record self.old { standing = Gone } }
     {
-        self.standing = Standing::Gone;
+        self.standing = WatchStanding::Gone;
     }
 
     /// Whether it gets beats: it wasn't called silent, and isn't gone.
     pub(crate) fn is_watched(&self) -> bool
         ensures { result ≡ is_watched self.now.standing }
     {
-        self.standing == Standing::Watched
+        self.standing == WatchStanding::Watched
     }
 
     /// Whether it does nothing more.
     pub(crate) fn is_gone(&self) -> bool
         ensures { result ≡ is_gone self.now.standing }
     {
-        self.standing == Standing::Gone
+        self.standing == WatchStanding::Gone
     }
 
-    /// What is due when the clock shows `now`. It counts as done. `whole` says whether the master's reign is whole for
+    /// What is due when the clock shows `now`. It counts as done. `whole` says whether the master's epoch is whole for
     /// this server (`Roll::is_whole`): only then may a beat prolong its lease. Silence is noticed whenever this is
     /// called, but if the master itself is late with a beat, as one that was stopped: then the silence counts from that
     /// beat on, since nobody answers beats that aren't sent. It is not noticed of a server that is spared.
-    pub fn next(&mut self, whole: bool, now: u64) -> Deed
-        ensures deed { result ≡ due self.old whole now }
+    pub fn next(&mut self, whole: bool, now: u64) -> WatchDue
+        ensures watch_due { result ≡ due self.old whole now }
         ensures state { self.new ≡ done self.old now result }
     {
-        let deed = self.due(whole, now);
-        match deed {
-            Deed::Wait(_) => {}
-            Deed::Beat(_) => {
+        let watch_due = self.due(whole, now);
+        match watch_due {
+            WatchDue::Wait(_) => {}
+            WatchDue::Beat(_) => {
                 self.since = self.since_beat(now);
                 self.sent = now;
             }
-            Deed::TellServer => self.standing = Standing::Told,
-            Deed::TellSilent => self.standing = Standing::Over,
-            Deed::TellGone => {}
+            WatchDue::TellServer => self.standing = WatchStanding::Told,
+            WatchDue::TellSilent => self.standing = WatchStanding::Over,
+            WatchDue::TellGone => {}
         }
-        deed
+        watch_due
     }
 
     // What is due.
-    fn due(&self, whole: bool, now: u64) -> Deed
+    fn due(&self, whole: bool, now: u64) -> WatchDue
         ensures { result ≡ due self.now whole now }
     {
         match self.standing {
-            Standing::Watched => self.watched_due(
+            WatchStanding::Watched => self.watched_due(
                 whole,
                 now.saturating_sub(self.since),
                 now.saturating_sub(self.sent),
             ),
-            Standing::Told => self.told_due(now.saturating_sub(self.heard)),
-            Standing::Over => Deed::TellSilent,
-            Standing::Gone => Deed::TellGone,
+            WatchStanding::Told => self.told_due(now.saturating_sub(self.heard)),
+            WatchStanding::Over => WatchDue::TellSilent,
+            WatchStanding::Gone => WatchDue::TellGone,
         }
     }
 
     // What is due for a server that is watched, if it was silent for so long, and this much has passed since the last
     // beat.
-    fn watched_due(&self, whole: bool, silence: u64, pause: u64) -> Deed
+    fn watched_due(&self, whole: bool, silence: u64, pause: u64) -> WatchDue
         ensures { result ≡ watched_due self.now whole silence pause }
     {
         if self.gives_up(silence, pause) {
-            Deed::TellServer
+            WatchDue::TellServer
         } else if self.beat <= pause {
-            Deed::Beat(if whole { Some(self.stamp) } else { None })
+            WatchDue::Beat(if whole { Some(self.stamp) } else { None })
         } else {
-            Deed::Wait(self.beat - pause)
+            WatchDue::Wait(self.beat - pause)
         }
     }
 
     // What is due for a server that was told.
-    fn told_due(&self, silence: u64) -> Deed
+    fn told_due(&self, silence: u64) -> WatchDue
         ensures { result ≡ told_due self.now.term self.now.beat silence }
     {
         match self.term {
-            None => Deed::Wait(self.beat),
+            None => WatchDue::Wait(self.beat),
             Some(term) => {
                 let wait = term.wait();
                 if wait <= silence {
-                    Deed::TellSilent
+                    WatchDue::TellSilent
                 } else {
-                    Deed::Wait(wait - silence)
+                    WatchDue::Wait(wait - silence)
                 }
             }
         }

@@ -12,7 +12,7 @@ use Rattle.links.specs.Orders.{IsAnswer, NamesServer}
 same_id : (j id : ℕ) → Notes j ≡ Notes id → j ≡ id
 same_id j id e = cc
 
--- what a notice is answered, by whether it is of the server's reign
+-- what a notice is answered, by whether it is of the server's epoch
 named_by : (own : Bool) (j id : ℕ) (report : Report)
     → j < 16
     → answer_with (if own then Some j else None) report ≡ Notes id
@@ -21,15 +21,15 @@ named_by true j id report h e = subst (λ k. k < 16) (same_id j id e) h
 named_by false j id report h e = absurd cc
 
 -- whom an order's notice names, a set can have
-pub noted_has_place : (lease : LeaseState) (order : Order) (gone now id : ℕ)
+pub noted_has_inlet : (lease : LeaseState) (order : Order) (gone now id : ℕ)
     → NamesServer order
     → answer_to lease order gone now ≡ Notes id
     → id < 16
-noted_has_place lease (Reign reign) gone now id h e = absurd cc
-noted_has_place lease (Beat reign stamp) gone now id h e = absurd cc
-noted_has_place lease (Silent reign j) gone now id h e =
-    named_by (nat_eq reign lease.reign) j id (report_of (heeded lease (Silent reign j) gone now) gone now) h e
-noted_has_place lease (Gone j) gone now id h e = subst (λ k. k < 16) (same_id j id e) h
+noted_has_inlet lease (Reign epoch) gone now id h e = absurd cc
+noted_has_inlet lease (Beat epoch stamp) gone now id h e = absurd cc
+noted_has_inlet lease (Silent epoch j) gone now id h e =
+    named_by (nat_eq epoch lease.epoch) j id (report_of (heeded lease (Silent epoch j) gone now) gone now) h e
+noted_has_inlet lease (Gone j) gone now id h e = subst (λ k. k < 16) (same_id j id e) h
 
 silence_named : (own : Bool) (id j : ℕ) (report : Report)
     → answer_with (if own then Some id else None) report ≡ Notes j
@@ -38,10 +38,10 @@ silence_named true id j report e = same_id id j e
 silence_named false id j report e = absurd cc
 
 -- what a notice of silence is answered names the server that the notice names, if it is taken
-pub noted_is_named : (reign id j : ℕ) (answer : Answer)
-    → IsAnswer (Silent reign id) answer
+pub noted_is_named : (epoch id j : ℕ) (answer : Answer)
+    → IsAnswer (Silent epoch id) answer
     → answer ≡ Notes j
     → id ≡ j
-noted_is_named reign id j answer a e =
-    silence_named (nat_eq reign a.lease.reign) id j
-    (report_of (heeded a.lease (Silent reign id) a.gone a.now) a.gone a.now) (sym a.same ∙ e)
+noted_is_named epoch id j answer a e =
+    silence_named (nat_eq epoch a.lease.epoch) id j
+    (report_of (heeded a.lease (Silent epoch id) a.gone a.now) a.gone a.now) (sym a.same ∙ e)

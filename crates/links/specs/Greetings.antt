@@ -10,8 +10,8 @@ use Rattle.wire.specs.declared.greetings.Reason.TheVariants.{Servers, Chain, Tak
 use Rattle.peers.specs.declared.identities.Identity.{Identity}
 use Rattle.links.specs.declared.speakers.Who.{Who}
 use Rattle.links.specs.declared.speakers.Who.TheVariants.{Server, Master}
-use Rattle.links.specs.Desks.{DeskState}
-use Rattle.links.specs.Places.{waiting}
+use Rattle.links.specs.Admissions.{PeerAdmissionState}
+use Rattle.links.specs.GreeterInlets.{waiting}
 
 -- the opener's chain has the host's name
 abbrev pub is_same_chain : Identity → Introduction → Bool
@@ -22,31 +22,31 @@ abbrev pub is_same_size : ℕ → ℕ → ℕ → Bool
 is_same_size servers id others = nat_eq others servers && (nat_eq id 16 || (nat_lt id servers && nat_lt id 16))
 
 -- why who greets with this id isn't accepted, if it isn't: the first of these that holds. A master always is
-abbrev pub refusal : Identity → DeskState → ℕ → Introduction → Option Reason
-refusal host desk id opener =
+abbrev pub refusal : Identity → PeerAdmissionState → ℕ → Introduction → Option Reason
+refusal host admission id opener =
     if not (is_same_chain host opener) then Some Chain
     else if not (is_same_size host.servers id opener.servers) then Some Servers
     else if nat_eq id 16 then None
     else if nat_eq id host.id then Some Taken
-    else if has desk.gone id then Some Gone
-    else if is_some (waiting desk.places id) then None
+    else if has admission.gone id then Some Gone
+    else if is_some (waiting admission.greeter_inlets id) then None
     else Some Taken
 
 -- who is accepted has the inlet that waited for it; a master has brought nothing
-abbrev pub HasPlace : DeskState → ℕ → Who → Type 0
-HasPlace desk id (Server j inlet) = waiting desk.places id ≡ Some inlet
-HasPlace desk id (Master told) = told ≡ []
+abbrev pub HasInlet : PeerAdmissionState → ℕ → Who → Type 0
+HasInlet admission id (Server j inlet) = waiting admission.greeter_inlets id ≡ Some inlet
+HasInlet admission id (Master told) = told ≡ []
 
--- At some desk who greets so is accepted, has the inlet that waited there, and is told who has failed as far as it is
--- known there.
+-- At some admission who greets so is accepted, has the inlet that waited there, and is told who has failed as far as it
+-- is known there.
 pub record IsAdmitted (host : Identity) (id : ℕ) (opener : Introduction) (who : Who) (answer : Acceptance)
     : Type 0 where
-  pub desk : DeskState
-  pub accepted : refusal host desk id opener ≡ None
-  pub place : HasPlace desk id who
-  pub told : answer.gone ≡ desk.gone
+  pub admission : PeerAdmissionState
+  pub accepted : refusal host admission id opener ≡ None
+  pub inlet : HasInlet admission id who
+  pub told : answer.gone ≡ admission.gone
 
--- At some desk who greets so is refused for this reason.
+-- At some admission who greets so is refused for this reason.
 pub record IsRefused (host : Identity) (id : ℕ) (opener : Introduction) (reason : Reason) : Type 0 where
-  pub desk : DeskState
-  pub refused : refusal host desk id opener ≡ Some reason
+  pub admission : PeerAdmissionState
+  pub refused : refusal host admission id opener ≡ Some reason

@@ -1,9 +1,9 @@
-pub mod Desks
+pub mod Admissions
 pub mod Greetings
-pub mod Guests
-pub mod Lobbies
+pub mod PeerConnections
+pub mod PeerPorts
 pub mod Orders
 pub mod PeerLinks
-pub mod Places
+pub mod GreeterInlets
 pub mod Speakers
 pub mod Waiting

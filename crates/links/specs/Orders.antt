@@ -28,7 +28,7 @@ number_of (Some term) = term
 -- a report as a frame carries it
 abbrev pub alive_of : Report → Alive
 alive_of report = record {
-  reign = report.reign;
+  epoch = report.epoch;
   stamp = report.stamp;
   end = report.end;
   term = number_of report.term;
@@ -38,9 +38,9 @@ alive_of report = record {
 
 -- a notice names a server that a set can have
 abbrev pub NamesServer : Order → Type 0
-NamesServer (orders.Reign reign) = Unit {0}
-NamesServer (orders.Beat reign stamp) = Unit {0}
-NamesServer (orders.Silent reign id) = id < 16
+NamesServer (orders.Reign epoch) = Unit {0}
+NamesServer (orders.Beat epoch stamp) = Unit {0}
+NamesServer (orders.Silent epoch id) = id < 16
 NamesServer (orders.Gone id) = id < 16
 
 -- who is gone once a server has answered so: a notice adds whom it names
@@ -68,7 +68,7 @@ pub record TellsHow (order : Order) (bytes : List ℕ) : Type 0 where
   pub spelled : bytes ≡ spelling (frames.Alive (alive_of report))
 
 -- What answers a frame that was heard: a notice is noted, and an order of a lease is answered by how the server is
--- then. A notice of silence is either: one of another reign isn't taken, and then the answer tells that.
+-- then. A notice of silence is either: one of another epoch isn't taken, and then the answer tells that.
 abbrev pub Answers : Frame → List ℕ → Type 0
 Answers (Hello id) bytes = bytes ≡ []
 Answers (Peer peer) bytes = bytes ≡ []
@@ -77,8 +77,8 @@ Answers (Introduction opener) bytes = bytes ≡ []
 Answers (Accepted answer) bytes = bytes ≡ []
 Answers (Refused reason) bytes = bytes ≡ []
 Answers (Noted j) bytes = bytes ≡ []
-Answers (Reign reign) bytes = TellsHow (orders.Reign reign) bytes
-Answers (Beat beat) bytes = TellsHow (orders.Beat beat.reign (stamp_in beat.stamp)) bytes
+Answers (Reign epoch) bytes = TellsHow (orders.Reign epoch) bytes
+Answers (Beat beat) bytes = TellsHow (orders.Beat beat.epoch (stamp_in beat.stamp)) bytes
 Answers (frames.Alive alive) bytes = bytes ≡ []
 Answers (Silent silent) bytes =
-    TellsHow (orders.Silent silent.reign silent.id) bytes ⊎ (bytes ≡ spelling (Noted silent.id))
+    TellsHow (orders.Silent silent.epoch silent.id) bytes ⊎ (bytes ≡ spelling (Noted silent.id))

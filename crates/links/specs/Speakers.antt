@@ -3,8 +3,8 @@ use Rattle.std.specs.Prelude.{ℕ, List, [], ◌∷◌, ◌++◌, ◌≡◌, ◌
 use Rattle.ends.specs.Ends.{WritesBeginning}
 use Rattle.node.specs.declared.messages.Input.TheVariants as inputs
 use Rattle.peers.specs.declared.identities.Identity.{Identity}
-use Rattle.rail.specs.Inlets.{with_event}
-use Rattle.rail.specs.declared.events.Event.TheVariants.{Took}
+use Rattle.rail.specs.Inlets.{with_inbox_message}
+use Rattle.rail.specs.declared.inbox_messages.InboxMessage.TheVariants.{Took}
 use Rattle.wire.specs.declared.frames.Frame.{Frame}
 use Rattle.wire.specs.declared.frames.Frame.TheVariants.{Hello, Peer, Gone, Introduction, Accepted, Refused, Noted}
 use Rattle.wire.specs.declared.frames.Frame.TheVariants.{Reign, Beat, Alive, Silent}
@@ -20,17 +20,17 @@ Greets id (Server j inlet) = (j ≡ id) × (id ≢ 16)
 Greets id (Master told) = id ≡ 16
 
 -- what a frame makes of who speaks, if it is heard: a server sends messages, a master notices and orders, and what is
--- brought to the server are the messages and notices, in order. A notice of silence is brought if it is of the reign
+-- brought to the server are the messages and notices, in order. A notice of silence is brought if it is of the epoch
 -- that the server is in. Nobody greets twice, and who has opened the connection answers nothing
 abbrev pub Hears : Who → Frame → Who → Type 0
 Hears (Server i inlet) (Hello id) now = ⊥
-Hears (Server i inlet) (Peer peer) now = now ≡ Server i (with_event inlet (Took (inputs.From i peer)))
+Hears (Server i inlet) (Peer peer) now = now ≡ Server i (with_inbox_message inlet (Took (inputs.From i peer)))
 Hears (Server i inlet) (Gone j) now = ⊥
 Hears (Server i inlet) (Introduction opener) now = ⊥
 Hears (Server i inlet) (Accepted answer) now = ⊥
 Hears (Server i inlet) (Refused reason) now = ⊥
 Hears (Server i inlet) (Noted j) now = ⊥
-Hears (Server i inlet) (Reign reign) now = ⊥
+Hears (Server i inlet) (Reign epoch) now = ⊥
 Hears (Server i inlet) (Beat beat) now = ⊥
 Hears (Server i inlet) (Alive alive) now = ⊥
 Hears (Server i inlet) (Silent silent) now = ⊥
@@ -41,7 +41,7 @@ Hears (Master told) (Introduction opener) now = ⊥
 Hears (Master told) (Accepted answer) now = ⊥
 Hears (Master told) (Refused reason) now = ⊥
 Hears (Master told) (Noted j) now = ⊥
-Hears (Master told) (Reign reign) now = now ≡ Master told
+Hears (Master told) (Reign epoch) now = now ≡ Master told
 Hears (Master told) (Beat beat) now = now ≡ Master told
 Hears (Master told) (Alive alive) now = ⊥
 Hears (Master told) (Silent silent) now = (now ≡ Master (told ++ silent.id ∷ [])) ⊎ (now ≡ Master told)
@@ -62,7 +62,7 @@ NamesOneOf host (Introduction opener) = Unit {0}
 NamesOneOf host (Accepted answer) = Unit {0}
 NamesOneOf host (Refused reason) = Unit {0}
 NamesOneOf host (Noted j) = Unit {0}
-NamesOneOf host (Reign reign) = Unit {0}
+NamesOneOf host (Reign epoch) = Unit {0}
 NamesOneOf host (Beat beat) = Unit {0}
 NamesOneOf host (Alive alive) = Unit {0}
 NamesOneOf host (Silent silent) = silent.id < host.servers

@@ -2,21 +2,21 @@
 //! it. The ends are of any kind: this crate opens no socket and starts no thread.
 #![tactic(auto)]
 
-mod desks;
-mod guests;
-mod histories;
-mod lobbies;
+mod admissions;
+mod ghost_lists;
+mod greeter_inlets;
 mod notices;
 mod orders;
+mod peer_connections;
 mod peer_links;
-mod places;
+mod peer_ports;
 mod speakers;
 
-pub use desks::Desk;
-pub use guests::Guest;
-pub use histories::History;
-pub use lobbies::{Cuts, Lobby};
+pub use admissions::PeerAdmission;
+pub use ghost_lists::GhostList;
+pub use greeter_inlets::GreeterInlets;
 pub use orders::{Response, alive_of, order_of};
+pub use peer_connections::PeerConnection;
 pub use peer_links::{PeerLink, PeerLinks};
-pub use places::Places;
+pub use peer_ports::{Cuts, PeerPort};
 pub use speakers::Speaker;

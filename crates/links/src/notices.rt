@@ -1,10 +1,10 @@
 //! The notices that a master has brought.
 ghost use Rattle.std.specs.Prelude.{◌≡◌, ◌++◌, ◌∷◌, [], OnOk, OnErr};
 ghost use Rattle.node.specs.declared.messages.Input.TheVariants.{Gone};
-ghost use Rattle.rail.specs.Inlets.{with_event};
-ghost use Rattle.rail.specs.declared.events.Event.TheVariants.{Took};
+ghost use Rattle.rail.specs.Inlets.{with_inbox_message};
+ghost use Rattle.rail.specs.declared.inbox_messages.InboxMessage.TheVariants.{Took};
 
-use crate::histories::History;
+use crate::ghost_lists::GhostList;
 use peers::TakeFault;
 use rail::Inlet;
 use std::alloc::Global;
@@ -16,7 +16,7 @@ use std::sync::Wait;
 /// through an inlet. It takes no memory. Contracts see a list.
 #[derive(Drop)]
 pub struct Notices {
-    told: History<u8>,
+    told: GhostList<u8>,
 }
 
 impl Model for Notices {
@@ -33,7 +33,7 @@ impl Notices {
         ensures { result ≡ [] }
     {
         Notices {
-            told: History::new(alloc),
+            told: GhostList::new(alloc),
         }
     }
 
@@ -45,7 +45,7 @@ impl Notices {
         inlet: &mut Inlet,
         j: u8,
     ) -> Result<(), TakeFault>
-        ensures brought { OnOk result (inlet.new ≡ with_event inlet.old (Took (Gone j))) }
+        ensures brought { OnOk result (inlet.new ≡ with_inbox_message inlet.old (Took (Gone j))) }
         ensures told { OnOk result (self.new ≡ self.old ++ j ∷ []) }
         ensures refused { OnErr result (self.new ≡ self.old) }
     {

@@ -19,9 +19,9 @@ pub enum Response {
 
 /// A beat as a lease hears it. A stamp of 0 stands for none, so a server whose clock showed 0 loses one beat.
 pub fn order_of(beat: Beat) -> Order
-    ensures { result ≡ orders.Beat beat.reign (stamp_in beat.stamp) }
+    ensures { result ≡ orders.Beat beat.epoch (stamp_in beat.stamp) }
 {
-    Order::Beat(beat.reign, stamp_in(beat.stamp))
+    Order::Beat(beat.epoch, stamp_in(beat.stamp))
 }
 
 /// A report as a frame carries it: the term of a lease that has none is 0.
@@ -29,7 +29,7 @@ pub fn alive_of(report: Report) -> Alive
     ensures { result ≡ alive_of report }
 {
     Alive {
-        reign: report.reign,
+        epoch: report.epoch,
         stamp: report.stamp,
         end: report.end,
         term: number_of(report.term),

@@ -7,7 +7,7 @@ ghost use Rattle.node.specs.Lawful.{IsFit};
 ghost use Rattle.rail.specs.declared.faults.RailFault.TheVariants.{Memory, LinkDown};
 ghost use Rattle.links.specs.PeerLinks.{failures_at, written_at};
 
-use crate::histories::History;
+use crate::ghost_lists::GhostList;
 use ends::Sink;
 use node::Peer;
 use peers::{LinkFault, put_frame};
@@ -30,7 +30,7 @@ pub struct PeerLink<W> {
 pub struct PeerLinks<W> {
     alloc: Global,
     links: Vec<PeerLink<W>>,
-    puts: History<(u8, Peer)>,
+    puts: GhostList<(u8, Peer)>,
 }
 
 impl<W: Sink + Drop> PeerLink<W> {
@@ -96,7 +96,7 @@ impl<W: Sink + Drop> PeerLinks<W> {
         PeerLinks {
             alloc,
             links,
-            puts: History::new(alloc),
+            puts: GhostList::new(alloc),
         }
     }
 }

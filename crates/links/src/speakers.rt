@@ -4,13 +4,13 @@ ghost use Rattle.peers.specs.Links.{MayCome};
 ghost use Rattle.node.specs.Lawful.{IsBody};
 ghost use Rattle.links.specs.declared.speakers.Who.TheVariants.{Server, Master};
 ghost use Rattle.leases.specs.declared.orders.Order.TheVariants as orders;
-ghost use Rattle.links.specs.Lobbies.{host_of};
+ghost use Rattle.links.specs.PeerPorts.{host_of};
 ghost use Rattle.links.specs.Orders.{Answers, IsAnswer, NamesServer, TellsHow, bytes_of, stamp_in};
 ghost use Rattle.links.specs.Speakers.{Hears, NamesOneOf, Notes};
 
-use crate::lobbies::{Cuts, Lobby};
 use crate::notices::Notices;
 use crate::orders::{Response, alive_of, order_of};
+use crate::peer_ports::{Cuts, PeerPort};
 use leases::{Answer, Order};
 use node::{Peer, SERVERS, View};
 use peers::TakeFault;
@@ -20,11 +20,11 @@ use std::marker::Model;
 use std::sync::Wait;
 use wire::{Beat, Frame, Silent};
 
-/// Who speaks on an accepted connection. Only `Desk::admit` makes one: that of a server has the inlet that waited for
-/// it at its place, of which there is one, and which is given once (`Places::take`). So of the places of a desk each
-/// server gets one speaker at most, ever: who greets with an id that has greeted before gets none. This holds too of a
-/// desk that stands under a lock, as that of a `Lobby`, where no contract can say who greeted before.
-/// Contracts see who it is, and what it has brought (`Who`).
+/// Who speaks on an accepted connection. Only `PeerAdmission::admit` makes one: that of a server has the inlet that
+/// waited for it, of which there is one, and which is given once (`GreeterInlets::take`). So of the inlets of an
+/// admission each server gets one speaker at most, ever: who greets with an id that has greeted before gets none. This
+/// holds too of an admission that stands under a lock, as that of a `PeerPort`, where no contract can say who greeted
+/// before. Contracts see who it is, and what it has brought (`Who`).
 #[derive(Drop)]
 pub struct Speaker {
     who: Who,
@@ -75,17 +75,17 @@ impl Speaker {
     pub fn hear<R: Wait, C: Cuts>(
         &mut self,
         rt: &R,
-        lobby: &Lobby<C>,
+        shared_port: &PeerPort<C>,
         frame: Frame,
     ) -> Result<Response, TakeFault>
         requires { MayCome frame }
         ensures heard { OnOk result (Hears self.old frame self.new) }
         ensures answered { IfOk result (λ response. Answers frame (bytes_of response)) }
         ensures noted { IfOk result (λ response. Notes self.old response self.new) }
-        ensures chain { OnOk result (NamesOneOf (host_of lobby.now) frame) }
+        ensures chain { OnOk result (NamesOneOf (host_of shared_port.now) frame) }
         ensures refused { OnErr result (self.new ≡ self.old) }
     {
-        hear(rt, lobby, &mut self.who, frame)
+        hear(rt, shared_port, &mut self.who, frame)
     }
 }
 
@@ -93,7 +93,7 @@ impl Speaker {
 #[tactic(auto, using(crate::proofs::Telling::any_frame))]
 fn hear<R: Wait, C: Cuts>(
     rt: &R,
-    lobby: &Lobby<C>,
+    shared_port: &PeerPort<C>,
     who: &mut Who,
     frame: Frame,
 ) -> Result<Response, TakeFault>
@@ -101,15 +101,15 @@ fn hear<R: Wait, C: Cuts>(
     ensures heard { OnOk result (Hears who.old frame who.new) }
     ensures answered { IfOk result (λ response. Answers frame (bytes_of response)) }
     ensures noted { IfOk result (λ response. Notes who.old response who.new) }
-    ensures chain { OnOk result (NamesOneOf (host_of lobby.now) frame) }
+    ensures chain { OnOk result (NamesOneOf (host_of shared_port.now) frame) }
     ensures refused { OnErr result (who.new ≡ who.old) }
 {
     match frame {
         Frame::Peer(peer) => bring(rt, who, peer),
-        Frame::Gone(j) => tell(rt, lobby, who, j),
-        Frame::Reign(reign) => greet(rt, lobby, who, reign),
-        Frame::Beat(beat) => prolong(rt, lobby, who, beat),
-        Frame::Silent(silent) => silence(rt, lobby, who, silent),
+        Frame::Gone(j) => tell(rt, shared_port, who, j),
+        Frame::Reign(epoch) => greet(rt, shared_port, who, epoch),
+        Frame::Beat(beat) => prolong(rt, shared_port, who, beat),
+        Frame::Silent(silent) => silence(rt, shared_port, who, silent),
         Frame::Hello(_)
         | Frame::Introduction(_)
         | Frame::Accepted(_)
@@ -142,7 +142,7 @@ fn bring<R: Wait>(rt: &R, who: &mut Who, peer: Peer) -> Result<Response, TakeFau
 // Brings a notice that server `j` has failed, if a master speaks. The link to that server is cut first.
 fn tell<R: Wait, C: Cuts>(
     rt: &R,
-    lobby: &Lobby<C>,
+    shared_port: &PeerPort<C>,
     who: &mut Who,
     j: u8,
 ) -> Result<Response, TakeFault>
@@ -154,9 +154,9 @@ fn tell<R: Wait, C: Cuts>(
     match who {
         Who::Master(told) => {
             if j < SERVERS {
-                lobby.learn(rt, View::single(j));
+                shared_port.learn(rt, View::single(j));
             }
-            let mut inlet = lobby.notices().lock(rt);
+            let mut inlet = shared_port.notices().lock(rt);
             told.bring_notice(rt, &mut inlet, j)?;
             Ok(Response::Noted(j))
         }
@@ -164,19 +164,19 @@ fn tell<R: Wait, C: Cuts>(
     }
 }
 
-// A master of this reign greets, if a master speaks.
+// A master of this epoch greets, if a master speaks.
 fn greet<R: Wait, C: Cuts>(
     rt: &R,
-    lobby: &Lobby<C>,
+    shared_port: &PeerPort<C>,
     who: &Who,
-    reign: u64,
+    epoch: u64,
 ) -> Result<Response, TakeFault>
-    ensures heard { OnOk result (Hears who.now (Frame.Reign reign) who.now) }
-    ensures answered { IfOk result (λ response. TellsHow (orders.Reign reign) (bytes_of response)) }
+    ensures heard { OnOk result (Hears who.now (Frame.Reign epoch) who.now) }
+    ensures answered { IfOk result (λ response. TellsHow (orders.Reign epoch) (bytes_of response)) }
     ensures noted { IfOk result (λ response. Notes who.now response who.now) }
 {
     match who {
-        Who::Master(_) => report(rt, lobby, Order::Reign(reign)),
+        Who::Master(_) => report(rt, shared_port, Order::Reign(epoch)),
         Who::Server(..) => Err(TakeFault),
     }
 }
@@ -184,17 +184,17 @@ fn greet<R: Wait, C: Cuts>(
 // A beat came, if a master speaks.
 fn prolong<R: Wait, C: Cuts>(
     rt: &R,
-    lobby: &Lobby<C>,
+    shared_port: &PeerPort<C>,
     who: &Who,
     beat: Beat,
 ) -> Result<Response, TakeFault>
     ensures heard { OnOk result (Hears who.now (Frame.Beat beat) who.now) }
     ensures answered { IfOk result
-        (λ response. TellsHow (orders.Beat beat.reign (stamp_in beat.stamp)) (bytes_of response)) }
+        (λ response. TellsHow (orders.Beat beat.epoch (stamp_in beat.stamp)) (bytes_of response)) }
     ensures noted { IfOk result (λ response. Notes who.now response who.now) }
 {
     match who {
-        Who::Master(_) => report(rt, lobby, order_of(beat)),
+        Who::Master(_) => report(rt, shared_port, order_of(beat)),
         Who::Server(..) => Err(TakeFault),
     }
 }
@@ -202,18 +202,18 @@ fn prolong<R: Wait, C: Cuts>(
 // A notice of silence came, if a master speaks.
 fn silence<R: Wait, C: Cuts>(
     rt: &R,
-    lobby: &Lobby<C>,
+    shared_port: &PeerPort<C>,
     who: &mut Who,
     silent: Silent,
 ) -> Result<Response, TakeFault>
     ensures heard { OnOk result (Hears who.old (Frame.Silent silent) who.new) }
     ensures answered { IfOk result (λ response. Answers (Frame.Silent silent) (bytes_of response)) }
     ensures noted { IfOk result (λ response. Notes who.old response who.new) }
-    ensures chain { OnOk result (silent.id < (host_of lobby.now).servers) }
+    ensures chain { OnOk result (silent.id < (host_of shared_port.now).servers) }
     ensures refused { OnErr result (who.new ≡ who.old) }
 {
     match who {
-        Who::Master(told) => silence_by(rt, lobby, told, silent),
+        Who::Master(told) => silence_by(rt, shared_port, told, silent),
         Who::Server(..) => Err(TakeFault),
     }
 }
@@ -222,24 +222,24 @@ fn silence<R: Wait, C: Cuts>(
 #[tactic(auto, using(crate::proofs::Telling::tells_how))]
 fn silence_by<R: Wait, C: Cuts>(
     rt: &R,
-    lobby: &Lobby<C>,
+    shared_port: &PeerPort<C>,
     told: &mut Notices,
     silent: Silent,
 ) -> Result<Response, TakeFault>
     ensures told { OnOk result ((told.new ≡ told.old ++ silent.id ∷ []) ⊎ (told.new ≡ told.old)) }
     ensures answered { IfOk result (λ response. Answers (Frame.Silent silent) (bytes_of response)) }
     ensures noted { IfOk result (λ response. Notes (Master told.old) response (Master told.new)) }
-    ensures chain { OnOk result (silent.id < (host_of lobby.now).servers) }
+    ensures chain { OnOk result (silent.id < (host_of shared_port.now).servers) }
     ensures refused { OnErr result (told.new ≡ told.old) }
 {
-    let Silent { reign, id } = silent;
-    if id >= SERVERS || id >= lobby.host().servers {
+    let Silent { epoch, id } = silent;
+    if id >= SERVERS || id >= shared_port.host().servers {
         return Err(TakeFault);
     }
-    match heed(rt, lobby, Order::Silent(reign, id))? {
+    match heed(rt, shared_port, Order::Silent(epoch, id))? {
         Answer::Tells(report) => Ok(Response::Alive(alive_of(report))),
         Answer::Notes(named) => {
-            let mut inlet = lobby.notices().lock(rt);
+            let mut inlet = shared_port.notices().lock(rt);
             told.bring_notice(rt, &mut inlet, named)?;
             Ok(Response::Noted(named))
         }
@@ -248,24 +248,32 @@ fn silence_by<R: Wait, C: Cuts>(
 
 // How the server is, once its lease has heard an order that is no notice.
 #[tactic(auto, using(crate::proofs::Telling::tells_how))]
-fn report<R: Wait, C: Cuts>(rt: &R, lobby: &Lobby<C>, order: Order) -> Result<Response, TakeFault>
+fn report<R: Wait, C: Cuts>(
+    rt: &R,
+    shared_port: &PeerPort<C>,
+    order: Order,
+) -> Result<Response, TakeFault>
     requires server { NamesServer order }
     ensures answered { IfOk result (λ response. TellsHow order (bytes_of response)) }
     ensures noted { (told : List ℕ) → IfOk result (λ response. Notes (Master told) response (Master told)) }
 {
-    match heed(rt, lobby, order)? {
+    match heed(rt, shared_port, order)? {
         Answer::Tells(report) => Ok(Response::Alive(alive_of(report))),
         Answer::Notes(_) => Err(TakeFault),
     }
 }
 
 // What the server does with an order. The clock is read now that the order is here.
-fn heed<R: Wait, C: Cuts>(rt: &R, lobby: &Lobby<C>, order: Order) -> Result<Answer, TakeFault>
+fn heed<R: Wait, C: Cuts>(
+    rt: &R,
+    shared_port: &PeerPort<C>,
+    order: Order,
+) -> Result<Answer, TakeFault>
     requires server { NamesServer order }
     ensures { IfOk result (λ answer. IsAnswer order answer) }
 {
-    match lobby.cuts().now() {
-        Some(now) => Ok(lobby.hear(rt, order, now)),
+    match shared_port.cuts().now() {
+        Some(now) => Ok(shared_port.hear(rt, order, now)),
         None => Err(TakeFault),
     }
 }

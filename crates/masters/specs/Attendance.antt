@@ -4,22 +4,22 @@ use Rattle.std.specs.Prelude.{Option, None, Some}
 use Rattle.masters.specs.Notices.{and_one, is_among}
 use Rattle.masters.specs.declared.attendance.Attendance.{Attendance}
 
--- the master has another reign
+-- the master has another epoch
 abbrev pub begun : Attendance → ℕ → ℕ → Attendance
-begun a reign now = record a { reign = reign; since = now; entered = 0; missed = 0 }
+begun a epoch now = record a { epoch = epoch; since = now; entered = 0; missed = 0 }
 
--- a server told that it is in this reign
+-- a server told that it is in this epoch
 abbrev pub attended : Attendance → ℕ → ℕ → ℕ → Attendance
-attended a i reign now = record a {
+attended a i epoch now = record a {
   heard = max a.heard now;
   is_told = false;
-  entered = (if nat_eq a.reign reign then and_one a.entered i else a.entered);
+  entered = (if nat_eq a.epoch epoch then and_one a.entered i else a.entered);
 }
 
--- the reign has stood for so long, and this server didn't tell that it is in it
+-- the epoch has stood for so long, and this server didn't tell that it is in it
 abbrev pub is_absent : Attendance → ℕ → ℕ → ℕ → Bool
 is_absent a i patience now =
-    (nat_lt 0 a.reign && nat_le patience (now - a.since)) && not (is_among a.entered i)
+    (nat_lt 0 a.epoch && nat_le patience (now - a.since)) && not (is_among a.entered i)
 
 -- nobody was heard for so long, and that wasn't told
 abbrev pub is_quiet : Attendance → ℕ → ℕ → Bool

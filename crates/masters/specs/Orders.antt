@@ -15,9 +15,9 @@ number_of (Some number) = number
 
 -- an order as a frame
 abbrev pub frame_of : Order → Frame
-frame_of (orders.Reign reign) = frames.Reign reign
-frame_of (orders.Beat reign stamp) = frames.Beat (record { reign = reign; stamp = number_of stamp })
-frame_of (orders.Silent reign id) = frames.Silent (record { reign = reign; id = id })
+frame_of (orders.Reign epoch) = frames.Reign epoch
+frame_of (orders.Beat epoch stamp) = frames.Beat (record { epoch = epoch; stamp = number_of stamp })
+frame_of (orders.Silent epoch id) = frames.Silent (record { epoch = epoch; id = id })
 frame_of (orders.Gone id) = frames.Gone id
 
 -- a field that is the term of a lease, or says that it has none
@@ -26,7 +26,7 @@ IsTerm field = (field ≡ 0) ⊎ ((SECOND ≤ field) × (field ≤ LONGEST * SEC
 
 -- A frame says of a server what a report says.
 pub record Tells (alive : Alive) (report : Report) : Type 0 where
-  pub reign : report.reign ≡ alive.reign
+  pub epoch : report.epoch ≡ alive.epoch
   pub stamp : report.stamp ≡ alive.stamp
   pub end : report.end ≡ alive.end
   pub term : number_of report.term ≡ alive.term
@@ -35,7 +35,7 @@ pub record Tells (alive : Alive) (report : Report) : Type 0 where
 
 -- the server that an order names as silent or gone, if it does
 abbrev pub named_in : Order → Option ℕ
-named_in (orders.Reign reign) = None
-named_in (orders.Beat reign stamp) = None
-named_in (orders.Silent reign id) = Some id
+named_in (orders.Reign epoch) = None
+named_in (orders.Beat epoch stamp) = None
+named_in (orders.Silent epoch id) = Some id
 named_in (orders.Gone id) = Some id

@@ -1,21 +1,21 @@
 -- A master that watches: how a server stands with it, and what is due if the server is seen so (this project's rule).
 use Rattle.std.specs.Prelude.{ℕ, Bool, true, false, Option, None, Some, nat_eq, if◌then◌else◌}
-use Rattle.masters.specs.declared.standings.Standing.{Standing}
-use Rattle.masters.specs.declared.standings.Standing.TheVariants.{Unmet, Watched, Lost, Gone}
-use Rattle.masters.specs.declared.standings.Sight.{Sight}
-use Rattle.masters.specs.declared.standings.Sight.TheVariants.{Stands, Accepted, Refused, Replaced, Unreached}
-use Rattle.masters.specs.declared.standings.Deed.{Deed}
-use Rattle.masters.specs.declared.standings.Deed.TheVariants.{Wait, TellMet, TellLost, CallGone}
+use Rattle.masters.specs.declared.standings.WatchedStanding.{WatchedStanding}
+use Rattle.masters.specs.declared.standings.WatchedStanding.TheVariants.{Unmet, Watched, Lost, Gone}
+use Rattle.masters.specs.declared.standings.Observation.{Observation}
+use Rattle.masters.specs.declared.standings.Observation.TheVariants.{Stands, Accepted, Refused, Replaced, Unreached}
+use Rattle.masters.specs.declared.standings.Reaction.{Reaction}
+use Rattle.masters.specs.declared.standings.Reaction.TheVariants.{Wait, TellMet, TellLost, CallGone}
 
 -- it was reached, and wasn't called gone
-abbrev pub is_watched : Standing → Bool
+abbrev pub is_watched : WatchedStanding → Bool
 is_watched Unmet = false
 is_watched Watched = true
 is_watched Lost = true
 is_watched Gone = false
 
 -- the process that was reached has ended: nothing listens at its port, or another start does
-abbrev pub has_ended : Sight → Bool
+abbrev pub has_ended : Observation → Bool
 has_ended Stands = false
 has_ended Accepted = false
 has_ended Refused = true
@@ -23,7 +23,7 @@ has_ended Replaced = true
 has_ended Unreached = false
 
 -- what is due for a server that was never reached: it may not have been started yet
-abbrev pub unmet_due : Sight → Deed
+abbrev pub unmet_due : Observation → Reaction
 unmet_due Stands = Wait
 unmet_due Accepted = TellMet
 unmet_due Refused = Wait
@@ -31,7 +31,7 @@ unmet_due Replaced = Wait
 unmet_due Unreached = Wait
 
 -- what is due for one that was reached; the argument is what is due if it isn't reached any more: that is told once
-abbrev pub met_due : Deed → Sight → Deed
+abbrev pub met_due : Reaction → Observation → Reaction
 met_due unreached Stands = Wait
 met_due unreached Accepted = TellMet
 met_due unreached Refused = CallGone
@@ -39,20 +39,20 @@ met_due unreached Replaced = CallGone
 met_due unreached Unreached = unreached
 
 -- what is due
-abbrev pub due : Standing → Sight → Deed
-due Unmet sight = unmet_due sight
-due Watched sight = met_due TellLost sight
-due Lost sight = met_due Wait sight
-due Gone sight = Wait
+abbrev pub due : WatchedStanding → Observation → Reaction
+due Unmet observation = unmet_due observation
+due Watched observation = met_due TellLost observation
+due Lost observation = met_due Wait observation
+due Gone observation = Wait
 
 -- how the server stands once that was done
-abbrev pub standing_after : Standing → Deed → Standing
+abbrev pub standing_after : WatchedStanding → Reaction → WatchedStanding
 standing_after standing Wait = standing
 standing_after standing TellMet = Watched
 standing_after standing TellLost = Lost
 standing_after standing CallGone = Gone
 
 -- what it means that a start of a server has accepted a connection, if the first one is known
-abbrev pub seen_as : Option ℕ → ℕ → Sight
+abbrev pub seen_as : Option ℕ → ℕ → Observation
 seen_as None start = Accepted
 seen_as (Some known) start = if nat_eq known start then Accepted else Replaced

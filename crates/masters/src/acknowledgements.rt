@@ -18,10 +18,10 @@ const NEARLY: u64 = 100;
 
 /// What came of waiting for an answer.
 #[derive(Clone, Copy, PartialEq, Eq)]
-pub(crate) enum Heard {
+pub(crate) enum NotedAnswer {
     /// The answer.
     Noted,
-    /// The server told how it is: it is in another reign, and doesn't take the notice.
+    /// The server told how it is: it is in another epoch, and doesn't take the notice.
     Untaken,
     /// Nothing in time. The connection may stand.
     Late,
@@ -64,23 +64,23 @@ pub(crate) fn wait_for_noted<R: Clock>(
     stream: &TcpStream,
     j: u8,
     seconds: u64,
-) -> Result<Heard, AllocError> {
+) -> Result<NotedAnswer, AllocError> {
     let Ok(begun) = Instant::now(rt) else {
-        return Ok(Heard::Broken);
+        return Ok(NotedAnswer::Broken);
     };
     for _ in 0..MOST {
         let Some(left) = time_left(rt, begun, seconds) else {
-            return Ok(Heard::Late);
+            return Ok(NotedAnswer::Late);
         };
         match reply_on(rt, alloc, stream, left)? {
-            Some(Reply::Noted(id)) if id == j => return Ok(Heard::Noted),
+            Some(Reply::Noted(id)) if id == j => return Ok(NotedAnswer::Noted),
             Some(Reply::Noted(_)) => {}
-            Some(Reply::Alive) => return Ok(Heard::Untaken),
-            None if time_left(rt, begun, seconds).is_none() => return Ok(Heard::Late),
-            None => return Ok(Heard::Broken),
+            Some(Reply::Alive) => return Ok(NotedAnswer::Untaken),
+            None if time_left(rt, begun, seconds).is_none() => return Ok(NotedAnswer::Late),
+            None => return Ok(NotedAnswer::Broken),
         }
     }
-    Ok(Heard::Broken)
+    Ok(NotedAnswer::Broken)
 }
 
 // What a server answers to a notice.

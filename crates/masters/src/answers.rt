@@ -157,21 +157,21 @@ impl Answers {
         self.give(output, errors, who);
     }
 
-    /// Writes `+T s .. R`, R being the number of a reign.
-    pub(crate) fn reign<W: Sink, X: Sink>(
+    /// Writes `+T s .. R`, R being the number of an epoch.
+    pub(crate) fn epoch<W: Sink, X: Sink>(
         &mut self,
         output: &mut W,
         errors: &mut X,
         who: &str,
         milliseconds: u64,
         what: &[u8],
-        reign: u64,
+        epoch: u64,
     ) {
         self.begin_step(milliseconds);
         self.add(b" ");
         self.add(what);
         self.add(b" ");
-        self.add(Buffer::new().format(reign).as_bytes());
+        self.add(Buffer::new().format(epoch).as_bytes());
         self.give(output, errors, who);
     }
 

@@ -1,4 +1,4 @@
-//! Whom a master that beats hears: since when nobody, and who isn't in its reign; and whether it stood still itself. A
+//! Whom a master that beats hears: since when nobody, and who isn't in its epoch; and whether it stood still itself. A
 //! person reads of all three.
 ghost use Rattle.std.specs.Prelude.{◌≡◌, ◌&&◌, not, true, false};
 ghost use Rattle.masters.specs.Attendance.{attended, begun, is_absent, is_late, is_quiet, looked_at, pause_of};
@@ -10,8 +10,8 @@ use node::View;
 /// Whom a master hears. Times are nanoseconds of its clock.
 #[derive(Drop)]
 pub(crate) struct Attendance {
-    // The master's reign, or 0 if it has none, and since when.
-    reign: u64,
+    // The master's epoch, or 0 if it has none, and since when.
+    epoch: u64,
     since: u64,
     // The servers that told how they are in it.
     entered: View,
@@ -27,12 +27,12 @@ pub(crate) struct Attendance {
 impl Attendance {
     /// Of a master that has just started, when its clock shows `now`.
     pub(crate) fn new(now: u64) -> Attendance
-        ensures reign { result.reign ≡ 0 }
+        ensures epoch { result.epoch ≡ 0 }
         ensures heard { result.heard ≡ now }
         ensures looked { result.looked ≡ now }
     {
         Attendance {
-            reign: 0,
+            epoch: 0,
             since: now,
             entered: View::empty(),
             missed: View::empty(),
@@ -42,23 +42,23 @@ impl Attendance {
         }
     }
 
-    /// The master has this reign from now on, or none if it is 0.
-    pub(crate) fn begin(&mut self, reign: u64, now: u64)
-        ensures { self.new ≡ begun self.old reign now }
+    /// The master has this epoch from now on, or none if it is 0.
+    pub(crate) fn begin(&mut self, epoch: u64, now: u64)
+        ensures { self.new ≡ begun self.old epoch now }
     {
-        self.reign = reign;
+        self.epoch = epoch;
         self.since = now;
         self.entered = View::empty();
         self.missed = View::empty();
     }
 
-    /// Server `i` told that it is in this reign, and then the clock showed `now`.
-    pub(crate) fn hear(&mut self, i: u8, reign: u64, now: u64)
-        ensures { self.new ≡ attended self.old i reign now }
+    /// Server `i` told that it is in this epoch, and then the clock showed `now`.
+    pub(crate) fn hear(&mut self, i: u8, epoch: u64, now: u64)
+        ensures { self.new ≡ attended self.old i epoch now }
     {
         self.heard = self.heard.max(now);
         self.is_told = false;
-        if self.reign == reign {
+        if self.epoch == epoch {
             self.entered = and_one(self.entered, i);
         }
     }
@@ -87,8 +87,8 @@ impl Attendance {
         patience <= now.saturating_sub(self.looked)
     }
 
-    /// Whether it is told now that server `i` isn't in the master's reign, which has stood for this long: once in each
-    /// reign.
+    /// Whether it is told now that server `i` isn't in the master's epoch, which has stood for this long: once in each
+    /// epoch.
     pub(crate) fn misses(&mut self, i: u8, patience: u64, now: u64) -> bool
         ensures told { result ≡ (is_absent self.old i patience now && not (is_among self.old.missed i)) }
         ensures noted { result ≡ true → self.new ≡ record self.old { missed = and_one self.old.missed i } }
@@ -100,11 +100,11 @@ impl Attendance {
         once(&mut self.missed, i)
     }
 
-    // Whether the reign has stood for so long, and this server didn't tell that it is in it.
+    // Whether the epoch has stood for so long, and this server didn't tell that it is in it.
     fn is_absent(&self, i: u8, patience: u64, now: u64) -> bool
         ensures { result ≡ is_absent self.now i patience now }
     {
-        0 < self.reign && patience <= now.saturating_sub(self.since) && !is_among(self.entered, i)
+        0 < self.epoch && patience <= now.saturating_sub(self.since) && !is_among(self.entered, i)
     }
 
     /// Whether it is told now that no server was heard for this long: once, until one is.

@@ -1,14 +1,14 @@
-//! What a master that beats has for it: the warden by which it decides, and where its orders go.
+//! What a master that beats has for it: the master machine by which it decides, and where its orders go.
 ghost use Rattle.std.specs.Prelude.{◌≡◌, ◌≤◌, ◌*◌, not, true, false, None, IfSome};
-ghost use Rattle.leases.specs.Wardens.{patience_of};
+ghost use Rattle.leases.specs.MasterMachines.{patience_of};
 ghost use Rattle.masters.specs.Notices.{and_one, is_among};
 
 use crate::attendance::Attendance;
 use crate::command::TellFault;
 use crate::knowledge::Knowledge;
 use crate::notices::{and_one, is_among, once};
-use crate::watch_threads::Posts;
-use leases::{Due, Order, Paces, Report, Warden, nanoseconds_of};
+use crate::watch_threads::OrderSenders;
+use leases::{Due, MasterMachine, Order, Paces, Report, nanoseconds_of};
 use node::{SERVERS, View};
 use std::alloc::Global;
 use std::sync::Wait;
@@ -17,15 +17,15 @@ use std::time::Clock;
 /// For this many nanoseconds at most a master that beats waits for news: a minute.
 pub(crate) const LONGEST: u64 = 60_000_000_000;
 
-/// The warden of a chain, and where orders for its servers go.
+/// The master machine of a chain, and where orders for its servers go.
 #[derive(Drop)]
 pub(crate) struct Beats {
-    warden: Warden,
+    master_machine: MasterMachine,
     paces: Paces,
-    posts: Posts,
+    order_senders: OrderSenders,
     // The servers that those who watch them have reached: what is handed to them goes to no other start of the server.
     met: View,
-    // The servers of whose silence the others were told, in this reign and since a server was met.
+    // The servers of whose silence the others were told, in this epoch and since a server was met.
     told: View,
     // Those of which it was told that they have leases, and that these are too short.
     leased: View,
@@ -44,18 +44,18 @@ impl Beats {
         name: u32,
         servers: u8,
         paces: Paces,
-        posts: Posts,
+        order_senders: OrderSenders,
     ) -> Result<Beats, TellFault> {
         let Ok(reading) = rt.monotonic() else {
-            drop(posts);
+            drop(order_senders);
             return Err(TellFault::Run);
         };
         let now = nanoseconds_of(reading);
-        match new_warden(alloc, knowledge, name, servers, paces, now) {
-            Ok(warden) => Ok(Beats {
-                warden,
+        match new_master_machine(alloc, knowledge, name, servers, paces, now) {
+            Ok(master_machine) => Ok(Beats {
+                master_machine,
                 paces,
-                posts,
+                order_senders,
                 met: View::empty(),
                 told: View::empty(),
                 leased: View::empty(),
@@ -63,24 +63,24 @@ impl Beats {
                 attendance: Attendance::new(now),
             }),
             Err(fault) => {
-                drop(posts);
+                drop(order_senders);
                 Err(fault)
             }
         }
     }
 
-    /// A server told how it is, and then the clock showed `now`. It tells whether another reign has followed that of
+    /// A server told how it is, and then the clock showed `now`. It tells whether another epoch has followed that of
     /// the master.
     pub(crate) fn told(&mut self, i: u8, report: &Report, now: u64) -> bool {
         if i >= SERVERS {
             return false;
         }
-        let is_followed = self.warden.told(i, report, now);
+        let is_followed = self.master_machine.told(i, report, now);
         if is_followed {
             self.told = View::empty();
             self.attendance.begin(0, now);
         }
-        self.attendance.hear(i, report.reign, now);
+        self.attendance.hear(i, report.epoch, now);
         is_followed
     }
 
@@ -116,17 +116,17 @@ impl Beats {
         !self.paces.keep_up(term) && once(&mut self.short, i)
     }
 
-    /// Takes a new reign, if the master is to now that the clock is read.
+    /// Takes a new epoch, if the master is to now that the clock is read.
     pub(crate) fn claim<R: Clock>(&mut self, rt: &R) -> Option<u64> {
         let now = nanoseconds_of(rt.monotonic().ok()?);
-        let reign = self.warden.claim(now)?;
+        let epoch = self.master_machine.claim(now)?;
         self.told = View::empty();
-        self.attendance.begin(reign, now);
-        Some(reign)
+        self.attendance.begin(epoch, now);
+        Some(epoch)
     }
 
     /// The master looks, now that the clock is read. For how many nanoseconds it stood still, if that made beats late:
-    /// then the times of silence begin now, as the warden has them.
+    /// then the times of silence begin now, as the master machine has them.
     pub(crate) fn look<R: Clock>(&mut self, rt: &R) -> Option<u64> {
         let now = nanoseconds_of(rt.monotonic().ok()?);
         self.attendance.look(patience_of(self.paces), now)
@@ -151,7 +151,7 @@ impl Beats {
         }
     }
 
-    /// Whether it is told now that server `i`, which isn't gone, has entered the reign not within the time for which it
+    /// Whether it is told now that server `i`, which isn't gone, has entered the epoch not within the time for which it
     /// may be silent: then no lease is prolonged, if there are any. It counts as told then.
     pub(crate) fn misses<R: Clock>(&mut self, rt: &R, i: u8) -> bool {
         if self.leased.bits() == 0 {
@@ -168,7 +168,7 @@ impl Beats {
     /// What is due for server `i`, now that the clock is read. If it can't be, nothing is for a beat.
     pub(crate) fn due<R: Clock>(&mut self, rt: &R, i: u8) -> Due {
         match rt.monotonic() {
-            Ok(reading) => self.warden.next(i, nanoseconds_of(reading)),
+            Ok(reading) => self.master_machine.next(i, nanoseconds_of(reading)),
             Err(_) => Due::Wait(self.paces.beat),
         }
     }
@@ -176,15 +176,15 @@ impl Beats {
     /// Server `j` does nothing more.
     pub(crate) fn lose(&mut self, j: u8) {
         if j < SERVERS {
-            self.warden.lose(j);
+            self.master_machine.lose(j);
         }
     }
 
     /// Hands an order to who watches server `i`, and never waits. It is lost if several wait there already: then the
     /// server isn't reached.
     pub(crate) fn hand<R: Wait>(&self, rt: &R, i: u8, order: Order) {
-        if let Some(Some(post)) = self.posts.get(usize::from(i)) {
-            let _ = post.try_send(rt, order);
+        if let Some(Some(order_sender)) = self.order_senders.get(usize::from(i)) {
+            let _ = order_sender.try_send(rt, order);
         }
     }
 
@@ -197,7 +197,7 @@ impl Beats {
         }
     }
 
-    /// Whether the others are to be told now that server `j` was silent: once in a reign, and once more whenever a
+    /// Whether the others are to be told now that server `j` was silent: once in an epoch, and once more whenever a
     /// server was met. It counts as told then.
     pub(crate) fn tells_silence(&mut self, j: u8) -> bool
         ensures { result ≡ not (is_among self.old.told j) }
@@ -220,28 +220,28 @@ impl Beats {
     }
 }
 
-// The warden of a chain in which nobody was heard, when the clock shows `now`.
-fn new_warden(
+// The master machine of a chain in which nobody was heard, when the clock shows `now`.
+fn new_master_machine(
     alloc: Global,
     knowledge: &Knowledge,
     name: u32,
     servers: u8,
     paces: Paces,
     now: u64,
-) -> Result<Warden, TellFault> {
+) -> Result<MasterMachine, TellFault> {
     if servers > SERVERS {
         return Err(TellFault::Run);
     }
-    let mut warden = Warden::new(alloc, name, servers, paces, now)?;
+    let mut master_machine = MasterMachine::new(alloc, name, servers, paces, now)?;
     for i in 0..servers {
         if knowledge.is_gone(i) {
-            warden.lose(i);
+            master_machine.lose(i);
         }
     }
-    Ok(warden)
+    Ok(master_machine)
 }
 
-// If the master looked for the last time so long ago, beats go out too late: as its warden has it.
+// If the master looked for the last time so long ago, beats go out too late: as its master machine has it.
 fn patience_of(paces: Paces) -> u64
     ensures { result ≡ patience_of paces.beat paces.after }
 {

@@ -1,12 +1,12 @@
 //! What a master has to do with one server: the connection, and what is asked there.
 ghost use Rattle.std.specs.Prelude.{◌≡◌};
 
-use crate::acknowledgements::{Heard, put_order, wait_for_noted};
+use crate::acknowledgements::{NotedAnswer, put_order, wait_for_noted};
 use crate::greetings::{Channel, Greeted, greet};
 use crate::knowledge::Known;
 use crate::notices::Answer;
 use crate::orders::named_in;
-use crate::standings::{Sight, seen_as};
+use crate::standings::{Observation, seen_as};
 use ends::TrackedWriter;
 use leases::Order;
 use peers::Identity;
@@ -42,7 +42,7 @@ pub(crate) struct Contact {
 
 /// A server, and what came of its errand.
 #[derive(Drop)]
-pub(crate) struct Visit {
+pub(crate) struct DoneErrand {
     /// The server.
     pub(crate) contact: Contact,
     /// What came of it. Fails only if memory runs out.
@@ -91,10 +91,10 @@ impl Contact {
         self,
         rt: &R,
         identity: &Identity,
-    ) -> Visit {
+    ) -> DoneErrand {
         let mut contact = self;
         let answer = contact.answer(rt, identity);
-        Visit { contact, answer }
+        DoneErrand { contact, answer }
     }
 
     fn answer<R: Clock + Net<Listener = TcpListener, Stream = TcpStream>>(
@@ -135,10 +135,10 @@ impl Contact {
         seconds: u64,
     ) -> Result<Answer, AllocError> {
         match self.hear(rt, j, seconds)? {
-            Heard::Noted => return Ok(Answer::Done),
-            Heard::Untaken => return Ok(Answer::Untaken),
-            Heard::Late => return Ok(Answer::Silent),
-            Heard::Broken => {}
+            NotedAnswer::Noted => return Ok(Answer::Done),
+            NotedAnswer::Untaken => return Ok(Answer::Untaken),
+            NotedAnswer::Late => return Ok(Answer::Silent),
+            NotedAnswer::Broken => {}
         }
         let answer = self.open(rt, identity)?;
         if answer != Answer::Done && self.id != j {
@@ -147,9 +147,9 @@ impl Contact {
         }
         self.put(order)?;
         match self.hear(rt, j, seconds)? {
-            Heard::Noted => Ok(Answer::Done),
-            Heard::Untaken => Ok(Answer::Untaken),
-            Heard::Late | Heard::Broken => Ok(Answer::Silent),
+            NotedAnswer::Noted => Ok(Answer::Done),
+            NotedAnswer::Untaken => Ok(Answer::Untaken),
+            NotedAnswer::Late | NotedAnswer::Broken => Ok(Answer::Silent),
         }
     }
 
@@ -182,7 +182,7 @@ impl Contact {
         drop(self.stream.replace(inner));
         self.met(start, gone);
         match seen_as(self.known.start, start) {
-            Sight::Accepted => Answer::Done,
+            Observation::Accepted => Answer::Done,
             _ => Answer::Anew,
         }
     }
@@ -202,13 +202,13 @@ impl Contact {
     }
 
     // Waits for the answer to the notice that was written. The connection is closed if it is broken.
-    fn hear<R: Clock>(&mut self, rt: &R, j: u8, seconds: u64) -> Result<Heard, AllocError> {
+    fn hear<R: Clock>(&mut self, rt: &R, j: u8, seconds: u64) -> Result<NotedAnswer, AllocError> {
         let heard = match &self.stream {
             Some(stream) if self.is_put => wait_for_noted(rt, self.alloc, stream, j, seconds)?,
-            _ => Heard::Broken,
+            _ => NotedAnswer::Broken,
         };
         self.is_put = false;
-        if heard == Heard::Broken {
+        if heard == NotedAnswer::Broken {
             self.close();
         }
         Ok(heard)

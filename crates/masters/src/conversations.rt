@@ -2,7 +2,7 @@
 //! way back how the server is.
 
 use crate::acknowledgements::put_order;
-use crate::events::{News, Post};
+use crate::news::{News, NewsSender};
 use crate::orders::report_of;
 use crossbeam_channel::Receiver;
 use leases::{Order, nanoseconds_of};
@@ -25,7 +25,7 @@ const PIECE: usize = 256;
 
 /// What came on a connection.
 #[derive(Clone, Copy)]
-enum Came {
+enum ReadBytes {
     // So many bytes.
     Bytes(usize),
     // Nothing yet.
@@ -43,7 +43,7 @@ pub(crate) fn converse<R: Wait + Clock>(
     stream: &TcpStream,
     orders: &Receiver<Order>,
     frames: &mut Frames,
-    post: &Post,
+    news_sender: &NewsSender,
     id: u8,
 ) -> Result<bool, AllocError> {
     if !send_orders(rt, alloc, stream, orders)? {
@@ -51,12 +51,12 @@ pub(crate) fn converse<R: Wait + Clock>(
     }
     let mut piece = [0u8; PIECE];
     match read_soon(stream, piece.as_mut_slice()) {
-        Came::Bytes(count) => match piece.get(..count) {
-            Some(bytes) => hear(rt, frames, bytes, post, id),
+        ReadBytes::Bytes(count) => match piece.get(..count) {
+            Some(bytes) => hear(rt, frames, bytes, news_sender, id),
             None => Ok(false),
         },
-        Came::Nothing => Ok(true),
-        Came::End => Ok(false),
+        ReadBytes::Nothing => Ok(true),
+        ReadBytes::End => Ok(false),
     }
 }
 
@@ -79,20 +79,21 @@ fn send_orders<R: Wait>(
 }
 
 // Reads what is there, or comes soon.
-fn read_soon(stream: &TcpStream, piece: &mut [u8]) -> Came {
+fn read_soon(stream: &TcpStream, piece: &mut [u8]) -> ReadBytes {
     if stream
         .set_read_timeout(Some(Duration::from_millis(TICK)))
         .is_err()
     {
-        return Came::End;
+        return ReadBytes::End;
     }
     let mut source = stream;
     match source.read(piece) {
-        Ok(0) => Came::End,
-        Ok(count) => Came::Bytes(count),
+        Ok(0) => ReadBytes::End,
+        Ok(count) => ReadBytes::Bytes(count),
         Err(fault) => match fault.kind() {
-            ErrorKind::WouldBlock | ErrorKind::TimedOut | ErrorKind::Interrupted => Came::Nothing,
-            _ => Came::End,
+            ErrorKind::WouldBlock | ErrorKind::TimedOut | ErrorKind::Interrupted =>
+                ReadBytes::Nothing,
+            _ => ReadBytes::End,
         },
     }
 }
@@ -102,11 +103,11 @@ fn hear<R: Wait + Clock>(
     rt: &R,
     frames: &mut Frames,
     bytes: &[u8],
-    post: &Post,
+    news_sender: &NewsSender,
     id: u8,
 ) -> Result<bool, AllocError> {
     match frames.feed(bytes) {
-        Ok(()) => hear_frames(rt, frames, post, id),
+        Ok(()) => hear_frames(rt, frames, news_sender, id),
         Err(WireFault::Memory) => Err(AllocError),
         Err(_) => Ok(false),
     }
@@ -116,13 +117,13 @@ fn hear<R: Wait + Clock>(
 fn hear_frames<R: Wait + Clock>(
     rt: &R,
     frames: &mut Frames,
-    post: &Post,
+    news_sender: &NewsSender,
     id: u8,
 ) -> Result<bool, AllocError> {
     for _ in 0..PIECE {
         match next_report(frames)? {
             Next::Report(alive) => {
-                if !tell(rt, post, id, alive) {
+                if !tell(rt, news_sender, id, alive) {
                     return Ok(false);
                 }
             }
@@ -170,12 +171,12 @@ fn next_of(frame: &Frame) -> Next {
 
 // Puts a report, with what the clock shows now that it is here. It tells whether it is one. If the clock can't be read,
 // it is as if nothing had come.
-fn tell<R: Wait + Clock>(rt: &R, post: &Post, id: u8, alive: Alive) -> bool {
+fn tell<R: Wait + Clock>(rt: &R, news_sender: &NewsSender, id: u8, alive: Alive) -> bool {
     let Some(report) = report_of(alive) else {
         return false;
     };
     if let Ok(reading) = rt.monotonic() {
-        post.put(rt, News::Told(id, report, nanoseconds_of(reading)));
+        news_sender.put(rt, News::Told(id, report, nanoseconds_of(reading)));
     }
     true
 }

@@ -3,9 +3,9 @@
 use crate::answers::Answers;
 use crate::beats::Beats;
 use crate::command::{TellFault, WHO};
-use crate::events::{Event, News, milliseconds_of};
 use crate::knowledge::Knowledge;
 use crate::master_lines::tell_unnoted;
+use crate::news::{News, TimedNews, milliseconds_of};
 use crate::notices::done_in;
 use crate::orders::named_in;
 use crate::pending::Pending;
@@ -22,7 +22,7 @@ use std::time::{Clock, Duration, Instant};
 #[derive(Drop)]
 pub(crate) struct Ears {
     /// What the threads hear.
-    pub(crate) events: Receiver<Event>,
+    pub(crate) all_news: Receiver<TimedNews>,
     /// Where it puts that a line of the input was answered: the next one is read then.
     pub(crate) answered: Sender<()>,
 }
@@ -53,46 +53,46 @@ impl Decider {
                 return Err(TellFault::NoServer);
             }
             let wait = self.act(rt, settings, output, errors)?;
-            if let Some(event) = self.next_event(rt, wait)? {
-                self.take(rt, settings, output, errors, event)?;
+            if let Some(timed_news) = self.next_news(rt, wait)? {
+                self.take(rt, settings, output, errors, timed_news)?;
             }
         }
         unreachable!()
     }
 
     // What is new, if something is in this many nanoseconds; if there is no such number, it waits for it.
-    fn next_event<R: Wait + Clock>(
+    fn next_news<R: Wait + Clock>(
         &self,
         rt: &R,
         wait: Option<u64>,
-    ) -> Result<Option<Event>, TellFault> {
+    ) -> Result<Option<TimedNews>, TellFault> {
         let Some(wait) = wait else {
-            return match self.ears.events.recv(rt) {
-                Ok(event) => Ok(Some(event)),
+            return match self.ears.all_news.recv(rt) {
+                Ok(timed_news) => Ok(Some(timed_news)),
                 Err(_) => Err(TellFault::Run),
             };
         };
         match self
             .ears
-            .events
+            .all_news
             .recv_timeout(rt, Duration::from_nanos(wait))
         {
-            Ok(event) => Ok(Some(event)),
+            Ok(timed_news) => Ok(Some(timed_news)),
             Err(RecvTimeoutError::Timeout) => Ok(None),
             Err(RecvTimeoutError::Disconnected) => Err(TellFault::Run),
         }
     }
 
-    // Does what an event asks for.
+    // Does what news asks for.
     fn take<R: Wait + Clock, W: Sink, X: Sink>(
         &mut self,
         rt: &R,
         settings: &MasterSettings,
         output: &mut W,
         errors: &mut X,
-        event: Event,
+        timed_news: TimedNews,
     ) -> Result<(), TellFault> {
-        let Event { milliseconds, news } = event;
+        let TimedNews { milliseconds, news } = timed_news;
         if let Some((i, what)) = self.step_of(&news) {
             self.answers
                 .step(output, errors, WHO, milliseconds, i, what);

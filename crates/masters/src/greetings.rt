@@ -5,7 +5,7 @@ ghost use Rattle.wire.specs.Spellings.{IsInRange, spelling};
 ghost use Rattle.masters.specs.Greetings.{added_if, greeting, introduction_of};
 
 use crate::keepalive::keep_alive;
-use crate::short_frames::{Deadline, Heard, next_frame};
+use crate::short_frames::{Deadline, ReceivedFrame, next_frame};
 use bytes::BytesMut;
 use ends::TrackedWriter;
 use peers::{Identity, put_all};
@@ -336,7 +336,7 @@ pub(crate) fn next_small_frame<R: Clock>(
         return Ok(None);
     };
     match next_frame(rt, alloc, stream, deadline, SMALL)? {
-        Heard::Frame(frame) => Ok(Some(frame)),
-        Heard::Old | Heard::Nothing => Ok(None),
+        ReceivedFrame::Frame(frame) => Ok(Some(frame)),
+        ReceivedFrame::Old | ReceivedFrame::Nothing => Ok(None),
     }
 }

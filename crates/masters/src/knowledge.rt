@@ -2,7 +2,7 @@
 ghost use Rattle.std.specs.Prelude.{◌≡◌, bit_or};
 
 use crate::notices::{and_one, is_among};
-use crate::standings::{Sight, seen_as};
+use crate::standings::{Observation, seen_as};
 use node::{SERVERS, View};
 use std::alloc::{AllocError, Global};
 
@@ -26,7 +26,7 @@ impl Known {
 
     /// This start of it has accepted a connection, and told who has failed. Another start than is known is passed over.
     pub(crate) fn met(&mut self, start: u64, gone: u16) {
-        if seen_as(self.start, start) == Sight::Accepted {
+        if seen_as(self.start, start) == Observation::Accepted {
             self.start = Some(start);
             self.gone |= gone;
         }

@@ -16,7 +16,7 @@ pub(crate) fn tell_refusal<X: Sink>(
     i: u8,
     reason: Reason,
 ) {
-    say_place(errors, settings, i);
+    say_server(errors, settings, i);
     say(errors, " refuses this master: ");
     say_reason(errors, settings, reason);
 }
@@ -140,7 +140,7 @@ fn tell_host<X: Sink>(errors: &mut X, settings: &MasterSettings, i: u8) {
 
 // The beginning of a line on server i, which wasn't told that server j has failed.
 fn say_untold<X: Sink>(errors: &mut X, settings: &MasterSettings, i: u8, j: u8) {
-    say_place(errors, settings, i);
+    say_server(errors, settings, i);
     say(errors, " was not told that server ");
     say_number(errors, u16::from(j));
     say(errors, " is gone: ");
@@ -184,7 +184,7 @@ fn say_reason<X: Sink>(errors: &mut X, settings: &MasterSettings, reason: Reason
 }
 
 // The beginning of a line on server i.
-fn say_place<X: Sink>(errors: &mut X, settings: &MasterSettings, i: u8) {
+fn say_server<X: Sink>(errors: &mut X, settings: &MasterSettings, i: u8) {
     say(errors, "craq: server ");
     say_number(errors, u16::from(i));
     if let Some(host) = settings.hosts.get(usize::from(i)) {

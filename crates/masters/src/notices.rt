@@ -23,7 +23,7 @@ pub(crate) enum Answer {
     Refused(Reason),
     /// It is another start of the server than the master knew, and wasn't asked.
     Anew,
-    /// It doesn't take the notice, since it is in another reign.
+    /// It doesn't take the notice, since it is in another epoch.
     Untaken,
 }
 

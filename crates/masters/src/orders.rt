@@ -11,12 +11,12 @@ pub(crate) fn frame_of(order: Order) -> Frame
     ensures { result ≡ frame_of order }
 {
     match order {
-        Order::Reign(reign) => Frame::Reign(reign),
-        Order::Beat(reign, stamp) => Frame::Beat(Beat {
-            reign,
+        Order::Reign(epoch) => Frame::Reign(epoch),
+        Order::Beat(epoch, stamp) => Frame::Beat(Beat {
+            epoch,
             stamp: number_of(stamp),
         }),
-        Order::Silent(reign, id) => Frame::Silent(Silent { reign, id }),
+        Order::Silent(epoch, id) => Frame::Silent(Silent { epoch, id }),
         Order::Gone(id) => Frame::Gone(id),
     }
 }
@@ -46,7 +46,7 @@ pub(crate) fn report_of(alive: Alive) -> Option<Report>
 // What it says, if this is the term.
 fn report_with(alive: Alive, term: Option<Term>) -> Report
     ensures { result ≡ record {
-      reign = alive.reign;
+      epoch = alive.epoch;
       stamp = alive.stamp;
       end = alive.end;
       term = term;
@@ -55,7 +55,7 @@ fn report_with(alive: Alive, term: Option<Term>) -> Report
     } }
 {
     Report {
-        reign: alive.reign,
+        epoch: alive.epoch,
         stamp: alive.stamp,
         end: alive.end,
         term,

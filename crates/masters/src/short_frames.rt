@@ -31,7 +31,7 @@ impl Deadline {
 
 /// What came on a connection.
 #[derive(Drop)]
-pub enum Heard {
+pub enum ReceivedFrame {
     /// A frame.
     Frame(Frame),
     /// A byte as an older format begins with.
@@ -48,24 +48,24 @@ pub fn next_frame<R: Clock>(
     stream: &TcpStream,
     deadline: Deadline,
     most: usize,
-) -> Result<Heard, AllocError> {
+) -> Result<ReceivedFrame, AllocError> {
     let mut frames = Frames::new(alloc);
     for _ in 0..most {
         let Some(byte) = next_byte(rt, stream, deadline) else {
-            return Ok(Heard::Nothing);
+            return Ok(ReceivedFrame::Nothing);
         };
         if frames.feed(&[byte]).is_err() {
             return Err(AllocError);
         }
         match frames.next() {
-            Ok(Some(frame)) => return Ok(Heard::Frame(frame)),
+            Ok(Some(frame)) => return Ok(ReceivedFrame::Frame(frame)),
             Ok(None) => {}
             Err(WireFault::Memory) => return Err(AllocError),
-            Err(WireFault::OldFormat) => return Ok(Heard::Old),
-            Err(WireFault::Malformed | WireFault::Closed) => return Ok(Heard::Nothing),
+            Err(WireFault::OldFormat) => return Ok(ReceivedFrame::Old),
+            Err(WireFault::Malformed | WireFault::Closed) => return Ok(ReceivedFrame::Nothing),
         }
     }
-    Ok(Heard::Nothing)
+    Ok(ReceivedFrame::Nothing)
 }
 
 // The next byte, if it comes until the deadline.

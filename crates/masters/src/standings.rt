@@ -4,7 +4,7 @@ ghost use Rattle.masters.specs.Standings.{due, has_ended, is_watched, seen_as, s
 
 /// How a server stands with a master that watches.
 #[derive(Clone, Copy, PartialEq, Eq)]
-pub(crate) enum Standing {
+pub(crate) enum WatchedStanding {
     /// It was never reached.
     Unmet,
     /// It was reached, and nothing was told since.
@@ -17,7 +17,7 @@ pub(crate) enum Standing {
 
 /// What a watch sees of a server.
 #[derive(Clone, Copy, PartialEq, Eq)]
-pub(crate) enum Sight {
+pub(crate) enum Observation {
     /// The connection stands.
     Stands,
     /// The server has accepted a new connection: the same start of it as before, if it was reached before.
@@ -32,7 +32,7 @@ pub(crate) enum Sight {
 
 /// What is due then.
 #[derive(Clone, Copy)]
-pub(crate) enum Deed {
+pub(crate) enum Reaction {
     /// Nothing.
     Wait,
     /// To tell that the server has accepted a connection.
@@ -45,48 +45,51 @@ pub(crate) enum Deed {
 
 /// What is due if a server that stood so is seen so. It is called gone if it was reached and its process has ended, and
 /// in no other case.
-pub(crate) fn due(standing: Standing, sight: Sight) -> Deed
-    ensures deed { result ≡ due standing sight }
-    ensures gone { (result ≡ Deed.CallGone) ↔ ((is_watched standing ≡ true) × (has_ended sight ≡ true)) }
+pub(crate) fn due(standing: WatchedStanding, observation: Observation) -> Reaction
+    ensures reaction { result ≡ due standing observation }
+    ensures gone { (result ≡ Reaction.CallGone) ↔ ((is_watched standing ≡ true) × (has_ended observation ≡ true)) }
 {
     match standing {
-        Standing::Unmet => match sight {
-            Sight::Accepted => Deed::TellMet,
-            Sight::Stands | Sight::Refused | Sight::Replaced | Sight::Unreached => Deed::Wait,
+        WatchedStanding::Unmet => match observation {
+            Observation::Accepted => Reaction::TellMet,
+            Observation::Stands
+            | Observation::Refused
+            | Observation::Replaced
+            | Observation::Unreached => Reaction::Wait,
         },
-        Standing::Watched => match sight {
-            Sight::Stands => Deed::Wait,
-            Sight::Accepted => Deed::TellMet,
-            Sight::Refused | Sight::Replaced => Deed::CallGone,
-            Sight::Unreached => Deed::TellLost,
+        WatchedStanding::Watched => match observation {
+            Observation::Stands => Reaction::Wait,
+            Observation::Accepted => Reaction::TellMet,
+            Observation::Refused | Observation::Replaced => Reaction::CallGone,
+            Observation::Unreached => Reaction::TellLost,
         },
-        Standing::Lost => match sight {
-            Sight::Accepted => Deed::TellMet,
-            Sight::Refused | Sight::Replaced => Deed::CallGone,
-            Sight::Stands | Sight::Unreached => Deed::Wait,
+        WatchedStanding::Lost => match observation {
+            Observation::Accepted => Reaction::TellMet,
+            Observation::Refused | Observation::Replaced => Reaction::CallGone,
+            Observation::Stands | Observation::Unreached => Reaction::Wait,
         },
-        Standing::Gone => Deed::Wait,
+        WatchedStanding::Gone => Reaction::Wait,
     }
 }
 
 /// How the server stands once that was done.
-pub(crate) fn standing_after(standing: Standing, deed: Deed) -> Standing
-    ensures { result ≡ standing_after standing deed }
+pub(crate) fn standing_after(standing: WatchedStanding, reaction: Reaction) -> WatchedStanding
+    ensures { result ≡ standing_after standing reaction }
 {
-    match deed {
-        Deed::Wait => standing,
-        Deed::TellMet => Standing::Watched,
-        Deed::TellLost => Standing::Lost,
-        Deed::CallGone => Standing::Gone,
+    match reaction {
+        Reaction::Wait => standing,
+        Reaction::TellMet => WatchedStanding::Watched,
+        Reaction::TellLost => WatchedStanding::Lost,
+        Reaction::CallGone => WatchedStanding::Gone,
     }
 }
 
 /// What it means that this start of a server has accepted a connection, if that one is known.
-pub(crate) fn seen_as(known: Option<u64>, start: u64) -> Sight
+pub(crate) fn seen_as(known: Option<u64>, start: u64) -> Observation
     ensures { result ≡ seen_as known start }
 {
     match known {
-        Some(known) if known != start => Sight::Replaced,
-        _ => Sight::Accepted,
+        Some(known) if known != start => Observation::Replaced,
+        _ => Observation::Accepted,
     }
 }

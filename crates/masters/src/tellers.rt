@@ -5,7 +5,7 @@ ghost use Rattle.node.specs.Views.{single, union};
 ghost use Rattle.masters.specs.Errands.{asked, errands};
 
 use crate::command::TellFault;
-use crate::contacts::{Contact, Errand, Visit};
+use crate::contacts::{Contact, DoneErrand, Errand};
 use crate::knowledge::{Knowledge, Known};
 use crate::master_lines::tell_unmet;
 use crate::notices::{Answer, notices, refusal_in};
@@ -29,7 +29,7 @@ const PATIENCE: u64 = 5;
 /// How many seconds the failed one may take, whose answer doesn't count.
 const OWN_PATIENCE: u64 = 1;
 
-/// How many names of masters there are, by which their reigns are told apart: 2^32.
+/// How many names of masters there are, by which their epochs are told apart: 2^32.
 const NAMES: u64 = 0x1_0000_0000;
 
 /// What a master knows, and its connections.
@@ -205,7 +205,7 @@ impl Teller {
         )?;
         let mut answers = Vec::new(self.alloc);
         for visit in visits {
-            let Visit { contact, answer } = visit;
+            let DoneErrand { contact, answer } = visit;
             self.gone = self.gone.union(View::from_bits(contact.known().gone));
             self.contacts.push(contact)?;
             answers.push(answer?)?;

@@ -1,8 +1,8 @@
 //! The thread that gives the notices of a master that watches, so that the thread that decides waits for no server.
 
 use crate::command::TellFault;
-use crate::events::{News, Post};
 use crate::knowledge::Known;
+use crate::news::{News, NewsSender};
 use crate::notices::Answer;
 use crate::pending::Pending;
 use crate::tellers::Teller;
@@ -51,7 +51,7 @@ struct Telling {
     teller: Teller,
     requests: Receiver<Request>,
     outcomes: Sender<Outcome>,
-    post: Post,
+    news_sender: NewsSender,
 }
 
 /// Starts the thread, which puts there that something came of a notice. Fails only if memory or threads run out.
@@ -65,14 +65,14 @@ pub(crate) fn start_telling<
         + Send
         + Sync
         + 'static,
->(rt: R, alloc: Global, teller: Teller, post: Post) -> Result<Pending, AllocError> {
+>(rt: R, alloc: Global, teller: Teller, news_sender: NewsSender) -> Result<Pending, AllocError> {
     let (asks, requests) = bounded(alloc, REQUESTS)?;
     let (outcomes, given) = bounded(alloc, REQUESTS)?;
     let telling = Telling {
         teller,
         requests,
         outcomes,
-        post,
+        news_sender,
     };
     match thread::spawn(&rt, move || run(&rt, telling)) {
         Ok(thread) => {
@@ -113,7 +113,7 @@ impl Telling {
         match given {
             Ok(outcome) => self.put(rt, outcome),
             Err(fault) => {
-                self.post.put(rt, News::Fault(fault));
+                self.news_sender.put(rt, News::Fault(fault));
                 false
             }
         }
@@ -123,7 +123,7 @@ impl Telling {
     fn put<R: Wait + Clock>(&self, rt: &R, outcome: Outcome) -> bool {
         match self.outcomes.send(rt, outcome) {
             Ok(()) => {
-                self.post.put(rt, News::Given);
+                self.news_sender.put(rt, News::Given);
                 true
             }
             Err(refused) => {

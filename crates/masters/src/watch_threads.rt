@@ -1,12 +1,12 @@
 //! The threads of a master that watches: one for each server, and one for the lines of its input.
 
 use crate::command::TellFault;
-use crate::events::{News, Post};
 use crate::input_lines::{empty_line, next_line, server_named};
 use crate::knowledge::Knowledge;
+use crate::news::{News, NewsSender};
 use crate::settings::{MasterSettings, host_of, port_of};
 use crate::tellers::identity_of;
-use crate::watchers::{Place, Watcher};
+use crate::watchers::{WatchedServer, Watcher};
 use crossbeam_channel::{Receiver, Sender, bounded};
 use ends::{Source, TrackedReader};
 use leases::Order;
@@ -22,10 +22,10 @@ use std::time::{Clock, Duration};
 const ORDERS: usize = 4;
 
 /// Where orders for each server go, by its id: to none that is gone, and nowhere if the master doesn't beat.
-pub(crate) type Posts = Vec<Option<Sender<Order>>>;
+pub(crate) type OrderSenders = Vec<Option<Sender<Order>>>;
 
 /// Starts the threads that watch the servers, but those that are gone, which put what they hear there. Where orders for
-/// those who watch go is put to `posts`. Fails only if memory or threads run out.
+/// those who watch go is put to `order_senders`. Fails only if memory or threads run out.
 pub(crate) fn start_watchers<
     R: Wait
         + Threads
@@ -40,32 +40,40 @@ pub(crate) fn start_watchers<
     alloc: Global,
     settings: &MasterSettings,
     knowledge: &Knowledge,
-    post: &Post,
-    posts: &mut Posts,
+    news_sender: &NewsSender,
+    order_senders: &mut OrderSenders,
 ) -> Result<(), AllocError> {
     for i in 0..settings.numbers.servers {
         if knowledge.is_gone(i) {
-            posts.push(None)?;
+            order_senders.push(None)?;
         } else {
-            let orders = orders_for(alloc, settings, posts)?;
-            watch_server(rt, alloc, settings, i, post, knowledge.start(i), orders)?;
+            let orders = orders_for(alloc, settings, order_senders)?;
+            watch_server(
+                rt,
+                alloc,
+                settings,
+                i,
+                news_sender,
+                knowledge.start(i),
+                orders,
+            )?;
         }
     }
     Ok(())
 }
 
-// What is ordered for the next server, if the master beats. Where it goes is put to `posts`.
+// What is ordered for the next server, if the master beats. Where it goes is put to `order_senders`.
 fn orders_for(
     alloc: Global,
     settings: &MasterSettings,
-    posts: &mut Posts,
+    order_senders: &mut OrderSenders,
 ) -> Result<Option<Receiver<Order>>, AllocError> {
     if settings.beats.is_none() {
-        posts.push(None)?;
+        order_senders.push(None)?;
         return Ok(None);
     }
     let (sender, orders) = bounded(alloc, ORDERS)?;
-    match posts.push(Some(sender)) {
+    match order_senders.push(Some(sender)) {
         Ok(()) => Ok(Some(orders)),
         Err(refused) => {
             drop(refused);
@@ -90,12 +98,20 @@ fn watch_server<
     alloc: Global,
     settings: &MasterSettings,
     i: u8,
-    post: &Post,
+    news_sender: &NewsSender,
     start: Option<u64>,
     orders: Option<Receiver<Order>>,
 ) -> Result<(), AllocError> {
-    match place_of(&rt, alloc, settings, i) {
-        Ok(place) => watch_place(rt, alloc, settings, place, post, start, orders),
+    match watched_server_of(&rt, alloc, settings, i) {
+        Ok(watched_server) => watch_one(
+            rt,
+            alloc,
+            settings,
+            watched_server,
+            news_sender,
+            start,
+            orders,
+        ),
         Err(AllocError) => {
             drop(orders);
             Err(AllocError)
@@ -104,13 +120,13 @@ fn watch_server<
 }
 
 // Where server i is.
-fn place_of<R: Clock>(
+fn watched_server_of<R: Clock>(
     rt: &R,
     alloc: Global,
     settings: &MasterSettings,
     i: u8,
-) -> Result<Place, AllocError> {
-    Ok(Place {
+) -> Result<WatchedServer, AllocError> {
+    Ok(WatchedServer {
         id: i,
         host: host_of(alloc, settings, i)?,
         port: port_of(settings.numbers.peer_port, i),
@@ -119,7 +135,7 @@ fn place_of<R: Clock>(
 }
 
 // Starts the thread that watches the server there, which puts what it hears there too.
-fn watch_place<
+fn watch_one<
     R: Wait
         + Threads
         + Clock
@@ -132,15 +148,23 @@ fn watch_place<
     rt: R,
     alloc: Global,
     settings: &MasterSettings,
-    place: Place,
-    post: &Post,
+    watched_server: WatchedServer,
+    news_sender: &NewsSender,
     start: Option<u64>,
     orders: Option<Receiver<Order>>,
 ) -> Result<(), AllocError> {
-    match post.another() {
-        Ok(post) => start_watcher(rt, alloc, settings, place, post, start, orders),
+    match news_sender.another() {
+        Ok(news_sender) => start_watcher(
+            rt,
+            alloc,
+            settings,
+            watched_server,
+            news_sender,
+            start,
+            orders,
+        ),
         Err(AllocError) => {
-            drop(place);
+            drop(watched_server);
             drop(orders);
             Err(AllocError)
         }
@@ -161,13 +185,13 @@ fn start_watcher<
     rt: R,
     alloc: Global,
     settings: &MasterSettings,
-    place: Place,
-    post: Post,
+    watched_server: WatchedServer,
+    news_sender: NewsSender,
     start: Option<u64>,
     orders: Option<Receiver<Order>>,
 ) -> Result<(), AllocError> {
     let beat = Duration::from_millis(u64::from(settings.numbers.beat));
-    let watcher = Watcher::new(alloc, place, post, beat, start, orders);
+    let watcher = Watcher::new(alloc, watched_server, news_sender, beat, start, orders);
     match thread::spawn(&rt, move || run(&rt, watcher)) {
         Ok(thread) => {
             drop(thread);
@@ -195,19 +219,19 @@ pub(crate) fn start_reading<R: Wait + Threads + Clock + Copy + Drop + Send + 'st
     alloc: Global,
     servers: u8,
     input: Stdin,
-    post: Post,
+    news_sender: NewsSender,
 ) -> Result<Sender<()>, AllocError> {
     let line = match empty_line(alloc) {
         Ok(line) => line,
         Err(AllocError) => {
-            drop(post);
+            drop(news_sender);
             return Err(AllocError);
         }
     };
     let (answered, answers) = bounded(alloc, 1)?;
     let reading = Reading {
         line,
-        post,
+        news_sender,
         answers,
     };
     match thread::spawn(&rt, move || read_lines(&rt, servers, input, reading)) {
@@ -228,7 +252,7 @@ struct Reading {
     // Room for a line.
     line: Vec<u8>,
     // What lines name goes there.
-    post: Post,
+    news_sender: NewsSender,
     // It comes from there that a line was answered.
     answers: Receiver<()>,
 }
@@ -250,12 +274,13 @@ impl Reading {
     fn go_on<R: Wait + Clock, S: Source>(&mut self, rt: &R, servers: u8, input: &mut S) -> bool {
         match next_line(input, &mut self.line) {
             Ok(true) => {
-                self.post.put(rt, named_by(self.line.as_slice(), servers));
+                self.news_sender
+                    .put(rt, named_by(self.line.as_slice(), servers));
                 self.answers.recv(rt).is_ok()
             }
             Ok(false) => false,
             Err(AllocError) => {
-                self.post.put(rt, News::Fault(TellFault::Memory));
+                self.news_sender.put(rt, News::Fault(TellFault::Memory));
                 false
             }
         }

@@ -3,9 +3,9 @@
 
 use crate::command::TellFault;
 use crate::conversations::converse;
-use crate::events::{News, Post};
 use crate::greetings::{Channel, Greeted, greet};
-use crate::standings::{Deed, Sight, Standing, due, seen_as, standing_after};
+use crate::news::{News, NewsSender};
+use crate::standings::{Observation, Reaction, WatchedStanding, due, seen_as, standing_after};
 use crossbeam_channel::Receiver;
 use ends::TrackedWriter;
 use leases::Order;
@@ -29,7 +29,7 @@ const STALE: u8 = 8;
 
 /// Where a server is, and how its watcher introduces itself.
 #[derive(Drop)]
-pub(crate) struct Place {
+pub(crate) struct WatchedServer {
     /// The server's id.
     pub(crate) id: u8,
     /// Its host.
@@ -44,11 +44,11 @@ pub(crate) struct Place {
 #[derive(Drop)]
 pub(crate) struct Watcher {
     alloc: Global,
-    place: Place,
-    post: Post,
+    watched_server: WatchedServer,
+    news_sender: NewsSender,
     // So long it waits for the connection's end, and so long it pauses between two tries to connect.
     beat: Duration,
-    standing: Standing,
+    standing: WatchedStanding,
     // The number of the server's start, once it was reached, and who is gone as far as it knows.
     start: Option<u64>,
     gone: u16,
@@ -65,20 +65,20 @@ impl Watcher {
     /// it beats.
     pub(crate) fn new(
         alloc: Global,
-        place: Place,
-        post: Post,
+        watched_server: WatchedServer,
+        news_sender: NewsSender,
         beat: Duration,
         start: Option<u64>,
         orders: Option<Receiver<Order>>,
     ) -> Watcher {
         Watcher {
             alloc,
-            place,
-            post,
+            watched_server,
+            news_sender,
             beat,
             standing: match start {
-                Some(_) => Standing::Watched,
-                None => Standing::Unmet,
+                Some(_) => WatchedStanding::Watched,
+                None => WatchedStanding::Unmet,
             },
             start,
             gone: 0,
@@ -105,16 +105,16 @@ impl Watcher {
     ) {
         for _ in rt.forever() {
             match self.look(rt, frames) {
-                Ok(sight) => {
-                    self.pass_over(rt, sight);
-                    self.act(rt, due(self.standing, sight));
+                Ok(observation) => {
+                    self.pass_over(rt, observation);
+                    self.act(rt, due(self.standing, observation));
                 }
                 Err(AllocError) => {
-                    self.post.put(rt, News::Fault(TellFault::Memory));
+                    self.news_sender.put(rt, News::Fault(TellFault::Memory));
                     return;
                 }
             }
-            if self.standing == Standing::Gone {
+            if self.standing == WatchedStanding::Gone {
                 return;
             }
             if self.stream.is_none() {
@@ -126,8 +126,8 @@ impl Watcher {
 
     // Once a server is reached again, what was ordered while it wasn't is passed over: what the master orders now that
     // it is has room then.
-    fn pass_over<R: Wait>(&mut self, rt: &R, sight: Sight) {
-        if sight != Sight::Accepted || !self.has_lost {
+    fn pass_over<R: Wait>(&mut self, rt: &R, observation: Observation) {
+        if observation != Observation::Accepted || !self.has_lost {
             return;
         }
         self.has_lost = false;
@@ -141,17 +141,17 @@ impl Watcher {
     }
 
     // Does what is due.
-    fn act<R: Wait + Clock>(&mut self, rt: &R, deed: Deed) {
-        self.standing = standing_after(self.standing, deed);
-        let id = self.place.id;
-        match deed {
-            Deed::Wait => {}
-            Deed::TellMet => {
+    fn act<R: Wait + Clock>(&mut self, rt: &R, reaction: Reaction) {
+        self.standing = standing_after(self.standing, reaction);
+        let id = self.watched_server.id;
+        match reaction {
+            Reaction::Wait => {}
+            Reaction::TellMet => {
                 let start = self.start.unwrap_or(0);
-                self.post.put(rt, News::Met(id, start, self.gone));
+                self.news_sender.put(rt, News::Met(id, start, self.gone));
             }
-            Deed::TellLost => self.post.put(rt, News::Lost(id)),
-            Deed::CallGone => self.post.put(rt, News::Ended(id)),
+            Reaction::TellLost => self.news_sender.put(rt, News::Lost(id)),
+            Reaction::CallGone => self.news_sender.put(rt, News::Ended(id)),
         }
     }
 
@@ -160,16 +160,17 @@ impl Watcher {
         &mut self,
         rt: &R,
         frames: &mut Frames,
-    ) -> Result<Sight, AllocError> {
+    ) -> Result<Observation, AllocError> {
         if self.stream.is_some() {
             if self.attend(rt, frames)? {
-                return Ok(Sight::Stands);
+                return Ok(Observation::Stands);
             }
             self.has_lost = true;
-            self.post.put(rt, News::Broken(self.place.id));
+            self.news_sender
+                .put(rt, News::Broken(self.watched_server.id));
         }
         drop(mem::replace(frames, Frames::new(self.alloc)));
-        if self.standing == Standing::Watched {
+        if self.standing == WatchedStanding::Watched {
             self.open_soon(rt)
         } else {
             self.open(rt)
@@ -189,8 +190,8 @@ impl Watcher {
                 stream,
                 orders,
                 frames,
-                &self.post,
-                self.place.id,
+                &self.news_sender,
+                self.watched_server.id,
             ),
             None => Ok(stands(stream, self.beat)),
         }
@@ -201,52 +202,52 @@ impl Watcher {
     fn open_soon<R: Clock + Net<Listener = TcpListener, Stream = TcpStream>>(
         &mut self,
         rt: &R,
-    ) -> Result<Sight, AllocError> {
+    ) -> Result<Observation, AllocError> {
         let begun = Instant::now(rt).ok();
         for _ in 0..TRIES {
-            let sight = self.open(rt)?;
-            if sight != Sight::Unreached || !is_soon(rt, begun) {
-                return Ok(sight);
+            let observation = self.open(rt)?;
+            if observation != Observation::Unreached || !is_soon(rt, begun) {
+                return Ok(observation);
             }
             thread::sleep(rt, Duration::from_millis(PAUSE));
         }
-        Ok(Sight::Unreached)
+        Ok(Observation::Unreached)
     }
 
     // Connects anew, once.
     fn open<R: Clock + Net<Listener = TcpListener, Stream = TcpStream>>(
         &mut self,
         rt: &R,
-    ) -> Result<Sight, AllocError> {
+    ) -> Result<Observation, AllocError> {
         drop(self.stream.take());
-        let place = &self.place;
+        let watched_server = &self.watched_server;
         let greeted = greet(
             rt,
             self.alloc,
-            place.host.as_str(),
-            place.port,
-            &place.identity,
+            watched_server.host.as_str(),
+            watched_server.port,
+            &watched_server.identity,
         )?;
         match greeted {
             Greeted::Accepted(channel) => Ok(self.enter(channel)),
-            Greeted::NoListener => Ok(Sight::Refused),
-            Greeted::Refused(_) | Greeted::NoHost | Greeted::NoAnswer => Ok(Sight::Unreached),
+            Greeted::NoListener => Ok(Observation::Refused),
+            Greeted::Refused(_) | Greeted::NoHost | Greeted::NoAnswer => Ok(Observation::Unreached),
         }
     }
 
     // Takes a connection that the server has accepted.
-    fn enter(&mut self, channel: Channel) -> Sight {
+    fn enter(&mut self, channel: Channel) -> Observation {
         let Channel { sink, start, gone } = channel;
         let TrackedWriter { inner, .. } = sink;
-        let sight = seen_as(self.start, start);
-        if sight == Sight::Accepted {
+        let observation = seen_as(self.start, start);
+        if observation == Observation::Accepted {
             self.start = Some(start);
             self.gone = gone;
             drop(self.stream.replace(inner));
         } else {
             drop(inner);
         }
-        sight
+        observation
     }
 }
 

@@ -6,12 +6,12 @@ use crate::answers::Answers;
 use crate::beats::Beats;
 use crate::command::{TellFault, status_of};
 use crate::deciding::{Decider, Ears};
-use crate::events::{Event, Post};
 use crate::knowledge::Knowledge;
+use crate::news::{NewsSender, TimedNews};
 use crate::settings::MasterSettings;
 use crate::tellers::Teller;
 use crate::telling::start_telling;
-use crate::watch_threads::{Posts, start_reading, start_watchers};
+use crate::watch_threads::{OrderSenders, start_reading, start_watchers};
 use crossbeam_channel::{Receiver, bounded};
 use ends::Sink;
 use std::alloc::{AllocError, Global};
@@ -21,8 +21,8 @@ use std::sync::Wait;
 use std::thread::Threads;
 use std::time::{Clock, Instant};
 
-/// How many events may wait.
-const EVENTS: usize = 64;
+/// How much news may wait.
+const MOST_NEWS: usize = 64;
 
 /// Does what `master` does, and watches the servers too: if the process of one of them has ended, which was reached
 /// before, the others are told that it is gone. The process has ended if its connection has, and if then its host
@@ -117,13 +117,22 @@ fn start<
 ) -> Result<Decider, TellFault> {
     let name = teller.name();
     let knowledge = teller.knowledge()?;
-    let (sender, events) = bounded(alloc, EVENTS)?;
-    let post = Post::new(sender, begun);
-    match start_watching(rt, alloc, settings, &knowledge, name, &post) {
-        Ok(beats) => start_others(rt, alloc, teller, knowledge, beats, input, post, events),
+    let (sender, all_news) = bounded(alloc, MOST_NEWS)?;
+    let news_sender = NewsSender::new(sender, begun);
+    match start_watching(rt, alloc, settings, &knowledge, name, &news_sender) {
+        Ok(beats) => start_others(
+            rt,
+            alloc,
+            teller,
+            knowledge,
+            beats,
+            input,
+            news_sender,
+            all_news,
+        ),
         Err(fault) => {
-            drop(events);
-            drop(post);
+            drop(all_news);
+            drop(news_sender);
             drop(teller);
             Err(fault)
         }
@@ -146,13 +155,20 @@ fn start_watching<
     settings: &MasterSettings,
     knowledge: &Knowledge,
     name: u32,
-    post: &Post,
+    news_sender: &NewsSender,
 ) -> Result<Option<Beats>, TellFault> {
-    let mut posts = Vec::new(alloc);
-    match start_watchers(rt, alloc, settings, knowledge, post, &mut posts) {
-        Ok(()) => beats_of(&rt, alloc, settings, knowledge, name, posts),
+    let mut order_senders = Vec::new(alloc);
+    match start_watchers(
+        rt,
+        alloc,
+        settings,
+        knowledge,
+        news_sender,
+        &mut order_senders,
+    ) {
+        Ok(()) => beats_of(&rt, alloc, settings, knowledge, name, order_senders),
         Err(AllocError) => {
-            drop(posts);
+            drop(order_senders);
             Err(TellFault::Memory)
         }
     }
@@ -165,10 +181,10 @@ fn beats_of<R: Clock>(
     settings: &MasterSettings,
     knowledge: &Knowledge,
     name: u32,
-    posts: Posts,
+    order_senders: OrderSenders,
 ) -> Result<Option<Beats>, TellFault> {
     let Some(paces) = settings.beats else {
-        drop(posts);
+        drop(order_senders);
         return Ok(None);
     };
     let beats = Beats::new(
@@ -178,7 +194,7 @@ fn beats_of<R: Clock>(
         name,
         settings.numbers.servers,
         paces,
-        posts,
+        order_senders,
     )?;
     Ok(Some(beats))
 }
@@ -201,20 +217,20 @@ fn start_others<
     knowledge: Knowledge,
     beats: Option<Beats>,
     input: Stdin,
-    post: Post,
-    events: Receiver<Event>,
+    news_sender: NewsSender,
+    all_news: Receiver<TimedNews>,
 ) -> Result<Decider, TellFault> {
-    let begun = post.begun();
+    let begun = news_sender.begun();
     let servers = teller.servers();
     let answers = Answers::new(alloc)?;
-    let pending = start_telling(rt, alloc, teller, post.another()?)?;
-    let answered = start_reading(rt, alloc, servers, input, post)?;
+    let pending = start_telling(rt, alloc, teller, news_sender.another()?)?;
+    let answered = start_reading(rt, alloc, servers, input, news_sender)?;
     Ok(Decider {
         knowledge,
         pending,
         answers,
         begun,
-        ears: Ears { events, answered },
+        ears: Ears { all_news, answered },
         beats,
     })
 }

@@ -18,7 +18,7 @@ use Rattle.node.specs.declared.messages.Input.{Input}
 use Rattle.node.specs.declared.messages.Input.TheVariants.{Call as Called, From, Gone}
 use Rattle.node.specs.declared.messages.Output.{Output}
 use Rattle.node.specs.Views.{has, is_that}
-use Rattle.node.specs.Servers.{ServerState, Outcome, most, head_of, tail_of, is_head, is_tail, previous, next}
+use Rattle.node.specs.Servers.{ServerState, RuleResult, most, head_of, tail_of, is_head, is_tail, previous, next}
 use Rattle.node.specs.Servers.{message_to}
 use Rattle.node.specs.Numbering.{left_open_by, reply_to, replies, newly_acked, rise, appended}
 use Rattle.node.specs.Numbering.{passed_on, is_taken, entry_of, take_update, entered, is_room_for_update, called, update}
@@ -62,7 +62,7 @@ module _ (id count : ℕ) where
       (replies_others own es (left_open_by own pend e))
 
 -- what a rule makes of this server goes to others
-abbrev Others : ServerState → Outcome → Type 0
+abbrev Others : ServerState → RuleResult → Type 0
 Others s a = AreToOthers s.id s.count a.outputs
 
 -- the same of a server in its place
@@ -119,8 +119,9 @@ others_does (a ∷ later) c s other g =
     (moved s t _ seat (others_does later (left c) t
     (λ m e. other m (came_left c _ e ∙ ap (λ i. Some (From i m)) seat.id)) g.2))
 
-others_done : (c : Cause) (s : ServerState) (a : Outcome) → IsOther c s.id → IsDone c s a → Others s a
-others_done c s a other d = subst (λ (o : Outcome). Others s o) (sym d.same) (others_does d.actions c s other d.guarded)
+others_done : (c : Cause) (s : ServerState) (a : RuleResult) → IsOther c s.id → IsDone c s a → Others s a
+others_done c s a other d =
+    subst (λ (o : RuleResult). Others s o) (sym d.same) (others_does d.actions c s other d.guarded)
 
 -- ---- by the rules, for any call and any message
 
@@ -131,7 +132,7 @@ others_rise s n placed = others_append s.id s.count (replies s.id s.pend (newly_
 
 others_passed_on : (s : ServerState) (e : LogEntry) → s.id < s.count → Others s (passed_on s e)
 unfolding passed_on
-others_passed_on s e placed = cond_both (is_tail s) _ _ (λ (a : Outcome). Others s a)
+others_passed_on s e placed = cond_both (is_tail s) _ _ (λ (a : RuleResult). Others s a)
     (λ t. others_rise s (last_number s.store) placed)
     (λ f. others_to s.id s.count s (next s) (Forward e) (λ j f. to_next s j placed f))
 
@@ -143,29 +144,29 @@ others_take_update : (s : ServerState) (origin id : ℕ) (made : Call)
     → s.id < s.count
     → Others s (take_update s origin id made)
 unfolding take_update
-others_take_update s origin id made placed = cond_both (is_taken s origin id) _ _ (λ (a : Outcome). Others s a)
+others_take_update s origin id made placed = cond_both (is_taken s origin id) _ _ (λ (a : RuleResult). Others s a)
     (λ t. others_passed s (entry_of s origin id made) placed)
     (λ f. tt)
 
 others_called : (s : ServerState) (id : ℕ) (made : Call) → s.id < s.count → Others s (called s id made)
-others_called s id made placed = cond_both (is_head s) _ _ (λ (a : Outcome). Others s a)
+others_called s id made placed = cond_both (is_head s) _ _ (λ (a : RuleResult). Others s a)
     (λ t. others_take_update s s.id id made placed)
     (λ f. others_to s.id s.count s (head_of s) (Op id made) (λ j e. to_head s j f e))
 
 others_update : (s : ServerState) (port : ℕ) (made : Call) → s.id < s.count → Others s (update s port made)
 unfolding entered
-others_update s port made placed = cond_both (is_room_for_update s) _ _ (λ (a : Outcome). Others s a)
+others_update s port made placed = cond_both (is_room_for_update s) _ _ (λ (a : RuleResult). Others s a)
     (λ t. others_called (entered s port made) s.next_id made placed)
     (λ f. tt)
 
 others_dirty_read : (s : ServerState) (port : ℕ) (key : List ℕ) → is_tail s ≡ false → Others s (dirty_read s port key)
 unfolding dirty_read asked
-others_dirty_read s port key apart = cond_both (nat_lt s.next_ask most) _ _ (λ (a : Outcome). Others s a)
+others_dirty_read s port key apart = cond_both (nat_lt s.next_ask most) _ _ (λ (a : RuleResult). Others s a)
     (λ t. others_to s.id s.count s (tail_of s) (Query s.next_ask key) (λ j e. to_tail s j apart e))
     (λ f. tt)
 
 others_read_of : (s : ServerState) (port : ℕ) (target : Target) → IsSettled s → Others s (read_of s port target)
-others_read_of s port (One key) settled = cond_both (is_clean s.store key) _ _ (λ (a : Outcome). Others s a)
+others_read_of s port (One key) settled = cond_both (is_clean s.store key) _ _ (λ (a : RuleResult). Others s a)
     (λ t. (tt, tt))
     (λ f. others_dirty_read s port key (dirty_elsewhere s key settled f))
 others_read_of s port All settled = tt
@@ -174,7 +175,7 @@ others_answered : (s : ServerState) (ask n : ℕ) (r : Option OpenRead) → Othe
 unfolding answered
 others_answered s ask n None = tt
 others_answered s ask n (Some r) =
-    cond_both (nat_le r.mark n && nat_le n (last_number s.store)) _ _ (λ (a : Outcome). Others s a)
+    cond_both (nat_le r.lower_bound n && nat_le n (last_number s.store)) _ _ (λ (a : RuleResult). Others s a)
     (λ t. (tt, tt)) (λ f. tt)
 
 others_receive : (s : ServerState) (i : ℕ) (body : Body)
@@ -183,22 +184,22 @@ others_receive : (s : ServerState) (i : ℕ) (body : Body)
     → i ≢ s.id
     → Others s (receive s i body)
 others_receive s i (Op id made) placed low other =
-    cond_both (is_head s && is_update made.op) _ _ (λ (a : Outcome). Others s a)
+    cond_both (is_head s && is_update made.op) _ _ (λ (a : RuleResult). Others s a)
     (λ t. others_take_update s i id made placed) (λ f. tt)
 others_receive s i (Forward e) placed low other =
-    cond_both (is_that (previous s) i && e.number == last_number s.store + 1) _ _ (λ (a : Outcome). Others s a)
+    cond_both (is_that (previous s) i && e.number == last_number s.store + 1) _ _ (λ (a : RuleResult). Others s a)
     (λ t. others_passed s e placed) (λ f. tt)
 others_receive s i (Ack n) placed low other =
     cond_both (is_that (next s) i && nat_lt s.store.acked n && nat_le n (last_number s.store)) _ _
-    (λ (a : Outcome). Others s a) (λ t. others_rise s n placed) (λ f. tt)
+    (λ (a : RuleResult). Others s a) (λ t. others_rise s n placed) (λ f. tt)
 others_receive s i (Query ask key) placed low other =
-    cond_both (is_tail s) _ _ (λ (a : Outcome). Others s a) (λ t. ((low, other), tt)) (λ f. tt)
+    cond_both (is_tail s) _ _ (λ (a : RuleResult). Others s a) (λ t. ((low, other), tt)) (λ f. tt)
 others_receive s i (Answer ask n) placed low other =
-    cond_both (is_that (tail_of s) i) _ _ (λ (a : Outcome). Others s a)
+    cond_both (is_that (tail_of s) i) _ _ (λ (a : RuleResult). Others s a)
     (λ t. others_answered s ask n (open_read s.asks ask)) (λ f. tt)
 
 others_from_peer : (s : ServerState) (i : ℕ) (m : Peer) → IsSound s → IsSettled s → Others s (from_peer s i m)
-others_from_peer s i m h settled = cond_both (is_heard s i m.view) _ _ (λ (a : Outcome). Others s a)
+others_from_peer s i m h settled = cond_both (is_heard s i m.view) _ _ (λ (a : RuleResult). Others s a)
     (λ t.
     let from = heard s i m.view t in
     let other = λ (e : i ≡ s.id). eqb-false i s.id from.other e in
@@ -209,14 +210,14 @@ others_from_peer s i m h settled = cond_both (is_heard s i m.view) _ _ (λ (a : 
     let seat = seat_after c s _ first in
     others_append s.id s.count _ _
     (others_done c s _ (λ n e. (let same : i ≡ s.id = cc in other same)) first)
-    (moved s t _ seat (cond_both (has t.view i) _ _ (λ (a : Outcome). Others t a) (λ _. tt)
+    (moved s t _ seat (cond_both (has t.view i) _ _ (λ (a : RuleResult). Others t a) (λ _. tt)
     (λ _. others_receive t i m.body (omega (arith, seat.id, seat.count, h.placed))
     (omega (arith, seat.count, from.placed)) (λ e. other (e ∙ seat.id))))))
     (λ f. tt)
 
 -- what a step of a lawful server puts out
 pub others_taken_in : (s : ServerState) (input : Input) → IsSound s → IsSettled s → Others s (taken_in s input)
-others_taken_in s (Called port made) h settled = cond_both (is_update made.op) _ _ (λ (a : Outcome). Others s a)
+others_taken_in s (Called port made) h settled = cond_both (is_update made.op) _ _ (λ (a : RuleResult). Others s a)
     (λ t. others_update s port made h.placed) (λ f. others_read_of s port made.target settled)
 others_taken_in s (From i m) h settled = others_from_peer s i m h settled
 others_taken_in s (Gone j) h settled =

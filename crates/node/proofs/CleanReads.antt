@@ -9,7 +9,7 @@ use Rattle.versions.specs.Stores.{StoreState, dropped_to, is_clean, value_at, la
 use Rattle.node.specs.declared.looks.Look.TheVariants.{Clean, Dirty}
 use Rattle.node.specs.declared.messages.Input.TheVariants.{Call as Called}
 use Rattle.node.specs.declared.messages.Output.TheVariants.{Reply as Replied}
-use Rattle.node.specs.Servers.{ServerState, Outcome, putting, reply_at}
+use Rattle.node.specs.Servers.{ServerState, RuleResult, putting, reply_at}
 use Rattle.node.specs.Lawful.{IsLawful}
 use Rattle.node.specs.Reading.{read, dirty_read}
 use Rattle.node.specs.Steps.{step, trimmed}
@@ -44,9 +44,9 @@ pub clean_step : (s : ServerState) (c : ℕ) (key : List ℕ) (item : Option Ite
     ≡ record { state = s; outputs = Replied c (Value item) ∷ [] }
 clean_step s c key item l e =
     let f = clean_by s key item e in
-    let answer : Outcome = putting s (reply_at c (Value (value_at s.store key (last_number s.store)))) in
+    let answer : RuleResult = putting s (reply_at c (Value (value_at s.store key (last_number s.store)))) in
     let is : read s c key ≡ answer = ap (λ b. cond b answer (dirty_read s c key)) f.0 in
-    ap (λ (a : Outcome). record { state = trimmed a.state; outputs = a.outputs }) is
+    ap (λ (a : RuleResult). record { state = trimmed a.state; outputs = a.outputs }) is
     ∙ ap (λ t. record { state = t; outputs = Replied c (Value (value_at s.store key (last_number s.store))) ∷ [] })
     (trimmed_same s l)
     ∙ ap (λ v. record { state = s; outputs = Replied c (Value v) ∷ [] }) f.1

@@ -10,7 +10,7 @@ use Rattle.versions.specs.Entries.{LogEntry}
 use Rattle.versions.specs.Stores.{value_at}
 use Rattle.node.specs.declared.servers.OpenRead.{OpenRead}
 use Rattle.node.specs.declared.messages.Input.TheVariants.{Call as Called}
-use Rattle.node.specs.Servers.{ServerState, Outcome, reply_at}
+use Rattle.node.specs.Servers.{ServerState, RuleResult, reply_at}
 use Rattle.node.specs.Numbering.{appended, left_open_by, reply_to}
 use Rattle.node.specs.Reading.{open_read, without_read}
 use Rattle.node.specs.Joining.{widened}
@@ -25,7 +25,7 @@ use Rattle.node.proofs.DoneActions.{came_left, seat_after}
 use Rattle.node.proofs.StoreChanges.{log_entry}
 
 -- the same server of the same chain, and with the calls that are open then, the replies are those that were open
-pub record Closes (s : ServerState) (a : Outcome) : Type 0 where
+pub record Closes (s : ServerState) (a : RuleResult) : Type 0 where
   pub id : a.state.id ≡ s.id
   pub count : a.state.count ≡ s.count
   pub calls : (port : ℕ) (reads : Bool)
@@ -85,13 +85,13 @@ does_closes (a ∷ later) c s port reads g none =
     omega (arith, first, rest, count-append (is_reply_at port reads) (act s a).outputs (does u later).outputs)
 
 -- so does what such actions make
-pub closes-done : (c : Cause) (s : ServerState) (a : Outcome) → IsNoCall c → IsDone c s a → Closes s a
+pub closes-done : (c : Cause) (s : ServerState) (a : RuleResult) → IsNoCall c → IsDone c s a → Closes s a
 closes-done c s a none d =
     let seat = seat_after c s a d in
     record {
       id = seat.id;
       count = seat.count;
       calls = λ port reads. subst
-          (λ (o : Outcome). open_at port reads o.state + replies_at port reads o.outputs ≡ open_at port reads s)
+          (λ (o : RuleResult). open_at port reads o.state + replies_at port reads o.outputs ≡ open_at port reads s)
           (sym d.same) (does_closes d.actions c s port reads d.guarded none);
     }

@@ -9,7 +9,7 @@ use Rattle.node.specs.declared.messages.Input.{Input}
 use Rattle.node.specs.declared.messages.Input.TheVariants.{Call as Called, From, Gone}
 use Rattle.node.specs.declared.messages.Output.{Output}
 use Rattle.node.specs.Views.{has}
-use Rattle.node.specs.Servers.{ServerState, Outcome, silent, putting, and_then, message_to}
+use Rattle.node.specs.Servers.{ServerState, RuleResult, silent, putting, and_then, message_to}
 use Rattle.node.specs.Lawful.{IsSound}
 use Rattle.node.specs.Actions.{Action, Widen, Append, Reach, Settle, Send, Finish, Trim, Enter, Ask, Show, act, does}
 use Rattle.node.specs.Actions.{Cause, left, IsMade, IsPassed, MaySend, Guard, AreGuarded, IsDone, Due, IsTurn, IsTurnOf}
@@ -25,7 +25,7 @@ unfolding does
 does-append s [] ys = refl
 does-append s (a ∷ xs) ys =
     let t = (act s a).state in
-    ap (λ (r : Outcome). and_then (act s a) (λ _. r)) (does-append t xs ys)
+    ap (λ (r : RuleResult). and_then (act s a) (λ _. r)) (does-append t xs ys)
     ∙ ap (λ (os : List Output). record { state = (does (does t xs).state ys).state; outputs = os })
     (sym (append_assoc (act s a).outputs (does t xs).outputs _))
 
@@ -134,16 +134,16 @@ grown_does (a ∷ later) c s g =
 -- ---- rules that are lists of actions
 
 -- what such a rule leaves is sound, in its place, and knows no less
-pub sound_after : (c : Cause) (s : ServerState) (a : Outcome) → IsDone c s a → IsSound a.state
-sound_after c s a h = subst (λ (r : Outcome). IsSound r.state) (sym h.same) (guarded_end h.actions c s h.guarded)
+pub sound_after : (c : Cause) (s : ServerState) (a : RuleResult) → IsDone c s a → IsSound a.state
+sound_after c s a h = subst (λ (r : RuleResult). IsSound r.state) (sym h.same) (guarded_end h.actions c s h.guarded)
 
 -- a rule that is a list of guarded actions leaves a server its id and the count of servers
-pub seat_after : (c : Cause) (s : ServerState) (a : Outcome) → IsDone c s a → IsSeatOf s a.state
-seat_after c s a h = subst (λ (r : Outcome). IsSeatOf s r.state) (sym h.same) (seat_does h.actions s)
+pub seat_after : (c : Cause) (s : ServerState) (a : RuleResult) → IsDone c s a → IsSeatOf s a.state
+seat_after c s a h = subst (λ (r : RuleResult). IsSeatOf s r.state) (sym h.same) (seat_does h.actions s)
 
 -- what a server knows and has numbered only grows by a rule that is a list of guarded actions
-pub grown_after : (c : Cause) (s : ServerState) (a : Outcome) → IsDone c s a → Grown s a.state
-grown_after c s a h = subst (λ (r : Outcome). Grown s r.state) (sym h.same) (grown_does h.actions c s h.guarded)
+pub grown_after : (c : Cause) (s : ServerState) (a : RuleResult) → IsDone c s a → Grown s a.state
+grown_after c s a h = subst (λ (r : RuleResult). Grown s r.state) (sym h.same) (grown_does h.actions c s h.guarded)
 
 -- ---- rules that are lists of actions in turn
 
@@ -162,13 +162,14 @@ due_then [] ys d s = refl
 due_then (a ∷ xs) ys d s = due_then xs ys (due d s a) (act s a).state
 
 -- a list of actions in turn, and P holds of what is due after them
-pub record IsTurned (c : Cause) (s : ServerState) (d : Due) (a : Outcome) (P : Due → Type 0) : Type 0 where
+pub record IsTurned (c : Cause) (s : ServerState) (d : Due) (a : RuleResult) (P : Due → Type 0) : Type 0 where
   pub done : IsDone c s a
   pub turns : AreInTurn d s done.actions
   pub after : P (due_in_the_end d s done.actions)
 
 -- one list in turn, and then another
-pub turned_then : (c : Cause) (s : ServerState) (d : Due) (a : Outcome) (rule : ServerState → Outcome) (Q : Due → Type 0)
+pub turned_then : (c : Cause) (s : ServerState) (d : Due) (a : RuleResult) (rule : ServerState → RuleResult)
+    (Q : Due → Type 0)
     (h : IsDone c s a)
     → AreInTurn d s h.actions
     → (g : IsDone (left c) a.state (rule a.state))
@@ -183,24 +184,25 @@ turned_then c s d a rule Q h first g second q =
       done = record {
         actions = xs ++ ys;
         guarded = guarded_then xs ys c s h.guarded
-            (subst (λ (r : Outcome). AreGuarded (left c) r.state ys) h.same g.guarded);
-        same = ap (λ (r : Outcome). and_then a (λ _. r)) g.same ∙ ap (λ (r : Outcome). and_then r (λ t. does t ys))
+            (subst (λ (r : RuleResult). AreGuarded (left c) r.state ys) h.same g.guarded);
+        same = ap (λ (r : RuleResult). and_then a (λ _. r)) g.same
+            ∙ ap (λ (r : RuleResult). and_then r (λ t. does t ys))
             h.same ∙ sym (does-append s xs ys);
       };
-      turns = turns_then xs ys d s first (subst (λ (r : Outcome). AreInTurn e r.state ys) h.same second);
+      turns = turns_then xs ys d s first (subst (λ (r : RuleResult). AreInTurn e r.state ys) h.same second);
       after = subst Q (sym (due_then xs ys d s))
-          (subst (λ (r : Outcome). Q (due_in_the_end e r.state ys)) h.same q);
+          (subst (λ (r : RuleResult). Q (due_in_the_end e r.state ys)) h.same q);
     }
 
 -- A rule is a list of actions in turn, and P holds of what is due after them. None of them moves the floor.
-pub record IsRule (c : Cause) (s : ServerState) (d : Due) (a : Outcome) (P : Due → Type 0) : Type 0 where
+pub record IsRule (c : Cause) (s : ServerState) (d : Due) (a : RuleResult) (P : Due → Type 0) : Type 0 where
   pub done : IsDone c s a
   pub turns : AreInTurn d s done.actions
   pub after : P (due_in_the_end d s done.actions)
   pub grows : Grows s a.state
 
 -- an outcome that equals a rule's is that rule
-pub rule_as : (c : Cause) (s : ServerState) (d : Due) (a b : Outcome) (P : Due → Type 0)
+pub rule_as : (c : Cause) (s : ServerState) (d : Due) (a b : RuleResult) (P : Due → Type 0)
     → b ≡ a
     → IsRule c s d a P
     → IsRule c s d b P
@@ -208,11 +210,11 @@ rule_as c s d a b P e h = record {
   done = record { actions = h.done.actions; guarded = h.done.guarded; same = e ∙ h.done.same };
   turns = h.turns;
   after = h.after;
-  grows = subst (λ (r : Outcome). Grows s r.state) (sym e) h.grows;
+  grows = subst (λ (r : RuleResult). Grows s r.state) (sym e) h.grows;
 }
 
 -- what follows from what P says of the things due holds after the rule as well
-pub rule_so : (c : Cause) (s : ServerState) (d : Due) (a : Outcome) (P Q : Due → Type 0)
+pub rule_so : (c : Cause) (s : ServerState) (d : Due) (a : RuleResult) (P Q : Due → Type 0)
     → ((e : Due) → P e → Q e)
     → IsRule c s d a P
     → IsRule c s d a Q
@@ -253,7 +255,7 @@ rule_one c s d a P other h g turn p = record {
 }
 
 -- one rule, and then another
-pub rule_then : (c : Cause) (s : ServerState) (d : Due) (a : Outcome) (rule : ServerState → Outcome)
+pub rule_then : (c : Cause) (s : ServerState) (d : Due) (a : RuleResult) (rule : ServerState → RuleResult)
     (P Q : Due → Type 0)
     → IsRule c s d a P
     → ((e : Due) → P e → IsSound a.state → IsRule (left c) a.state e (rule a.state) Q)
@@ -269,7 +271,8 @@ rule_then c s d a rule P Q h f =
     }
 
 -- one action, and then a rule
-pub rule_first : (c : Cause) (s : ServerState) (d : Due) (a : Action) (rule : ServerState → Outcome) (Q : Due → Type 0)
+pub rule_first : (c : Cause) (s : ServerState) (d : Due) (a : Action) (rule : ServerState → RuleResult)
+    (Q : Due → Type 0)
     → is_trim a ≡ false
     → IsSound s
     → Guard c s a

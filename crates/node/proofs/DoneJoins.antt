@@ -14,7 +14,7 @@ use Rattle.node.specs.declared.servers.OpenRead.{OpenRead}
 use Rattle.node.specs.declared.messages.Body.TheVariants.{Op, Forward, Ack, Query}
 use Rattle.node.specs.declared.messages.Output.{Output}
 use Rattle.node.specs.Views.{View, has, union, is_below, adds, head, tail, predecessor, successor, is_that, is_same}
-use Rattle.node.specs.Servers.{ServerState, Outcome, head_of, tail_of, is_head, is_tail, previous, next, silent}
+use Rattle.node.specs.Servers.{ServerState, RuleResult, head_of, tail_of, is_head, is_tail, previous, next, silent}
 use Rattle.node.specs.Servers.{putting, message_to, reply_at}
 use Rattle.node.specs.Numbering.{appended, entry_of, is_taken, taken, risen}
 use Rattle.node.specs.Reading.{open_read, without_read}
@@ -122,10 +122,10 @@ placed_taken_all (u ∷ us) s =
 
 placed_second : (old : View) (s : ServerState) → IsPlacedAs s (promoted_to_head old s).state
 unfolding promoted_to_head
-placed_second old s = cond_both (is_head s) _ _ (λ (a : Outcome). IsPlacedAs s a.state)
-    (λ t. cond_both (is_that (head old s.count) s.id) _ _ (λ (a : Outcome). IsPlacedAs s a.state)
+placed_second old s = cond_both (is_head s) _ _ (λ (a : RuleResult). IsPlacedAs s a.state)
+    (λ t. cond_both (is_that (head old s.count) s.id) _ _ (λ (a : RuleResult). IsPlacedAs s a.state)
     (λ u. placed_self s) (λ u. placed_taken_all s.pend s))
-    (λ f. cond_both (is_same (head old s.count) (head_of s)) _ _ (λ (a : Outcome). IsPlacedAs s a.state)
+    (λ f. cond_both (is_same (head old s.count) (head_of s)) _ _ (λ (a : RuleResult). IsPlacedAs s a.state)
     (λ u. placed_self s) (λ u. placed_self s))
 
 -- what couldn't be taken still can't, as calls with greater ids are
@@ -245,8 +245,9 @@ rule_promoted_to_head : (c : Cause) (old : View) (s : ServerState) (d : Due)
     → d.unsent ≡ cond (is_same (head old s.count) (head_of s)) [] s.pend
     → IsRule c s d (promoted_to_head old s) (IsHeaded (promoted_to_head old s).state d)
 unfolding promoted_to_head
-rule_promoted_to_head c old s d h due = cond_both (is_head s) _ _ (λ (a : Outcome). IsRule c s d a (IsHeaded a.state d))
-    (λ t. cond_both (is_that (head old s.count) s.id) _ _ (λ (a : Outcome). IsRule c s d a (IsHeaded a.state d))
+rule_promoted_to_head c old s d h due =
+    cond_both (is_head s) _ _ (λ (a : RuleResult). IsRule c s d a (IsHeaded a.state d))
+    (λ t. cond_both (is_that (head old s.count) s.id) _ _ (λ (a : RuleResult). IsRule c s d a (IsHeaded a.state d))
     (λ u. (let none : d.unsent ≡ [] = rw (same_self _ _ s.id (that_is _ s.id u) (that_is _ s.id t)) at due in
     rule_silent c s d _ h
     (headed s d d d.unsent refl (λ _. none) (λ _ v i. absurd (nothing_in v (subst (λ us. In v us) none i))))))
@@ -257,7 +258,8 @@ rule_promoted_to_head c old s d h due = cond_both (is_head s) _ _ (λ (a : Outco
     (λ _ v i. ap (λ o. is_taken (taken_all s s.pend) o v.id) kept.id
     ∙ all_untaken s.pend s 0 h.updates h v (within v (subst (λ us. In v us) due i))))
     (rule_taken_all s.pend c s d h t (λ v i. i)))))
-    (λ f. cond_both (is_same (head old s.count) (head_of s)) _ _ (λ (a : Outcome). IsRule c s d a (IsHeaded a.state d))
+    (λ f. cond_both (is_same (head old s.count) (head_of s)) _ _
+    (λ (a : RuleResult). IsRule c s d a (IsHeaded a.state d))
     (λ u. (let none : d.unsent ≡ [] = rw u at due in
     rule_silent c s d _ h (headed s d d d.unsent refl (λ _. none) (λ t. absurd (both_ways _ f t)))))
     (λ u. (let all : d.unsent ≡ s.pend = rw u at due in
@@ -323,7 +325,7 @@ rule_promoted_to_tail : (c : Cause) (old : View) (n m : ℕ) (s : ServerState) (
 unfolding promoted_to_tail risen
 rule_promoted_to_tail c old n m s d h same p =
     cond_both (is_tail s && nat_lt s.store.acked (last_number s.store)) _ _
-    (λ (a : Outcome). IsRule c s d a
+    (λ (a : RuleResult). IsRule c s d a
     (λ e. IsUnderway old (needed_above old n a.state) (IsOwed old m a.state e.untold)
     (a.state.store.acked ≡ last_number a.state.store) a.state e))
     (λ t. (let parts = and_parts (is_tail s) (nat_lt s.store.acked (last_number s.store)) t in
@@ -460,7 +462,7 @@ rule_acked_to_predecessor : (c : Cause) (old : View) (m : ℕ) (s : ServerState)
 unfolding acked_to_predecessor
 rule_acked_to_predecessor c old m s d h p =
     cond_both (not (is_same (predecessor old s.id) (previous s)) && s.store.acked == m) _ _
-    (λ (a : Outcome). IsRule c s d a
+    (λ (a : RuleResult). IsRule c s d a
     (λ e. IsUnderway old (last_number a.state.store) (e.untold ≡ false)
     (a.state.store.acked ≡ last_number a.state.store) a.state e))
     (λ t. (let parts = and_parts (not (is_same (predecessor old s.id) (previous s))) (s.store.acked == m) t in
@@ -519,7 +521,7 @@ replies_same s t [] e = refl
 replies_same s t (r ∷ rs) e = rw (e, replies_same s t rs e) refl
 
 -- these reads, which are all that wait, are answered in order
-abbrev closing : List OpenRead → ServerState → Outcome
+abbrev closing : List OpenRead → ServerState → RuleResult
 closing rs t = record { state = record t { asks = [] }; outputs = replies_to t rs }
 
 rule_closing : (rs : List OpenRead) (c : Cause) (s : ServerState) (d : Due)
@@ -533,7 +535,8 @@ rule_closing [] c s d h all last =
     (rule_silent c s d _ h refl)
 rule_closing (r ∷ rs) c s d h all last =
     let n = last_number s.store in
-    let low : r.mark ≤ s.store.acked = (reads_bound r.ask r.mark rs s.next_ask s.store.acked (rw all at h.reads).2).1 in
+    let low : r.lower_bound ≤ s.store.acked = (reads_bound r.ask r.lower_bound rs s.next_ask s.store.acked
+    (rw all at h.reads).2).1 in
     let t = (act s (Finish r n)).state in
     let rest : t.asks ≡ rs = rw all (without_first_read r rs) in
     let whole = rule_first c s d (Finish r n) (closing rs) (λ e. e ≡ d) refl h (
@@ -573,9 +576,16 @@ rule_asked_again (r ∷ rs) c s d h other f due =
     (rule_message c s d (tail_of s) (Query r.ask r.key) (λ e. e ≡ d2) h
     (λ none. absurd (has_tail s h none))
     (λ j e. (
-      (e, other, asked_above s.store.floor s.asks s.next_ask s.store.acked r h.reads waits, r.port, r.mark, waits),
+      (
+        e,
+        other,
+        asked_above s.store.floor s.asks s.next_ask s.store.acked r h.reads waits,
+        r.port,
+        r.lower_bound,
+        waits,
+      ),
       tail_within s j e,
-      (r.port, r.mark, rs, due),
+      (r.port, r.lower_bound, rs, due),
       refl,
     )))
     (λ e is k. subst (λ x. IsRule (left c) s x (putting s (asked_again s rs))
@@ -606,11 +616,11 @@ rule_asks_renewed : (c : Cause) (old : View) (s : ServerState) (d : Due)
     → IsRule c s d (asks_renewed old s) (IsPaid (asks_renewed old s).state)
 unfolding asks_renewed
 rule_asks_renewed c old s d h p =
-    cond_both (is_same (tail old s.count) (tail_of s)) _ _ (λ (a : Outcome). IsRule c s d a (IsPaid a.state))
+    cond_both (is_same (tail old s.count) (tail_of s)) _ _ (λ (a : RuleResult). IsRule c s d a (IsPaid a.state))
     (λ t. rule_silent c s d _ h (paid_asked old s d d p refl
     (λ _. p.asked ∙ rw t refl)
     (λ l. p.none (ap (λ o. is_that o s.id) (same_is _ _ t) ∙ l))))
-    (λ f. cond_both (is_tail s) _ _ (λ (a : Outcome). IsRule c s d a (IsPaid a.state))
+    (λ f. cond_both (is_tail s) _ _ (λ (a : RuleResult). IsRule c s d a (IsPaid a.state))
     (λ t. rule_so c s d _ (λ e. e ≡ d) _
     (λ e is. subst (λ x. IsPaid (record s { asks = [] }) x) (sym is) (record {
       forwarded = p.forwarded;
@@ -642,7 +652,7 @@ rule_third : (s : ServerState) → IsSound s → IsRule None s (nothing_due s) (
 unfolding promoted_to_tail
 rule_third s h =
     cond_both (is_tail s && nat_lt s.store.acked (last_number s.store)) _ _
-    (λ (a : Outcome). IsRule None s (nothing_due s) a (λ _. Unit {0}))
+    (λ (a : RuleResult). IsRule None s (nothing_due s) a (λ _. Unit {0}))
     (λ t. (let parts = and_parts (is_tail s) (nat_lt s.store.acked (last_number s.store)) t in
     rule_so None s (nothing_due s) _ _ _ (λ _ _. tt)
     (rule_rise None s (nothing_due s) (last_number s.store) h (ltb-true _ _ parts.1) (omega arith) (inl (parts.0, refl))
@@ -740,7 +750,7 @@ pub rule_join : (c : Cause) (s : ServerState) (v : View)
     → IsRule c s (nothing_due s) (join s v) (IsJoined (join s v).state v)
 unfolding act
 rule_join c s v h p brought out below =
-    cond_both (not (adds s.view v)) _ _ (λ (a : Outcome). IsRule c s (nothing_due s) a (IsJoined a.state v))
+    cond_both (not (adds s.view v)) _ _ (λ (a : RuleResult). IsRule c s (nothing_due s) a (IsJoined a.state v))
     (λ t. rule_silent c s (nothing_due s) _ h (record { paid = p; knows = λ k. nothing_added s.view v k t }))
     (λ f. (let within = bounds_widened s v h in
     rule_first c s (nothing_due s) (Widen v) (rejoined s.view (last_number s.store) s.store.acked) _ refl h

@@ -16,7 +16,8 @@ use Rattle.node.specs.declared.messages.Peer.{Peer}
 use Rattle.node.specs.declared.messages.Input.TheVariants.{Call as Called, From}
 use Rattle.node.specs.declared.messages.Output.{Output}
 use Rattle.node.specs.Views.{has, is_that}
-use Rattle.node.specs.Servers.{ServerState, Outcome, most, seen_of, head_of, is_head, is_tail, previous, next, putting}
+use Rattle.node.specs.Servers.{ServerState, RuleResult, most, seen_of, head_of, is_head, is_tail, previous, next}
+use Rattle.node.specs.Servers.{putting}
 use Rattle.node.specs.Servers.{message_to}
 use Rattle.node.specs.Numbering.{left_open, replies, newly_acked, risen, rise, appended, passed_on, entry_of, is_taken}
 use Rattle.node.specs.Numbering.{take_update, entered, is_room_for_update, called, update, receive_op, receive_forward}
@@ -57,7 +58,7 @@ pub record IsRisen (s : ServerState) (d e : Due) : Type 0 where
   pub unasked : e.unasked ≡ d.unasked
 
 -- the entries' own calls are closed and answered, in order
-abbrev settling : List LogEntry → ServerState → Outcome
+abbrev settling : List LogEntry → ServerState → RuleResult
 settling es t = record { state = record t { pend = left_open t.id t.pend es }; outputs = replies t.id t.pend es }
 
 rule_settling : (es : List LogEntry) (c : Cause) (t : ServerState) (d : Due)
@@ -250,7 +251,8 @@ paid_risen s d e t none sent taken r = record {
 last_passed : (s : ServerState) (e : LogEntry) → last_number (passed_on s e).state.store ≡ last_number s.store
 unfolding passed_on risen
 last_passed s e =
-    cond_both (is_tail s) _ _ (λ (a : Outcome). last_number a.state.store ≡ last_number s.store) (λ t. refl) (λ f. refl)
+    cond_both (is_tail s) _ _ (λ (a : RuleResult). last_number a.state.store ≡ last_number s.store) (λ t. refl)
+    (λ f. refl)
 
 acked_risen : (s : ServerState) (n : ℕ) → n ≤ (rise s n).state.store.acked
 unfolding risen
@@ -289,7 +291,7 @@ rule_passed c s d e k p number sent taken =
     let sent2 = λ (f : is_head t ≡ false). sent (sym at.head ∙ f) in
     let taken2 : is_head t ≡ true → (u : OpenUpdate) → In u d.unsent → is_taken t t.id u.id ≡ false =
     λ f u i. ap (λ o. is_taken t o u.id) at.id ∙ taken (sym at.head ∙ f) u i in
-    cond_both (is_tail t) _ _ (λ (a : Outcome). IsRule c t d a (IsPaid a.state))
+    cond_both (is_tail t) _ _ (λ (a : RuleResult). IsRule c t d a (IsPaid a.state))
     (λ l. (let was = p.last (sym at.tail ∙ l) in
     rule_so c t d _ (IsRisen t d) _ (λ e2 r. paid_risen t d e2 l (at.same_asks ∙ was.1) sent2 taken2 r)
     (rule_rise c t d (last_number t.store) k (omega (arith, at.acked, was.0, more)) (omega arith) (inl (l, refl))
@@ -369,7 +371,7 @@ taken_passed : (s : ServerState) (e : LogEntry) (origin id : ℕ)
     → is_taken (passed_on s e).state origin id ≡ is_taken s origin id
 unfolding passed_on risen
 taken_passed s e origin id =
-    cond_both (is_tail s) _ _ (λ (a : Outcome). is_taken a.state origin id ≡ is_taken s origin id) (λ t. refl)
+    cond_both (is_tail s) _ _ (λ (a : RuleResult). is_taken a.state origin id ≡ is_taken s origin id) (λ t. refl)
     (λ f. refl)
 
 -- the head's taking of an update is a list of actions in turn
@@ -388,7 +390,7 @@ pub rule_take_update : (c : Cause) (s : ServerState) (d : Due) (origin id : ℕ)
     → IsRule c s d (take_update s origin id call) (IsTaken (take_update s origin id call).state origin id)
 unfolding take_update
 rule_take_update c s d origin id call h p low wanted fit is first own after before =
-    cond_both (is_taken s origin id) _ _ (λ (a : Outcome). IsRule c s d a (IsTaken a.state origin id))
+    cond_both (is_taken s origin id) _ _ (λ (a : RuleResult). IsRule c s d a (IsTaken a.state origin id))
     (λ t. (let e = entry_of s origin id call in
     rule_so c s d _ _ _
     (λ x paid. record {
@@ -447,7 +449,7 @@ rule_called c s d id port call h p fit is waits only =
     let u : OpenUpdate = record { id = id; port = port; call = call } in
     let own : (v : OpenUpdate) → In v d.unsent → v ≡ u = λ v i. one_in u v (subst (λ us. In v us) only i) in
     let low : s.id < 16 = omega (arith, h.placed, h.counted) in
-    cond_both (is_head s) _ _ (λ (a : Outcome). IsRule c s d a (IsPaid a.state))
+    cond_both (is_head s) _ _ (λ (a : RuleResult). IsRule c s d a (IsPaid a.state))
     (λ t. rule_so c s d _ _ _ (λ e x. x.paid)
     (rule_take_update c s d s.id id call h p low (inl (refl, port, waits)) fit is t
     (λ other. absurd (other refl))
@@ -484,7 +486,7 @@ unfolding act
 rule_update s d port call h p none fit is =
     let c = Some (Called port call) in
     let u : OpenUpdate = record { id = s.next_id; port = port; call = call } in
-    cond_both (is_room_for_update s) _ _ (λ (a : Outcome). IsRule c s d a (IsPaid a.state))
+    cond_both (is_room_for_update s) _ _ (λ (a : RuleResult). IsRule c s d a (IsPaid a.state))
     (λ t. rule_first c s d (Enter port call) (λ v. called v s.next_id call) _ refl h (refl, fit, is, t) tt
     (λ k. rule_called None (entered s port call) (record d { unsent = d.unsent ++ u ∷ [] }) s.next_id port call k
     (clear_entered s d port call _ (clear_paid s d p)) fit is (entered_in s port call) (ap (λ us. us ++ u ∷ []) none)))
@@ -503,7 +505,7 @@ module _ (s : ServerState) (d : Due) (i : ℕ) (m : Peer) (h : IsSound s) (p : I
       → is_taken (receive_op s i id call).state i id ≡ false))
   rule_receive_op id call is low other lives fit =
       cond_both (is_head s && is_update call.op) _ _
-      (λ (a : Outcome). IsRule (Some (From i m)) s d a
+      (λ (a : RuleResult). IsRule (Some (From i m)) s d a
       (λ e. IsPaid a.state e
       × (is_head a.state ≡ true → is_update call.op ≡ true → is_taken a.state i id ≡ false)))
       (λ t. (let parts = and_parts (is_head s) (is_update call.op) t in
@@ -524,7 +526,7 @@ module _ (s : ServerState) (d : Due) (i : ℕ) (m : Peer) (h : IsSound s) (p : I
       → e.number ≢ last_number (receive_forward s i e).state.store + 1))
   rule_receive_forward e is valid joined =
       cond_both (is_that (previous s) i && e.number == last_number s.store + 1) _ _
-      (λ (a : Outcome). IsRule (Some (From i m)) s d a
+      (λ (a : RuleResult). IsRule (Some (From i m)) s d a
       (λ x. IsPaid a.state x × (previous a.state ≡ Some i → e.number ≢ last_number a.state.store + 1)))
       (λ t. (let parts = and_parts (is_that (previous s) i) (e.number == last_number s.store + 1) t in
       let from = that_is _ i parts.0 in
@@ -551,7 +553,7 @@ module _ (s : ServerState) (d : Due) (i : ℕ) (m : Peer) (h : IsSound s) (p : I
       → n ≤ (receive_ack s i n).state.store.acked))
   rule_receive_ack n is joined =
       cond_both (is_that (next s) i && nat_lt s.store.acked n && nat_le n (last_number s.store)) _ _
-      (λ (a : Outcome). IsRule (Some (From i m)) s d a
+      (λ (a : RuleResult). IsRule (Some (From i m)) s d a
       (λ e. IsPaid a.state e
       × (next a.state ≡ Some i → n ≤ last_number a.state.store → n ≤ a.state.store.acked)))
       (λ t. (let parts = and_parts (is_that (next s) i && nat_lt s.store.acked n) (nat_le n (last_number s.store)) t in

@@ -20,7 +20,7 @@ use Rattle.node.specs.declared.messages.Input.TheVariants.{Call as Called, From,
 use Rattle.node.specs.declared.messages.Output.{Output}
 use Rattle.node.specs.declared.messages.Output.TheVariants.{To}
 use Rattle.node.specs.Views.{View, has, single, is_below, is_that}
-use Rattle.node.specs.Servers.{ServerState, Outcome, most, seen_of, tail_of, is_tail, silent, putting, message_to}
+use Rattle.node.specs.Servers.{ServerState, RuleResult, most, seen_of, tail_of, is_tail, silent, putting, message_to}
 use Rattle.node.specs.Numbering.{is_taken}
 use Rattle.node.specs.Reading.{asked, dirty_read, read_of, receive_query, open_read, without_read, answered}
 use Rattle.node.specs.Reading.{receive_answer}
@@ -51,10 +51,10 @@ dirty_elsewhere s key settled dirty =
 
 -- a read that has just asked the tail is one of the open ones
 pub asked_in : (s : ServerState) (port : ℕ) (key : List ℕ)
-    → In (record { ask = s.next_ask; port = port; key = key; mark = s.store.acked }) (asked s port key).asks
+    → In (record { ask = s.next_ask; port = port; key = key; lower_bound = s.store.acked }) (asked s port key).asks
 unfolding asked
 asked_in s port key =
-    (length s.asks, get_last s.asks (record { ask = s.next_ask; port = port; key = key; mark = s.store.acked }))
+    (length s.asks, get_last s.asks (record { ask = s.next_ask; port = port; key = key; lower_bound = s.store.acked }))
 
 view_asked : (s : ServerState) (port : ℕ) (key : List ℕ) → (asked s port key).view ≡ s.view
 unfolding asked
@@ -90,13 +90,13 @@ rule_query : (c : Cause) (s : ServerState) (d : Due) (port : ℕ) (key : List �
     → IsRule c (asked s port key)
     (record d {
       unasked = d.unasked
-          ++ record { ask = s.next_ask; port = port; key = key; mark = s.store.acked } ∷ [];
+          ++ record { ask = s.next_ask; port = port; key = key; lower_bound = s.store.acked } ∷ [];
     })
     (putting (asked s port key) (message_to s (tail_of s) (Query s.next_ask key))) (IsPaid (asked s port key))
 rule_query c s d port key low other p h =
     let t = asked s port key in
     let seat = seat_asked s port key in
-    let r : OpenRead = record { ask = s.next_ask; port = port; key = key; mark = s.store.acked } in
+    let r : OpenRead = record { ask = s.next_ask; port = port; key = key; lower_bound = s.store.acked } in
     let only : d.unasked ++ r ∷ [] ≡ r ∷ [] = ap (λ (rs : List OpenRead). rs ++ r ∷ []) (p.asked other) in
     rule_as c t _ _ _ _
     (ap (λ (os : List Output). putting t os)
@@ -119,7 +119,7 @@ module _ (s : ServerState) (d : Due) (port : ℕ) (asked_call : Call) (h : IsSou
   unfolding dirty_read act
   rule_dirty_read key one dirty =
       cond_both (nat_lt s.next_ask most) _ _
-      (λ (a : Outcome). IsRule (Some (Called port asked_call)) s d a (IsPaid a.state))
+      (λ (a : RuleResult). IsRule (Some (Called port asked_call)) s d a (IsPaid a.state))
       (λ t. (let low = (reads_bound 0 s.store.floor s.asks s.next_ask s.store.acked h.reads).0 in
       rule_first (Some (Called port asked_call)) s d (Ask port key)
       (λ u. putting u (message_to s (tail_of s) (Query s.next_ask key))) _ refl h
@@ -133,7 +133,7 @@ module _ (s : ServerState) (d : Due) (port : ℕ) (asked_call : Call) (h : IsSou
   unfolding act
   rule_read_of (One key) one =
       cond_both (is_clean s.store key) _ _
-      (λ (a : Outcome). IsRule (Some (Called port asked_call)) s d a (IsPaid a.state))
+      (λ (a : RuleResult). IsRule (Some (Called port asked_call)) s d a (IsPaid a.state))
       (λ t. rule_one (Some (Called port asked_call)) s d (Show port key) _ refl h (asked_call, refl, is, one, t) tt p)
       (λ f. rule_dirty_read key one f)
   rule_read_of All one = rule_silent (Some (Called port asked_call)) s d _ h p
@@ -145,7 +145,7 @@ rule_call : (s : ServerState) (d : Due) (port : ℕ) (made : Call)
     → IsCall made
     → IsRule (Some (Called port made)) s d (call s port made) (IsPaid (call s port made).state)
 rule_call s d port made h p none fit =
-    cond_both (is_update made.op) _ _ (λ (a : Outcome). IsRule (Some (Called port made)) s d a (IsPaid a.state))
+    cond_both (is_update made.op) _ _ (λ (a : RuleResult). IsRule (Some (Called port made)) s d a (IsPaid a.state))
     (λ t. rule_update s d port made h p none fit t)
     (λ f. rule_read_of s d port made h p f made.target refl)
 
@@ -166,16 +166,17 @@ found_read [] ask q h = absurd cc
 found_read (r ∷ rs) ask q h = found_step _ r q _ ask rs refl (λ g. found_read rs ask q g) h
 
 -- an open read is found under its ask
-found_itself : (above mark : ℕ) (rs : List OpenRead) (next_ask acked : ℕ) (r : OpenRead)
-    → AreReads above mark rs next_ask acked
+found_itself : (above lower_bound : ℕ) (rs : List OpenRead) (next_ask acked : ℕ) (r : OpenRead)
+    → AreReads above lower_bound rs next_ask acked
     → In r rs
     → open_read rs r.ask ≡ Some r
-found_itself above mark [] next_ask acked r h i = absurd (let none = i.1 in cc)
-found_itself above mark (q ∷ rs) next_ask acked r h (zero, i) =
+found_itself above lower_bound [] next_ask acked r h i = absurd (let none = i.1 in cc)
+found_itself above lower_bound (q ∷ rs) next_ask acked r h (zero, i) =
     let same : q ≡ r = same_Some q r i in rw (same, eq-eqb r.ask r.ask refl) refl
-found_itself above mark (q ∷ rs) next_ask acked r h (suc k, i) =
-    let more = read_above q.ask q.mark rs next_ask acked r h.2 (k, i) in
-    rw (ne_eqb q.ask r.ask (λ e. omega (arith, more.0, e))) (found_itself q.ask q.mark rs next_ask acked r h.2 (k, i))
+found_itself above lower_bound (q ∷ rs) next_ask acked r h (suc k, i) =
+    let more = read_above q.ask q.lower_bound rs next_ask acked r h.2 (k, i) in
+    rw (ne_eqb q.ask r.ask (λ e. omega (arith, more.0, e)))
+    (found_itself q.ask q.lower_bound rs next_ask acked r h.2 (k, i))
 
 -- after a read is closed, it isn't open
 gone_read : (s : ServerState) (ask : ℕ) (r : OpenRead) → IsSound s → In r (without_read s.asks ask) → r.ask ≡ ask → ⊥
@@ -183,10 +184,10 @@ gone_read s ask r h i same = read_apart 0 s.store.floor s.asks s.next_ask s.stor
 
 module _ (s : ServerState) (d : Due) (i : ℕ) (m : Peer) (h : IsSound s) (p : IsPaid s d) where
   -- what an answered read leaves
-  Answers : ℕ → ℕ → Outcome → Due → Type 0
+  Answers : ℕ → ℕ → RuleResult → Due → Type 0
   Answers ask n a e =
       IsPaid a.state e ×
-      ((r : OpenRead) → In r a.state.asks → r.ask ≡ ask → r.mark ≤ n → n ≤ last_number a.state.store → ⊥)
+      ((r : OpenRead) → In r a.state.asks → r.ask ≡ ask → r.lower_bound ≤ n → n ≤ last_number a.state.store → ⊥)
 
   rule_finished : (n : ℕ) (r : OpenRead)
       → m.body ≡ Answer r.ask n
@@ -195,9 +196,9 @@ module _ (s : ServerState) (d : Due) (i : ℕ) (m : Peer) (h : IsSound s) (p : I
       → In r s.asks
       → IsRule (Some (From i m)) s d (answered s r.ask n (Some r)) (Answers r.ask n (answered s r.ask n (Some r)))
   unfolding answered act Answers
-  rule_finished n r is from found waits = cond_both (nat_le r.mark n && nat_le n (last_number s.store)) _ _
-      (λ (a : Outcome). IsRule (Some (From i m)) s d a (Answers r.ask n a))
-      (λ t. (let parts = and_parts (nat_le r.mark n) (nat_le n (last_number s.store)) t in
+  rule_finished n r is from found waits = cond_both (nat_le r.lower_bound n && nat_le n (last_number s.store)) _ _
+      (λ (a : RuleResult). IsRule (Some (From i m)) s d a (Answers r.ask n a))
+      (λ t. (let parts = and_parts (nat_le r.lower_bound n) (nat_le n (last_number s.store)) t in
       rule_one (Some (From i m)) s d (Finish r n) _ refl h
       (found, waits, leb-true _ _ parts.0, leb-true _ _ parts.1, inr (i, m, refl, is, from)) tt (
         record {
@@ -217,7 +218,8 @@ module _ (s : ServerState) (d : Due) (i : ℕ) (m : Peer) (h : IsSound s) (p : I
             let one : q ≡ r =
             same_Some q r (sym (found_itself 0 s.store.floor s.asks s.next_ask s.store.acked q h.reads k)
             ∙ ap (λ x. open_read s.asks x) same ∙ found) in
-            both_ways _ f (and_from _ _ (le-leb _ _ (subst (λ (x : OpenRead). x.mark ≤ n) one low)) (le-leb _ _ high)),
+            both_ways _ f (and_from _ _ (le-leb _ _ (subst (λ (x : OpenRead). x.lower_bound ≤ n) one low))
+            (le-leb _ _ high)),
       ))
 
   rule_answered : (ask n : ℕ) (r : Option OpenRead)
@@ -248,7 +250,7 @@ module _ (s : ServerState) (d : Due) (i : ℕ) (m : Peer) (h : IsSound s) (p : I
   unfolding Answers
   rule_receive_answer ask n is =
       cond_both (is_that (tail_of s) i) _ _
-      (λ (a : Outcome). IsRule (Some (From i m)) s d a (λ e. IsPaid a.state e × IsTakenIn i (Answer ask n) a))
+      (λ (a : RuleResult). IsRule (Some (From i m)) s d a (λ e. IsPaid a.state e × IsTakenIn i (Answer ask n) a))
       (λ t. rule_so (Some (From i m)) s d _ _ _ (λ e x. (x.0, λ _. x.1))
       (rule_answered ask n (open_read s.asks ask) is (that_is _ i t) refl))
       (λ f. rule_silent (Some (From i m)) s d _ h (p, λ from. absurd (both_ways _ f (is_itself _ i from))))
@@ -262,7 +264,7 @@ module _ (s : ServerState) (d : Due) (i : ℕ) (m : Peer) (h : IsSound s) (p : I
   unfolding act
   rule_receive_query ask key is low lives =
       cond_both (is_tail s) _ _
-      (λ (a : Outcome). IsRule (Some (From i m)) s d a (λ e. IsPaid a.state e × IsTakenIn i (Query ask key) a))
+      (λ (a : RuleResult). IsRule (Some (From i m)) s d a (λ e. IsPaid a.state e × IsTakenIn i (Query ask key) a))
       (λ t. rule_one (Some (From i m)) s d (Send i (Answer ask (last_number s.store))) _ refl h
       ((t, refl, lives, m, key, refl, is), low) tt
       (p, λ _. (record { view = s.view; body = Answer ask (last_number s.store) }, (0, refl), refl)))
@@ -324,14 +326,14 @@ pub rule_received : (s : ServerState) (d : Due) (i : ℕ) (m : Peer)
     (λ e. IsPaid (received s i m.body).state e × (has s.view i ≡ false → IsTakenIn i m.body (received s i m.body)))
 rule_received s d i m h p low other fit valid joined =
     cond_both (has s.view i) _ _
-    (λ (a : Outcome). IsRule (Some (From i m)) s d a
+    (λ (a : RuleResult). IsRule (Some (From i m)) s d a
     (λ e. IsPaid a.state e × (has s.view i ≡ false → IsTakenIn i m.body a)))
     (λ t. rule_silent (Some (From i m)) s d _ h (p, λ f. absurd (both_ways _ f t)))
     (λ f. rule_so (Some (From i m)) s d _ _ _ (λ e x. (x.0, λ _. x.1))
     (rule_receive s d i m m.body refl h p low other f fit valid joined))
 
 -- what is taken in stays so, whatever was put out before
-taken_behind : (i : ℕ) (body : Body) (a b : Outcome)
+taken_behind : (i : ℕ) (body : Body) (a b : RuleResult)
     → IsTakenIn i body b
     → IsTakenIn i body (record { state = b.state; outputs = a.outputs ++ b.outputs })
 taken_behind i (Op id made) a b h = h
@@ -363,7 +365,7 @@ rule_from_peer s i m h settled fit valid =
     let c : Cause = Some (From i m) in
     let d = nothing_due s in
     cond_both (is_heard s i m.view) _ _
-    (λ (a : Outcome). IsRule c s d a (λ e. IsPaid a.state e × IsHeeded (From i m) s a))
+    (λ (a : RuleResult). IsRule c s d a (λ e. IsPaid a.state e × IsHeeded (From i m) s a))
     (λ t. (let hears = heard s i m.view t in
     let first = rule_join c s m.view h (paid_nothing s settled) (inl (i, m, refl, refl)) hears.outside hears.below in
     let seat = seat_after c s _ first.done in
@@ -389,7 +391,7 @@ rule_gone : (s : ServerState) (j : ℕ)
     (λ e. IsPaid (gone s j).state e × IsHeeded (Gone j) s (gone s j))
 rule_gone s j h settled =
     cond_both (nat_lt j s.count && not (j == s.id)) _ _
-    (λ (a : Outcome). IsRule (Some (Gone j)) s (nothing_due s) a (λ e. IsPaid a.state e × IsHeeded (Gone j) s a))
+    (λ (a : RuleResult). IsRule (Some (Gone j)) s (nothing_due s) a (λ e. IsPaid a.state e × IsHeeded (Gone j) s a))
     (λ t. (let parts = and_parts (nat_lt j s.count) (not (j == s.id)) t in
     rule_so (Some (Gone j)) s (nothing_due s) _ _ _ (λ e x. (x.paid, λ _ _. x.knows j (has-single_itself j)))
     (rule_join (Some (Gone j)) s (single j) h (paid_nothing s settled) (inr (j, refl, refl))
@@ -455,7 +457,7 @@ taken_in_trimmed s i (Query ask key) os h x =
 taken_in_trimmed s i (Answer ask n) os h x =
     λ from r waits same low high. x from r waits same low (omega (arith, high, last_trimmed s h))
 
-heeded_trimmed : (s : ServerState) (input : Input) (a : Outcome)
+heeded_trimmed : (s : ServerState) (input : Input) (a : RuleResult)
     → IsSound a.state
     → IsHeeded input s a
     → IsHeeded input s (record { state = trimmed a.state; outputs = a.outputs })

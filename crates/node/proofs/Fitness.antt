@@ -6,7 +6,7 @@ use Rattle.node.specs.declared.messages.Body.TheVariants.{Op, Forward, Ack, Quer
 use Rattle.node.specs.declared.messages.Input.{Input}
 use Rattle.node.specs.declared.messages.Input.TheVariants.{From}
 use Rattle.node.specs.declared.messages.Output.{Output}
-use Rattle.node.specs.Servers.{ServerState, Outcome}
+use Rattle.node.specs.Servers.{ServerState, RuleResult}
 use Rattle.node.specs.Steps.{taken_in}
 use Rattle.node.specs.Lawful.{IsBody, IsInput, HoldsEntry, IsSendable, IsSound, IsLawful, AreFit}
 use Rattle.node.specs.Actions.{Action, Widen, Append, Reach, Settle, Send, Finish, Trim, Enter, Ask, Show, act, does}
@@ -76,5 +76,5 @@ pub fit_taken_in : (s : ServerState) (input : Input)
     → AreFit (taken_in s input).outputs
 fit_taken_in s input fit valid h =
     let d = (rule_taken_in s input h.sound h.settled fit valid).done in
-    subst (λ (o : Outcome). AreFit o.outputs) (sym d.same)
+    subst (λ (o : RuleResult). AreFit o.outputs) (sym d.same)
     (fit_does d.actions (Some input) s (λ x e. subst (λ y. IsInput y) (same_Some input x e) fit) d.guarded)

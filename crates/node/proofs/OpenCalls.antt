@@ -27,19 +27,19 @@ update_in us next_id u h i = update_step 0 us next_id i.0 u h i.1
 
 -- ---- own reads
 
-read_above : (above mark : ℕ) (rs : List OpenRead) (next_ask acked k : ℕ) (r : OpenRead)
-    → AreReads above mark rs next_ask acked
+read_above : (above lower_bound : ℕ) (rs : List OpenRead) (next_ask acked k : ℕ) (r : OpenRead)
+    → AreReads above lower_bound rs next_ask acked
     → slice_get rs k ≡ Some r
     → above < r.ask
-read_above above mark [] next_ask acked k r h e = absurd cc
-read_above above mark (q ∷ rs) next_ask acked zero r h e =
+read_above above lower_bound [] next_ask acked k r h e = absurd cc
+read_above above lower_bound (q ∷ rs) next_ask acked zero r h e =
     let same : q ≡ r = same_Some q r e in omega (arith, h.0, ap (λ (x : OpenRead). x.ask) same)
-read_above above mark (q ∷ rs) next_ask acked (suc k) r h e =
-    omega (arith, h.0, read_above q.ask q.mark rs next_ask acked k r h.2 e)
+read_above above lower_bound (q ∷ rs) next_ask acked (suc k) r h e =
+    omega (arith, h.0, read_above q.ask q.lower_bound rs next_ask acked k r h.2 e)
 
 -- each ask is at least 1
-pub asked_above : (mark : ℕ) (rs : List OpenRead) (next_ask acked : ℕ) (r : OpenRead)
-    → AreReads 0 mark rs next_ask acked
+pub asked_above : (lower_bound : ℕ) (rs : List OpenRead) (next_ask acked : ℕ) (r : OpenRead)
+    → AreReads 0 lower_bound rs next_ask acked
     → In r rs
     → 1 ≤ r.ask
-asked_above mark rs next_ask acked r h i = omega (arith, read_above 0 mark rs next_ask acked i.0 r h i.1)
+asked_above lower_bound rs next_ask acked r h i = omega (arith, read_above 0 lower_bound rs next_ask acked i.0 r h i.1)

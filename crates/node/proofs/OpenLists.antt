@@ -65,39 +65,40 @@ update_apart above [] next_id id u h (k, e) = absurd cc
 update_apart above (v ∷ us) next_id id u h i =
     update_step _ v u us (without_update us id) next_id id refl h.3 (update_apart v.id us next_id id u h.3) i
 
--- each read that waits has an ask above the bound of the list, and a mark that is no lower than its bound
-pub read_above : (above mark : ℕ) (rs : List OpenRead) (next_ask acked : ℕ) (r : OpenRead)
-    → AreReads above mark rs next_ask acked
+-- each read that waits has an ask above the bound of the list, and a lower bound that is no lower than its bound
+pub read_above : (above lower_bound : ℕ) (rs : List OpenRead) (next_ask acked : ℕ) (r : OpenRead)
+    → AreReads above lower_bound rs next_ask acked
     → In r rs
-    → (above < r.ask) × (mark ≤ r.mark)
-read_above above mark [] next_ask acked r h (k, e) = absurd cc
-read_above above mark (q ∷ rs) next_ask acked r h (zero, e) =
+    → (above < r.ask) × (lower_bound ≤ r.lower_bound)
+read_above above lower_bound [] next_ask acked r h (k, e) = absurd cc
+read_above above lower_bound (q ∷ rs) next_ask acked r h (zero, e) =
     let same : q ≡ r = same_Some q r e in rw (← same) (h.0, h.1)
-read_above above mark (q ∷ rs) next_ask acked r h (suc k, e) =
-    let g = read_above q.ask q.mark rs next_ask acked r h.2 (k, e) in (omega (arith, h.0, g.0), omega (arith, h.1, g.1))
+read_above above lower_bound (q ∷ rs) next_ask acked r h (suc k, e) =
+    let g = read_above q.ask q.lower_bound rs next_ask acked r h.2 (k, e) in
+    (omega (arith, h.0, g.0), omega (arith, h.1, g.1))
 
 read_step : (b : Bool) (q r : OpenRead) (rs rest : List OpenRead) (next_ask acked ask : ℕ)
     → (q.ask == ask) ≡ b
-    → AreReads q.ask q.mark rs next_ask acked
+    → AreReads q.ask q.lower_bound rs next_ask acked
     → (In r rest → r.ask ≢ ask)
     → In r (cond b rs (q ∷ rest))
     → r.ask ≢ ask
 read_step true q r rs rest next_ask acked ask t a f h = let same = eqb-true q.ask ask t in let more =
-    read_above q.ask q.mark rs next_ask acked r a h in λ e. absurd (omega (arith, same, more.0, e))
+    read_above q.ask q.lower_bound rs next_ask acked r a h in λ e. absurd (omega (arith, same, more.0, e))
 read_step false q r rs rest next_ask acked ask t a f (zero, h) =
     let same : q ≡ r =
     same_Some q r h in λ e. (let is : (q.ask == ask) ≡ true = rw (same, e) (grind (arith, nat_tests)) in absurd cc)
 read_step false q r rs rest next_ask acked ask t a f (suc k, h) = f (k, h)
 
 -- the reads that are left without that of an ask have other asks
-pub read_apart : (above mark : ℕ) (rs : List OpenRead) (next_ask acked ask : ℕ) (r : OpenRead)
-    → AreReads above mark rs next_ask acked
+pub read_apart : (above lower_bound : ℕ) (rs : List OpenRead) (next_ask acked ask : ℕ) (r : OpenRead)
+    → AreReads above lower_bound rs next_ask acked
     → In r (without_read rs ask)
     → r.ask ≢ ask
-read_apart above mark [] next_ask acked ask r h (k, e) = absurd cc
-read_apart above mark (q ∷ rs) next_ask acked ask r h i =
+read_apart above lower_bound [] next_ask acked ask r h (k, e) = absurd cc
+read_apart above lower_bound (q ∷ rs) next_ask acked ask r h i =
     read_step _ q r rs (without_read rs ask) next_ask acked ask refl h.2
-    (read_apart q.ask q.mark rs next_ask acked ask r h.2) i
+    (read_apart q.ask q.lower_bound rs next_ask acked ask r h.2) i
 
 -- ---- the one of an id
 
@@ -193,7 +194,7 @@ updates_act s (Show port key) u h = inl h
 pub reads_act : (s : ServerState) (a : Action) (r : OpenRead)
     → In r (act s a).state.asks
     → In r s.asks ⊎ ((port : ℕ) × (key : List ℕ) × (a ≡ Ask port key)
-    × (r ≡ record { ask = s.next_ask; port = port; key = key; mark = s.store.acked }))
+    × (r ≡ record { ask = s.next_ask; port = port; key = key; lower_bound = s.store.acked }))
 unfolding act widened appended entered asked trimmed
 reads_act s (Widen v) r h = inl h
 reads_act s (Append e) r h = inl h

@@ -119,11 +119,11 @@ rising-updates above next_id [] h = tt
 rising-updates above next_id (u ∷ us) h = (h.0, rising-updates u.id next_id us h.3)
 
 -- reads that wait are in the order of their asks
-pub rising-reads : (above mark next_ask acked : ℕ) (rs : List OpenRead)
-    → AreReads above mark rs next_ask acked
+pub rising-reads : (above lower_bound next_ask acked : ℕ) (rs : List OpenRead)
+    → AreReads above lower_bound rs next_ask acked
     → IsRising above (map (λ r. r.ask) rs)
-rising-reads above mark next_ask acked [] h = tt
-rising-reads above mark next_ask acked (r ∷ rs) h = (h.0, rising-reads r.ask r.mark next_ask acked rs h.2)
+rising-reads above lower_bound next_ask acked [] h = tt
+rising-reads above lower_bound next_ask acked (r ∷ rs) h = (h.0, rising-reads r.ask r.lower_bound next_ask acked rs h.2)
 
 left_step : (b : Bool) (us : List OpenUpdate) (id : ℕ)
     → IsRising 0 (map (λ u. u.id) us)

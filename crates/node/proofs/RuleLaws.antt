@@ -16,7 +16,7 @@ use Rattle.node.specs.declared.messages.Peer.{Peer}
 use Rattle.node.specs.declared.messages.Input.{Input}
 use Rattle.node.specs.declared.messages.Input.TheVariants.{From}
 use Rattle.node.specs.Views.{View, has, is_below, is_that}
-use Rattle.node.specs.Servers.{ServerState, opening, Outcome, is_head, is_tail, previous}
+use Rattle.node.specs.Servers.{ServerState, opening, RuleResult, is_head, is_tail, previous}
 use Rattle.node.specs.Numbering.{appended, passed_on, entry_of, is_taken, take_update, entered, is_room_for_update}
 use Rattle.node.specs.Numbering.{called, update}
 use Rattle.node.specs.Joining.{join}
@@ -37,7 +37,7 @@ pub record IsGood (s : ServerState) : Type 0 where
   pub settled : IsSettled s
 
 -- a list of actions after which nothing is left to do leaves a good server
-good-done : (c : Cause) (s : ServerState) (a : Outcome) (e : Due) → IsDone c s a → IsPaid a.state e → IsGood a.state
+good-done : (c : Cause) (s : ServerState) (a : RuleResult) (e : Due) → IsDone c s a → IsPaid a.state e → IsGood a.state
 good-done c s a e d p = record { sound = sound_after c s a d; settled = p.last }
 
 -- a message that brings no news
@@ -84,7 +84,8 @@ good-take_update : (s : ServerState) (origin id : ℕ) (made : Call)
     → IsGood s
     → IsGood (take_update s origin id made).state
 unfolding take_update
-good-take_update s origin id made low fit is g = cond_both (is_taken s origin id) _ _ (λ (a : Outcome). IsGood a.state)
+good-take_update s origin id made low fit is g =
+    cond_both (is_taken s origin id) _ _ (λ (a : RuleResult). IsGood a.state)
     (λ t. good-passed s (entry_of s origin id made) (entry_of-valid s origin id made low fit is t) refl g)
     (λ f. g)
 
@@ -95,11 +96,11 @@ good-receive : (s : ServerState) (i : ℕ) (body : Body)
     → IsGood s
     → IsGood (receive s i body).state
 good-receive s i (Op id made) low fit valid g =
-    cond_both (is_head s && is_update made.op) _ _ (λ (a : Outcome). IsGood a.state)
+    cond_both (is_head s && is_update made.op) _ _ (λ (a : RuleResult). IsGood a.state)
     (λ t. good-take_update s i id made low fit (and_parts (is_head s) (is_update made.op) t).1 g)
     (λ f. g)
 good-receive s i (Forward e) low fit valid g =
-    cond_both (is_that (previous s) i && e.number == last_number s.store + 1) _ _ (λ (a : Outcome). IsGood a.state)
+    cond_both (is_that (previous s) i && e.number == last_number s.store + 1) _ _ (λ (a : RuleResult). IsGood a.state)
     (λ t. good-passed s e valid
     (eqb-true _ _ (and_parts (is_that (previous s) i) (e.number == last_number s.store + 1) t).1) g)
     (λ f. g)
@@ -108,7 +109,7 @@ good-receive s i (Ack n) low fit valid g =
     (no_news s (Ack n)) in
     good-done (Some (From i (plain (Ack n)))) s _ _ r.done r.after.0
 good-receive s i (Query ask key) low fit valid g =
-    cond_both (is_tail s) _ _ (λ (a : Outcome). IsGood a.state) (λ t. g) (λ f. g)
+    cond_both (is_tail s) _ _ (λ (a : RuleResult). IsGood a.state) (λ t. g) (λ f. g)
 good-receive s i (Answer ask n) low fit valid g =
     let r = rule_receive_answer s (nothing_due s) i (plain (Answer ask n)) g.sound (paid_nothing s g.settled) ask n
     refl in
@@ -122,7 +123,8 @@ pub good-received : (s : ServerState) (i : ℕ) (body : Body)
     → IsGood s
     → IsGood (received s i body).state
 good-received s i body low fit valid g =
-    cond_both (has s.view i) _ _ (λ (a : Outcome). IsGood a.state) (λ t. g) (λ f. good-receive s i body low fit valid g)
+    cond_both (has s.view i) _ _ (λ (a : RuleResult). IsGood a.state) (λ t. g)
+    (λ f. good-receive s i body low fit valid g)
 
 -- ---- joins and inputs
 

@@ -94,12 +94,12 @@ updates-push above (v ∷ us) u call is h = (h.0, h.1, h.2, updates-push v.id us
 -- ---- own reads
 
 -- the bounds of the reads that wait: one below the next ask, one at most the acknowledged number
-pub reads_bound : (above mark : ℕ) (rs : List OpenRead) (next_ask acked : ℕ)
-    → AreReads above mark rs next_ask acked
-    → (above < next_ask) × (mark ≤ acked)
-reads_bound above mark [] next_ask acked h = h
-reads_bound above mark (r ∷ rs) next_ask acked h =
-    let g = reads_bound r.ask r.mark rs next_ask acked h.2 in (omega (arith, h.0, g.0), omega (arith, h.1, g.1))
+pub reads_bound : (above lower_bound : ℕ) (rs : List OpenRead) (next_ask acked : ℕ)
+    → AreReads above lower_bound rs next_ask acked
+    → (above < next_ask) × (lower_bound ≤ acked)
+reads_bound above lower_bound [] next_ask acked h = h
+reads_bound above lower_bound (r ∷ rs) next_ask acked h =
+    let g = reads_bound r.ask r.lower_bound rs next_ask acked h.2 in (omega (arith, h.0, g.0), omega (arith, h.1, g.1))
 
 lower_reads : (a b m n : ℕ) (rs : List OpenRead) (next_ask acked : ℕ)
     → a ≤ b
@@ -110,88 +110,92 @@ lower_reads a b m n [] next_ask acked le leq h = (omega (arith, h.0), omega (ari
 lower_reads a b m n (r ∷ rs) next_ask acked le leq h = (omega (arith, h.0), omega (arith, h.1), h.2)
 
 -- the acknowledged number may rise
-pub reads-acked : (above mark : ℕ) (rs : List OpenRead) (next_ask acked n : ℕ)
+pub reads-acked : (above lower_bound : ℕ) (rs : List OpenRead) (next_ask acked n : ℕ)
     → acked ≤ n
-    → AreReads above mark rs next_ask acked
-    → AreReads above mark rs next_ask n
-reads-acked above mark [] next_ask acked n le h = (h.0, omega (arith, h.1))
-reads-acked above mark (r ∷ rs) next_ask acked n le h = (h.0, h.1, reads-acked r.ask r.mark rs next_ask acked n le h.2)
+    → AreReads above lower_bound rs next_ask acked
+    → AreReads above lower_bound rs next_ask n
+reads-acked above lower_bound [] next_ask acked n le h = (h.0, omega (arith, h.1))
+reads-acked above lower_bound (r ∷ rs) next_ask acked n le h =
+    (h.0, h.1, reads-acked r.ask r.lower_bound rs next_ask acked n le h.2)
 
-read_step : (b : Bool) (above mark : ℕ) (r : OpenRead) (rs rest : List OpenRead) (next_ask acked : ℕ)
-    → AreReads above mark (r ∷ rs) next_ask acked
-    → AreReads r.ask r.mark rest next_ask acked
-    → AreReads above mark (cond b rs (r ∷ rest)) next_ask acked
-read_step true above mark r rs rest next_ask acked h g =
-    lower_reads above r.ask mark r.mark rs next_ask acked (omega (arith, h.0)) h.1 h.2
-read_step false above mark r rs rest next_ask acked h g = (h.0, h.1, g)
+read_step : (b : Bool) (above lower_bound : ℕ) (r : OpenRead) (rs rest : List OpenRead) (next_ask acked : ℕ)
+    → AreReads above lower_bound (r ∷ rs) next_ask acked
+    → AreReads r.ask r.lower_bound rest next_ask acked
+    → AreReads above lower_bound (cond b rs (r ∷ rest)) next_ask acked
+read_step true above lower_bound r rs rest next_ask acked h g =
+    lower_reads above r.ask lower_bound r.lower_bound rs next_ask acked (omega (arith, h.0)) h.1 h.2
+read_step false above lower_bound r rs rest next_ask acked h g = (h.0, h.1, g)
 
 -- the reads that are left without that of an ask wait in order
-pub reads-without : (above mark : ℕ) (rs : List OpenRead) (next_ask acked ask : ℕ)
-    → AreReads above mark rs next_ask acked
-    → AreReads above mark (without_read rs ask) next_ask acked
-reads-without above mark [] next_ask acked ask h = h
-reads-without above mark (r ∷ rs) next_ask acked ask h =
-    read_step _ above mark r rs _ next_ask acked h (reads-without r.ask r.mark rs next_ask acked ask h.2)
+pub reads-without : (above lower_bound : ℕ) (rs : List OpenRead) (next_ask acked ask : ℕ)
+    → AreReads above lower_bound rs next_ask acked
+    → AreReads above lower_bound (without_read rs ask) next_ask acked
+reads-without above lower_bound [] next_ask acked ask h = h
+reads-without above lower_bound (r ∷ rs) next_ask acked ask h =
+    read_step _ above lower_bound r rs _ next_ask acked h (reads-without r.ask r.lower_bound rs next_ask acked ask h.2)
 
--- one more read waits, under the next ask and with the acknowledged number as its mark
-pub reads-push : (above mark : ℕ) (rs : List OpenRead) (r : OpenRead)
-    → AreReads above mark rs r.ask r.mark
-    → AreReads above mark (rs ++ r ∷ []) (r.ask + 1) r.mark
-reads-push above mark [] r h = (h.0, h.1, (omega arith, omega arith))
-reads-push above mark (q ∷ rs) r h = (h.0, h.1, reads-push q.ask q.mark rs r h.2)
+-- one more read waits, under the next ask and with the acknowledged number as its lower bound
+pub reads-push : (above lower_bound : ℕ) (rs : List OpenRead) (r : OpenRead)
+    → AreReads above lower_bound rs r.ask r.lower_bound
+    → AreReads above lower_bound (rs ++ r ∷ []) (r.ask + 1) r.lower_bound
+reads-push above lower_bound [] r h = (h.0, h.1, (omega arith, omega arith))
+reads-push above lower_bound (q ∷ rs) r h = (h.0, h.1, reads-push q.ask q.lower_bound rs r h.2)
 
--- the open read of an ask is among them: its mark is between the floor and the acknowledged number
-found_step : (b : Bool) (r q : OpenRead) (rest : Option OpenRead) (mark acked : ℕ)
-    → (mark ≤ r.mark)
-    → (r.mark ≤ acked)
-    → (rest ≡ Some q → (mark ≤ q.mark) × (q.mark ≤ acked))
+-- the open read of an ask is among them: its lower bound is between the floor and the acknowledged number
+found_step : (b : Bool) (r q : OpenRead) (rest : Option OpenRead) (lower_bound acked : ℕ)
+    → (lower_bound ≤ r.lower_bound)
+    → (r.lower_bound ≤ acked)
+    → (rest ≡ Some q → (lower_bound ≤ q.lower_bound) × (q.lower_bound ≤ acked))
     → cond b (Some r) rest ≡ Some q
-    → (mark ≤ q.mark) × (q.mark ≤ acked)
-found_step true r q rest mark acked low high f h = let same : r ≡ q = same_Some r q h in rw (← same) (low, high)
-found_step false r q rest mark acked low high f h = f h
+    → (lower_bound ≤ q.lower_bound) × (q.lower_bound ≤ acked)
+found_step true r q rest lower_bound acked low high f h = let same : r ≡ q = same_Some r q h in rw (← same) (low, high)
+found_step false r q rest lower_bound acked low high f h = f h
 
--- an open read that is found has a mark from the bound of the list to the acknowledged number
-pub read-found : (above mark : ℕ) (rs : List OpenRead) (next_ask acked ask : ℕ) (q : OpenRead)
-    → AreReads above mark rs next_ask acked
+-- an open read that is found has a lower bound from the bound of the list to the acknowledged number
+pub read-found : (above lower_bound : ℕ) (rs : List OpenRead) (next_ask acked ask : ℕ) (q : OpenRead)
+    → AreReads above lower_bound rs next_ask acked
     → find (λ r. r.ask == ask) rs ≡ Some q
-    → (mark ≤ q.mark) × (q.mark ≤ acked)
-read-found above mark [] next_ask acked ask q h e = absurd cc
-read-found above mark (r ∷ rs) next_ask acked ask q h e =
-    found_step _ r q _ mark acked h.1 (reads_bound r.ask r.mark rs next_ask acked h.2).1
-    (λ g. let k = read-found r.ask r.mark rs next_ask acked ask q h.2 g in (omega (arith, k.0, h.1), k.1)) e
+    → (lower_bound ≤ q.lower_bound) × (q.lower_bound ≤ acked)
+read-found above lower_bound [] next_ask acked ask q h e = absurd cc
+read-found above lower_bound (r ∷ rs) next_ask acked ask q h e =
+    found_step _ r q _ lower_bound acked h.1 (reads_bound r.ask r.lower_bound rs next_ask acked h.2).1
+    (λ g. let k = read-found r.ask r.lower_bound rs next_ask acked ask q h.2 g in (omega (arith, k.0, h.1), k.1)) e
 
--- the least of the acknowledged number and the marks is the first mark, or the acknowledged number
-pub least_first : (above mark : ℕ) (r : OpenRead) (rs : List OpenRead) (next_ask acked : ℕ)
-    → AreReads above mark (r ∷ rs) next_ask acked
-    → least_open acked (r ∷ rs) ≡ r.mark
-least_first above mark r [] next_ask acked h = omega (arith, h.2)
-least_first above mark r (q ∷ rs) next_ask acked h =
-    omega (arith, h.2.1, least_first r.ask r.mark q rs next_ask acked h.2)
+-- the least of the acknowledged number and the lower bounds is the first lower bound, or the acknowledged number
+pub least_first : (above lower_bound : ℕ) (r : OpenRead) (rs : List OpenRead) (next_ask acked : ℕ)
+    → AreReads above lower_bound (r ∷ rs) next_ask acked
+    → least_open acked (r ∷ rs) ≡ r.lower_bound
+least_first above lower_bound r [] next_ask acked h = omega (arith, h.2)
+least_first above lower_bound r (q ∷ rs) next_ask acked h =
+    omega (arith, h.2.1, least_first r.ask r.lower_bound q rs next_ask acked h.2)
 
--- the least of the acknowledged number and the marks is from the bound of the list to the acknowledged number
-pub least_within : (above mark : ℕ) (rs : List OpenRead) (next_ask acked : ℕ)
-    → AreReads above mark rs next_ask acked
-    → (mark ≤ least_open acked rs) × (least_open acked rs ≤ acked)
-least_within above mark [] next_ask acked h = (h.1, omega arith)
-least_within above mark (r ∷ rs) next_ask acked h =
-    let g = least_within r.ask r.mark rs next_ask acked h.2 in (omega (arith, g.0, h.1), omega (arith, g.1))
+-- the least of the acknowledged number and the lower bounds is from the bound of the list to the acknowledged number
+pub least_within : (above lower_bound : ℕ) (rs : List OpenRead) (next_ask acked : ℕ)
+    → AreReads above lower_bound rs next_ask acked
+    → (lower_bound ≤ least_open acked rs) × (least_open acked rs ≤ acked)
+least_within above lower_bound [] next_ask acked h = (h.1, omega arith)
+least_within above lower_bound (r ∷ rs) next_ask acked h =
+    let g = least_within r.ask r.lower_bound rs next_ask acked h.2 in (omega (arith, g.0, h.1), omega (arith, g.1))
 
 -- the first open read has it
-pub least_at_front : (above mark : ℕ) (rs : List OpenRead) (next_ask acked : ℕ) (r : OpenRead)
-    → AreReads above mark rs next_ask acked
+pub least_at_front : (above lower_bound : ℕ) (rs : List OpenRead) (next_ask acked : ℕ) (r : OpenRead)
+    → AreReads above lower_bound rs next_ask acked
     → 0 < length rs
     → r ≡ get_or rs 0 r
-    → (r.mark ≡ least_open acked rs) × (r.mark ≤ acked)
-least_at_front above mark [] next_ask acked r h some is = absurd (omega arith)
-least_at_front above mark (q ∷ rs) next_ask acked r h some is =
-    rw is (sym (least_first above mark q rs next_ask acked h), (reads_bound q.ask q.mark rs next_ask acked h.2).1)
+    → (r.lower_bound ≡ least_open acked rs) × (r.lower_bound ≤ acked)
+least_at_front above lower_bound [] next_ask acked r h some is = absurd (omega arith)
+least_at_front above lower_bound (q ∷ rs) next_ask acked r h some is =
+    rw is (
+      sym (least_first above lower_bound q rs next_ask acked h),
+      (reads_bound q.ask q.lower_bound rs next_ask acked h.2).1,
+    )
 
 -- the floor may rise to it
-pub reads-least : (above mark : ℕ) (rs : List OpenRead) (next_ask acked : ℕ)
-    → AreReads above mark rs next_ask acked
+pub reads-least : (above lower_bound : ℕ) (rs : List OpenRead) (next_ask acked : ℕ)
+    → AreReads above lower_bound rs next_ask acked
     → AreReads above (least_open acked rs) rs next_ask acked
-reads-least above mark [] next_ask acked h = (h.0, omega arith)
-reads-least above mark (r ∷ rs) next_ask acked h = (h.0, omega arith, h.2)
+reads-least above lower_bound [] next_ask acked h = (h.0, omega arith)
+reads-least above lower_bound (r ∷ rs) next_ask acked h = (h.0, omega arith, h.2)
 
 -- ---- entries and items
 
@@ -378,7 +382,7 @@ sound-entered s port call fit is h =
 pub sound-asked : (s : ServerState) (port : ℕ) (key : List ℕ) → IsSound s → IsSound (asked s port key)
 unfolding asked
 sound-asked s port key h =
-    let r : OpenRead = record { ask = s.next_ask; port = port; key = key; mark = s.store.acked } in
+    let r : OpenRead = record { ask = s.next_ask; port = port; key = key; lower_bound = s.store.acked } in
     sound-reads s (s.asks ++ r ∷ []) (s.next_ask + 1) (reads-push 0 s.store.floor s.asks r h.reads) h
 
 -- fewer reads wait

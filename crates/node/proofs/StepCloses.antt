@@ -14,7 +14,7 @@ use Rattle.node.specs.declared.servers.OpenRead.{OpenRead}
 use Rattle.node.specs.declared.messages.Body.TheVariants.{Query}
 use Rattle.node.specs.declared.messages.Input.{Input}
 use Rattle.node.specs.declared.messages.Input.TheVariants.{Call as Called, From, Gone}
-use Rattle.node.specs.Servers.{ServerState, Outcome, most, tail_of, silent}
+use Rattle.node.specs.Servers.{ServerState, RuleResult, most, tail_of, silent}
 use Rattle.node.specs.Servers.{putting, message_to, reply_at}
 use Rattle.node.specs.Numbering.{entered, is_room_for_update, called, update}
 use Rattle.node.specs.Reading.{asked, dirty_read, read_of}
@@ -31,7 +31,7 @@ use Rattle.node.proofs.Closing.{Closes, closes-done}
 -- ---- own calls
 
 -- the same server, and with the calls that are open then, the replies are those that were open and the input's own
-pub record Answers (s : ServerState) (input : Input) (a : Outcome) : Type 0 where
+pub record Answers (s : ServerState) (input : Input) (a : RuleResult) : Type 0 where
   pub id : a.state.id ≡ s.id
   pub count : a.state.count ≡ s.count
   pub calls : (port : ℕ) (reads : Bool)
@@ -90,7 +90,7 @@ closes-called s port made fit is h =
     (clear_entered s (nothing_due s) port made (u ∷ []) (clear_paid s (nothing_due s) (paid_nothing s h.settled))) fit
     is (entered_in s port made) refl).done
 
-answers-entered : (s : ServerState) (p : ℕ) (made : Call) (a : Outcome)
+answers-entered : (s : ServerState) (p : ℕ) (made : Call) (a : RuleResult)
     → is_update made.op ≡ true
     → is_room_for_update s ≡ true
     → Closes (entered s p made) a
@@ -114,7 +114,8 @@ answers-update : (s : ServerState) (p : ℕ) (made : Call)
     → is_update made.op ≡ true
     → IsLawful s
     → Answers s (Called p made) (update s p made)
-answers-update s p made fit is h = cond_both (is_room_for_update s) _ _ (λ (a : Outcome). Answers s (Called p made) a)
+answers-update s p made fit is h =
+    cond_both (is_room_for_update s) _ _ (λ (a : RuleResult). Answers s (Called p made) a)
     (λ t. answers-entered s p made _ is t (closes-called s p made fit is h))
     (λ f. answers-silent s (Called p made) (λ port reads. opened-no_update s p made port reads is f))
 
@@ -140,7 +141,7 @@ open-asked : (s : ServerState) (p : ℕ) (key : List ℕ) (port : ℕ) (reads : 
 unfolding asked
 open-asked s p key port true =
     count-push (λ (r : OpenRead). r.port == port) s.asks
-    (record { ask = s.next_ask; port = p; key = key; mark = s.store.acked })
+    (record { ask = s.next_ask; port = p; key = key; lower_bound = s.store.acked })
 open-asked s p key port false = omega arith
 
 place-asked : (s : ServerState) (p : ℕ) (key : List ℕ) → ((asked s p key).id ≡ s.id) × ((asked s p key).count ≡ s.count)
@@ -169,7 +170,7 @@ answers-dirty : (s : ServerState) (p : ℕ) (made : Call) (key : List ℕ)
     → Answers s (Called p made) (dirty_read s p key)
 unfolding dirty_read
 answers-dirty s p made key on is dirty =
-    cond_both (nat_lt s.next_ask most) _ _ (λ (a : Outcome). Answers s (Called p made) a)
+    cond_both (nat_lt s.next_ask most) _ _ (λ (a : RuleResult). Answers s (Called p made) a)
     (λ t. answers-asked s p made key is (rw (on, dirty, t) refl))
     (λ f. answers-silent s (Called p made)
     (λ port reads. opened-no_read s p made port reads is (rw (on, dirty, f) refl)))
@@ -179,7 +180,7 @@ answers-read_of : (s : ServerState) (p : ℕ) (made : Call) (target : Target)
     → is_update made.op ≡ false
     → Answers s (Called p made) (read_of s p target)
 answers-read_of s p made (One key) on is =
-    cond_both (is_clean s.store key) _ _ (λ (a : Outcome). Answers s (Called p made) a)
+    cond_both (is_clean s.store key) _ _ (λ (a : RuleResult). Answers s (Called p made) a)
     (λ t. answers-clean s p made key on is t)
     (λ f. answers-dirty s p made key on is f)
 answers-read_of s p made All on is =
@@ -191,12 +192,12 @@ answers-call : (s : ServerState) (p : ℕ) (made : Call)
     → IsCall made
     → IsLawful s
     → Answers s (Called p made) (call s p made)
-answers-call s p made fit h = cond_both (is_update made.op) _ _ (λ (a : Outcome). Answers s (Called p made) a)
+answers-call s p made fit h = cond_both (is_update made.op) _ _ (λ (a : RuleResult). Answers s (Called p made) a)
     (λ t. answers-update s p made fit t h)
     (λ f. answers-read_of s p made made.target refl f)
 
 -- an input that is no call opens none
-answers-closed : (s : ServerState) (input : Input) (a : Outcome)
+answers-closed : (s : ServerState) (input : Input) (a : RuleResult)
     → ((port : ℕ) (reads : Bool) → opened_at port reads s input ≡ 0)
     → Closes s a
     → Answers s input a
@@ -217,7 +218,7 @@ answers-taken_in s (Gone j) fit valid h =
     answers-closed s (Gone j) _ (λ port reads. refl)
     (closes-done (Some (Gone j)) s _ (λ p made e. let no = e in cc) (rule_taken_in s (Gone j) h.sound h.settled fit valid).done)
 
-trimmed_answers : (s : ServerState) (input : Input) (a : Outcome)
+trimmed_answers : (s : ServerState) (input : Input) (a : RuleResult)
     → Answers s input a
     → Answers s input (record { state = trimmed a.state; outputs = a.outputs })
 unfolding trimmed

@@ -19,7 +19,8 @@ use Rattle.node.specs.declared.messages.Input.{Input}
 use Rattle.node.specs.declared.messages.Input.TheVariants.{Call as Called, From, Gone}
 use Rattle.node.specs.declared.messages.Output.TheVariants.{To}
 use Rattle.node.specs.Views.{View, has, single, is_below, is_same}
-use Rattle.node.specs.Servers.{ServerState, Outcome, most, head_of, tail_of, is_head, is_tail, previous, next, silent}
+use Rattle.node.specs.Servers.{ServerState, RuleResult, most, head_of, tail_of, is_head, is_tail, previous, next}
+use Rattle.node.specs.Servers.{silent}
 use Rattle.node.specs.Servers.{putting, and_then, message_to, reply_at}
 use Rattle.node.specs.Numbering.{newly_acked, left_open_by, reply_to, appended, entry_of, is_taken, entered}
 use Rattle.node.specs.Numbering.{is_room_for_update}
@@ -97,8 +98,8 @@ MaySend input s j (Op id call) =
 MaySend input s j (Forward e) = (next s ≡ Some j) × In e s.store.rest
 MaySend input s j (Ack n) = (previous s ≡ Some j) × (n ≡ s.store.acked)
 MaySend input s j (Query ask key) =
-    (tail_of s ≡ Some j) × (is_tail s ≡ false) × (1 ≤ ask) × (port : ℕ) × (mark : ℕ)
-    × In (record { ask = ask; port = port; key = key; mark = mark }) s.asks
+    (tail_of s ≡ Some j) × (is_tail s ≡ false) × (1 ≤ ask) × (port : ℕ) × (lower_bound : ℕ)
+    × In (record { ask = ask; port = port; key = key; lower_bound = lower_bound }) s.asks
 MaySend input s j (Answer ask n) =
     (is_tail s ≡ true) × (n ≡ last_number s.store) × (has s.view j ≡ false) × (m : Peer) × (key : List ℕ)
     × (input ≡ Some (From j m)) × (m.body ≡ Query ask key)
@@ -158,8 +159,8 @@ IsTurnOf (Op id call) d =
 IsTurnOf (Forward e) d = e.number ≡ d.forwarded + 1
 IsTurnOf (Ack n) d = d.untold ≡ true
 IsTurnOf (Query ask key) d =
-    (port : ℕ) × (mark : ℕ) × (more : List OpenRead)
-    × (d.unasked ≡ record { ask = ask; port = port; key = key; mark = mark } ∷ more)
+    (port : ℕ) × (lower_bound : ℕ) × (more : List OpenRead)
+    × (d.unasked ≡ record { ask = ask; port = port; key = key; lower_bound = lower_bound } ∷ more)
 IsTurnOf (Answer ask n) d = Unit {0}
 
 -- what is due after a message
@@ -215,7 +216,7 @@ pub record Meaning : Type 1 where
   -- what is known when it is done
   pub guard : Type 0
   -- what it makes of the server, and puts out
-  pub effect : Outcome
+  pub effect : RuleResult
   -- its turn has come, by what is due
   pub turn : Due → Type 0
   -- what is due after it
@@ -259,7 +260,7 @@ meaning input s (Send j body) =
     }
 meaning input s (Finish r n) =
     record {
-      guard = (open_read s.asks r.ask ≡ Some r) × In r s.asks × (r.mark ≤ n) × (n ≤ last_number s.store)
+      guard = (open_read s.asks r.ask ≡ Some r) × In r s.asks × (r.lower_bound ≤ n) × (n ≤ last_number s.store)
           × IsAnswered input s r.ask n;
       effect = record {
         state = record s { asks = without_read s.asks r.ask };
@@ -290,8 +291,9 @@ meaning input s (Ask port key) =
           × (is_clean s.store key ≡ false) × (nat_lt s.next_ask most ≡ true);
       effect = silent (asked s port key);
       turn = λ d. Unit {0};
-      due = λ d. record d
-          { unasked = d.unasked ++ record { ask = s.next_ask; port = port; key = key; mark = s.store.acked } ∷ [] };
+      due = λ d. record d {
+        unasked = d.unasked ++ record { ask = s.next_ask; port = port; key = key; lower_bound = s.store.acked } ∷ [];
+      };
     }
 meaning input s (Show port key) =
     record {
@@ -307,7 +309,7 @@ abbrev pub Guard : Cause → ServerState → Action → Type 0
 Guard input s a = (meaning input s a).guard
 
 -- what it makes of the server, whatever the input is
-unfoldable pub act : ServerState → Action → Outcome
+unfoldable pub act : ServerState → Action → RuleResult
 act s a = (meaning None s a).effect
 
 -- its turn has come
@@ -321,7 +323,7 @@ due d s a = (meaning None s a).due d
 -- ---- lists of actions
 
 -- one action after another
-unfoldable pub does : ServerState → List Action → Outcome
+unfoldable pub does : ServerState → List Action → RuleResult
 does s [] = silent s
 does s (a ∷ later) = and_then (act s a) (λ t. does t later)
 
@@ -331,7 +333,7 @@ AreGuarded input s [] = IsSound s
 AreGuarded input s (a ∷ later) = IsSound s × Guard input s a × AreGuarded (left input) (act s a).state later
 
 -- what a rule makes of a server is made by such actions
-pub record IsDone (input : Cause) (s : ServerState) (a : Outcome) : Type 0 where
+pub record IsDone (input : Cause) (s : ServerState) (a : RuleResult) : Type 0 where
   pub actions : List Action
   pub guarded : AreGuarded input s actions
   pub same : a ≡ does s actions
@@ -351,18 +353,18 @@ due_in_the_end d s (a ∷ later) = due_in_the_end (due d s a) (act s a).state la
 -- what a message from server i says is taken in, by a server that doesn't know i to have failed: a head has taken an
 -- update if it could, an entry of the predecessor isn't the next one any more, a number of the successor is
 -- acknowledged, a query is answered by the tail, and an answer of the tail that is in range leaves its read closed
-abbrev pub IsTakenIn : ℕ → Body → Outcome → Type 0
+abbrev pub IsTakenIn : ℕ → Body → RuleResult → Type 0
 IsTakenIn i (Op id call) a = is_head a.state ≡ true → is_update call.op ≡ true → is_taken a.state i id ≡ false
 IsTakenIn i (Forward e) a = previous a.state ≡ Some i → e.number ≢ last_number a.state.store + 1
 IsTakenIn i (Ack n) a = next a.state ≡ Some i → n ≤ last_number a.state.store → n ≤ a.state.store.acked
 IsTakenIn i (Query ask key) a =
     is_tail a.state ≡ true → (m : Peer) × In (To i m) a.outputs × (m.body ≡ Answer ask (last_number a.state.store))
 IsTakenIn i (Answer ask n) a =
-    tail_of a.state ≡ Some i → (r : OpenRead) → In r a.state.asks → r.ask ≡ ask → r.mark ≤ n
+    tail_of a.state ≡ Some i → (r : OpenRead) → In r a.state.asks → r.ask ≡ ask → r.lower_bound ≤ n
     → n ≤ last_number a.state.store → ⊥
 
 -- what an input says is known after its step: a message's view and body, if it is heard, and a notice's server
-abbrev pub IsHeeded : Input → ServerState → Outcome → Type 0
+abbrev pub IsHeeded : Input → ServerState → RuleResult → Type 0
 IsHeeded (Called port call) s a = Unit {0}
 IsHeeded (From i m) s a =
     is_heard s i m.view ≡ true
@@ -371,7 +373,7 @@ IsHeeded (From i m) s a =
 IsHeeded (Gone j) s a = j < s.count → j ≢ s.id → has a.state.view j ≡ true
 
 -- A whole step: a list of actions, each in its turn, after which nothing is left to do.
-pub record IsWhole (input : Input) (s : ServerState) (a : Outcome) : Type 0 where
+pub record IsWhole (input : Input) (s : ServerState) (a : RuleResult) : Type 0 where
   pub done : IsDone (Some input) s a
   pub turns : AreInTurn (nothing_due s) s done.actions
   pub paid : IsPaid a.state (due_in_the_end (nothing_due s) s done.actions)

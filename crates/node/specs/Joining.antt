@@ -13,7 +13,7 @@ use Rattle.node.specs.declared.servers.OpenRead.{OpenRead}
 use Rattle.node.specs.declared.messages.Body.TheVariants.{Op, Forward, Ack, Query}
 use Rattle.node.specs.declared.messages.Output.{Output}
 use Rattle.node.specs.Views.{View, union, adds, head, tail, predecessor, successor, is_that, is_same}
-use Rattle.node.specs.Servers.{ServerState, Outcome, head_of, tail_of, is_head, is_tail, previous, next, silent}
+use Rattle.node.specs.Servers.{ServerState, RuleResult, head_of, tail_of, is_head, is_tail, previous, next, silent}
 use Rattle.node.specs.Servers.{putting, and_then, message_to, reply_at}
 use Rattle.node.specs.Numbering.{taken, rise}
 
@@ -36,13 +36,13 @@ sent_again s [] = []
 sent_again s (u ∷ us) = message_to s (head_of s) (Op u.id u.call) ++ sent_again s us
 
 -- Second: a new head takes its own open calls; any other server sends them to the head, if the head changed.
-unfoldable pub promoted_to_head : View → ServerState → Outcome
+unfoldable pub promoted_to_head : View → ServerState → RuleResult
 promoted_to_head old s =
     if is_head s then (if is_that (head old s.count) s.id then silent s else silent (taken_all s s.pend))
     else (if is_same (head old s.count) (head_of s) then silent s else putting s (sent_again s s.pend))
 
 -- Third: the tail acknowledges all that it holds.
-unfoldable pub promoted_to_tail : ServerState → Outcome
+unfoldable pub promoted_to_tail : ServerState → RuleResult
 promoted_to_tail s =
     if is_tail s && nat_lt s.store.acked (last_number s.store) then rise s (last_number s.store) else silent s
 
@@ -57,11 +57,11 @@ abbrev pub needed_above : View → ℕ → ServerState → ℕ
 needed_above old last_before s = if is_same (successor old s.count s.id) (next s) then last_before else s.store.acked
 
 -- Fourth: a successor gets the entries that it needs.
-unfoldable pub caught_up : View → ℕ → ServerState → Outcome
+unfoldable pub caught_up : View → ℕ → ServerState → RuleResult
 caught_up old last_before s = putting s (forwarded s (entries_after s.store (needed_above old last_before s)))
 
 -- Fifth: a new predecessor gets the acknowledged number, unless the third step raised it, and so sent it already.
-unfoldable pub acked_to_predecessor : View → ℕ → ServerState → Outcome
+unfoldable pub acked_to_predecessor : View → ℕ → ServerState → RuleResult
 acked_to_predecessor old acked_before s =
     if not (is_same (predecessor old s.id) (previous s)) && s.store.acked == acked_before
     then putting s (message_to s (previous s) (Ack s.store.acked)) else silent s
@@ -77,18 +77,18 @@ asked_again s [] = []
 asked_again s (r ∷ rs) = message_to s (tail_of s) (Query r.ask r.key) ++ asked_again s rs
 
 -- Sixth: if the tail changed, the new tail answers and closes its open reads; any other server asks the tail again.
-unfoldable pub asks_renewed : View → ServerState → Outcome
+unfoldable pub asks_renewed : View → ServerState → RuleResult
 asks_renewed old s =
     if is_same (tail old s.count) (tail_of s) then silent s
     else (if is_tail s then record { state = record s { asks = [] }; outputs = replies_to s s.asks } else putting s
     (asked_again s s.asks))
 
 -- the steps after the first, of a server whose view was widened
-abbrev pub rejoined : View → ℕ → ℕ → ServerState → Outcome
+abbrev pub rejoined : View → ℕ → ℕ → ServerState → RuleResult
 rejoined old last_before acked_before s =
     and_then (and_then (and_then (and_then (promoted_to_head old s) promoted_to_tail) (caught_up old last_before))
     (acked_to_predecessor old acked_before)) (asks_renewed old)
 
 -- Join a view: if it adds nothing, nothing happens; otherwise the six steps, in order.
-abbrev pub join : ServerState → View → Outcome
+abbrev pub join : ServerState → View → RuleResult
 join s v = if not (adds s.view v) then silent s else rejoined s.view (last_number s.store) s.store.acked (widened s v)

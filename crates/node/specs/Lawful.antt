@@ -57,11 +57,11 @@ AreUpdates above (u ∷ us) next_id =
     (above < u.id) × IsCall u.call × (is_update u.call.op ≡ true) × AreUpdates u.id us next_id
 
 -- reads that may wait: in the order of their asks, which are above this number and below the next ask,
--- with marks that never fall, none below the floor or above the acknowledged number
+-- with lower bounds that never fall, none below the floor or above the acknowledged number
 abbrev pub AreReads : ℕ → ℕ → List OpenRead → ℕ → ℕ → Type 0
-AreReads above mark [] next_ask acked = (above < next_ask) × (mark ≤ acked)
-AreReads above mark (r ∷ rs) next_ask acked =
-    (above < r.ask) × (mark ≤ r.mark) × AreReads r.ask r.mark rs next_ask acked
+AreReads above lower_bound [] next_ask acked = (above < next_ask) × (lower_bound ≤ acked)
+AreReads above lower_bound (r ∷ rs) next_ask acked =
+    (above < r.ask) × (lower_bound ≤ r.lower_bound) × AreReads r.ask r.lower_bound rs next_ask acked
 
 -- What every server keeps, within a step too, for any inputs:
 pub record IsSound (s : ServerState) : Type 0 where
@@ -77,7 +77,7 @@ pub record IsSound (s : ServerState) : Type 0 where
   pub based : (key : List ℕ) (item : Item) → item_at s.store.base key ≡ Some item → item.unique ≤ s.store.floor
   -- each origin has a greatest id seen;
   pub seen : length s.seen ≡ 16
-  -- own calls wait in the order of their ids, and own reads in that of their asks and of their marks.
+  -- own calls wait in the order of their ids, and own reads in that of their asks and of their lower bounds.
   pub updates : AreUpdates 0 s.pend s.next_id
   pub reads : AreReads 0 s.store.floor s.asks s.next_ask s.store.acked
 
@@ -89,7 +89,7 @@ IsSettled s = is_tail s ≡ true → (s.store.acked ≡ last_number s.store) × 
 pub record IsLawful (s : ServerState) : Type 0 where
   pub sound : IsSound s
   pub settled : IsSettled s
-  -- the floor is the least of the acknowledged number and all marks.
+  -- the floor is the least of the acknowledged number and all lower bounds.
   pub floored : s.store.floor ≡ least_open s.store.acked s.asks
 
 -- a message goes to another server of the chain

@@ -14,7 +14,8 @@ use Rattle.node.specs.declared.servers.OpenUpdate.{OpenUpdate}
 use Rattle.node.specs.declared.messages.Body.TheVariants.{Op, Forward, Ack}
 use Rattle.node.specs.declared.messages.Output.{Output}
 use Rattle.node.specs.Views.{is_that}
-use Rattle.node.specs.Servers.{ServerState, Outcome, most, seen_of, head_of, is_head, is_tail, previous, next, silent}
+use Rattle.node.specs.Servers.{ServerState, RuleResult, most, seen_of, head_of, is_head, is_tail, previous, next}
+use Rattle.node.specs.Servers.{silent}
 use Rattle.node.specs.Servers.{putting, message_to, reply_at, without_first}
 
 -- acknowledgement
@@ -61,7 +62,7 @@ unfoldable pub risen : ServerState → ℕ → ServerState
 risen s n = record s { store = acked_to s.store n; pend = left_open s.id s.pend (newly_acked s n) }
 
 -- the server risen to n, and what it puts out
-abbrev pub rise : ServerState → ℕ → Outcome
+abbrev pub rise : ServerState → ℕ → RuleResult
 rise s n =
     record { state = risen s n; outputs = replies s.id s.pend (newly_acked s n) ++ message_to s (previous s) (Ack n) }
 
@@ -73,7 +74,7 @@ appended s e = record s { store = pushed s.store e; seen = slice_set s.seen e.or
 
 -- an entry that was just appended: at the tail it is acknowledged, otherwise it goes on to the successor
 -- (CRAQ, "Chain Replication")
-unfoldable pub passed_on : ServerState → LogEntry → Outcome
+unfoldable pub passed_on : ServerState → LogEntry → RuleResult
 passed_on s e = if is_tail s then rise s (last_number s.store) else putting s (message_to s (next s) (Forward e))
 
 -- taking
@@ -106,7 +107,7 @@ unfoldable pub taken : ServerState → ℕ → ℕ → Call → ServerState
 taken s origin id call = if is_taken s origin id then appended s (entry_of s origin id call) else s
 
 -- Take, only at the head: the same, and the entry is passed on
-unfoldable pub take_update : ServerState → ℕ → ℕ → Call → Outcome
+unfoldable pub take_update : ServerState → ℕ → ℕ → Call → RuleResult
 take_update s origin id call =
     if is_taken s origin id then passed_on (appended s (entry_of s origin id call)) (entry_of s origin id call)
     else silent s
@@ -123,25 +124,25 @@ abbrev pub is_room_for_update : ServerState → Bool
 is_room_for_update s = nat_lt s.next_id most && (not (is_head s) || nat_lt (last_number s.store) most)
 
 -- an own update call: at the head it is taken, elsewhere it goes to the head
-abbrev pub called : ServerState → ℕ → Call → Outcome
+abbrev pub called : ServerState → ℕ → Call → RuleResult
 called s id call =
     if is_head s then take_update s s.id id call else putting s (message_to s (head_of s) (Op id call))
 
 -- an own update call enters the open ones first; no effect if no id is left, or at the head no number
-abbrev pub update : ServerState → ℕ → Call → Outcome
+abbrev pub update : ServerState → ℕ → Call → RuleResult
 update s port call = if is_room_for_update s then called (entered s port call) s.next_id call else silent s
 
 -- `Op` from server i: at the head an update is taken with i as its origin
-abbrev pub receive_op : ServerState → ℕ → ℕ → Call → Outcome
+abbrev pub receive_op : ServerState → ℕ → ℕ → Call → RuleResult
 receive_op s i id call = if is_head s && is_update call.op then take_update s i id call else silent s
 
 -- `Forward` from server i: from the predecessor the entry with the next number is appended and passed on
-abbrev pub receive_forward : ServerState → ℕ → LogEntry → Outcome
+abbrev pub receive_forward : ServerState → ℕ → LogEntry → RuleResult
 receive_forward s i e =
     if is_that (previous s) i && e.number == last_number s.store + 1 then passed_on (appended s e) e else silent s
 
 -- `Ack` from server i: from the successor, with a number above the acknowledged one and not above the last, this server
 -- rises to it
-abbrev pub receive_ack : ServerState → ℕ → ℕ → Outcome
+abbrev pub receive_ack : ServerState → ℕ → ℕ → RuleResult
 receive_ack s i n =
     if is_that (next s) i && nat_lt s.store.acked n && nat_le n (last_number s.store) then rise s n else silent s

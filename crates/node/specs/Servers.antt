@@ -72,20 +72,20 @@ abbrev pub next : ServerState → Option ℕ
 next s = successor s.view s.count s.id
 
 -- What a rule makes of a server: the server after it, and what is put out, in order.
-pub record Outcome : Type 0 where
+pub record RuleResult : Type 0 where
   pub state : ServerState
   pub outputs : List Output
 
 -- the server as it is, and nothing put out
-abbrev pub silent : ServerState → Outcome
+abbrev pub silent : ServerState → RuleResult
 silent s = record { state = s; outputs = [] }
 
 -- the server as it is, and these put out
-abbrev pub putting : ServerState → List Output → Outcome
+abbrev pub putting : ServerState → List Output → RuleResult
 putting s outputs = record { state = s; outputs = outputs }
 
 -- one rule after another
-abbrev pub and_then : Outcome → (ServerState → Outcome) → Outcome
+abbrev pub and_then : RuleResult → (ServerState → RuleResult) → RuleResult
 and_then a rule = record { state = (rule a.state).state; outputs = a.outputs ++ (rule a.state).outputs }
 
 -- a message to this server, if it is one: each carries the sender's view

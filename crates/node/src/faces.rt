@@ -6,7 +6,7 @@ ghost use Rattle.versions.specs.Stores.{last_number, entries_after};
 ghost use Rattle.node.specs.Faces as faces;
 
 use crate::nodes::Node;
-use crate::servers::Server;
+use crate::servers::Replica;
 use std::alloc::AllocError;
 use table::{Change, Item, Key, Target};
 use versions::Entry;
@@ -121,7 +121,7 @@ impl Node {
     }
 }
 
-impl Server {
+impl Replica {
     // The versions of the base's items, then what the entries above the floor change, and the acknowledged number.
     fn whole_face(&self) -> Result<FaceChange, AllocError>
         ensures { IfOk result

@@ -8,7 +8,7 @@ ghost use Rattle.node.specs.Outcomes.{Does};
 ghost use Rattle.node.specs.Numbering as numbering;
 
 use crate::queues::take_out;
-use crate::servers::{OpenUpdate, Server, is_that};
+use crate::servers::{OpenUpdate, Replica, is_that};
 use crate::{Body, Output};
 use std::alloc::AllocError;
 use std::collections::VecDeque;
@@ -62,7 +62,7 @@ fn settle_first(
     Ok(())
 }
 
-impl Server {
+impl Replica {
     /// Raises the acknowledged number to `n`: the own calls among the entries newly passed are answered, and then the
     /// predecessor is told.
     #[tactic(auto, unfolding(crate::specs::Numbering::risen))]

@@ -8,7 +8,7 @@ ghost use Rattle.node.specs.Outcomes.{Does};
 ghost use Rattle.node.specs.Joining as joining;
 
 use crate::reading::value_reply;
-use crate::servers::{Server, is_that};
+use crate::servers::{Replica, is_that};
 use crate::{Body, Output, View};
 use std::alloc::AllocError;
 use table::Call;
@@ -24,7 +24,7 @@ fn is_same(first: Option<u8>, second: Option<u8>) -> bool
     }
 }
 
-impl Server {
+impl Replica {
     /// Joins a view: if it adds nothing, nothing happens; otherwise the six steps, in order.
     pub(crate) fn join(&mut self, v: View, outputs: &mut Vec<Output>) -> Result<(), AllocError>
         requires chain { IsSound self.old }

@@ -8,7 +8,7 @@ ghost use Rattle.node.specs.Nodes as nodes;
 ghost use Rattle.node.specs.Standings.{entries_by};
 ghost use Rattle.node.specs.Faces.{peeked, look_copied, look_at, face_of, face_changed, steps_by, acked_by};
 
-use crate::servers::Server;
+use crate::servers::Replica;
 use crate::views::SERVERS;
 use crate::{FaceChange, Input, Look, Output, View};
 use std::alloc::{AllocError, Global};
@@ -43,7 +43,7 @@ impl From<AllocError> for NodeFault {
 /// Contracts see a `ServerState`, and whether it is stopped (`NodeState`).
 #[derive(Drop)]
 pub struct Node {
-    pub(crate) server: Server,
+    pub(crate) server: Replica,
     stopped: bool,
 }
 
@@ -76,7 +76,7 @@ impl Node {
             return Err(NodeFault::BadCount);
         }
         Ok(Node {
-            server: Server::new(alloc, id, count),
+            server: Replica::new(alloc, id, count),
             stopped: false,
         })
     }

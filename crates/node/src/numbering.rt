@@ -7,13 +7,13 @@ ghost use Rattle.node.specs.Lawful.{IsCall, IsSound};
 ghost use Rattle.node.specs.Outcomes.{Does};
 ghost use Rattle.node.specs.Numbering as numbering;
 
-use crate::servers::{OpenUpdate, Server};
+use crate::servers::{OpenUpdate, Replica};
 use crate::{Body, Output};
 use std::alloc::AllocError;
 use table::{Call, Item, Target, decide};
 use versions::{Entry, Store};
 
-impl Server {
+impl Replica {
     // The entry that the head makes of an update: decided with the next number.
     fn entry_of(&self, origin: u8, id: u64, call: &Call) -> Result<Entry, AllocError>
         requires server { origin < 16 }

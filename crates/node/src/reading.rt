@@ -9,7 +9,7 @@ ghost use Rattle.node.specs.Lawful.{IsSound};
 ghost use Rattle.node.specs.Outcomes.{Does};
 ghost use Rattle.node.specs.Reading as reading;
 
-use crate::servers::{OpenRead, Server, is_that};
+use crate::servers::{OpenRead, Replica, is_that};
 use crate::{Body, Output, queues};
 use std::alloc::AllocError;
 use table::{Item, Key, Reply, Target};
@@ -34,7 +34,7 @@ fn put_value(port: usize, item: Option<&Item>, outputs: &mut Vec<Output>) -> Res
     Ok(())
 }
 
-impl Server {
+impl Replica {
     /// A read: a clean key's newest version is the answer; of a dirty key the tail is asked, if an ask is left.
     pub(crate) fn read(
         &mut self,
@@ -71,12 +71,12 @@ impl Server {
             drop(key);
             return Err(e);
         }
-        let mark = self.store.acked();
+        let lower_bound = self.store.acked();
         self.asks.push_back(OpenRead {
             ask,
             port,
             key,
-            mark,
+            lower_bound,
         })?;
         self.next_ask = ask + 1;
         Ok(())
@@ -134,7 +134,7 @@ impl Server {
         let Some((place, read)) = queues::look_up(&self.asks, ask) else {
             return Ok(());
         };
-        if n < read.mark || self.store.last() < n {
+        if n < read.lower_bound || self.store.last() < n {
             return Ok(());
         }
         put_value(read.port, self.store.at(&read.key, n), outputs)?;

@@ -32,7 +32,7 @@ pub struct OpenRead {
     /// The key.
     pub key: Key,
     /// The acknowledged number when it was asked.
-    pub mark: u64,
+    pub lower_bound: u64,
 }
 
 impl Numbered for OpenUpdate {
@@ -53,7 +53,7 @@ impl Numbered for OpenRead {
 
 /// What one server holds.
 #[derive(Drop)]
-pub(crate) struct Server {
+pub(crate) struct Replica {
     pub(crate) alloc: Global,
     pub(crate) id: u8,
     pub(crate) count: u8,
@@ -66,7 +66,7 @@ pub(crate) struct Server {
     pub(crate) next_ask: u64,
 }
 
-impl Model for Server {
+impl Model for Replica {
     ghost use Rattle.std.specs.Coded.{codes};
     ghost use Rattle.versions.specs.Stores.{coded_items};
     ghost use Rattle.node.specs.Servers.{ServerState};
@@ -88,12 +88,12 @@ impl Model for Server {
     } };
 }
 
-impl Server {
+impl Replica {
     /// A server before any input. It allocates nothing.
-    pub(crate) fn new(alloc: Global, id: u8, count: u8) -> Server
+    pub(crate) fn new(alloc: Global, id: u8, count: u8) -> Replica
         ensures { result ≡ servers.opening id count }
     {
-        Server {
+        Replica {
             alloc,
             id,
             count,

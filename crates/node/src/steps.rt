@@ -7,13 +7,13 @@ ghost use Rattle.node.specs.Faces.{face_changed, face_of, steps_by, acked_by};
 ghost use Rattle.node.specs.Standings.{entries_by};
 ghost use Rattle.versions.specs.Stores.{last_number, entries_after};
 
-use crate::servers::Server;
+use crate::servers::Replica;
 use crate::{Body, FaceChange, Input, Output, Peer, View};
 use std::alloc::AllocError;
 use table::Call;
 use versions::Entry;
 
-impl Server {
+impl Replica {
     /// One step: what the input does, and then the floor.
     pub(crate) fn step(&mut self, input: Input) -> Result<Vec<Output>, AllocError>
         requires lawful { IsLawful self.old }
@@ -189,7 +189,7 @@ impl Server {
         }
     }
 
-    // The floor follows: marks never fall, so the first open read has the least.
+    // The floor follows: lower bounds never fall, so the first open read has the least.
     #[tactic(auto, unfolding(crate::specs::Steps::trimmed))]
     fn trim(&mut self)
         requires chain { IsSound self.old }
@@ -199,7 +199,7 @@ impl Server {
         self.store.drop_to(least);
     }
 
-    // The least of the acknowledged number and the marks of all open reads.
+    // The least of the acknowledged number and the lower bounds of all open reads.
     fn least_open(&self) -> u64
         requires chain { IsSound self.now }
         ensures least { result ≡ steps.least_open self.now.store.acked self.now.asks }
@@ -207,7 +207,7 @@ impl Server {
         ensures high { result ≤ self.now.store.acked }
     {
         match self.asks.front() {
-            Some(read) => read.mark,
+            Some(read) => read.lower_bound,
             None => self.store.acked(),
         }
     }

@@ -5,13 +5,13 @@ mod faults;
 mod histories;
 mod identities;
 mod putting;
-mod serving;
+mod receiving;
 mod takers;
 
 pub use faults::LinkFault;
 pub use histories::Taken;
 pub use identities::Identity;
 pub use putting::{put_all, put_frame};
-pub use serving::serve_peer;
+pub use receiving::serve_peer;
 pub use takers::{TakeFault, Taker};
 pub use wire::PeerEnd;

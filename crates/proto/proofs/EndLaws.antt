@@ -4,12 +4,12 @@ use Rattle.std.proofs.Common.{None, Some, refl, sym, ap, ◌∙◌, arith}
 use Rattle.std.specs.Prelude.{◌==◌}
 use Rattle.std.specs.List.{list_any}
 use Rattle.std.proofs.lemmas.Bool.Decides.{nat_tests}
-use Rattle.proto.specs.declared.passing.Passing.{Passing}
+use Rattle.proto.specs.declared.skipped_blocks.SkippedBlock.{SkippedBlock}
 use Rattle.proto.specs.declared.requests.Request.TheVariants.{Store, Get, Arith, Delete, Flush, Quit, Bad}
 use Rattle.proto.specs.declared.texts.Form.{Form}
 use Rattle.proto.specs.Fronts.{Front, front, refused_at, found_of, is_last}
 use Rattle.proto.specs.Turns.{fault_text}
-use Rattle.proto.specs.Sessions.{Held, fed, by_found, by_passing, next_of}
+use Rattle.proto.specs.Sessions.{Held, fed, by_found, by_skipped_block, next_of}
 use Rattle.proto.specs.Streams.{requests, will_close, KeepsEnd}
 use Rattle.proto.proofs.RequestLaws.{takes, requests_none, requests_some, requests_more, refused_later}
 
@@ -19,7 +19,7 @@ behind_fault : (b : Bool) (unread : List ℕ) (unique : Bool) (asked : Option Fo
     ≡ will_close (fed
     (record {
       unread = unread;
-      passing = None;
+      skipped_block = None;
       later = [];
       unique = unique;
       asked = asked;
@@ -30,11 +30,11 @@ behind_fault true unread unique asked out more = refl
 behind_fault false unread unique asked out more = refl
 
 -- by what stands at the front
-by_front : (unread : List ℕ) (unique : Bool) (asked : Option Form) (out : List ℕ) (r : Front) (q : Option Passing)
+by_front : (unread : List ℕ) (unique : Bool) (asked : Option Form) (out : List ℕ) (r : Front) (q : Option SkippedBlock)
     → front unread ≡ r
     → refused_at unread ≡ q
     → let h : Held = record
-    { unread = unread; passing = None; later = []; unique = unique; asked = asked; out = out; closed = false } in
+    { unread = unread; skipped_block = None; later = []; unique = unique; asked = asked; out = out; closed = false } in
     KeepsEnd h (by_found (found_of r q) h).0 (by_found (found_of r q) h).1
 by_front unread unique asked out None None e f =
     record { kept = λ more. refl; come = λ given. sym (ap (list_any is_last) (requests_none unread e)) }
@@ -76,17 +76,24 @@ by_front unread unique asked out (Some (Quit, n)) q e f = record {
 }
 
 -- by the refused block that is passed over, or the front
-by_skip : (unread : List ℕ) (passing : Option Passing) (unique : Bool) (asked : Option Form) (out : List ℕ)
-    → let h : Held = record
-    { unread = unread; passing = passing; later = []; unique = unique; asked = asked; out = out; closed = false } in
-    KeepsEnd h (by_passing passing h).0 (by_passing passing h).1
+by_skip : (unread : List ℕ) (skipped_block : Option SkippedBlock) (unique : Bool) (asked : Option Form) (out : List ℕ)
+    → let h : Held = record {
+      unread = unread;
+      skipped_block = skipped_block;
+      later = [];
+      unique = unique;
+      asked = asked;
+      out = out;
+      closed = false;
+    } in
+    KeepsEnd h (by_skipped_block skipped_block h).0 (by_skipped_block skipped_block h).1
 by_skip unread None unique asked out = by_front unread unique asked out (front unread) (refused_at unread) refl refl
 by_skip unread (Some p) unique asked out = by_left (p.left == 0) refl
   where
     h : Held
     h = record {
       unread = unread;
-      passing = Some p;
+      skipped_block = Some p;
       later = [];
       unique = unique;
       asked = asked;
@@ -94,7 +101,8 @@ by_skip unread (Some p) unique asked out = by_left (p.left == 0) refl
       closed = false;
     }
 
-    by_left : (b : Bool) → (p.left == 0) ≡ b → KeepsEnd h (by_passing (Some p) h).0 (by_passing (Some p) h).1
+    by_left : (b : Bool) → (p.left == 0) ≡ b
+        → KeepsEnd h (by_skipped_block (Some p) h).0 (by_skipped_block (Some p) h).1
     by_left true e = record {
       kept = λ more.
           let all : (p.left - length more == 0) ≡ true = grind (arith, nat_tests, e) in
@@ -106,21 +114,22 @@ by_skip unread (Some p) unique asked out = by_left (p.left == 0) refl
     }
     by_left false e = rw e (record { kept = λ more. refl; come = λ given. rw e refl })
 
-by_fields : (unread : List ℕ) (passing : Option Passing) (later : List (List ℕ)) (unique : Bool) (asked : Option Form)
+by_fields : (unread : List ℕ) (skipped_block : Option SkippedBlock) (later : List (List ℕ)) (unique : Bool)
+    (asked : Option Form)
     (out : List ℕ) (closed : Bool)
     → let h : Held = record {
       unread = unread;
-      passing = passing;
+      skipped_block = skipped_block;
       later = later;
       unique = unique;
       asked = asked;
       out = out;
       closed = closed;
     } in KeepsEnd h (next_of h).0 (next_of h).1
-by_fields unread passing later unique asked out true = record { kept = λ more. refl; come = λ given. refl }
-by_fields unread passing [] unique asked out false = by_skip unread passing unique asked out
-by_fields unread passing (key ∷ keys) unique asked out false = record { kept = λ more. refl; come = λ given. cc }
+by_fields unread skipped_block later unique asked out true = record { kept = λ more. refl; come = λ given. refl }
+by_fields unread skipped_block [] unique asked out false = by_skip unread skipped_block unique asked out
+by_fields unread skipped_block (key ∷ keys) unique asked out false = record { kept = λ more. refl; come = λ given. cc }
 
 -- a step keeps where the stream ends
 pub keeps_end : (h : Held) → KeepsEnd h (next_of h).0 (next_of h).1
-keeps_end h = by_fields h.unread h.passing h.later h.unique h.asked h.out h.closed
+keeps_end h = by_fields h.unread h.skipped_block h.later h.unique h.asked h.out h.closed

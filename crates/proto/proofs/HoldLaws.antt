@@ -5,7 +5,7 @@ use Rattle.std.specs.Prelude.{◌==◌}
 use Rattle.std.proofs.lemmas.Bool.Decides.{nat_tests}
 use Rattle.std.proofs.lemmas.List.{drop_all}
 use Rattle.table.specs.Items.{limit}
-use Rattle.proto.specs.declared.passing.Passing.{Passing}
+use Rattle.proto.specs.declared.skipped_blocks.SkippedBlock.{SkippedBlock}
 use Rattle.proto.specs.declared.front.Found.{Found}
 use Rattle.proto.specs.declared.front.Found.TheVariants.{Request as Requested, Refused, Nothing}
 use Rattle.proto.specs.declared.lines.Asked.{Asked}
@@ -23,9 +23,10 @@ use Rattle.table.specs.declared.operations.Reply.{Reply}
 use Rattle.proto.specs.Words.{line_limit, first_lf}
 use Rattle.proto.specs.Requests.{asked_at, by_end, fate_of}
 use Rattle.proto.specs.Fronts.{Front, front, refused_at, refused_by, found_of}
-use Rattle.proto.specs.Sessions.{Held, Given, fed, by_found, by_passing, by_later, next_of, answered_by}
+use Rattle.proto.specs.Sessions.{Held, Given, fed, by_found, by_skipped_block, by_later, next_of, answered_by}
 use Rattle.proto.specs.Sessions.{refused_by as refusal_by}
-use Rattle.proto.specs.Runs.{Action, Feed, Next, Answer, Refuse as RefuseCall, Take, Run, IsRun, Opens, Acts, acted}
+use Rattle.proto.specs.Runs.{SessionCall, Feed, Next, Answer, Refuse as RefuseCall, Take, Run, IsRun, Opens, Acts}
+use Rattle.proto.specs.Runs.{acted}
 use Rattle.proto.proofs.GrammarLaws.{asks_at}
 use Rattle.proto.proofs.RequestLaws.{takes}
 
@@ -95,29 +96,29 @@ short_front bytes none refused = by_line (asked_at bytes) refl
         omega arith
 
 -- while bytes of a refused block have still to come, none is unread
-abbrev IsPassed : Option Passing → List ℕ → Type 0
+abbrev IsPassed : Option SkippedBlock → List ℕ → Type 0
 IsPassed None unread = Unit {0}
 IsPassed (Some p) unread = 1 ≤ p.left → unread ≡ []
 
 fed_passed : (h : Held) (piece : List ℕ)
-    → IsPassed h.passing h.unread
-    → IsPassed (fed h piece).passing (fed h piece).unread
-fed_passed h piece is = by_fields h.unread h.passing h.later h.unique h.asked h.out h.closed is
+    → IsPassed h.skipped_block h.unread
+    → IsPassed (fed h piece).skipped_block (fed h piece).unread
+fed_passed h piece is = by_fields h.unread h.skipped_block h.later h.unique h.asked h.out h.closed is
   where
-    by_fields : (unread : List ℕ) (passing : Option Passing) (later : List (List ℕ)) (unique : Bool)
+    by_fields : (unread : List ℕ) (skipped_block : Option SkippedBlock) (later : List (List ℕ)) (unique : Bool)
         (asked : Option Form) (out : List ℕ) (closed : Bool)
-        → IsPassed passing unread
+        → IsPassed skipped_block unread
         → let h : Held = record {
           unread = unread;
-          passing = passing;
+          skipped_block = skipped_block;
           later = later;
           unique = unique;
           asked = asked;
           out = out;
           closed = closed;
         } in
-        IsPassed (fed h piece).passing (fed h piece).unread
-    by_fields unread passing later unique asked out true is = is
+        IsPassed (fed h piece).skipped_block (fed h piece).unread
+    by_fields unread skipped_block later unique asked out true is = is
     by_fields unread None later unique asked out false is = tt
     by_fields unread (Some p) later unique asked out false is = λ some.
         let still : 1 ≤ p.left = omega arith in
@@ -125,8 +126,8 @@ fed_passed h piece is = by_fields h.unread h.passing h.later h.unique h.asked h.
 
 -- by what stands at the front
 front_passed : (found : Found) (h : Held)
-    → h.passing ≡ None
-    → IsPassed (by_found found h).1.passing (by_found found h).1.unread
+    → h.skipped_block ≡ None
+    → IsPassed (by_found found h).1.skipped_block (by_found found h).1.unread
 front_passed (Requested (Store key op silent) n) h e = rw e tt
 front_passed (Requested (Get [] unique) n) h e = rw e tt
 front_passed (Requested (Get (key ∷ keys) unique) n) h e = rw e tt
@@ -135,18 +136,18 @@ front_passed (Requested (Delete key silent) n) h e = rw e tt
 front_passed (Requested (Flush silent) n) h e = rw e tt
 front_passed (Requested Quit n) h e = rw e tt
 front_passed (Requested (Bad fault) n) h e = rw e tt
-front_passed (Refused passing) h e = λ some. refl
+front_passed (Refused skipped_block) h e = λ some. refl
 front_passed Nothing h e = rw e tt
 
 -- What a step leaves: nothing unread while a refused block is passed over; and little, if it is open and gave no turn.
 record Leaves (given : Given) : Type 0 where
-  passed : IsPassed given.1.passing given.1.unread
+  passed : IsPassed given.1.skipped_block given.1.unread
   little : given.0 ≡ None → given.1.closed ≡ false → length given.1.unread < line_limit + limit + 2
 
-by_front : (h : Held) (r : Front) (q : Option Passing)
+by_front : (h : Held) (r : Front) (q : Option SkippedBlock)
     → front h.unread ≡ r
     → refused_at h.unread ≡ q
-    → h.passing ≡ None
+    → h.skipped_block ≡ None
     → Leaves (by_found (found_of r q) h)
 by_front h None None e f none =
     record { passed = front_passed Nothing h none; little = λ given living. short_front h.unread e f }
@@ -174,26 +175,27 @@ by_front h (Some (Quit, n)) q e f none =
 by_front h (Some (Bad fault, n)) q e f none =
     record { passed = front_passed (Requested (Bad fault) n) h none; little = λ given. cc }
 
-by_skip : (h : Held) (passing : Option Passing)
-    → h.passing ≡ passing
-    → IsPassed passing h.unread
-    → Leaves (by_passing passing h)
+by_skip : (h : Held) (skipped_block : Option SkippedBlock)
+    → h.skipped_block ≡ skipped_block
+    → IsPassed skipped_block h.unread
+    → Leaves (by_skipped_block skipped_block h)
 by_skip h None e is = by_front h (front h.unread) (refused_at h.unread) refl refl e
 by_skip h (Some p) e is = by_left (p.left == 0) refl
   where
-    by_left : (b : Bool) → (p.left == 0) ≡ b → Leaves (by_passing (Some p) h)
+    by_left : (b : Bool) → (p.left == 0) ≡ b → Leaves (by_skipped_block (Some p) h)
     by_left true zero = rw zero (record { passed = tt; little = λ given. cc })
     by_left false some =
         let still : 1 ≤ p.left = grind (arith, nat_tests, some) in
         let nothing : length h.unread ≡ 0 = ap length (is still) in
         rw some (record { passed = rw e is; little = λ given living. omega arith })
 
-by_keys : (h : Held) (later : List (List ℕ)) → h.later ≡ later → IsPassed h.passing h.unread → Leaves (by_later later h)
-by_keys h [] e is = by_skip h h.passing refl is
+by_keys : (h : Held) (later : List (List ℕ)) → h.later ≡ later → IsPassed h.skipped_block h.unread
+    → Leaves (by_later later h)
+by_keys h [] e is = by_skip h h.skipped_block refl is
 by_keys h (key ∷ keys) e is = record { passed = is; little = λ given. cc }
 
 -- a step leaves little
-next_leaves : (h : Held) → IsPassed h.passing h.unread → Leaves (next_of h)
+next_leaves : (h : Held) → IsPassed h.skipped_block h.unread → Leaves (next_of h)
 next_leaves h is = by_closed h.closed refl
   where
     by_closed : (b : Bool) → h.closed ≡ b → Leaves (cond b (None, h) (by_later h.later h))
@@ -202,29 +204,29 @@ next_leaves h is = by_closed h.closed refl
     by_closed false e = by_keys h h.later refl is
 
 answered_passed : (h : Held) (asked : Option Form) (reply : Reply)
-    → IsPassed h.passing h.unread
-    → IsPassed (answered_by asked h reply).passing (answered_by asked h reply).unread
+    → IsPassed h.skipped_block h.unread
+    → IsPassed (answered_by asked h reply).skipped_block (answered_by asked h reply).unread
 answered_passed h None reply is = is
 answered_passed h (Some form) reply is = is
 
 refused_passed : (h : Held) (asked : Option Form)
-    → IsPassed h.passing h.unread
-    → IsPassed (refusal_by asked h).passing (refusal_by asked h).unread
+    → IsPassed h.skipped_block h.unread
+    → IsPassed (refusal_by asked h).skipped_block (refusal_by asked h).unread
 refused_passed h None is = is
 refused_passed h (Some form) is = is
 
-acted_passed : (run : Run) (action : Action)
-    → IsPassed run.held.passing run.held.unread
-    → IsPassed (acted run action).held.passing (acted run action).held.unread
+acted_passed : (run : Run) (call_made : SessionCall)
+    → IsPassed run.held.skipped_block run.held.unread
+    → IsPassed (acted run call_made).held.skipped_block (acted run call_made).held.unread
 acted_passed run (Feed piece) is = fed_passed run.held piece is
 acted_passed run Next is = (next_leaves run.held is).passed
 acted_passed run (Answer reply) is = answered_passed run.held run.held.asked reply is
 acted_passed run RefuseCall is = refused_passed run.held run.held.asked is
 acted_passed run (Take n) is = is
 
-passed_along : (run : Run) → IsRun run → IsPassed run.held.passing run.held.unread
+passed_along : (run : Run) → IsRun run → IsPassed run.held.skipped_block run.held.unread
 passed_along run Opens = tt
-passed_along run (Acts earlier action is allowed) = acted_passed earlier action (passed_along earlier is)
+passed_along run (Acts earlier call_made is allowed) = acted_passed earlier call_made (passed_along earlier is)
 
 -- along every run an open session with no turn to give holds less than a line and the largest block
 pub holds_little : (run : Run)

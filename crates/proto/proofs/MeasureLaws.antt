@@ -3,7 +3,7 @@ use Rattle.std.proofs.Common.{◌≡◌, ℕ, ◌+◌, ◌<◌, ◌≤◌, Bool,
 use Rattle.std.proofs.Common.{refl, ap, ◌∙◌, arith, length-append, length-drop, length-take}
 use Rattle.std.specs.Prelude.{◌==◌, Result, Ok, Err, IfOk, OnOk}
 use Rattle.std.specs.List.{join_with_byte}
-use Rattle.proto.specs.declared.passing.Passing.{Passing}
+use Rattle.proto.specs.declared.skipped_blocks.SkippedBlock.{SkippedBlock}
 use Rattle.proto.specs.declared.requests.Request.TheVariants.{Store, Get, Arith, Delete, Flush, Quit, Bad}
 use Rattle.proto.specs.declared.sessions.Step.{Step}
 use Rattle.proto.specs.declared.texts.Form.{Form}
@@ -11,7 +11,7 @@ use Rattle.proto.specs.Words.{space, crlf}
 use Rattle.proto.specs.Grammar.{Spells, spelling, get_word}
 use Rattle.proto.specs.Fronts.{Front, front, refused_at, found_of}
 use Rattle.proto.specs.Turns.{Turn, Faulty, Calls}
-use Rattle.proto.specs.Sessions.{Held, Given, Tells, by_found, by_passing, next_of, step_of}
+use Rattle.proto.specs.Sessions.{Held, Given, Tells, by_found, by_skipped_block, next_of, step_of}
 use Rattle.proto.specs.Streams.{most_turns, LeavesFewer}
 use Rattle.proto.proofs.GrammarLaws.{found_is_spelled}
 use Rattle.proto.proofs.RequestLaws.{takes}
@@ -49,10 +49,10 @@ Fewer h None left = Unit {0}
 Fewer h (Some turn) left = most_turns left < most_turns h
 
 -- by what stands at the front
-by_front : (unread : List ℕ) (unique : Bool) (asked : Option Form) (out : List ℕ) (r : Front) (q : Option Passing)
+by_front : (unread : List ℕ) (unique : Bool) (asked : Option Form) (out : List ℕ) (r : Front) (q : Option SkippedBlock)
     → front unread ≡ r
     → let h : Held = record
-    { unread = unread; passing = None; later = []; unique = unique; asked = asked; out = out; closed = false } in
+    { unread = unread; skipped_block = None; later = []; unique = unique; asked = asked; out = out; closed = false } in
     Fewer h (by_found (found_of r q) h).0 (by_found (found_of r q) h).1
 by_front unread unique asked out None None e = tt
 by_front unread unique asked out None (Some p) e = tt
@@ -76,17 +76,24 @@ by_front unread unique asked out (Some (Flush silent, n)) q e =
 by_front unread unique asked out (Some (Quit, n)) q e = tt
 
 -- by the refused block that is passed over, or the front
-by_skip : (unread : List ℕ) (passing : Option Passing) (unique : Bool) (asked : Option Form) (out : List ℕ)
-    → let h : Held = record
-    { unread = unread; passing = passing; later = []; unique = unique; asked = asked; out = out; closed = false } in
-    Fewer h (by_passing passing h).0 (by_passing passing h).1
+by_skip : (unread : List ℕ) (skipped_block : Option SkippedBlock) (unique : Bool) (asked : Option Form) (out : List ℕ)
+    → let h : Held = record {
+      unread = unread;
+      skipped_block = skipped_block;
+      later = [];
+      unique = unique;
+      asked = asked;
+      out = out;
+      closed = false;
+    } in
+    Fewer h (by_skipped_block skipped_block h).0 (by_skipped_block skipped_block h).1
 by_skip unread None unique asked out = by_front unread unique asked out (front unread) (refused_at unread) refl
 by_skip unread (Some p) unique asked out = by_left (p.left == 0) refl
   where
     h : Held
     h = record {
       unread = unread;
-      passing = Some p;
+      skipped_block = Some p;
       later = [];
       unique = unique;
       asked = asked;
@@ -94,27 +101,28 @@ by_skip unread (Some p) unique asked out = by_left (p.left == 0) refl
       closed = false;
     }
 
-    by_left : (b : Bool) → (p.left == 0) ≡ b → Fewer h (by_passing (Some p) h).0 (by_passing (Some p) h).1
+    by_left : (b : Bool) → (p.left == 0) ≡ b → Fewer h (by_skipped_block (Some p) h).0 (by_skipped_block (Some p) h).1
     by_left true e = rw e (omega arith)
     by_left false e = rw e tt
 
-by_fields : (unread : List ℕ) (passing : Option Passing) (later : List (List ℕ)) (unique : Bool) (asked : Option Form)
+by_fields : (unread : List ℕ) (skipped_block : Option SkippedBlock) (later : List (List ℕ)) (unique : Bool)
+    (asked : Option Form)
     (out : List ℕ) (closed : Bool)
     → let h : Held = record {
       unread = unread;
-      passing = passing;
+      skipped_block = skipped_block;
       later = later;
       unique = unique;
       asked = asked;
       out = out;
       closed = closed;
     } in Fewer h (next_of h).0 (next_of h).1
-by_fields unread passing later unique asked out true = tt
-by_fields unread passing [] unique asked out false = by_skip unread passing unique asked out
-by_fields unread passing (key ∷ keys) unique asked out false = omega arith
+by_fields unread skipped_block later unique asked out true = tt
+by_fields unread skipped_block [] unique asked out false = by_skip unread skipped_block unique asked out
+by_fields unread skipped_block (key ∷ keys) unique asked out false = omega arith
 
 fewer : (h : Held) → Fewer h (next_of h).0 (next_of h).1
-fewer h = by_fields h.unread h.passing h.later h.unique h.asked h.out h.closed
+fewer h = by_fields h.unread h.skipped_block h.later h.unique h.asked h.out h.closed
 
 -- what a step tells
 told : (given : Given) → Tells (step_of given) given

@@ -6,7 +6,7 @@ use Rattle.std.specs.Prelude.{◌==◌}
 use Rattle.std.specs.List.{slice_range}
 use Rattle.std.proofs.lemmas.Bool.Decides.{nat_tests}
 use Rattle.std.proofs.lemmas.List.{drop-append-le, drop_all}
-use Rattle.proto.specs.declared.passing.Passing.{Passing}
+use Rattle.proto.specs.declared.skipped_blocks.SkippedBlock.{SkippedBlock}
 use Rattle.proto.specs.declared.lines.Asked.{Asked}
 use Rattle.proto.specs.declared.lines.Asked.TheVariants.{Whole, Behind}
 use Rattle.proto.specs.declared.storage.Block.{Block}
@@ -175,7 +175,7 @@ refused_requests unread more fault end within e = by_test (nat_lt (length (unrea
         rw (all, ← rest) (requests_some (unread ++ more) (Bad fault, end) is)
 
 -- From a refused block on that isn't whole, passing over its bytes gives what reading them would.
-pub refused_later : (unread more : List ℕ) (p : Passing)
+pub refused_later : (unread more : List ℕ) (p : SkippedBlock)
     → front unread ≡ None
     → refused_at unread ≡ Some p
     → requests (unread ++ more) ≡ unread_requests (passed (Some p) more) (kept (Some p) more)

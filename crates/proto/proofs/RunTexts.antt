@@ -8,7 +8,7 @@ use Rattle.proto.specs.declared.texts.Form.{Form}
 use Rattle.proto.specs.Turns.{Turn, Faulty, Calls, Outcome, Replied, Refused, calls_of, fault_text, outcome_text}
 use Rattle.proto.specs.Sessions.{Held, Given, Writes, fed, next_of, answered_by, refused_by, CanAnswer, CanRefuse}
 use Rattle.proto.specs.Streams.{outcome_texts}
-use Rattle.proto.specs.Runs.{Action, Feed, Next, Answer, Refuse, Take, Run, IsRun, Opens, Acts, acted, turn_given}
+use Rattle.proto.specs.Runs.{SessionCall, Feed, Next, Answer, Refuse, Take, Run, IsRun, Opens, Acts, acted, turn_given}
 use Rattle.proto.specs.Runs.{IsAllowed, open_calls}
 use Rattle.proto.proofs.WriteLaws.{next_writes, calls_of_more, texts_fault, texts_open, texts_call}
 
@@ -82,11 +82,11 @@ fed_written h piece ts os taken is = by_closed h.closed refl
     by_closed true e = rw e is
     by_closed false e = rw e is
 
-acted_written : (run : Run) (action : Action)
-    → IsAllowed run.held action
+acted_written : (run : Run) (call_made : SessionCall)
+    → IsAllowed run.held call_made
     → IsWritten run.held.asked run.given run.outcomes (run.taken ++ run.held.out)
-    → IsWritten (acted run action).held.asked (acted run action).given (acted run action).outcomes
-    ((acted run action).taken ++ (acted run action).held.out)
+    → IsWritten (acted run call_made).held.asked (acted run call_made).given (acted run call_made).outcomes
+    ((acted run call_made).taken ++ (acted run call_made).held.out)
 acted_written run (Feed piece) allowed is = fed_written run.held piece run.given run.outcomes run.taken is
 acted_written run Next allowed is = next_written run.held (next_of run.held) run.given run.outcomes run.taken allowed
     (next_writes run.held) (rw allowed at is)
@@ -102,7 +102,7 @@ acted_written run (Take n) allowed is =
 
 written : (run : Run) → IsRun run → IsWritten run.held.asked run.given run.outcomes (run.taken ++ run.held.out)
 written run Opens = (refl, refl)
-written run (Acts earlier action is allowed) = acted_written earlier action allowed (written earlier is)
+written run (Acts earlier call_made is allowed) = acted_written earlier call_made allowed (written earlier is)
 
 by_asked_texts : (asked : Option Form) (ts : List Turn) (os : List Outcome) (bytes : List ℕ)
     → IsWritten asked ts os bytes

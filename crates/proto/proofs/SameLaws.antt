@@ -1,7 +1,7 @@
 -- An answer, a refusal, and output that is taken, keep what is to come.
 use Rattle.std.proofs.Common.{ℕ, Bool, true, false, List, ◌++◌, Option, None, Some, refl, drop}
 use Rattle.table.specs.declared.operations.Reply.{Reply}
-use Rattle.proto.specs.declared.passing.Passing.{Passing}
+use Rattle.proto.specs.declared.skipped_blocks.SkippedBlock.{SkippedBlock}
 use Rattle.proto.specs.declared.texts.Form.{Form}
 use Rattle.proto.specs.Turns.{text, refusal_text}
 use Rattle.proto.specs.Sessions.{Held, answered_by, refused_by}
@@ -10,13 +10,14 @@ use Rattle.proto.specs.Runs.{taken_from}
 
 -- the open call and the output have no part in what is to come
 same_to_come : (h : Held) (asked : Option Form) (out : List ℕ) → SameToCome h (record h { asked = asked; out = out })
-same_to_come h asked out = by_closed h.unread h.passing h.later h.unique h.asked h.out h.closed
+same_to_come h asked out = by_closed h.unread h.skipped_block h.later h.unique h.asked h.out h.closed
   where
-    by_closed : (unread : List ℕ) (passing : Option Passing) (later : List (List ℕ)) (unique : Bool) (was : Option Form)
+    by_closed : (unread : List ℕ) (skipped_block : Option SkippedBlock) (later : List (List ℕ)) (unique : Bool)
+        (was : Option Form)
         (had : List ℕ) (closed : Bool)
         → let h : Held = record {
           unread = unread;
-          passing = passing;
+          skipped_block = skipped_block;
           later = later;
           unique = unique;
           asked = was;
@@ -24,9 +25,9 @@ same_to_come h asked out = by_closed h.unread h.passing h.later h.unique h.asked
           closed = closed;
         } in
         SameToCome h (record h { asked = asked; out = out })
-    by_closed unread passing later unique was had true =
+    by_closed unread skipped_block later unique was had true =
         record { turns = λ more. refl; end = λ more. refl; most = refl }
-    by_closed unread passing later unique was had false =
+    by_closed unread skipped_block later unique was had false =
         record { turns = λ more. refl; end = λ more. refl; most = refl }
 
 answered_same : (h : Held) (asked : Option Form) (reply : Reply) → SameToCome h (answered_by asked h reply)

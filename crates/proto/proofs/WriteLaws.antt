@@ -6,7 +6,7 @@ use Rattle.table.specs.declared.operations.Reply.{Reply}
 use Rattle.proto.specs.declared.requests.Fault.{Fault}
 use Rattle.proto.specs.declared.requests.Request.{Request}
 use Rattle.proto.specs.declared.requests.Request.TheVariants.{Store, Get, Arith, Delete, Flush, Quit, Bad}
-use Rattle.proto.specs.declared.passing.Passing.{Passing}
+use Rattle.proto.specs.declared.skipped_blocks.SkippedBlock.{SkippedBlock}
 use Rattle.proto.specs.declared.front.Found.{Found}
 use Rattle.proto.specs.declared.front.Found.TheVariants.{Request as Requested, Refused, Nothing}
 use Rattle.proto.specs.declared.texts.Form.{Form}
@@ -14,7 +14,8 @@ use Rattle.proto.specs.Fronts.{found_at}
 use Rattle.proto.specs.declared.texts.Form.TheVariants.{Silent}
 use Rattle.proto.specs.Turns.{Turn, Faulty, Calls, calls_of, fault_text, text, Outcome, Replied}
 use Rattle.proto.specs.Turns.{Refused as RefusedCall, outcome_text, refusal_text}
-use Rattle.proto.specs.Sessions.{Held, Given, Writes, by_keys, by_request, by_found, by_passing, by_later, next_of}
+use Rattle.proto.specs.Sessions.{Held, Given, Writes, by_keys, by_request, by_found, by_skipped_block, by_later}
+use Rattle.proto.specs.Sessions.{next_of}
 use Rattle.proto.specs.Sessions.{answered_by, refused_by}
 use Rattle.proto.specs.Streams.{texts, outcome_texts}
 
@@ -40,19 +41,19 @@ like h k (Some (Calls call form), left) out asked w = (w.0 ∙ out, w.1)
 found_writes : (found : Found) (h : Held) → Writes h (by_found found h)
 found_writes (Requested request n) h =
     like h (record h { unread = drop n h.unread }) _ refl refl (request_writes request _)
-found_writes (Refused passing) h = (refl, refl)
+found_writes (Refused skipped_block) h = (refl, refl)
 found_writes Nothing h = (refl, refl)
 
-passing_writes : (passing : Option Passing) (h : Held) → Writes h (by_passing passing h)
-passing_writes None h = found_writes (found_at h.unread) h
-passing_writes (Some p) h = by_left (p.left == 0)
+skipped_block_writes : (skipped_block : Option SkippedBlock) (h : Held) → Writes h (by_skipped_block skipped_block h)
+skipped_block_writes None h = found_writes (found_at h.unread) h
+skipped_block_writes (Some p) h = by_left (p.left == 0)
   where
-    by_left : (b : Bool) → Writes h (cond b (by_request (Bad p.fault) (record h { passing = None })) (None, h))
+    by_left : (b : Bool) → Writes h (cond b (by_request (Bad p.fault) (record h { skipped_block = None })) (None, h))
     by_left true = (refl, refl)
     by_left false = (refl, refl)
 
 later_writes : (keys : List (List ℕ)) (h : Held) → Writes h (by_later keys h)
-later_writes [] h = passing_writes h.passing h
+later_writes [] h = skipped_block_writes h.skipped_block h
 later_writes (key ∷ keys) h = keys_write (key ∷ keys) h.unique h
 
 -- what a step writes

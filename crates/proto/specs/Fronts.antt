@@ -16,7 +16,7 @@ use Rattle.proto.specs.declared.lines.Asked.TheVariants.{Whole, Behind}
 use Rattle.proto.specs.declared.storage.Fate.{Fate}
 use Rattle.proto.specs.declared.storage.Fate.TheVariants.{Put, Refuse}
 use Rattle.proto.specs.declared.front.Pending.{Pending}
-use Rattle.proto.specs.declared.passing.Passing.{Passing}
+use Rattle.proto.specs.declared.skipped_blocks.SkippedBlock.{SkippedBlock}
 use Rattle.proto.specs.declared.front.Found.{Found}
 use Rattle.proto.specs.declared.front.Found.TheVariants.{Request as Requested, Refused, Nothing}
 use Rattle.proto.specs.Requests.{asked_at}
@@ -52,28 +52,28 @@ abbrev pub front : List ℕ → Front
 front bytes = by_asked bytes (asked_at bytes)
 
 -- a refused block, and how many bytes of it have still to come
-abbrev pub refused_by : Fate → ℕ → Option Passing
+abbrev pub refused_by : Fate → ℕ → Option SkippedBlock
 refused_by (Refuse fault) left = Some (record { fault = fault; left = left })
 refused_by (Put key verb silent) left = None
 
 -- the refused block that a line of n bytes announces: it ends two bytes after its data
-abbrev pub refused_behind : List ℕ → Asked → ℕ → Option Passing
+abbrev pub refused_behind : List ℕ → Asked → ℕ → Option SkippedBlock
 refused_behind bytes (Whole request) n = None
 refused_behind bytes (Behind block) n = refused_by block.fate (n + block.size + 2 - length bytes)
 
 -- the same, if the line has come
-abbrev pub refused_by_asked : List ℕ → Option (Asked × ℕ) → Option Passing
+abbrev pub refused_by_asked : List ℕ → Option (Asked × ℕ) → Option SkippedBlock
 refused_by_asked bytes None = None
 refused_by_asked bytes (Some line) = refused_behind bytes line.0 line.1
 
 -- the refused block that the line at the front announces, if it does
-abbrev pub refused_at : List ℕ → Option Passing
+abbrev pub refused_at : List ℕ → Option SkippedBlock
 refused_at bytes = refused_by_asked bytes (asked_at bytes)
 
 -- a whole request stands before all else
-abbrev pub found_of : Front → Option Passing → Found
+abbrev pub found_of : Front → Option SkippedBlock → Found
 found_of (Some front) refused = Requested front.0 front.1
-found_of None (Some passing) = Refused passing
+found_of None (Some skipped_block) = Refused skipped_block
 found_of None None = Nothing
 
 -- what is at the front of a stream: a complete request, an incomplete refused block, or neither
@@ -115,7 +115,7 @@ IsSound (Behind block) = IsWithin block.fate block.size
 -- what stands at the front is a whole request, within the bytes
 abbrev pub IsFront : Found → List ℕ → Type 0
 IsFront (Requested request n) bytes = (n ≤ length bytes) × IsWhole request
-IsFront (Refused passing) bytes = Unit {0}
+IsFront (Refused skipped_block) bytes = Unit {0}
 IsFront Nothing bytes = Unit {0}
 
 -- (This serves a hidden field of the code; no public contract needs it.) What was found out about the front is so: the

@@ -1,4 +1,4 @@
--- Runs of a session: what is done with it, one action after another, and what has come of it.
+-- Runs of a session: what is done with it, one call after another, and what has come of it.
 use Rattle.std.specs.Prelude.{◌≡◌, ℕ, ◌≤◌, List, [], ◌∷◌, ◌++◌, length, take, drop, Option, None, Some}
 use Rattle.table.specs.declared.operations.Reply.{Reply}
 use Rattle.proto.specs.declared.texts.Form.{Form}
@@ -7,12 +7,12 @@ use Rattle.proto.specs.Sessions.{Held, fresh, fed, next_of, answered_by, refused
 
 -- What may be done with a session: it is fed with a piece, or asked for its next turn, its open call is answered,
 -- or refused, or the first n bytes of its output are taken.
-pub data Action : Type 0 where
-  Feed : (piece : List ℕ) → Action
-  Next : Action
-  Answer : (reply : Reply) → Action
-  Refuse : Action
-  Take : (n : ℕ) → Action
+pub data SessionCall : Type 0 where
+  Feed : (piece : List ℕ) → SessionCall
+  Next : SessionCall
+  Answer : (reply : Reply) → SessionCall
+  Refuse : SessionCall
+  Take : (n : ℕ) → SessionCall
 
 -- What has come of a run: all the bytes that were fed, as one stream, the turns that were given,
 -- what their calls came to, all the bytes of the output that were taken, and what the session holds.
@@ -23,7 +23,7 @@ pub record Run : Type 0 where
   pub taken : List ℕ
   pub held : Held
 
--- before any action
+-- before any call
 abbrev pub opening_run : Run
 opening_run = record { stream = []; given = []; outcomes = []; taken = []; held = fresh }
 
@@ -36,8 +36,8 @@ turn_given (Some turn) = turn ∷ []
 abbrev pub taken_from : Held → ℕ → Held
 taken_from h n = record h { out = drop n h.out }
 
--- a run with one action more
-abbrev pub acted : Run → Action → Run
+-- a run with one call more
+abbrev pub acted : Run → SessionCall → Run
 acted run (Feed piece) = record run { stream = run.stream ++ piece; held = fed run.held piece }
 acted run Next = record run { given = run.given ++ turn_given (next_of run.held).0; held = (next_of run.held).1 }
 acted run (Answer reply) =
@@ -47,17 +47,17 @@ acted run (Take n) = record run { taken = run.taken ++ take n run.held.out; held
 
 -- a session is asked while no call is open, a call is answered by a reply that it can have, one that is refused is an
 -- update, and what is taken is there
-abbrev pub IsAllowed : Held → Action → Type 0
+abbrev pub IsAllowed : Held → SessionCall → Type 0
 IsAllowed h (Feed piece) = Unit {0}
 IsAllowed h Next = h.asked ≡ None
 IsAllowed h (Answer reply) = CanAnswer h.asked reply
 IsAllowed h Refuse = CanRefuse h.asked
 IsAllowed h (Take n) = n ≤ length h.out
 
--- This has come of a run from a new session, each action of which was allowed when it was its turn.
+-- This has come of a run from a new session, each call of which was allowed when it was its turn.
 pub data IsRun : Run → Type 0 where
   Opens : IsRun opening_run
-  Acts : (run : Run) (action : Action) → IsRun run → IsAllowed run.held action → IsRun (acted run action)
+  Acts : (run : Run) (call_made : SessionCall) → IsRun run → IsAllowed run.held call_made → IsRun (acted run call_made)
 
 -- how many calls are open
 abbrev pub open_calls : Option Form → ℕ

@@ -7,7 +7,7 @@ use Rattle.table.specs.declared.operations.Target.TheVariants.{One, All}
 use Rattle.table.specs.declared.operations.Op.{Op}
 use Rattle.table.specs.declared.operations.Op.TheVariants.{Delete as DeleteOp, Flush as FlushOp}
 use Rattle.table.specs.declared.operations.Reply.{Reply}
-use Rattle.proto.specs.declared.passing.Passing.{Passing}
+use Rattle.proto.specs.declared.skipped_blocks.SkippedBlock.{SkippedBlock}
 use Rattle.proto.specs.declared.front.Found.{Found}
 use Rattle.proto.specs.declared.front.Found.TheVariants.{Request as Requested, Refused, Nothing}
 use Rattle.proto.specs.declared.requests.Fault.{Fault}
@@ -25,7 +25,7 @@ use Rattle.proto.specs.Turns.{Turn, Faulty, Calls, look, none_left, form_of, fau
 -- was not yet taken, and whether it is closed.
 pub record Held : Type 0 where
   pub unread : List ℕ
-  pub passing : Option Passing
+  pub skipped_block : Option SkippedBlock
   pub later : List (List ℕ)
   pub unique : Bool
   pub asked : Option Form
@@ -34,31 +34,35 @@ pub record Held : Type 0 where
 
 -- at first: nothing
 abbrev pub fresh : Held
-fresh = record { unread = []; passing = None; later = []; unique = false; asked = None; out = []; closed = false }
+fresh = record { unread = []; skipped_block = None; later = []; unique = false; asked = None; out = []; closed = false }
 
 -- what of a piece is kept: a refused block's bytes aren't
-abbrev pub kept : Option Passing → List ℕ → List ℕ
+abbrev pub kept : Option SkippedBlock → List ℕ → List ℕ
 kept None piece = piece
 kept (Some p) piece = drop p.left piece
 
 -- the refused block, of which this piece has come
-abbrev pub passed : Option Passing → List ℕ → Option Passing
+abbrev pub passed : Option SkippedBlock → List ℕ → Option SkippedBlock
 passed None piece = None
 passed (Some p) piece = Some (record p { left = p.left - length piece })
 
 -- more bytes; a closed session takes none
 abbrev pub fed : Held → List ℕ → Held
 fed h piece =
-    if h.closed then h else record h { unread = h.unread ++ kept h.passing piece; passing = passed h.passing piece }
+    if h.closed then h else record h {
+      unread = h.unread
+          ++ kept h.skipped_block piece;
+      skipped_block = passed h.skipped_block piece;
+    }
 
 -- the refused block has still to come for as many bytes at least
-abbrev pub IsWithinPassing : Option Passing → List ℕ → Type 0
-IsWithinPassing None piece = ⊥
-IsWithinPassing (Some p) piece = length piece ≤ p.left
+abbrev pub IsWithinSkippedBlock : Option SkippedBlock → List ℕ → Type 0
+IsWithinSkippedBlock None piece = ⊥
+IsWithinSkippedBlock (Some p) piece = length piece ≤ p.left
 
 -- the piece lies wholly inside a refused block that the session passes over
 abbrev pub IsInside : Held → List ℕ → Type 0
-IsInside h piece = (h.closed ≡ false) × IsWithinPassing h.passing piece
+IsInside h piece = (h.closed ≡ false) × IsWithinSkippedBlock h.skipped_block piece
 
 -- A turn that a session gives, or none, and what it holds then.
 abbrev pub Given : Type 0
@@ -91,17 +95,18 @@ by_request (Bad fault) h =
 -- the first turn of what is at the front; if that is an incomplete refused block, its bytes are skipped from now on
 abbrev pub by_found : Found → Held → Given
 by_found (Requested request n) h = by_request request (record h { unread = drop n h.unread })
-by_found (Refused passing) h = (None, record h { unread = []; passing = Some passing })
+by_found (Refused skipped_block) h = (None, record h { unread = []; skipped_block = Some skipped_block })
 by_found Nothing h = (None, h)
 
 -- the fault of a refused block, after all of it was skipped; or else the first turn of what is at the front
-abbrev pub by_passing : Option Passing → Held → Given
-by_passing None h = by_found (found_at h.unread) h
-by_passing (Some p) h = if p.left == 0 then by_request (Bad p.fault) (record h { passing = None }) else (None, h)
+abbrev pub by_skipped_block : Option SkippedBlock → Held → Given
+by_skipped_block None h = by_found (found_at h.unread) h
+by_skipped_block (Some p) h =
+    if p.left == 0 then by_request (Bad p.fault) (record h { skipped_block = None }) else (None, h)
 
 -- the first turn of the keys that are left, or else of the bytes
 abbrev pub by_later : List (List ℕ) → Held → Given
-by_later [] h = by_passing h.passing h
+by_later [] h = by_skipped_block h.skipped_block h
 by_later (key ∷ keys) h = by_keys (key ∷ keys) h.unique h
 
 -- the next turn, and what the session holds then: a fault's line is written at once, a call is open from now on

@@ -3,7 +3,7 @@ use Rattle.std.specs.Prelude.{◌≡◌, ℕ, zero, suc, ◌+◌, ◌<◌, ◌==
 use Rattle.std.specs.Prelude.{None, Some, is_some, if◌then◌else◌}
 use Rattle.std.specs.List.{flat_map, list_any}
 use Rattle.table.specs.declared.operations.Reply.{Reply}
-use Rattle.proto.specs.declared.passing.Passing.{Passing}
+use Rattle.proto.specs.declared.skipped_blocks.SkippedBlock.{SkippedBlock}
 use Rattle.proto.specs.declared.requests.Request.{Request}
 use Rattle.proto.specs.declared.requests.Request.TheVariants.{Bad}
 use Rattle.proto.specs.declared.sessions.Step.{Step}
@@ -53,23 +53,23 @@ outcome_texts (Calls call form ∷ ts) [] = []
 outcome_texts (Calls call form ∷ ts) (outcome ∷ outcomes) = outcome_text form outcome ++ outcome_texts ts outcomes
 
 -- the requests that a session's bytes have still to give: if a refused block is being passed over, none before its end
-abbrev pub unread_requests : Option Passing → List ℕ → List Request
+abbrev pub unread_requests : Option SkippedBlock → List ℕ → List Request
 unread_requests None unread = requests unread
 unread_requests (Some p) unread =
     if p.left == 0 then Bad p.fault ∷ (if is_last (Bad p.fault) then [] else requests unread) else []
 
 -- the turns that a session's bytes have still to give: if a refused block is being passed over, none before its end
-abbrev pub unread_turns : Option Passing → List ℕ → List Turn
+abbrev pub unread_turns : Option SkippedBlock → List ℕ → List Turn
 unread_turns None unread = turns unread
 unread_turns (Some p) unread = if p.left == 0 then turns_before (Bad p.fault) (turns unread) else []
 
 -- the turns that a session has still to give, if it is fed with no more
 abbrev pub to_come : Held → List Turn
-to_come h = if h.closed then [] else looks h.later h.unique ++ unread_turns h.passing h.unread
+to_come h = if h.closed then [] else looks h.later h.unique ++ unread_turns h.skipped_block h.unread
 
 -- whether a session is closed, or will be by the bytes that it has
 abbrev pub will_close : Held → Bool
-will_close h = h.closed || list_any is_last (unread_requests h.passing h.unread)
+will_close h = h.closed || list_any is_last (unread_requests h.skipped_block h.unread)
 
 -- the turn that was given stands in front of the others
 abbrev pub with_turn : Option Turn → List Turn → List Turn
@@ -84,12 +84,12 @@ pub record GivesFirst (h : Held) (given : Option Turn) (left : Held) : Type 0 wh
 
 -- an upper bound on the faults to come: each takes at least a byte, except the one whose block was skipped
 abbrev pub most_faults : Held → ℕ
-most_faults h = length h.unread + (if is_some h.passing then 1 else 0)
+most_faults h = length h.unread + (if is_some h.skipped_block then 1 else 0)
 
 -- An upper bound on the turns to come before more bytes: each takes a byte at least, or one of the keys that are left,
 -- or the refused block that is skipped.
 abbrev pub most_turns : Held → ℕ
-most_turns h = length h.unread + length h.later + (if is_some h.passing then 1 else 0)
+most_turns h = length h.unread + length h.later + (if is_some h.skipped_block then 1 else 0)
 
 -- a step that gives a turn leaves fewer to come
 abbrev pub LeavesFewer : Step → Held → Held → Type 0

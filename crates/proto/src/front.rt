@@ -12,7 +12,7 @@ ghost use Rattle.proto.specs.declared.requests.Request.TheVariants.{Bad, Get};
 
 use crate::fields::first_return;
 use crate::lines::{Asked, asked_at, beginning};
-use crate::passing::Passing;
+use crate::skipped_blocks::SkippedBlock;
 use crate::storage::{Block, Fate, Verb};
 use crate::{Fault, Request};
 use bytes::Bytes;
@@ -25,7 +25,7 @@ pub enum Found {
     /// A request, and how many bytes spell it.
     Request(Request, usize),
     /// A refused block that isn't whole.
-    Refused(Passing),
+    Refused(SkippedBlock),
     /// Neither.
     Nothing,
 }
@@ -129,7 +129,7 @@ fn refused(fault: Fault, end: usize, come: usize) -> Found
         (Some (record { fault = fault; left = end - come })) }
 {
     if come < end {
-        Found::Refused(Passing {
+        Found::Refused(SkippedBlock {
             fault,
             left: end - come,
         })

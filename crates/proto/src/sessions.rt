@@ -2,7 +2,7 @@
 ghost use Rattle.std.specs.Prelude.{◌≡◌};
 
 use crate::front::Pending;
-use crate::passing::{Passing, kept, passed};
+use crate::skipped_blocks::{SkippedBlock, kept, passed};
 use crate::texts::{write_refusal, write_reply};
 use crate::{Form, Keys, ProtoFault};
 use bytes::BytesMut;
@@ -33,7 +33,7 @@ pub struct Session {
     pub(crate) alloc: Global,
     pub(crate) unread: BytesMut,
     pub(crate) pending: Option<Pending>,
-    pub(crate) passing: Option<Passing>,
+    pub(crate) skipped_block: Option<SkippedBlock>,
     pub(crate) later: Keys,
     pub(crate) unique: bool,
     pub(crate) asked: Option<Form>,
@@ -49,7 +49,7 @@ impl Model for Session {
 
     ghost view = { λ s. record {
       unread = s.unread.items;
-      passing = s.passing;
+      skipped_block = s.skipped_block;
       later = s.later;
       unique = s.unique;
       asked = s.asked;
@@ -75,7 +75,7 @@ impl Session {
             alloc,
             unread: BytesMut::new(alloc),
             pending: None,
-            passing: None,
+            skipped_block: None,
             later: Keys::new(),
             unique: false,
             asked: None,
@@ -97,8 +97,9 @@ impl Session {
         if self.closed {
             return Err(ProtoFault::Closed);
         }
-        self.unread.extend_from_slice(kept(self.passing, piece))?;
-        self.passing = passed(self.passing, piece);
+        self.unread
+            .extend_from_slice(kept(self.skipped_block, piece))?;
+        self.skipped_block = passed(self.skipped_block, piece);
         Ok(())
     }
 
@@ -126,8 +127,8 @@ impl Session {
         if let Some((key, shown)) = self.later.pop()? {
             return Ok(self.look(key, shown));
         }
-        match self.passing {
-            Some(passing) => self.pass(passing),
+        match self.skipped_block {
+            Some(skipped_block) => self.pass(skipped_block),
             None => self.begin_front(),
         }
     }

@@ -5,8 +5,8 @@ ghost use Rattle.proto.specs.Sessions.{shows};
 
 use crate::front::{Found, Pending, front, lone_key};
 use crate::lone_sets::{LoneSet, lone_set};
-use crate::passing::Passing;
 use crate::sessions::rest;
+use crate::skipped_blocks::SkippedBlock;
 use crate::texts::write_fault;
 use crate::{Fault, Form, Keys, Look, ProtoFault, Request, Session, Step};
 use std::alloc::AllocError;
@@ -22,24 +22,24 @@ impl Session {
     ghost use Rattle.proto.specs.Fronts.{found_at, IsWhole};
     ghost use Rattle.proto.specs.LoneSets.{IsAtFront};
     ghost use Rattle.proto.specs.Turns.{form_of};
-    ghost use Rattle.proto.specs.Sessions.{by_found, by_passing, by_request, looking, opened, step_of, IsOpen};
+    ghost use Rattle.proto.specs.Sessions.{by_found, by_skipped_block, by_request, looking, opened, step_of, IsOpen};
 
     // Passes over a refused block: its fault stands after its last byte.
-    pub(crate) fn pass(&mut self, passing: Passing) -> Result<Step, ProtoFault>
-        requires passing { self.old.passing ≡ Some passing }
+    pub(crate) fn pass(&mut self, skipped_block: SkippedBlock) -> Result<Step, ProtoFault>
+        requires skipped_block { self.old.skipped_block ≡ Some skipped_block }
         requires idle { self.old.asked ≡ None }
         requires open { self.old.closed ≡ false }
-        ensures step { IfOk result (λ step. step ≡ step_of (by_passing (Some passing) self.old)) }
-        ensures left { OnOk result (self.new ≡ (by_passing (Some passing) self.old).1) }
+        ensures step { IfOk result (λ step. step ≡ step_of (by_skipped_block (Some skipped_block) self.old)) }
+        ensures left { OnOk result (self.new ≡ (by_skipped_block (Some skipped_block) self.old).1) }
         ensures opens { IfOk result (λ step. IsOpen step self.new.asked) }
         ensures only_memory { IsOkUnless result ProtoFault.Memory }
         ensures err { OnErr result (self.new ≡ self.old) }
     {
-        if passing.left > 0 {
+        if skipped_block.left > 0 {
             return Ok(Step::Wait);
         }
-        self.fail(passing.fault)?;
-        self.passing = None;
+        self.fail(skipped_block.fault)?;
+        self.skipped_block = None;
         Ok(Step::Emit)
     }
 
@@ -143,11 +143,11 @@ impl Session {
     {
         match front(self.alloc, &mut self.pending, self.unread.as_slice())? {
             Found::Request(request, n) => self.begin(request, n),
-            Found::Refused(passing) => {
+            Found::Refused(skipped_block) => {
                 drop(self.pending.take());
                 self.unread.clear();
                 rest(self.alloc, &mut self.unread);
-                self.passing = Some(passing);
+                self.skipped_block = Some(skipped_block);
                 Ok(Step::Wait)
             }
             Found::Nothing => Ok(Step::Wait),

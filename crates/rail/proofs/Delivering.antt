@@ -7,17 +7,17 @@ use lib.ListN.{get_elem?}
 use Rattle.std.proofs.lemmas.Bool.Decides.{nat_tests}
 use Rattle.crossbeam_channel.specs.Fifo.{Pushes, Pops, Forks}
 use Rattle.atomic_table.proofs.Lists.{at_set}
-use Rattle.rail.specs.declared.events.Event.{Event}
-use Rattle.rail.specs.declared.events.Message.{Message}
-use Rattle.rail.specs.declared.inbox.Ticket.{Ticket}
-use Rattle.rail.specs.declared.events.Event.TheVariants.{Took, Stop, End}
+use Rattle.rail.specs.declared.inbox_messages.InboxMessage.{InboxMessage}
+use Rattle.rail.specs.declared.inbox_messages.Envelope.{Envelope}
+use Rattle.rail.specs.declared.inbox.InboxKnowledge.{InboxKnowledge}
+use Rattle.rail.specs.declared.inbox_messages.InboxMessage.TheVariants.{Took, Stop, End}
 use Rattle.node.specs.Replies.{AreCallsBelow}
-use Rattle.rail.specs.Events.{IsBelow, AreBelow}
+use Rattle.rail.specs.InboxMessages.{IsBelow, AreBelow}
 use Rattle.rail.specs.Inbox.{sender, taker, of, Fits, Delivers}
 use Rattle.node.specs.declared.messages.Input.{Input}
 use Rattle.node.specs.declared.messages.Input.TheVariants.{Call as Called, From, Gone}
 
-at_end : (l : List Ticket) (a b : Ticket) (j : ℕ)
+at_end : (l : List InboxKnowledge) (a b : InboxKnowledge) (j : ℕ)
     → get_elem? l j ≢ some b
     → get_elem? (l ++ a ∷ []) j ≡ some b
     → j ≡ length l
@@ -26,22 +26,22 @@ at_end [] a b (suc j) n e = absurd (some-ne-none b (sym e))
 at_end (x ∷ xs) a b zero n e = absurd (n e)
 at_end (x ∷ xs) a b (suc j) n e = ap suc (at_end xs a b j n e)
 
-beyond : (l : List Ticket) (b : Ticket) → get_elem? l (length l) ≢ some b
+beyond : (l : List InboxKnowledge) (b : InboxKnowledge) → get_elem? l (length l) ≢ some b
 beyond [] b e = some-ne-none b (sym e)
 beyond (x ∷ xs) b e = beyond xs b e
 
-abbrev All : (ℕ → Ticket → Type 0) → List Ticket → Type 0
-All F views = (port : ℕ) (v : Ticket) → get_elem? views port ≡ some v → F port v
+abbrev All : (ℕ → InboxKnowledge → Type 0) → List InboxKnowledge → Type 0
+All F views = (port : ℕ) (v : InboxKnowledge) → get_elem? views port ≡ some v → F port v
 
-all_set : (F : ℕ → Ticket → Type 0) (views : List Ticket) (port : ℕ) (w : Ticket)
+all_set : (F : ℕ → InboxKnowledge → Type 0) (views : List InboxKnowledge) (port : ℕ) (w : InboxKnowledge)
     → F port w
-    → ((j : ℕ) (u : Ticket) → j ≢ port → get_elem? views j ≡ some u → F j u)
+    → ((j : ℕ) (u : InboxKnowledge) → j ≢ port → get_elem? views j ≡ some u → F j u)
     → All F (set views port w)
 all_set F views port w mine others j u e =
-    ⊎_elim (λ (x : (j ≡ port) × (w ≡ u)). subst (λ (y : ℕ × Ticket). F y.0 y.1) (λ i. (sym x.0 i, x.1 i)) mine)
+    ⊎_elim (λ (x : (j ≡ port) × (w ≡ u)). subst (λ (y : ℕ × InboxKnowledge). F y.0 y.1) (λ i. (sym x.0 i, x.1 i)) mine)
     (λ (x : (j ≢ port) × (get_elem? views j ≡ some u)). others j u x.0 x.1) (at_set views port j w u e)
 
-swap : (a b : Bool) (xs : List Event) (i j : Event)
+swap : (a b : Bool) (xs : List InboxMessage) (i j : InboxMessage)
     → (if a then i ∷ (if b then xs ++ j ∷ [] else xs) else (if b then xs ++ j ∷ [] else xs))
     ≡ (if b then (if a then i ∷ xs else xs) ++ j ∷ [] else (if a then i ∷ xs else xs))
 swap true true xs i j = refl
@@ -49,14 +49,14 @@ swap true false xs i j = refl
 swap false true xs i j = refl
 swap false false xs i j = refl
 
-of_snoc : (p : ℕ) (ms : List Message) (m : Message)
-    → of p (ms ++ m ∷ []) ≡ (if p == m.from then of p ms ++ m.event ∷ [] else of p ms)
+of_snoc : (p : ℕ) (ms : List Envelope) (m : Envelope)
+    → of p (ms ++ m ∷ []) ≡ (if p == m.from then of p ms ++ m.inbox_message ∷ [] else of p ms)
 of_snoc p [] m = refl
-of_snoc p (x ∷ xs) m = ap (λ (l : List Event). if p == x.from then x.event ∷ l else l) (of_snoc p xs m)
-    ∙ swap (p == x.from) (p == m.from) (of p xs) x.event m.event
+of_snoc p (x ∷ xs) m = ap (λ (l : List InboxMessage). if p == x.from then x.inbox_message ∷ l else l) (of_snoc p xs m)
+    ∙ swap (p == x.from) (p == m.from) (of p xs) x.inbox_message m.inbox_message
 
 -- what was sent, with one input more of this sender
-abbrev put_at : (ℕ → List Event) → ℕ → Event → ℕ → List Event
+abbrev put_at : (ℕ → List InboxMessage) → ℕ → InboxMessage → ℕ → List InboxMessage
 put_at sent from x p = if p == from then sent p ++ x ∷ [] else sent p
 
 same : (p : ℕ) → (p == p) ≡ true
@@ -65,13 +65,13 @@ same p = grind (arith, nat_tests)
 other : (p q : ℕ) → p ≢ q → (p == q) ≡ false
 other p q n = grind (arith, nat_tests, n)
 
-here : (sent : ℕ → List Event) (from : ℕ) (x : Event) → put_at sent from x from ≡ sent from ++ x ∷ []
+here : (sent : ℕ → List InboxMessage) (from : ℕ) (x : InboxMessage) → put_at sent from x from ≡ sent from ++ x ∷ []
 here sent from x = ap (λ (b : Bool). if b then sent from ++ x ∷ [] else sent from) (same from)
 
-there : (sent : ℕ → List Event) (from : ℕ) (x : Event) (p : ℕ) → p ≢ from → put_at sent from x p ≡ sent p
+there : (sent : ℕ → List InboxMessage) (from : ℕ) (x : InboxMessage) (p : ℕ) → p ≢ from → put_at sent from x p ≡ sent p
 there sent from x p n = ap (λ (b : Bool). if b then sent p ++ x ∷ [] else sent p) (other p from n)
 
-at_new : (l : List Ticket) (a b : Ticket) (j : ℕ)
+at_new : (l : List InboxKnowledge) (a b : InboxKnowledge) (j : ℕ)
     → get_elem? (l ++ a ∷ []) j ≡ some b
     → ((get_elem? l j ≡ some b) × (j < length l)) ⊎ ((a ≡ b) × (j ≡ length l))
 at_new [] a b zero e = inr (some-injective a b e, refl)
@@ -101,30 +101,31 @@ input_more a b (Called port call) le h = (omega (arith, le, h.0), tt)
 input_more a b (From i peer) le h = tt
 input_more a b (Gone j) le h = tt
 
-below_more : (a b : ℕ) (e : Event) → a ≤ b → IsBelow a e → IsBelow b e
+below_more : (a b : ℕ) (e : InboxMessage) → a ≤ b → IsBelow a e → IsBelow b e
 below_more a b (Took input) le h = input_more a b input le h
 below_more a b Stop le h = tt
 below_more a b End le h = tt
 
-are_more : (a b : ℕ) (ms : List Message) → a ≤ b → AreBelow a ms → AreBelow b ms
+are_more : (a b : ℕ) (ms : List Envelope) → a ≤ b → AreBelow a ms → AreBelow b ms
 are_more a b [] le h = tt
-are_more a b (m ∷ ms) le h = (below_more a b m.event le h.0, are_more a b ms le h.1)
+are_more a b (m ∷ ms) le h = (below_more a b m.inbox_message le h.0, are_more a b ms le h.1)
 
-below_snoc : (ports : ℕ) (ms : List Message) (x : Message)
+below_snoc : (ports : ℕ) (ms : List Envelope) (x : Envelope)
     → AreBelow ports ms
-    → IsBelow ports x.event
+    → IsBelow ports x.inbox_message
     → AreBelow ports (ms ++ x ∷ [])
 below_snoc ports [] x h e = (e, tt)
 below_snoc ports (m ∷ ms) x h e = (h.0, below_snoc ports ms x h.1 e)
 
 -- ---- the moves
 
-pub sends : (n pass from ports : ℕ) (put : List Event) (x : Message) → x.from ≡ from → IsBelow ports x.event
-    → Pushes Delivers n pass (sender from ports put) x (λ w. w ≡ sender from ports (put ++ x.event ∷ []))
+pub sends : (n pass from ports : ℕ) (put : List InboxMessage) (x : Envelope) → x.from ≡ from
+    → IsBelow ports x.inbox_message
+    → Pushes Delivers n pass (sender from ports put) x (λ w. w ≡ sender from ports (put ++ x.inbox_message ∷ []))
 sends n pass from ports put x is port items views _ h at =
     let mine = (h.each pass (sender from ports put) at).0 refl in
-    let sent' : ℕ → List Event = put_at h.sent from x.event in
-    let w : Ticket = sender from ports (put ++ x.event ∷ []) in (
+    let sent' : ℕ → List InboxMessage = put_at h.sent from x.inbox_message in
+    let w : InboxKnowledge = sender from ports (put ++ x.inbox_message ∷ []) in (
       w,
       record {
         reader = h.reader;
@@ -134,13 +135,14 @@ sends n pass from ports put x is port items views _ h at =
         ports = h.ports;
         order = λ p.
             ap (of p) (sym (append_assoc h.got items (x ∷ []))) ∙ of_snoc p (h.got ++ items) x
-            ∙ (ap (λ (k : ℕ). if p == k then of p (h.got ++ items) ++ x.event ∷ [] else of p (h.got ++ items)) is
-            ∙ ap (λ (l : List Event). if p == from then l ++ x.event ∷ [] else l) (h.order p));
-        below = below_snoc h.ports items x h.below (below_more ports h.ports x.event mine.2 port);
+            ∙ (ap (λ (k : ℕ). if p == k then of p (h.got ++ items) ++ x.inbox_message ∷ [] else of p (h.got ++ items))
+            is
+            ∙ ap (λ (l : List InboxMessage). if p == from then l ++ x.inbox_message ∷ [] else l) (h.order p));
+        below = below_snoc h.ports items x h.below (below_more ports h.ports x.inbox_message mine.2 port);
         each = all_set (Fits h.reader h.seat sent' h.got h.ports) views pass w (
           (λ _. (
             mine.0,
-            ap (λ (l : List Event). l ++ x.event ∷ []) mine.1 ∙ sym (here h.sent from x.event),
+            ap (λ (l : List InboxMessage). l ++ x.inbox_message ∷ []) mine.1 ∙ sym (here h.sent from x.inbox_message),
             mine.2,
           )),
           λ g. absurd (true≢false (sym g)),
@@ -150,7 +152,7 @@ sends n pass from ports put x is port items views _ h at =
               (λ s.
                   let o = old.0 s in (
                     o.0,
-                    o.1 ∙ sym (there h.sent from x.event u.from
+                    o.1 ∙ sym (there h.sent from x.inbox_message u.from
                         (λ same. apart (some-injective j pass (sym o.0 ∙ (ap h.seat same ∙ mine.0))))),
                     o.2,
                   )),
@@ -161,7 +163,7 @@ sends n pass from ports put x is port items views _ h at =
                     o.2,
                     λ p le. let q = o.3 p le in (
                       q.0,
-                      there h.sent from x.event p
+                      there h.sent from x.inbox_message p
                           (λ same. some-ne-none pass (sym mine.0 ∙ (ap h.seat (sym same) ∙ q.0))) ∙ q.1,
                     ),
                   )),
@@ -170,12 +172,13 @@ sends n pass from ports put x is port items views _ h at =
       refl,
     )
 
-pub takes : (pass made ports : ℕ) (got : List Message)
-    → Pops Delivers pass (taker made ports got) (λ x w. (w ≡ taker made ports (got ++ x ∷ [])) × IsBelow ports x.event)
+pub takes : (pass made ports : ℕ) (got : List Envelope)
+    → Pops Delivers pass (taker made ports got) (λ x w. (w ≡ taker made ports (got ++ x ∷ []))
+    × IsBelow ports x.inbox_message)
 takes pass made ports got x items views h at =
     let mine = (h.each pass (taker made ports got) at).1 refl in
     let got' = h.got ++ x ∷ [] in
-    let w : Ticket = taker made ports (got ++ x ∷ []) in (
+    let w : InboxKnowledge = taker made ports (got ++ x ∷ []) in (
       w,
       record {
         reader = h.reader;
@@ -187,22 +190,22 @@ takes pass made ports got x items views h at =
         below = h.below.1;
         each = all_set (Fits h.reader h.seat h.sent got' h.ports) views pass w (
           (λ s. absurd (true≢false (sym s))),
-          λ _. (mine.0, ap (λ (l : List Message). l ++ x ∷ []) mine.1, mine.2, mine.3),
+          λ _. (mine.0, ap (λ (l : List Envelope). l ++ x ∷ []) mine.1, mine.2, mine.3),
         )
             (λ j u apart e. let old = h.each j u e in (old.0, λ g. absurd (apart ((old.1 g).0 ∙ sym mine.0))));
       },
-      (refl, subst (λ (n : ℕ). IsBelow n x.event) (sym mine.2) h.below.0),
+      (refl, subst (λ (n : ℕ). IsBelow n x.inbox_message) (sym mine.2) h.below.0),
     )
 
 -- the seats, with one more
 abbrev seat_at : (ℕ → Option ℕ) → ℕ → ℕ → ℕ → Option ℕ
 seat_at seat made pass p = if p == made then some pass else seat p
 
-pub makes : (pass made ports own more : ℕ) (got : List Message) → ports ≤ more → own ≤ more
+pub makes : (pass made ports own more : ℕ) (got : List Envelope) → ports ≤ more → own ≤ more
     → Forks Delivers pass (taker made ports got) (taker (made + 1) more got) (sender made own [])
 makes pass made ports own more got up owned items views h at =
     let mine = (h.each pass (taker made ports got) at).1 refl in
-    let vs : List Ticket = set views pass (taker (made + 1) more got) in
+    let vs : List InboxKnowledge = set views pass (taker (made + 1) more got) in
     let seat' : ℕ → Option ℕ = seat_at h.seat made (length vs) in
     let fresh = mine.3 made (omega arith) in
     let rise : h.ports ≤ more = omega (arith, up, mine.2) in
@@ -237,7 +240,7 @@ makes pass made ports own more got up owned items views h at =
       each = λ j u e.
           ⊎_elim (λ (t : (get_elem? vs j ≡ some u) × (j < length vs)). old j u t.0)
           (λ (t : (sender made own [] ≡ u) × (j ≡ length vs)). subst
-          (λ (y : Ticket). Fits h.reader seat' h.sent h.got more j y) t.0 (
+          (λ (y : InboxKnowledge). Fits h.reader seat' h.sent h.got more j y) t.0 (
             (λ _. (
               ap (λ (b : Bool). if b then some (length vs) else h.seat made) (same made) ∙ ap some (sym t.1),
               sym fresh.1,

@@ -1,6 +1,6 @@
 pub mod Carrying
 pub mod Delivering
-pub mod Mailing
+pub mod ReplyQueues
 pub mod Putting
 pub mod Replying
 pub mod Ports

@@ -8,30 +8,31 @@ use Rattle.versions.specs.Stores.{coded_items}
 use Rattle.node.specs.Nodes.{NodeState, is_idle}
 use Rattle.node.specs.Replies.{AreOpenBelow}
 use Rattle.node.proofs.PortLaws.{idle-none_open}
-use Rattle.faces.specs.Courses.{Origin}
+use Rattle.faces.specs.Histories.{Origin}
 use Rattle.faces.specs.Readers.{yet_to_look}
-use Rattle.rail.specs.declared.stands.Stand.{Stand}
+use Rattle.rail.specs.declared.thread_handles.ThreadHandle.{ThreadHandle}
 use Rattle.rail.specs.Inlets.{InletState, inlet_at, inlets_from}
-use Rattle.rail.specs.Letters.{PostState, post_at}
+use Rattle.rail.specs.NotedReplies.{ReplySenderState, reply_sender_at}
 use Rattle.rail.specs.Seats.{SeatState}
-use Rattle.rail.specs.Turns.{ArePosts}
-use Rattle.rail.specs.Servers.{course_at, posts_from, seat_at, seats_from, stand_at, stands_from}
+use Rattle.rail.specs.Turns.{AreReplySenders}
+use Rattle.rail.specs.Servers.{history_at, reply_senders_from, seat_at, seats_from, stand_at, thread_handles_from}
 
-pub posts_more : (o : Origin) (k n m : ℕ) → m ≡ k + n → posts_from o k (n + 1) ≡ posts_from o k n ++ post_at o m ∷ []
-posts_more o k zero m is = ap (λ (j : ℕ). post_at o j ∷ []) (let e : k ≡ m = omega (arith, is) in e)
-posts_more o k (suc n) m is =
+pub more_reply_senders : (o : Origin) (k n m : ℕ) → m ≡ k + n
+    → reply_senders_from o k (n + 1) ≡ reply_senders_from o k n ++ reply_sender_at o m ∷ []
+more_reply_senders o k zero m is = ap (λ (j : ℕ). reply_sender_at o j ∷ []) (let e : k ≡ m = omega (arith, is) in e)
+more_reply_senders o k (suc n) m is =
     let e : suc n + 1 ≡ suc (n + 1) = omega arith in
-    ap (posts_from o k) e ∙ ap (λ (ps : List PostState). post_at o k ∷ ps)
-    (posts_more o (k + 1) n m (omega (arith, is)))
+    ap (reply_senders_from o k) e ∙ ap (λ (ps : List ReplySenderState). reply_sender_at o k ∷ ps)
+    (more_reply_senders o (k + 1) n m (omega (arith, is)))
 
-pub stands_more : (o : Origin) (b : TableId) (k n m : ℕ)
+pub more_thread_handles : (o : Origin) (b : TableId) (k n m : ℕ)
     → m ≡ k + n
-    → stands_from o b k (n + 1) ≡ stands_from o b k n ++ stand_at o b m ∷ []
-stands_more o b k zero m is = ap (λ (j : ℕ). stand_at o b j ∷ []) (let e : k ≡ m = omega (arith, is) in e)
-stands_more o b k (suc n) m is =
+    → thread_handles_from o b k (n + 1) ≡ thread_handles_from o b k n ++ stand_at o b m ∷ []
+more_thread_handles o b k zero m is = ap (λ (j : ℕ). stand_at o b j ∷ []) (let e : k ≡ m = omega (arith, is) in e)
+more_thread_handles o b k (suc n) m is =
     let e : suc n + 1 ≡ suc (n + 1) = omega arith in
-    ap (stands_from o b k) e ∙ ap (λ (ps : List Stand). stand_at o b k ∷ ps)
-    (stands_more o b (k + 1) n m (omega (arith, is)))
+    ap (thread_handles_from o b k) e ∙ ap (λ (ps : List ThreadHandle). stand_at o b k ∷ ps)
+    (more_thread_handles o b (k + 1) n m (omega (arith, is)))
 
 pub seats_more : (o : Origin) (b : TableId) (k n m : ℕ)
     → m ≡ k + n
@@ -51,19 +52,19 @@ inlets_more b k (suc n) m is =
     ap (inlets_from b k) e ∙ ap (λ (xs : List InletState). inlet_at b k ∷ xs)
     (inlets_more b (k + 1) n m (omega (arith, is)))
 
--- the posts of the first n ports and of one more
-pub posts_next : (o : Origin) (k n m : ℕ)
+-- the reply senders of the first n ports and of one more
+pub next_reply_senders : (o : Origin) (k n m : ℕ)
     → m ≡ k + n
-    → posts_from o 0 (k + (n + 1)) ≡ posts_from o 0 m ++ post_at o m ∷ []
-posts_next o k n m is =
+    → reply_senders_from o 0 (k + (n + 1)) ≡ reply_senders_from o 0 m ++ reply_sender_at o m ∷ []
+next_reply_senders o k n m is =
     let e : k + (n + 1) ≡ m + 1 = omega (arith, is) in
-    ap (posts_from o 0) e ∙ posts_more o 0 m m (omega arith)
+    ap (reply_senders_from o 0) e ∙ more_reply_senders o 0 m m (omega arith)
 
-pub are_opened : (o : Origin) (k n : ℕ) → ArePosts o k (posts_from o k n)
+pub are_opened : (o : Origin) (k n : ℕ) → AreReplySenders o k (reply_senders_from o k n)
 are_opened o k zero = tt
 are_opened o k (suc n) = (refl, are_opened o (k + 1) n)
 
-pub length_opened : (o : Origin) (k n : ℕ) → length (posts_from o k n) ≡ n
+pub length_opened : (o : Origin) (k n : ℕ) → length (reply_senders_from o k n) ≡ n
 length_opened o k zero = refl
 length_opened o k (suc n) = ap suc (length_opened o (k + 1) n)
 
@@ -72,11 +73,11 @@ pub idle_below : (n : NodeState) (ports : ℕ) → is_idle n ≡ true → AreOpe
 idle_below n ports idle = λ port reads above. idle-none_open n port reads idle
 
 -- a reader that hasn't looked and a seat before any call make that stand
-pub is_stand_at : (o : Origin) (b : TableId) (k : ℕ) (s : Stand)
-    → s.reader ≡ yet_to_look (course_at o)
+pub is_thread_handle_at : (o : Origin) (b : TableId) (k : ℕ) (s : ThreadHandle)
+    → s.reader ≡ yet_to_look (history_at o)
     → s.seat ≡ seat_at o b k
     → s ≡ stand_at o b k
-is_stand_at o b k s reader seat = λ i. record {
+is_thread_handle_at o b k s reader seat = λ i. record {
   reader = reader i;
   seat = seat i;
   together = is_prop→PathP (λ j. (seat j).origin ≡ (reader j).seen.origin)

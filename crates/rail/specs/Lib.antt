@@ -1,9 +1,9 @@
-pub mod Events
+pub mod InboxMessages
 pub mod Inbox
 pub mod Inlets
-pub mod Letters
+pub mod NotedReplies
 pub mod Links
-pub mod Mails
+pub mod ReplyMessages
 pub mod Ports
 pub mod Seats
 pub mod Takes

@@ -4,9 +4,9 @@ use Rattle.node.specs.declared.messages.Peer.{Peer}
 use Rattle.node.specs.declared.messages.Output.{Output}
 use Rattle.node.specs.declared.messages.Output.TheVariants.{To, Reply as Replied}
 use Rattle.node.specs.declared.messages.Input.{Input}
-use Rattle.faces.specs.Courses.{Origin, Course, with_next}
+use Rattle.faces.specs.Histories.{Origin, History, with_next}
 use Rattle.faces.specs.Outputs.{last_outputs}
-use Rattle.rail.specs.Letters.{Letter, PostState}
+use Rattle.rail.specs.NotedReplies.{NotedReply, ReplySenderState}
 use Rattle.rail.specs.Links.{LinksState, messages_to}
 
 -- the messages among these, in order, each with its receiver
@@ -15,12 +15,13 @@ messages_of [] = []
 messages_of (To to peer ∷ os) = (to, peer) ∷ messages_of os
 messages_of (Replied port reply ∷ os) = messages_of os
 
--- the replies among these to a port, in order, with a note of the course
-abbrev pub letters_to : Course → ℕ → List Output → List Letter
-letters_to c p [] = []
-letters_to c p (To to peer ∷ os) = letters_to c p os
-letters_to c p (Replied port reply ∷ os) =
-    if port == p then (record { port = port; reply = reply; told = c }) ∷ letters_to c p os else letters_to c p os
+-- the replies among these to a port, in order, with a note of the history
+abbrev pub noted_replies_to : History → ℕ → List Output → List NotedReply
+noted_replies_to c p [] = []
+noted_replies_to c p (To to peer ∷ os) = noted_replies_to c p os
+noted_replies_to c p (Replied port reply ∷ os) =
+    if port == p then (record { port = port; reply = reply; told = c }) ∷ noted_replies_to c p os else noted_replies_to
+    c p os
 
 -- the second list is the first, in order, without some of which this holds
 abbrev pub IsLeft : {X : Type 0} → (X → Type 0) → List X → List X → Type 0
@@ -43,37 +44,38 @@ module _ {C : Type 0} (l l' : LinksState C) where
   HasPutFirst outputs =
       (done : List Output) × (rest : List Output) × (outputs ≡ done ++ rest) × HasPut (messages_of done)
 
--- what the last step of a course put out
-abbrev pub outputs_after : Course → List Output
+-- what the last step of a history put out
+abbrev pub outputs_after : History → List Output
 outputs_after c = last_outputs c.origin.start c.inputs
 
 -- An input was refused: nothing was published or put; or the published list grew by it, and then some of the first
 -- messages of its step were put.
-abbrev pub IsCut : {C : Type 0} → LinksState C → LinksState C → Course → Course → Input → Type 0
+abbrev pub IsCut : {C : Type 0} → LinksState C → LinksState C → History → History → Input → Type 0
 IsCut l l' c c' input =
     ((c' ≡ c) × (l' ≡ l))
     ⊎ ((c' ≡ with_next c input) × HasPutFirst l l' (outputs_after (with_next c input)))
 
 -- What was put for a seat goes on with these replies, save those that its queue handed back.
-pub record HasPosted (before after : PostState) (letters : List Letter) : Type 0 where
+pub record HasPutReplies (before after : ReplySenderState) (noted_replies : List NotedReply) : Type 0 where
   pub address : after.address ≡ before.address
-  pub more : List Letter
+  pub more : List NotedReply
   pub put : after.put ≡ before.put ++ more
-  pub left : IsLeft (λ letter. after.gone ≡ true) letters more
+  pub left : IsLeft (λ noted_reply. after.gone ≡ true) noted_replies more
   pub gone : before.gone ≡ true → after.gone ≡ true
 
 -- no end of these seats' replies is held
-abbrev pub AreClosed : List PostState → Type 0
+abbrev pub AreClosed : List ReplySenderState → Type 0
 AreClosed [] = Unit {0}
 AreClosed (p ∷ ps) = (p.held ≡ false) × AreClosed ps
 
--- each post is this server's, at the port of its place
-abbrev pub ArePosts : Origin → ℕ → List PostState → Type 0
-ArePosts o k [] = Unit {0}
-ArePosts o k (p ∷ ps) = (p.address ≡ record { origin = o; port = k }) × ArePosts o (k + 1) ps
+-- each reply sender is this server's, at the port of its place
+abbrev pub AreReplySenders : Origin → ℕ → List ReplySenderState → Type 0
+AreReplySenders o k [] = Unit {0}
+AreReplySenders o k (p ∷ ps) = (p.address ≡ record { origin = o; port = k }) × AreReplySenders o (k + 1) ps
 
 -- What was put for each seat goes on with the replies among these to its port, save those that its queue handed back.
-abbrev pub HasReplied : Course → ℕ → List PostState → List PostState → List Output → Type 0
+abbrev pub HasReplied : History → ℕ → List ReplySenderState → List ReplySenderState → List Output → Type 0
 HasReplied c k [] after outputs = after ≡ []
 HasReplied c k (p ∷ ps) [] outputs = ⊥
-HasReplied c k (p ∷ ps) (q ∷ qs) outputs = HasPosted p q (letters_to c k outputs) × HasReplied c (k + 1) ps qs outputs
+HasReplied c k (p ∷ ps) (q ∷ qs) outputs =
+    HasPutReplies p q (noted_replies_to c k outputs) × HasReplied c (k + 1) ps qs outputs

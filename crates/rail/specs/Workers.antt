@@ -6,30 +6,30 @@ use Rattle.atomic_table.specs.Seated.{TableId}
 use Rattle.node.specs.declared.messages.Input.{Input}
 use Rattle.node.specs.Lawful.{IsLawful}
 use Rattle.node.specs.Replies.{AreOpenBelow, AreRepliesBelow}
-use Rattle.faces.specs.Courses.{Course, server_after, with_next}
+use Rattle.faces.specs.Histories.{History, server_after, with_next}
 use Rattle.faces.specs.Publishers.{Publishing}
 use Rattle.rail.specs.declared.faults.RailFault.{RailFault}
 use Rattle.rail.specs.declared.faults.RailFault.TheVariants.{Memory, Closed, LinkDown, NoReader}
-use Rattle.rail.specs.declared.events.Event.TheVariants.{Took, Stop, End}
-use Rattle.rail.specs.declared.events.Message.{Message}
+use Rattle.rail.specs.declared.inbox_messages.InboxMessage.TheVariants.{Took, Stop, End}
+use Rattle.rail.specs.declared.inbox_messages.Envelope.{Envelope}
 use Rattle.rail.specs.declared.workers.Turn.{Turn}
 use Rattle.rail.specs.declared.workers.Turn.TheVariants.{Went, Stopped, End as Ended}
-use Rattle.rail.specs.Letters.{PostState}
+use Rattle.rail.specs.NotedReplies.{ReplySenderState}
 use Rattle.rail.specs.Links.{LinksState}
-use Rattle.rail.specs.Turns.{messages_of, outputs_after, HasPut, IsCut, ArePosts, AreClosed, HasReplied}
+use Rattle.rail.specs.Turns.{messages_of, outputs_after, HasPut, IsCut, AreReplySenders, AreClosed, HasReplied}
 
 -- its inbox (`InletState`), and what it took there, in order; what it has published, and whether it goes on; and what
 -- it put for each seat
 pub record WorkerState : Type 0 where
   pub inbox : TableId
-  pub taken : List Message
-  pub published : Course
+  pub taken : List Envelope
+  pub published : History
   pub goes : Bool
-  pub posts : List PostState
+  pub reply_senders : List ReplySenderState
 
 -- a server that goes on has published just this, it is lawful, its open calls have ports below this number, and its
 -- publisher goes on
-abbrev pub IsGoing : Option Publishing → Course → ℕ → Type 0
+abbrev pub IsGoing : Option Publishing → History → ℕ → Type 0
 IsGoing None published ports = Unit {0}
 IsGoing (Some publisher) published ports =
     (publisher.published ≡ published)
@@ -37,21 +37,22 @@ IsGoing (Some publisher) published ports =
     × AreOpenBelow ports (server_after publisher.published)
     × (publisher.goes ≡ true)
 
--- what a worker keeps: there is a post for each seat, no end of theirs is held once the server has stopped, and what a
--- server that goes on does
-pub record IsWorker (publisher : Option Publishing) (published : Course) (posts : List PostState) (ports : ℕ)
+-- what a worker keeps: there is a reply sender for each seat, no end of theirs is held once the server has stopped, and
+-- what a server that goes on does
+pub record IsWorker (publisher : Option Publishing) (published : History) (reply_senders : List ReplySenderState)
+    (ports : ℕ)
     : Type 0 where
-  pub placed : ArePosts published.origin 0 posts
-  pub as_many : length posts ≡ ports
-  pub closed : publisher ≡ None → AreClosed posts
+  pub placed : AreReplySenders published.origin 0 reply_senders
+  pub as_many : length reply_senders ≡ ports
+  pub closed : publisher ≡ None → AreClosed reply_senders
   pub going : IsGoing publisher published ports
 
 -- The server is stopped from now on, nothing was replied, and no seat's end is held.
 pub record IsStopped (w w' : WorkerState) : Type 0 where
   pub published : w'.published ≡ w.published
   pub stopped : w'.goes ≡ false
-  pub replies : HasReplied w.published 0 w.posts w'.posts []
-  pub closed : AreClosed w'.posts
+  pub replies : HasReplied w.published 0 w.reply_senders w'.reply_senders []
+  pub closed : AreClosed w'.reply_senders
 
 module _ {C : Type 0} (w w' : WorkerState) (l l' : LinksState C) where
   -- An input was given to a server that goes on: the published list grew by it, and then what its step put out was put:
@@ -62,9 +63,9 @@ module _ {C : Type 0} (w w' : WorkerState) (l l' : LinksState C) where
     pub still : w'.goes ≡ true
     pub published : w'.published ≡ with_next w.published input
     pub messages : HasPut l l' (messages_of (outputs_after (with_next w.published input)))
-    pub replies : HasReplied (with_next w.published input) 0 w.posts w'.posts
+    pub replies : HasReplied (with_next w.published input) 0 w.reply_senders w'.reply_senders
         (outputs_after (with_next w.published input))
-    pub seated : AreRepliesBelow (length w.posts) (outputs_after (with_next w.published input))
+    pub seated : AreRepliesBelow (length w.reply_senders) (outputs_after (with_next w.published input))
 
   -- The server is stopped from now on, and nothing was put out.
   pub record HasStopped : Type 0 where
@@ -77,15 +78,15 @@ module _ {C : Type 0} (w w' : WorkerState) (l l' : LinksState C) where
   pub record WasCut (input : Input) : Type 0 where
     pub going : w.goes ≡ true
     pub stopped : w'.goes ≡ false
-    pub replies : HasReplied w.published 0 w.posts w'.posts []
-    pub closed : AreClosed w'.posts
+    pub replies : HasReplied w.published 0 w.reply_senders w'.reply_senders []
+    pub closed : AreClosed w'.reply_senders
     pub cut : IsCut l l' w.published w'.published input
 
   -- Nothing changed.
   pub record IsIdle : Type 0 where
     pub published : w'.published ≡ w.published
     pub goes : w'.goes ≡ w.goes
-    pub posts : w'.posts ≡ w.posts
+    pub reply_senders : w'.reply_senders ≡ w.reply_senders
     pub messages : l' ≡ l
 
   -- what came of an input, by the answer
@@ -99,18 +100,18 @@ module _ {C : Type 0} (w w' : WorkerState) (l l' : LinksState C) where
   Advanced input (Err NoReader) = ⊥
 
   -- what a turn that took this message did, by its answer
-  abbrev pub Did : Message → Result Turn RailFault → Type 0
-  Did m (Ok Went) = (input : Input) × (m.event ≡ Took input) × HasGone input
-  Did m (Ok Stopped) = ((m.event ≡ Stop) ⊎ ((w.goes ≡ false) × (m.event ≢ End))) × HasStopped
-  Did m (Ok Ended) = (m.event ≡ End) × IsIdle
-  Did m (Err Memory) = (input : Input) × (m.event ≡ Took input) × WasCut input
+  abbrev pub Did : Envelope → Result Turn RailFault → Type 0
+  Did m (Ok Went) = (input : Input) × (m.inbox_message ≡ Took input) × HasGone input
+  Did m (Ok Stopped) = ((m.inbox_message ≡ Stop) ⊎ ((w.goes ≡ false) × (m.inbox_message ≢ End))) × HasStopped
+  Did m (Ok Ended) = (m.inbox_message ≡ End) × IsIdle
+  Did m (Err Memory) = (input : Input) × (m.inbox_message ≡ Took input) × WasCut input
   Did m (Err Closed) = ⊥
   Did m (Err LinkDown) = ⊥
   Did m (Err NoReader) = ⊥
 
   -- It took this message, and then did what its answer says.
   pub record HasTaken (result : Result Turn RailFault) : Type 0 where
-    pub message : Message
+    pub message : Envelope
     pub taken : w'.taken ≡ w.taken ++ message ∷ []
     pub did : Did message result
 

@@ -3,14 +3,14 @@
 ghost use Rattle.std.specs.Prelude.{◌≡◌, [], ◌∷◌, ◌++◌, IfOk, IfErr, ◌+◌, ◌<◌, ◌^◌};
 ghost use Rattle.crossbeam_channel.specs.Claims.{view, IsSeatAt};
 ghost use Rattle.crossbeam_channel.specs.Ends.{sends_on, receives_on, ruled_capacity};
-ghost use Rattle.rail.specs.Events.{IsBelow};
+ghost use Rattle.rail.specs.InboxMessages.{IsBelow};
 ghost use Rattle.rail.specs.Inbox.{Delivers, HasGot, HasSent, sender, taker};
 ghost use Rattle.rail.specs.Takes.{IsTake, IsTry};
 
 use crate::RailFault;
-use crate::events::{Event, Message};
+use crate::inbox_messages::{Envelope, InboxMessage};
+use crate::limits::TRIES;
 use crate::rooms::Room;
-use crate::waiting::TRIES;
 use atomic_table::Split;
 use crossbeam_channel::protocol::{Lesson, Outcome, Protocol};
 use crossbeam_channel::{Pass, RuledReceiver, RuledSender, TryRecvError, bounded_with};
@@ -21,75 +21,75 @@ use std::thread;
 
 /// What a pass knows. No value of it is made. A sender has a number, a bound of its calls' ports and what it sent; the
 /// receiver the number of senders, a bound of all calls' ports and what it took.
-pub struct Ticket {
+pub struct InboxKnowledge {
     pub sends: bool,
     pub from: u64,
     pub ports: u64,
-    pub put: LinkedList<Event>,
+    pub put: LinkedList<InboxMessage>,
     pub gets: bool,
     pub made: u64,
-    pub got: LinkedList<Message>,
+    pub got: LinkedList<Envelope>,
 }
 
 /// The rule of the inbox.
 pub struct InOrder;
 
-impl Protocol<Message, Ticket> for InOrder {
+impl Protocol<Envelope, InboxKnowledge> for InOrder {
     ghost holds = { Delivers };
 
     ghost first = { taker 0 0 [] };
 }
 
 /// One more sender of calls, at one more port.
-pub struct Seats;
+pub struct AddsCaller;
 
-impl Split<Ticket> for Seats {
+impl Split<InboxKnowledge> for AddsCaller {
     ghost left = { λ v. taker (v.made + 1) (v.ports + 1) v.got };
 
     ghost right = { λ v. sender v.made (v.ports + 1) [] };
 }
 
 /// One more sender, of no calls.
-pub struct Lets;
+pub struct AddsBringer;
 
-impl Split<Ticket> for Lets {
+impl Split<InboxKnowledge> for AddsBringer {
     ghost left = { λ v. taker (v.made + 1) v.ports v.got };
 
     ghost right = { λ v. sender v.made 0 [] };
 }
 
 /// A message is sent.
-pub struct Sends;
+pub struct SendsOne;
 
-impl Outcome<Message, Ticket> for Sends {
-    ghost then = { λ v x w. w ≡ sender v.from v.ports (v.put ++ x.event ∷ []) };
+impl Outcome<Envelope, InboxKnowledge> for SendsOne {
+    ghost then = { λ v x w. w ≡ sender v.from v.ports (v.put ++ x.inbox_message ∷ []) };
 }
 
-impl Lesson<Message, Ticket> for Sends {
+impl Lesson<Envelope, InboxKnowledge> for SendsOne {
     ghost fact = { λ v items. Unit {0} };
 }
 
 /// A message is taken.
-pub struct Takes;
+pub struct TakesOne;
 
-impl Outcome<Message, Ticket> for Takes {
-    ghost then = { λ v x w. (w ≡ taker v.made v.ports (v.got ++ x ∷ [])) × IsBelow v.ports x.event };
+impl Outcome<Envelope, InboxKnowledge> for TakesOne {
+    ghost then = { λ v x w. (w ≡ taker v.made v.ports (v.got ++ x ∷ [])) × IsBelow v.ports x.inbox_message };
 }
 
-impl Lesson<Message, Ticket> for Takes {
+impl Lesson<Envelope, InboxKnowledge> for TakesOne {
     ghost fact = { λ v items. Unit {0} };
 }
 
-pub type InboxSender = RuledSender<Message, Ticket, InOrder>;
+pub type InboxSender = RuledSender<Envelope, InboxKnowledge, InOrder>;
 
-pub type InboxReceiver = RuledReceiver<Message, Ticket, InOrder>;
+pub type InboxReceiver = RuledReceiver<Envelope, InboxKnowledge, InOrder>;
 
 /// One sender of the inbox, with its pass.
 #[derive(Drop)]
 pub struct Slot {
     from: u64,
     to: InboxSender,
-    pub pass: Pass<Message, Ticket>,
+    pub pass: Pass<Envelope, InboxKnowledge>,
     ghost seated: { IsSeatAt (sends_on to) pass },
     ghost sends: { view pass ≡ sender from (view pass).ports (view pass).put },
 }
@@ -98,34 +98,34 @@ pub struct Slot {
 #[derive(Drop)]
 pub struct Inbox {
     inbox: InboxReceiver,
-    pub pass: Pass<Message, Ticket>,
+    pub pass: Pass<Envelope, InboxKnowledge>,
     ghost seated: { IsSeatAt (receives_on inbox) pass },
     ghost gets: { view pass ≡ taker (view pass).made (view pass).ports (view pass).got },
 }
 
 /// The inbox that still makes senders.
 #[derive(Drop)]
-pub struct Gate {
+pub struct InboxBuilder {
     to: InboxSender,
     inbox: InboxReceiver,
     made: u64,
-    pub pass: Pass<Message, Ticket>,
+    pub pass: Pass<Envelope, InboxKnowledge>,
     ghost same: { receives_on inbox ≡ sends_on to },
     ghost seated: { IsSeatAt (sends_on to) pass },
     ghost gets: { view pass ≡ taker made (view pass).ports [] },
 }
 
-impl Gate {
+impl InboxBuilder {
     /// An empty inbox with room for this many messages.
-    pub fn new(alloc: Global, room: Room) -> Result<Gate, AllocError>
+    pub fn new(alloc: Global, room: Room) -> Result<InboxBuilder, AllocError>
         ensures pass { IfOk result (λ g. view g.pass ≡ taker 0 0 []) }
         ensures room { IfOk result (λ g. ruled_capacity (sends_on g.to) ≡ room.messages) }
     {
-        let (to, inbox, pass) = bounded_with::<Message, Ticket, InOrder, Global>(
+        let (to, inbox, pass) = bounded_with::<Envelope, InboxKnowledge, InOrder, Global>(
             alloc,
             room.messages,
         )?;
-        Ok(Gate {
+        Ok(InboxBuilder {
             to,
             inbox,
             made: 0,
@@ -145,7 +145,7 @@ impl Gate {
     {
         let to = self.to.try_clone()?;
         let from = self.made;
-        let pass = self.to.another::<Seats>(&mut self.pass);
+        let pass = self.to.another::<AddsCaller>(&mut self.pass);
         self.made = from + 1;
         Ok(Slot { from, to, pass })
     }
@@ -161,7 +161,7 @@ impl Gate {
     {
         let to = self.to.try_clone()?;
         let from = self.made;
-        let pass = self.to.another::<Lets>(&mut self.pass);
+        let pass = self.to.another::<AddsBringer>(&mut self.pass);
         self.made = from + 1;
         Ok(Slot { from, to, pass })
     }
@@ -171,27 +171,27 @@ impl Gate {
         ensures pass { view result.pass ≡ view self.pass }
         ensures inbox { result.pass.table_id ≡ self.pass.table_id }
     {
-        let Gate { inbox, pass, .. } = self;
+        let InboxBuilder { inbox, pass, .. } = self;
         Inbox { inbox, pass }
     }
 }
 
 impl Slot {
-    /// At `Ok` the event is added to what this sender sent. At `Err` it is handed back. It may wait.
-    pub fn send<R: Wait>(&mut self, rt: &R, event: Event) -> Result<(), Event>
-        requires { IsBelow (view self.old.pass).ports event }
-        ensures sent { HasSent (view self.old.pass) (view self.new.pass) event result }
+    /// At `Ok` the inbox message is added to what this sender sent. At `Err` it is handed back. It may wait.
+    pub fn send<R: Wait>(&mut self, rt: &R, inbox_message: InboxMessage) -> Result<(), InboxMessage>
+        requires { IsBelow (view self.old.pass).ports inbox_message }
+        ensures sent { HasSent (view self.old.pass) (view self.new.pass) inbox_message result }
         ensures ports { (view self.new.pass).ports ≡ (view self.old.pass).ports }
         ensures number { (view self.new.pass).from ≡ (view self.old.pass).from }
         ensures inbox { self.new.pass.table_id ≡ self.old.pass.table_id }
     {
-        let message = Message {
+        let message = Envelope {
             from: self.from,
-            event,
+            inbox_message,
         };
-        match self.to.send_as::<Sends, R>(rt, &mut self.pass, message) {
+        match self.to.send_as::<SendsOne, R>(rt, &mut self.pass, message) {
             Ok(()) => Ok(()),
-            Err(failed) => Err(failed.into_inner().event),
+            Err(failed) => Err(failed.into_inner().inbox_message),
         }
     }
 }
@@ -199,12 +199,12 @@ impl Slot {
 impl Inbox {
     /// The next message, if one stands there, which is added to what was taken. While others are inside a call it may
     /// find none although one stands there. Refused with Closed if every sender is gone.
-    pub fn try_take<R: Wait>(&mut self, rt: &R) -> Result<Option<Message>, RailFault>
+    pub fn try_take<R: Wait>(&mut self, rt: &R) -> Result<Option<Envelope>, RailFault>
         ensures taken { IsTry HasGot (view self.old.pass) (view self.new.pass) result }
         ensures inbox { self.new.pass.table_id ≡ self.old.pass.table_id }
         ensures fault { IfErr result (λ fault. fault ≡ RailFault.Closed) }
     {
-        match self.inbox.try_recv_as::<Takes, R>(rt, &mut self.pass) {
+        match self.inbox.try_recv_as::<TakesOne, R>(rt, &mut self.pass) {
             Ok(message) => Ok(Some(message)),
             Err(TryRecvError::Empty) => Ok(None),
             Err(TryRecvError::Disconnected) => Err(RailFault::Closed),
@@ -213,7 +213,7 @@ impl Inbox {
 
     /// The next message, which is added to what was taken. It tries a few times, and then sleeps until one comes.
     /// Refused with Closed if every sender is gone.
-    pub fn take<R: Wait>(&mut self, rt: &R) -> Result<Message, RailFault>
+    pub fn take<R: Wait>(&mut self, rt: &R) -> Result<Envelope, RailFault>
         ensures taken { IsTake HasGot (view self.old.pass) (view self.new.pass) result }
         ensures inbox { self.new.pass.table_id ≡ self.old.pass.table_id }
         ensures fault { IfErr result (λ fault. fault ≡ RailFault.Closed) }
@@ -224,7 +224,7 @@ impl Inbox {
             }
             thread::yield_now();
         }
-        match self.inbox.recv_as::<Takes, R>(rt, &mut self.pass) {
+        match self.inbox.recv_as::<TakesOne, R>(rt, &mut self.pass) {
             Ok(message) => Ok(message),
             Err(_) => Err(RailFault::Closed),
         }

@@ -3,13 +3,13 @@ ghost use Rattle.std.specs.Prelude.{◌≡◌, OnOk, OnErr, IfErr};
 ghost use Rattle.crossbeam_channel.specs.Claims.{view};
 ghost use Rattle.node.specs.Lawful.{IsBody};
 ghost use Rattle.node.specs.declared.messages.Input.TheVariants.{From, Gone};
-ghost use Rattle.rail.specs.Events.{IsBelow};
-ghost use Rattle.rail.specs.Inlets.{inlet_of, with_event};
-ghost use Rattle.rail.specs.declared.events.Event.TheVariants.{Took, Stop, End};
+ghost use Rattle.rail.specs.InboxMessages.{IsBelow};
+ghost use Rattle.rail.specs.Inlets.{inlet_of, with_inbox_message};
+ghost use Rattle.rail.specs.declared.inbox_messages.InboxMessage.TheVariants.{Took, Stop, End};
 
 use crate::RailFault;
-use crate::events::{Event, FitInput};
 use crate::inbox::Slot;
+use crate::inbox_messages::{FitInput, InboxMessage};
 use node::{Input, Peer};
 use std::marker::Model;
 use std::sync::Wait;
@@ -48,51 +48,51 @@ impl Inlet {
     /// Brings a message from server `i`. Refused with Closed if the worker is gone. It may wait, as may the others.
     pub fn bring<R: Wait>(&mut self, rt: &R, i: u8, peer: Peer) -> Result<(), RailFault>
         requires { IsBody peer.body }
-        ensures ok { OnOk result (self.new ≡ with_event self.old (Took (From i peer))) }
+        ensures ok { OnOk result (self.new ≡ with_inbox_message self.old (Took (From i peer))) }
         ensures err { OnErr result (self.new ≡ self.old) }
         ensures fault { IfErr result (λ fault. fault ≡ RailFault.Closed) }
     {
-        self.send(rt, Event::Took(FitInput::new(Input::From(i, peer))))
+        self.send(rt, InboxMessage::Took(FitInput::new(Input::From(i, peer))))
     }
 
     /// Brings the notice that server `j` has failed. Refused with Closed if the worker is gone.
     pub fn gone<R: Wait>(&mut self, rt: &R, j: u8) -> Result<(), RailFault>
-        ensures ok { OnOk result (self.new ≡ with_event self.old (Took (Gone j))) }
+        ensures ok { OnOk result (self.new ≡ with_inbox_message self.old (Took (Gone j))) }
         ensures err { OnErr result (self.new ≡ self.old) }
         ensures fault { IfErr result (λ fault. fault ≡ RailFault.Closed) }
     {
-        self.send(rt, Event::Took(FitInput::new(Input::Gone(j))))
+        self.send(rt, InboxMessage::Took(FitInput::new(Input::Gone(j))))
     }
 
     /// Fails the server: from then on its worker puts out nothing, and each seat that waits there gets Closed. Refused
     /// with Closed if the worker is gone.
     pub fn stop<R: Wait>(&mut self, rt: &R) -> Result<(), RailFault>
-        ensures ok { OnOk result (self.new ≡ with_event self.old Stop) }
+        ensures ok { OnOk result (self.new ≡ with_inbox_message self.old Stop) }
         ensures err { OnErr result (self.new ≡ self.old) }
         ensures fault { IfErr result (λ fault. fault ≡ RailFault.Closed) }
     {
-        self.send(rt, Event::Stop)
+        self.send(rt, InboxMessage::Stop)
     }
 
     /// Ends the worker's loop. Refused with Closed if the worker is gone.
     pub fn end<R: Wait>(&mut self, rt: &R) -> Result<(), RailFault>
-        ensures ok { OnOk result (self.new ≡ with_event self.old End) }
+        ensures ok { OnOk result (self.new ≡ with_inbox_message self.old End) }
         ensures err { OnErr result (self.new ≡ self.old) }
         ensures fault { IfErr result (λ fault. fault ≡ RailFault.Closed) }
     {
-        self.send(rt, Event::End)
+        self.send(rt, InboxMessage::End)
     }
 
-    fn send<R: Wait>(&mut self, rt: &R, event: Event) -> Result<(), RailFault>
-        requires { IsBelow 0 event }
-        ensures ok { OnOk result (self.new ≡ with_event self.old event) }
+    fn send<R: Wait>(&mut self, rt: &R, inbox_message: InboxMessage) -> Result<(), RailFault>
+        requires { IsBelow 0 inbox_message }
+        ensures ok { OnOk result (self.new ≡ with_inbox_message self.old inbox_message) }
         ensures err { OnErr result (self.new ≡ self.old) }
         ensures fault { IfErr result (λ fault. fault ≡ RailFault.Closed) }
     {
-        match self.slot.send(rt, event) {
+        match self.slot.send(rt, inbox_message) {
             Ok(()) => Ok(()),
-            Err(event) => {
-                drop(event);
+            Err(inbox_message) => {
+                drop(inbox_message);
                 Err(RailFault::Closed)
             }
         }

@@ -2,14 +2,14 @@
 ghost use Rattle.std.specs.Prelude.{◌≡◌, [], ◌∷◌, length, true, OnOk, OnErr};
 ghost use Rattle.node.specs.Lawful.{IsInput, IsLawful, HoldsEntry};
 ghost use Rattle.node.specs.Replies.{AreCallsBelow, AreOpenBelow};
-ghost use Rattle.faces.specs.Courses.{server_after, with_next};
+ghost use Rattle.faces.specs.Histories.{server_after, with_next};
 ghost use Rattle.rail.specs.Links.{HaveCarried};
-ghost use Rattle.rail.specs.Turns.{ArePosts, HasPut, HasReplied, IsCut, messages_of, outputs_after};
+ghost use Rattle.rail.specs.Turns.{AreReplySenders, HasPut, HasReplied, IsCut, messages_of, outputs_after};
 
 use crate::links::Links;
+use crate::outputs::{put_messages, put_replies};
 use crate::port_sets::PortSet;
-use crate::posts::Post;
-use crate::turns::{put_messages, put_replies};
+use crate::reply_channels::ReplySender;
 use faces::{Publisher, Told};
 use node::Input;
 use std::alloc::AllocError;
@@ -23,29 +23,30 @@ pub fn advance<R: Wait, L: Links>(
     rt: &R,
     publisher: &mut Publisher,
     told: &mut Told,
-    posts: &mut Vec<Post>,
+    reply_senders: &mut Vec<ReplySender>,
     replied: &mut PortSet,
     links: &mut L,
     input: Input,
 ) -> Result<(), AllocError>
     requires input { IsInput input × HoldsEntry input }
     requires told { told.old ≡ publisher.old.published }
-    requires posts { ArePosts publisher.old.published.origin 0 posts.old.items }
-    requires calls { AreCallsBelow (length posts.old.items) (input ∷ []) }
+    requires reply_senders { AreReplySenders publisher.old.published.origin 0 reply_senders.old.items }
+    requires calls { AreCallsBelow (length reply_senders.old.items) (input ∷ []) }
     requires lawful { IsLawful (server_after publisher.old.published) }
-    requires open { AreOpenBelow (length posts.old.items) (server_after publisher.old.published) }
+    requires open { AreOpenBelow (length reply_senders.old.items) (server_after publisher.old.published) }
     ensures goes { OnOk result (publisher.new.goes ≡ true) }
     ensures next { OnOk result ((publisher.new.published ≡ with_next publisher.old.published input)
         × (told.new ≡ publisher.new.published)) }
     ensures messages { OnOk result
         (HasPut (L.state links.old) (L.state links.new) (messages_of (outputs_after publisher.new.published))) }
     ensures replies { OnOk result
-        (HasReplied publisher.new.published 0 posts.old.items posts.new.items (outputs_after publisher.new.published)) }
+        (HasReplied publisher.new.published 0 reply_senders.old.items reply_senders.new.items
+        (outputs_after publisher.new.published)) }
     ensures cut { OnErr result
         (IsCut (L.state links.old) (L.state links.new) publisher.old.published told.new input) }
     // Whatever the answer.
     ensures carried { HaveCarried (L.state links.old) (L.state links.new) }
-    ensures unreplied { OnErr result (posts.new.items ≡ posts.old.items) }
+    ensures unreplied { OnErr result (reply_senders.new.items ≡ reply_senders.old.items) }
 {
     let Ok(outputs) = publisher.take(rt, input) else {
         return Err(AllocError);
@@ -54,6 +55,6 @@ pub fn advance<R: Wait, L: Links>(
     if put_messages(links, publisher.published(), outputs.as_slice()).is_err() {
         return Err(AllocError);
     }
-    put_replies(rt, posts, replied, publisher.published(), outputs);
+    put_replies(rt, reply_senders, replied, publisher.published(), outputs);
     Ok(())
 }

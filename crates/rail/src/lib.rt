@@ -1,27 +1,27 @@
 //! The threads of one server: a worker that owns the node, and those who ask it, read beside it and carry its messages.
 #![tactic(auto)]
 
-mod events;
 mod faults;
 mod inbox;
+mod inbox_messages;
 mod inlets;
 mod inputs;
 mod laws;
+mod limits;
 mod links;
-mod mails;
+mod outputs;
 mod port_sets;
-mod posts;
+mod reply_channels;
+mod reply_messages;
 mod rooms;
 mod seats;
 mod servers;
-mod stands;
-mod turns;
-mod waiting;
+mod thread_handles;
 mod workers;
 
-pub use events::{Event, FitInput, Message};
 pub use faces::{Published, Reader, Told, Weight};
 pub use faults::RailFault;
+pub use inbox_messages::{Envelope, FitInput, InboxMessage};
 pub use inlets::Inlet;
 pub use laws::{replies_begin_those_put, taken_begins_sent};
 pub use links::Links;
@@ -29,5 +29,5 @@ pub use port_sets::PortSet;
 pub use rooms::Room;
 pub use seats::Seat;
 pub use servers::{Server, open};
-pub use stands::Stand;
+pub use thread_handles::ThreadHandle;
 pub use workers::{Turn, Worker};

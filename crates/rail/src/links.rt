@@ -14,7 +14,7 @@ use node::Peer;
 pub trait Links {
     ghost use Rattle.rail.specs.Links.{LinksState};
 
-    // What a wire carries: bytes, or events.
+    // What a wire carries: bytes, or inbox messages.
     ghost Carried: { Type 0 };
 
     // What was put, how often each link failed, and what each wire was given.

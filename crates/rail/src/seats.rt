@@ -7,9 +7,9 @@ ghost use Rattle.faces.specs.Outputs.{PutsOut};
 ghost use Rattle.rail.specs.Seats.{seat_of, with_reply, with_call};
 
 use crate::RailFault;
-use crate::events::{Event, FitInput};
 use crate::inbox::Slot;
-use crate::posts::Letters;
+use crate::inbox_messages::{FitInput, InboxMessage};
+use crate::reply_channels::ReplyReceiver;
 use faces::Told;
 use node::Input;
 use std::marker::Model;
@@ -22,7 +22,7 @@ use table::{Call, Reply};
 pub struct Seat {
     port: usize,
     slot: Slot,
-    letters: Letters,
+    reply_receiver: ReplyReceiver,
 }
 
 impl Model for Seat {
@@ -38,23 +38,23 @@ impl Model for Seat {
 
     ghost coded = { Prim.hlevel (codes, coded_items, book_coded, table_id_coded) };
 
-    ghost view = { λ s. seat_of s.slot.pass.table_id (claims.view s.letters.pass) (claims.view s.slot.pass) };
+    ghost view = { λ s. seat_of s.slot.pass.table_id (claims.view s.reply_receiver.pass) (claims.view s.slot.pass) };
 
-    ghost invariant = { λ s. (s.port ≡ (claims.view s.letters.pass).port)
+    ghost invariant = { λ s. (s.port ≡ (claims.view s.reply_receiver.pass).port)
         × (s.port < (claims.view s.slot.pass).ports) };
 }
 
 impl Seat {
-    pub(crate) fn new(port: usize, slot: Slot, letters: Letters) -> Seat
-        requires letters { port ≡ (view letters.pass).port }
+    pub(crate) fn new(port: usize, slot: Slot, reply_receiver: ReplyReceiver) -> Seat
+        requires reply_receiver { port ≡ (view reply_receiver.pass).port }
         requires slot { port < (view slot.pass).ports }
         ensures { result ≡
-            record (seat_of slot.pass.table_id (view letters.pass) (view slot.pass)) { port = port } }
+            record (seat_of slot.pass.table_id (view reply_receiver.pass) (view slot.pass)) { port = port } }
     {
         Seat {
             port,
             slot,
-            letters,
+            reply_receiver,
         }
     }
 
@@ -64,10 +64,10 @@ impl Seat {
         ensures { MatchResult result (λ _. self.new ≡ with_call self.old call)
             (λ back. (back ≡ call) × (self.new ≡ self.old)) }
     {
-        let event = Event::Took(FitInput::new(Input::Call(self.port, call)));
-        match self.slot.send(rt, event) {
+        let inbox_message = InboxMessage::Took(FitInput::new(Input::Call(self.port, call)));
+        match self.slot.send(rt, inbox_message) {
             Ok(()) => Ok(()),
-            Err(Event::Took(back)) => match back.into_input() {
+            Err(InboxMessage::Took(back)) => match back.into_input() {
                 Input::Call(_, call) => Err(call),
                 _ => unreachable!(),
             },
@@ -84,8 +84,8 @@ impl Seat {
         ensures put_out { IfOk result (λ r. PutsOut r.1 (Replied self.old.port r.0)) }
         ensures fault { IfErr result (λ fault. fault ≡ RailFault.Closed) }
     {
-        let mail = self.letters.take(rt)?;
-        Ok(mail.open())
+        let reply_message = self.reply_receiver.take(rt)?;
+        Ok(reply_message.open())
     }
 
     /// The same, if a reply stands there; none otherwise. It doesn't wait for one.
@@ -98,8 +98,8 @@ impl Seat {
         ensures put_out { IfOk result (λ found. IfSome found (λ r. PutsOut r.1 (Replied self.old.port r.0))) }
         ensures fault { IfErr result (λ fault. fault ≡ RailFault.Closed) }
     {
-        match self.letters.try_take(rt)? {
-            Some(mail) => Ok(Some(mail.open())),
+        match self.reply_receiver.try_take(rt)? {
+            Some(reply_message) => Ok(Some(reply_message.open())),
             None => Ok(None),
         }
     }

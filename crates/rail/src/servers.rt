@@ -6,28 +6,37 @@ ghost use Rattle.node.specs.Nodes.{is_idle};
 ghost use Rattle.node.specs.Lawful.{IsLawful};
 ghost use Rattle.rail.specs.Inbox.{taker};
 ghost use Rattle.rail.specs.Inlets.{inlet_at, inlets_from};
-ghost use Rattle.rail.specs.Letters.{post_at};
-ghost use Rattle.rail.specs.Servers.{IsOpened, course_at, posts_from, seat_at, seats_from, stand_at, stands_from};
+ghost use Rattle.rail.specs.NotedReplies.{reply_sender_at};
+ghost use Rattle.rail.specs.Servers.{
+  IsOpened,
+  history_at,
+  reply_senders_from,
+  seat_at,
+  seats_from,
+  stand_at,
+  thread_handles_from,
+};
 
 use crate::RailFault;
-use crate::inbox::Gate;
+use crate::inbox::InboxBuilder;
 use crate::inlets::Inlet;
-use crate::posts::{Post, open as open_queue};
+use crate::limits::REPLIES;
+use crate::reply_channels::{ReplySender, open as open_queue};
 use crate::rooms::Room;
 use crate::seats::Seat;
-use crate::stands::Stand;
-use crate::waiting::REPLIES;
+use crate::thread_handles::ThreadHandle;
 use crate::workers::Worker;
 use faces::{Published, Publisher, Reader};
 use node::Node;
 use std::alloc::{AllocError, Global};
 use std::sync::Wait;
 
-/// A running server: its worker, a stand for each reader, seats of threads that have a stand, and inlets.
+/// A running server: its worker, a thread handle for each reader, seats of threads that have a thread handle, and
+/// inlets.
 #[derive(Drop)]
 pub struct Server<R: Wait + Drop> {
     pub worker: Worker<R>,
-    pub stands: Vec<Stand>,
+    pub stands: Vec<ThreadHandle>,
     pub seats: Vec<Seat>,
     pub inlets: Vec<Inlet>,
 }
@@ -54,14 +63,21 @@ pub fn open<R: Wait + Drop>(
         (λ fault. (fault ≡ RailFault.Memory) ⊎ (fault ≡ RailFault.NoReader)) }
 {
     hold_lawful(&node);
-    let mut gate = Gate::new(alloc, room)?;
+    let mut inbox_builder = InboxBuilder::new(alloc, room)?;
     let Ok(mut publisher) = Publisher::open(&rt, alloc, node, readers) else {
-        drop(gate);
+        drop(inbox_builder);
         return Err(RailFault::Memory);
     };
-    match beside(alloc, &mut publisher, &mut gate, readers, more, inlets) {
-        Ok((stands, seats, posts, inlets)) => {
-            let worker = Worker::new(rt, gate.close(), publisher, posts);
+    match beside(
+        alloc,
+        &mut publisher,
+        &mut inbox_builder,
+        readers,
+        more,
+        inlets,
+    ) {
+        Ok((stands, seats, reply_senders, inlets)) => {
+            let worker = Worker::new(rt, inbox_builder.close(), publisher, reply_senders);
             Ok(Server {
                 worker,
                 stands,
@@ -71,7 +87,7 @@ pub fn open<R: Wait + Drop>(
         }
         Err(fault) => {
             publisher.end(&rt);
-            drop(gate);
+            drop(inbox_builder);
             Err(fault)
         }
     }
@@ -85,90 +101,99 @@ fn hold_lawful(node: &Node)
     let _idle = node.is_idle();
 }
 
-// Those who sit beside the worker, and its posts.
+// Those who sit beside the worker, and its reply senders.
 fn beside(
     alloc: Global,
     publisher: &mut Publisher,
-    gate: &mut Gate,
+    inbox_builder: &mut InboxBuilder,
     readers: usize,
     more: usize,
     inlets: usize,
-) -> Result<(Vec<Stand>, Vec<Seat>, Vec<Post>, Vec<Inlet>), RailFault>
-    requires gate { view gate.old.pass ≡ taker 0 0 [] }
+) -> Result<(Vec<ThreadHandle>, Vec<Seat>, Vec<ReplySender>, Vec<Inlet>), RailFault>
+    requires inbox_builder { view inbox_builder.old.pass ≡ taker 0 0 [] }
     requires few { (readers + more ≤ 16) × (inlets ≤ 16) }
     requires first { publisher.old.published.inputs ≡ [] }
     ensures publisher { publisher.new ≡ publisher.old }
-    ensures gate { IfOk result
-        (λ _. ((view gate.new.pass).ports ≡ readers + more) × ((view gate.new.pass).got ≡ [])) }
-    ensures inbox { OnOk result (gate.new.pass.table_id ≡ gate.old.pass.table_id) }
+    ensures inbox_builder { IfOk result
+        (λ _. ((view inbox_builder.new.pass).ports ≡ readers + more) × ((view inbox_builder.new.pass).got ≡ [])) }
+    ensures inbox { OnOk result (inbox_builder.new.pass.table_id ≡ inbox_builder.old.pass.table_id) }
     ensures stands { IfOk result
-        (λ r. r.0.items ≡ stands_from publisher.old.published.origin gate.old.pass.table_id 0 readers) }
+        (λ r. r.0.items ≡ thread_handles_from publisher.old.published.origin inbox_builder.old.pass.table_id 0
+        readers) }
     ensures seats { IfOk result
-        (λ r. r.1.items ≡ seats_from publisher.old.published.origin gate.old.pass.table_id readers more) }
-    ensures posts { IfOk result (λ r. r.2.items ≡ posts_from publisher.old.published.origin 0 (readers + more)) }
-    ensures inlets { IfOk result (λ r. r.3.items ≡ inlets_from gate.old.pass.table_id (readers + more) inlets) }
+        (λ r. r.1.items ≡ seats_from publisher.old.published.origin inbox_builder.old.pass.table_id readers more) }
+    ensures reply_senders { IfOk result (λ r. r.2.items ≡ reply_senders_from publisher.old.published.origin 0
+        (readers + more)) }
+    ensures inlets { IfOk result (λ r. r.3.items ≡ inlets_from inbox_builder.old.pass.table_id (readers + more) inlets) }
     ensures fault { IfErr result (λ fault. (fault ≡ RailFault.Memory) ⊎ (fault ≡ RailFault.NoReader)) }
 {
-    let (stands, mut posts) = all_stands(alloc, publisher, gate, readers)?;
+    let (stands, mut reply_senders) = all_thread_handles(alloc, publisher, inbox_builder, readers)?;
     let seats = more_seats(
         alloc,
         publisher.published(),
-        gate,
-        &mut posts,
+        inbox_builder,
+        &mut reply_senders,
         readers,
         more,
     )?;
-    let inlets = all_inlets(alloc, gate, inlets)?;
-    Ok((stands, seats, posts, inlets))
+    let inlets = all_inlets(alloc, inbox_builder, inlets)?;
+    Ok((stands, seats, reply_senders, inlets))
 }
 
-// The stands of the first n ports, and their posts.
-fn all_stands(
+// The thread handles of the first n ports, and their reply senders.
+fn all_thread_handles(
     alloc: Global,
     publisher: &mut Publisher,
-    gate: &mut Gate,
+    inbox_builder: &mut InboxBuilder,
     readers: usize,
-) -> Result<(Vec<Stand>, Vec<Post>), RailFault>
-    requires gate { view gate.old.pass ≡ taker 0 0 [] }
+) -> Result<(Vec<ThreadHandle>, Vec<ReplySender>), RailFault>
+    requires inbox_builder { view inbox_builder.old.pass ≡ taker 0 0 [] }
     requires few { readers ≤ 16 }
     requires first { publisher.old.published.inputs ≡ [] }
     ensures publisher { publisher.new ≡ publisher.old }
-    ensures gate { IfOk result (λ _. view gate.new.pass ≡ taker readers readers []) }
-    ensures inbox { OnOk result (gate.new.pass.table_id ≡ gate.old.pass.table_id) }
+    ensures inbox_builder { IfOk result (λ _. view inbox_builder.new.pass ≡ taker readers readers []) }
+    ensures inbox { OnOk result (inbox_builder.new.pass.table_id ≡ inbox_builder.old.pass.table_id) }
     ensures stands { IfOk result
-        (λ r. r.0.items ≡ stands_from publisher.old.published.origin gate.old.pass.table_id 0 readers) }
-    ensures posts { IfOk result (λ r. r.1.items ≡ posts_from publisher.old.published.origin 0 readers) }
+        (λ r. r.0.items ≡ thread_handles_from publisher.old.published.origin inbox_builder.old.pass.table_id 0
+        readers) }
+    ensures reply_senders { IfOk result (λ r. r.1.items ≡ reply_senders_from publisher.old.published.origin 0 readers) }
     ensures fault { IfErr result (λ fault. (fault ≡ RailFault.Memory) ⊎ (fault ≡ RailFault.NoReader)) }
 {
     let mut stands = Vec::new(alloc);
-    let mut posts = Vec::new(alloc);
+    let mut reply_senders = Vec::new(alloc);
     for port in 0..readers {
-        let (stand, post) = one_stand(alloc, publisher, gate, port)?;
-        stands.push(stand)?;
-        posts.push(post)?;
+        let (thread_handle, reply_sender) = one_thread_handle(
+            alloc,
+            publisher,
+            inbox_builder,
+            port,
+        )?;
+        stands.push(thread_handle)?;
+        reply_senders.push(reply_sender)?;
     }
-    Ok((stands, posts))
+    Ok((stands, reply_senders))
 }
 
-// The stand of a port, and its post.
-fn one_stand(
+// The thread handle of a port, and its reply sender.
+fn one_thread_handle(
     alloc: Global,
     publisher: &mut Publisher,
-    gate: &mut Gate,
+    inbox_builder: &mut InboxBuilder,
     port: usize,
-) -> Result<(Stand, Post), RailFault>
-    requires gate { view gate.old.pass ≡ taker port port [] }
+) -> Result<(ThreadHandle, ReplySender), RailFault>
+    requires inbox_builder { view inbox_builder.old.pass ≡ taker port port [] }
     requires few { port < 16 }
     requires first { publisher.old.published.inputs ≡ [] }
     ensures publisher { publisher.new ≡ publisher.old }
-    ensures gate { IfOk result (λ _. view gate.new.pass ≡ taker (port + 1) (port + 1) []) }
-    ensures inbox { OnOk result (gate.new.pass.table_id ≡ gate.old.pass.table_id) }
-    ensures stand { IfOk result (λ r. r.0 ≡ stand_at publisher.old.published.origin gate.old.pass.table_id port) }
-    ensures post { IfOk result (λ r. r.1 ≡ post_at publisher.old.published.origin port) }
+    ensures inbox_builder { IfOk result (λ _. view inbox_builder.new.pass ≡ taker (port + 1) (port + 1) []) }
+    ensures inbox { OnOk result (inbox_builder.new.pass.table_id ≡ inbox_builder.old.pass.table_id) }
+    ensures thread_handle { IfOk result (λ r. r.0 ≡ stand_at publisher.old.published.origin
+        inbox_builder.old.pass.table_id port) }
+    ensures reply_sender { IfOk result (λ r. r.1 ≡ reply_sender_at publisher.old.published.origin port) }
     ensures fault { IfErr result (λ fault. (fault ≡ RailFault.Memory) ⊎ (fault ≡ RailFault.NoReader)) }
 {
     let reader = one_reader(publisher)?;
-    let made = stand_of(alloc, reader, publisher.published(), gate, port)?;
+    let made = thread_handle_of(alloc, reader, publisher.published(), inbox_builder, port)?;
     Ok(made)
 }
 
@@ -184,99 +209,108 @@ fn one_reader(publisher: &mut Publisher) -> Result<Reader, RailFault>
     }
 }
 
-// The stand of a reader at a port, and its post.
-fn stand_of(
+// The thread handle of a reader at a port, and its reply sender.
+fn thread_handle_of(
     alloc: Global,
     reader: Reader,
     published: &Published,
-    gate: &mut Gate,
+    inbox_builder: &mut InboxBuilder,
     port: usize,
-) -> Result<(Stand, Post), AllocError>
-    requires gate { view gate.old.pass ≡ taker port port [] }
+) -> Result<(ThreadHandle, ReplySender), AllocError>
+    requires inbox_builder { view inbox_builder.old.pass ≡ taker port port [] }
     requires few { port < 16 }
     requires reader { reader ≡ yet_to_look published.now }
     requires first { published.now.inputs ≡ [] }
-    ensures gate { IfOk result (λ _. view gate.new.pass ≡ taker (port + 1) (port + 1) []) }
-    ensures inbox { OnOk result (gate.new.pass.table_id ≡ gate.old.pass.table_id) }
-    ensures stand { IfOk result (λ r. r.0 ≡ stand_at published.now.origin gate.old.pass.table_id port) }
-    ensures post { IfOk result (λ r. r.1 ≡ post_at published.now.origin port) }
+    ensures inbox_builder { IfOk result (λ _. view inbox_builder.new.pass ≡ taker (port + 1) (port + 1) []) }
+    ensures inbox { OnOk result (inbox_builder.new.pass.table_id ≡ inbox_builder.old.pass.table_id) }
+    ensures thread_handle { IfOk result (λ r. r.0 ≡ stand_at published.now.origin inbox_builder.old.pass.table_id port) }
+    ensures reply_sender { IfOk result (λ r. r.1 ≡ reply_sender_at published.now.origin port) }
 {
-    let (seat, post) = one_seat(alloc, published, gate, port)?;
-    Ok((Stand { reader, seat }, post))
+    let (seat, reply_sender) = one_seat(alloc, published, inbox_builder, port)?;
+    Ok((ThreadHandle { reader, seat }, reply_sender))
 }
 
-// The seat of a port, and its post.
+// The seat of a port, and its reply sender.
 fn one_seat(
     alloc: Global,
     published: &Published,
-    gate: &mut Gate,
+    inbox_builder: &mut InboxBuilder,
     port: usize,
-) -> Result<(Seat, Post), AllocError>
-    requires gate { view gate.old.pass ≡ taker port port [] }
+) -> Result<(Seat, ReplySender), AllocError>
+    requires inbox_builder { view inbox_builder.old.pass ≡ taker port port [] }
     requires few { port < 16 }
-    ensures gate { IfOk result (λ _. view gate.new.pass ≡ taker (port + 1) (port + 1) []) }
-    ensures inbox { OnOk result (gate.new.pass.table_id ≡ gate.old.pass.table_id) }
-    ensures seat { IfOk result (λ r. r.0 ≡ seat_at published.now.origin gate.old.pass.table_id port) }
-    ensures post { IfOk result (λ r. r.1 ≡ post_at published.now.origin port) }
+    ensures inbox_builder { IfOk result (λ _. view inbox_builder.new.pass ≡ taker (port + 1) (port + 1) []) }
+    ensures inbox { OnOk result (inbox_builder.new.pass.table_id ≡ inbox_builder.old.pass.table_id) }
+    ensures seat { IfOk result (λ r. r.0 ≡ seat_at published.now.origin inbox_builder.old.pass.table_id port) }
+    ensures reply_sender { IfOk result (λ r. r.1 ≡ reply_sender_at published.now.origin port) }
 {
-    let (post, letters) = open_queue(alloc, REPLIES, published, port)?;
-    let seat = Seat::new(port, gate.seat()?, letters);
-    Ok((seat, post))
+    let (reply_sender, reply_receiver) = open_queue(alloc, REPLIES, published, port)?;
+    let seat = Seat::new(port, inbox_builder.seat()?, reply_receiver);
+    Ok((seat, reply_sender))
 }
 
-// Further seats, from port `first` on. Their posts come after those so far.
+// Further seats, from port `first` on. Their reply senders come after those so far.
 fn more_seats(
     alloc: Global,
     published: &Published,
-    gate: &mut Gate,
-    posts: &mut Vec<Post>,
+    inbox_builder: &mut InboxBuilder,
+    reply_senders: &mut Vec<ReplySender>,
     first: usize,
     count: usize,
 ) -> Result<Vec<Seat>, AllocError>
-    requires gate { view gate.old.pass ≡ taker first first [] }
+    requires inbox_builder { view inbox_builder.old.pass ≡ taker first first [] }
     requires few { first + count ≤ 16 }
-    requires posts { posts.old.items ≡ posts_from published.now.origin 0 first }
-    ensures gate { IfOk result (λ _. view gate.new.pass ≡ taker (first + count) (first + count) []) }
-    ensures inbox { OnOk result (gate.new.pass.table_id ≡ gate.old.pass.table_id) }
+    requires reply_senders { reply_senders.old.items ≡ reply_senders_from published.now.origin 0 first }
+    ensures inbox_builder { IfOk result (λ _. view inbox_builder.new.pass ≡ taker (first + count) (first + count) []) }
+    ensures inbox { OnOk result (inbox_builder.new.pass.table_id ≡ inbox_builder.old.pass.table_id) }
     ensures seats { IfOk result
-        (λ seats. seats.items ≡ seats_from published.now.origin gate.old.pass.table_id first count) }
-    ensures posts { IfOk result (λ _. posts.new.items ≡ posts_from published.now.origin 0 (first + count)) }
+        (λ seats. seats.items ≡ seats_from published.now.origin inbox_builder.old.pass.table_id first count) }
+    ensures reply_senders { IfOk result (λ _. reply_senders.new.items ≡ reply_senders_from published.now.origin 0
+        (first + count)) }
 {
     let mut seats = Vec::new(alloc);
     for k in 0..count {
-        let (seat, post) = one_seat(alloc, published, gate, first + k)?;
+        let (seat, reply_sender) = one_seat(alloc, published, inbox_builder, first + k)?;
         seats.push(seat)?;
-        posts.push(post)?;
+        reply_senders.push(reply_sender)?;
     }
     Ok(seats)
 }
 
 // Inlets, as many as asked for, numbered after the senders so far.
-fn all_inlets(alloc: Global, gate: &mut Gate, count: usize) -> Result<Vec<Inlet>, AllocError>
-    requires few { ((view gate.old.pass).made ≤ 16) × (count ≤ 16) }
-    requires gate { view gate.old.pass ≡ taker (view gate.old.pass).made (view gate.old.pass).ports [] }
-    ensures gate { IfOk result
-        (λ _. ((view gate.new.pass).ports ≡ (view gate.old.pass).ports) × ((view gate.new.pass).got ≡ [])) }
-    ensures inbox { OnOk result (gate.new.pass.table_id ≡ gate.old.pass.table_id) }
+fn all_inlets(
+    alloc: Global,
+    inbox_builder: &mut InboxBuilder,
+    count: usize,
+) -> Result<Vec<Inlet>, AllocError>
+    requires few { ((view inbox_builder.old.pass).made ≤ 16) × (count ≤ 16) }
+    requires inbox_builder { view inbox_builder.old.pass ≡ taker (view inbox_builder.old.pass).made
+        (view inbox_builder.old.pass).ports [] }
+    ensures inbox_builder { IfOk result
+        (λ _. ((view inbox_builder.new.pass).ports ≡ (view inbox_builder.old.pass).ports)
+        × ((view inbox_builder.new.pass).got ≡ [])) }
+    ensures inbox { OnOk result (inbox_builder.new.pass.table_id ≡ inbox_builder.old.pass.table_id) }
     ensures inlets { IfOk result
-        (λ inlets. inlets.items ≡ inlets_from gate.old.pass.table_id (view gate.old.pass).made count) }
+        (λ inlets. inlets.items ≡ inlets_from inbox_builder.old.pass.table_id (view inbox_builder.old.pass).made
+        count) }
 {
     let mut inlets = Vec::new(alloc);
     for _ in 0..count {
-        let inlet = one_inlet(gate)?;
+        let inlet = one_inlet(inbox_builder)?;
         inlets.push(inlet)?;
     }
     Ok(inlets)
 }
 
 // One more inlet.
-fn one_inlet(gate: &mut Gate) -> Result<Inlet, AllocError>
-    requires { (view gate.old.pass).made < 2 ^ 63 }
-    ensures gate { IfOk result (λ _. view gate.new.pass ≡
-        taker ((view gate.old.pass).made + 1) (view gate.old.pass).ports []) }
-    ensures inbox { OnOk result (gate.new.pass.table_id ≡ gate.old.pass.table_id) }
-    ensures inlet { IfOk result (λ inlet. inlet ≡ inlet_at gate.old.pass.table_id (view gate.old.pass).made) }
+fn one_inlet(inbox_builder: &mut InboxBuilder) -> Result<Inlet, AllocError>
+    requires { (view inbox_builder.old.pass).made < 2 ^ 63 }
+    ensures inbox_builder { IfOk result (λ _. view inbox_builder.new.pass ≡
+        taker ((view inbox_builder.old.pass).made + 1) (view inbox_builder.old.pass).ports []) }
+    ensures inbox { OnOk result (inbox_builder.new.pass.table_id ≡ inbox_builder.old.pass.table_id) }
+    ensures inlet { IfOk result (λ inlet. inlet ≡ inlet_at inbox_builder.old.pass.table_id
+        (view inbox_builder.old.pass).made) }
 {
-    let slot = gate.inlet()?;
+    let slot = inbox_builder.inlet()?;
     Ok(Inlet::new(slot))
 }

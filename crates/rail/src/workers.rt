@@ -3,21 +3,21 @@ ghost use Rattle.std.specs.Prelude.{◌≡◌, ◌⊎◌, ◌↔◌, [], ◌∷�
 ghost use Rattle.crossbeam_channel.specs.Claims.{view};
 ghost use Rattle.node.specs.Lawful.{IsLawful};
 ghost use Rattle.node.specs.Replies.{AreCallsBelow, AreOpenBelow};
-ghost use Rattle.faces.specs.Courses.{server_after, shown_after};
+ghost use Rattle.faces.specs.Histories.{server_after, shown_after};
 ghost use Rattle.faces.specs.Weights.{weight_of};
-ghost use Rattle.rail.specs.Events.{IsBelow};
+ghost use Rattle.rail.specs.InboxMessages.{IsBelow};
 ghost use Rattle.rail.specs.Links.{HaveCarried};
-ghost use Rattle.rail.specs.Turns.{ArePosts};
+ghost use Rattle.rail.specs.Turns.{AreReplySenders};
 ghost use Rattle.rail.specs.Workers.{Advanced, Did, IsStopped, IsTurn, MayBeTurn};
 
 use crate::RailFault;
-use crate::events::{Event, FitInput, Message};
 use crate::inbox::Inbox;
+use crate::inbox_messages::{Envelope, FitInput, InboxMessage};
 use crate::inputs::advance;
 use crate::links::Links;
+use crate::outputs::close_all;
 use crate::port_sets::PortSet;
-use crate::posts::Post;
-use crate::turns::close_all;
+use crate::reply_channels::ReplySender;
 use faces::{Publisher, Told, Weight};
 use std::marker::Model;
 use std::sync::Wait;
@@ -42,7 +42,7 @@ pub struct Worker<R: Wait + Drop> {
     publisher: Option<Publisher>,
     // What it has published.
     told: Told,
-    posts: Vec<Post>,
+    reply_senders: Vec<ReplySender>,
     // The ports whose seats have something new since it was last asked.
     replied: PortSet,
 }
@@ -66,10 +66,10 @@ impl<R: Wait + Drop> Model for Worker<R> {
       taken = (claims.view w.inbox.pass).got;
       published = w.told;
       goes = is_some w.publisher;
-      posts = w.posts.items;
+      reply_senders = w.reply_senders.items;
     } };
 
-    ghost invariant = { λ w. IsWorker w.publisher w.told w.posts.items (claims.view w.inbox.pass).ports };
+    ghost invariant = { λ w. IsWorker w.publisher w.told w.reply_senders.items (claims.view w.inbox.pass).ports };
 }
 
 impl<R: Wait + Drop> Drop for Worker<R> {
@@ -79,7 +79,7 @@ impl<R: Wait + Drop> Drop for Worker<R> {
             inbox: _inbox,
             publisher,
             told: _told,
-            posts: _posts,
+            reply_senders: _reply_senders,
             replied: _replied,
         } = self;
         if let Some(publisher) = publisher {
@@ -90,19 +90,24 @@ impl<R: Wait + Drop> Drop for Worker<R> {
 
 impl<R: Wait + Drop> Worker<R> {
     /// A worker of a server that goes on.
-    pub(crate) fn new(rt: R, inbox: Inbox, publisher: Publisher, posts: Vec<Post>) -> Worker<R>
+    pub(crate) fn new(
+        rt: R,
+        inbox: Inbox,
+        publisher: Publisher,
+        reply_senders: Vec<ReplySender>,
+    ) -> Worker<R>
         requires first { (view inbox.pass).got ≡ [] }
-        requires ports { (view inbox.pass).ports ≡ length posts.items }
+        requires ports { (view inbox.pass).ports ≡ length reply_senders.items }
         requires going { publisher.goes ≡ true }
-        requires posts { ArePosts publisher.published.origin 0 posts.items }
+        requires reply_senders { AreReplySenders publisher.published.origin 0 reply_senders.items }
         requires lawful { IsLawful (server_after publisher.published) }
-        requires open { AreOpenBelow (length posts.items) (server_after publisher.published) }
+        requires open { AreOpenBelow (length reply_senders.items) (server_after publisher.published) }
         ensures { result ≡ record {
           inbox = inbox.pass.table_id;
           taken = [];
           published = publisher.published;
           goes = true;
-          posts = posts.items;
+          reply_senders = reply_senders.items;
         } }
     {
         let told = publisher.published().tell();
@@ -111,7 +116,7 @@ impl<R: Wait + Drop> Worker<R> {
             inbox,
             publisher: Some(publisher),
             told,
-            posts,
+            reply_senders,
             replied: PortSet::new(),
         }
     }
@@ -210,27 +215,27 @@ impl<R: Wait + Drop> Worker<R> {
 
     // What a message that was taken asks for.
     #[tactic(auto, using(crate::proofs::Carrying::carried_none))]
-    fn act<L: Links>(&mut self, message: Message, links: &mut L) -> Result<Turn, RailFault>
-        requires port { IsBelow (length self.old.posts) message.event }
+    fn act<L: Links>(&mut self, message: Envelope, links: &mut L) -> Result<Turn, RailFault>
+        requires port { IsBelow (length self.old.reply_senders) message.inbox_message }
         ensures taken { self.new.taken ≡ self.old.taken }
         ensures inbox { self.new.inbox ≡ self.old.inbox }
         ensures did { Did self.old self.new (L.state links.old) (L.state links.new) message result }
         ensures carried { HaveCarried (L.state links.old) (L.state links.new) }
     {
-        match message.event {
-            Event::End => Ok(Turn::End),
-            Event::Stop => {
+        match message.inbox_message {
+            InboxMessage::End => Ok(Turn::End),
+            InboxMessage::Stop => {
                 self.stop();
                 Ok(Turn::Stopped)
             }
-            Event::Took(input) => self.advance(input, links),
+            InboxMessage::Took(input) => self.advance(input, links),
         }
     }
 
     // Gives an input to the node, unless the server is stopped.
     #[tactic(auto, using(crate::proofs::Carrying::carried_none))]
     fn advance<L: Links>(&mut self, input: FitInput, links: &mut L) -> Result<Turn, RailFault>
-        requires port { AreCallsBelow (length self.old.posts) (input ∷ []) }
+        requires port { AreCallsBelow (length self.old.reply_senders) (input ∷ []) }
         ensures taken { self.new.taken ≡ self.old.taken }
         ensures inbox { self.new.inbox ≡ self.old.inbox }
         ensures did { Advanced self.old self.new (L.state links.old) (L.state links.new) input result }
@@ -245,7 +250,7 @@ impl<R: Wait + Drop> Worker<R> {
             &self.rt,
             publisher,
             &mut self.told,
-            &mut self.posts,
+            &mut self.reply_senders,
             &mut self.replied,
             links,
             input,
@@ -256,7 +261,7 @@ impl<R: Wait + Drop> Worker<R> {
         if let Some(publisher) = self.publisher.take() {
             publisher.end(&self.rt);
         }
-        close_all(&mut self.posts, &mut self.replied);
+        close_all(&mut self.reply_senders, &mut self.replied);
         Err(RailFault::Memory)
     }
 
@@ -269,6 +274,6 @@ impl<R: Wait + Drop> Worker<R> {
         if let Some(publisher) = self.publisher.take() {
             publisher.end(&self.rt);
         }
-        close_all(&mut self.posts, &mut self.replied);
+        close_all(&mut self.reply_senders, &mut self.replied);
     }
 }

@@ -5,15 +5,15 @@ use Rattle.std.proofs.Common.{append-nil, append_assoc, refl, ap, sym, subst, ar
 use Rattle.std.proofs.lemmas.List.Elements.{All-head, All-nil, All-push, All-tail, All-weaker}
 use Rattle.node.specs.Nodes.{NodeState, fresh}
 use Rattle.node.specs.Servers.{ServerState, opening}
-use Rattle.faces.specs.Courses.{Origin}
+use Rattle.faces.specs.Histories.{Origin}
 use Rattle.rail.specs.Workers.{WorkerState}
 use Rattle.seats.specs.SeatPools.{Pooling}
 use Rattle.seats.specs.declared.in_process_links.InProcessLinks.{InProcessLinks}
 use Rattle.io_threads.specs.Pools.{BeginsAs}
-use Rattle.io_threads.specs.declared.fronts.Gate.{Gate}
-use Rattle.runtime.specs.declared.sides.Opened.{Opened}
-use Rattle.runtime.specs.declared.sides.Side.{Side}
-use Rattle.runtime.specs.Wiring.{AreSeatedFrom, AreSidesOf, Core, HasOwnPools, core_of, cores_of, numbers, openings}
+use Rattle.io_threads.specs.declared.front_ends.ServedServer.{ServedServer}
+use Rattle.runtime.specs.declared.server_parts.Opened.{Opened}
+use Rattle.runtime.specs.declared.server_parts.ServerParts.{ServerParts}
+use Rattle.runtime.specs.Wiring.{AreSeatedFrom, ArePartsOf, Core, HasOwnPools, core_of, cores_of, numbers, openings}
 use Rattle.runtime.specs.Wiring.{pools_in, senders, starts_of}
 use Rattle.runtime.proofs.Dealt.{map_pushed, map_set}
 
@@ -124,7 +124,7 @@ chain_from n servers are =
     sym (ids_of_starts servers) ∙ (ap (λ ss. map (λ (s : ServerState). s.id) ss) are ∙ ids_of_openings n n) in
     subst (AreFrom 0) (sym same) (numbers_from n)
 
--- and none stands in the hall yet
+-- and none stands in the scheduler yet
 pub workers_first : {R : Type 0} (n k : ℕ) (all left : List (Opened R)) → starts_of all ≡ openings n n → left ≡ all
     → k ≡ 0
     → AreFrom k (worker_ids left)
@@ -181,12 +181,12 @@ senders_next k more left rest (Some links) are split some is =
     let after : suc k ≡ more = omega (arith, is) in
     subst (λ i. AreFrom i (senders rest)) after (subst (λ xs. AreFrom k (senders xs)) split are).1
 
--- the seats of each side are of the server of its place
-seated_from : {R : Type 0} (k : ℕ) (servers : List (Opened R)) (sides : List Side)
-    → AreSidesOf servers sides
+-- the seats of each server's parts are of the server of its place
+seated_from : {R : Type 0} (k : ℕ) (servers : List (Opened R)) (servers_parts : List ServerParts)
+    → ArePartsOf servers servers_parts
     → AreFrom k (worker_ids servers)
     → All HasOwnPools (cores_of servers)
-    → AreSeatedFrom k sides
+    → AreSeatedFrom k servers_parts
 seated_from k [] [] are from own = tt
 seated_from k [] (x ∷ xs) are from own = absurd (cc (are))
 seated_from k (s ∷ ss) [] are from own = absurd are
@@ -199,14 +199,14 @@ seated_from k (s ∷ ss) (x ∷ xs) are from own = (
 )
 
 -- so it is in a whole chain, once its links were made
-pub seated : {R : Type 0} (n : ℕ) (first servers : List (Opened R)) (sides : List Side)
+pub seated : {R : Type 0} (n : ℕ) (first servers : List (Opened R)) (servers_parts : List ServerParts)
     → starts_of first ≡ openings n n
     → All HasOwnPools (cores_of first)
     → cores_of servers ≡ cores_of first
-    → AreSidesOf servers sides
-    → AreSeatedFrom 0 sides
-seated n first servers sides begun own same are =
-    seated_from 0 servers sides are
+    → ArePartsOf servers servers_parts
+    → AreSeatedFrom 0 servers_parts
+seated n first servers servers_parts begun own same are =
+    seated_from 0 servers servers_parts are
     (chain_from n servers (ap (λ cs. map (λ (c : Core). c.worker.published.origin.start) cs) same ∙ begun))
     (subst (All HasOwnPools) (sym same) own)
 
@@ -228,8 +228,9 @@ pub taken_all : {S A : Type 0} (f : S → A) (whole made : List A) (left : List 
 taken_all f whole made [] so_far none = sym (so_far ∙ append-nil made)
 taken_all f whole made (x ∷ xs) so_far none = absurd (omega (arith, none))
 
--- one gate more
-pub gates_pushed : (gates more : List Gate) (gate : Gate) → more ≡ gates ++ gate ∷ []
-    → pools_in more ≡ pools_in gates ++ gate.pools.items ∷ []
-gates_pushed gates more gate pushed =
-    ap pools_in pushed ∙ map_pushed (λ (g : Gate). g.pools.items) gates gate
+-- one served server more
+pub served_servers_pushed : (served_servers more : List ServedServer) (served_server : ServedServer)
+    → more ≡ served_servers ++ served_server ∷ []
+    → pools_in more ≡ pools_in served_servers ++ served_server.pools.items ∷ []
+served_servers_pushed served_servers more served_server pushed =
+    ap pools_in pushed ∙ map_pushed (λ (g : ServedServer). g.pools.items) served_servers served_server

@@ -3,24 +3,24 @@ use Rattle.std.proofs.Common.{◌≡◌, ap, ℕ, List, [], ◌∷◌}
 use Rattle.node.specs.declared.messages.Body.TheVariants.{Ack}
 use Rattle.node.specs.declared.messages.Input.TheVariants.{Call as Called, From, Gone}
 use Rattle.node.specs.declared.messages.Peer.{Peer}
-use Rattle.rail.specs.declared.events.Event.{Event}
-use Rattle.rail.specs.declared.events.Event.TheVariants.{Took, Stop, End}
+use Rattle.rail.specs.declared.inbox_messages.InboxMessage.{InboxMessage}
+use Rattle.rail.specs.declared.inbox_messages.InboxMessage.TheVariants.{Took, Stop, End}
 
 -- the server that brings this event
-brings : Event → ℕ
+brings : InboxMessage → ℕ
 brings (Took (Called port call)) = 0
 brings (Took (From i peer)) = i
 brings (Took (Gone j)) = 0
 brings Stop = 0
 brings End = 0
 
-brings_first : List Event → ℕ
+brings_first : List InboxMessage → ℕ
 brings_first [] = 0
 brings_first (e ∷ es) = brings e
 
 -- whose links these are shows in what they bring
 pub same_links : (i j : ℕ)
-    → ◌≡◌ {A = Peer → List Event} (λ peer. Took (From i peer) ∷ []) (λ peer. Took (From j peer) ∷ [])
+    → ◌≡◌ {A = Peer → List InboxMessage} (λ peer. Took (From i peer) ∷ []) (λ peer. Took (From j peer) ∷ [])
     → i ≡ j
 unfolding brings_first brings
-same_links i j same = ap (λ (f : Peer → List Event). brings_first (f (record { view = 0; body = Ack 0 }))) same
+same_links i j same = ap (λ (f : Peer → List InboxMessage). brings_first (f (record { view = 0; body = Ack 0 }))) same

@@ -3,39 +3,40 @@ use Rattle.std.proofs.Common.{◌≡◌, ◌≢◌, ℕ, zero, suc, ◌+◌, ◌
 use Rattle.std.proofs.Common.{slice_index_or, slice_set, refl, ap, sym, ◌∙◌, subst, append_assoc, append-nil, arith}
 use Rattle.std.proofs.lemmas.List.Elements.{All-nil, All-push, All-same}
 use Rattle.rail.specs.Inlets.{InletState}
-use Rattle.seats.specs.declared.in_process_links.Link.{Link}
+use Rattle.seats.specs.declared.in_process_links.InboxLink.{InboxLink}
 use Rattle.seats.specs.declared.in_process_links.InProcessLinks.{InProcessLinks}
-use Rattle.runtime.specs.declared.sides.Opened.{Opened}
-use Rattle.runtime.specs.declared.sides.Side.{Side}
-use Rattle.runtime.specs.Wiring.{AreDealt, AreSidesOf, IsDealt, IsSideOf, LeadsHome, all_inlets_in, inlets_in}
+use Rattle.runtime.specs.declared.server_parts.Opened.{Opened}
+use Rattle.runtime.specs.declared.server_parts.ServerParts.{ServerParts}
+use Rattle.runtime.specs.Wiring.{AreDealt, ArePartsOf, IsDealt, IsPartsOf, LeadsControl, all_inlets_in, inlets_in}
 use Rattle.runtime.specs.Wiring.{inlets_of, list_at, listed}
 use Rattle.runtime.specs.Wiring.{numbers, senders}
 use Rattle.runtime.proofs.Dealt.{all_dealt_more, all_dealt_none, dealt_more, dealt_none, map_at, map_pushed, map_set}
 
 -- no server yet
-pub home_none : {R : Type 0} (servers : List (Opened R)) → servers ≡ [] → All (λ (s : Opened R). LeadsHome s) servers
-home_none {R} servers none =
-    All-same (λ (s : Opened R). LeadsHome s) servers [] none (All-nil (λ (s : Opened R). LeadsHome s))
+pub control_none : {R : Type 0} (servers : List (Opened R)) → servers ≡ []
+    → All (λ (s : Opened R). LeadsControl s) servers
+control_none {R} servers none =
+    All-same (λ (s : Opened R). LeadsControl s) servers [] none (All-nil (λ (s : Opened R). LeadsControl s))
 
 -- one server more
-pub home_more : {R : Type 0} (before after : List (Opened R)) (server : Opened R)
-    → All (λ (s : Opened R). LeadsHome s) before
-    → LeadsHome server
+pub control_more : {R : Type 0} (before after : List (Opened R)) (server : Opened R)
+    → All (λ (s : Opened R). LeadsControl s) before
+    → LeadsControl server
     → after ≡ before ++ server ∷ []
-    → All (λ (s : Opened R). LeadsHome s) after
-home_more {R} before after server all home pushed =
-    All-same (λ (s : Opened R). LeadsHome s) after (before ++ server ∷ []) pushed
-    (All-push (λ (s : Opened R). LeadsHome s) before server all home)
+    → All (λ (s : Opened R). LeadsControl s) after
+control_more {R} before after server all control pushed =
+    All-same (λ (s : Opened R). LeadsControl s) after (before ++ server ∷ []) pushed
+    (All-push (λ (s : Opened R). LeadsControl s) before server all control)
 
 -- no link yet
-pub links_none : {R : Type 0} (id : ℕ) (servers : List (Opened R)) (links : List Link) → links ≡ []
+pub links_none : {R : Type 0} (id : ℕ) (servers : List (Opened R)) (links : List InboxLink) → links ≡ []
     → IsDealt id (inlets_of servers) (inlets_of servers) (inlets_in links)
 links_none id servers [] none = dealt_none id (inlets_of servers)
 links_none id servers (x ∷ xs) none = absurd (cc (none))
 
 -- one link more
-pub links_more : {R : Type 0} (id j : ℕ) (before now after : List (Opened R)) (links more : List Link)
-    (server server' : Opened R) (link : Link)
+pub links_more : {R : Type 0} (id j : ℕ) (before now after : List (Opened R)) (links more : List InboxLink)
+    (server server' : Opened R) (link : InboxLink)
     → IsDealt id (inlets_of before) (inlets_of now) (inlets_in links)
     → j ≡ length links
     → j < length now
@@ -54,13 +55,13 @@ links_more {R} id j before now after links more server server' link dealt is wit
     let there : inlets_of after ≡ slice_set (inlets_of now) j server'.pooled.inlets.items =
     ap inlets_of put ∙ map_set inlets j now server' in
     let all : inlets_in more ≡ inlets_in links ++ link.inlet ∷ [] =
-    ap inlets_in pushed ∙ map_pushed (λ (l : Link). l.inlet) links link in
+    ap inlets_in pushed ∙ map_pushed (λ (l : InboxLink). l.inlet) links link in
     subst (λ xs. IsDealt id (inlets_of before) xs (inlets_in more)) (sym there)
     (subst (λ ys. IsDealt id (inlets_of before) (slice_set (inlets_of now) j server'.pooled.inlets.items) ys) (sym all)
     (dealt_more id j (inlets_of before) (inlets_of now) (inlets_in links) server'.pooled.inlets.items link.inlet dealt
     as_many (within_mapped j now within) here own whole))
   where
-    length_mapped : (xs : List Link) → length (inlets_in xs) ≡ length xs
+    length_mapped : (xs : List InboxLink) → length (inlets_in xs) ≡ length xs
     length_mapped [] = refl
     length_mapped (x ∷ xs) = ap suc (length_mapped xs)
 
@@ -77,7 +78,7 @@ all_none servers (x ∷ xs) none = absurd (cc (none))
 
 -- one server's links more
 pub all_more : {R : Type 0} (id : ℕ) (before now next : List (Opened R)) (all more : List (InProcessLinks R))
-    (links : List Link) (made : InProcessLinks R)
+    (links : List InboxLink) (made : InProcessLinks R)
     → AreDealt (inlets_of before) (inlets_of now) (all_inlets_in all)
     → IsDealt id (inlets_of now) (inlets_of next) (inlets_in links)
     → id ≡ length all
@@ -99,7 +100,7 @@ all_more {R} id before now next all more links made dealt one is as_many size ha
     length_all [] = refl
     length_all (x ∷ xs) = ap suc (length_all xs)
 
-    length_in : (xs : List Link) → length (inlets_in xs) ≡ length xs
+    length_in : (xs : List InboxLink) → length (inlets_in xs) ≡ length xs
     length_in [] = refl
     length_in (x ∷ xs) = ap suc (length_in xs)
 
@@ -122,39 +123,45 @@ senders_more {R} id all more made are is pushed =
     ∙ (map_pushed (λ (l : InProcessLinks R). l.id) all made
     ∙ (ap (λ ns. ns ++ made.id ∷ []) are ∙ (ap (λ n. numbers id ++ n ∷ []) is ∙ sym (numbers_next id))))
 
--- of all servers but those that are left these are the sides
-abbrev pub AreSidesSoFar : {R : Type 0} → List (Opened R) → List (Opened R) → List Side → Type 0
-AreSidesSoFar {R} all rest sides = (done : List (Opened R)) × (all ≡ done ++ rest) × AreSidesOf done sides
+-- of all servers but those that are left these are the parts
+abbrev pub ArePartsSoFar : {R : Type 0} → List (Opened R) → List (Opened R) → List ServerParts → Type 0
+ArePartsSoFar {R} all rest servers_parts =
+    (done : List (Opened R)) × (all ≡ done ++ rest) × ArePartsOf done servers_parts
 
-pub sides_none : {R : Type 0} (all rest : List (Opened R)) (sides : List Side) → rest ≡ all → sides ≡ []
-    → AreSidesSoFar all rest sides
-sides_none all rest sides same none = ([], sym same, none)
+pub parts_none : {R : Type 0} (all rest : List (Opened R)) (servers_parts : List ServerParts) → rest ≡ all
+    → servers_parts ≡ []
+    → ArePartsSoFar all rest servers_parts
+parts_none all rest servers_parts same none = ([], sym same, none)
 
-sides_pushed : {R : Type 0} (done : List (Opened R)) (server : Opened R) (sides : List Side) (side : Side)
-    → AreSidesOf done sides
-    → IsSideOf server side
-    → AreSidesOf (done ++ server ∷ []) (sides ++ side ∷ [])
-sides_pushed [] server [] side are is = (is, refl)
-sides_pushed [] server (x ∷ xs) side are is = absurd (cc (are))
-sides_pushed (s ∷ ss) server [] side are is = absurd are
-sides_pushed (s ∷ ss) server (x ∷ xs) side are is = (are.0, sides_pushed ss server xs side are.1 is)
+parts_pushed : {R : Type 0} (done : List (Opened R)) (server : Opened R) (servers_parts : List ServerParts)
+    (parts : ServerParts)
+    → ArePartsOf done servers_parts
+    → IsPartsOf server parts
+    → ArePartsOf (done ++ server ∷ []) (servers_parts ++ parts ∷ [])
+parts_pushed [] server [] parts are is = (is, refl)
+parts_pushed [] server (x ∷ xs) parts are is = absurd (cc (are))
+parts_pushed (s ∷ ss) server [] parts are is = absurd are
+parts_pushed (s ∷ ss) server (x ∷ xs) parts are is = (are.0, parts_pushed ss server xs parts are.1 is)
 
-pub sides_more : {R : Type 0} (all left rest : List (Opened R)) (server : Opened R) (sides more : List Side)
-    (side : Side)
-    → AreSidesSoFar all left sides
+pub parts_more : {R : Type 0} (all left rest : List (Opened R)) (server : Opened R)
+    (servers_parts more : List ServerParts)
+    (parts : ServerParts)
+    → ArePartsSoFar all left servers_parts
     → left ≡ server ∷ rest
-    → IsSideOf server side
-    → more ≡ sides ++ side ∷ []
-    → AreSidesSoFar all rest more
-sides_more all left rest server sides more side so_far next is pushed = (
+    → IsPartsOf server parts
+    → more ≡ servers_parts ++ parts ∷ []
+    → ArePartsSoFar all rest more
+parts_more all left rest server servers_parts more parts so_far next is pushed = (
   so_far.0 ++ server ∷ [],
   so_far.1 ∙ (ap (λ l. so_far.0 ++ l) next ∙ sym (append_assoc so_far.0 (server ∷ []) rest)),
-  subst (AreSidesOf (so_far.0 ++ server ∷ [])) (sym pushed) (sides_pushed so_far.0 server sides side so_far.2 is),
+  subst (ArePartsOf (so_far.0 ++ server ∷ [])) (sym pushed)
+      (parts_pushed so_far.0 server servers_parts parts so_far.2 is),
 )
 
-pub sides_all : {R : Type 0} (all rest : List (Opened R)) (sides : List Side) → AreSidesSoFar all rest sides
+pub parts_all : {R : Type 0} (all rest : List (Opened R)) (servers_parts : List ServerParts)
+    → ArePartsSoFar all rest servers_parts
     → length rest ≡ 0
-    → AreSidesOf all sides
-sides_all all [] sides so_far none =
-    subst (λ xs. AreSidesOf xs sides) (sym (so_far.1 ∙ append-nil so_far.0)) so_far.2
-sides_all all (x ∷ xs) sides so_far none = absurd (omega (arith, none))
+    → ArePartsOf all servers_parts
+parts_all all [] servers_parts so_far none =
+    subst (λ xs. ArePartsOf xs servers_parts) (sym (so_far.1 ∙ append-nil so_far.0)) so_far.2
+parts_all all (x ∷ xs) servers_parts so_far none = absurd (omega (arith, none))

@@ -1,5 +1,5 @@
 -- What contracts of this crate speak of.
 pub mod Findings
-pub mod Halls
+pub mod Schedulers
 pub mod Held
 pub mod Wiring

@@ -9,12 +9,12 @@ use Rattle.seats.specs.SeatPools.{Pooling}
 use Rattle.seats.specs.declared.gauges.Gauge.{Gauge}
 use Rattle.seats.specs.declared.marks.Mark.{Mark}
 use Rattle.io_threads.specs.Pools.{AreAllAt}
-use Rattle.io_threads.specs.declared.fronts.Gate.{Gate}
-use Rattle.seats.specs.declared.in_process_links.Link.{Link}
+use Rattle.io_threads.specs.declared.front_ends.ServedServer.{ServedServer}
+use Rattle.seats.specs.declared.in_process_links.InboxLink.{InboxLink}
 use Rattle.seats.specs.declared.in_process_links.InProcessLinks.{InProcessLinks}
-use Rattle.runtime.specs.declared.homes.Home.{Home}
-use Rattle.runtime.specs.declared.sides.Opened.{Opened}
-use Rattle.runtime.specs.declared.sides.Side.{Side}
+use Rattle.runtime.specs.declared.controls.ServerControl.{ServerControl}
+use Rattle.runtime.specs.declared.server_parts.Opened.{Opened}
+use Rattle.runtime.specs.declared.server_parts.ServerParts.{ServerParts}
 
 -- 0, 1 and so on: this many
 abbrev pub numbers : ℕ → List ℕ
@@ -47,15 +47,15 @@ row zero f = []
 row (suc n) f = f zero ∷ row n (λ j. f (suc j))
 
 -- the inlets that a server has lead to its worker's inbox
-abbrev pub LeadsHome : {R : Type 0} → Opened R → Type 0
-LeadsHome server = LeadTo server.pooled.worker.inbox server.pooled.inlets.items
+abbrev pub LeadsControl : {R : Type 0} → Opened R → Type 0
+LeadsControl server = LeadTo server.pooled.worker.inbox server.pooled.inlets.items
 
 -- the inlets of each server that are left
 abbrev pub inlets_of : {R : Type 0} → List (Opened R) → List (List InletState)
 inlets_of servers = map (λ server. server.pooled.inlets.items) servers
 
 -- the inlets of the links of one server, by the servers that they go to
-abbrev pub inlets_in : List Link → List (Option InletState)
+abbrev pub inlets_in : List InboxLink → List (Option InletState)
 inlets_in links = map (λ link. link.inlet) links
 
 -- the inlets of the links of each server
@@ -132,31 +132,31 @@ pub record IsPlaced {A : Type 0} (id servers : ℕ) (inlets : List A) (place : �
   pub beyond : (j : ℕ) → servers ≤ j → place j ≡ None
 
 -- What a server has beside its worker is its own: its seats, its mark, and the last of its inlets.
-pub record IsSideOf {R : Type 0} (server : Opened R) (side : Side) : Type 0 where
-  pub pools : side.pools.items ≡ server.pooled.pools.items
-  pub mark : side.home.failed ≡ server.failed
-  pub inlet : (rest : List InletState) × (server.pooled.inlets.items ≡ rest ++ side.home.inlet ∷ [])
+pub record IsPartsOf {R : Type 0} (server : Opened R) (parts : ServerParts) : Type 0 where
+  pub pools : parts.pools.items ≡ server.pooled.pools.items
+  pub mark : parts.control.failed ≡ server.failed
+  pub inlet : (rest : List InletState) × (server.pooled.inlets.items ≡ rest ++ parts.control.inlet ∷ [])
 
 -- the same of each of these servers
-abbrev pub AreSidesOf : {R : Type 0} → List (Opened R) → List Side → Type 0
-AreSidesOf [] sides = sides ≡ []
-AreSidesOf (server ∷ servers) [] = ⊥
-AreSidesOf (server ∷ servers) (side ∷ sides) = IsSideOf server side × AreSidesOf servers sides
+abbrev pub ArePartsOf : {R : Type 0} → List (Opened R) → List ServerParts → Type 0
+ArePartsOf [] servers_parts = servers_parts ≡ []
+ArePartsOf (server ∷ servers) [] = ⊥
+ArePartsOf (server ∷ servers) (parts ∷ servers_parts) = IsPartsOf server parts × ArePartsOf servers servers_parts
 
 -- The seats of each of these are of the server of its place, where the first one is server k.
-abbrev pub AreSeatedFrom : ℕ → List Side → Type 0
+abbrev pub AreSeatedFrom : ℕ → List ServerParts → Type 0
 AreSeatedFrom k [] = Unit {0}
-AreSeatedFrom k (side ∷ sides) =
-    All (λ pool. pool.seen.origin.start.id ≡ k) side.pools.items × AreSeatedFrom (suc k) sides
+AreSeatedFrom k (parts ∷ servers_parts) =
+    All (λ pool. pool.seen.origin.start.id ≡ k) parts.pools.items × AreSeatedFrom (suc k) servers_parts
 
 -- what the program's own threads see of each server
-abbrev pub homes_of : List Side → List Home
-homes_of sides = map (λ side. side.home) sides
+abbrev pub controls_of : List ServerParts → List ServerControl
+controls_of servers_parts = map (λ parts. parts.control) servers_parts
 
 -- the seats of each server, by threads
-abbrev pub pools_of : List Side → List (List Pooling)
-pools_of sides = map (λ side. side.pools.items) sides
+abbrev pub pools_of : List ServerParts → List (List Pooling)
+pools_of servers_parts = map (λ parts. parts.pools.items) servers_parts
 
--- the seats behind each gate, by threads
-abbrev pub pools_in : List Gate → List (List Pooling)
-pools_in gates = map (λ gate. gate.pools.items) gates
+-- the seats behind each served server, by threads
+abbrev pub pools_in : List ServedServer → List (List Pooling)
+pools_in served_servers = map (λ served_server. served_server.pools.items) served_servers

@@ -8,31 +8,31 @@ use std::time::Duration;
 /// How long the one who waits sleeps at most, if it has something to try again, in milliseconds.
 const PAUSE: u64 = 50;
 
-/// A bell for one thread. Others ring it, and at last say that nothing more comes.
+/// An alarm for one thread. Others ring it, and at last say that nothing more comes.
 #[derive(Drop)]
 pub(crate) struct Alarm {
-    bell: Parker,
+    parker: Parker,
     is_over: AtomicBool,
 }
 
 impl Alarm {
-    /// A bell that hasn't been rung.
+    /// An alarm that hasn't been rung.
     pub(crate) fn new() -> Alarm {
         Alarm {
-            bell: Parker::new(),
+            parker: Parker::new(),
             is_over: AtomicBool::new(false),
         }
     }
 
     /// Wakes the one who waits, or lets it go on at once when it will wait.
     pub(crate) fn ring(&self) {
-        self.bell.unpark();
+        self.parker.unpark();
     }
 
     /// Says that nothing more comes.
     pub(crate) fn end(&self) {
         self.is_over.store(true, Ordering::SeqCst);
-        self.bell.unpark();
+        self.parker.unpark();
     }
 
     /// Whether nothing more comes.
@@ -42,11 +42,11 @@ impl Alarm {
 
     /// Waits until it is rung.
     pub(crate) fn wait<R: Wait>(&self, rt: &R) {
-        self.bell.park(rt);
+        self.parker.park(rt);
     }
 
     /// The same, but for 50 milliseconds at most.
     pub(crate) fn wait_a_little<R: Wait>(&self, rt: &R) {
-        self.bell.park_timeout(rt, Duration::from_millis(PAUSE));
+        self.parker.park_timeout(rt, Duration::from_millis(PAUSE));
     }
 }

@@ -13,7 +13,7 @@ const PATIENCE: u64 = 30;
 /// Which servers have connected.
 #[derive(Drop)]
 pub(crate) struct Arrivals {
-    hall: Mutex<Arrived>,
+    scheduler: Mutex<Arrived>,
     alarm: Alarm,
 }
 
@@ -55,7 +55,7 @@ impl Arrivals {
         }
         let is_ready = false;
         Ok(Arrivals {
-            hall: Mutex::new(Arrived { is_ready, links }),
+            scheduler: Mutex::new(Arrived { is_ready, links }),
             alarm: Alarm::new(),
         })
     }
@@ -73,12 +73,12 @@ impl Arrivals {
 
     // It tells whether the server isn't ready.
     fn set<R: Wait>(&self, rt: &R, j: u8, arrival: Arrival) -> bool {
-        let mut guard = self.hall.lock(rt);
-        let hall = &mut *guard;
-        if let Some(place) = hall.links.get_mut(usize::from(j)) {
+        let mut guard = self.scheduler.lock(rt);
+        let scheduler = &mut *guard;
+        if let Some(place) = scheduler.links.get_mut(usize::from(j)) {
             *place = arrival;
         }
-        let is_early = !hall.is_ready;
+        let is_early = !scheduler.is_ready;
         drop(guard);
         self.alarm.ring();
         is_early
@@ -116,11 +116,11 @@ impl Arrivals {
 
     // How far the links are. If all stand, the server is ready from now on.
     fn look<R: Wait>(&self, rt: &R, starts: &[Option<u64>]) -> Meeting {
-        let mut guard = self.hall.lock(rt);
-        let hall = &mut *guard;
-        let meeting = meeting_of(hall.links.as_slice(), starts);
+        let mut guard = self.scheduler.lock(rt);
+        let scheduler = &mut *guard;
+        let meeting = meeting_of(scheduler.links.as_slice(), starts);
         if matches!(meeting, Meeting::Whole) {
-            hall.is_ready = true;
+            scheduler.is_ready = true;
         }
         meeting
     }

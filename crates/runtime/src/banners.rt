@@ -1,7 +1,7 @@
 //! What a server and a cluster say of themselves at the start.
 
-use crate::shapes::Shape;
-use command_line::{Numbers, VERSION};
+use crate::concurrency::Concurrency;
+use command_line::{ClusterNumbers, VERSION};
 use ends::{Sink, write_all};
 use itoa::Buffer;
 use masters::{ServerSettings, port_of};
@@ -9,7 +9,7 @@ use masters::{ServerSettings, port_of};
 /// Which server of which chain runs, where it listens, and its limits, in one line.
 pub(crate) fn tell_server<X: Sink>(
     settings: &ServerSettings,
-    shape: Shape,
+    concurrency: Concurrency,
     machine: Option<u64>,
     errors: &mut X,
 ) {
@@ -34,14 +34,14 @@ pub(crate) fn tell_server<X: Sink>(
     write(errors, address);
     write(errors, " port ");
     write_number(errors, port_of(numbers.peer_port, numbers.id));
-    write_connections(errors, numbers.connections, shape);
+    write_connections(errors, numbers.connections, concurrency);
     write_memory(errors, numbers.memory, machine);
 }
 
 /// How many servers run in one process, where they listen, and their limits, in one line.
 pub(crate) fn tell_cluster<X: Sink>(
-    numbers: Numbers,
-    shape: Shape,
+    numbers: ClusterNumbers,
+    concurrency: Concurrency,
     machine: Option<u64>,
     errors: &mut X,
 ) {
@@ -57,17 +57,17 @@ pub(crate) fn tell_cluster<X: Sink>(
     write(errors, " to ");
     let last = numbers.servers.saturating_sub(1);
     write_number(errors, port_of(numbers.port, last));
-    write_connections(errors, numbers.connections, shape);
+    write_connections(errors, numbers.connections, concurrency);
     write_memory(errors, numbers.memory, machine);
 }
 
-fn write_connections<X: Sink>(errors: &mut X, connections: u32, shape: Shape) {
+fn write_connections<X: Sink>(errors: &mut X, connections: u32, concurrency: Concurrency) {
     write(errors, "; at most ");
     write_long(errors, u64::from(connections));
     write(errors, " connections at each server, by ");
-    write_count(errors, shape.threads);
+    write_count(errors, concurrency.threads);
     write(errors, " threads and ");
-    write_count(errors, shape.seats);
+    write_count(errors, concurrency.seats);
     write(errors, " seats");
 }
 

@@ -3,7 +3,7 @@ ghost use Rattle.std.specs.Prelude.{◌≡◌, ◌⊎◌, ◌↔◌};
 
 use command_line::{FAILED, MEMORY};
 use ends::{Sink, write_all};
-use io_threads::FrontFault;
+use io_threads::FrontEndFault;
 use itoa::Buffer;
 use std::alloc::{AllocError, AllocFailed};
 use thiserror::Error;
@@ -64,11 +64,11 @@ impl From<AllocError> for ClusterFault {
     }
 }
 
-impl From<FrontFault> for ClusterFault {
-    fn from(e: FrontFault) -> ClusterFault {
+impl From<FrontEndFault> for ClusterFault {
+    fn from(e: FrontEndFault) -> ClusterFault {
         match e {
-            FrontFault::Memory => ClusterFault::Memory,
-            FrontFault::Numbers => ClusterFault::Run,
+            FrontEndFault::Memory => ClusterFault::Memory,
+            FrontEndFault::Numbers => ClusterFault::Run,
         }
     }
 }

@@ -2,21 +2,23 @@
 
 ghost use Rattle.std.specs.Prelude.{◌≡◌, ◌≤◌, vec_len, IfOk};
 ghost use Rattle.std.specs.Arc.{arc_value};
-ghost use Rattle.runtime.specs.Halls.{ids};
-ghost use Rattle.runtime.specs.Wiring.{AreSeatedFrom, homes_of, numbers, pools_in, pools_of};
+ghost use Rattle.runtime.specs.Schedulers.{ids};
+ghost use Rattle.runtime.specs.Wiring.{AreSeatedFrom, controls_of, numbers, pools_in, pools_of};
 
+use crate::cluster_controls::{ClusterControl, start_watching};
 use crate::cluster_faults::ClusterFault;
-use crate::halls::Hall;
-use crate::homes::{Home, Homes, StopFault};
-use crate::offices::{Office, start_watching};
-use crate::shapes::Shape;
-use crate::sides::{Side, all_links, all_servers, all_sides};
-use command_line::Numbers;
-use io_threads::{Desks, Front, FrontSettings, Gate, open_desks, open_front};
+use crate::concurrency::Concurrency;
+use crate::controls::{ServerControl, ServerControls, StopFault};
+use crate::schedulers::Scheduler;
+use crate::server_parts::{ServerParts, all_links, all_parts, all_servers};
+use command_line::ClusterNumbers;
+use io_threads::{
+    FrontEnd, FrontEndSettings, LoopHandles, ServedServer, open_front_end, open_loop_handles,
+};
 use masters::keep_alive;
 use mio::Poll;
 use node::{Master, SERVERS};
-use seats::{Allowance, Leash, Mark, SeatPool};
+use seats::{Allowance, Mark, OutputPermit, SeatPool};
 use std::alloc::Global;
 use std::net::{Ipv4Addr, Net, TcpListener, TcpStream};
 use std::sync::{Arc, Wait};
@@ -27,8 +29,8 @@ use std::time::Clock;
 /// A chain of running servers.
 #[derive(Drop)]
 pub(crate) struct Cluster<R: Wait + Drop> {
-    office: Arc<Office<R>, Global>,
-    front: Front,
+    cluster_control: Arc<ClusterControl<R>, Global>,
+    front_end: FrontEnd,
     workers: Vec<JoinHandle<()>>,
     watcher: JoinHandle<()>,
 }
@@ -36,9 +38,9 @@ pub(crate) struct Cluster<R: Wait + Drop> {
 // The servers, before their clients are served.
 #[derive(Drop)]
 struct Chain<R: Wait + Drop> {
-    hall: Arc<Hall<R>, Global>,
-    sides: Vec<Side>,
-    desks: Arc<Desks, Global>,
+    scheduler: Arc<Scheduler<R>, Global>,
+    servers_parts: Vec<ServerParts>,
+    loop_handles: Arc<LoopHandles, Global>,
     polls: Vec<Poll>,
 }
 
@@ -48,8 +50,8 @@ impl<R: Wait + Copy + Drop + Send + 'static> Cluster<R> {
     pub(crate) fn open(
         rt: R,
         alloc: Global,
-        numbers: Numbers,
-        shape: Shape,
+        numbers: ClusterNumbers,
+        concurrency: Concurrency,
     ) -> Result<Cluster<R>, ClusterFault>
     where
         R: Threads + Clock + Eprint + Net<Listener = TcpListener, Stream = TcpStream>,
@@ -60,41 +62,49 @@ impl<R: Wait + Copy + Drop + Send + 'static> Cluster<R> {
         }
         let listeners = all_listeners(&rt, alloc, numbers)?;
         let Chain {
-            hall,
-            sides,
-            desks,
+            scheduler,
+            servers_parts,
+            loop_handles,
             polls,
         } = open_chain(
             rt,
             alloc,
             count,
-            shape,
+            concurrency,
             Allowance::new(numbers.memory, count),
         )?;
-        let workers = start_attendants(rt, alloc, &hall, count)?;
-        let (homes, gates) = all_gates(alloc, listeners, sides)?;
-        let settings = FrontSettings {
+        let workers = start_attendants(rt, alloc, &scheduler, count)?;
+        let (controls, served_servers) = all_served_servers(alloc, listeners, servers_parts)?;
+        let settings = FrontEndSettings {
             connections: u64::from(numbers.connections),
             serves: numbers.serves.saturating_mul(u64::from(numbers.seats)),
         };
-        let front = open_front(rt, alloc, settings, &hall, &desks, polls, gates)?;
-        let homes = Homes::new(alloc, homes, Master::new(count));
-        let office = Arc::new(alloc, Office::new(hall, homes))?;
-        let watcher = start_watching(rt, &office)?;
+        let front_end = open_front_end(
+            rt,
+            alloc,
+            settings,
+            &scheduler,
+            &loop_handles,
+            polls,
+            served_servers,
+        )?;
+        let controls = ServerControls::new(alloc, controls, Master::new(count));
+        let cluster_control = Arc::new(alloc, ClusterControl::new(scheduler, controls))?;
+        let watcher = start_watching(rt, &cluster_control)?;
         Ok(Cluster {
-            office,
-            front,
+            cluster_control,
+            front_end,
             workers,
             watcher,
         })
     }
 
-    /// Fails a server (`Office::fail`).
+    /// Fails a server (`ClusterControl::fail`).
     pub(crate) fn fail(&self, rt: &R, j: u8) -> Result<(), StopFault>
     where
         R: Clock,
     {
-        self.office.fail(rt, j)
+        self.cluster_control.fail(rt, j)
     }
 
     /// Waits until the threads that serve clients have ended, and then ends the other threads.
@@ -103,13 +113,13 @@ impl<R: Wait + Copy + Drop + Send + 'static> Cluster<R> {
         R: Threads,
     {
         let Cluster {
-            office,
-            front,
+            cluster_control,
+            front_end,
             workers,
             watcher,
         } = self;
-        front.end(rt);
-        office.end(rt);
+        front_end.end(rt);
+        cluster_control.end(rt);
         for worker in workers {
             worker.join(rt);
         }
@@ -117,66 +127,66 @@ impl<R: Wait + Copy + Drop + Send + 'static> Cluster<R> {
     }
 }
 
-// The servers of a chain with their links, and what the threads that will serve their clients wait at. In the hall each
-// worker stands at the place of its server's id, and at the same place are the seats of that server.
+// The servers of a chain with their links, and what the threads that will serve their clients wait at. In the scheduler
+// each worker stands at the place of its server's id, and at the same place are the seats of that server.
 fn open_chain<R: Wait + Copy + Drop + Net>(
     rt: R,
     alloc: Global,
     count: u8,
-    shape: Shape,
+    concurrency: Concurrency,
     allowance: Allowance,
 ) -> Result<Chain<R>, ClusterFault>
     requires chain { (1 ≤ count) × (count ≤ 16) }
-    ensures hall { IfOk result (λ chain. ids (arc_value chain.hall) ≡ numbers count) }
-    ensures count { IfOk result (λ chain. vec_len chain.sides ≡ count) }
-    ensures sides { IfOk result (λ chain. AreSeatedFrom 0 chain.sides.items) }
+    ensures scheduler { IfOk result (λ chain. ids (arc_value chain.scheduler) ≡ numbers count) }
+    ensures count { IfOk result (λ chain. vec_len chain.servers_parts ≡ count) }
+    ensures servers_parts { IfOk result (λ chain. AreSeatedFrom 0 chain.servers_parts.items) }
 {
-    let mut servers = all_servers(rt, alloc, count, shape, allowance)?;
+    let mut servers = all_servers(rt, alloc, count, concurrency, allowance)?;
     let links = all_links(rt, alloc, count, &mut servers)?;
-    let (desks, polls) = open_desks(&rt, alloc, shape.threads)?;
-    let desks = Arc::new(alloc, desks)?;
-    let (hall, sides) = all_sides(alloc, &desks, servers, links)?;
+    let (loop_handles, polls) = open_loop_handles(&rt, alloc, concurrency.threads)?;
+    let loop_handles = Arc::new(alloc, loop_handles)?;
+    let (scheduler, servers_parts) = all_parts(alloc, &loop_handles, servers, links)?;
     Ok(Chain {
-        hall: Arc::new(alloc, hall)?,
-        sides,
-        desks,
+        scheduler: Arc::new(alloc, scheduler)?,
+        servers_parts,
+        loop_handles,
         polls,
     })
 }
 
 // What the program's own thread sees of each server, and where its clients come in, in the order of the servers.
-fn all_gates(
+fn all_served_servers(
     alloc: Global,
     listeners: Vec<TcpListener>,
-    sides: Vec<Side>,
-) -> Result<(Vec<Home>, Vec<Gate>), ClusterFault>
-    ensures homes { IfOk result (λ all. all.0.items ≡ homes_of sides.items) }
-    ensures pools { IfOk result (λ all. pools_in all.1.items ≡ pools_of sides.items) }
+    servers_parts: Vec<ServerParts>,
+) -> Result<(Vec<ServerControl>, Vec<ServedServer>), ClusterFault>
+    ensures controls { IfOk result (λ all. all.0.items ≡ controls_of servers_parts.items) }
+    ensures pools { IfOk result (λ all. pools_in all.1.items ≡ pools_of servers_parts.items) }
 {
-    let mut homes = Vec::new(alloc);
-    let mut gates = Vec::new(alloc);
+    let mut controls = Vec::new(alloc);
+    let mut served_servers = Vec::new(alloc);
     let mut listeners = listeners.into_iter();
-    for side in sides {
+    for parts in servers_parts {
         let Some(listener) = listeners.next() else {
             return Err(ClusterFault::Run);
         };
-        let Side { pools, home } = side;
-        let mark = home.failed.share()?;
-        homes.push(home)?;
-        gates.push(loose_gate(listener, pools, mark))?;
+        let ServerParts { pools, control } = parts;
+        let mark = control.failed.share()?;
+        controls.push(control)?;
+        served_servers.push(loose_served_server(listener, pools, mark))?;
     }
-    Ok((homes, gates))
+    Ok((controls, served_servers))
 }
 
 // Where the clients of a server without a lease come in.
-fn loose_gate(listener: TcpListener, pools: Vec<SeatPool>, mark: Mark) -> Gate
+fn loose_served_server(listener: TcpListener, pools: Vec<SeatPool>, mark: Mark) -> ServedServer
     ensures { result.pools.items ≡ pools.items }
 {
-    Gate {
+    ServedServer {
         listener,
         pools,
         mark,
-        leash: Leash::loose(),
+        output_permit: OutputPermit::loose(),
     }
 }
 
@@ -184,7 +194,7 @@ fn loose_gate(listener: TcpListener, pools: Vec<SeatPool>, mark: Mark) -> Gate
 fn all_listeners<R: Net<Listener = TcpListener, Stream = TcpStream>>(
     rt: &R,
     alloc: Global,
-    numbers: Numbers,
+    numbers: ClusterNumbers,
 ) -> Result<Vec<TcpListener>, ClusterFault> {
     let mut listeners = Vec::new(alloc);
     for i in 0..numbers.servers {
@@ -202,12 +212,12 @@ fn all_listeners<R: Net<Listener = TcpListener, Stream = TcpStream>>(
 fn start_attendants<R: Wait + Threads + Copy + Drop + Send + 'static>(
     rt: R,
     alloc: Global,
-    hall: &Arc<Hall<R>, Global>,
+    scheduler: &Arc<Scheduler<R>, Global>,
     count: u8,
 ) -> Result<Vec<JoinHandle<()>>, ClusterFault> {
     let mut workers = Vec::new(alloc);
     for id in 0..count {
-        workers.push(start_attendant(rt, hall, id)?)?;
+        workers.push(start_attendant(rt, scheduler, id)?)?;
     }
     Ok(workers)
 }
@@ -215,11 +225,11 @@ fn start_attendants<R: Wait + Threads + Copy + Drop + Send + 'static>(
 // Starts the thread of a worker that others help.
 fn start_attendant<R: Wait + Threads + Copy + Drop + Send + 'static>(
     rt: R,
-    hall: &Arc<Hall<R>, Global>,
+    scheduler: &Arc<Scheduler<R>, Global>,
     id: u8,
 ) -> Result<JoinHandle<()>, ClusterFault> {
-    let hall = Arc::try_clone(hall)?;
-    match thread::spawn(&rt, move || hall.attend(&rt, id)) {
+    let scheduler = Arc::try_clone(scheduler)?;
+    match thread::spawn(&rt, move || scheduler.attend(&rt, id)) {
         Ok(thread) => Ok(thread),
         Err(_) => Err(ClusterFault::Memory),
     }

@@ -5,7 +5,7 @@ ghost use Rattle.runtime.specs.Held.{may_end};
 
 use leases::{AnyEnd, Lease, SharedLease, Term, nanoseconds_of};
 use links::Cuts;
-use seats::{Leash, Mark};
+use seats::{Mark, OutputPermit};
 use std::alloc::{AllocError, Global};
 use std::net::{Shutdown, TcpStream};
 use std::sync::{Arc, Mutex, Wait};
@@ -74,20 +74,20 @@ impl<R: Clock + Drop> Connections<R> {
     }
 
     /// What may hold back what the server puts out. It does so only if the server's lease has a term.
-    pub(crate) fn leash(&self) -> Result<Leash, AllocError>
-        ensures { IfOk result (λ leash. leash ≡ may_end self.now) }
+    pub(crate) fn output_permit(&self) -> Result<OutputPermit, AllocError>
+        ensures { IfOk result (λ output_permit. output_permit ≡ may_end self.now) }
     {
-        Ok(Leash::held_by(Arc::try_clone(&self.lease)?))
+        Ok(OutputPermit::held_by(Arc::try_clone(&self.lease)?))
     }
 
     /// What the link to server `j` looks at: what is set as soon as that is called gone, what is set as soon as this
     /// server answers no call any more, and what may hold it back.
-    pub(crate) fn guards(&self, j: u8) -> Result<(Mark, Mark, Leash), AllocError>
+    pub(crate) fn guards(&self, j: u8) -> Result<(Mark, Mark, OutputPermit), AllocError>
         ensures { IfOk result (λ guards. guards.2 ≡ may_end self.now) }
     {
         let gone = self.mark(j)?;
         let failed = self.failed.share()?;
-        Ok((gone, failed, self.leash()?))
+        Ok((gone, failed, self.output_permit()?))
     }
 
     /// What is set as soon as server `j` is called gone.

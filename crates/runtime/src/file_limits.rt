@@ -1,13 +1,18 @@
 //! Whether the process may have as many files open as its connections may need.
 
-use crate::shapes::Shape;
+use crate::concurrency::Concurrency;
 use ends::{Sink, write_all};
 use io_threads::{most_files, open_files};
 use itoa::Buffer;
 
 /// Warns if fewer files may be open at once than n servers with c connections each need.
-pub(crate) fn warn_of_files<X: Sink>(servers: u8, connections: u32, shape: Shape, errors: &mut X) {
-    let threads = u8::try_from(shape.threads).unwrap_or(16);
+pub(crate) fn warn_of_files<X: Sink>(
+    servers: u8,
+    connections: u32,
+    concurrency: Concurrency,
+    errors: &mut X,
+) {
+    let threads = u8::try_from(concurrency.threads).unwrap_or(16);
     let wanted = most_files(servers, connections, threads);
     match open_files() {
         Some(limit) if limit < wanted => tell(limit, wanted, connections, errors),

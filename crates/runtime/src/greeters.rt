@@ -5,7 +5,7 @@ ghost use Rattle.wire.specs.Spellings.{IsInRange, spelling};
 ghost use Rattle.wire.specs.declared.frames.Frame.TheVariants as frames;
 
 use crate::link_lines::tell_refused;
-use crate::paces::Pace;
+use crate::rate_limits::RateLimit;
 use ends::{Sink, TrackedWriter};
 use peers::put_frame;
 use std::alloc::Global;
@@ -27,25 +27,25 @@ pub(crate) struct Greeter {
 // The lines on refusals, by their reasons.
 #[derive(Drop)]
 struct Lines {
-    servers: Pace,
-    chain: Pace,
-    taken: Pace,
-    gone: Pace,
-    format: Pace,
+    servers: RateLimit,
+    chain: RateLimit,
+    taken: RateLimit,
+    gone: RateLimit,
+    format: RateLimit,
 }
 
 impl Greeter {
     /// Before the first greeting.
     pub(crate) fn new(id: u8) -> Greeter {
-        let pace = Pace::new(QUIET);
+        let rate_limit = RateLimit::new(QUIET);
         Greeter {
             id,
             lines: Mutex::new(Lines {
-                servers: pace,
-                chain: pace,
-                taken: pace,
-                gone: pace,
-                format: pace,
+                servers: rate_limit,
+                chain: rate_limit,
+                taken: rate_limit,
+                gone: rate_limit,
+                format: rate_limit,
             }),
         }
     }

@@ -2,7 +2,7 @@
 ghost use Rattle.std.specs.Prelude.{◌≡◌, true, false};
 
 use ends::{Failures, Sink};
-use seats::{Leash, Mark};
+use seats::{Mark, OutputPermit};
 use std::io::ErrorKind;
 use std::sync::Wait;
 use std::time::{Clock, Duration};
@@ -11,14 +11,14 @@ use std::{io, thread};
 /// The pause of a write that waits for the lease, in milliseconds.
 const PAUSE: u64 = 2;
 
-/// A sink that is written only while the server may put anything out. What is written was made up before the leash is
-/// asked. A write waits until it may go, and nothing is dropped. Once the server answers no call any more, a write that
-/// waits fails.
+/// A sink that is written only while the server may put anything out. What is written was made up before the output
+/// permit is asked. A write waits until it may go, and nothing is dropped. Once the server answers no call any more, a
+/// write that waits fails.
 #[derive(Drop)]
 pub(crate) struct LeasedSink<R, W> {
     rt: R,
     inner: W,
-    leash: Leash,
+    output_permit: OutputPermit,
     // Set as soon as the server answers no call any more.
     failed: Mark,
     // The writes that have failed before they reached `inner`.
@@ -26,16 +26,21 @@ pub(crate) struct LeasedSink<R, W> {
 }
 
 impl<R: Wait + Clock + Drop, W: Sink> LeasedSink<R, W> {
-    /// A sink around another one, of a server with this leash, whose mark is set as soon as it answers no call any
-    /// more.
-    pub(crate) fn new(rt: R, inner: W, leash: Leash, failed: Mark) -> LeasedSink<R, W>
-        ensures leash { result.leash ≡ leash }
+    /// A sink around another one, of a server with this output permit, whose mark is set as soon as it answers no call
+    /// any more.
+    pub(crate) fn new(
+        rt: R,
+        inner: W,
+        output_permit: OutputPermit,
+        failed: Mark,
+    ) -> LeasedSink<R, W>
+        ensures output_permit { result.output_permit ≡ output_permit }
         ensures inner { result.inner ≡ inner }
     {
         LeasedSink {
             rt,
             inner,
-            leash,
+            output_permit,
             failed,
             unwritten: Failures::new(),
         }
@@ -43,10 +48,10 @@ impl<R: Wait + Clock + Drop, W: Sink> LeasedSink<R, W> {
 
     // Waits until the server may put anything out. False if it answers no call any more.
     fn awaits_lease(&self) -> bool
-        ensures loose { self.now.leash ≡ false → result ≡ true }
+        ensures loose { self.now.output_permit ≡ false → result ≡ true }
     {
         for _ in self.rt.forever() {
-            if self.leash.lets(&self.rt) {
+            if self.output_permit.lets(&self.rt) {
                 return true;
             }
             if self.failed.is_set() {

@@ -2,8 +2,8 @@
 ghost use Rattle.std.specs.Prelude.{◌≡◌, IfOk};
 ghost use Rattle.std.specs.Arc.{arc_value};
 ghost use Rattle.leases.specs.Shared.{is_timed};
-ghost use Rattle.links.specs.Lobbies.{cuts_of, host_of};
-ghost use Rattle.links.specs.Places.{waiting};
+ghost use Rattle.links.specs.PeerPorts.{cuts_of, host_of};
+ghost use Rattle.links.specs.GreeterInlets.{waiting};
 ghost use Rattle.runtime.specs.Held.{may_end};
 ghost use Rattle.runtime.specs.Wiring.{IsPlaced};
 
@@ -11,10 +11,10 @@ use crate::arrivals::Arrivals;
 use crate::cuts::Connections;
 use crate::dealing::inlets_for_all;
 use crate::outgoing::{LinkSink, Outgoing};
-use crate::peer_doors::open_peer_door;
+use crate::peer_listeners::open_peer_listener;
 use crate::server_faults::ServerFault;
 use command_line::ServerNumbers;
-use links::{Lobby, PeerLinks, Places};
+use links::{GreeterInlets, PeerLinks, PeerPort};
 use masters::{ServerSettings, start_number};
 use peers::Identity;
 use rail::Inlet;
@@ -25,17 +25,17 @@ use std::sync::{Arc, Wait};
 use std::thread::Threads;
 use std::time::Clock;
 
-/// The lobby of the server that the settings name, which other servers and masters enter, and the server's lease, which
-/// has the term of the settings. The mark is set if the server is called gone.
-pub(crate) fn new_lobby<R: Clock + Copy + Drop>(
+/// The peer port of the server that the settings name, which other servers and masters enter, and the server's lease,
+/// which has the term of the settings. The mark is set if the server is called gone.
+pub(crate) fn new_peer_port<R: Clock + Copy + Drop>(
     rt: R,
     alloc: Global,
     settings: &ServerSettings,
     inlets: Vec<Inlet>,
     failed: &Mark,
-) -> Result<Arc<Lobby<Connections<R>>, Global>, ServerFault>
-    ensures host { IfOk result (λ lobby. (host_of (arc_value lobby)).id ≡ settings.now.numbers.id) }
-    ensures lease { IfOk result (λ lobby. may_end (cuts_of (arc_value lobby)) ≡ is_timed settings.now.term) }
+) -> Result<Arc<PeerPort<Connections<R>>, Global>, ServerFault>
+    ensures host { IfOk result (λ shared_port. (host_of (arc_value shared_port)).id ≡ settings.now.numbers.id) }
+    ensures lease { IfOk result (λ shared_port. may_end (cuts_of (arc_value shared_port)) ≡ is_timed settings.now.term) }
 {
     let ServerNumbers { id, servers, .. } = settings.numbers;
     let host = Identity {
@@ -44,11 +44,11 @@ pub(crate) fn new_lobby<R: Clock + Copy + Drop>(
         start: start_number(&rt),
         chain: settings.chain.clone()?,
     };
-    let (places, notices) = all_places(alloc, settings, inlets)?;
+    let (greeter_inlets, notices) = all_greeter_inlets(alloc, settings, inlets)?;
     let term = settings.term;
     let connections = Connections::new(rt, alloc, id, servers, failed.share()?, term)?;
-    let lobby = Lobby::new(host, places, notices, term, connections);
-    Ok(Arc::new(alloc, lobby)?)
+    let shared_port = PeerPort::new(host, greeter_inlets, notices, term, connections);
+    Ok(Arc::new(alloc, shared_port)?)
 }
 
 /// Starts the threads that serve peers, and connects to the other servers. It gives the links once these have connected
@@ -68,30 +68,30 @@ pub(crate) fn connected<
     rt: R,
     alloc: Global,
     settings: &ServerSettings,
-    lobby: &Arc<Lobby<Connections<R>>, Global>,
+    shared_port: &Arc<PeerPort<Connections<R>>, Global>,
     peers: TcpListener,
 ) -> Result<PeerLinks<LinkSink<R>>, ServerFault> {
     let arrivals = Arc::new(alloc, Arrivals::new(alloc, settings.numbers.servers)?)?;
-    let _ = open_peer_door(rt, alloc, peers, lobby, &arrivals)?;
-    let Outgoing { links, starts } = Outgoing::open(rt, alloc, settings, lobby)?;
-    arrivals.wait_for_all(&rt, starts.as_slice(), lobby.cuts().ended())?;
+    let _ = open_peer_listener(rt, alloc, peers, shared_port, &arrivals)?;
+    let Outgoing { links, starts } = Outgoing::open(rt, alloc, settings, shared_port)?;
+    arrivals.wait_for_all(&rt, starts.as_slice(), shared_port.cuts().ended())?;
     Ok(PeerLinks::new(alloc, links))
 }
 
-// The places of the other servers, and the inlet of all masters.
-fn all_places(
+// The inlets of the other servers, and the inlet of all masters.
+fn all_greeter_inlets(
     alloc: Global,
     settings: &ServerSettings,
     inlets: Vec<Inlet>,
-) -> Result<(Places, Inlet), ServerFault>
+) -> Result<(GreeterInlets, Inlet), ServerFault>
     ensures { IfOk result (λ all. let numbers = settings.now.numbers in
         IsPlaced numbers.id numbers.servers inlets.items (waiting all.0) all.1) }
 {
     let mut inlets = inlets;
     let ServerNumbers { id, servers, .. } = settings.numbers;
-    let places = inlets_for_all(alloc, usize::from(id), usize::from(servers), &mut inlets)?;
+    let greeter_inlets = inlets_for_all(alloc, usize::from(id), usize::from(servers), &mut inlets)?;
     match inlets.pop() {
-        Some(notices) => Ok((Places::new(places), notices)),
+        Some(notices) => Ok((GreeterInlets::new(greeter_inlets), notices)),
         None => Err(ServerFault::Run),
     }
 }

@@ -1,13 +1,13 @@
 //! The connections that a server opens to the others of its chain.
 ghost use Rattle.std.specs.Prelude.{◌≡◌, IfOk};
-ghost use Rattle.links.specs.Lobbies.{cuts_of};
+ghost use Rattle.links.specs.PeerPorts.{cuts_of};
 ghost use Rattle.runtime.specs.Held.{may_end};
 
 use crate::cuts::Connections;
 use crate::leased_sinks::LeasedSink;
+use crate::reported_sinks::ReportedSink;
 use crate::server_faults::ServerFault;
-use crate::told_sinks::ToldSink;
-use links::{Lobby, PeerLink};
+use links::{PeerLink, PeerPort};
 use masters::{Channel, Greeted, PeerSink, ServerSettings, port_of, reach};
 use peers::Identity;
 use std::alloc::{AllocError, Global};
@@ -16,7 +16,7 @@ use std::sync::Wait;
 use std::time::Clock;
 
 /// Where frames for another server go while this one may put anything out. A write that fails is told.
-pub(crate) type LinkSink<R> = LeasedSink<R, ToldSink<R, PeerSink>>;
+pub(crate) type LinkSink<R> = LeasedSink<R, ReportedSink<R, PeerSink>>;
 
 /// The links to the other servers, each of which has accepted.
 #[derive(Drop)]
@@ -30,12 +30,12 @@ pub(crate) struct Outgoing<R> {
 impl<
     R: Wait + Clock + Eprint + Net<Listener = TcpListener, Stream = TcpStream> + Copy + Drop,
 > Outgoing<R> {
-    /// Connects to each other server, one after another, and has the lobby cut these connections from then on.
+    /// Connects to each other server, one after another, and has the peer port cut these connections from then on.
     pub(crate) fn open(
         rt: R,
         alloc: Global,
         settings: &ServerSettings,
-        lobby: &Lobby<Connections<R>>,
+        shared_port: &PeerPort<Connections<R>>,
     ) -> Result<Outgoing<R>, ServerFault> {
         let mut links = Vec::new(alloc);
         let mut starts = Vec::new(alloc);
@@ -47,10 +47,10 @@ impl<
                     &rt,
                     alloc,
                     settings,
-                    lobby.host(),
+                    shared_port.host(),
                     j,
                 )?;
-                (Some(told(rt, lobby, j, sink)?), Some(start))
+                (Some(told(rt, shared_port, j, sink)?), Some(start))
             };
             links.push(PeerLink::new(sink))?;
             starts.push(start)?;
@@ -83,22 +83,22 @@ fn channel_to<R: Clock + Net<Listener = TcpListener, Stream = TcpStream>>(
 // other server is called gone.
 fn told<R: Wait + Clock + Eprint + Copy + Drop>(
     rt: R,
-    lobby: &Lobby<Connections<R>>,
+    shared_port: &PeerPort<Connections<R>>,
     j: u8,
     sink: PeerSink,
 ) -> Result<LinkSink<R>, ServerFault>
-    ensures { IfOk result (λ link. link.leash ≡ may_end (cuts_of lobby.now)) }
+    ensures { IfOk result (λ link. link.output_permit ≡ may_end (cuts_of shared_port.now)) }
 {
-    let connections = lobby.cuts();
+    let connections = shared_port.cuts();
     let Ok(stream) = sink.inner.try_clone() else {
         drop(sink);
         return Err(ServerFault::Memory);
     };
     connections.add(&rt, j, stream);
     match connections.guards(j) {
-        Ok((gone, failed, leash)) => {
-            let told = ToldSink::new(rt, sink, lobby.host().id, j, gone);
-            Ok(LeasedSink::new(rt, told, leash, failed))
+        Ok((gone, failed, output_permit)) => {
+            let told = ReportedSink::new(rt, sink, shared_port.host().id, j, gone);
+            Ok(LeasedSink::new(rt, told, output_permit, failed))
         }
         Err(AllocError) => {
             drop(sink);

@@ -1,6 +1,6 @@
 //! Connections that a port can't take.
 
-use crate::paces::Pace;
+use crate::rate_limits::RateLimit;
 use std::io::Error;
 use std::time::Clock;
 
@@ -21,7 +21,7 @@ const NO_FILES: &str = "has as many open files as it may";
 #[derive(Drop)]
 pub(crate) struct Refusals {
     id: u8,
-    pace: Pace,
+    rate_limit: RateLimit,
 }
 
 impl Refusals {
@@ -29,13 +29,13 @@ impl Refusals {
     pub(crate) fn new(id: u8) -> Refusals {
         Refusals {
             id,
-            pace: Pace::new(QUIET),
+            rate_limit: RateLimit::new(QUIET),
         }
     }
 
     /// A connection couldn't be accepted.
     pub(crate) fn tell<R: Clock + Eprint>(&mut self, rt: &R, fault: &Error) {
-        if !self.pace.is_time(rt) {
+        if !self.rate_limit.is_time(rt) {
             return;
         }
         let id = self.id;
@@ -54,7 +54,7 @@ impl Refusals {
 
     /// There was no memory or no thread for a connection.
     pub(crate) fn tell_no_thread<R: Clock + Eprint>(&mut self, rt: &R) {
-        if self.pace.is_time(rt) {
+        if self.rate_limit.is_time(rt) {
             let id = self.id;
             let _ = eprintln!(rt; "craq: server {id}: {NO_ACCEPT}: memory or threads ran out");
         }

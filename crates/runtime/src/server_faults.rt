@@ -5,7 +5,7 @@ use crate::cluster_faults::ClusterFault;
 use crate::link_lines::words_of;
 use command_line::{FAILED, GONE, MEMORY};
 use ends::{Sink, write_all};
-use io_threads::FrontFault;
+use io_threads::FrontEndFault;
 use itoa::Buffer;
 use masters::{ServerSettings, port_of};
 use std::alloc::{AllocError, AllocFailed};
@@ -66,11 +66,11 @@ impl<T: Drop> From<AllocFailed<T>> for ServerFault {
     }
 }
 
-impl From<FrontFault> for ServerFault {
-    fn from(e: FrontFault) -> ServerFault {
+impl From<FrontEndFault> for ServerFault {
+    fn from(e: FrontEndFault) -> ServerFault {
         match e {
-            FrontFault::Memory => ServerFault::Memory,
-            FrontFault::Numbers => ServerFault::Run,
+            FrontEndFault::Memory => ServerFault::Memory,
+            FrontEndFault::Numbers => ServerFault::Run,
         }
     }
 }

@@ -3,24 +3,27 @@ ghost use Rattle.std.specs.Prelude.{◌≡◌, ◌⊎◌, IfOk};
 ghost use Rattle.node.specs.Nodes.{fresh};
 ghost use Rattle.leases.specs.Shared.{is_timed};
 ghost use Rattle.io_threads.specs.Pools.{AreAllAt, BeginsAs};
-ghost use Rattle.runtime.specs.Wiring.{HasOwnPools, LeadsHome, core_of};
+ghost use Rattle.runtime.specs.Wiring.{HasOwnPools, LeadsControl, core_of};
 
 use crate::banners::tell_server;
+use crate::concurrency::Concurrency;
 use crate::file_limits::warn_of_files;
-use crate::meetings::{connected, new_lobby};
+use crate::meetings::{connected, new_peer_port};
 use crate::outgoing::LinkSink;
 use crate::server_faults::{ServerFault, tell};
-use crate::shapes::Shape;
-use crate::sides::{Opened, idle_node, open_server};
+use crate::server_parts::{Opened, idle_node, open_server};
 use crate::working::{Rest, Surroundings, work};
 use command_line::{FAILED, GONE, MEMORY};
 use ends::{Sink, write_all};
-use io_threads::{Desks, Elsewhere, FrontSettings, Gate, Pooled, open_desks, open_front};
+use io_threads::{
+    FrontEndSettings, LoopHandles, Pooled, ScheduledElsewhere, ServedServer, open_front_end,
+    open_loop_handles,
+};
 use links::PeerLinks;
 use masters::{ServerSettings, keep_alive, port_of};
 use node::SERVERS;
 use rail::Worker;
-use seats::{Allowance, Gauge, Leash, Mark, SeatPool};
+use seats::{Allowance, Gauge, Mark, OutputPermit, SeatPool};
 use std::alloc::Global;
 use std::net::{Net, SocketAddr, TcpListener, TcpStream};
 use std::sync::{Arc, Wait};
@@ -73,7 +76,7 @@ pub fn server<
 struct Running<R: Wait + Eprint + Drop> {
     worker: Worker<R>,
     links: PeerLinks<LinkSink<R>>,
-    front: Front,
+    serving: ServingParts,
     failed: Mark,
     // Set if the server is called gone.
     ended: Mark,
@@ -82,12 +85,12 @@ struct Running<R: Wait + Eprint + Drop> {
 
 // What will serve the clients of a server.
 #[derive(Drop)]
-struct Front {
+struct ServingParts {
     listener: TcpListener,
     pools: Vec<SeatPool>,
-    shape: Shape,
+    concurrency: Concurrency,
     connections: u32,
-    leash: Leash,
+    output_permit: OutputPermit,
 }
 
 // The ports of a server.
@@ -113,37 +116,37 @@ impl<R: Wait + Clock + Eprint + Copy + Drop + Send + 'static> Running<R> {
         ensures server { IfOk result
             (λ running. running.worker.published.origin.start.id ≡ settings.now.numbers.id) }
         ensures pools { IfOk result
-            (λ running. AreAllAt running.worker.published.origin running.front.pools.items) }
-        ensures lease { IfOk result (λ running. running.front.leash ≡ is_timed settings.now.term) }
+            (λ running. AreAllAt running.worker.published.origin running.serving.pools.items) }
+        ensures lease { IfOk result (λ running. running.serving.output_permit ≡ is_timed settings.now.term) }
     {
         let Ports { clients, peers } = Ports::open(&rt, settings)?;
         warn(&peers, errors);
-        let shape = Shape::new(&rt, settings.numbers.threads, settings.numbers.seats);
-        tell_server(settings, shape, machine, errors);
+        let concurrency = Concurrency::new(&rt, settings.numbers.threads, settings.numbers.seats);
+        tell_server(settings, concurrency, machine, errors);
         let connections = settings.numbers.connections;
-        warn_of_files(1, connections, shape, errors);
+        warn_of_files(1, connections, concurrency, errors);
         let Opened {
             pooled,
             failed,
             gauge,
-        } = idle_server(rt, alloc, settings, shape)?;
+        } = idle_server(rt, alloc, settings, concurrency)?;
         let Pooled {
             worker,
             pools,
             inlets,
         } = pooled;
-        let lobby = new_lobby(rt, alloc, settings, inlets, &failed)?;
-        let links = connected(rt, alloc, settings, &lobby, peers)?;
+        let shared_port = new_peer_port(rt, alloc, settings, inlets, &failed)?;
+        let links = connected(rt, alloc, settings, &shared_port, peers)?;
         Ok(Running {
             worker,
             links,
-            ended: lobby.cuts().ended().share()?,
-            front: Front {
+            ended: shared_port.cuts().ended().share()?,
+            serving: ServingParts {
                 listener: clients,
                 pools,
-                shape,
+                concurrency,
                 connections,
-                leash: lobby.cuts().leash()?,
+                output_permit: shared_port.cuts().output_permit()?,
             },
             failed,
             gauge,
@@ -158,16 +161,16 @@ impl<R: Wait + Clock + Eprint + Copy + Drop + Send + 'static> Running<R> {
         let Running {
             worker,
             mut links,
-            front,
+            serving,
             failed,
             ended,
             gauge,
         } = self;
-        match serve_clients(rt, alloc, front, &failed, output) {
-            Ok(desks) => {
+        match serve_clients(rt, alloc, serving, &failed, output) {
+            Ok(loop_handles) => {
                 let around = Surroundings {
                     id: HERE,
-                    desks,
+                    loop_handles,
                     gauge,
                     failed,
                     ended,
@@ -194,37 +197,45 @@ impl<R: Wait + Clock + Eprint + Copy + Drop + Send + 'static> Running<R> {
 fn serve_clients<R: Wait + Threads + Clock + Net + Copy + Drop + Send + 'static, W: Sink>(
     rt: R,
     alloc: Global,
-    front: Front,
+    serving: ServingParts,
     failed: &Mark,
     output: &mut W,
-) -> Result<Arc<Desks, Global>, ServerFault> {
-    let Front {
+) -> Result<Arc<LoopHandles, Global>, ServerFault> {
+    let ServingParts {
         listener,
         pools,
-        shape,
+        concurrency,
         connections,
-        leash,
-    } = front;
-    let (desks, polls) = open_desks(&rt, alloc, shape.threads)?;
-    let desks = Arc::new(alloc, desks)?;
-    let stations = Arc::new(alloc, Elsewhere)?;
+        output_permit,
+    } = serving;
+    let (loop_handles, polls) = open_loop_handles(&rt, alloc, concurrency.threads)?;
+    let loop_handles = Arc::new(alloc, loop_handles)?;
+    let turn_scheduler = Arc::new(alloc, ScheduledElsewhere)?;
     let mark = failed.share()?;
-    let mut gates = Vec::new(alloc);
-    gates.push(Gate {
+    let mut served_servers = Vec::new(alloc);
+    served_servers.push(ServedServer {
         listener,
         pools,
         mark,
-        leash,
+        output_permit,
     })?;
     if write_all(output, b"ready\n").is_err() {
         return Err(ServerFault::Run);
     }
-    let settings = FrontSettings {
+    let settings = FrontEndSettings {
         connections: u64::from(connections),
         serves: 0,
     };
-    let _ = open_front(rt, alloc, settings, &stations, &desks, polls, gates)?;
-    Ok(desks)
+    let _ = open_front_end(
+        rt,
+        alloc,
+        settings,
+        &turn_scheduler,
+        &loop_handles,
+        polls,
+        served_servers,
+    )?;
+    Ok(loop_handles)
 }
 
 // Why a server ends whose worker rests.
@@ -294,12 +305,12 @@ fn idle_server<R: Wait + Copy + Drop>(
     rt: R,
     alloc: Global,
     settings: &ServerSettings,
-    shape: Shape,
+    concurrency: Concurrency,
 ) -> Result<Opened<R>, ServerFault>
     ensures worker { IfOk result (λ opened. let numbers = settings.now.numbers in
         BeginsAs (fresh numbers.id numbers.servers) opened.pooled.worker) }
     ensures pools { IfOk result (λ opened. HasOwnPools (core_of opened)) }
-    ensures inlets { IfOk result (λ opened. LeadsHome opened) }
+    ensures inlets { IfOk result (λ opened. LeadsControl opened) }
 {
     let servers = settings.numbers.servers;
     if servers == 0 || servers > SERVERS {
@@ -307,7 +318,7 @@ fn idle_server<R: Wait + Copy + Drop>(
     }
     let node = idle_node(alloc, settings.numbers.id, servers)?;
     let allowance = Allowance::new(settings.numbers.memory, 1);
-    match open_server(rt, alloc, node, servers, shape, allowance) {
+    match open_server(rt, alloc, node, servers, concurrency, allowance) {
         Ok(opened) => Ok(opened),
         Err(fault) => Err(ServerFault::from(fault)),
     }

@@ -4,10 +4,10 @@ ghost use Rattle.std.specs.Prelude.{◌≡◌, ◌⊎◌};
 use crate::banners::tell_cluster;
 use crate::cluster_faults::ClusterFault;
 use crate::clusters::Cluster;
+use crate::concurrency::Concurrency;
+use crate::controls::StopFault;
 use crate::file_limits::warn_of_files;
-use crate::homes::StopFault;
-use crate::shapes::Shape;
-use command_line::{DONE, FAILED, MEMORY, Numbers};
+use command_line::{ClusterNumbers, DONE, FAILED, MEMORY};
 use ends::{Sink, Source, write_all};
 use masters::{Answers, empty_line, next_line, server_named};
 use std::alloc::Global;
@@ -41,7 +41,7 @@ pub fn cluster<
 >(
     rt: R,
     alloc: Global,
-    numbers: Numbers,
+    numbers: ClusterNumbers,
     machine: Option<u64>,
     input: &mut S,
     output: &mut W,
@@ -75,7 +75,7 @@ fn steer<
 >(
     rt: R,
     alloc: Global,
-    numbers: Numbers,
+    numbers: ClusterNumbers,
     machine: Option<u64>,
     input: &mut S,
     output: &mut W,
@@ -83,10 +83,10 @@ fn steer<
 ) -> Result<(), ClusterFault> {
     let mut line = empty_line(alloc)?;
     let mut answers = Answers::new(alloc)?;
-    let shape = Shape::new(&rt, numbers.threads, numbers.seats);
-    let cluster = Cluster::open(rt, alloc, numbers, shape)?;
-    tell_cluster(numbers, shape, machine, errors);
-    warn_of_files(numbers.servers, numbers.connections, shape, errors);
+    let concurrency = Concurrency::new(&rt, numbers.threads, numbers.seats);
+    let cluster = Cluster::open(rt, alloc, numbers, concurrency)?;
+    tell_cluster(numbers, concurrency, machine, errors);
+    warn_of_files(numbers.servers, numbers.connections, concurrency, errors);
     match fail_named(
         &rt,
         numbers,
@@ -111,7 +111,7 @@ fn steer<
 // Says `ready`, and fails the servers that the input names, until it ends.
 fn fail_named<R: Wait + Clock + Copy + Drop + Send + 'static, S: Source, W: Sink, X: Sink>(
     rt: &R,
-    numbers: Numbers,
+    numbers: ClusterNumbers,
     cluster: &Cluster<R>,
     line: &mut Vec<u8>,
     answers: &mut Answers,

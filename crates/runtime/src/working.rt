@@ -1,6 +1,6 @@
 //! The thread of a worker that nobody helps.
 
-use io_threads::Desks;
+use io_threads::LoopHandles;
 use rail::{Links, RailFault, Turn, Worker};
 use seats::{Gauge, Mark};
 use std::alloc::Global;
@@ -12,7 +12,7 @@ pub struct Surroundings {
     /// The place of its server among those of the process.
     pub id: u8,
     /// The threads that serve clients.
-    pub desks: Arc<Desks, Global>,
+    pub loop_handles: Arc<LoopHandles, Global>,
     /// Whether the server's items may take more memory.
     pub gauge: Gauge,
     /// Set as soon as the server answers no more calls.
@@ -44,7 +44,7 @@ pub fn work<R: Wait + Drop, L: Links>(
     let rest = take_turns(rt, &mut worker, links, around);
     drop(worker);
     around.failed.set();
-    around.desks.wake_all();
+    around.loop_handles.wake_all();
     rest
 }
 
@@ -57,7 +57,7 @@ fn take_turns<R: Wait + Drop, L: Links>(
     for _ in rt.forever() {
         let turn = worker.turn(links);
         around.gauge.note(worker.weight());
-        around.desks.wake(around.id, worker.take_replied());
+        around.loop_handles.wake(around.id, worker.take_replied());
         if around.ended.is_set() {
             return Rest::Ended;
         }

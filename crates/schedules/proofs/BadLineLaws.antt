@@ -190,8 +190,8 @@ bad_homes all front rest m n first count split number counted servers h = elim (
         filter-append (λ l. not (is_passed_over l)) front x.passed ∙ rw (counted, x.none) refl in
         let both : counted_lines (before ++ x.line ∷ []) ≡ first ∷ x.line ∷ [] =
         one_counts before x.line x.counts ∙ ap (λ ls. ls ++ x.line ∷ []) only in
-        let place : m + length x.passed ≡ length before + 1 = omega (arith, length-append front x.passed) in
-        at before whole only both place o is e
+        let ordinal : m + length x.passed ≡ length before + 1 = omega (arith, length-append front x.passed) in
+        at before whole only both ordinal o is e
       where
         at : (before : List (List ℕ))
             → all ≡ before ++ x.line ∷ x.later
@@ -202,12 +202,12 @@ bad_homes all front rest m n first count split number counted servers h = elim (
             → (ok_or o (m + length x.passed) >>= (λ homes. events_of count (length homes)
             (counted_from (m + length x.passed + 1) x.later) >>= (λ events. Ok (shown count homes events))))
             ≡ Err n → IsFirstOf all n
-        at before whole only both place None is e =
+        at before whole only both ordinal None is e =
             record {
               before = before;
               others = x.line ∷ x.later;
               split = whole;
-              number = sym (same_Err _ n e) ∙ place;
+              number = sym (same_Err _ n e) ∙ ordinal;
               as_stated = rw only (count, servers);
               bad = λ st. not_homes (subst AreAsStated both st);
             }
@@ -219,10 +219,10 @@ bad_homes all front rest m n first count split number counted servers h = elim (
                 let read : homes_line count x.line ≡ Some hs =
                 homes_read count hs x.line (wide count servers.1) (subst (λ k. IsHomesLine k hs x.line) same hl) in
                 cc
-        at before whole only both place (Some homes) is e =
+        at before whole only both ordinal (Some homes) is e =
             bad_event count homes first x.line servers (homes_spelled count x.line homes (wide count servers.1) is)
             (length homes) all n x.later (before ++ x.line ∷ []) (m + length x.passed + 1)
-            [] [] (regrouped all before x.later x.line whole) (one_longer before x.line (m + length x.passed) place)
+            [] [] (regrouped all before x.later x.line whole) (one_longer before x.line (m + length x.passed) ordinal)
             both tt
             (only_error (events_of count (length homes) (counted_from (m + length x.passed + 1) x.later))
             (shown count homes) n e)

@@ -1,4 +1,4 @@
-pub mod Places
+pub mod Ordinals
 pub mod Texts
 pub mod HeadLaws
 pub mod EscapeLaws

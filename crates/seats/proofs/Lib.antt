@@ -4,6 +4,6 @@ pub mod Linked
 pub mod Pooled
 pub mod Submitted
 pub mod Looked
-pub mod TalkLaws
+pub mod ClientConnectionLaws
 pub mod Sent
 pub mod ServerBits

@@ -3,26 +3,26 @@ use Rattle.std.proofs.Common.{◌≡◌, ◌≢◌, ℕ, zero, suc, ◌<◌, ◌
 use Rattle.std.proofs.Common.{length, slice_index_or, slice_set, nat_lt, refl, ap, sym, arith}
 use Rattle.node.specs.declared.messages.Peer.{Peer}
 use Rattle.node.specs.declared.messages.Input.TheVariants.{From}
-use Rattle.rail.specs.declared.events.Event.{Event}
-use Rattle.rail.specs.declared.events.Event.TheVariants.{Took}
-use Rattle.seats.specs.declared.in_process_links.Link.{Link}
+use Rattle.rail.specs.declared.inbox_messages.InboxMessage.{InboxMessage}
+use Rattle.rail.specs.declared.inbox_messages.InboxMessage.TheVariants.{Took}
+use Rattle.seats.specs.declared.in_process_links.InboxLink.{InboxLink}
 use Rattle.seats.specs.InProcessLinks.{before_last, failures_at, last_brought, last_put, sent_at, sent_by, sent_on}
 use Rattle.seats.specs.InProcessLinks.{all_leads, leads, without_last}
 
--- after one event more the last one is that
-last_of : (to : ℕ) (i : ℕ) (peer : Peer) (es : List Event)
+-- after one inbox message more the last one is that
+last_of : (to : ℕ) (i : ℕ) (peer : Peer) (es : List InboxMessage)
     → last_brought to (es ++ Took (From i peer) ∷ []) ≡ (to, peer) ∷ []
 last_of to i peer [] = refl
 last_of to i peer (e ∷ []) = refl
 last_of to i peer (e ∷ (f ∷ es)) = last_of to i peer (f ∷ es)
 
-pub without : (e : Event) (es : List Event) → without_last (es ++ e ∷ []) ≡ es
+pub without : (e : InboxMessage) (es : List InboxMessage) → without_last (es ++ e ∷ []) ≡ es
 without e [] = refl
 without e (f ∷ []) = refl
 without e (f ∷ (h ∷ es)) = ap (λ w. f ∷ w) (without e (h ∷ es))
 
 -- the link at a place was given a message: it is the last one there
-pub put_at : (to i place : ℕ) (peer : Peer) (ls : List Link) (d x : Link) → place < length ls
+pub put_at : (to i place : ℕ) (peer : Peer) (ls : List InboxLink) (d x : InboxLink) → place < length ls
     → sent_by x.inlet ≡ sent_by (slice_index_or ls place d).inlet ++ Took (From i peer) ∷ []
     → last_put to place (sent_on (slice_set ls place x)) ≡ (to, peer) ∷ []
 put_at to i place peer [] d x within more = absurd (omega (arith, within))
@@ -30,7 +30,7 @@ put_at to i zero peer (l ∷ ls) d x within more = rw more (last_of to i peer (s
 put_at to i (suc place) peer (l ∷ ls) d x within more = put_at to i place peer ls d x (omega (arith, within)) more
 
 -- and what was sent before it is what was sent
-pub before_at : (i place : ℕ) (peer : Peer) (ls : List Link) (d x : Link) → place < length ls
+pub before_at : (i place : ℕ) (peer : Peer) (ls : List InboxLink) (d x : InboxLink) → place < length ls
     → sent_by x.inlet ≡ sent_by (slice_index_or ls place d).inlet ++ Took (From i peer) ∷ []
     → before_last place (sent_on (slice_set ls place x)) ≡ sent_on ls
 before_at i place peer [] d x within more = absurd (omega (arith, within))
@@ -42,7 +42,7 @@ before_at i (suc place) peer (l ∷ ls) d x within more =
     ap (λ rest. sent_by l.inlet ∷ rest) (before_at i place peer ls d x (omega (arith, within)) more)
 
 -- it was given just this
-pub given_at : (i place : ℕ) (peer : Peer) (ls : List Link) (d x : Link) → place < length ls
+pub given_at : (i place : ℕ) (peer : Peer) (ls : List InboxLink) (d x : InboxLink) → place < length ls
     → sent_by x.inlet ≡ sent_by (slice_index_or ls place d).inlet ++ Took (From i peer) ∷ []
     → sent_at (sent_on (slice_set ls place x)) place ≡ sent_at (sent_on ls) place ++ Took (From i peer) ∷ []
 given_at i place peer [] d x within more = absurd (omega (arith, within))
@@ -50,7 +50,7 @@ given_at i zero peer (l ∷ ls) d x within more = more
 given_at i (suc place) peer (l ∷ ls) d x within more = given_at i place peer ls d x (omega (arith, within)) more
 
 -- and the others nothing
-pub others_at : (place : ℕ) (ls : List Link) (x : Link) (j : ℕ)
+pub others_at : (place : ℕ) (ls : List InboxLink) (x : InboxLink) (j : ℕ)
     → j ≢ place
     → sent_at (sent_on (slice_set ls place x)) j ≡ sent_at (sent_on ls) j
 others_at place [] x j other = refl
@@ -60,7 +60,7 @@ others_at (suc place) (l ∷ ls) x zero other = refl
 others_at (suc place) (l ∷ ls) x (suc j) other = others_at place ls x j (λ same. other (ap suc same))
 
 -- the link at a place was given nothing
-pub unsent_at : (place : ℕ) (ls : List Link) (d x : Link) → place < length ls
+pub unsent_at : (place : ℕ) (ls : List InboxLink) (d x : InboxLink) → place < length ls
     → sent_by x.inlet ≡ sent_by (slice_index_or ls place d).inlet
     → sent_on (slice_set ls place x) ≡ sent_on ls
 unsent_at place [] d x within same = absurd (omega (arith, within))
@@ -69,7 +69,7 @@ unsent_at (suc place) (l ∷ ls) d x within same =
     ap (λ rest. sent_by l.inlet ∷ rest) (unsent_at place ls d x (omega (arith, within)) same)
 
 -- a link whose inlet leads where it led
-pub same_leads : (place : ℕ) (ls : List Link) (d x : Link) → place < length ls
+pub same_leads : (place : ℕ) (ls : List InboxLink) (d x : InboxLink) → place < length ls
     → leads x.inlet ≡ leads (slice_index_or ls place d).inlet
     → all_leads (slice_set ls place x) ≡ all_leads ls
 same_leads place [] d x within same = absurd (omega (arith, within))
@@ -78,7 +78,7 @@ same_leads (suc place) (l ∷ ls) d x within same =
     ap (λ rest. leads l.inlet ∷ rest) (same_leads place ls d x (omega (arith, within)) same)
 
 -- a link that has failed has failures
-pub failed_at : (place : ℕ) (ls : List Link) (x : Link)
+pub failed_at : (place : ℕ) (ls : List InboxLink) (x : InboxLink)
     → place < length ls
     → x.has_failed ≡ true
     → 0 < failures_at (slice_set ls place x) place
@@ -91,7 +91,7 @@ at_most true = omega arith
 at_most false = omega arith
 
 -- and none has fewer
-pub more_failed : (place : ℕ) (ls : List Link) (x : Link) (j : ℕ) → place < length ls → x.has_failed ≡ true
+pub more_failed : (place : ℕ) (ls : List InboxLink) (x : InboxLink) (j : ℕ) → place < length ls → x.has_failed ≡ true
     → failures_at ls j ≤ failures_at (slice_set ls place x) j
 more_failed place [] x j within bad = absurd (omega (arith, within))
 more_failed zero (l ∷ ls) x zero within bad = rw bad (at_most l.has_failed)
@@ -100,7 +100,7 @@ more_failed (suc place) (l ∷ ls) x zero within bad = omega arith
 more_failed (suc place) (l ∷ ls) x (suc j) within bad = more_failed place ls x j (omega (arith, within)) bad
 
 -- a link that is as it was has as many
-pub as_failed : (place : ℕ) (ls : List Link) (d x : Link) (j : ℕ) → place < length ls
+pub as_failed : (place : ℕ) (ls : List InboxLink) (d x : InboxLink) (j : ℕ) → place < length ls
     → x.has_failed ≡ (slice_index_or ls place d).has_failed
     → failures_at ls j ≤ failures_at (slice_set ls place x) j
 as_failed place [] d x j within same = absurd (omega (arith, within))
@@ -110,7 +110,7 @@ as_failed (suc place) (l ∷ ls) d x zero within same = omega arith
 as_failed (suc place) (l ∷ ls) d x (suc j) within same = as_failed place ls d x j (omega (arith, within)) same
 
 -- beyond the last link each has failed
-pub beyond : (place : ℕ) (ls : List Link) → length ls ≤ place → failures_at ls place ≡ 1
+pub beyond : (place : ℕ) (ls : List InboxLink) → length ls ≤ place → failures_at ls place ≡ 1
 beyond place [] out = refl
 beyond zero (l ∷ ls) out = absurd (omega (arith, out))
 beyond (suc place) (l ∷ ls) out = beyond place ls (omega (arith, out))
@@ -120,7 +120,7 @@ counts true = refl
 counts false = refl
 
 -- a link has failures exactly if it has failed
-pub tells_failed : (place : ℕ) (ls : List Link) (d : Link)
+pub tells_failed : (place : ℕ) (ls : List InboxLink) (d : InboxLink)
     → place < length ls
     → (slice_index_or ls place d).has_failed ≡ nat_lt 0 (failures_at ls place)
 tells_failed place [] d within = absurd (omega (arith, within))
@@ -128,7 +128,7 @@ tells_failed zero (l ∷ ls) d within = sym (counts l.has_failed)
 tells_failed (suc place) (l ∷ ls) d within = tells_failed place ls d (omega (arith, within))
 
 -- beyond the last link each has
-pub tells_beyond : (place : ℕ) (ls : List Link) → length ls ≤ place → true ≡ nat_lt 0 (failures_at ls place)
+pub tells_beyond : (place : ℕ) (ls : List InboxLink) → length ls ≤ place → true ≡ nat_lt 0 (failures_at ls place)
 tells_beyond place ls out = rw (beyond place ls out) refl
 
 -- what a message that is put on a link changes

@@ -3,15 +3,16 @@ use Rattle.std.proofs.Common.{◌≡◌, ◌∙◌, [], ◌∷◌, ◌++◌, Boo
 use Rattle.std.proofs.Common.{append_assoc, append-nil, inl, Result, Ok, Err, IfOk, OnErr, MatchOption, MatchResult}
 use Rattle.table.specs.declared.operations.Call.{Call}
 use Rattle.proto.specs.Turns.{Outcome, Refused, Replied}
-use Rattle.faces.specs.Courses.{Course}
+use Rattle.faces.specs.Histories.{History}
 use Rattle.faces.specs.Readers.{HasLookedAtMostOnce}
 use Rattle.serving.specs.Connections.{Connected, HasOutcome, IsLooked}
-use Rattle.serving.specs.declared.serving.ServeFault.{ServeFault}
+use Rattle.serving.specs.declared.endings.ServeFault.{ServeFault}
 use Rattle.seats.specs.Replies.{ShowsReply}
 use Rattle.seats.specs.SeatPools.{Pooling}
-use Rattle.seats.specs.Talks.{AreLookedFor, HasGoneByLooks, HasLooked, HasLookedFor, HasLookedOn, LeavesCall}
-use Rattle.seats.specs.declared.talks.Went.{Went}
-use Rattle.seats.specs.declared.talks.Went.TheVariants.{Input, Write, Seat, Reply, More, End}
+use Rattle.seats.specs.ClientConnections.{AreLookedFor, HasGoneByLooks, HasLooked, HasLookedFor, HasLookedOn}
+use Rattle.seats.specs.ClientConnections.{LeavesCall}
+use Rattle.seats.specs.declared.client_connections.Went.{Went}
+use Rattle.seats.specs.declared.client_connections.Went.TheVariants.{Input, Write, Seat, Reply, More, End}
 
 -- no call came to anything, and nothing was looked at
 pub looked_same : (c d : Connected) (p : Pooling) → d.calls ≡ c.calls → d.outcomes ≡ c.outcomes → HasLooked c d p p
@@ -27,7 +28,7 @@ looked_same c d p calls outcomes =
     }
 
 -- these calls, and then those
-looked_more : (cs ds : List Call) (os ps : List Outcome) (ls ms : List Course)
+looked_more : (cs ds : List Call) (os ps : List Outcome) (ls ms : List History)
     → AreLookedFor cs os ls
     → AreLookedFor ds ps ms
     → AreLookedFor (cs ++ ds) (os ++ ps) (ls ++ ms)

@@ -2,22 +2,22 @@
 use Rattle.std.proofs.Common.{◌∙◌, refl}
 use Rattle.table.specs.declared.operations.Call.{Call}
 use Rattle.table.specs.declared.operations.Reply.{Reply}
-use Rattle.faces.specs.Courses.{Course, IsLater}
+use Rattle.faces.specs.Histories.{History, IsLater}
 use Rattle.faces.proofs.Beginnings.{prefix_self, prefix_trans}
 use Rattle.rail.specs.Seats.{SeatState}
 use Rattle.seats.specs.Replies.{IsSubmitted}
 
--- a course is no earlier than itself
-pub later_same : (c : Course) → IsLater c c
+-- a history is no earlier than itself
+pub later_same : (c : History) → IsLater c c
 later_same c = record { origin = refl; inputs = prefix_self c.inputs }
 
--- what is later than a later course is later
-pub later_then : (first second third : Course) → IsLater first second → IsLater second third → IsLater first third
+-- what is later than a later history is later
+pub later_then : (first second third : History) → IsLater first second → IsLater second third → IsLater first third
 later_then first second third p q =
     record { origin = q.origin ∙ p.origin; inputs = prefix_trans _ _ _ p.inputs q.inputs }
 
 -- the server has replied, after a look
-pub submitted_then : (before looked after : Course) (seat last : SeatState) (call : Call) (reply : Reply)
+pub submitted_then : (before looked after : History) (seat last : SeatState) (call : Call) (reply : Reply)
     → IsLater before looked
     → IsSubmitted looked after seat last call reply
     → IsSubmitted before after seat last call reply

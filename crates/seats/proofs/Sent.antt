@@ -1,4 +1,4 @@
--- A leash may go to another thread, and a lease that a server renews be asked by several.
+-- An output permit may go to another thread, and a lease that a server renews be asked by several.
 use denote.RattleType.{RattleType}
 use denote.Param.Send.{IsSend, IsSync, sendable}
 use Rattle.std.proofs.Crossing.{crosses, Arc-send}
@@ -7,7 +7,7 @@ use Rattle.std.specs.declared.sync.atomic.Rule.{Ghosts}
 use Rattle.leases.specs.contracts.shared_leases.AnyEnd as AnyEnd
 use Rattle.leases.specs.contracts.shared_leases.AnyEndRule.TheImpl.{ghosts}
 use Rattle.leases.specs.contracts.shared_leases.SharedLease as SharedLease
-use Rattle.seats.specs.contracts.leashes.Leash as Leash
+use Rattle.seats.specs.contracts.output_permits.OutputPermit as OutputPermit
 
 -- a shared lease, whatever its rule is: its word says the same to every thread
 module _ (I : RattleType) (g : Ghosts I.Denot) where
@@ -35,6 +35,6 @@ shared_send = lease_send AnyEnd.the_row ghosts
 pub shared_sync : IsSync shared
 shared_sync = lease_sync AnyEnd.the_row ghosts
 
--- a leash may go to another thread
-pub leash_send : IsSend Leash.the_row
-leash_send = let lease = Arc-send shared shared_send shared_sync in search sendable depth 20
+-- an output permit may go to another thread
+pub output_permit_send : IsSend OutputPermit.the_row
+output_permit_send = let lease = Arc-send shared shared_send shared_sync in search sendable depth 20

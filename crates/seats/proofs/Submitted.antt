@@ -6,32 +6,32 @@ use Rattle.table.specs.declared.operations.Call.{Call}
 use Rattle.table.specs.declared.operations.Reply.{Reply}
 use Rattle.node.specs.declared.messages.Input.TheVariants.{Call as Called}
 use Rattle.node.specs.declared.messages.Output.TheVariants.{Reply as Replied}
-use Rattle.faces.specs.Courses.{Course, IsLater}
+use Rattle.faces.specs.Histories.{History, IsLater}
 use Rattle.faces.specs.Outputs.{PutsOut}
-use Rattle.rail.specs.declared.events.Event.{Event}
-use Rattle.rail.specs.declared.events.Event.TheVariants.{Took}
-use Rattle.rail.specs.Letters.{Letter}
+use Rattle.rail.specs.declared.inbox_messages.InboxMessage.{InboxMessage}
+use Rattle.rail.specs.declared.inbox_messages.InboxMessage.TheVariants.{Took}
+use Rattle.rail.specs.NotedReplies.{NotedReply}
 use Rattle.rail.specs.Seats.{SeatState, with_call, with_reply}
 use Rattle.seats.specs.InProcessLinks.{without_last}
 use Rattle.seats.specs.Replies.{HasAllReplies, IsSubmitted, call_of, calls_in, counted}
 use Rattle.seats.specs.Submitters.{Submitting, IsAnswered, IsLastCall, IsOpen, IsReplyAt, all_sent, last_call}
 use Rattle.seats.specs.Submitters.{open_at, stage_of, submitting, unused}
-use Rattle.seats.specs.declared.submitters.Stage.{Stage}
-use Rattle.seats.specs.declared.submitters.Stage.TheVariants.{Free, Read, Update, Lost}
+use Rattle.seats.specs.declared.submitters.SubmittedKind.{SubmittedKind}
+use Rattle.seats.specs.declared.submitters.SubmittedKind.TheVariants.{Free, Read, Update, Lost}
 use Rattle.seats.proofs.Linked.{without}
 
--- the call of the last event
-last_sent : (e : Event) (es : List Event) → last_call (es ++ e ∷ []) ≡ call_of e
+-- the call of the last inbox message
+last_sent : (e : InboxMessage) (es : List InboxMessage) → last_call (es ++ e ∷ []) ≡ call_of e
 last_sent e [] = refl
 last_sent e (f ∷ []) = refl
 last_sent e (f ∷ (h ∷ es)) = last_sent e (h ∷ es)
 
 -- a seat with this open call
-abbrev opened : SeatState → List Event → Option Call → Submitting
+abbrev opened : SeatState → List InboxMessage → Option Call → Submitting
 opened seat es call = record { seat = record seat { sent = es }; waiting = call; lost = false }
 
--- a seat whose last event is this call
-pub opened_at : (seat : SeatState) (es : List Event) (call : Call)
+-- a seat whose last inbox message is this call
+pub opened_at : (seat : SeatState) (es : List InboxMessage) (call : Call)
     → seat.sent ≡ es ++ Took (Called seat.port call) ∷ []
     → open_at seat ≡ record { seat = record seat { sent = es }; waiting = Some call; lost = false }
 opened_at seat es call sent =
@@ -56,7 +56,7 @@ pub opens : (seat : SeatState) (call : Call) → HasAllReplies seat → IsOpen (
 opens seat call all = opens_as seat call (is_update call.op) refl all
 
 -- a seat at which none is open has all replies
-replied_free : (stage : Stage) (seat : SeatState) → IsOpen stage seat → (submitting stage seat).waiting ≡ None
+replied_free : (stage : SubmittedKind) (seat : SeatState) → IsOpen stage seat → (submitting stage seat).waiting ≡ None
     → (stage ≡ Lost → ⊥)
     → HasAllReplies seat
 replied_free Free seat is free unlost = is
@@ -69,29 +69,30 @@ counted_more None n = refl
 counted_more (Some call) n = refl
 
 -- one call more
-calls_more : (es : List Event) (port : ℕ) (call : Call)
+calls_more : (es : List InboxMessage) (port : ℕ) (call : Call)
     → calls_in (es ++ Took (Called port call) ∷ []) ≡ suc (calls_in es)
 calls_more [] port call = refl
 calls_more (e ∷ es) port call =
     ap (counted (call_of e)) (calls_more es port call) ∙ counted_more (call_of e) (calls_in es)
 
-letters_more : (got : List Letter) (letter : Letter) → length (got ++ letter ∷ []) ≡ suc (length got)
-letters_more [] letter = refl
-letters_more (x ∷ got) letter = ap suc (letters_more got letter)
+more_noted_replies : (got : List NotedReply) (noted_reply : NotedReply)
+    → length (got ++ noted_reply ∷ []) ≡ suc (length got)
+more_noted_replies [] noted_reply = refl
+more_noted_replies (x ∷ got) noted_reply = ap suc (more_noted_replies got noted_reply)
 
 -- and so has one that took the reply to its open call
-replied_last : (seat : SeatState) (reply : Reply) (told : Course) (u : Bool) → IsLastCall seat u
+replied_last : (seat : SeatState) (reply : Reply) (told : History) (u : Bool) → IsLastCall seat u
     → HasAllReplies (with_reply seat reply told)
 replied_last seat reply told u l =
     ap calls_in l.sent ∙ (calls_more l.before seat.port l.call
-    ∙ (ap suc l.replied ∙ sym (letters_more seat.got (record { port = seat.port; reply = reply; told = told }))))
+    ∙ (ap suc l.replied ∙ sym (more_noted_replies seat.got (record { port = seat.port; reply = reply; told = told }))))
 
 at_stage : (seat : SeatState) (u : Bool) → submitting (if u then Update else Read) seat ≡ open_at seat
 at_stage seat true = refl
 at_stage seat false = refl
 
 -- and shows so
-pub sent_now : (stage : Stage) (seat : SeatState) (call : Call) → IsOpen stage seat
+pub sent_now : (stage : SubmittedKind) (seat : SeatState) (call : Call) → IsOpen stage seat
     → (submitting stage seat).waiting ≡ None
     → (submitting stage seat).lost ≡ false
     → submitting (stage_of call) (with_call seat call) ≡ record (submitting stage seat) { waiting = Some call }
@@ -102,7 +103,7 @@ sent_now Update seat call is free unlost = not_none seat true is free
 sent_now Lost seat call is free unlost = let no : true ≡ false = unlost in cc
 
 -- it is lost, and no call was open
-pub lost_now : (stage : Stage) (seat : SeatState) → IsOpen stage seat → (submitting stage seat).waiting ≡ None
+pub lost_now : (stage : SubmittedKind) (seat : SeatState) → IsOpen stage seat → (submitting stage seat).waiting ≡ None
     → submitting Lost seat ≡ record (submitting stage seat) { lost = true }
 lost_now Free seat is free = refl
 lost_now Read seat is free = not_none seat false is free
@@ -110,14 +111,15 @@ lost_now Update seat is free = not_none seat true is free
 lost_now Lost seat is free = refl
 
 -- all that was sent
-pub sent_at : (stage : Stage) (seat : SeatState) → IsOpen stage seat → all_sent (submitting stage seat) ≡ seat.sent
+pub sent_at : (stage : SubmittedKind) (seat : SeatState) → IsOpen stage seat
+    → all_sent (submitting stage seat) ≡ seat.sent
 sent_at Free seat is = refl
 sent_at Read seat is = ap all_sent (opened_at seat is.before is.call is.sent) ∙ sym is.sent
 sent_at Update seat is = ap all_sent (opened_at seat is.before is.call is.sent) ∙ sym is.sent
 sent_at Lost seat is = refl
 
 -- the open call has its reply
-module _ (before after told : Course) (seat : SeatState) (reply : Reply) (later : IsLater before after)
+module _ (before after told : History) (seat : SeatState) (reply : Reply) (later : IsLater before after)
     (learned : IsLater told after) (put_out : PutsOut told (Replied seat.port reply)) where
   answered_last : (u : Bool) → IsLastCall seat u → is_value reply ≡ not u
       → IsAnswered before after (open_at seat) (unused (with_reply seat reply told)) reply
@@ -133,7 +135,7 @@ module _ (before after told : Course) (seat : SeatState) (reply : Reply) (later 
           later = later;
           learned = learned;
           put_out = put_out;
-          sent = ap (λ (es : List Event).
+          sent = ap (λ (es : List InboxMessage).
               record seat { sent = es; got = seat.got ++ record { port = seat.port; reply = reply; told = told } ∷ [] })
               l.sent;
         };
@@ -142,7 +144,7 @@ module _ (before after told : Course) (seat : SeatState) (reply : Reply) (later 
         lost = (refl, refl);
       })
 
-  pub answered : (stage : Stage) → IsOpen stage seat → IsReplyAt stage reply
+  pub answered : (stage : SubmittedKind) → IsOpen stage seat → IsReplyAt stage reply
       → IsAnswered before after (submitting stage seat) (submitting Free (with_reply seat reply told)) reply
   answered Free is kind = let no : false ≡ true = kind in cc
   answered Read is kind = answered_last false is kind
@@ -158,14 +160,14 @@ abbrev call_or : Call → Option Call → Call
 call_or d None = d
 call_or d (Some c) = c
 
-pub same_call : (before after : Course) (s t : Submitting) (call : Call) (reply : Reply) → s.waiting ≡ Some call
+pub same_call : (before after : History) (s t : Submitting) (call : Call) (reply : Reply) → s.waiting ≡ Some call
     → (a : IsAnswered before after s t reply)
     → a.call ≡ call
 same_call before after s t call reply waits a =
     let same : Some a.call ≡ Some call = sym a.waits ∙ waits in
     ap (λ o. call_or call o) same
 
-pub answers_to : (before after : Course) (s t : Submitting) (call : Call) (reply : Reply) → s.waiting ≡ Some call
+pub answers_to : (before after : History) (s t : Submitting) (call : Call) (reply : Reply) → s.waiting ≡ Some call
     → IsAnswered before after s t reply
     → IsSubmitted before after s.seat t.seat call reply
 answers_to before after s t call reply waits a =
@@ -178,7 +180,7 @@ waits_last seat u l =
     subst (λ (s : Submitting). IsSome s.waiting) (sym (opened_at seat l.before l.call l.sent)) refl
 
 -- a read waits
-pub read_waits : (stage : Stage) (seat : SeatState) (s : Submitting) → stage ≡ Read → IsOpen stage seat
+pub read_waits : (stage : SubmittedKind) (seat : SeatState) (s : Submitting) → stage ≡ Read → IsOpen stage seat
     → submitting stage seat ≡ s
     → IsSome s.waiting
 read_waits stage seat s e is view =
@@ -186,7 +188,7 @@ read_waits stage seat s e is view =
     (waits_last seat false (subst (λ x. IsOpen x seat) e is))
 
 -- an update waits
-pub update_waits : (stage : Stage) (seat : SeatState) (s : Submitting) → stage ≡ Update → IsOpen stage seat
+pub update_waits : (stage : SubmittedKind) (seat : SeatState) (s : Submitting) → stage ≡ Update → IsOpen stage seat
     → submitting stage seat ≡ s
     → IsSome s.waiting
 update_waits stage seat s e is view =
@@ -194,7 +196,7 @@ update_waits stage seat s e is view =
     (waits_last seat true (subst (λ x. IsOpen x seat) e is))
 
 -- a call was sent at a seat with this value
-pub submit_sent : (stage next : Stage) (seat last : SeatState) (s : Submitting) (call : Call)
+pub submit_sent : (stage next : SubmittedKind) (seat last : SeatState) (s : Submitting) (call : Call)
     → submitting stage seat ≡ s
     → IsOpen stage seat
     → s.waiting ≡ None
@@ -207,7 +209,7 @@ submit_sent stage next seat last s call view is free unlost e f =
     ∙ (sent_at_stage stage seat call is (ap (λ (t : Submitting). t.waiting) view ∙ free) unlost
     ∙ ap (λ (t : Submitting). record t { waiting = Some call }) view))
   where
-    sent_at_stage : (stage : Stage) (seat : SeatState) (call : Call) → IsOpen stage seat
+    sent_at_stage : (stage : SubmittedKind) (seat : SeatState) (call : Call) → IsOpen stage seat
         → (submitting stage seat).waiting ≡ None
         → (stage ≡ Lost → ⊥)
         → submitting (stage_of call) (with_call seat call) ≡ record (submitting stage seat) { waiting = Some call }
@@ -216,7 +218,7 @@ submit_sent stage next seat last s call view is free unlost e f =
     sent_at_stage Update seat call is free unlost = not_none seat true is free
     sent_at_stage Lost seat call is free unlost = absurd (unlost refl)
 
-pub submit_opens : (stage next : Stage) (seat last : SeatState) (s : Submitting) (call : Call)
+pub submit_opens : (stage next : SubmittedKind) (seat last : SeatState) (s : Submitting) (call : Call)
     → submitting stage seat ≡ s
     → IsOpen stage seat
     → s.waiting ≡ None
@@ -230,7 +232,7 @@ submit_opens stage next seat last s call view is free unlost e f =
     (opens seat call (replied_free stage seat is (ap (λ (t : Submitting). t.waiting) view ∙ free) unlost)))
 
 -- a call wasn't sent
-pub submit_lost : (stage : Stage) (seat last : SeatState) (s : Submitting) → submitting stage seat ≡ s
+pub submit_lost : (stage : SubmittedKind) (seat last : SeatState) (s : Submitting) → submitting stage seat ≡ s
     → IsOpen stage seat
     → s.waiting ≡ None
     → last ≡ seat
@@ -241,7 +243,7 @@ submit_lost stage seat last s view is free e =
     ∙ ap (λ (t : Submitting). record t { lost = true }) view)
 
 -- a reply was taken
-pub take_answered : (before after told : Course) (stage next : Stage) (seat last : SeatState) (s : Submitting)
+pub take_answered : (before after told : History) (stage next : SubmittedKind) (seat last : SeatState) (s : Submitting)
     (reply given : Reply) → submitting stage seat ≡ s → IsOpen stage seat → next ≡ Free
     → last ≡ with_reply seat reply told
     → given ≡ reply
@@ -259,7 +261,7 @@ take_answered before after told stage next seat last s reply given view is e f s
     (answered before after told seat reply later learned put stage is kind))))
 
 -- nothing more was sent
-pub take_unsent : (stage next : Stage) (seat last : SeatState) (s : Submitting) → submitting stage seat ≡ s
+pub take_unsent : (stage next : SubmittedKind) (seat last : SeatState) (s : Submitting) → submitting stage seat ≡ s
     → IsOpen stage seat
     → all_sent (submitting next last) ≡ last.sent
     → last.sent ≡ seat.sent
@@ -268,14 +270,15 @@ take_unsent stage next seat last s view is shown same =
     shown ∙ (same ∙ (sym (sent_at stage seat is) ∙ ap all_sent view))
 
 -- a seat at which none is open shows what it sent
-pub free_sent : (next : Stage) (seat : SeatState) → next ≡ Free → all_sent (submitting next seat) ≡ seat.sent
+pub free_sent : (next : SubmittedKind) (seat : SeatState) → next ≡ Free → all_sent (submitting next seat) ≡ seat.sent
 free_sent next seat e = ap (λ x. all_sent (submitting x seat)) e
 
-pub lost_sent : (next : Stage) (seat : SeatState) → next ≡ Lost → all_sent (submitting next seat) ≡ seat.sent
+pub lost_sent : (next : SubmittedKind) (seat : SeatState) → next ≡ Lost → all_sent (submitting next seat) ≡ seat.sent
 lost_sent next seat e = ap (λ x. all_sent (submitting x seat)) e
 
 -- it took the reply to its open call
-pub take_replied : (stage next : Stage) (seat last : SeatState) (reply : Reply) (told : Course) → IsOpen stage seat
+pub take_replied : (stage next : SubmittedKind) (seat last : SeatState) (reply : Reply) (told : History)
+    → IsOpen stage seat
     → next ≡ Free
     → last ≡ with_reply seat reply told
     → IsReplyAt stage reply
@@ -283,14 +286,15 @@ pub take_replied : (stage next : Stage) (seat last : SeatState) (reply : Reply) 
 take_replied stage next seat last reply told is e f kind =
     subst (λ x. IsOpen x last) (sym e) (subst HasAllReplies (sym f) (by stage is kind))
   where
-    by : (stage : Stage) → IsOpen stage seat → IsReplyAt stage reply → HasAllReplies (with_reply seat reply told)
+    by : (stage : SubmittedKind) → IsOpen stage seat → IsReplyAt stage reply
+        → HasAllReplies (with_reply seat reply told)
     by Free is kind = let no : false ≡ true = kind in cc
     by Read is kind = replied_last seat reply told false is
     by Update is kind = replied_last seat reply told true is
     by Lost is kind = let no : false ≡ true = kind in cc
 
 -- a seat that shows so is lost
-pub lost_stage : (stage : Stage) (seat : SeatState) (s : Submitting) → submitting stage seat ≡ s → s.lost ≡ true
+pub lost_stage : (stage : SubmittedKind) (seat : SeatState) (s : Submitting) → submitting stage seat ≡ s → s.lost ≡ true
     → stage ≡ Lost
 lost_stage Free seat s view lost = let no : false ≡ true = ap (λ (t : Submitting). t.lost) view ∙ lost in cc
 lost_stage Read seat s view lost = let no : false ≡ true = ap (λ (t : Submitting). t.lost) view ∙ lost in cc

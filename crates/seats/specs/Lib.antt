@@ -4,4 +4,4 @@ pub mod Reached
 pub mod ServerSets
 pub mod Submitters
 pub mod SeatPools
-pub mod Talks
+pub mod ClientConnections

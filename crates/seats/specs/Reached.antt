@@ -1,7 +1,7 @@
 -- The links of one server to the others of its process, and whom they were given something for.
 use Rattle.std.specs.Prelude.{◌≡◌, ℕ, List}
 use Rattle.node.specs.declared.messages.Peer.{Peer}
-use Rattle.rail.specs.declared.events.Event.{Event}
+use Rattle.rail.specs.declared.inbox_messages.InboxMessage.{InboxMessage}
 use Rattle.seats.specs.declared.in_process_links.InProcessLinks.{InProcessLinks}
 use Rattle.seats.specs.declared.server_sets.ServerSet.{ServerSet}
 use Rattle.seats.specs.InProcessLinks.{all_put, failures_at, sent_at, sent_on}
@@ -16,7 +16,7 @@ module _ {R : Type 0} (links : InProcessLinks R) where
   put_on = all_put links.receivers (sent_on links.links.items)
 
   -- what the link to a server was given
-  abbrev pub given_to : ℕ → List Event
+  abbrev pub given_to : ℕ → List InboxMessage
   given_to = sent_at (sent_on links.links.items)
 
   -- whether that link has failed, as a count

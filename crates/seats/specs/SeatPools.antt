@@ -1,15 +1,15 @@
 -- The seats of one thread at one server.
 use Rattle.std.specs.Prelude.{◌≡◌, ◌≤◌, ◌<◌, ◌+◌, ℕ, suc, List, [], ◌∷◌, ◌++◌, None, All, length}
-use Rattle.faces.specs.Courses.{Course, Origin}
+use Rattle.faces.specs.Histories.{History, Origin}
 use Rattle.faces.specs.Readers.{Looking}
 use Rattle.seats.specs.Submitters.{Submitting}
 
--- What a pool's reader has seen or was told of, and each course whose face stood when it looked; its seats at which no
+-- What a pool's reader has seen or was told of, and each history whose face stood when it looked; its seats at which no
 -- call is open, the next one last; those for whose replies nobody waits any more; and how many it has, with those that
 -- were taken out.
 pub record Pooling : Type 0 where
-  pub seen : Course
-  pub looks : List Course
+  pub seen : History
+  pub looks : List History
   pub free : List Submitting
   pub left : List Submitting
   pub seats : ℕ

@@ -4,7 +4,7 @@ ghost use Rattle.std.specs.Prelude.{OnOk, OnErr, IfErr, MatchResult};
 ghost use Rattle.node.specs.Lawful.{IsBody, IsFit};
 ghost use Rattle.node.specs.declared.messages.Input.TheVariants.{From};
 ghost use Rattle.node.specs.declared.messages.Output.TheVariants.{To};
-ghost use Rattle.rail.specs.declared.events.Event.TheVariants.{Took};
+ghost use Rattle.rail.specs.declared.inbox_messages.InboxMessage.TheVariants.{Took};
 ghost use Rattle.rail.specs.declared.faults.RailFault.TheVariants.{Memory, LinkDown};
 ghost use Rattle.seats.specs.InProcessLinks.{all_leads, before_last, failures_at, last_put, sent_at, sent_on};
 ghost use Rattle.seats.specs.Reached.{HasSameLinks, failures_of, given_to, id_of, put_on, reached_of};
@@ -19,7 +19,7 @@ use std::sync::Wait;
 
 /// The link to one server: an inlet of its worker, unless there is none, as to itself.
 #[derive(Drop)]
-pub struct Link {
+pub struct InboxLink {
     /// Brings the messages.
     pub inlet: Option<Inlet>,
     /// Whether a message could not be brought.
@@ -31,26 +31,26 @@ pub struct Link {
 pub struct InProcessLinks<R: Wait + Drop> {
     rt: R,
     id: u8,
-    links: Vec<Link>,
+    links: Vec<InboxLink>,
     receivers: Receivers,
     // The servers that were sent something since this was last asked for.
     reached: ServerSet,
 }
 
-impl Link {
+impl InboxLink {
     ghost use Rattle.std.specs.Prelude.{◌≡◌, ◌∷◌, ◌++◌, [], true, is_none, OnOk, OnErr, IfErr};
     ghost use Rattle.node.specs.Lawful.{IsBody};
     ghost use Rattle.node.specs.declared.messages.Input.TheVariants.{From};
-    ghost use Rattle.rail.specs.declared.events.Event.TheVariants.{Took};
+    ghost use Rattle.rail.specs.declared.inbox_messages.InboxMessage.TheVariants.{Took};
     ghost use Rattle.seats.specs.InProcessLinks.{leads, sent_by};
 
     /// A link that hasn't failed, or has if there is no inlet.
-    pub fn new(inlet: Option<Inlet>) -> Link
+    pub fn new(inlet: Option<Inlet>) -> InboxLink
         ensures inlet { result.inlet ≡ inlet }
         ensures failed { result.has_failed ≡ is_none inlet }
     {
         let has_failed = inlet.is_none();
-        Link { inlet, has_failed }
+        InboxLink { inlet, has_failed }
     }
 
     // Brings a message of server `id`. If it can't be brought the link has failed.
@@ -78,7 +78,7 @@ impl Link {
 
 impl<R: Wait + Drop> InProcessLinks<R> {
     /// The links of server `id`, each at the place of the id of the server it goes to, over which nothing was put.
-    pub fn new(rt: R, id: u8, links: Vec<Link>) -> InProcessLinks<R>
+    pub fn new(rt: R, id: u8, links: Vec<InboxLink>) -> InProcessLinks<R>
         ensures id { result.id ≡ id }
         ensures list { result.receivers ≡ [] }
         ensures links { result.links.items ≡ links.items }
@@ -109,13 +109,13 @@ impl<R: Wait + Drop> InProcessLinks<R> {
 impl<R: Wait + Drop> Links for InProcessLinks<R> {
     ghost use Rattle.std.specs.Prelude.{◌∷◌, []};
     ghost use Rattle.node.specs.declared.messages.Input.TheVariants.{From};
-    ghost use Rattle.rail.specs.declared.events.Event.{Event};
-    ghost use Rattle.rail.specs.declared.events.Event.TheVariants.{Took};
+    ghost use Rattle.rail.specs.declared.inbox_messages.InboxMessage.{InboxMessage};
+    ghost use Rattle.rail.specs.declared.inbox_messages.InboxMessage.TheVariants.{Took};
     ghost use Rattle.seats.specs.InProcessLinks.{all_put, failures_at, sent_at, sent_on};
 
-    ghost Carried = { Event };
+    ghost Carried = { InboxMessage };
 
-    // A message is on a wire as the event that it comes from the server of these links.
+    // A message is on a wire as the inbox message that it comes from the server of these links.
     ghost state = { λ s. record {
       list = all_put s.receivers (sent_on s.links.items);
       failures = failures_at s.links.items;
@@ -154,7 +154,7 @@ impl<R: Wait + Drop> Links for InProcessLinks<R> {
 
 // Whether the link to a server has failed.
 #[tactic(auto, using(crate::proofs::Linked::tells_failed, crate::proofs::Linked::tells_beyond))]
-fn has_failed(links: &[Link], to: u8) -> bool
+fn has_failed(links: &[InboxLink], to: u8) -> bool
     ensures { result ≡ nat_lt 0 (failures_at links.now to) }
 {
     let place = usize::from(to);
@@ -169,7 +169,7 @@ fn has_failed(links: &[Link], to: u8) -> bool
 #[tactic(auto, using(crate::proofs::Linked::putting))]
 fn bring_to<R: Wait>(
     rt: &R,
-    links: &mut Vec<Link>,
+    links: &mut Vec<InboxLink>,
     id: u8,
     to: u8,
     peer: Peer,

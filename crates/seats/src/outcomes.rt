@@ -1,12 +1,12 @@
 //! What one call of a connection comes to at once: it is refused, or has its reply.
 ghost use Rattle.std.specs.Prelude.{◌≡◌, true, IfOk, IsTrue, MatchBool, OnErr, OnOk};
 ghost use Rattle.proto.specs.Turns.{Outcome, Replied, is_store};
-ghost use Rattle.faces.specs.Courses.{IsLater};
+ghost use Rattle.faces.specs.Histories.{IsLater};
 ghost use Rattle.faces.specs.Readers.{HasLookedAtMostOnce};
 ghost use Rattle.serving.specs.Connections.{HasOutcome, MayHave};
 ghost use Rattle.serving.specs.Serving.{CameTo};
 ghost use Rattle.serving.specs.Wanted.{IsAsking};
-ghost use Rattle.seats.specs.Talks.{HasLookedFor, IsReplied};
+ghost use Rattle.seats.specs.ClientConnections.{HasLookedFor, IsReplied};
 
 use crate::seat_pools::SeatPool;
 use rail::Told;
@@ -22,7 +22,7 @@ pub(crate) fn is_refused(pool: &SeatPool, call: &Call) -> bool
 
 /// Has the call that waits answered by a look, or refuses it: then it isn't looked at. Whether either came of it. It is
 /// an error if the server is marked, or memory is out.
-#[tactic(auto, using(crate::proofs::Seated::later_then, crate::proofs::TalkLaws::known_now, crate::proofs::TalkLaws::peeked_came))]
+#[tactic(auto, using(crate::proofs::Seated::later_then, crate::proofs::ClientConnectionLaws::known_now, crate::proofs::ClientConnectionLaws::peeked_came))]
 pub(crate) fn settle(
     connection: &mut Connection,
     seen: &mut Told,

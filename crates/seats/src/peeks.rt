@@ -2,7 +2,7 @@
 ghost use Rattle.std.specs.Prelude.{◌≡◌, ◌++◌, ◌∷◌, [], Option, IfSome, OnSome};
 ghost use Rattle.table.specs.declared.items.Item.{Item};
 ghost use Rattle.table.specs.declared.operations.Reply.TheVariants.{Value};
-ghost use Rattle.faces.specs.Courses.{IsLater};
+ghost use Rattle.faces.specs.Histories.{IsLater};
 ghost use Rattle.faces.specs.Readers.{HasLookedAtMostOnce};
 ghost use Rattle.seats.specs.Replies.{ShowsClean};
 

@@ -62,7 +62,7 @@ impl SeatPool {
     ghost use Rattle.std.specs.Prelude.{IfOk, IfSome, IsTrue, MatchOption, OnErr, OnOk, OnSome};
     ghost use Rattle.table.specs.declared.items.Item.{Item};
     ghost use Rattle.table.specs.declared.operations.Reply.TheVariants.{Value};
-    ghost use Rattle.faces.specs.Courses.{IsLater};
+    ghost use Rattle.faces.specs.Histories.{IsLater};
     ghost use Rattle.faces.specs.Readers.{HasLookedAtMostOnce};
     ghost use Rattle.seats.specs.Replies.{HasAllReplies, ShowsClean};
     ghost use Rattle.seats.specs.SeatPools.{HasAllSeats, HasSameReader, HasSameSeats, IsAt, IsFreeAt, IsOneOut, here};

@@ -1,6 +1,6 @@
 //! Seats at which a call is sent, and its reply is taken later.
 ghost use Rattle.std.specs.Prelude.{◌≡◌, IfOk, OnOk, MatchResult};
-ghost use Rattle.faces.specs.Courses.{IsLater};
+ghost use Rattle.faces.specs.Histories.{IsLater};
 ghost use Rattle.seats.specs.Submitters.{IsReplyAt, is_reply_at, stage_of};
 
 use rail::{Reader, Seat, Told};
@@ -11,7 +11,7 @@ use table::{Call, Reply};
 
 /// What waits at a seat.
 #[derive(Clone, Copy, PartialEq, Eq)]
-pub enum Stage {
+pub enum SubmittedKind {
     /// No call.
     Free,
     /// A read, whose reply is an item, or none.
@@ -28,7 +28,7 @@ pub enum Stage {
 #[derive(Drop)]
 pub struct Submitter {
     seat: Seat,
-    stage: Stage,
+    stage: SubmittedKind,
 }
 
 impl Model for Submitter {
@@ -51,7 +51,7 @@ impl Submitter {
     ghost use Rattle.std.specs.Prelude.{◌≡◌, true, None, Some, Option, IsSome};
     ghost use Rattle.std.specs.Prelude.{OnOk, OnErr, IfOk, IsErr, MatchBool, MatchOption};
     ghost use Rattle.node.specs.Lawful.{IsCall};
-    ghost use Rattle.faces.specs.Courses.{IsLater};
+    ghost use Rattle.faces.specs.Histories.{IsLater};
     ghost use Rattle.seats.specs.Replies.{HasAllReplies};
     ghost use Rattle.seats.specs.Submitters.{IsAnswered, all_sent, unused};
 
@@ -62,7 +62,7 @@ impl Submitter {
     {
         Submitter {
             seat,
-            stage: Stage::Free,
+            stage: SubmittedKind::Free,
         }
     }
 
@@ -71,10 +71,10 @@ impl Submitter {
         ensures { MatchBool result (self.now.waiting ≡ None) (IsSome self.now.waiting) }
     {
         match self.stage {
-            Stage::Free => true,
-            Stage::Read => false,
-            Stage::Update => false,
-            Stage::Lost => true,
+            SubmittedKind::Free => true,
+            SubmittedKind::Read => false,
+            SubmittedKind::Update => false,
+            SubmittedKind::Lost => true,
         }
     }
 
@@ -87,7 +87,7 @@ impl Submitter {
         ensures err { OnErr result (self.new ≡ record self.old { lost = true }) }
         ensures spent { self.old.lost ≡ true → IsErr result }
     {
-        if let Stage::Lost = self.stage {
+        if let SubmittedKind::Lost = self.stage {
             drop(call);
             return Err(CallFault);
         }
@@ -99,7 +99,7 @@ impl Submitter {
             }
             Err(back) => {
                 drop(back);
-                self.stage = Stage::Lost;
+                self.stage = SubmittedKind::Lost;
                 Err(CallFault)
             }
         }
@@ -123,9 +123,9 @@ impl Submitter {
         ensures spent { self.old.lost ≡ true → IsErr result }
     {
         match self.stage {
-            Stage::Free => return Ok(None),
-            Stage::Lost => return Err(CallFault),
-            Stage::Read | Stage::Update => {}
+            SubmittedKind::Free => return Ok(None),
+            SubmittedKind::Lost => return Err(CallFault),
+            SubmittedKind::Read | SubmittedKind::Update => {}
         }
         match self.seat.reply_if_any(rt) {
             Ok(None) => Ok(None),
@@ -134,7 +134,7 @@ impl Submitter {
                 Ok(Some(reply))
             }
             Err(_) => {
-                self.stage = Stage::Lost;
+                self.stage = SubmittedKind::Lost;
                 Err(CallFault)
             }
         }
@@ -142,19 +142,19 @@ impl Submitter {
 }
 
 // What is open once a call is sent.
-fn stage_of(call: &Call) -> Stage
+fn stage_of(call: &Call) -> SubmittedKind
     ensures { result ≡ stage_of call.now }
 {
     if call.op.is_update() {
-        Stage::Update
+        SubmittedKind::Update
     } else {
-        Stage::Read
+        SubmittedKind::Read
     }
 }
 
 // Takes a reply to the open call, and learns what comes with it. Refused if it isn't one to such a call.
 fn hear(
-    stage: &mut Stage,
+    stage: &mut SubmittedKind,
     reader: &mut Reader,
     reply: Reply,
     told: Told,
@@ -165,26 +165,26 @@ fn hear(
     ensures looks { reader.new.looks ≡ reader.old.looks }
     ensures reply { IfOk result (λ given. given ≡ reply) }
     ensures kind { OnOk result (IsReplyAt stage.old reply) }
-    ensures stage { MatchResult result (λ _. stage.new ≡ Stage.Free) (λ _. stage.new ≡ Stage.Lost) }
+    ensures stage { MatchResult result (λ _. stage.new ≡ SubmittedKind.Free) (λ _. stage.new ≡ SubmittedKind.Lost) }
 {
     reader.learn(told);
     if is_reply_at(*stage, &reply) {
-        *stage = Stage::Free;
+        *stage = SubmittedKind::Free;
         Ok(reply)
     } else {
-        *stage = Stage::Lost;
+        *stage = SubmittedKind::Lost;
         Err(CallFault)
     }
 }
 
 // Whether a reply is one to such a call.
-fn is_reply_at(stage: Stage, reply: &Reply) -> bool
+fn is_reply_at(stage: SubmittedKind, reply: &Reply) -> bool
     ensures { result ≡ is_reply_at stage reply.now }
 {
     let shows = matches!(reply, Reply::Value(_));
     match stage {
-        Stage::Read => shows,
-        Stage::Update => !shows,
-        Stage::Free | Stage::Lost => false,
+        SubmittedKind::Read => shows,
+        SubmittedKind::Update => !shows,
+        SubmittedKind::Free | SubmittedKind::Lost => false,
     }
 }

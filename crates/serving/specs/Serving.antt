@@ -3,8 +3,8 @@ use Rattle.std.specs.Prelude.{◌≡◌, Bool, true, false, List, [], ◌∷◌}
 use Rattle.table.specs.declared.operations.Call.{Call}
 use Rattle.table.specs.declared.operations.Reply.{Reply}
 use Rattle.proto.specs.Turns.{Outcome, Replied, Refused, is_store}
-use Rattle.serving.specs.declared.serving.End.{End}
-use Rattle.serving.specs.declared.serving.End.TheVariants.{Input, Closed}
+use Rattle.serving.specs.declared.endings.End.{End}
+use Rattle.serving.specs.declared.endings.End.TheVariants.{Input, Closed}
 
 -- A call came to this, and made of the value of whoever answers calls another one: a reply, by what `answers` says of a
 -- call, its reply, and the values before and after it; or it was refused: then it stores, and wasn't made, so the value

@@ -5,7 +5,7 @@ use Rattle.table.specs.declared.operations.Target.{Target}
 use Rattle.table.specs.declared.operations.Op.{Op}
 use Rattle.proto.specs.declared.sessions.Step.{Step}
 use Rattle.proto.specs.declared.sessions.Step.TheVariants.{Call as Opens, Emit, Wait, Close}
-use Rattle.serving.specs.declared.serving.End.TheVariants.{Input}
+use Rattle.serving.specs.declared.endings.End.TheVariants.{Input}
 use Rattle.serving.specs.declared.connections.Wants.{Wants}
 use Rattle.serving.specs.declared.connections.Wants.TheVariants.{Call, Write, Read, End}
 use Rattle.serving.specs.declared.connections.TheConstants.{OUTPUT}

@@ -2,8 +2,8 @@
 ghost use Rattle.std.specs.Prelude.{◌≡◌, ◌∷◌, [], length};
 ghost use Rattle.table.specs.declared.operations.Reply.{Reply};
 
+use crate::endings::End;
 use crate::outcomes::Outcomes;
-use crate::serving::End;
 use ends::Passed;
 use proto::{Session, Step};
 use std::alloc::{AllocError, Global};

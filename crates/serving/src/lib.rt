@@ -3,9 +3,9 @@
 
 mod calls;
 mod connections;
+mod endings;
 mod outcomes;
-mod serving;
 
 pub use calls::{CallFault, stores};
 pub use connections::{Connection, OUTPUT, Wants};
-pub use serving::{End, ServeFault};
+pub use endings::{End, ServeFault};

@@ -1,3 +1,3 @@
 pub mod Maps
 pub mod Digits
-pub mod PlaceLaws
+pub mod TreeKeyLaws

@@ -22,18 +22,18 @@ IsKey bytes = IsTrue (is_key bytes)
 abbrev pub key_cmp : List ℕ → List ℕ → Ordering
 key_cmp = slice_cmp nat_cmp
 
--- the mark of some bytes and one more
-abbrev pub mark_with : ℕ → ℕ → ℕ
-mark_with mark b = (((mark + b) % (2 ^ 64)) * 11400714819323198485) % (2 ^ 64)
+-- the hash of some bytes and one more
+abbrev pub hash_with : ℕ → ℕ → ℕ
+hash_with hash b = (((hash + b) % (2 ^ 64)) * 11400714819323198485) % (2 ^ 64)
 
--- the mark of a key: a number that its bytes make, so that keys that follow one another lie far apart
-unfoldable pub mark_of : List ℕ → ℕ
-mark_of bytes = fold mark_with 0 bytes
+-- the hash of a key: a number that its bytes make, so that keys that follow one another lie far apart
+unfoldable pub hash_of : List ℕ → ℕ
+hash_of bytes = fold hash_with 0 bytes
 
--- where a key stands in a tree: by its mark, and then by its bytes
-abbrev pub place_of : List ℕ → List ℕ
-place_of key = mark_of key ∷ key
+-- where a key stands in a tree: by its hash, and then by its bytes
+abbrev pub tree_key_of : List ℕ → List ℕ
+tree_key_of key = hash_of key ∷ key
 
--- keys in the order of their places
-abbrev pub place_cmp : List ℕ → List ℕ → Ordering
-place_cmp a b = slice_cmp nat_cmp (place_of a) (place_of b)
+-- keys in the order of their tree keys
+abbrev pub tree_key_cmp : List ℕ → List ℕ → Ordering
+tree_key_cmp a b = slice_cmp nat_cmp (tree_key_of a) (tree_key_of b)

@@ -7,7 +7,7 @@ ghost use Rattle.std.specs.Cmp.Lexicographic.{pointwise};
 ghost use Rattle.std.specs.Cmp.{partial_equiv_from_equiv};
 ghost use Rattle.table.specs.Keys.{IsKey, is_key, is_key_byte};
 
-use crate::Place;
+use crate::TreeKey;
 use bytes::Bytes;
 use std::alloc::{AllocError, Global};
 use std::cmp::Ordering;
@@ -18,7 +18,7 @@ use std::marker::Model;
 /// Contracts see a key as its bytes. A clone shares them.
 #[derive(Debug, Drop)]
 pub struct Key {
-    place: Place,
+    tree_key: TreeKey,
 }
 
 impl Model for Key {
@@ -26,7 +26,7 @@ impl Model for Key {
 
     ghost Value = { List ℕ };
 
-    ghost view = { λ key. key.place };
+    ghost view = { λ key. key.tree_key };
 }
 
 impl Key {
@@ -44,7 +44,7 @@ impl Key {
         }
         let bytes = Bytes::copy_from_slice(alloc, bytes)?;
         Ok(Some(Key {
-            place: Place::new(bytes),
+            tree_key: TreeKey::new(bytes),
         }))
     }
 
@@ -55,18 +55,18 @@ impl Key {
         ensures valid { IsSome result ↔ IsKey bytes }
     {
         if is_key(bytes.as_slice()) {
-            let place = Place::new(bytes);
-            Some(Key { place })
+            let tree_key = TreeKey::new(bytes);
+            Some(Key { tree_key })
         } else {
             None
         }
     }
 
     // The key that stands there.
-    pub(crate) fn at(place: Place) -> Key
-        ensures { result ≡ place }
+    pub(crate) fn at(tree_key: TreeKey) -> Key
+        ensures { result ≡ tree_key }
     {
-        Key { place }
+        Key { tree_key }
     }
 
     /// The bytes of the key.
@@ -74,21 +74,21 @@ impl Key {
         ensures bytes { result.now ≡ self.now }
         ensures valid { IsKey self.now }
     {
-        self.place.bytes()
+        self.tree_key.bytes()
     }
 
     /// The key as a tree holds it.
-    pub fn place(&self) -> &Place
+    pub fn tree_key(&self) -> &TreeKey
         ensures { result.now ≡ self.now }
     {
-        &self.place
+        &self.tree_key
     }
 
     /// A copy of the key as a tree holds it, which shares the bytes. Refused only if memory is out.
-    pub fn to_place(&self) -> Result<Place, AllocError>
-        ensures { IfOk result (λ place. place ≡ self.now) }
+    pub fn to_tree_key(&self) -> Result<TreeKey, AllocError>
+        ensures { IfOk result (λ tree_key. tree_key ≡ self.now) }
     {
-        self.place.copy()
+        self.tree_key.copy()
     }
 }
 
@@ -116,7 +116,7 @@ impl Clone for Key {
     ghost is_clone = { λ key copy. copy ≡ key };
 
     fn clone(&self) -> Result<Key, AllocError> {
-        self.place.key()
+        self.tree_key.key()
     }
 }
 

@@ -6,13 +6,13 @@ mod items;
 mod keys;
 mod numbers;
 mod operations;
-mod places;
 mod plain;
+mod tree_keys;
 
 pub use decisions::decide;
 pub use items::{Item, LIMIT};
 pub use keys::{Key, are_key_bytes, is_key};
 pub use numbers::number;
 pub use operations::{Call, Change, Op, Reply, Target};
-pub use places::Place;
 pub use plain::{Table, TableFault};
+pub use tree_keys::TreeKey;

@@ -9,7 +9,7 @@ use self::running::{
 };
 use node::{Look, Peer};
 use rail::{
-    Links, PortSet, Published, RailFault, Reader, Room, Server, Stand, Turn, Weight, Worker,
+    Links, PortSet, Published, RailFault, Reader, Room, Server, ThreadHandle, Turn, Weight, Worker,
 };
 use std::alloc::{AllocError, Global};
 use std::sync::Wait;
@@ -71,7 +71,8 @@ fn stop_ends_open_calls(rt: HostRuntime) -> Result<(), Fail> {
     Ok(())
 }
 
-// Whether a worker takes these steps, and then a stand and an inlet outlive it, which are refused what they send.
+// Whether a worker takes these steps, and then a thread handle and an inlet outlive it, which are refused what they
+// send.
 fn outlive<R: Wait + Drop + Copy>(rt: R, alloc: Global, steps: &[Step]) -> Result<bool, RailFault> {
     let mut server = first_of(rt, alloc, 2, 1)?;
     let went = go_on(&rt, alloc, &mut server, steps);
@@ -204,7 +205,7 @@ impl<'a, R: Clock> Links for Held<'a, R> {
 // thread.
 fn looks_beside<R: Clock>(
     clock: &R,
-    stand: &mut Stand,
+    thread_handle: &mut ThreadHandle,
     b: &Key,
     entered: &AtomicU64,
     looked: &AtomicU64,
@@ -212,16 +213,16 @@ fn looks_beside<R: Clock>(
     if !is_set_soon(clock, entered) {
         return Err(AllocError);
     }
-    let clean = finds_none(&mut stand.reader, b);
+    let clean = finds_none(&mut thread_handle.reader, b);
     looked.store(1, Ordering::SeqCst);
     Ok(clean)
 }
 
-// Whether a stand looks in time at a key without item, while the worker's turn waits at a link.
+// Whether a thread handle looks in time at a key without item, while the worker's turn waits at a link.
 fn looks_while_held<R: Wait + Threads + Clock + Send + Sync + Drop>(
     rt: &R,
     worker: &mut Worker<R>,
-    stand: &mut Stand,
+    thread_handle: &mut ThreadHandle,
     b: &Key,
 ) -> Result<bool, RailFault> {
     let entered = AtomicU64::new(0);
@@ -241,7 +242,7 @@ fn looks_while_held<R: Wait + Threads + Clock + Send + Sync + Drop>(
             entered.store(1, Ordering::SeqCst);
             turned
         },
-        || looks_beside(rt, stand, b, &entered, &looked),
+        || looks_beside(rt, thread_handle, b, &entered, &looked),
     );
     let went = turned? == Turn::Went;
     let clean = clean?;

@@ -6,10 +6,10 @@ use Rattle.std.specs.List.{range_with_len}
 use Rattle.std.proofs.lemmas.Bool.{and_right, eq-eqb, ne_eqb}
 use Rattle.std.proofs.lemmas.Option.{same_Some}
 use Rattle.schedules.specs.Settling.{first_numbers}
-use Rattle.traces.specs.declared.passings.Lane.{Lane}
-use Rattle.traces.specs.declared.passings.Lane.TheVariants.{Server, Connection}
-use Rattle.traces.specs.declared.passings.Way.{Way}
-use Rattle.traces.specs.Passings.{from_to, is_same_way}
+use Rattle.traces.specs.declared.crossings.Lane.{Lane}
+use Rattle.traces.specs.declared.crossings.Lane.TheVariants.{Server, Connection}
+use Rattle.traces.specs.declared.crossings.Way.{Way}
+use Rattle.traces.specs.Crossings.{from_to, is_same_way}
 use Rattle.traces.specs.Arrows.{IsWay, calls_from, link_way, links_from, links_of, replies_from, ways_of}
 
 -- these things, as often as a way stands among some

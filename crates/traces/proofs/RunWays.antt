@@ -16,14 +16,15 @@ use Rattle.node.specs.Steps.{step}
 use Rattle.node.proofs.Addresses.{others_taken_in}
 use Rattle.world.specs.declared.connections.Stage.{Stage}
 use Rattle.world.specs.declared.connections.Stage.TheVariants.{Idle, Begun, Asked, Replied}
-use Rattle.world.specs.declared.deeds.Deed.{Deed}
-use Rattle.world.specs.declared.deeds.Deed.TheVariants.{Nothing, Came, Failed}
+use Rattle.world.specs.declared.event_effects.EventEffect.{EventEffect}
+use Rattle.world.specs.declared.event_effects.EventEffect.TheVariants.{Nothing, Came, Failed}
 use Rattle.world.specs.declared.events.Event.{Event}
 use Rattle.world.specs.declared.events.Event.TheVariants.{Piece, Begin, Work, Deliver, Fail, Tell, Hand}
 use Rattle.world.specs.Awaited.{AreAwaited}
 use Rattle.world.specs.Connections.{Connection, to_work, asked, replied, changed_at}
-use Rattle.world.specs.Deeds.{piece_deed, begin_deed, hand_deed, deed_at, took, call_deed, work_deed, deliver_deed}
-use Rattle.world.specs.Deeds.{deed, deeds_from, deeds_of, trace_of}
+use Rattle.world.specs.EventEffects.{piece_event_effect, begin_event_effect, hand_event_effect, event_effect_at, took}
+use Rattle.world.specs.EventEffects.{call_event_effect, work_event_effect, deliver_event_effect}
+use Rattle.world.specs.EventEffects.{event_effect, event_effects_from, event_effects_of, trace_of}
 use Rattle.world.specs.Worlds.{World, server, link, with_connection, opening_world, lives, has_failed, happens, run_of}
 use Rattle.world.proofs.trace.Traces.{Traced, count}
 use Rattle.world.proofs.trace.IdLaws.{living_parts}
@@ -31,7 +32,7 @@ use Rattle.world.proofs.trace.Outsets.{count_outset}
 use Rattle.world.proofs.moments.Moments.{run-append}
 use Rattle.world.proofs.order.OneOrder.{all}
 use Rattle.world.proofs.shown.Awaiting.{works_awaited, delivers_awaited, tells_awaited}
-use Rattle.traces.specs.Passings.{call_put, output_put, puts_by, puts_from, puts_of, row_after}
+use Rattle.traces.specs.Crossings.{call_put, output_put, puts_by, puts_from, puts_of, row_after}
 use Rattle.traces.specs.Arrows.{IsOnWay, arrows_of}
 use Rattle.traces.proofs.KeptHomes.{homes_of, home_at, fresh_homes, changed_homes, connection_homes, replied_home}
 use Rattle.traces.proofs.KeptHomes.{run_homes}
@@ -97,8 +98,8 @@ module _ (n : ℕ) (homes : List ℕ) (few : n ≤ 16) (events : List Event) whe
   now_homes : homes_of now.connections ≡ homes
   now_homes = run_homes (opening_world n homes) events ∙ fresh_homes homes
 
-  -- what a deed puts is on ways
-  abbrev On : ℕ → Deed → Type 0
+  -- what an effect puts is on ways
+  abbrev On : ℕ → EventEffect → Type 0
   On row d = AllByRecursion (IsOnWay n homes) (puts_by row d)
 
   others : (i : ℕ) (input : Input)
@@ -126,31 +127,31 @@ module _ (n : ℕ) (homes : List ℕ) (few : n ≤ 16) (events : List Event) whe
   unfolding puts_by
   nothing_on row = tt
 
-  piece_on : (row : ℕ) (k : Connection) → On row (piece_deed k)
+  piece_on : (row : ℕ) (k : Connection) → On row (piece_event_effect k)
   unfolding puts_by
   piece_on row k = cond_both k.session.closed Nothing Came (On row) (λ t. tt) (λ f. tt)
 
-  begin_on : (row : ℕ) (s : Stage) (k : Connection) → On row (begin_deed s k)
+  begin_on : (row : ℕ) (s : Stage) (k : Connection) → On row (begin_event_effect s k)
   unfolding puts_by
   begin_on row Idle k = tt
   begin_on row Begun k = tt
   begin_on row Asked k = tt
   begin_on row (Replied reply) k = tt
 
-  hand_on : (row : ℕ) (s : Stage) (k : Connection) → On row (hand_deed s k)
+  hand_on : (row : ℕ) (s : Stage) (k : Connection) → On row (hand_event_effect s k)
   unfolding puts_by
   hand_on row Idle k = tt
   hand_on row Begun k = tt
   hand_on row Asked k = tt
   hand_on row (Replied reply) k = tt
 
-  fail_on : (row i : ℕ) → On row (deed now (Fail i))
+  fail_on : (row i : ℕ) → On row (event_effect now (Fail i))
   unfolding puts_by
   fail_on row i = cond_both (lives now i) Failed Nothing (On row) (λ t. tt) (λ f. tt)
 
-  there_on : (row : ℕ) (does : Connection → Deed) (o : Option Connection)
+  there_on : (row : ℕ) (does : Connection → EventEffect) (o : Option Connection)
       → ((k : Connection) → On row (does k))
-      → On row (deed_at now does o)
+      → On row (event_effect_at now does o)
   there_on row does None each = nothing_on row
   there_on row does (Some k) each =
       cond_both (lives now k.home) (does k) Nothing (On row) (λ t. each k) (λ f. nothing_on row)
@@ -160,7 +161,7 @@ module _ (n : ℕ) (homes : List ℕ) (few : n ≤ 16) (events : List Event) whe
       → slice_get now.connections c ≡ Some k
       → lives now k.home ≡ true
       → to_work k.stage k ≡ o
-      → On row (call_deed now c k.home o)
+      → On row (call_event_effect now c k.home o)
   unfolding with_connection server
   call_on row c k None here living work = nothing_on row
   call_on row c k (Some call) here living work =
@@ -169,13 +170,13 @@ module _ (n : ℕ) (homes : List ℕ) (few : n ≤ 16) (events : List Event) whe
       (subst (λ hs. slice_get hs c ≡ Some k.home) now_homes (home_at now.connections c k here), tt)
       (works_awaited n homes events few c k call here living work)
 
-  work_on : (row c : ℕ) (o : Option Connection) → slice_get now.connections c ≡ o → On row (work_deed now c o)
+  work_on : (row c : ℕ) (o : Option Connection) → slice_get now.connections c ≡ o → On row (work_event_effect now c o)
   work_on row c None here = nothing_on row
   work_on row c (Some k) here =
-      cond_both (lives now k.home) (call_deed now c k.home (to_work k.stage k)) Nothing (On row)
+      cond_both (lives now k.home) (call_event_effect now c k.home (to_work k.stage k)) Nothing (On row)
       (λ living. call_on row c k (to_work k.stage k) here living refl) (λ f. nothing_on row)
 
-  deliver_on : (row i j : ℕ) (ms : List Peer) → link now i j ≡ ms → On row (deliver_deed now i j ms)
+  deliver_on : (row i j : ℕ) (ms : List Peer) → link now i j ≡ ms → On row (deliver_event_effect now i j ms)
   deliver_on row i j [] here = nothing_on row
   deliver_on row i j (m ∷ ms) here =
       cond_both (lives now j) (took now j (From i m)) Nothing (On row)
@@ -183,7 +184,7 @@ module _ (n : ℕ) (homes : List ℕ) (few : n ≤ 16) (events : List Event) whe
       (delivers_awaited n homes events few i j m ms here living))
       (λ f. nothing_on row)
 
-  tell_on : (row i j : ℕ) → On row (deed now (Tell i j))
+  tell_on : (row i j : ℕ) → On row (event_effect now (Tell i j))
   tell_on row i j =
       cond_both (lives now i && has_failed now j) (took now i (Gone j)) Nothing (On row)
       (λ both.
@@ -191,16 +192,16 @@ module _ (n : ℕ) (homes : List ℕ) (few : n ≤ 16) (events : List Event) whe
       took_on row i (Gone j) now.connections now_homes p.0 tt (tells_awaited n homes events few i j p.0 p.1))
       (λ f. nothing_on row)
 
-  deed_on : (row : ℕ) (e : Event) → On row (deed now e)
-  deed_on row (Piece c bytes) = there_on row piece_deed (slice_get now.connections c) (piece_on row)
-  deed_on row (Begin c) =
-      there_on row (λ k. begin_deed k.stage k) (slice_get now.connections c) (λ k. begin_on row k.stage k)
-  deed_on row (Work c) = work_on row c (slice_get now.connections c) refl
-  deed_on row (Deliver i j) = deliver_on row i j (link now i j) refl
-  deed_on row (Fail i) = fail_on row i
-  deed_on row (Tell i j) = tell_on row i j
-  deed_on row (Hand c) =
-      there_on row (λ k. hand_deed k.stage k) (slice_get now.connections c) (λ k. hand_on row k.stage k)
+  event_effect_on : (row : ℕ) (e : Event) → On row (event_effect now e)
+  event_effect_on row (Piece c bytes) = there_on row piece_event_effect (slice_get now.connections c) (piece_on row)
+  event_effect_on row (Begin c) =
+      there_on row (λ k. begin_event_effect k.stage k) (slice_get now.connections c) (λ k. begin_on row k.stage k)
+  event_effect_on row (Work c) = work_on row c (slice_get now.connections c) refl
+  event_effect_on row (Deliver i j) = deliver_on row i j (link now i j) refl
+  event_effect_on row (Fail i) = fail_on row i
+  event_effect_on row (Tell i j) = tell_on row i j
+  event_effect_on row (Hand c) =
+      there_on row (λ k. hand_event_effect k.stage k) (slice_get now.connections c) (λ k. hand_on row k.stage k)
 
 -- ---- a run
 
@@ -210,19 +211,19 @@ after_one n homes before e = run-append before (e ∷ []) (opening_world n homes
 
 -- the events after some first ones
 rest_on : (n : ℕ) (homes : List ℕ) (few : n ≤ 16) (row : ℕ) (before events : List Event)
-    → AllByRecursion (IsOnWay n homes) (puts_from row (deeds_from (run_of n homes before) events))
+    → AllByRecursion (IsOnWay n homes) (puts_from row (event_effects_from (run_of n homes before) events))
 rest_on n homes few row before [] = tt
 rest_on n homes few row before (e ∷ es) =
-    let d = deed (run_of n homes before) e in
+    let d = event_effect (run_of n homes before) e in
     all_append (IsOnWay n homes) (puts_by row d)
-    (puts_from (row_after row d) (deeds_from (happens (run_of n homes before) e) es))
-    (deed_on n homes few before row e)
-    (subst (λ w. AllByRecursion (IsOnWay n homes) (puts_from (row_after row d) (deeds_from w es)))
+    (puts_from (row_after row d) (event_effects_from (happens (run_of n homes before) e) es))
+    (event_effect_on n homes few before row e)
+    (subst (λ w. AllByRecursion (IsOnWay n homes) (puts_from (row_after row d) (event_effects_from w es)))
     (after_one n homes before e) (rest_on n homes few (row_after row d) (before ++ e ∷ []) es))
 
 run_on : (n : ℕ) (homes : List ℕ) (events : List Event)
     → n ≤ 16
-    → AllByRecursion (IsOnWay n homes) (puts_of (deeds_of n homes events))
+    → AllByRecursion (IsOnWay n homes) (puts_of (event_effects_of n homes events))
 run_on n homes events few = rest_on n homes few 0 [] events
 
 run_count : (n : ℕ) (homes : List ℕ) (events : List Event) → n ≤ 16 → length (run_of n homes events).servers ≡ n
@@ -232,9 +233,9 @@ run_count n homes events few =
 -- the arrows of its picture stand for all that it put, each for one thing
 pub each_of_run : (n : ℕ) (homes : List ℕ) (events : List Event)
     → n ≤ 16
-    → IsPermutation (puts_of (deeds_of n homes events))
+    → IsPermutation (puts_of (event_effects_of n homes events))
     (map (λ arrow. arrow.put) (arrows_of homes events (trace_of n homes events)))
 each_of_run n homes events few =
     each_has_one homes events (trace_of n homes events)
-    (subst (λ m. AllByRecursion (IsOnWay m homes) (puts_of (deeds_of n homes events)))
+    (subst (λ m. AllByRecursion (IsOnWay m homes) (puts_of (event_effects_of n homes events)))
     (sym (run_count n homes events few)) (run_on n homes events few))

@@ -8,12 +8,12 @@ use Rattle.std.proofs.lemmas.List.Sorted.{IsPermutation-refl, IsPermutation-sym,
 use Rattle.std.proofs.lemmas.List.Sorted.{IsPermutation-cons, IsPermutation-append_left, IsPermutation-append_right}
 use Rattle.std.proofs.lemmas.List.Sorted.{IsPermutation-append_comm}
 use Rattle.world.specs.declared.events.Event.{Event}
-use Rattle.world.specs.Deeds.{TraceShown}
-use Rattle.traces.specs.declared.passings.Lane.{Lane}
-use Rattle.traces.specs.declared.passings.Lane.TheVariants.{Server, Connection}
-use Rattle.traces.specs.declared.passings.Way.{Way}
-use Rattle.traces.specs.declared.passings.Passing.{Passing}
-use Rattle.traces.specs.Passings.{from_to, if_on, is_same_lane, is_same_way, only_on, puts_of, row_after_all, takes_of}
+use Rattle.world.specs.EventEffects.{TraceShown}
+use Rattle.traces.specs.declared.crossings.Lane.{Lane}
+use Rattle.traces.specs.declared.crossings.Lane.TheVariants.{Server, Connection}
+use Rattle.traces.specs.declared.crossings.Way.{Way}
+use Rattle.traces.specs.declared.crossings.Crossing.{Crossing}
+use Rattle.traces.specs.Crossings.{from_to, if_on, is_same_lane, is_same_way, only_on, puts_of, row_after_all, takes_of}
 use Rattle.traces.specs.Arrows.{IsWay, IsOnWay, arrows_among, arrows_of, ways_of}
 use Rattle.traces.proofs.ArrowLaws.{laid_from_puts}
 use Rattle.traces.proofs.EachWay.{hits, ways_hit}
@@ -40,19 +40,19 @@ same_way : (v w : Way) → is_same_way v w ≡ true → v ≡ w
 same_way v w h = same_ends v w (is_same_lane v.from w.from) (is_same_lane v.to w.to) refl refl h
 
 -- what is on a way, of two lists
-only_append : (v : Way) (xs ys : List Passing) → only_on v (xs ++ ys) ≡ only_on v xs ++ only_on v ys
+only_append : (v : Way) (xs ys : List Crossing) → only_on v (xs ++ ys) ≡ only_on v xs ++ only_on v ys
 only_append v [] ys = refl
 only_append v (x ∷ xs) ys =
     ap (λ rest. if_on v x ++ rest) (only_append v xs ys) ∙ sym (append_assoc (if_on v x) (only_on v xs) (only_on v ys))
 
-one_on : (v : Way) (p : Passing) (t : Bool)
+one_on : (v : Way) (p : Crossing) (t : Bool)
     → is_same_way p.way v ≡ t
     → only_on v (if t then p ∷ [] else []) ≡ (if t then p ∷ [] else [])
 unfolding if_on
 one_on v p true here = ap (λ (t : Bool). (if t then p ∷ [] else []) ++ []) here
 one_on v p false here = refl
 
-other_on : (v w : Way) (p : Passing) (t : Bool)
+other_on : (v w : Way) (p : Crossing) (t : Bool)
     → is_same_way w v ≡ false
     → is_same_way p.way w ≡ t
     → only_on v (if t then p ∷ [] else []) ≡ []
@@ -63,7 +63,7 @@ other_on v w p true other here =
 other_on v w p false other here = refl
 
 -- what is on a way is on it
-only_same : (v : Way) (ps : List Passing) → only_on v (only_on v ps) ≡ only_on v ps
+only_same : (v : Way) (ps : List Crossing) → only_on v (only_on v ps) ≡ only_on v ps
 unfolding if_on
 only_same v [] = refl
 only_same v (p ∷ ps) =
@@ -72,7 +72,7 @@ only_same v (p ∷ ps) =
     ∙ ap (λ rest. if_on v p ++ rest) (only_same v ps)
 
 -- and not on another one
-only_other : (v w : Way) (ps : List Passing) → is_same_way w v ≡ false → only_on v (only_on w ps) ≡ []
+only_other : (v w : Way) (ps : List Crossing) → is_same_way w v ≡ false → only_on v (only_on w ps) ≡ []
 unfolding if_on
 only_other v w [] other = refl
 only_other v w (p ∷ ps) other =
@@ -80,13 +80,13 @@ only_other v w (p ∷ ps) other =
     ∙ ap (λ front. front ++ only_on v (only_on w ps)) (other_on v w p (is_same_way p.way w) other refl)
     ∙ only_other v w ps other
 
-only_of : (v w : Way) (ps : List Passing) (t : Bool)
+only_of : (v w : Way) (ps : List Crossing) (t : Bool)
     → is_same_way w v ≡ t
     → only_on v (only_on w ps) ≡ (if t then only_on v ps else [])
 only_of v w ps true here = ap (λ (u : Way). only_on v (only_on u ps)) (same_way w v here) ∙ only_same v ps
 only_of v w ps false here = only_other v w ps here
 
-only_all : (v : Way) (ps : List Passing) (ws : List Way)
+only_all : (v : Way) (ps : List Crossing) (ws : List Way)
     → only_on v (flat_map (λ w. only_on w ps) ws) ≡ hits v (only_on v ps) ws
 only_all v ps [] = refl
 only_all v ps (w ∷ ws) =
@@ -98,14 +98,15 @@ only_all v ps (w ∷ ws) =
 pub on_each_way : (homes : List ℕ) (events : List Event) (trace : TraceShown) (from to : Lane)
     → IsWay (length trace.world.servers) homes from to
     → only_on (from_to from to) (map (λ arrow. arrow.put) (arrows_of homes events trace))
-    ≡ only_on (from_to from to) (puts_of trace.deeds)
+    ≡ only_on (from_to from to) (puts_of trace.event_effects)
 unfolding arrows_of arrows_among
 on_each_way homes events trace from to is =
     ap (only_on (from_to from to))
-    (laid_from_puts (puts_of trace.deeds) (takes_of homes events trace.deeds) (row_after_all 0 trace.deeds)
+    (laid_from_puts (puts_of trace.event_effects) (takes_of homes events trace.event_effects)
+    (row_after_all 0 trace.event_effects)
     (ways_of (length trace.world.servers) homes))
-    ∙ only_all (from_to from to) (puts_of trace.deeds) (ways_of (length trace.world.servers) homes)
-    ∙ ways_hit (length trace.world.servers) homes from to (only_on (from_to from to) (puts_of trace.deeds)) is
+    ∙ only_all (from_to from to) (puts_of trace.event_effects) (ways_of (length trace.world.servers) homes)
+    ∙ ways_hit (length trace.world.servers) homes from to (only_on (from_to from to) (puts_of trace.event_effects)) is
 
 -- ---- if all that was put is on ways of the picture
 
@@ -127,7 +128,7 @@ same_either_way v w =
     ∙ ap (λ (t : Bool). is_same_lane w.from v.from && t) (same_lane_either_way v.to w.to)
 
 -- a thing stands among those of ways as often as its way does
-stands_on : (p : Passing) (ws : List Way) → flat_map (λ w. if_on w p) ws ≡ hits p.way (p ∷ []) ws
+stands_on : (p : Crossing) (ws : List Way) → flat_map (λ w. if_on w p) ws ≡ hits p.way (p ∷ []) ws
 unfolding if_on
 stands_on p [] = refl
 stands_on p (w ∷ ws) =
@@ -139,7 +140,7 @@ interchanged a b d e =
     rw (append_assoc a b (d ++ e), append_assoc a d (b ++ e), ← append_assoc b d e, ← append_assoc d b e)
     (IsPermutation-append_right a _ _ (IsPermutation-append_left e _ _ (IsPermutation-append_comm b d)))
 
-one_more_put : (p : Passing) (ps : List Passing) (ws : List Way)
+one_more_put : (p : Crossing) (ps : List Crossing) (ws : List Way)
     → IsPermutation (flat_map (λ w. only_on w (p ∷ ps)) ws)
     (flat_map (λ w. if_on w p) ws ++ flat_map (λ w. only_on w ps) ws)
 one_more_put p ps [] = IsPermutation-refl []
@@ -153,7 +154,7 @@ none_put [] = refl
 none_put (w ∷ ws) = none_put ws
 
 -- those of all ways are all, each once
-each_once : (count : ℕ) (homes : List ℕ) (ps : List Passing)
+each_once : (count : ℕ) (homes : List ℕ) (ps : List Crossing)
     → AllByRecursion (IsOnWay count homes) ps
     → IsPermutation (flat_map (λ w. only_on w ps) (ways_of count homes)) ps
 each_once count homes [] on = subst (λ none. IsPermutation none []) (sym (none_put (ways_of count homes)))
@@ -167,11 +168,12 @@ each_once count homes (p ∷ ps) on =
 
 -- the arrows stand for all that was put, each for one thing
 pub each_has_one : (homes : List ℕ) (events : List Event) (trace : TraceShown)
-    → AllByRecursion (IsOnWay (length trace.world.servers) homes) (puts_of trace.deeds)
-    → IsPermutation (puts_of trace.deeds) (map (λ arrow. arrow.put) (arrows_of homes events trace))
+    → AllByRecursion (IsOnWay (length trace.world.servers) homes) (puts_of trace.event_effects)
+    → IsPermutation (puts_of trace.event_effects) (map (λ arrow. arrow.put) (arrows_of homes events trace))
 unfolding arrows_of arrows_among
 each_has_one homes events trace on =
-    subst (IsPermutation (puts_of trace.deeds))
-    (sym (laid_from_puts (puts_of trace.deeds) (takes_of homes events trace.deeds) (row_after_all 0 trace.deeds)
+    subst (IsPermutation (puts_of trace.event_effects))
+    (sym (laid_from_puts (puts_of trace.event_effects) (takes_of homes events trace.event_effects)
+    (row_after_all 0 trace.event_effects)
     (ways_of (length trace.world.servers) homes)))
-    (IsPermutation-sym _ _ (each_once (length trace.world.servers) homes (puts_of trace.deeds) on))
+    (IsPermutation-sym _ _ (each_once (length trace.world.servers) homes (puts_of trace.event_effects) on))

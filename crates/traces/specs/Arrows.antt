@@ -2,48 +2,48 @@
 use Rattle.std.specs.Prelude.{◌≡◌, ℕ, ◌+◌, ◌<◌, true, false, List, [], ◌∷◌, ◌++◌, length, map, flat_map, slice_get}
 use Rattle.std.specs.Prelude.{Option, None, Some}
 use Rattle.world.specs.declared.events.Event.{Event}
-use Rattle.world.specs.declared.deeds.Deed.{Deed}
-use Rattle.world.specs.Deeds.{TraceShown}
+use Rattle.world.specs.declared.event_effects.EventEffect.{EventEffect}
+use Rattle.world.specs.EventEffects.{TraceShown}
 use Rattle.schedules.specs.Settling.{first_numbers}
-use Rattle.traces.specs.declared.passings.Lane.{Lane}
-use Rattle.traces.specs.declared.passings.Lane.TheVariants.{Server, Connection}
-use Rattle.traces.specs.declared.passings.Way.{Way}
-use Rattle.traces.specs.declared.passings.Passing.{Passing}
+use Rattle.traces.specs.declared.crossings.Lane.{Lane}
+use Rattle.traces.specs.declared.crossings.Lane.TheVariants.{Server, Connection}
+use Rattle.traces.specs.declared.crossings.Way.{Way}
+use Rattle.traces.specs.declared.crossings.Crossing.{Crossing}
 use Rattle.traces.specs.declared.arrows.Arrow.{Arrow}
-use Rattle.traces.specs.Passings.{from_to, next, only_on, puts_of, takes_of, row_after_all}
+use Rattle.traces.specs.Crossings.{from_to, next, only_on, puts_of, takes_of, row_after_all}
 
 -- the arrow of what was put: it ends where that was taken, or in flight at this row
-unfoldable pub arrow_of : ℕ → Passing → Option Passing → Arrow
+unfoldable pub arrow_of : ℕ → Crossing → Option Crossing → Arrow
 arrow_of row put None = record { put = put; row = row; came = false }
 arrow_of row put (Some taken) = record { put = put; row = taken.row; came = true }
 
 -- an arrow in flight has a row of its own
-unfoldable pub row_laid : ℕ → Option Passing → ℕ
+unfoldable pub row_laid : ℕ → Option Crossing → ℕ
 row_laid row None = next row
 row_laid row (Some taken) = row
 
 -- The arrows of one way: what is put on it first is taken first. The first of these puts is the one of this place among
 -- all on the way.
-abbrev pub laid : ℕ → List Passing → ℕ → List Passing → List Arrow
+abbrev pub laid : ℕ → List Crossing → ℕ → List Crossing → List Arrow
 laid row takes place [] = []
 laid row takes place (p ∷ ps) =
     arrow_of row p (slice_get takes place) ∷ laid (row_laid row (slice_get takes place)) takes (place + 1) ps
 
 -- the row after them
-abbrev pub row_laid_all : ℕ → List Passing → ℕ → List Passing → ℕ
+abbrev pub row_laid_all : ℕ → List Crossing → ℕ → List Crossing → ℕ
 row_laid_all row takes place [] = row
 row_laid_all row takes place (p ∷ ps) = row_laid_all (row_laid row (slice_get takes place)) takes (place + 1) ps
 
 -- the arrows of a way, of what was put and what was taken
-unfoldable pub laid_on : List Passing → List Passing → ℕ → Way → List Arrow
+unfoldable pub laid_on : List Crossing → List Crossing → ℕ → Way → List Arrow
 laid_on puts takes row w = laid row (only_on w takes) 0 (only_on w puts)
 
 -- the row after them
-unfoldable pub row_laid_on : List Passing → List Passing → ℕ → Way → ℕ
+unfoldable pub row_laid_on : List Crossing → List Crossing → ℕ → Way → ℕ
 row_laid_on puts takes row w = row_laid_all row (only_on w takes) 0 (only_on w puts)
 
 -- the arrows of ways, one way after another
-abbrev pub laid_from : List Passing → List Passing → ℕ → List Way → List Arrow
+abbrev pub laid_from : List Crossing → List Crossing → ℕ → List Way → List Arrow
 laid_from puts takes row [] = []
 laid_from puts takes row (w ∷ ws) =
     laid_on puts takes row w ++ laid_from puts takes (row_laid_on puts takes row w) ws
@@ -83,14 +83,15 @@ IsWay count homes (Server home) (Connection c) = slice_get homes c ≡ Some home
 IsWay count homes (Connection c) (Connection d) = ⊥
 
 -- what was put stands on such a way
-abbrev pub IsOnWay : ℕ → List ℕ → Passing → Type 0
+abbrev pub IsOnWay : ℕ → List ℕ → Crossing → Type 0
 IsOnWay count homes p = IsWay count homes p.way.from p.way.to
 
--- the arrows of deeds of these events, over a chain of n servers whose connections have these homes
-unfoldable pub arrows_among : ℕ → List ℕ → List Event → List Deed → List Arrow
-arrows_among count homes events deeds =
-    laid_from (puts_of deeds) (takes_of homes events deeds) (row_after_all 0 deeds) (ways_of count homes)
+-- the arrows of the effects of these events, over a chain of n servers whose connections have these homes
+unfoldable pub arrows_among : ℕ → List ℕ → List Event → List EventEffect → List Arrow
+arrows_among count homes events event_effects =
+    laid_from (puts_of event_effects) (takes_of homes events event_effects) (row_after_all 0 event_effects)
+    (ways_of count homes)
 
 -- the arrows of a trace of these events, whose connections have these homes: one for each thing that was put on a way
 unfoldable pub arrows_of : List ℕ → List Event → TraceShown → List Arrow
-arrows_of homes events t = arrows_among (length t.world.servers) homes events t.deeds
+arrows_of homes events t = arrows_among (length t.world.servers) homes events t.event_effects

@@ -1,8 +1,8 @@
 -- Where the lanes of a picture stand, and its rows.
 use Rattle.std.specs.Prelude.{ℕ, ◌+◌, ◌-◌, ◌*◌, ◌^◌, min, List, Option, None, Some, slice_get}
-use Rattle.traces.specs.declared.passings.Lane.{Lane}
-use Rattle.traces.specs.declared.passings.Lane.TheVariants.{Server, Connection}
-use Rattle.traces.specs.declared.strokes.Place.{Place}
+use Rattle.traces.specs.declared.crossings.Lane.{Lane}
+use Rattle.traces.specs.declared.crossings.Lane.TheVariants.{Server, Connection}
+use Rattle.traces.specs.declared.points.Point.{Point}
 
 -- How far from the left edge the lane of each server stands, and that of each connection; and how far all go.
 pub record Columns : Type 0 where
@@ -29,5 +29,5 @@ unfoldable pub row_height : ℕ → ℕ
 row_height row = min (min (row * 28) (2 ^ 64 - 1) + 70) (2 ^ 64 - 1)
 
 -- a lane at a row
-abbrev pub place : Columns → Lane → ℕ → Place
-place columns lane row = record { x = column columns lane; y = row_height row }
+abbrev pub point : Columns → Lane → ℕ → Point
+point columns lane row = record { x = column columns lane; y = row_height row }

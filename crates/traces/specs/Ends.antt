@@ -40,7 +40,7 @@ update_line update =
 unfoldable pub read_line : OpenRead → List ℕ
 read_line read =
     labelled (codes "    open read ") read.ask ++ labelled (codes " of connection ") read.port
-    ++ spelled (codes ": ") read.key ++ labelled (codes ", asked at ") read.mark ++ codes "\n"
+    ++ spelled (codes ": ") read.key ++ labelled (codes ", asked at ") read.lower_bound ++ codes "\n"
 
 -- a server, and its open calls
 unfoldable pub server_lines : ℕ → Bool → ServerState → List ℕ

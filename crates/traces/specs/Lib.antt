@@ -1,11 +1,11 @@
 pub mod Words
 pub mod EventLines
-pub mod Deeds
+pub mod EventEffects
 pub mod Ends
 pub mod Printing
-pub mod Passings
+pub mod Crossings
 pub mod Arrows
-pub mod Strokes
-pub mod Marks
+pub mod Points
+pub mod Glyphs
 pub mod Columns
 pub mod Pictures

@@ -1,13 +1,13 @@
--- The picture of a trace, as a text in SVG 1.1: its arrows, and marks.
+-- The picture of a trace, as a text in SVG 1.1: its arrows, and glyphs.
 use Rattle.std.specs.Prelude.{◌≡◌, ℕ, Bool, List, ◌++◌, flat_map, IsPermutation, if◌then◌else◌, codes}
-use Rattle.traces.specs.declared.passings.Lane.{Lane}
-use Rattle.traces.specs.declared.passings.Lane.TheVariants.{Server, Connection}
+use Rattle.traces.specs.declared.crossings.Lane.{Lane}
+use Rattle.traces.specs.declared.crossings.Lane.TheVariants.{Server, Connection}
 use Rattle.traces.specs.declared.arrows.Arrow.{Arrow}
-use Rattle.traces.specs.declared.marks.Mark.{Mark}
+use Rattle.traces.specs.declared.glyphs.Glyph.{Glyph}
 use Rattle.traces.specs.Words.{labelled}
-use Rattle.traces.specs.Columns.{Columns, place}
-use Rattle.traces.specs.Strokes.{ends_text}
-use Rattle.traces.specs.Marks.{mark_text}
+use Rattle.traces.specs.Columns.{Columns, point}
+use Rattle.traces.specs.Points.{ends_text}
+use Rattle.traces.specs.Glyphs.{glyph_text}
 
 -- the color of arrows to servers, and that of replies
 unfoldable pub color : Lane → List ℕ
@@ -22,7 +22,7 @@ dashes came =
 
 -- the ends of an arrow
 unfoldable pub arrow_ends : Columns → Arrow → List ℕ
-arrow_ends columns a = ends_text (place columns a.put.way.from a.put.row) (place columns a.put.way.to a.row)
+arrow_ends columns a = ends_text (point columns a.put.way.from a.put.row) (point columns a.put.way.to a.row)
 
 -- an arrow, from where something was put to where it was taken
 unfoldable pub arrow_text : Columns → Arrow → List ℕ
@@ -52,16 +52,16 @@ defs_text =
 unfoldable pub head_text : ℕ → ℕ → List ℕ
 head_text width height = form_text ++ size_text width height ++ defs_text
 
--- a picture: marks, arrows over them, and further marks over these
-unfoldable pub picture_text : Columns → ℕ → List Mark → List Arrow → List Mark → List ℕ
+-- a picture: glyphs, arrows over them, and further glyphs over these
+unfoldable pub picture_text : Columns → ℕ → List Glyph → List Arrow → List Glyph → List ℕ
 picture_text columns height under arrows over =
-    head_text columns.width height ++ flat_map mark_text under ++ flat_map (arrow_text columns) arrows
-    ++ flat_map mark_text over ++ codes "</svg>\n"
+    head_text columns.width height ++ flat_map glyph_text under ++ flat_map (arrow_text columns) arrows
+    ++ flat_map glyph_text over ++ codes "</svg>\n"
 
--- a text is a picture that has these arrows, in this order, and beside them only marks
+-- a text is a picture that has these arrows, in this order, and beside them only glyphs
 abbrev pub HasArrows : List Arrow → List ℕ → Type 0
 HasArrows arrows picture =
-    (columns : Columns) × (height : ℕ) × (under : List Mark) × (over : List Mark)
+    (columns : Columns) × (height : ℕ) × (under : List Glyph) × (over : List Glyph)
     × (picture ≡ picture_text columns height under arrows over)
 
 -- a text is a picture that has each of these arrows once, in some order, and no others

@@ -2,19 +2,19 @@
 ghost use Rattle.std.specs.Prelude.{◌≡◌, ◌++◌, ◌∷◌, [], IfOk, OnOk, slice_get};
 ghost use Rattle.traces.specs.Arrows.{arrow_of, arrows_among, arrows_of, calls_from, laid, laid_from, laid_on};
 ghost use Rattle.traces.specs.Arrows.{links_from, links_of, replies_from, row_laid, row_laid_all, row_laid_on, ways_of};
-ghost use Rattle.traces.specs.Passings.{from_to, only_on};
+ghost use Rattle.traces.specs.Crossings.{from_to, only_on};
 
-use crate::passings::{
-    Lane, Passing, Way, from_to, next, only_on, puts_of, row_after_all, takes_of,
+use crate::crossings::{
+    Crossing, Lane, Way, from_to, next, only_on, puts_of, row_after_all, takes_of,
 };
 use std::alloc::{AllocError, Global};
-use world::{Deed, Event, Trace};
+use world::{Event, EventEffect, Trace};
 
 /// An arrow: of something that was put, from its row to another one.
 #[derive(Clone, Copy)]
 pub struct Arrow {
     /// What was put. The arrow goes from its way's first lane at its row to the way's second lane.
-    pub put: Passing,
+    pub put: Crossing,
     /// The row at which it ends.
     pub row: usize,
     /// Whether that is where it was taken. Otherwise it is still in flight.
@@ -32,7 +32,7 @@ pub fn arrows_of(
 ) -> Result<Vec<Arrow>, AllocError>
     ensures { IfOk result (λ arrows. arrows.items ≡ arrows_of homes.now events.now trace.now) }
 {
-    arrows_among(alloc, trace.count(), homes, events, trace.deeds())
+    arrows_among(alloc, trace.count(), homes, events, trace.event_effects())
 }
 
 #[tactic(auto, unfolding(crate::specs::Arrows::arrows_among))]
@@ -41,14 +41,14 @@ fn arrows_among(
     count: usize,
     homes: &[usize],
     events: &[Event],
-    deeds: &[Deed],
+    event_effects: &[EventEffect],
 ) -> Result<Vec<Arrow>, AllocError>
-    ensures { IfOk result (λ arrows. arrows.items ≡ arrows_among count homes.now events.now deeds.now) }
+    ensures { IfOk result (λ arrows. arrows.items ≡ arrows_among count homes.now events.now event_effects.now) }
 {
-    let puts = puts_of(alloc, deeds)?;
-    let takes = takes_of(alloc, homes, events, deeds)?;
+    let puts = puts_of(alloc, event_effects)?;
+    let takes = takes_of(alloc, homes, events, event_effects)?;
     let ways = ways_of(alloc, count, homes)?;
-    let first = row_after_all(deeds);
+    let first = row_after_all(event_effects);
     lay_all(
         alloc,
         first,
@@ -63,8 +63,8 @@ fn lay_all(
     alloc: Global,
     first: usize,
     ways: &[Way],
-    puts: &[Passing],
-    takes: &[Passing],
+    puts: &[Crossing],
+    takes: &[Crossing],
 ) -> Result<Vec<Arrow>, AllocError>
     ensures { IfOk result (λ arrows. arrows.items ≡ laid_from puts.now takes.now first ways.now) }
 {
@@ -83,8 +83,8 @@ fn lay_on(
     arrows: &mut Vec<Arrow>,
     row: usize,
     way: Way,
-    puts: &[Passing],
-    takes: &[Passing],
+    puts: &[Crossing],
+    takes: &[Crossing],
 ) -> Result<usize, AllocError>
     ensures laid { OnOk result (arrows.new.items ≡ arrows.old.items ++ laid_on puts.now takes.now row way) }
     ensures after { IfOk result (λ after. after ≡ row_laid_on puts.now takes.now row way) }
@@ -98,8 +98,8 @@ fn lay_on(
 fn lay(
     arrows: &mut Vec<Arrow>,
     first: usize,
-    puts: &[Passing],
-    takes: &[Passing],
+    puts: &[Crossing],
+    takes: &[Crossing],
 ) -> Result<usize, AllocError>
     ensures laid { OnOk result (arrows.new.items ≡ arrows.old.items ++ laid first takes.now 0 puts.now) }
     ensures after { IfOk result (λ after. after ≡ row_laid_all first takes.now 0 puts.now) }
@@ -113,7 +113,7 @@ fn lay(
     Ok(row)
 }
 
-fn taken_at(takes: &[Passing], place: usize) -> Option<Passing>
+fn taken_at(takes: &[Crossing], place: usize) -> Option<Crossing>
     ensures { result ≡ slice_get takes.now place }
 {
     match takes.get(place) {
@@ -130,7 +130,7 @@ fn push(arrows: &mut Vec<Arrow>, arrow: Arrow) -> Result<(), AllocError>
 
 // It ends where that was taken, or in flight at this row.
 #[tactic(auto, unfolding(crate::specs::Arrows::arrow_of))]
-fn arrow_of(row: usize, put: Passing, taken: Option<Passing>) -> Arrow
+fn arrow_of(row: usize, put: Crossing, taken: Option<Crossing>) -> Arrow
     ensures { result ≡ arrow_of row put taken }
 {
     match taken {
@@ -148,7 +148,7 @@ fn arrow_of(row: usize, put: Passing, taken: Option<Passing>) -> Arrow
 }
 
 #[tactic(auto, unfolding(crate::specs::Arrows::row_laid))]
-fn row_laid(row: usize, taken: Option<Passing>) -> usize
+fn row_laid(row: usize, taken: Option<Crossing>) -> usize
     ensures { result ≡ row_laid row taken }
 {
     match taken {

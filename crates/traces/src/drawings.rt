@@ -4,19 +4,19 @@ ghost use Rattle.traces.specs.Arrows.{arrows_of};
 ghost use Rattle.traces.specs.Pictures.{Draws, HasArrows};
 
 use crate::arrows::{Arrow, arrows_of};
-use crate::deeds::{is_tail, put_taken};
+use crate::crossings::{Lane, Way, is_same_way, is_shown, next, row_after_all};
+use crate::event_effects::{is_tail, put_taken};
 use crate::event_lines::put_event;
+use crate::glyphs::{Glyph, Glyphs, Paint};
 use crate::lanes::{Lanes, row_height};
-use crate::marks::{Mark, Marks, Paint};
-use crate::passings::{Lane, Way, is_same_way, is_shown, next, row_after_all};
 use crate::pictures::picture;
-use crate::strokes::Place;
+use crate::points::Point;
 use crate::texts::Text;
 use crate::words::{put_body, put_call, put_value};
 use node::{Input, Output};
 use std::alloc::{AllocError, Global};
 use table::{Call, Reply};
-use world::{Deed, Event, ServerStep, Trace};
+use world::{Event, EventEffect, ServerStep, Trace};
 
 /// The most bytes of an event's line that are shown.
 const LINE_BYTES: usize = 44;
@@ -72,10 +72,10 @@ fn drawing(
 ) -> Result<Vec<u8>, AllocError>
     ensures { IfOk result (λ text. HasArrows arrows.now text.items) }
 {
-    let rows = row_after_arrows(arrows, row_after_all(trace.deeds()));
+    let rows = row_after_arrows(arrows, row_after_all(trace.event_effects()));
     let lanes = Lanes::new(alloc, trace.count(), homes)?;
-    let under = lane_marks(alloc, &lanes, homes, events, trace, rows)?;
-    let over = all_marks(alloc, &lanes, events, trace, arrows)?;
+    let under = lane_glyphs(alloc, &lanes, homes, events, trace, rows)?;
+    let over = all_glyphs(alloc, &lanes, events, trace, arrows)?;
     let height = row_height(rows).saturating_add(20);
     picture(
         alloc,
@@ -96,113 +96,113 @@ fn row_after_arrows(arrows: &[Arrow], row: usize) -> usize {
 }
 
 // The lanes with their names, down to a row.
-fn lane_marks(
+fn lane_glyphs(
     alloc: Global,
     lanes: &Lanes,
     homes: &[usize],
     events: &[Event],
     trace: &Trace,
     rows: usize,
-) -> Result<Marks, AllocError> {
-    let mut marks = Marks::new(alloc);
+) -> Result<Glyphs, AllocError> {
+    let mut glyphs = Glyphs::new(alloc);
     for c in 0..homes.len() {
-        put_connection_lane(&mut marks, lanes, c, rows)?;
+        put_connection_lane(&mut glyphs, lanes, c, rows)?;
     }
     for i in 0..trace.count() {
-        let end = failure_of(i, events, trace.deeds());
-        put_server_lane(&mut marks, lanes, i, end, rows)?;
+        let end = failure_of(i, events, trace.event_effects());
+        put_server_lane(&mut glyphs, lanes, i, end, rows)?;
     }
-    Ok(marks)
+    Ok(glyphs)
 }
 
 fn put_connection_lane(
-    marks: &mut Marks,
+    glyphs: &mut Glyphs,
     lanes: &Lanes,
     c: usize,
     rows: usize,
 ) -> Result<(), AllocError> {
     let lane = Lane::Connection(c);
-    let top = lanes.place(lane, 0);
-    marks.push(Mark::Line(top.moved_back(0, 25), lanes.place(lane, rows), Paint::Lane))?;
-    marks.push(Mark::Name(top.moved_back(30, 35), lane))
+    let top = lanes.point(lane, 0);
+    glyphs.push(Glyph::Line(top.moved_back(0, 25), lanes.point(lane, rows), Paint::Lane))?;
+    glyphs.push(Glyph::Name(top.moved_back(30, 35), lane))
 }
 
 // A server's lane, which is dotted from its failure on.
 fn put_server_lane(
-    marks: &mut Marks,
+    glyphs: &mut Glyphs,
     lanes: &Lanes,
     i: usize,
     failure: Option<usize>,
     rows: usize,
 ) -> Result<(), AllocError> {
     let lane = Lane::Server(i);
-    let top = lanes.place(lane, 0);
-    let bottom = lanes.place(lane, rows);
+    let top = lanes.point(lane, 0);
+    let bottom = lanes.point(lane, rows);
     let end = match failure {
-        Some(row) => lanes.place(lane, row),
+        Some(row) => lanes.point(lane, row),
         None => bottom,
     };
-    marks.push(Mark::Line(top.moved_back(0, 25), end, Paint::ServerLane))?;
+    glyphs.push(Glyph::Line(top.moved_back(0, 25), end, Paint::ServerLane))?;
     if end.y < bottom.y {
-        marks.push(Mark::Line(end, bottom, Paint::FailedLane))?;
+        glyphs.push(Glyph::Line(end, bottom, Paint::FailedLane))?;
     }
-    marks.push(Mark::Name(top.moved_back(30, 35), lane))
+    glyphs.push(Glyph::Name(top.moved_back(30, 35), lane))
 }
 
 // The row at which server i failed, if it did.
-fn failure_of(i: usize, events: &[Event], deeds: &[Deed]) -> Option<usize> {
+fn failure_of(i: usize, events: &[Event], event_effects: &[EventEffect]) -> Option<usize> {
     let mut row: usize = 0;
-    for (event, deed) in events.iter().zip(deeds) {
-        if is_failure_of(i, event, deed) {
+    for (event, event_effect) in events.iter().zip(event_effects) {
+        if is_failure_of(i, event, event_effect) {
             return Some(row);
         }
-        if is_shown(deed) {
+        if is_shown(event_effect) {
             row = next(row);
         }
     }
     None
 }
 
-fn is_failure_of(i: usize, event: &Event, deed: &Deed) -> bool {
-    match (event, deed) {
-        (Event::Fail(j), Deed::Failed) => *j == i,
+fn is_failure_of(i: usize, event: &Event, event_effect: &EventEffect) -> bool {
+    match (event, event_effect) {
+        (Event::Fail(j), EventEffect::Failed) => *j == i,
         _ => false,
     }
 }
 
-// The marks of all events, and of the messages that stay in flight.
-fn all_marks(
+// The glyphs of all events, and of the messages that stay in flight.
+fn all_glyphs(
     alloc: Global,
     lanes: &Lanes,
     events: &[Event],
     trace: &Trace,
     arrows: &[Arrow],
-) -> Result<Marks, AllocError> {
+) -> Result<Glyphs, AllocError> {
     let mut sketch = Sketch {
         alloc,
         count: trace.count(),
         lanes,
-        marks: Marks::new(alloc),
+        glyphs: Glyphs::new(alloc),
     };
     let mut row: usize = 0;
-    for (event, deed) in events.iter().zip(trace.deeds()) {
-        if is_shown(deed) {
+    for (event, event_effect) in events.iter().zip(trace.event_effects()) {
+        if is_shown(event_effect) {
             sketch.put_event_line(row, event)?;
-            sketch.put_deed(row, event, deed)?;
+            sketch.put_event_effect(row, event, event_effect)?;
             row = next(row);
         }
     }
     sketch.put_flights(arrows, trace)?;
-    Ok(sketch.marks)
+    Ok(sketch.glyphs)
 }
 
-// The marks so far of a picture.
+// The glyphs so far of a picture.
 #[derive(Drop)]
 struct Sketch<'a> {
     alloc: Global,
     count: usize,
     lanes: &'a Lanes,
-    marks: Marks,
+    glyphs: Glyphs,
 }
 
 impl Sketch<'_> {
@@ -210,29 +210,38 @@ impl Sketch<'_> {
     fn put_event_line(&mut self, row: usize, event: &Event) -> Result<(), AllocError> {
         let mut line = Text::new(self.alloc);
         put_event(&mut line, event)?;
-        let at = Place {
+        let at = Point {
             x: 10,
             y: row_height(row).saturating_add(4),
         };
-        self.marks
-            .push(Mark::Words(at, Paint::Plain, line, LINE_BYTES))
+        self.glyphs
+            .push(Glyph::Words(at, Paint::Plain, line, LINE_BYTES))
     }
 
-    fn put_deed(&mut self, row: usize, event: &Event, deed: &Deed) -> Result<(), AllocError> {
-        match (event, deed) {
-            (Event::Piece(c, _), Deed::Came) => {
+    fn put_event_effect(
+        &mut self,
+        row: usize,
+        event: &Event,
+        event_effect: &EventEffect,
+    ) -> Result<(), AllocError> {
+        match (event, event_effect) {
+            (Event::Piece(c, _), EventEffect::Came) => {
                 self.put_circle(Lane::Connection(*c), row, 3, Paint::Came)
             }
-            (Event::Begin(c), Deed::Began(call, _)) => self.put_begun(row, *c, call.as_ref()),
-            (Event::Tell(i, _), Deed::Stepped(_, step)) => {
+            (Event::Begin(c), EventEffect::Began(call, _)) => self.put_begun(
+                row,
+                *c,
+                call.as_ref(),
+            ),
+            (Event::Tell(i, _), EventEffect::Stepped(_, step)) => {
                 self.put_circle(Lane::Server(*i), row, 4, Paint::Notice)?;
                 self.put_step(row, *i, step)
             }
-            (_, Deed::Stepped(i, step)) => self.put_step(row, *i, step),
-            (Event::Fail(i), Deed::Failed) => {
-                self.put_cross(self.lanes.place(Lane::Server(*i), row))
+            (_, EventEffect::Stepped(i, step)) => self.put_step(row, *i, step),
+            (Event::Fail(i), EventEffect::Failed) => {
+                self.put_cross(self.lanes.point(Lane::Server(*i), row))
             }
-            (Event::Hand(c), Deed::Handed(reply, _)) => self.put_answer(row, *c, reply),
+            (Event::Hand(c), EventEffect::Handed(reply, _)) => self.put_answer(row, *c, reply),
             _ => Ok(()),
         }
     }
@@ -244,14 +253,14 @@ impl Sketch<'_> {
         radius: usize,
         paint: Paint,
     ) -> Result<(), AllocError> {
-        let at = self.lanes.place(lane, row);
-        self.marks.push(Mark::Circle(at, radius, paint))
+        let at = self.lanes.point(lane, row);
+        self.glyphs.push(Glyph::Circle(at, radius, paint))
     }
 
-    fn put_cross(&mut self, at: Place) -> Result<(), AllocError> {
+    fn put_cross(&mut self, at: Point) -> Result<(), AllocError> {
         let (left, right) = (at.moved_back(7, 0), at.moved(7, 0));
-        self.marks.push(Mark::Line(at.moved_back(7, 7), at.moved(7, 7), Paint::Failure))?;
-        self.marks.push(Mark::Line(left.moved(0, 7), right.moved_back(0, 7), Paint::Failure))
+        self.glyphs.push(Glyph::Line(at.moved_back(7, 7), at.moved(7, 7), Paint::Failure))?;
+        self.glyphs.push(Glyph::Line(left.moved(0, 7), right.moved_back(0, 7), Paint::Failure))
     }
 
     // Words beside a lane, so far to the right of it and below its row.
@@ -263,8 +272,9 @@ impl Sketch<'_> {
         paint: Paint,
         words: Text,
     ) -> Result<(), AllocError> {
-        let at = self.lanes.place(lane, row).moved(9, down);
-        self.marks.push(Mark::Label(at, paint, words, LABEL_BYTES))
+        let at = self.lanes.point(lane, row).moved(9, down);
+        self.glyphs
+            .push(Glyph::Label(at, paint, words, LABEL_BYTES))
     }
 
     fn put_begun(&mut self, row: usize, c: usize, call: Option<&Call>) -> Result<(), AllocError> {
@@ -289,8 +299,8 @@ impl Sketch<'_> {
         if step.before.acked < step.after.acked
             && is_tail(self.count.min(16) as u8, i, step.after)
         {
-            self.marks
-                .push(diamond(self.lanes.place(Lane::Server(i), row)))?;
+            self.glyphs
+                .push(diamond(self.lanes.point(Lane::Server(i), row)))?;
             let words = if label.as_slice().is_empty() {
                 b"commit ".as_slice()
             } else {
@@ -345,9 +355,9 @@ impl Sketch<'_> {
     }
 }
 
-// A commit at this place.
-fn diamond(at: Place) -> Mark {
-    Mark::Diamond(
+// A commit at this point.
+fn diamond(at: Point) -> Glyph {
+    Glyph::Diamond(
         at.moved_back(0, 6),
         at.moved(6, 0),
         at.moved(0, 6),

@@ -120,7 +120,7 @@ fn put_read(text: &mut Text, read: &OpenRead) -> Result<(), AllocError>
     text.labelled(b"    open read ", read.ask)?;
     text.numbered(b" of connection ", read.port)?;
     put_key(text, b": ", &read.key)?;
-    text.labelled(b", asked at ", read.mark)?;
+    text.labelled(b", asked at ", read.lower_bound)?;
     text.put(b"\n")
 }
 

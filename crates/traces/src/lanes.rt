@@ -2,8 +2,8 @@
 ghost use Rattle.std.specs.Prelude.{◌≡◌};
 ghost use Rattle.traces.specs.Columns.{number_at, row_height};
 
-use crate::passings::Lane;
-use crate::strokes::Place;
+use crate::crossings::Lane;
+use crate::points::Point;
 use std::alloc::{AllocError, Global};
 use std::marker::Model;
 
@@ -40,7 +40,7 @@ impl Model for Lanes {
 
 impl Lanes {
     ghost use Rattle.std.specs.Prelude.{◌≡◌};
-    ghost use Rattle.traces.specs.Columns.{column, place};
+    ghost use Rattle.traces.specs.Columns.{column, point};
 
     /// The lanes of a chain of `count` servers, with a connection at each of these homes.
     pub fn new(alloc: Global, count: usize, homes: &[usize]) -> Result<Lanes, AllocError> {
@@ -70,10 +70,10 @@ impl Lanes {
     }
 
     /// A lane at the row of an event.
-    pub fn place(&self, lane: Lane, row: usize) -> Place
-        ensures { result ≡ place self.now lane row }
+    pub fn point(&self, lane: Lane, row: usize) -> Point
+        ensures { result ≡ point self.now lane row }
     {
-        Place {
+        Point {
             x: self.column(lane),
             y: row_height(row),
         }

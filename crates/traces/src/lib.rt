@@ -2,17 +2,17 @@
 #![tactic(auto)]
 
 mod arrows;
-mod deeds;
+mod crossings;
 mod drawings;
 mod ends;
+mod event_effects;
 mod event_lines;
+mod glyphs;
 mod lanes;
 mod laws;
-mod marks;
-mod passings;
 mod pictures;
+mod points;
 mod printing;
-mod strokes;
 mod texts;
 mod words;
 

@@ -1,24 +1,24 @@
-//! A picture as a text in SVG 1.1: its lanes, its arrows, and its marks.
+//! A picture as a text in SVG 1.1: its lanes, its arrows, and its glyphs.
 ghost use Rattle.std.specs.Prelude.{◌≡◌, ◌++◌, IfOk, OnOk, flat_map};
 ghost use Rattle.traces.specs.Pictures.{HasArrows, arrow_ends, arrow_text, color, dashes, defs_text, form_text};
 ghost use Rattle.traces.specs.Pictures.{head_text, picture_text, size_text};
 
 use crate::arrows::Arrow;
+use crate::crossings::Lane;
+use crate::glyphs::{Glyph, put_glyphs};
 use crate::lanes::Lanes;
-use crate::marks::{Mark, put_marks};
-use crate::passings::Lane;
-use crate::strokes::put_ends;
+use crate::points::put_ends;
 use crate::texts::Text;
 use std::alloc::{AllocError, Global};
 
-/// A picture of this height: marks, arrows over them, and further marks over these.
+/// A picture of this height: glyphs, arrows over them, and further glyphs over these.
 pub fn picture(
     alloc: Global,
     lanes: &Lanes,
     height: usize,
-    under: &[Mark],
+    under: &[Glyph],
     arrows: &[Arrow],
-    over: &[Mark],
+    over: &[Glyph],
 ) -> Result<Vec<u8>, AllocError>
     ensures { IfOk result (λ text. HasArrows arrows.now text.items) }
 {
@@ -29,9 +29,9 @@ fn printed(
     alloc: Global,
     lanes: &Lanes,
     height: usize,
-    under: &[Mark],
+    under: &[Glyph],
     arrows: &[Arrow],
-    over: &[Mark],
+    over: &[Glyph],
 ) -> Result<Vec<u8>, AllocError>
     ensures { IfOk result (λ text. text.items ≡ picture_text lanes.now height under.now arrows.now over.now) }
 {
@@ -44,16 +44,16 @@ fn put_picture(
     out: &mut Text,
     lanes: &Lanes,
     height: usize,
-    under: &[Mark],
+    under: &[Glyph],
     arrows: &[Arrow],
-    over: &[Mark],
+    over: &[Glyph],
 ) -> Result<(), AllocError>
     ensures { OnOk result (out.new ≡ out.old ++ picture_text lanes.now height under.now arrows.now over.now) }
 {
     put_head(out, lanes, height)?;
-    put_marks(out, under)?;
+    put_glyphs(out, under)?;
     put_arrows(out, lanes, arrows)?;
-    put_marks(out, over)?;
+    put_glyphs(out, over)?;
     out.put(b"</svg>\n")
 }
 
@@ -130,8 +130,8 @@ fn put_arrow_ends(out: &mut Text, lanes: &Lanes, arrow: Arrow) -> Result<(), All
     let way = arrow.put.way;
     put_ends(
         out,
-        lanes.place(way.from, arrow.put.row),
-        lanes.place(way.to, arrow.row),
+        lanes.point(way.from, arrow.put.row),
+        lanes.point(way.to, arrow.row),
     )
 }
 

@@ -13,8 +13,8 @@ use Rattle.std.proofs.lemmas.Map.{lookup-none}
 use Rattle.std.proofs.lemmas.Map.Entries.{none_past_head}
 use Rattle.std.proofs.lemmas.Map.Keys.{IsDistinct-tail}
 use Rattle.std.proofs.lemmas.Map.Lookups.{exact_bytes}
-use Rattle.table.specs.Keys.{key_cmp, place_cmp}
-use Rattle.table.proofs.PlaceLaws.{place_total, place_tie, same_tie}
+use Rattle.table.specs.Keys.{key_cmp, tree_key_cmp}
+use Rattle.table.proofs.TreeKeyLaws.{tree_key_total, tree_key_tie, same_tie}
 use Rattle.table.specs.Plain.{Items, item_at, changed}
 use Rattle.table.specs.declared.items.Item.{Item}
 use Rattle.table.specs.declared.operations.Target.{Target}
@@ -42,7 +42,7 @@ item-base_of (e ∷ es) q =
     item-with_item (base_of es) e.0 e.1.item q
     ∙ ap (cond (eq_by_cmp key_cmp q e.0) e.1.item) (item-base_of es q)
     ∙ ap (λ b. cond b e.1.item (item_in (record_at es q))) (sym (same_tie q e.0))
-    ∙ item_of_choice (is_at (place_cmp q) e.0) e.1 (record_at es q)
+    ∙ item_of_choice (is_at (tree_key_cmp q) e.0) e.1 (record_at es q)
 
 -- records that give each key the same item stand for the same base
 pub same_base : (records others : List (List ℕ × Record))
@@ -74,8 +74,8 @@ noted_by f n k q false h = sym (append-nil (f q))
 
 -- a number is added at a key
 pub noted_at : (f : List ℕ → List ℕ) (n : ℕ) (k q : List ℕ)
-    → cond (is_at (place_cmp k) q) (f k ++ n ∷ []) (f q) ≡ f q ++ cond (is_at (place_cmp k) q) (n ∷ []) []
-noted_at f n k q = noted_by f n k q (is_at (place_cmp k) q) (place_tie k q)
+    → cond (is_at (tree_key_cmp k) q) (f k ++ n ∷ []) (f q) ≡ f q ++ cond (is_at (tree_key_cmp k) q) (n ∷ []) []
+noted_at f n k q = noted_by f n k q (is_at (tree_key_cmp k) q) (tree_key_tie k q)
 
 dropped_by : (f : List ℕ → List ℕ) (k q : List ℕ) (b : Bool)
     → (b ≡ true → k ≡ q)
@@ -85,13 +85,14 @@ dropped_by f k q false h = refl
 
 -- the first number of a key is dropped
 pub dropped_at : (f : List ℕ → List ℕ) (k q : List ℕ)
-    → cond (is_at (place_cmp k) q) (drop 1 (f k)) (f q) ≡ cond (is_at (key_cmp k) q) (drop 1 (f q)) (f q)
+    → cond (is_at (tree_key_cmp k) q) (drop 1 (f k)) (f q) ≡ cond (is_at (key_cmp k) q) (drop 1 (f q)) (f q)
 dropped_at f k q =
-    dropped_by f k q (is_at (place_cmp k) q) (place_tie k q) ∙ ap (λ b. cond b (drop 1 (f q)) (f q)) (same_tie k q)
+    dropped_by f k q (is_at (tree_key_cmp k) q) (tree_key_tie k q)
+    ∙ ap (λ b. cond b (drop 1 (f q)) (f q)) (same_tie k q)
 
 -- a key's item is set
 pub set_at : (item other : Option Item) (k q : List ℕ)
-    → cond (is_at (place_cmp k) q) item other ≡ cond (is_at (key_cmp k) q) item other
+    → cond (is_at (tree_key_cmp k) q) item other ≡ cond (is_at (key_cmp k) q) item other
 set_at item other k q = ap (λ b. cond b item other) (same_tie k q)
 
 numbers_of_choice : (b : Bool) (r : Record) (o : Option Record)
@@ -101,7 +102,7 @@ numbers_of_choice false r o = refl
 
 -- a key's record is replaced
 abbrev pub Replaced : List (List ℕ × Record) → List (List ℕ × Record) → List ℕ → Record → Type 0
-Replaced es fs k w = (q : List ℕ) → record_at fs q ≡ cond (is_at (place_cmp k) q) (Some w) (record_at es q)
+Replaced es fs k w = (q : List ℕ) → record_at fs q ≡ cond (is_at (tree_key_cmp k) q) (Some w) (record_at es q)
 
 -- a record that is replaced by one with its item leaves each key's item as it is
 pub items_stay : (es fs : List (List ℕ × Record)) (k : List ℕ) (w : Record)
@@ -110,9 +111,9 @@ pub items_stay : (es fs : List (List ℕ × Record)) (k : List ℕ) (w : Record)
     → (q : List ℕ)
     → item_in (record_at fs q) ≡ item_in (record_at es q)
 items_stay es fs k w is h q =
-    ap item_in (h q) ∙ sym (item_of_choice (is_at (place_cmp k) q) w (record_at es q))
-    ∙ ap (λ i. cond (is_at (place_cmp k) q) i (item_in (record_at es q))) is
-    ∙ same_by (λ x. item_in (record_at es x)) k q (is_at (place_cmp k) q) (place_tie k q)
+    ap item_in (h q) ∙ sym (item_of_choice (is_at (tree_key_cmp k) q) w (record_at es q))
+    ∙ ap (λ i. cond (is_at (tree_key_cmp k) q) i (item_in (record_at es q))) is
+    ∙ same_by (λ x. item_in (record_at es x)) k q (is_at (tree_key_cmp k) q) (tree_key_tie k q)
 
 -- a record that is replaced by one with its numbers leaves each key's numbers as they are
 pub numbers_stay : (es fs : List (List ℕ × Record)) (k : List ℕ) (w : Record)
@@ -121,9 +122,9 @@ pub numbers_stay : (es fs : List (List ℕ × Record)) (k : List ℕ) (w : Recor
     → (q : List ℕ)
     → numbers_in (record_at fs q) ≡ numbers_in (record_at es q)
 numbers_stay es fs k w is h q =
-    ap numbers_in (h q) ∙ sym (numbers_of_choice (is_at (place_cmp k) q) w (record_at es q))
-    ∙ ap (λ i. cond (is_at (place_cmp k) q) i (numbers_in (record_at es q))) is
-    ∙ same_by (λ x. numbers_in (record_at es x)) k q (is_at (place_cmp k) q) (place_tie k q)
+    ap numbers_in (h q) ∙ sym (numbers_of_choice (is_at (tree_key_cmp k) q) w (record_at es q))
+    ∙ ap (λ i. cond (is_at (tree_key_cmp k) q) i (numbers_in (record_at es q))) is
+    ∙ same_by (λ x. numbers_in (record_at es x)) k q (is_at (tree_key_cmp k) q) (tree_key_tie k q)
 
 -- ---- all items are taken away
 
@@ -155,30 +156,30 @@ module _ {F : Type 0} (T : F → List ℕ → Record → Bool → Record → F �
   -- what `retain` leaves, if the closure takes the item out and keeps what has numbers
   pub cleared : (es kept : List (List ℕ × Record)) (f : F)
       → RetainsPairs T f es kept
-      → IsDistinct (eq_by_cmp place_cmp) (keys_of es)
+      → IsDistinct (eq_by_cmp tree_key_cmp) (keys_of es)
       → (q : List ℕ)
       → (item_in (record_at kept q) ≡ None) × (numbers_in (record_at kept q) ≡ numbers_in (record_at es q))
   cleared [] kept f r d q = rw r (refl, refl)
   cleared (e ∷ es) kept f r d q =
       let p = called f e.0 e.1 r.0 r.1 r.2 r.4 in
-      let h = cleared es r.3 r.2 r.5 (IsDistinct-tail (eq_by_cmp place_cmp) e.0 (keys_of es) d) q in
+      let h = cleared es r.3 r.2 r.5 (IsDistinct-tail (eq_by_cmp tree_key_cmp) e.0 (keys_of es) d) q in
       rw r.6 (cleared_step r.0 r.1 e es r.3 q p.0 p.1 p.2
-      (λ t. lookup-none (is_at (place_cmp q)) es (none_past_head (eq_by_cmp_equiv place_total) q e es d t)) h)
+      (λ t. lookup-none (is_at (tree_key_cmp q)) es (none_past_head (eq_by_cmp_equiv tree_key_total) q e es d t)) h)
     where
       cleared_step : (b : Bool) (w : Record) (e : List ℕ × Record) (es rest : List (List ℕ × Record)) (q : List ℕ)
           → w.item ≡ None
           → w.numbers ≡ e.1.numbers
           → (b ≡ false → e.1.numbers ≡ [])
-          → (is_at (place_cmp q) e.0 ≡ true → record_at es q ≡ None)
+          → (is_at (tree_key_cmp q) e.0 ≡ true → record_at es q ≡ None)
           → (item_in (record_at rest q) ≡ None) × (numbers_in (record_at rest q) ≡ numbers_in (record_at es q))
           → (item_in (record_at (cond b ((e.0, w) ∷ rest) rest) q) ≡ None)
           × (numbers_in (record_at (cond b ((e.0, w) ∷ rest) rest) q) ≡ numbers_in (record_at (e ∷ es) q))
       cleared_step true w e es rest q item same gone none h = (
-        no_item (is_at (place_cmp q) e.0) w (record_at rest q) item h.0,
-        same_numbers (is_at (place_cmp q) e.0) w e.1 (record_at rest q) (record_at es q) same h.1,
+        no_item (is_at (tree_key_cmp q) e.0) w (record_at rest q) item h.0,
+        same_numbers (is_at (tree_key_cmp q) e.0) w e.1 (record_at rest q) (record_at es q) same h.1,
       )
       cleared_step false w e es rest q item same gone none h =
-          (h.0, no_numbers (is_at (place_cmp q) e.0) e.1 (record_at rest q) (record_at es q) (gone refl) none h.1)
+          (h.0, no_numbers (is_at (tree_key_cmp q) e.0) e.1 (record_at rest q) (record_at es q) (gone refl) none h.1)
 
 -- a key is at itself
 pub itself : (k : List ℕ) → is_at (key_cmp k) k ≡ true
@@ -187,7 +188,7 @@ itself k = (eq_by_cmp_equiv nat_list_cmp_total).refl k
 -- a number is added at the key that an entry sets
 pub noted_key : (f : List ℕ → List ℕ) (n : ℕ) (k q : List ℕ) (target : Target) (change : Change)
     → Some k ≡ set_key target change
-    → cond (is_at (place_cmp k) q) (f k ++ n ∷ []) (f q) ≡ f q ++ cond (sets q target change) (n ∷ []) []
+    → cond (is_at (tree_key_cmp k) q) (f k ++ n ∷ []) (f q) ≡ f q ++ cond (sets q target change) (n ∷ []) []
 noted_key f n k q target change is =
     noted_at f n k q ∙ ap (λ b. f q ++ cond b (n ∷ []) []) (same_tie k q)
     ∙ ap (λ o. f q ++ cond (is_key_of o q) (n ∷ []) []) is
@@ -230,21 +231,21 @@ put_choice true r o x none = ap (λ p. first_of (item_in p) (first_of r.item x))
 put_choice false r o x none = refl
 
 item-puts : (items : Items) (es : List (List ℕ × Record)) (q : List ℕ)
-    → IsDistinct (eq_by_cmp place_cmp) (keys_of es)
+    → IsDistinct (eq_by_cmp tree_key_cmp) (keys_of es)
     → item_at (items_put items (puts_of es)) q ≡ first_of (item_in (record_at es q)) (item_at items q)
 item-puts items [] q d = refl
 item-puts items (e ∷ es) q d =
     ap (λ m. item_at m q) (put_first items e.0 e.1.item (puts_of es))
-    ∙ item-puts (with_put items e.0 e.1.item) es q (IsDistinct-tail (eq_by_cmp place_cmp) e.0 (keys_of es) d)
+    ∙ item-puts (with_put items e.0 e.1.item) es q (IsDistinct-tail (eq_by_cmp tree_key_cmp) e.0 (keys_of es) d)
     ∙ ap (first_of (item_in (record_at es q))) (item-with_put items e.0 e.1.item q)
     ∙ ap (λ b. first_of (item_in (record_at es q)) (cond b (first_of e.1.item (item_at items q)) (item_at items q)))
     (sym (same_tie q e.0))
-    ∙ put_choice (is_at (place_cmp q) e.0) e.1 (record_at es q) (item_at items q)
-    (λ t. lookup-none (is_at (place_cmp q)) es (none_past_head (eq_by_cmp_equiv place_total) q e es d t))
+    ∙ put_choice (is_at (tree_key_cmp q) e.0) e.1 (record_at es q) (item_at items q)
+    (λ t. lookup-none (is_at (tree_key_cmp q)) es (none_past_head (eq_by_cmp_equiv tree_key_total) q e es d t))
 
 -- they make the base
 pub base-puts : (es : List (List ℕ × Record))
-    → IsDistinct (eq_by_cmp place_cmp) (keys_of es)
+    → IsDistinct (eq_by_cmp tree_key_cmp) (keys_of es)
     → items_put empty (puts_of es) ≡ base_of es
 base-puts es d = same_map nat_list_cmp_total exact_bytes _ _ (λ q.
     item-puts empty es q d ∙ ap (first_of (item_in (record_at es q))) (get-empty key_cmp q)

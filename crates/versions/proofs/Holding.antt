@@ -96,8 +96,8 @@ newest-within rs cl es floor acked last h key r is =
     rw names (last-within (is_set key) floor es h.store.log)
 
 -- the version of a key at a number
-at_place : (floor n : ℕ) → floor ≤ n → n ≡ floor + (n - floor)
-at_place floor n le = omega arith
+at_tree_key : (floor n : ℕ) → floor ≤ n → n ≡ floor + (n - floor)
+at_tree_key floor n le = omega arith
 
 at_is : (rs : Records) (cl : List ℕ) (es : List LogEntry) (floor acked last n : ℕ)
     → IsHeld rs cl es floor acked last
@@ -109,11 +109,11 @@ at_is : (rs : Records) (cl : List ℕ) (es : List LogEntry) (floor acked last n 
 at_is rs cl es floor acked last n h above known key =
     let k = n - floor in
     let log = log-take floor (n - floor) es h.store.log in
-    let place : n ≡ floor + (n - floor) = at_place floor n above in
+    let tree_key : n ≡ floor + (n - floor) = at_tree_key floor n above in
     let sets_to : last_up_to n (numbers_of (is_set key) es) ≡ last_of (numbers_of (is_set key) (take (n - floor) es)) =
-    last_up_to-taken (is_set key) floor (n - floor) n es h.store.log place in
+    last_up_to-taken (is_set key) floor (n - floor) n es h.store.log tree_key in
     let clears_to : last_up_to n (numbers_of is_cleared es) ≡ last_of (numbers_of is_cleared (take (n - floor) es)) =
-    last_up_to-taken is_cleared floor (n - floor) n es h.store.log place in
+    last_up_to-taken is_cleared floor (n - floor) n es h.store.log tree_key in
     let within : IsWithin floor (floor + (n - floor)) (last_of (numbers_of (is_set key) (take (n - floor) es))) =
     within_taken floor (n - floor) es key h.store.log (omega arith) in
     rw (h.index.of_keys key, h.index.of_clears, sets_to, clears_to)
@@ -174,7 +174,7 @@ at-within rs cl es floor acked last n h above known key r is =
     let names : r.numbers ≡ numbers_of (is_set key) es = ap numbers_in is ∙ h.index.of_keys key in
     let len : length (take (n - floor) es) ≡ n - floor = length-take-le (n - floor) es (omega arith) in
     let w = last-within (is_set key) floor (take (n - floor) es) (log-take floor (n - floor) es h.store.log) in
-    rw (names, last_up_to-taken (is_set key) floor (n - floor) n es h.store.log (at_place floor n above))
+    rw (names, last_up_to-taken (is_set key) floor (n - floor) n es h.store.log (at_tree_key floor n above))
     (wider_above floor _ (floor + length es) _ (omega arith) w)
 
 -- whether a key is dirty
@@ -187,8 +187,8 @@ dirty-held rs cl es floor acked last h key =
     rw (h.index.of_keys key, h.index.of_clears)
     (any-or (is_set key) is_cleared (drop (acked - floor) es)
     ∙ both _ _ _ _ (any-above (is_set key) floor (acked - floor) acked es h.store.log
-    (at_place floor acked h.store.floor_acked))
-    (any-above is_cleared floor (acked - floor) acked es h.store.log (at_place floor acked h.store.floor_acked)))
+    (at_tree_key floor acked h.store.floor_acked))
+    (any-above is_cleared floor (acked - floor) acked es h.store.log (at_tree_key floor acked h.store.floor_acked)))
   where
     both : (a b c d : Bool) → a ≡ c → b ≡ d → (a || b) ≡ (c || d)
     both a b c d e f = cc
@@ -250,7 +250,7 @@ held-drop rs ss cl dl es fs floor acked last n h above below index entries =
     let same : length fs ≡ length (drop (n - floor) es) = ap length entries in
     record {
       store = record {
-        log = rw entries (log-drop floor (n - floor) n es (at_place floor n above) h.store.log);
+        log = rw entries (log-drop floor (n - floor) n es (at_tree_key floor n above) h.store.log);
         floor_acked = below;
         acked_held = omega (arith, h.store.acked_held);
       };

@@ -16,8 +16,8 @@ pub last_of-at : (ns : List ℕ) (n : ℕ) → 0 < length ns → n ≡ get_or ns
 last_of-at [] n some is = absurd (omega arith)
 last_of-at (m ∷ []) n some is = ap Some (sym is)
 last_of-at (m ∷ k ∷ ns) n some is =
-    let place : length (m ∷ k ∷ ns) - 1 ≡ suc (length (k ∷ ns) - 1) = omega arith in
-    let is' : n ≡ get_or (k ∷ ns) (length (k ∷ ns) - 1) n = rw place at is in
+    let tree_key : length (m ∷ k ∷ ns) - 1 ≡ suc (length (k ∷ ns) - 1) = omega arith in
+    let is' : n ≡ get_or (k ∷ ns) (length (k ∷ ns) - 1) n = rw tree_key at is in
     ap (λ o. Some (unwrap_or o m)) (last_of-at (k ∷ ns) n (omega arith) is')
 
 -- an empty list has no last number
@@ -258,8 +258,8 @@ pub last_of-front : (ns : List ℕ) (k : ℕ) (r : Option (Bor ℕ))
 last_of-front ns k None some le there is = let never : false ≡ true = there.1 (omega arith) in cc
 last_of-front ns k (Some x) some le there is =
     let len : length (take k ns) ≡ k = length-take-le k ns le in
-    let place : length (take k ns) - 1 ≡ k - 1 = omega arith in
+    let tree_key : length (take k ns) - 1 ≡ k - 1 = omega arith in
     let same : get_or (take k ns) (k - 1) x.now ≡ get_or ns (k - 1) x.now =
     get_or-take k ns (k - 1) x.now (omega arith) in
-    let at : x.now ≡ get_or (take k ns) (length (take k ns) - 1) x.now = rw place (is ∙ sym same) in
+    let at : x.now ≡ get_or (take k ns) (length (take k ns) - 1) x.now = rw tree_key (is ∙ sym same) in
     sym (last_of-at (take k ns) x.now (omega arith) at)

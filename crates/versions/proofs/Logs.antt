@@ -49,7 +49,7 @@ apart q All Clear h e = cc
 further : (e : LogEntry) (es : List LogEntry) (floor n : ℕ)
     → floor + 1 < n
     → item_put_at es (n - (floor + 1) - 1) ≡ item_put_at (e ∷ es) (n - floor - 1)
-further e es floor n above = let place : n - floor - 1 ≡ suc (n - (floor + 1) - 1) = omega arith in rw place refl
+further e es floor n above = let tree_key : n - floor - 1 ≡ suc (n - (floor + 1) - 1) = omega arith in rw tree_key refl
 
 -- the first entry does neither
 past : (base : Option Item) (e : LogEntry) (es : List LogEntry) (floor high : ℕ) (set clear : Option ℕ)
@@ -63,7 +63,7 @@ past base e es floor high (Some a) (Some c) h = ap (cond (nat_lt a c) None) (fur
 first_put : (e : LogEntry) (es : List LogEntry) (floor n : ℕ)
     → n ≡ floor + 1
     → item_put e.change ≡ item_put_at (e ∷ es) (n - floor - 1)
-first_put e es floor n is = let place : n - floor - 1 ≡ 0 = omega arith in rw place refl
+first_put e es floor n is = let tree_key : n - floor - 1 ≡ 0 = omega arith in rw tree_key refl
 
 -- the first entry sets the key
 past_set : (base : Option Item) (e : LogEntry) (es : List LogEntry) (floor high n : ℕ) (set clear : Option ℕ)

@@ -7,7 +7,7 @@ use Rattle.std.specs.Map.{lookup}
 use Rattle.std.specs.List.{slice_get}
 use Rattle.std.specs.Option.{option_and_then}
 use Rattle.std.specs.BTreeMap.{is_at}
-use Rattle.table.specs.Keys.{place_cmp}
+use Rattle.table.specs.Keys.{tree_key_cmp}
 use Rattle.table.specs.Plain.{Items}
 use Rattle.table.specs.declared.items.Item.{Item}
 use Rattle.table.specs.declared.operations.Target.{Target}
@@ -19,7 +19,7 @@ use Rattle.versions.specs.declared.records.Record.{Record}
 
 -- the record of a key, or none
 abbrev pub record_at : List (List ℕ × Record) → List ℕ → Option Record
-record_at records key = lookup (is_at (place_cmp key)) records
+record_at records key = lookup (is_at (tree_key_cmp key)) records
 
 -- the item of a record, none if there is none
 abbrev pub item_in : Option Record → Option Item
@@ -49,12 +49,12 @@ SameNumbers old new = (q : List ℕ) → key_numbers new q ≡ key_numbers old q
 
 -- a key has this item in the base, and no other key's item changes
 abbrev pub HasItem : List ℕ → Option Item → List (List ℕ × Record) → List (List ℕ × Record) → Type 0
-HasItem key item old new = (q : List ℕ) → base_item new q ≡ cond (is_at (place_cmp key) q) item (base_item old q)
+HasItem key item old new = (q : List ℕ) → base_item new q ≡ cond (is_at (tree_key_cmp key) q) item (base_item old q)
 
 -- a key has these numbers, and no other key's change
 abbrev pub HasNumbers : List ℕ → List ℕ → List (List ℕ × Record) → List (List ℕ × Record) → Type 0
 HasNumbers key numbers old new =
-    (q : List ℕ) → key_numbers new q ≡ cond (is_at (place_cmp key) q) numbers (key_numbers old q)
+    (q : List ℕ) → key_numbers new q ≡ cond (is_at (tree_key_cmp key) q) numbers (key_numbers old q)
 
 -- with this item at a key, or without one
 abbrev pub with_item : Items → List ℕ → Option Item → Items

@@ -9,15 +9,15 @@ ghost use Rattle.versions.specs.Records.{item_after, is_set, is_cleared};
 
 use crate::numbers::Numbers;
 use crate::records::{self, Record};
-use crate::{Entry, Litter};
+use crate::{DeferredFree, Entry};
 use std::alloc::{AllocError, Global};
 use std::collections::{BTreeMap, VecDeque};
-use table::{Change, Place, Target};
+use table::{Change, Target, TreeKey};
 
 /// Notes the entry at its key, or among the clears. Refused, it leaves the items and the numbers as they were.
 pub(crate) fn note(
     alloc: Global,
-    records: &mut BTreeMap<Place, Record>,
+    records: &mut BTreeMap<TreeKey, Record>,
     clears: &mut Numbers,
     entry: &Entry,
 ) -> Result<(), AllocError>
@@ -40,10 +40,10 @@ pub(crate) fn note(
 
 /// Moves the first n entries to the base.
 pub(crate) fn settle_first(
-    records: &mut BTreeMap<Place, Record>,
+    records: &mut BTreeMap<TreeKey, Record>,
     clears: &mut Numbers,
     entries: &mut VecDeque<Entry>,
-    litter: &mut Litter<Record>,
+    deferred_free: &mut DeferredFree<Record>,
     count: u64,
 )
     requires enough { count ≤ length entries.old.items }
@@ -54,16 +54,16 @@ pub(crate) fn settle_first(
         (take count entries.old.items) }
 {
     for _moved in 0..count {
-        settle_next(records, clears, entries, litter);
+        settle_next(records, clears, entries, deferred_free);
     }
 }
 
 // Moves the first entry to the base, if there is one.
 fn settle_next(
-    records: &mut BTreeMap<Place, Record>,
+    records: &mut BTreeMap<TreeKey, Record>,
     clears: &mut Numbers,
     entries: &mut VecDeque<Entry>,
-    litter: &mut Litter<Record>,
+    deferred_free: &mut DeferredFree<Record>,
 )
     requires { IsIndex records.old.entries clears.old entries.old.items }
     ensures entries { entries.new.items ≡ drop 1 entries.old.items }
@@ -74,15 +74,22 @@ fn settle_next(
         return;
     };
     let (target, change) = entry.into_change();
-    settle(records, clears, litter, &target, change, entries.is_empty());
+    settle(
+        records,
+        clears,
+        deferred_free,
+        &target,
+        change,
+        entries.is_empty(),
+    );
 }
 
 // Makes the change in the base, and drops its number if one was noted. The last entry leaves no numbers if it
 // clears.
 fn settle(
-    records: &mut BTreeMap<Place, Record>,
+    records: &mut BTreeMap<TreeKey, Record>,
     clears: &mut Numbers,
-    litter: &mut Litter<Record>,
+    deferred_free: &mut DeferredFree<Record>,
     target: &Target,
     change: Change,
     is_last: bool,
@@ -101,7 +108,7 @@ fn settle(
         (Target::One(key), Change::Put(item)) => records::settle(records, key, Some(item)),
         (Target::One(key), Change::Drop) => records::settle(records, key, None),
         (_, Change::Clear) => {
-            records::clear(records, litter, is_last);
+            records::clear(records, deferred_free, is_last);
             clears.drop_first();
         }
         (_, Change::Keep) | (Target::All, _) => {}

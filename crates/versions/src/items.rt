@@ -7,28 +7,32 @@ ghost use Rattle.versions.specs.Stores.{items_put};
 use crate::records::Record;
 use std::alloc::{AllocError, Global};
 use std::collections::BTreeMap;
-use table::{Item, Key, Place};
+use table::{Item, Key, TreeKey};
 
 /// The items of all records with their keys, whose bytes they share.
 pub(crate) fn items_of(
     alloc: Global,
-    records: &BTreeMap<Place, Record>,
+    records: &BTreeMap<TreeKey, Record>,
 ) -> Result<Vec<(Key, Item)>, AllocError>
     ensures { IfOk result (λ found. items_put map.empty found.items ≡ base_of records.now.entries) }
 {
     let mut found = Vec::new(alloc);
-    for (place, record) in records.iter() {
-        add(place, &record.item, &mut found)?;
+    for (tree_key, record) in records.iter() {
+        add(tree_key, &record.item, &mut found)?;
     }
     Ok(found)
 }
 
 // Adds a key with its item, if it has one.
-fn add(place: &Place, item: &Option<Item>, found: &mut Vec<(Key, Item)>) -> Result<(), AllocError>
-    ensures { OnOk result (found.new.items ≡ found.old.items ++ put_of place.now item.now) }
+fn add(
+    tree_key: &TreeKey,
+    item: &Option<Item>,
+    found: &mut Vec<(Key, Item)>,
+) -> Result<(), AllocError>
+    ensures { OnOk result (found.new.items ≡ found.old.items ++ put_of tree_key.now item.now) }
 {
     if let Some(item) = item {
-        found.push((place.key()?, item.clone()?))?;
+        found.push((tree_key.key()?, item.clone()?))?;
     }
     Ok(())
 }

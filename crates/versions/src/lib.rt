@@ -2,17 +2,17 @@
 #![tactic(auto)]
 
 mod changes;
+mod deferred_free;
 mod entries;
 mod items;
 mod laws;
-mod litter;
 mod lookups;
 mod numbers;
 mod queues;
 mod records;
 mod stores;
 
+pub use deferred_free::DeferredFree;
 pub use entries::Entry;
 pub use laws::{items_follow_the_log, parts_are_logs, stores_stay_stores};
-pub use litter::Litter;
 pub use stores::{Store, StoreFault};

@@ -14,12 +14,12 @@ use crate::lookups::{is_above, item_from};
 use crate::numbers::Numbers;
 use crate::queues::give_back;
 use crate::records::{Record, record_of};
-use crate::{Entry, Litter};
+use crate::{DeferredFree, Entry};
 use std::alloc::{AllocError, Global};
 use std::collections::vec_deque::Iter;
 use std::collections::{BTreeMap, VecDeque};
 use std::marker::Model;
-use table::{Item, Key, Place};
+use table::{Item, Key, TreeKey};
 use thiserror::Error;
 
 // The room that the entries keep if none is left: enough for a chain under load, without a block of memory each
@@ -47,11 +47,11 @@ impl From<AllocError> for StoreFault {
 #[derive(Drop)]
 pub struct Store {
     alloc: Global,
-    records: BTreeMap<Place, Record>,
+    records: BTreeMap<TreeKey, Record>,
     entries: VecDeque<Entry>,
     clears: Numbers,
     // What clears took away.
-    litter: Litter<Record>,
+    deferred_free: DeferredFree<Record>,
     floor: u64,
     acked: u64,
     last: u64,
@@ -87,7 +87,7 @@ impl Store {
             records: BTreeMap::new(alloc),
             entries: VecDeque::new(alloc),
             clears: Numbers::new(alloc),
-            litter: Litter::new(alloc),
+            deferred_free: DeferredFree::new(alloc),
             floor: 0,
             acked: 0,
             last: 0,
@@ -157,11 +157,11 @@ impl Store {
             &mut self.records,
             &mut self.clears,
             &mut self.entries,
-            &mut self.litter,
+            &mut self.deferred_free,
             count,
         );
         give_back(&mut self.entries, KEPT);
-        self.litter.sweep();
+        self.deferred_free.sweep();
         self.floor = n;
     }
 

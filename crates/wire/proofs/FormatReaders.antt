@@ -256,24 +256,24 @@ any16_reader = number_reader w16 any wide16
 beat_reader : IsReader beat_at format.beat
 unfolding beat_at
 beat_reader = in_turn (number_at w64 any) (number w64 any) _ _ any64_reader
-    (λ reign. amount_reader (λ stamp. frames.Beat (record { reign = reign; stamp = stamp })))
+    (λ epoch. amount_reader (λ stamp. frames.Beat (record { epoch = epoch; stamp = stamp })))
 
 alive_reader : IsReader alive_at format.alive
 unfolding alive_at
 alive_reader =
     in_turn (number_at w64 any) (number w64 any) _ _ any64_reader
-    (λ reign. in_turn (number_at w64 any) (number w64 any) _ _ any64_reader
+    (λ epoch. in_turn (number_at w64 any) (number w64 any) _ _ any64_reader
     (λ stamp. in_turn (number_at w64 any) (number w64 any) _ _ any64_reader
     (λ end. in_turn (number_at w64 any) (number w64 any) _ _ any64_reader
     (λ term. in_turn (number_at w16 any) (number w16 any) _ _ any16_reader
     (λ gone. mapped (number_at w16 any) (number w16 any)
     (λ known. frames.Alive
-    (record { reign = reign; stamp = stamp; end = end; term = term; gone = gone; known = known })) any16_reader)))))
+    (record { epoch = epoch; stamp = stamp; end = end; term = term; gone = gone; known = known })) any16_reader)))))
 
 silence_reader : IsReader silence_at format.silence
 unfolding silence_at
 silence_reader = in_turn (number_at w64 any) (number w64 any) _ _ any64_reader
-    (λ reign. mapped (byte_at (below 16)) (byte (below 16)) (λ id. frames.Silent (record { reign = reign; id = id }))
+    (λ epoch. mapped (byte_at (below 16)) (byte (below 16)) (λ id. frames.Silent (record { epoch = epoch; id = id }))
     (byte_reader (below 16)))
 
 watching_reader : (kind : ℕ) → IsReader (watching_at kind) (format.watching kind)

@@ -255,26 +255,26 @@ within_refusal =
 within_beat : IsWithin 16 beat_at
 unfolding beat_at
 within_beat = within_turn 8 8 (number_at w64 any) _ (within_number w64 any)
-    (λ reign bytes rest e. within_amount (λ stamp. frames.Beat (record { reign = reign; stamp = stamp })))
+    (λ epoch bytes rest e. within_amount (λ stamp. frames.Beat (record { epoch = epoch; stamp = stamp })))
 
 within_alive : IsWithin 36 alive_at
 unfolding alive_at
 within_alive =
     within_turn 8 28 (number_at w64 any) _ (within_number w64 any)
-    (λ reign bytes rest e. within_turn 8 20 (number_at w64 any) _ (within_number w64 any)
+    (λ epoch bytes rest e. within_turn 8 20 (number_at w64 any) _ (within_number w64 any)
     (λ stamp bytes rest e. within_turn 8 12 (number_at w64 any) _ (within_number w64 any)
     (λ end bytes rest e. within_turn 8 4 (number_at w64 any) _ (within_number w64 any)
     (λ term bytes rest e. within_turn 2 2 (number_at w16 any) _ (within_number w16 any)
     (λ gone bytes rest e. within_mapped 2 (number_at w16 any)
     (λ known. frames.Alive
-    (record { reign = reign; stamp = stamp; end = end; term = term; gone = gone; known = known }))
+    (record { epoch = epoch; stamp = stamp; end = end; term = term; gone = gone; known = known }))
     (within_number w16 any))))))
 
 within_silence : IsWithin 9 silence_at
 unfolding silence_at
 within_silence = within_turn 8 1 (number_at w64 any) _ (within_number w64 any)
-    (λ reign bytes rest e. within_mapped 1 (byte_at (below 16))
-    (λ id. frames.Silent (record { reign = reign; id = id })) (within_byte (below 16)))
+    (λ epoch bytes rest e. within_mapped 1 (byte_at (below 16))
+    (λ id. frames.Silent (record { epoch = epoch; id = id })) (within_byte (below 16)))
 
 within_watching : (kind : ℕ) → IsWithin 36 (watching_at kind)
 unfolding watching_at

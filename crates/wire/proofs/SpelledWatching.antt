@@ -29,16 +29,16 @@ at_kind n kind f text e h = subst (λ k. SentFrame k f text) (sym (eqb-true kind
 
 -- ---- what masters send
 
-reign_from : (f : Frame) (text : List ℕ)
-    → (followed (number w64 any) (λ reign. makes (Reign reign))).Spells f text
+epoch_from : (f : Frame) (text : List ℕ)
+    → (followed (number w64 any) (λ epoch. makes (Reign epoch))).Spells f text
     → SentFrame 11 f text
-reign_from f text s =
+epoch_from f text s =
     let m = from_made (number w64 any) Reign f text s in
     subst (λ f. SentFrame 11 f text) (sym m.2) (m.1.0, ap (λ (t : List ℕ). 2 ∷ 11 ∷ t) m.1.2)
 
 beat_from : (f : Frame) (text : List ℕ) → format.beat.Spells f text → SentFrame 12 f text
 beat_from f text s =
-    let m = from_made (number w64 any) (λ stamp. frames.Beat (record { reign = s.0; stamp = stamp })) f s.2 s.4 in
+    let m = from_made (number w64 any) (λ stamp. frames.Beat (record { epoch = s.0; stamp = stamp })) f s.2 s.4 in
     subst (λ f. SentFrame 12 f text) (sym m.2) (
       (s.3.0, m.1.0),
       ap (λ (t : List ℕ). 2 ∷ 12 ∷ t) (joined text s.1 s.2 (eight_bytes s.0) (eight_bytes m.0) s.5 s.3.2 m.1.2),
@@ -47,17 +47,17 @@ beat_from f text s =
 -- a beat in range is spelled by the format
 pub beat_to : (beat : Beat) → IsBeat beat → format.beat.Spells (frames.Beat beat) (beat_spelling beat)
 beat_to beat h = (
-  beat.reign,
-  eight_bytes beat.reign,
+  beat.epoch,
+  eight_bytes beat.epoch,
   eight_bytes beat.stamp,
   (h.0, refl, refl),
-  amount_to (λ stamp. frames.Beat (record { reign = beat.reign; stamp = stamp })) beat.stamp h.1,
+  amount_to (λ stamp. frames.Beat (record { epoch = beat.epoch; stamp = stamp })) beat.stamp h.1,
   refl,
 )
 
 silence_from : (f : Frame) (text : List ℕ) → format.silence.Spells f text → SentFrame 14 f text
 silence_from f text s =
-    let m = from_made (byte (below 16)) (λ id. frames.Silent (record { reign = s.0; id = id })) f s.2 s.4 in
+    let m = from_made (byte (below 16)) (λ id. frames.Silent (record { epoch = s.0; id = id })) f s.2 s.4 in
     subst (λ f. SentFrame 14 f text) (sym m.2) (
       (s.3.0, below_is 16 m.0 m.1.0),
       ap (λ (t : List ℕ). 2 ∷ 14 ∷ t) (joined text s.1 s.2 (eight_bytes s.0) (m.0 ∷ []) s.5 s.3.2 m.1.1),
@@ -68,11 +68,11 @@ pub silence_to : (silent : Silent)
     → IsSilent silent
     → format.silence.Spells (frames.Silent silent) (silent_spelling silent)
 silence_to silent h = (
-  silent.reign,
-  eight_bytes silent.reign,
+  silent.epoch,
+  eight_bytes silent.epoch,
   silent.id ∷ [],
   (h.0, refl, refl),
-  to_made (byte (below 16)) (λ id. frames.Silent (record { reign = silent.reign; id = id })) silent.id
+  to_made (byte (below 16)) (λ id. frames.Silent (record { epoch = silent.epoch; id = id })) silent.id
       (silent.id ∷ []) (lt-ltb silent.id 16 h.1, refl),
   refl,
 )
@@ -87,7 +87,7 @@ alive_from f text s =
     let gone = term.4 in
     let m = from_made (number w16 any)
     (λ known. frames.Alive
-    (record { reign = s.0; stamp = stamp.0; end = end.0; term = term.0; gone = gone.0; known = known })) f
+    (record { epoch = s.0; stamp = stamp.0; end = end.0; term = term.0; gone = gone.0; known = known })) f
     gone.2 gone.4 in
     let e4 : term.2 ≡ to_be_bytes w16 gone.0 ++ to_be_bytes w16 m.0 =
     joined term.2 gone.1 gone.2 (to_be_bytes w16 gone.0) (to_be_bytes w16 m.0) gone.5 gone.3.2 m.1.2 in
@@ -107,8 +107,8 @@ alive_from f text s =
 -- and how a server is
 pub alive_to : (alive : Alive) → IsAlive alive → format.alive.Spells (frames.Alive alive) (alive_spelling alive)
 alive_to alive h = (
-  alive.reign,
-  eight_bytes alive.reign,
+  alive.epoch,
+  eight_bytes alive.epoch,
   _,
   (h.0, refl, refl),
   (
@@ -134,7 +134,7 @@ alive_to alive h = (
           to_made (number w16 any)
               (λ known. frames.Alive
               (record {
-                reign = alive.reign;
+                epoch = alive.epoch;
                 stamp = alive.stamp;
                 end = alive.end;
                 term = alive.term;
@@ -160,7 +160,7 @@ pub watching_from : (kind : ℕ) (f : Frame) (text : List ℕ)
     → SentFrame kind f text
 watching_from kind f text s0 =
     elim (by_test (kind == 11) _ _ f text s0) [
-      | inl h ↦ at_kind 11 kind f text h.0 (reign_from f text h.1)
+      | inl h ↦ at_kind 11 kind f text h.0 (epoch_from f text h.1)
       | inr s1 ↦ elim (by_test (kind == 12) format.beat _ f text s1.1) [
         | inl h ↦ at_kind 12 kind f text h.0 (beat_from f text h.1)
         | inr s2 ↦ elim (by_test (kind == 13) format.alive _ f text s2.1) [

@@ -10,7 +10,8 @@ use Rattle.wire.specs.declared.frames.Frame.{Frame}
 use Rattle.wire.specs.Spellings.{spelling, IsFrame}
 use Rattle.wire.specs.Grammar.{IsFirst, IsMalformed}
 use Rattle.wire.specs.Fronts.{Read, front}
-use Rattle.wire.specs.Streams.{Held, fresh, fed, taken, Action, Feed, Next, with_frame, driven, stream_of, and_later}
+use Rattle.wire.specs.Streams.{Held, fresh, fed, taken, ReaderCall, Feed, Next, with_frame, driven, stream_of}
+use Rattle.wire.specs.Streams.{and_later}
 use Rattle.wire.specs.Streams.{frames_upto, frames_in}
 use Rattle.wire.proofs.FrontLaws.{first_to, malformed_to, front_takes, front_stays, malformed_stays, old_stays}
 
@@ -68,14 +69,15 @@ abbrev IsSound : Held → Type 0
 IsSound h = h.closed ≡ true → IsEnded h.unread
 
 -- the frames from now on, whatever follows
-abbrev Follows : Held → List Action → Type 0
-Follows h actions =
-    (driven h actions).0 ++ frames_in (driven h actions).1.unread ≡ frames_in (h.unread ++ stream_of actions)
+abbrev Follows : Held → List ReaderCall → Type 0
+Follows h reader_calls =
+    (driven h reader_calls).0 ++ frames_in (driven h reader_calls).1.unread ≡ frames_in
+    (h.unread ++ stream_of reader_calls)
 
 -- the same by what was read at the front
-abbrev After : Held → List Action → Read Frame → Type 0
-After h actions r = with_frame (taken h r).0 (driven (taken h r).1 actions).0
-    ++ frames_in (driven (taken h r).1 actions).1.unread ≡ frames_in (h.unread ++ stream_of actions)
+abbrev After : Held → List ReaderCall → Read Frame → Type 0
+After h reader_calls r = with_frame (taken h r).0 (driven (taken h r).1 reader_calls).0
+    ++ frames_in (driven (taken h r).1 reader_calls).1.unread ≡ frames_in (h.unread ++ stream_of reader_calls)
 
 ended_none : (bytes more : List ℕ) → IsEnded bytes → frames_in (bytes ++ more) ≡ []
 ended_none bytes more e = frames_none (bytes ++ more) e.stop (e.stays more)
@@ -83,65 +85,67 @@ ended_none bytes more e = frames_none (bytes ++ more) e.stop (e.stays more)
 ended_not_ok : (bytes : List ℕ) (x : Frame × List ℕ) → IsEnded bytes → front bytes ≡ Ok x → ⊥
 ended_not_ok bytes x e ok = let read : front bytes ≡ Err e.stop = ap front (sym (append-nil bytes)) ∙ e.stays [] in cc
 
--- what holds of the actions that are left, at any reader
-abbrev Later : List Action → Type 0
-Later actions = (h : Held) → IsSound h → Follows h actions
+-- what holds of the calls that are left, at any reader
+abbrev Later : List ReaderCall → Type 0
+Later reader_calls = (h : Held) → IsSound h → Follows h reader_calls
 
-after_piece : (piece : List ℕ) (actions : List Action) (h : Held)
+after_piece : (piece : List ℕ) (reader_calls : List ReaderCall) (h : Held)
     → IsSound h
-    → Later actions
+    → Later reader_calls
     → (b : Bool)
     → h.closed ≡ b
-    → Follows h (Feed piece ∷ actions)
-after_piece piece actions h sound later true e =
+    → Follows h (Feed piece ∷ reader_calls)
+after_piece piece reader_calls h sound later true e =
     let same : fed h piece ≡ h = rw e refl in
     let ended = sound e in
-    subst (λ (g : Held). (driven g actions).0 ++ frames_in (driven g actions).1.unread
-    ≡ frames_in (h.unread ++ (piece ++ stream_of actions))) (sym same)
-    (later h sound ∙ ended_none h.unread (stream_of actions) ended
-    ∙ sym (ended_none h.unread (piece ++ stream_of actions) ended))
-after_piece piece actions h sound later false e =
+    subst (λ (g : Held). (driven g reader_calls).0 ++ frames_in (driven g reader_calls).1.unread
+    ≡ frames_in (h.unread ++ (piece ++ stream_of reader_calls))) (sym same)
+    (later h sound ∙ ended_none h.unread (stream_of reader_calls) ended
+    ∙ sym (ended_none h.unread (piece ++ stream_of reader_calls) ended))
+after_piece piece reader_calls h sound later false e =
     let longer : Held = record h { unread = h.unread ++ piece } in
     let same : fed h piece ≡ longer = rw e refl in
-    subst (λ (g : Held). (driven g actions).0 ++ frames_in (driven g actions).1.unread
-    ≡ frames_in (h.unread ++ (piece ++ stream_of actions))) (sym same)
+    subst (λ (g : Held). (driven g reader_calls).0 ++ frames_in (driven g reader_calls).1.unread
+    ≡ frames_in (h.unread ++ (piece ++ stream_of reader_calls))) (sym same)
     (later longer (λ closed. absurd (never h.closed closed e))
-    ∙ ap frames_in (append_assoc h.unread piece (stream_of actions)))
+    ∙ ap frames_in (append_assoc h.unread piece (stream_of reader_calls)))
   where
     never : (b : Bool) → b ≡ true → b ≡ false → ⊥
     never b closed e = cc
 
-after_next : (actions : List Action) (h : Held)
+after_next : (reader_calls : List ReaderCall) (h : Held)
     → IsSound h
-    → Later actions
+    → Later reader_calls
     → (r : Read Frame)
     → front h.unread ≡ r
-    → Follows h (Next ∷ actions)
-after_next actions h sound later (Ok x) e =
-    subst (After h actions) (sym e)
+    → Follows h (Next ∷ reader_calls)
+after_next reader_calls h sound later (Ok x) e =
+    subst (After h reader_calls) (sym e)
     (ap (λ (fs : List Frame). x.0 ∷ fs)
     (later (record h { unread = x.1 }) (λ closed. absurd (ended_not_ok h.unread x (sound closed) e)))
-    ∙ sym (frames_some (h.unread ++ stream_of actions) x.0 (x.1 ++ stream_of actions)
-    (front_stays h.unread (stream_of actions) x.0 x.1 e)))
-after_next actions h sound later (Err (Short k)) e = subst (After h actions) (sym e) (later h sound)
-after_next actions h sound later (Err Malformed) e =
-    subst (After h actions) (sym e)
+    ∙ sym (frames_some (h.unread ++ stream_of reader_calls) x.0 (x.1 ++ stream_of reader_calls)
+    (front_stays h.unread (stream_of reader_calls) x.0 x.1 e)))
+after_next reader_calls h sound later (Err (Short k)) e = subst (After h reader_calls) (sym e) (later h sound)
+after_next reader_calls h sound later (Err Malformed) e =
+    subst (After h reader_calls) (sym e)
     (later (record h { closed = true })
     (λ closed. record { stop = Malformed; stays = λ more. malformed_stays h.unread more e }))
-after_next actions h sound later (Err Old) e =
-    subst (After h actions) (sym e)
+after_next reader_calls h sound later (Err Old) e =
+    subst (After h reader_calls) (sym e)
     (later (record h { closed = true })
     (λ closed. record { stop = Old; stays = λ more. old_stays h.unread more e }))
 
-follows : (actions : List Action) → Later actions
+follows : (reader_calls : List ReaderCall) → Later reader_calls
 follows [] h sound = ap frames_in (sym (append-nil h.unread))
-follows (Feed piece ∷ actions) h sound = after_piece piece actions h sound (follows actions) h.closed refl
-follows (Next ∷ actions) h sound = after_next actions h sound (follows actions) (front h.unread) refl
+follows (Feed piece ∷ reader_calls) h sound =
+    after_piece piece reader_calls h sound (follows reader_calls) h.closed refl
+follows (Next ∷ reader_calls) h sound = after_next reader_calls h sound (follows reader_calls) (front h.unread) refl
 
 -- the frames that a reader gave, and has still to give, are those of all its bytes as one stream
-pub any_cutting : (actions : List Action)
-    → (driven fresh actions).0 ++ frames_in (driven fresh actions).1.unread ≡ frames_in (stream_of actions)
-any_cutting actions = follows actions fresh sound
+pub any_cutting : (reader_calls : List ReaderCall)
+    → (driven fresh reader_calls).0
+    ++ frames_in (driven fresh reader_calls).1.unread ≡ frames_in (stream_of reader_calls)
+any_cutting reader_calls = follows reader_calls fresh sound
   where
     sound : IsSound fresh
     sound closed = absurd cc
@@ -161,11 +165,11 @@ written_again (f ∷ fs) more h =
     ∙ ap (λ (fs : List Frame). f ∷ fs) (written_again fs more h.1)
 
 -- what was written is read again, whatever follows it, and however all of it is cut
-pub written_is_read : (actions : List Action) (fs : List Frame) (more : List ℕ)
+pub written_is_read : (reader_calls : List ReaderCall) (fs : List Frame) (more : List ℕ)
     → AllByRecursion IsFrame fs
-    → stream_of actions ≡ flat_map spelling fs ++ more
-    → (driven fresh actions).0 ++ frames_in (driven fresh actions).1.unread ≡ fs ++ frames_in more
-written_is_read actions fs more h e = any_cutting actions ∙ ap frames_in e ∙ written_again fs more h
+    → stream_of reader_calls ≡ flat_map spelling fs ++ more
+    → (driven fresh reader_calls).0 ++ frames_in (driven fresh reader_calls).1.unread ≡ fs ++ frames_in more
+written_is_read reader_calls fs more h e = any_cutting reader_calls ∙ ap frames_in e ∙ written_again fs more h
 
 -- after a bad front nothing is read
 pub bad_is_final : (f : Frame) (bytes more rest : List ℕ) → IsMalformed bytes → IsFirst f (bytes ++ more) rest → ⊥

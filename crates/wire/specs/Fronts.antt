@@ -266,15 +266,15 @@ refusal_at bytes = do
 -- a beat
 unfoldable pub beat_at : List ℕ → Read Frame
 beat_at bytes = do
-  reign ← number_at w64 any bytes
-  stamp ← number_at w64 any reign.1
-  Ok (frames.Beat (record { reign = reign.0; stamp = stamp.0 }), stamp.1)
+  epoch ← number_at w64 any bytes
+  stamp ← number_at w64 any epoch.1
+  Ok (frames.Beat (record { epoch = epoch.0; stamp = stamp.0 }), stamp.1)
 
 -- how a server is
 unfoldable pub alive_at : List ℕ → Read Frame
 alive_at bytes = do
-  reign ← number_at w64 any bytes
-  stamp ← number_at w64 any reign.1
+  epoch ← number_at w64 any bytes
+  stamp ← number_at w64 any epoch.1
   end ← number_at w64 any stamp.1
   term ← number_at w64 any end.1
   gone ← number_at w16 any term.1
@@ -282,7 +282,7 @@ alive_at bytes = do
   Ok (
     frames.Alive
         (record {
-          reign = reign.0;
+          epoch = epoch.0;
           stamp = stamp.0;
           end = end.0;
           term = term.0;
@@ -295,14 +295,14 @@ alive_at bytes = do
 -- a notice of silence
 unfoldable pub silence_at : List ℕ → Read Frame
 silence_at bytes = do
-  reign ← number_at w64 any bytes
-  id ← byte_at (below 16) reign.1
-  Ok (frames.Silent (record { reign = reign.0; id = id.0 }), id.1)
+  epoch ← number_at w64 any bytes
+  id ← byte_at (below 16) epoch.1
+  Ok (frames.Silent (record { epoch = epoch.0; id = id.0 }), id.1)
 
 -- what is read after a kind from 11 on
 unfoldable pub watching_at : ℕ → List ℕ → Read Frame
 watching_at kind bytes =
-    if kind == 11 then (number_at w64 any bytes >>= λ reign. Ok (Reign reign.0, reign.1))
+    if kind == 11 then (number_at w64 any bytes >>= λ epoch. Ok (Reign epoch.0, epoch.1))
     else if kind == 12 then beat_at bytes
     else if kind == 13 then alive_at bytes
     else if kind == 14 then silence_at bytes

@@ -203,36 +203,36 @@ refusal_of code =
 abbrev pub refusal : Part Frame
 refusal = byte any >>= λ code. refusal_of code
 
--- a beat: the master's reign, and the stamp that it brings back
+-- a beat: the master's epoch, and the stamp that it brings back
 abbrev pub beat : Part Frame
 beat = do
-  reign ← number w64 any
+  epoch ← number w64 any
   stamp ← number w64 any
-  makes (frames.Beat (record { reign = reign; stamp = stamp }))
+  makes (frames.Beat (record { epoch = epoch; stamp = stamp }))
 
--- how a server is: its reign, its stamp, its lease's end and term, who is gone, and who was while the lease held
+-- how a server is: its epoch, its stamp, its lease's end and term, who is gone, and who was while the lease held
 abbrev pub alive : Part Frame
 alive = do
-  reign ← number w64 any
+  epoch ← number w64 any
   stamp ← number w64 any
   end ← number w64 any
   term ← number w64 any
   gone ← number w16 any
   known ← number w16 any
   makes (frames.Alive
-      (record { reign = reign; stamp = stamp; end = end; term = term; gone = gone; known = known }))
+      (record { epoch = epoch; stamp = stamp; end = end; term = term; gone = gone; known = known }))
 
--- a notice of silence: the master's reign, and the server
+-- a notice of silence: the master's epoch, and the server
 abbrev pub silence : Part Frame
 silence = do
-  reign ← number w64 any
+  epoch ← number w64 any
   id ← byte (below 16)
-  makes (frames.Silent (record { reign = reign; id = id }))
+  makes (frames.Silent (record { epoch = epoch; id = id }))
 
--- what stands after a kind from 11 on: 11 greets in a reign, 12 is a beat, 13 answers both, 14 is a notice of silence
+-- what stands after a kind from 11 on: 11 greets in an epoch, 12 is a beat, 13 answers both, 14 is a notice of silence
 abbrev pub watching : ℕ → Part Frame
 watching kind =
-    either (kind == 11) (number w64 any >>= λ reign. makes (Reign reign))
+    either (kind == 11) (number w64 any >>= λ epoch. makes (Reign epoch))
     (either (kind == 12) beat
     (either (kind == 13) alive
     (either (kind == 14) silence refused)))

@@ -114,21 +114,21 @@ introduction_spelling opener = opener.servers ∷ (eight_bytes opener.start ++ k
 abbrev pub acceptance_spelling : Acceptance → List ℕ
 acceptance_spelling answer = eight_bytes answer.start ++ to_be_bytes w16 answer.gone
 
--- a beat: the reign, and the stamp that it brings back
+-- a beat: the epoch, and the stamp that it brings back
 abbrev pub beat_spelling : Beat → List ℕ
-beat_spelling beat = eight_bytes beat.reign ++ eight_bytes beat.stamp
+beat_spelling beat = eight_bytes beat.epoch ++ eight_bytes beat.stamp
 
--- how a server is: its reign, its stamp, its lease's end and term, who is gone, and who was while the lease held
+-- how a server is: its epoch, its stamp, its lease's end and term, who is gone, and who was while the lease held
 abbrev pub alive_spelling : Alive → List ℕ
 alive_spelling alive =
-    eight_bytes alive.reign
+    eight_bytes alive.epoch
     ++ (eight_bytes alive.stamp
     ++ (eight_bytes alive.end
     ++ (eight_bytes alive.term ++ (to_be_bytes w16 alive.gone ++ to_be_bytes w16 alive.known))))
 
--- a notice of silence: the reign, and the server
+-- a notice of silence: the epoch, and the server
 abbrev pub silent_spelling : Silent → List ℕ
-silent_spelling silent = eight_bytes silent.reign ++ silent.id ∷ []
+silent_spelling silent = eight_bytes silent.epoch ++ silent.id ∷ []
 
 -- the code of a reason
 abbrev pub code_of : Reason → ℕ
@@ -147,7 +147,7 @@ spelling (frames.Introduction opener) = 2 ∷ 7 ∷ introduction_spelling opener
 spelling (Accepted answer) = 2 ∷ 8 ∷ acceptance_spelling answer
 spelling (Refused reason) = 2 ∷ 9 ∷ code_of reason ∷ []
 spelling (Noted id) = 2 ∷ 10 ∷ id ∷ []
-spelling (Reign reign) = 2 ∷ 11 ∷ eight_bytes reign
+spelling (Reign epoch) = 2 ∷ 11 ∷ eight_bytes epoch
 spelling (frames.Beat beat) = 2 ∷ 12 ∷ beat_spelling beat
 spelling (frames.Alive alive) = 2 ∷ 13 ∷ alive_spelling alive
 spelling (frames.Silent silent) = 2 ∷ 14 ∷ silent_spelling silent
@@ -162,7 +162,7 @@ IsInRange (frames.Introduction opener) = (1 ≤ opener.servers) × (opener.serve
 IsInRange (Accepted answer) = Unit {0}
 IsInRange (Refused reason) = Unit {0}
 IsInRange (Noted id) = id < 16
-IsInRange (Reign reign) = Unit {0}
+IsInRange (Reign epoch) = Unit {0}
 IsInRange (frames.Beat beat) = Unit {0}
 IsInRange (frames.Alive alive) = Unit {0}
 IsInRange (frames.Silent silent) = silent.id < 16
@@ -225,17 +225,17 @@ IsAcceptance answer = (answer.start < 2 ^ 64) × (answer.gone < 2 ^ 16)
 
 -- and of a beat
 abbrev pub IsBeat : Beat → Type 0
-IsBeat beat = (beat.reign < 2 ^ 64) × (beat.stamp < 2 ^ 64)
+IsBeat beat = (beat.epoch < 2 ^ 64) × (beat.stamp < 2 ^ 64)
 
 -- of how a server is
 abbrev pub IsAlive : Alive → Type 0
 IsAlive alive =
-    (alive.reign < 2 ^ 64) × (alive.stamp < 2 ^ 64) × (alive.end < 2 ^ 64) × (alive.term < 2 ^ 64)
+    (alive.epoch < 2 ^ 64) × (alive.stamp < 2 ^ 64) × (alive.end < 2 ^ 64) × (alive.term < 2 ^ 64)
     × (alive.gone < 2 ^ 16) × (alive.known < 2 ^ 16)
 
 -- of a notice of silence
 abbrev pub IsSilent : Silent → Type 0
-IsSilent silent = (silent.reign < 2 ^ 64) × (silent.id < 16)
+IsSilent silent = (silent.epoch < 2 ^ 64) × (silent.id < 16)
 
 -- a frame all of whose fields are in their ranges
 abbrev pub IsFrame : Frame → Type 0
@@ -246,7 +246,7 @@ IsFrame (frames.Introduction opener) = IsIntroduction opener
 IsFrame (Accepted answer) = IsAcceptance answer
 IsFrame (Refused reason) = Unit {0}
 IsFrame (Noted id) = id < 16
-IsFrame (Reign reign) = reign < 2 ^ 64
+IsFrame (Reign epoch) = epoch < 2 ^ 64
 IsFrame (frames.Beat beat) = IsBeat beat
 IsFrame (frames.Alive alive) = IsAlive alive
 IsFrame (frames.Silent silent) = IsSilent silent

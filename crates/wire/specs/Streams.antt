@@ -35,27 +35,27 @@ IsMissing zero bytes = Unit {0}
 IsMissing (suc k) bytes = front bytes ≡ Err (Short (suc k))
 
 -- what may be done with a reader
-pub data Action : Type 0 where
-  Feed : (piece : List ℕ) → Action
-  Next : Action
+pub data ReaderCall : Type 0 where
+  Feed : (piece : List ℕ) → ReaderCall
+  Next : ReaderCall
 
 -- a frame that was given, in front of others
 abbrev pub with_frame : Option Frame → List Frame → List Frame
 with_frame None frames = frames
 with_frame (Some f) frames = f ∷ frames
 
--- the frames that a reader gives along these actions, and what it holds in the end
-abbrev pub driven : Held → List Action → List Frame × Held
+-- the frames that a reader gives along these calls, and what it holds in the end
+abbrev pub driven : Held → List ReaderCall → List Frame × Held
 driven h [] = ([], h)
-driven h (Feed piece ∷ actions) = driven (fed h piece) actions
-driven h (Next ∷ actions) =
-    let given = next_of h in let rest = driven given.1 actions in (with_frame given.0 rest.0, rest.1)
+driven h (Feed piece ∷ reader_calls) = driven (fed h piece) reader_calls
+driven h (Next ∷ reader_calls) =
+    let given = next_of h in let rest = driven given.1 reader_calls in (with_frame given.0 rest.0, rest.1)
 
--- the bytes that these actions feed, as one stream
-abbrev pub stream_of : List Action → List ℕ
+-- the bytes that these calls feed, as one stream
+abbrev pub stream_of : List ReaderCall → List ℕ
 stream_of [] = []
-stream_of (Feed piece ∷ actions) = piece ++ stream_of actions
-stream_of (Next ∷ actions) = stream_of actions
+stream_of (Feed piece ∷ reader_calls) = piece ++ stream_of reader_calls
+stream_of (Next ∷ reader_calls) = stream_of reader_calls
 
 -- a frame at the front, and those after it
 abbrev pub and_later : Read Frame → (List ℕ → List Frame) → List Frame

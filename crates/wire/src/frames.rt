@@ -31,7 +31,7 @@ pub enum Frame {
     Refused(Reason),
     /// The answer to the master's notice of the server of this id, below 16.
     Noted(u8),
-    /// A master of this reign greets; 0 stands for none.
+    /// A master of this epoch greets; 0 stands for none.
     Reign(u64),
     /// A master's beat.
     Beat(Beat),

@@ -5,7 +5,7 @@ ghost use Rattle.wire.specs.declared.frames.Frame.{Frame};
 ghost use Rattle.wire.specs.Spellings.{IsFrame, spelling};
 ghost use Rattle.wire.specs.Lengths.{longest};
 ghost use Rattle.wire.specs.Grammar.{IsFirst, IsMalformed, IsPartial, frame};
-ghost use Rattle.wire.specs.Streams.{Action, driven, frames_in, fresh, stream_of};
+ghost use Rattle.wire.specs.Streams.{ReaderCall, driven, frames_in, fresh, stream_of};
 
 /// The format, field by field, spells each frame that is in range, by its one spelling, and nothing else.
 pub fn format_is_spelling()
@@ -61,14 +61,15 @@ pub fn beginning_waits()
 /// The frames that a reader gave, and those that it has still to give, are those of all its bytes as one stream:
 /// they do not depend on how the stream was cut, nor on when the reader was asked.
 pub fn any_cutting()
-    ensures { (actions : List Action)
-        → (driven fresh actions).0 ++ frames_in (driven fresh actions).1.unread ≡ frames_in (stream_of actions) }
+    ensures { (reader_calls : List ReaderCall)
+        → (driven fresh reader_calls).0 ++ frames_in (driven fresh reader_calls).1.unread ≡ frames_in (stream_of
+        reader_calls) }
 {}
 
 /// What was written is read again, whatever follows it, and however all of it is cut.
 pub fn written_is_read()
-    ensures { (actions : List Action) (fs : List Frame) (more : List ℕ)
+    ensures { (reader_calls : List ReaderCall) (fs : List Frame) (more : List ℕ)
         → AllByRecursion IsFrame fs
-        → stream_of actions ≡ flat_map spelling fs ++ more
-        → (driven fresh actions).0 ++ frames_in (driven fresh actions).1.unread ≡ fs ++ frames_in more }
+        → stream_of reader_calls ≡ flat_map spelling fs ++ more
+        → (driven fresh reader_calls).0 ++ frames_in (driven fresh reader_calls).1.unread ≡ fs ++ frames_in more }
 {}

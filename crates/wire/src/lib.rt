@@ -13,9 +13,9 @@ mod laws;
 mod operations;
 mod ranges;
 mod reading;
-mod serving;
 mod sizes;
 mod spelling;
+mod stream_laws;
 mod streams;
 mod targets;
 mod watching;
@@ -29,10 +29,10 @@ pub use laws::{
     any_cutting, bad_front_is_final, bad_front_stays, beginning_waits, format_is_spelling,
     longest_frame, one_frame_at_a_front, partial_front_is_short, written_is_read,
 };
-pub use serving::{
+pub use spelling::{encode, encode_onto};
+pub use stream_laws::{
     bad_front_ends, frame_takes_bytes, frames_behind_frames, link_is_read_in_order, one_frame_more,
     stream_is_its_frames,
 };
-pub use spelling::{encode, encode_onto};
 pub use streams::Frames;
 pub use watching::{Alive, Beat, Silent};

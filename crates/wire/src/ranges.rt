@@ -29,20 +29,20 @@ pub fn hold_ranges(frame: &Frame)
             hold_number(answer.start);
             hold_view(answer.gone);
         }
-        Frame::Reign(reign) => hold_number(*reign),
+        Frame::Reign(epoch) => hold_number(*epoch),
         Frame::Beat(beat) => {
-            hold_number(beat.reign);
+            hold_number(beat.epoch);
             hold_number(beat.stamp);
         }
         Frame::Alive(alive) => hold_alive(alive),
-        Frame::Silent(silent) => hold_number(silent.reign),
+        Frame::Silent(silent) => hold_number(silent.epoch),
     }
 }
 
 fn hold_alive(alive: &Alive)
     ensures { IsAlive alive.now }
 {
-    hold_number(alive.reign);
+    hold_number(alive.epoch);
     hold_number(alive.stamp);
     hold_number(alive.end);
     hold_number(alive.term);

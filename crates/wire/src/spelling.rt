@@ -71,9 +71,9 @@ fn put(out: &mut BytesMut, frame: &Frame)
         }
         Frame::Refused(reason) => put_short(out, 9, code_of(*reason)),
         Frame::Noted(id) => put_short(out, 10, *id),
-        Frame::Reign(reign) => {
+        Frame::Reign(epoch) => {
             put_head(out, 11);
-            put_reign(out, *reign);
+            put_epoch(out, *epoch);
         }
         Frame::Beat(beat) => {
             put_head(out, 12);
@@ -124,18 +124,18 @@ fn put_acceptance(out: &mut BytesMut, answer: &Acceptance)
     out.extend_reserved(&answer.gone.to_be_bytes());
 }
 
-fn put_reign(out: &mut BytesMut, reign: u64)
+fn put_epoch(out: &mut BytesMut, epoch: u64)
     requires room { 8 ≤ out.old.spare }
-    ensures { out.new.items ≡ out.old.items ++ eight_bytes reign }
+    ensures { out.new.items ≡ out.old.items ++ eight_bytes epoch }
 {
-    out.extend_reserved(&reign.to_be_bytes());
+    out.extend_reserved(&epoch.to_be_bytes());
 }
 
 fn put_beat(out: &mut BytesMut, beat: &Beat)
     requires room { 16 ≤ out.old.spare }
     ensures { out.new.items ≡ out.old.items ++ beat_spelling beat.now }
 {
-    out.extend_reserved(&beat.reign.to_be_bytes());
+    out.extend_reserved(&beat.epoch.to_be_bytes());
     out.extend_reserved(&beat.stamp.to_be_bytes());
 }
 
@@ -143,7 +143,7 @@ fn put_alive(out: &mut BytesMut, alive: &Alive)
     requires room { 36 ≤ out.old.spare }
     ensures { out.new.items ≡ out.old.items ++ alive_spelling alive.now }
 {
-    out.extend_reserved(&alive.reign.to_be_bytes());
+    out.extend_reserved(&alive.epoch.to_be_bytes());
     out.extend_reserved(&alive.stamp.to_be_bytes());
     out.extend_reserved(&alive.end.to_be_bytes());
     out.extend_reserved(&alive.term.to_be_bytes());
@@ -155,7 +155,7 @@ fn put_silent(out: &mut BytesMut, silent: &Silent)
     requires room { 9 ≤ out.old.spare }
     ensures { out.new.items ≡ out.old.items ++ silent_spelling silent.now }
 {
-    out.extend_reserved(&silent.reign.to_be_bytes());
+    out.extend_reserved(&silent.epoch.to_be_bytes());
     out.extend_reserved(&[silent.id]);
 }
 

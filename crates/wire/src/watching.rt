@@ -4,8 +4,8 @@
 /// A master's beat: it asks how a server is, and prolongs its lease if it brings back a stamp (this project's rule).
 #[derive(Clone, Copy, Debug, PartialEq, Eq)]
 pub struct Beat {
-    /// The master's reign: any.
-    pub reign: u64,
+    /// The master's epoch: any.
+    pub epoch: u64,
     /// What the server's clock showed as it told how it is; 0 stands for none. Any.
     pub stamp: u64,
 }
@@ -13,8 +13,8 @@ pub struct Beat {
 /// How a server is (this project's rule).
 #[derive(Clone, Copy, Debug, PartialEq, Eq)]
 pub struct Alive {
-    /// The reign that it is in: any.
-    pub reign: u64,
+    /// The epoch that it is in: any.
+    pub epoch: u64,
     /// What its clock shows: any.
     pub stamp: u64,
     /// When its lease ends: any.
@@ -27,11 +27,11 @@ pub struct Alive {
     pub known: u16,
 }
 
-/// A master's notice that a server was silent in its reign, until its lease was over (this project's rule).
+/// A master's notice that a server was silent in its epoch, until its lease was over (this project's rule).
 #[derive(Clone, Copy, Debug, PartialEq, Eq)]
 pub struct Silent {
-    /// The master's reign: any.
-    pub reign: u64,
+    /// The master's epoch: any.
+    pub epoch: u64,
     /// The server, below 16.
     pub id: u8,
 }

@@ -11,8 +11,8 @@ pub fn watching_at(kind: u8, bytes: &[u8]) -> Result<(Frame, &[u8]), Stop>
 {
     match kind {
         11 => {
-            let (reign, rest) = u64_at(bytes)?;
-            Ok((Frame::Reign(reign), rest))
+            let (epoch, rest) = u64_at(bytes)?;
+            Ok((Frame::Reign(epoch), rest))
         }
         12 => beat_at(bytes),
         13 => alive_at(bytes),
@@ -26,9 +26,9 @@ pub fn watching_at(kind: u8, bytes: &[u8]) -> Result<(Frame, &[u8]), Stop>
 fn beat_at(bytes: &[u8]) -> Result<(Frame, &[u8]), Stop>
     ensures { Gives (λ x. (x.0, x.1.now)) result (beat_at bytes.now) }
 {
-    let (reign, rest) = u64_at(bytes)?;
+    let (epoch, rest) = u64_at(bytes)?;
     let (stamp, rest) = u64_at(rest)?;
-    Ok((Frame::Beat(Beat { reign, stamp }), rest))
+    Ok((Frame::Beat(Beat { epoch, stamp }), rest))
 }
 
 // How a server is.
@@ -36,14 +36,14 @@ fn beat_at(bytes: &[u8]) -> Result<(Frame, &[u8]), Stop>
 fn alive_at(bytes: &[u8]) -> Result<(Frame, &[u8]), Stop>
     ensures { Gives (λ x. (x.0, x.1.now)) result (alive_at bytes.now) }
 {
-    let (reign, rest) = u64_at(bytes)?;
+    let (epoch, rest) = u64_at(bytes)?;
     let (stamp, rest) = u64_at(rest)?;
     let (end, rest) = u64_at(rest)?;
     let (term, rest) = u64_at(rest)?;
     let (gone, rest) = u16_at(rest)?;
     let (known, rest) = u16_at(rest)?;
     let alive = Alive {
-        reign,
+        epoch,
         stamp,
         end,
         term,
@@ -58,7 +58,7 @@ fn alive_at(bytes: &[u8]) -> Result<(Frame, &[u8]), Stop>
 fn silence_at(bytes: &[u8]) -> Result<(Frame, &[u8]), Stop>
     ensures { Gives (λ x. (x.0, x.1.now)) result (silence_at bytes.now) }
 {
-    let (reign, rest) = u64_at(bytes)?;
+    let (epoch, rest) = u64_at(bytes)?;
     let (id, rest) = server_at(rest)?;
-    Ok((Frame::Silent(Silent { reign, id }), rest))
+    Ok((Frame::Silent(Silent { epoch, id }), rest))
 }

@@ -7,7 +7,7 @@ pub mod moments
 pub mod streams
 pub mod waiting
 pub mod order
-pub mod courses
+pub mod positions
 pub mod shown
 pub mod failures
 pub mod examples

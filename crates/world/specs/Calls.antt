@@ -9,18 +9,18 @@ use Rattle.world.specs.declared.connections.Stage.TheVariants.{Idle, Begun, Aske
 use Rattle.world.specs.Connections.{Connection}
 use Rattle.world.specs.Worlds.{World, home_lives}
 
--- A call's name: a connection, and a place among the calls that this connection has begun.
+-- A call's name: a connection, and an ordinal among the calls that this connection has begun.
 pub record CallId : Type 0 where
   pub connection : ℕ
-  pub place : ℕ
+  pub ordinal : ℕ
 
 -- the call, once it is begun
 abbrev pub begun_call : World → CallId → Option Call
-begun_call w x = option_and_then (λ k. slice_get k.calls x.place) (slice_get w.connections x.connection)
+begun_call w x = option_and_then (λ k. slice_get k.calls x.ordinal) (slice_get w.connections x.connection)
 
 -- its reply, once it is answered
 abbrev pub reply_to : World → CallId → Option Reply
-reply_to w x = option_and_then (λ k. slice_get k.replies x.place) (slice_get w.connections x.connection)
+reply_to w x = option_and_then (λ k. slice_get k.replies x.ordinal) (slice_get w.connections x.connection)
 
 -- the call is begun
 abbrev pub IsBegun : World → CallId → Type 0
@@ -45,11 +45,11 @@ given_calls Begun = 0
 given_calls Asked = 1
 given_calls (Replied reply) = 1
 
--- the call of this place was given to its server: it is one of those with a reply, or the open one
+-- the call of this ordinal was given to its server: it is one of those with a reply, or the open one
 abbrev pub is_given_by : Option Connection → ℕ → Bool
-is_given_by None place = false
-is_given_by (Some k) place = nat_lt place (length k.replies + given_calls k.stage)
+is_given_by None ordinal = false
+is_given_by (Some k) ordinal = nat_lt ordinal (length k.replies + given_calls k.stage)
 
 -- the call has been given to the server that its connection is at
 abbrev pub is_given : World → CallId → Bool
-is_given w x = is_given_by (slice_get w.connections x.connection) x.place
+is_given w x = is_given_by (slice_get w.connections x.connection) x.ordinal

@@ -7,7 +7,7 @@ pub mod Scenes
 pub mod Quiet
 pub mod Transcripts
 pub mod ServerSteps
-pub mod Deeds
+pub mod EventEffects
 pub mod Calls
 pub mod Orders
 pub mod Sent

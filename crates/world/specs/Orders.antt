@@ -23,25 +23,26 @@ pub record GivenBefore (count : ℕ) (homes : List ℕ) (events : List Event) (x
   pub update : IsUpdate (run_of count homes events) x
   pub later_update : IsUpdate (run_of count homes events) y
 
--- An entry of an order: which call, what it asks, and a reply to it
+-- A call of an order: which one, what it asks, and a reply to it
 -- (of a call that isn't answered: the one that the table gives).
-pub record Entry : Type 0 where
+pub record OrderedCall : Type 0 where
   pub id : CallId
   pub call : Call
   pub reply : Reply
 
 -- the call x stands at place i of the order h
-pub record StandsAt (h : List Entry) (i : ℕ) (x : CallId) : Type 0 where
-  pub entry : Entry
+pub record StandsAt (h : List OrderedCall) (i : ℕ) (x : CallId) : Type 0 where
+  pub entry : OrderedCall
   pub here : slice_get h i ≡ Some entry
   pub same : entry.id ≡ x
 
 -- The order h is a linearization of the schedule:
-pub record IsLinearization (count : ℕ) (homes : List ℕ) (events : List Event) (h : List Entry) : Type 0 where
+pub record IsLinearization (count : ℕ) (homes : List ℕ) (events : List Event) (h : List OrderedCall) : Type 0 where
   -- each reply in it is that of a single table, after all calls before it;
   pub legal : IsLegal (map (λ e. (e.call, e.reply)) h)
-  -- each entry is a begun call, as it was begun;
-  pub begun : (i : ℕ) (e : Entry) → slice_get h i ≡ Some e → begun_call (run_of count homes events) e.id ≡ Some e.call
+  -- each of its calls is one that was begun, as it was begun;
+  pub begun : (i : ℕ) (e : OrderedCall) → slice_get h i ≡ Some e
+      → begun_call (run_of count homes events) e.id ≡ Some e.call
   -- no call stands in it twice;
   pub once : (i j : ℕ) (x : CallId) → StandsAt h i x → StandsAt h j x → i ≡ j
   -- each answered call stands in it, with the reply that it got;

@@ -4,7 +4,7 @@ use Rattle.table.specs.declared.operations.Call.{Call}
 use Rattle.node.specs.declared.messages.Peer.{Peer}
 use Rattle.node.specs.declared.messages.Input.{Input}
 use Rattle.node.specs.declared.messages.Input.TheVariants.{Call as Called, From, Gone}
-use Rattle.node.specs.Servers.{ServerState, Outcome}
+use Rattle.node.specs.Servers.{ServerState, RuleResult}
 use Rattle.world.specs.declared.events.Event.{Event}
 use Rattle.world.specs.declared.events.Event.TheVariants.{Piece, Begin, Work, Deliver, Fail, Tell, Hand}
 use Rattle.world.specs.Connections.{Connection, to_work, asked}
@@ -13,7 +13,7 @@ use Rattle.world.specs.Worlds.{happens}
 
 -- what a server makes of an input, and what it puts out
 abbrev pub Stepping : Type 0
-Stepping = ServerState → Input → Outcome
+Stepping = ServerState → Input → RuleResult
 
 -- server i takes this input
 abbrev pub takes_by : Stepping → World → ℕ → Input → World

@@ -6,7 +6,7 @@ use Rattle.proto.specs.Turns.{Turn, Calls}
 use Rattle.proto.specs.Sessions.{fed}
 use Rattle.proto.specs.Streams.{turns, ends, to_come, will_close}
 use Rattle.world.specs.Connections.{Connection, open_call}
-use Rattle.world.specs.Sent.{Course}
+use Rattle.world.specs.Sent.{StreamPosition}
 
 -- the turn of this call, which is open in this form, if one is
 abbrev pub turn_of : Option Call → Option Form → List Turn
@@ -19,16 +19,16 @@ abbrev pub open_turn : Connection → List Turn
 open_turn k = turn_of (open_call k) k.session.asked
 
 -- the turns of its stream that a connection has passed
-abbrev pub past : Course → List Turn
-past course = take course.place (turns course.stream)
+abbrev pub past : StreamPosition → List Turn
+past position = take position.ordinal (turns position.stream)
 
 -- The connection k has come so far:
-pub record IsAt (k : Connection) (course : Course) : Type 0 where
-  -- its place is one of its stream;
-  pub place : course.place ≤ length (turns course.stream)
+pub record IsAt (k : Connection) (position : StreamPosition) : Type 0 where
+  -- its ordinal is one of its stream's;
+  pub ordinal : position.ordinal ≤ length (turns position.stream)
   -- whatever bytes may follow, the turns of its stream are those that are past, the open one, and those that its
   -- session has still to give;
   pub whole : (more : List ℕ)
-      → turns (course.stream ++ more) ≡ past course ++ (open_turn k ++ to_come (fed k.session more))
+      → turns (position.stream ++ more) ≡ past position ++ (open_turn k ++ to_come (fed k.session more))
   -- and its session is closed, or will be by the bytes that it has, exactly if the stream ends in its last request.
-  pub end : (more : List ℕ) → will_close (fed k.session more) ≡ ends (course.stream ++ more)
+  pub end : (more : List ℕ) → will_close (fed k.session more) ≡ ends (position.stream ++ more)

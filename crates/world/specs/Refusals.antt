@@ -32,18 +32,18 @@ steps_at w (Hand c) = None
 -- the events in which each named place, counted from 0, is replaced by the failure of the server that is named with it
 abbrev pub with_failures : List Event → List (ℕ × ℕ) → List Event
 with_failures events [] = events
-with_failures events ((place, server) ∷ refused) = with_failures (slice_set events place (Fail server)) refused
+with_failures events ((ordinal, server) ∷ refused) = with_failures (slice_set events ordinal (Fail server)) refused
 
 -- the named places rise, and none is below this one
 abbrev pub RiseFrom : ℕ → List (ℕ × ℕ) → Type 0
 RiseFrom least [] = Unit {0}
-RiseFrom least ((place, server) ∷ refused) = (least ≤ place) × RiseFrom (place + 1) refused
+RiseFrom least ((ordinal, server) ∷ refused) = (least ≤ ordinal) × RiseFrom (ordinal + 1) refused
 
 -- From the world w on, with the named failures, this server would have stepped at this place of the events:
-pub record WouldStep (w : World) (events : List Event) (refused : List (ℕ × ℕ)) (place server : ℕ) : Type 0 where
+pub record WouldStep (w : World) (events : List Event) (refused : List (ℕ × ℕ)) (ordinal server : ℕ) : Type 0 where
   pub event : Event
-  pub here : slice_get events place ≡ Some event
+  pub here : slice_get events ordinal ≡ Some event
   -- it is the one that takes an input at this event, after those before it,
-  pub steps : steps_at (run_from w (take place (with_failures events refused))) event ≡ Some server
+  pub steps : steps_at (run_from w (take ordinal (with_failures events refused))) event ≡ Some server
   -- and hasn't failed by then.
-  pub lives : lives (run_from w (take place (with_failures events refused))) server ≡ true
+  pub lives : lives (run_from w (take ordinal (with_failures events refused))) server ≡ true

@@ -12,16 +12,16 @@ use Rattle.world.specs.declared.connections.Stage.TheVariants.{Idle, Begun, Aske
 use Rattle.world.specs.Connections.{Connection}
 use Rattle.world.specs.Worlds.{World, lives, happens, opening_world}
 
--- A connection's stream is what came to it while it was open and its server lived; its place, how many turns of that
+-- A connection's stream is what came to it while it was open and its server lived; its ordinal, how many turns of that
 -- stream it has passed:
 -- faults by `begin`, calls by `hand`.
-pub record Course : Type 0 where
+pub record StreamPosition : Type 0 where
   pub stream : List ℕ
-  pub place : ℕ
+  pub ordinal : ℕ
 
--- the course of a connection before any event
-abbrev pub outset : Course
-outset = record { stream = []; place = 0 }
+-- the position of a connection before any event
+abbrev pub outset : StreamPosition
+outset = record { stream = []; ordinal = 0 }
 
 -- how many faults stand at the front of turns
 abbrev pub faults_next : List Turn → ℕ
@@ -30,50 +30,52 @@ faults_next (Faulty fault ∷ ts) = suc (faults_next ts)
 faults_next (Calls call form ∷ ts) = zero
 
 -- a piece comes at the stream's end, unless the session is closed
-abbrev pub on_piece : List ℕ → Bool → Course → Course
-on_piece bytes closed course = if closed then course else record course { stream = course.stream ++ bytes }
+abbrev pub on_piece : List ℕ → Bool → StreamPosition → StreamPosition
+on_piece bytes closed position = if closed then position else record position { stream = position.stream ++ bytes }
 
--- a begin if no call is open moves the place over the faults that stand next among the turns of what has come
-abbrev pub on_begin : Stage → Course → Course
-on_begin Idle course = record course { place = course.place + faults_next (drop course.place (turns course.stream)) }
-on_begin Begun course = course
-on_begin Asked course = course
-on_begin (Replied reply) course = course
+-- a begin if no call is open moves the ordinal over the faults that stand next among the turns of what has come
+abbrev pub on_begin : Stage → StreamPosition → StreamPosition
+on_begin Idle position =
+    record position { ordinal = position.ordinal + faults_next (drop position.ordinal (turns position.stream)) }
+on_begin Begun position = position
+on_begin Asked position = position
+on_begin (Replied reply) position = position
 
 -- a hand if a reply waits moves it over one call
-abbrev pub on_hand : Stage → Course → Course
-on_hand Idle course = course
-on_hand Begun course = course
-on_hand Asked course = course
-on_hand (Replied reply) course = record course { place = course.place + 1 }
+abbrev pub on_hand : Stage → StreamPosition → StreamPosition
+on_hand Idle position = position
+on_hand Begun position = position
+on_hand Asked position = position
+on_hand (Replied reply) position = record position { ordinal = position.ordinal + 1 }
 
--- the course of the c-th connection, which is k before the event and whose home lives, after it
-abbrev pub course_after : ℕ → Connection → Event → Course → Course
-course_after c k (Piece d bytes) course = if c == d then on_piece bytes k.session.closed course else course
-course_after c k (Begin d) course = if c == d then on_begin k.stage course else course
-course_after c k (Work d) course = course
-course_after c k (Deliver i j) course = course
-course_after c k (Fail i) course = course
-course_after c k (Tell i j) course = course
-course_after c k (Hand d) course = if c == d then on_hand k.stage course else course
+-- the position of the c-th connection, which is k before the event and whose home lives, after it
+abbrev pub position_after : ℕ → Connection → Event → StreamPosition → StreamPosition
+position_after c k (Piece d bytes) position = if c == d then on_piece bytes k.session.closed position else position
+position_after c k (Begin d) position = if c == d then on_begin k.stage position else position
+position_after c k (Work d) position = position
+position_after c k (Deliver i j) position = position
+position_after c k (Fail i) position = position
+position_after c k (Tell i j) position = position
+position_after c k (Hand d) position = if c == d then on_hand k.stage position else position
 
--- its course after an event, if there is such a connection and its home lives
-abbrev pub course_at : World → ℕ → Option Connection → Event → Course → Course
-course_at w c None e course = course
-course_at w c (Some k) e course = if lives w k.home then course_after c k e course else course
+-- its position after an event, if there is such a connection and its home lives
+abbrev pub position_at : World → ℕ → Option Connection → Event → StreamPosition → StreamPosition
+position_at w c None e position = position
+position_at w c (Some k) e position = if lives w k.home then position_after c k e position else position
 
--- its course after these events, one after another
-abbrev pub course_from : ℕ → World → Course → List Event → Course
-course_from c w course [] = course
-course_from c w course (e ∷ es) = course_from c (happens w e) (course_at w c (slice_get w.connections c) e course) es
+-- its position after these events, one after another
+abbrev pub position_from : ℕ → World → StreamPosition → List Event → StreamPosition
+position_from c w position [] = position
+position_from c w position (e ∷ es) =
+    position_from c (happens w e) (position_at w c (slice_get w.connections c) e position) es
 
--- its course after a schedule
-abbrev pub course_of : ℕ → List ℕ → List Event → ℕ → Course
-course_of count homes events c = course_from c (opening_world count homes) outset events
+-- its position after a schedule
+abbrev pub position_of : ℕ → List ℕ → List Event → ℕ → StreamPosition
+position_of count homes events c = position_from c (opening_world count homes) outset events
 
--- the texts of the turns up to the place, each call's with its reply
-abbrev pub sent_bytes : Course → List Reply → List ℕ
-sent_bytes course replies = texts (take course.place (turns course.stream)) replies
+-- the texts of the turns up to the ordinal, each call's with its reply
+abbrev pub sent_bytes : StreamPosition → List Reply → List ℕ
+sent_bytes position replies = texts (take position.ordinal (turns position.stream)) replies
 
 -- the calls among turns
 abbrev pub calls_of : List Turn → List Call

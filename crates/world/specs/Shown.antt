@@ -10,7 +10,7 @@ use Rattle.world.specs.Calls.{CallId}
 -- what is shown under the call's name
 abbrev pub shown_of : TranscriptShown → CallId → Option CallTranscript
 shown_of t x =
-    option_and_then (λ (k : ConnectionShown). slice_get k.calls x.place) (slice_get t.connections x.connection)
+    option_and_then (λ (k : ConnectionShown). slice_get k.calls x.ordinal) (slice_get t.connections x.connection)
 
 -- a call as it was begun
 abbrev pub call_in : CallTranscript → Call

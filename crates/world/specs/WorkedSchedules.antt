@@ -9,12 +9,12 @@ use Rattle.table.specs.declared.operations.Target.TheVariants.{One}
 use Rattle.world.specs.declared.events.Event.{Event}
 use Rattle.world.specs.declared.events.Event.TheVariants.{Piece, Begin, Work, Deliver, Fail, Tell, Hand}
 use Rattle.world.specs.Calls.{CallId}
-use Rattle.world.specs.Orders.{Entry}
+use Rattle.world.specs.Orders.{OrderedCall}
 use Rattle.world.specs.Transcripts.{TranscriptShown}
 
 -- the p-th call of the c-th connection
 abbrev pub name : ℕ → ℕ → CallId
-name c p = record { connection = c; place = p }
+name c p = record { connection = c; ordinal = p }
 
 -- calls on one key
 abbrev pub set_of : List ℕ → List ℕ → Call
@@ -27,11 +27,11 @@ abbrev pub get_of : List ℕ → Call
 get_of key = record { target = One key; op = Read }
 
 -- an entry of an order
-abbrev pub entry : CallId → Call → Reply → Entry
+abbrev pub entry : CallId → Call → Reply → OrderedCall
 entry x call reply = record { id = x; call = call; reply = reply }
 
 -- the calls and replies of an order
-abbrev pub said : List Entry → List (Call × Reply)
+abbrev pub said : List OrderedCall → List (Call × Reply)
 said h = map (λ e. (e.call, e.reply)) h
 
 -- ---- Three servers, two clients of the head. A get reads a key while the set of it is still on its way down the
@@ -105,7 +105,7 @@ resent_transcript = record {
 }
 
 -- wrong: the incr once before the get that shows it, and once more after that
-abbrev pub resent_twice : List Entry
+abbrev pub resent_twice : List OrderedCall
 resent_twice =
     entry (name 0 0) (set_of (codes "n") (codes "7")) Stored
     ∷ entry (name 0 1) (incr_of (codes "n")) (Number 8)
@@ -176,7 +176,7 @@ sets_transcript = record {
 }
 
 -- wrong: the second set before the first, which a single table would answer so
-abbrev pub sets_exchanged : List Entry
+abbrev pub sets_exchanged : List OrderedCall
 sets_exchanged = entry (name 1 0) (set_of (codes "b") (codes "q")) Stored ∷ entry (name 0 0)
     (set_of (codes "a") (codes "p")) Stored ∷ []
 

@@ -9,7 +9,7 @@ use Rattle.node.specs.declared.messages.Input.TheVariants.{Call as Called, From,
 use Rattle.node.specs.declared.messages.Output.{Output}
 use Rattle.node.specs.declared.messages.Output.TheVariants.{To, Reply as Replied}
 use Rattle.node.specs.Views.{View, has, union, single}
-use Rattle.node.specs.Servers.{ServerState, Outcome, opening}
+use Rattle.node.specs.Servers.{ServerState, RuleResult, opening}
 use Rattle.node.specs.Steps.{step}
 use Rattle.world.specs.declared.events.Event.{Event}
 use Rattle.world.specs.declared.events.Event.TheVariants.{Piece, Begin, Work, Deliver, Fail, Tell, Hand}
@@ -88,7 +88,7 @@ put_all w i [] = w
 put_all w i (o ∷ os) = put_all (put w i o) i os
 
 -- server i is what a step made of it, and what it put out goes its ways
-abbrev pub acted : World → ℕ → Outcome → World
+abbrev pub acted : World → ℕ → RuleResult → World
 acted w i a = put_all (with_server w i a.state) i a.outputs
 
 -- server i takes this input

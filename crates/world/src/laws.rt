@@ -13,12 +13,12 @@ ghost use Rattle.world.specs.Awaited.{AreAwaited};
 ghost use Rattle.world.specs.Connections.{Connection, open_call, to_work, asked};
 ghost use Rattle.world.specs.Worlds.{server, link, lives, has_failed, with_connection, run_of};
 ghost use Rattle.world.specs.Calls.{CallId, begun_call, reply_to};
-ghost use Rattle.world.specs.Orders.{Entry, IsLinearization};
+ghost use Rattle.world.specs.Orders.{OrderedCall, IsLinearization};
 ghost use Rattle.world.specs.Failures.{is_failed_by};
 ghost use Rattle.world.specs.Forgotten.{NoneForgotten};
 ghost use Rattle.world.specs.Transcripts.{transcript_of};
 ghost use Rattle.world.specs.Shown.{call_shown, reply_shown};
-ghost use Rattle.world.specs.Sent.{course_of, sent_bytes, calls_of};
+ghost use Rattle.world.specs.Sent.{position_of, sent_bytes, calls_of};
 ghost use Rattle.world.specs.Progress.{IsAt};
 
 /// Every schedule over a chain of up to 16 servers, with failures at any event, has an order of its calls in which a
@@ -26,14 +26,14 @@ ghost use Rattle.world.specs.Progress.{IsAt};
 pub fn one_order()
     ensures { (count : ℕ) (homes : List ℕ) (events : List Event)
         → count ≤ 16
-        → (h : List Entry) × IsLinearization count homes events h }
+        → (h : List OrderedCall) × IsLinearization count homes events h }
 {}
 
-/// Each connection has been sent the texts of its stream's turns up to its place, however the stream was cut.
+/// Each connection has been sent the texts of its stream's turns up to its ordinal, however the stream was cut.
 pub fn sent_bytes_follow_the_stream()
     ensures { (count : ℕ) (homes : List ℕ) (events : List Event) (c : ℕ) (k : Connection)
         → slice_get (run_of count homes events).connections c ≡ Some k
-        → k.session.out ≡ sent_bytes (course_of count homes events c) k.replies }
+        → k.session.out ≡ sent_bytes (position_of count homes events c) k.replies }
 {
     proto::next_gives_first();
     proto::next_keeps_end();
@@ -41,16 +41,16 @@ pub fn sent_bytes_follow_the_stream()
     proto::faults_take_bytes();
 }
 
-/// The calls that a connection has begun are the first among the turns of its stream, and those up to its place are
+/// The calls that a connection has begun are the first among the turns of its stream, and those up to its ordinal are
 /// answered.
 pub fn calls_follow_the_stream()
     ensures begun { (count : ℕ) (homes : List ℕ) (events : List Event) (c : ℕ) (k : Connection)
         → slice_get (run_of count homes events).connections c ≡ Some k
-        → k.calls ≡ take (length k.calls) (calls_of (turns (course_of count homes events c).stream)) }
+        → k.calls ≡ take (length k.calls) (calls_of (turns (position_of count homes events c).stream)) }
     ensures answered { (count : ℕ) (homes : List ℕ) (events : List Event) (c : ℕ) (k : Connection)
         → slice_get (run_of count homes events).connections c ≡ Some k
         → length k.replies ≡ length
-        (calls_of (take (course_of count homes events c).place (turns (course_of count homes events c).stream))) }
+        (calls_of (take (position_of count homes events c).ordinal (turns (position_of count homes events c).stream))) }
 {
     proto::next_gives_first();
     proto::next_keeps_end();
@@ -63,7 +63,7 @@ pub fn calls_follow_the_stream()
 pub fn no_turn_is_left_out()
     ensures { (count : ℕ) (homes : List ℕ) (events : List Event) (c : ℕ) (k : Connection)
         → slice_get (run_of count homes events).connections c ≡ Some k
-        → IsAt k (course_of count homes events c) }
+        → IsAt k (position_of count homes events c) }
 {
     proto::next_gives_first();
     proto::next_keeps_end();
@@ -80,13 +80,13 @@ pub fn begin_leaves_no_request()
         slice_get (run_of count homes after).connections c ≡ Some k
         → lives (run_of count homes after) k.home ≡ true
         → open_call k ≡ None
-        → (course_of count homes after c).place ≡ length (turns (course_of count homes after c).stream) }
+        → (position_of count homes after c).ordinal ≡ length (turns (position_of count homes after c).stream) }
     ensures closed { (count : ℕ) (homes : List ℕ) (events : List Event) (c : ℕ) (k : Connection)
         → let after = events ++ Begin c ∷ [] in
         slice_get (run_of count homes after).connections c ≡ Some k
         → lives (run_of count homes after) k.home ≡ true
         → open_call k ≡ None
-        → k.session.closed ≡ ends (course_of count homes after c).stream }
+        → k.session.closed ≡ ends (position_of count homes after c).stream }
 {
     proto::next_gives_first();
     proto::next_keeps_end();

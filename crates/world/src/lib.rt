@@ -2,7 +2,7 @@
 #![tactic(auto)]
 
 mod connections;
-mod deeds;
+mod event_effects;
 mod events;
 mod faults;
 pub mod forgetting;
@@ -18,7 +18,7 @@ mod transcripts;
 pub mod worked;
 mod worlds;
 
-pub use deeds::{Deed, ServerStep};
+pub use event_effects::{EventEffect, ServerStep};
 pub use events::Event;
 pub use faults::SceneFault;
 pub use laws::{

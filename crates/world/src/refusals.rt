@@ -4,8 +4,8 @@ ghost use Rattle.std.specs.Prelude.{IsSome, IfOk, IfErr, IsErrOf};
 ghost use Rattle.proto.specs.Streams.{turns};
 ghost use Rattle.world.specs.declared.transcripts.CallTranscript.{CallTranscript};
 ghost use Rattle.world.specs.Calls.{CallId, begun_call, reply_to};
-ghost use Rattle.world.specs.Orders.{Entry, IsLinearization};
-ghost use Rattle.world.specs.Sent.{course_of, sent_bytes, calls_of};
+ghost use Rattle.world.specs.Orders.{OrderedCall, IsLinearization};
+ghost use Rattle.world.specs.Sent.{position_of, sent_bytes, calls_of};
 ghost use Rattle.world.specs.Progress.{past};
 ghost use Rattle.world.specs.Worlds.{opening_world, lives, run_of};
 ghost use Rattle.world.specs.Shown.{call_shown, reply_shown, calls_in, replies_in};
@@ -42,27 +42,27 @@ pub fn run_failing(
         → WouldStep (opening_world count homes.now) events.now found.1.items p.0 p.1) }
     // One order of calls, each with the reply of a single table, whatever servers fail and when.
     ensures order { IfOk result (λ found. let events = with_failures events.now found.1.items in
-        (h : List Entry) × IsLinearization count homes.now events h) }
+        (h : List OrderedCall) × IsLinearization count homes.now events h) }
     // Each begun call is shown under its name.
     ensures shown_calls { IfOk result (λ found. let events = with_failures events.now found.1.items in
         (x : CallId) → call_shown found.0 x ≡ begun_call (run_of count homes.now events) x) }
     // What is shown of a call is the reply that it got in the order above.
     ensures shown { IfOk result (λ found. let events = with_failures events.now found.1.items in
         (x : CallId) → reply_shown found.0 x ≡ reply_to (run_of count homes.now events) x) }
-    // A connection's stream is what came to it while it was open and its server lived; its place, how many turns of
+    // A connection's stream is what came to it while it was open and its server lived; its ordinal, how many turns of
     // that stream it has passed: faults by `begin`, calls by `hand`. It is shown to have been sent the texts of these
     // turns, fault lines among them, however its bytes were cut.
     ensures sent { IfOk result (λ found. let events = with_failures events.now found.1.items in
         (c : ℕ) (k : ConnectionShown) → slice_get found.0.connections c ≡ Some k
-        → k.sent ≡ sent_bytes (course_of count homes.now events c) (replies_in k.calls)) }
+        → k.sent ≡ sent_bytes (position_of count homes.now events c) (replies_in k.calls)) }
     // The calls that are shown of it are the first among the turns of its stream.
     ensures calls { IfOk result (λ found. let events = with_failures events.now found.1.items in
         (c : ℕ) (k : ConnectionShown) → slice_get found.0.connections c ≡ Some k
-        → calls_in k.calls ≡ take (length k.calls) (calls_of (turns (course_of count homes.now events c).stream))) }
-    // As many of them have replies as there are calls among the turns up to its place,
+        → calls_in k.calls ≡ take (length k.calls) (calls_of (turns (position_of count homes.now events c).stream))) }
+    // As many of them have replies as there are calls among the turns up to its ordinal,
     ensures answered { IfOk result (λ found. let events = with_failures events.now found.1.items in
         (c : ℕ) (k : ConnectionShown) → slice_get found.0.connections c ≡ Some k
-        → length (replies_in k.calls) ≡ length (calls_of (past (course_of count homes.now events c)))) }
+        → length (replies_in k.calls) ≡ length (calls_of (past (position_of count homes.now events c)))) }
     // and these are the first.
     ensures in_turn { IfOk result (λ found. (c : ℕ) (k : ConnectionShown) → slice_get found.0.connections c ≡ Some k
         → (p : ℕ) (call : CallTranscript) → slice_get k.calls p ≡ Some call
@@ -110,9 +110,9 @@ impl World {
         ensures only_memory { IfErr result (λ fault. fault ≡ SceneFault.Memory) }
     {
         let mut refused = Vec::new(alloc);
-        for (place, event) in events.iter().enumerate() {
+        for (ordinal, event) in events.iter().enumerate() {
             if let Some(server) = self.attempt(event)? {
-                refused.push((place, server))?;
+                refused.push((ordinal, server))?;
             }
         }
         Ok(refused)

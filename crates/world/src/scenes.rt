@@ -5,8 +5,8 @@ ghost use Rattle.std.specs.List.{list_all};
 ghost use Rattle.proto.specs.Streams.{turns};
 ghost use Rattle.world.specs.declared.transcripts.CallTranscript.{CallTranscript};
 ghost use Rattle.world.specs.Calls.{CallId, begun_call, reply_to};
-ghost use Rattle.world.specs.Orders.{Entry, IsLinearization};
-ghost use Rattle.world.specs.Sent.{course_of, sent_bytes, calls_of};
+ghost use Rattle.world.specs.Orders.{OrderedCall, IsLinearization};
+ghost use Rattle.world.specs.Sent.{position_of, sent_bytes, calls_of};
 ghost use Rattle.world.specs.Progress.{past};
 ghost use Rattle.world.specs.Worlds.{opening_world, lives, happens, run_of};
 ghost use Rattle.world.specs.Quiet as quiet;
@@ -138,23 +138,24 @@ pub fn run(
     ensures transcript { IfOk result (λ t. t ≡ transcript_of (run_of count homes.now events.now)) }
     // One order of calls, each with the reply of a single table, whatever servers fail and when. It holds of the
     // schedule, also if this run is refused.
-    ensures order { count ≤ 16 → (h : List Entry) × IsLinearization count homes.now events.now h }
+    ensures order { count ≤ 16 → (h : List OrderedCall) × IsLinearization count homes.now events.now h }
     // Each begun call is shown under its name.
     ensures shown_calls { IfOk result
         (λ t. (x : CallId) → call_shown t x ≡ begun_call (run_of count homes.now events.now) x) }
     // What is shown of a call is the reply that it got in the order above.
     ensures shown { IfOk result (λ t. (x : CallId) → reply_shown t x ≡ reply_to (run_of count homes.now events.now) x) }
-    // A connection's stream is what came to it while it was open and its server lived; its place, how many turns of
+    // A connection's stream is what came to it while it was open and its server lived; its ordinal, how many turns of
     // that stream it has passed: faults by `begin`, calls by `hand`. It is shown to have been sent the texts of these
     // turns, fault lines among them, however its bytes were cut.
     ensures sent { IfOk result (λ t. (c : ℕ) (k : ConnectionShown) → slice_get t.connections c ≡ Some k
-        → k.sent ≡ sent_bytes (course_of count homes.now events.now c) (replies_in k.calls)) }
+        → k.sent ≡ sent_bytes (position_of count homes.now events.now c) (replies_in k.calls)) }
     // The calls that are shown of it are the first among the turns of its stream.
     ensures calls { IfOk result (λ t. (c : ℕ) (k : ConnectionShown) → slice_get t.connections c ≡ Some k
-        → calls_in k.calls ≡ take (length k.calls) (calls_of (turns (course_of count homes.now events.now c).stream))) }
-    // As many of them have replies as there are calls among the turns up to its place,
+        → calls_in k.calls ≡ take (length k.calls) (calls_of
+        (turns (position_of count homes.now events.now c).stream))) }
+    // As many of them have replies as there are calls among the turns up to its ordinal,
     ensures answered { IfOk result (λ t. (c : ℕ) (k : ConnectionShown) → slice_get t.connections c ≡ Some k
-        → length (replies_in k.calls) ≡ length (calls_of (past (course_of count homes.now events.now c)))) }
+        → length (replies_in k.calls) ≡ length (calls_of (past (position_of count homes.now events.now c)))) }
     // and these are the first.
     ensures in_turn { IfOk result (λ t. (c : ℕ) (k : ConnectionShown) → slice_get t.connections c ≡ Some k
         → (p : ℕ) (call : CallTranscript) → slice_get k.calls p ≡ Some call

@@ -9,7 +9,7 @@ ghost use Rattle.world.specs.ServerSteps.{step_shown};
 ghost use Rattle.world.specs.Worlds.{nobody, opening_servers};
 
 use crate::SceneFault;
-use crate::deeds::ServerStep;
+use crate::event_effects::ServerStep;
 use node::{Input, Node, NodeFault, Output, Standing, View};
 use std::alloc::{AllocError, Global};
 use std::marker::Model;

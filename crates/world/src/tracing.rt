@@ -3,7 +3,7 @@ ghost use Rattle.std.specs.Prelude.{◌≡◌, ◌<◌, ◌↔◌, ℕ, true, fa
 ghost use Rattle.std.specs.Prelude.{IsErrOf};
 ghost use Rattle.std.specs.Option.{option_copied};
 ghost use Rattle.node.specs.Nodes.{running};
-ghost use Rattle.world.specs.Deeds.{deeds_from, deeds_of, trace_of};
+ghost use Rattle.world.specs.EventEffects.{event_effects_from, event_effects_of, trace_of};
 ghost use Rattle.world.specs.Scenes.{is_count, are_homes};
 ghost use Rattle.world.specs.Transcripts.{transcript_of};
 ghost use Rattle.world.specs.Worlds.{link, nobody, opening_world, run_of};
@@ -11,7 +11,7 @@ ghost use Rattle.world.specs.Worlds as worlds;
 
 use crate::scenes::{are_homes, is_count};
 use crate::worlds::World;
-use crate::{Deed, Event, SceneFault, Transcript};
+use crate::{Event, EventEffect, SceneFault, Transcript};
 use node::{Node, Peer};
 use std::alloc::{AllocError, Global};
 use std::marker::Model;
@@ -20,27 +20,27 @@ use std::marker::Model;
 #[derive(Drop)]
 pub struct Trace {
     world: World,
-    deeds: Vec<Deed>,
+    event_effects: Vec<EventEffect>,
 }
 
 impl Model for Trace {
     ghost use Rattle.std.specs.Coded.{codes};
     ghost use Rattle.versions.specs.Stores.{coded_items};
-    ghost use Rattle.world.specs.Deeds.{TraceShown};
+    ghost use Rattle.world.specs.EventEffects.{TraceShown};
 
     ghost Value = { TraceShown };
 
     ghost coded = { Prim.hlevel (codes, coded_items) };
 
-    ghost view = { λ t. record { world = t.world; deeds = t.deeds.items } };
+    ghost view = { λ t. record { world = t.world; event_effects = t.event_effects.items } };
 }
 
 impl Trace {
     /// What each event did, in the order of the schedule.
-    pub fn deeds(&self) -> &[Deed]
-        ensures { result.now ≡ self.now.deeds }
+    pub fn event_effects(&self) -> &[EventEffect]
+        ensures { result.now ≡ self.now.event_effects }
     {
-        self.deeds.as_slice()
+        self.event_effects.as_slice()
     }
 
     /// How many servers the chain has.
@@ -105,8 +105,11 @@ pub fn traced_run(
         return Err(SceneFault::BadHomes);
     }
     let mut world = World::new(alloc, count as u8, homes)?;
-    match all_deeds(alloc, &mut world, events) {
-        Ok(deeds) => Ok(Trace { world, deeds }),
+    match all_event_effects(alloc, &mut world, events) {
+        Ok(event_effects) => Ok(Trace {
+            world,
+            event_effects,
+        }),
         Err(fault) => {
             drop(world);
             Err(fault)
@@ -115,14 +118,18 @@ pub fn traced_run(
 }
 
 // What the events do, one after another.
-fn all_deeds(alloc: Global, world: &mut World, events: &[Event]) -> Result<Vec<Deed>, SceneFault>
-    ensures deeds { IfOk result (λ deeds. deeds.items ≡ deeds_from world.old events.now) }
-    ensures world { IfOk result (λ deeds. world.new ≡ worlds.run_from world.old events.now) }
+fn all_event_effects(
+    alloc: Global,
+    world: &mut World,
+    events: &[Event],
+) -> Result<Vec<EventEffect>, SceneFault>
+    ensures event_effects { IfOk result (λ event_effects. event_effects.items ≡ event_effects_from world.old events.now) }
+    ensures world { IfOk result (λ event_effects. world.new ≡ worlds.run_from world.old events.now) }
     ensures only_memory { IfErr result (λ fault. fault ≡ SceneFault.Memory) }
 {
-    let mut deeds = Vec::with_capacity(alloc, events.len())?;
+    let mut event_effects = Vec::with_capacity(alloc, events.len())?;
     for event in events {
-        deeds.push(world.happen_telling(alloc, event)?)?;
+        event_effects.push(world.happen_telling(alloc, event)?)?;
     }
-    Ok(deeds)
+    Ok(event_effects)
 }

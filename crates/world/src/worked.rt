@@ -3,7 +3,7 @@ ghost use Rattle.std.specs.Prelude.{◌≡◌, ◌<◌, ℕ, List, [], Some, sli
 ghost use Rattle.table.specs.Histories.{IsLegal};
 ghost use Rattle.table.specs.declared.operations.Reply.{Reply};
 ghost use Rattle.world.specs.Calls.{CallId, begun_call, reply_to};
-ghost use Rattle.world.specs.Orders.{Entry, StandsAt, Precedes, GivenBefore, IsLinearization};
+ghost use Rattle.world.specs.Orders.{OrderedCall, StandsAt, Precedes, GivenBefore, IsLinearization};
 ghost use Rattle.world.specs.Transcripts.{transcript_of};
 ghost use Rattle.world.specs.WorkedSchedules.{name, said};
 ghost use Rattle.world.specs.WorkedSchedules.{alone_homes, alone_events, alone_transcript, alone_order};
@@ -18,7 +18,7 @@ ghost use Rattle.world.specs.Worlds.{run_of};
 pub fn dirty_read()
     ensures transcript { transcript_of (run_of 3 dirty_homes dirty_events) ≡ dirty_transcript }
     // No order has the unanswered set before the get.
-    ensures set_before_get { (h : List Entry)
+    ensures set_before_get { (h : List OrderedCall)
         → IsLinearization 3 dirty_homes dirty_events h
         → (i j : ℕ)
         → i < j
@@ -35,7 +35,7 @@ pub fn resent_call()
     ensures legal { IsLegal (said resent_twice) }
     ensures twice { IsLinearization 3 resent_homes resent_events resent_twice → ⊥ }
     // One order is right, and no other.
-    ensures only { (h : List Entry) → IsLinearization 3 resent_homes resent_events h → said h ≡ resent_order }
+    ensures only { (h : List OrderedCall) → IsLinearization 3 resent_homes resent_events h → said h ≡ resent_order }
 {}
 
 /// Both neighbours of a server fail. It is left as the head and the tail, and its client gets its reply.
@@ -44,7 +44,7 @@ pub fn left_alone()
     // The answered set can't be left out.
     ensures left_out { IsLinearization 3 alone_homes alone_events [] → ⊥ }
     // One order is right, and no other.
-    ensures only { (h : List Entry) → IsLinearization 3 alone_homes alone_events h → said h ≡ alone_order }
+    ensures only { (h : List OrderedCall) → IsLinearization 3 alone_homes alone_events h → said h ≡ alone_order }
 {}
 
 /// Two sets on two keys, the first of which is answered before the second begins. Their exchanged order is refused by
@@ -52,7 +52,7 @@ pub fn left_alone()
 pub fn exchanged_sets()
     ensures transcript { transcript_of (run_of 2 sets_homes sets_events) ≡ sets_transcript }
     ensures legal { IsLegal (said sets_exchanged) }
-    ensures begun { (i : ℕ) (e : Entry)
+    ensures begun { (i : ℕ) (e : OrderedCall)
         → slice_get sets_exchanged i ≡ Some e
         → begun_call (run_of 2 sets_homes sets_events) e.id ≡ Some e.call }
     ensures once { (i j : ℕ) (x : CallId) → StandsAt sets_exchanged i x → StandsAt sets_exchanged j x → i ≡ j }
@@ -70,7 +70,7 @@ pub fn exchanged_sets()
 pub fn sets_in_flight()
     ensures transcript { transcript_of (run_of 2 flight_homes flight_events) ≡ flight_transcript }
     ensures legal { IsLegal (said sets_exchanged) }
-    ensures begun { (i : ℕ) (e : Entry)
+    ensures begun { (i : ℕ) (e : OrderedCall)
         → slice_get sets_exchanged i ≡ Some e
         → begun_call (run_of 2 flight_homes flight_events) e.id ≡ Some e.call }
     ensures once { (i j : ℕ) (x : CallId) → StandsAt sets_exchanged i x → StandsAt sets_exchanged j x → i ≡ j }

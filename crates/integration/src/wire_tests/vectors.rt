@@ -76,24 +76,24 @@ fn frame_at(alloc: Global, place: usize) -> Result<Frame, Fault> {
     }
 }
 
-// Of reign 258 and server 5, and of a server whose clock shows 515, and whose lease of 1,029 ends at 772, when servers 0
-// and 9 have failed: of server 9 it knew that while its lease held.
+// Of epoch 258 and server 5, and of a server whose clock shows 515, and whose lease of 1,029 ends at 772, when servers
+// 0 and 9 have failed: of server 9 it knew that while its lease held.
 fn watching_at(place: usize) -> Frame {
     match place {
         13 => Frame::Reign(258),
         14 => Frame::Beat(Beat {
-            reign: 258,
+            epoch: 258,
             stamp: 515,
         }),
         15 => Frame::Alive(Alive {
-            reign: 258,
+            epoch: 258,
             stamp: 515,
             end: 772,
             term: 1029,
             gone: 513,
             known: 512,
         }),
-        _ => Frame::Silent(Silent { reign: 258, id: 5 }),
+        _ => Frame::Silent(Silent { epoch: 258, id: 5 }),
     }
 }
 

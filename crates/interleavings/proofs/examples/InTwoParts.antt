@@ -2,7 +2,7 @@
 use Rattle.std.proofs.Common.{◌≡◌, ℕ, List, [], ◌∷◌, ◌++◌, take, refl, ap, sym, ◌∙◌, subst}
 use Rattle.std.specs.Prelude.{IsSome}
 use Rattle.world.specs.Calls.{CallId}
-use Rattle.world.specs.Orders.{Entry}
+use Rattle.world.specs.Orders.{OrderedCall}
 use Rattle.interleavings.specs.Chains.{Chain, opening_chain}
 use Rattle.interleavings.specs.Moves.{Move, done, moved_from, moved}
 use Rattle.interleavings.specs.Orders.{begun_call, reply_to, Precedes, IsLinearization}
@@ -25,7 +25,7 @@ same_from : (l : Chain) (ms : List Move) → moved_from_by done l ms ≡ moved_f
 same_from l [] = refl
 same_from l (m ∷ ms) = same_from (done l m) ms
 
-module _ (count : ℕ) (homes : List ℕ) (moves : List Move) (h : List Entry) where
+module _ (count : ℕ) (homes : List ℕ) (moves : List Move) (h : List OrderedCall) where
   same : (ms : List Move) → moved_by done count homes ms ≡ moved count homes ms
   same ms = same_from (opening_chain count homes) ms
 

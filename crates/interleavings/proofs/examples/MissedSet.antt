@@ -9,7 +9,7 @@ use Rattle.table.specs.declared.operations.Call.{Call}
 use Rattle.table.specs.declared.operations.Reply.{Reply}
 use Rattle.table.specs.declared.operations.Reply.TheVariants.{Stored, Value}
 use Rattle.world.specs.Calls.{CallId}
-use Rattle.world.specs.Orders.{Entry, StandsAt}
+use Rattle.world.specs.Orders.{OrderedCall, StandsAt}
 use Rattle.world.specs.WorkedSchedules.{name, said}
 use Rattle.world.proofs.examples.WorkedDirtyOrder.{unseen_set_is_illegal}
 use Rattle.world.proofs.order.Since.{is_some}
@@ -18,7 +18,7 @@ use Rattle.interleavings.specs.Moves.{Move, Looks, read_of}
 use Rattle.interleavings.specs.Orders.{begun_call, reply_to}
 use Rattle.interleavings.specs.OtherMoves.{Doing, moved_by, PrecedesBy, IsLinearizationBy, HasNoOrder}
 use Rattle.interleavings.specs.WorkedRuns.{key, set}
-use Rattle.interleavings.proofs.lists.Places.{at_same, at_other}
+use Rattle.interleavings.proofs.lists.Ordinals.{at_same, at_other}
 use Rattle.interleavings.proofs.relation.Transfer.{take_front}
 use Rattle.interleavings.proofs.examples.InTwoParts.{moved_from_by-append}
 use Rattle.interleavings.proofs.examples.WorkedLooks.{looked_seat}
@@ -45,17 +45,17 @@ pub served_other : (count : ℕ) (homes : List ℕ) (home c : ℕ)
     → served_seats count homes home c ≡ opening_seat (slice_index_or homes c count)
 served_other count homes home c other = at_other _ 0 _ c other ∙ at_other _ 0 _ c other ∙ at_other _ 0 _ c other
 
--- a call's name is its seat and its place
-named_so : (x : CallId) (c p : ℕ) → x.connection ≡ c → x.place ≡ p → x ≡ name c p
-named_so x c p e f i = record { connection = e i; place = f i }
+-- a call's name is its seat and its ordinal
+named_so : (x : CallId) (c p : ℕ) → x.connection ≡ c → x.ordinal ≡ p → x ≡ name c p
+named_so x c p e f i = record { connection = e i; ordinal = f i }
 
 -- the one call of a seat
-at_place : (asked : Call) (p : ℕ) (call : Call) → slice_get (asked ∷ []) p ≡ Some call → (p ≡ 0) × (call ≡ asked)
-at_place asked zero call h = (refl, sym (same_Some asked call h))
-at_place asked (suc p) call h = absurd cc
+at_ordinal : (asked : Call) (p : ℕ) (call : Call) → slice_get (asked ∷ []) p ≡ Some call → (p ≡ 0) × (call ≡ asked)
+at_ordinal asked zero call h = (refl, sym (same_Some asked call h))
+at_ordinal asked (suc p) call h = absurd cc
 
 -- the set first and then the get that finds nothing aren't legal
-unseen : (e f : Entry) (t : List Entry)
+unseen : (e f : OrderedCall) (t : List OrderedCall)
     → IsLegal (said (e ∷ f ∷ t))
     → e.call ≡ set
     → f.call ≡ read_of key
@@ -67,7 +67,7 @@ unseen e f t legal first second reply =
     (subst (λ r. P set (read_of key) r) reply
     (subst (λ d. P set d f.reply) second (subst (λ c. P c f.call f.reply) first legal)))
 
-alone : (e x : Entry) (i j : ℕ) → i < j → slice_get (e ∷ []) j ≡ Some x → ⊥
+alone : (e x : OrderedCall) (i j : ℕ) → i < j → slice_get (e ∷ []) j ≡ Some x → ⊥
 alone e x i zero l h = omega (arith, l)
 alone e x i (suc j) l h = absurd cc
 
@@ -112,12 +112,12 @@ module _ (does : Doing) (count : ℕ) (homes : List ℕ) (early : List Move) (fi
   named : (c p : ℕ) (call : Call) → slice_get (last.seats c).calls p ≡ Some call → Named c p call
   named c p call h = elim (cases_eq c 0) [
     | inl first ↦
-        let it = at_place set p call
+        let it = at_ordinal set p call
         (ap (λ (s : Seat). slice_get s.calls p) (sym (ap last.seats first ∙ first_seat)) ∙ h) in
         inl (first, it.0, it.1)
     | inr not_first ↦ elim (cases_eq c 1) [
       | inl second ↦
-          let it = at_place (read_of key) p call
+          let it = at_ordinal (read_of key) p call
           (ap (λ (s : Seat). slice_get s.calls p) (sym (ap last.seats second ∙ second_seat)) ∙ h) in
           inr (second, it.0, it.1)
       | inr not_second ↦ absurd (
@@ -152,43 +152,43 @@ module _ (does : Doing) (count : ℕ) (homes : List ℕ) (early : List Move) (fi
 
   -- ---- no order
 
-  module _ (h : List Entry) (order : IsLinearizationBy does count homes moves h) where
+  module _ (h : List OrderedCall) (order : IsLinearizationBy does count homes moves h) where
     get_at : (j : ℕ) × (at : StandsAt h j (name 1 0)) × (at.entry.reply ≡ Value None)
     get_at = order.answered (name 1 0) (Value None) missed
 
     set_at : (i : ℕ) × (i < get_at.0) × StandsAt h i (name 0 0)
     set_at = order.in_time (name 0 0) (name 1 0) get_at.0 precedes get_at.1
 
-    entry_named : (i : ℕ) (e : Entry) → slice_get h i ≡ Some e → Named e.id.connection e.id.place e.call
-    entry_named i e here = named e.id.connection e.id.place e.call (order.begun i e here)
+    entry_named : (i : ℕ) (e : OrderedCall) → slice_get h i ≡ Some e → Named e.id.connection e.id.ordinal e.call
+    entry_named i e here = named e.id.connection e.id.ordinal e.call (order.begun i e here)
 
     -- the first two entries of an order are none of the two calls in any order
-    first_two : (e f : Entry) (t : List Entry)
+    first_two : (e f : OrderedCall) (t : List OrderedCall)
         → h ≡ e ∷ f ∷ t
         → slice_get h 0 ≡ Some e
         → slice_get h 1 ≡ Some f
-        → Named e.id.connection e.id.place e.call
-        → Named f.id.connection f.id.place f.call
+        → Named e.id.connection e.id.ordinal e.call
+        → Named f.id.connection f.id.ordinal f.call
         → ⊥
     first_two e f t is here next (inr get_first) second =
         let at : StandsAt h 0 (name 1 0) =
         record { entry = e; here = here; same = named_so e.id 1 0 get_first.0 get_first.1 } in
-        let place : 0 ≡ get_at.0 = order.once 0 get_at.0 (name 1 0) at get_at.1 in
-        omega (arith, place, set_at.1)
+        let ordinal : 0 ≡ get_at.0 = order.once 0 get_at.0 (name 1 0) at get_at.1 in
+        omega (arith, ordinal, set_at.1)
     first_two e f t is here next (inl first) (inl again) =
         let at : StandsAt h 0 (name 0 0) =
         record { entry = e; here = here; same = named_so e.id 0 0 first.0 first.1 } in
         let twice : StandsAt h 1 (name 0 0) =
         record { entry = f; here = next; same = named_so f.id 0 0 again.0 again.1 } in
-        let place : 0 ≡ 1 = order.once 0 1 (name 0 0) at twice in
-        omega (arith, place)
+        let ordinal : 0 ≡ 1 = order.once 0 1 (name 0 0) at twice in
+        omega (arith, ordinal)
     first_two e f t is here next (inl first) (inr second) =
         let at : StandsAt h 1 (name 1 0) =
         record { entry = f; here = next; same = named_so f.id 1 0 second.0 second.1 } in
-        let place : get_at.0 ≡ 1 = order.once get_at.0 1 (name 1 0) get_at.1 at in
+        let ordinal : get_at.0 ≡ 1 = order.once get_at.0 1 (name 1 0) get_at.1 at in
         let one : f ≡ get_at.1.entry =
-        same_Some _ _ (sym next ∙ ap (slice_get h) (sym place) ∙ get_at.1.here) in
-        let reply : f.reply ≡ Value None = ap (λ (x : Entry). x.reply) one ∙ get_at.2 in
+        same_Some _ _ (sym next ∙ ap (slice_get h) (sym ordinal) ∙ get_at.1.here) in
+        let reply : f.reply ≡ Value None = ap (λ (x : OrderedCall). x.reply) one ∙ get_at.2 in
         unseen e f t (subst (λ es. IsLegal (said es)) is order.legal) first.2 second.2 reply
 
   -- no list is an order of these calls

@@ -1,4 +1,4 @@
--- A worked run of two servers, and of a wire that leaves out a message, at whose end nothing is left to do.
+-- A worked run of two servers, and of a channel that leaves out a message, at whose end nothing is left to do.
 use Rattle.std.proofs.Common.{◌≡◌, ℕ, zero, suc, ◌<◌, true, false, [], refl, arith, ap}
 use Rattle.std.proofs.Common.{◌∙◌}
 use Rattle.node.specs.Joining.{widened, taken_all, sent_again, forwarded, replies_to as open_replies, promoted_to_head}
@@ -13,13 +13,13 @@ use Rattle.interleavings.specs.OtherMoves.{moved_by}
 use Rattle.interleavings.specs.Quiet.{IsQuiet}
 use Rattle.interleavings.specs.WorkedRuns.{set_homes}
 use Rattle.interleavings.specs.WorkedRuns.{lossy_moves}
-use Rattle.interleavings.specs.WrongMoves.{with_lossy_wires}
-use Rattle.interleavings.proofs.lists.Places.{kept_at}
+use Rattle.interleavings.specs.WrongMoves.{with_lossy_channels}
+use Rattle.interleavings.proofs.lists.Ordinals.{kept_at}
 use Rattle.interleavings.proofs.examples.MissedSet.{set_seat}
 use Rattle.interleavings.proofs.examples.QuietPairs.{IsDone, by_two, on_below, stopped_below, quiet_pair}
 
 abbrev lossy : Chain
-lossy = moved_by with_lossy_wires 2 set_homes lossy_moves
+lossy = moved_by with_lossy_channels 2 set_homes lossy_moves
 
 lossy_two : lossy.count ≡ 2
 unfolding lossy_moves with_at has union single is_below adds next_from predecessor most appended entered widened
@@ -41,11 +41,11 @@ unfolding lossy_moves with_at has union single is_below adds next_from predecess
     promoted_to_tail caught_up acked_to_predecessor asks_renewed
 lossy_first = record {
   inbox = refl;
-  turn = refl;
+  unpublished = refl;
   messages = λ j on. refl;
   replies = λ c. refl;
   views = λ j over. absurd (lossy_none j over (stopped_below lossy j lossy_two over));
-  wires = λ j on. by_two (λ k. lossy.wires 0 k ≡ []) j (on_below lossy j lossy_two on) refl refl;
+  channels = λ j on. by_two (λ k. lossy.channels 0 k ≡ []) j (on_below lossy j lossy_two on) refl refl;
 }
 
 lossy_last : IsDone lossy 1
@@ -54,11 +54,11 @@ unfolding lossy_moves with_at has union single is_below adds next_from predecess
     promoted_to_tail caught_up acked_to_predecessor asks_renewed
 lossy_last = record {
   inbox = refl;
-  turn = refl;
+  unpublished = refl;
   messages = λ j on. refl;
   replies = λ c. refl;
   views = λ j over. absurd (lossy_none j over (stopped_below lossy j lossy_two over));
-  wires = λ j on. by_two (λ k. lossy.wires 1 k ≡ []) j (on_below lossy j lossy_two on) refl refl;
+  channels = λ j on. by_two (λ k. lossy.channels 1 k ≡ []) j (on_below lossy j lossy_two on) refl refl;
 }
 
 lossy_seats : lossy.seats ≡ with_at (opening_chain 2 set_homes).seats 0 (set_seat 0 [] [])

@@ -12,11 +12,11 @@ use Rattle.interleavings.proofs.examples.MissedSet.{served_seats, served_first, 
 -- server i has nothing left to do
 pub record IsDone (l : Chain) (i : ℕ) : Type 0 where
   pub inbox : (l.servers i).inbox ≡ []
-  pub turn : (l.servers i).turn ≡ None
+  pub unpublished : (l.servers i).unpublished ≡ None
   pub messages : (j : ℕ) → goes_on l j ≡ true → messages_to j (l.servers i).outbox ≡ []
   pub replies : (c : ℕ) → replies_to c (l.servers i).outbox ≡ []
   pub views : (j : ℕ) → has_stopped l j ≡ true → has (l.servers i).node.view j ≡ true
-  pub wires : (j : ℕ) → goes_on l j ≡ true → l.wires i j ≡ []
+  pub channels : (j : ℕ) → goes_on l j ≡ true → l.channels i j ≡ []
 
 -- what holds of both servers holds of each
 pub by_two : (P : ℕ → Type 0) (i : ℕ) → i < 2 → P 0 → P 1 → P i
@@ -45,11 +45,11 @@ pub quiet_pair : (l : Chain)
     → IsQuiet l
 quiet_pair l two first last mail = record {
   inboxes = λ i on. (is_done i on).inbox;
-  turns = λ i on. (is_done i on).turn;
+  none_unpublished = λ i on. (is_done i on).unpublished;
   messages = λ i j on there. (is_done i on).messages j there;
   replies = λ i c on. (is_done i on).replies c;
   views = λ i j on over. (is_done i on).views j over;
-  wires = λ i j on there. (is_done i on).wires j there;
+  channels = λ i j on there. (is_done i on).channels j there;
   queues = λ c on. mail c;
 }
   where

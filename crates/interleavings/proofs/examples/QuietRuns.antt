@@ -17,7 +17,7 @@ use Rattle.interleavings.specs.Orders.{reply_to}
 use Rattle.interleavings.specs.Quiet.{goes_on, IsQuiet}
 use Rattle.interleavings.specs.WorkedRuns.{set_homes, set_moves, failover_homes, set_is_taken, tail_stops, failover_moves}
 use Rattle.interleavings.specs.WorkedRuns.{item, set_is_committed, cut_moves}
-use Rattle.interleavings.proofs.lists.Places.{kept_at}
+use Rattle.interleavings.proofs.lists.Ordinals.{kept_at}
 use Rattle.interleavings.proofs.examples.AskedCalls.{set_asked}
 use Rattle.interleavings.proofs.examples.Answered.{second, second_served, last_is}
 use Rattle.interleavings.proofs.examples.MissedSet.{served_seats}
@@ -55,11 +55,11 @@ unfolding set_moves with_at has union single is_below adds next_from predecessor
     promoted_to_tail caught_up acked_to_predecessor asks_renewed
 passed_first = record {
   inbox = refl;
-  turn = refl;
+  unpublished = refl;
   messages = λ j on. refl;
   replies = λ c. refl;
   views = λ j over. absurd (passed_on_none j over (stopped_below passed j passed_two over));
-  wires = λ j on. by_two (λ k. passed.wires 0 k ≡ []) j (on_below passed j passed_two on) refl refl;
+  channels = λ j on. by_two (λ k. passed.channels 0 k ≡ []) j (on_below passed j passed_two on) refl refl;
 }
 
 passed_last : IsDone passed 1
@@ -68,11 +68,11 @@ unfolding set_moves with_at has union single is_below adds next_from predecessor
     promoted_to_tail caught_up acked_to_predecessor asks_renewed
 passed_last = record {
   inbox = refl;
-  turn = refl;
+  unpublished = refl;
   messages = λ j on. refl;
   replies = λ c. refl;
   views = λ j over. absurd (passed_on_none j over (stopped_below passed j passed_two over));
-  wires = λ j on. by_two (λ k. passed.wires 1 k ≡ []) j (on_below passed j passed_two on) refl refl;
+  channels = λ j on. by_two (λ k. passed.channels 1 k ≡ []) j (on_below passed j passed_two on) refl refl;
 }
 
 -- nothing is left to do
@@ -110,13 +110,13 @@ second_views zero e l = (let no : false ≡ true = e in absurd cc)
 second_views (suc zero) e l = refl
 second_views (suc (suc j)) e l = absurd (omega (arith, l))
 
-second_wires : (j : ℕ) → goes_on second j ≡ true → j < 2 → second.wires 0 j ≡ []
+second_channels : (j : ℕ) → goes_on second j ≡ true → j < 2 → second.channels 0 j ≡ []
 unfolding set_is_taken tail_stops with_at has union single is_below adds next_from predecessor most appended entered widened
     taken_all sent_again forwarded open_replies trimmed left_open replies risen passed_on take_update promoted_to_head
     promoted_to_tail caught_up acked_to_predecessor asks_renewed
-second_wires zero e l = refl
-second_wires (suc zero) e l = absurd (second_stops e)
-second_wires (suc (suc j)) e l = absurd (omega (arith, l))
+second_channels zero e l = refl
+second_channels (suc zero) e l = absurd (second_stops e)
+second_channels (suc (suc j)) e l = absurd (omega (arith, l))
 
 second_done : IsDone second 0
 unfolding set_is_taken tail_stops with_at has union single is_below adds next_from predecessor most appended entered widened
@@ -124,11 +124,11 @@ unfolding set_is_taken tail_stops with_at has union single is_below adds next_fr
     promoted_to_tail caught_up acked_to_predecessor asks_renewed
 second_done = record {
   inbox = refl;
-  turn = refl;
+  unpublished = refl;
   messages = λ j on. second_messages j on (on_below second j second_two on);
   replies = λ c. refl;
   views = λ j over. second_views j over (stopped_below second j second_two over);
-  wires = λ j on. second_wires j on (on_below second j second_two on);
+  channels = λ j on. second_channels j on (on_below second j second_two on);
 }
 
 second_quiet : IsQuiet second
@@ -146,11 +146,11 @@ failover_quiet =
     ∙ served_quiet second failover_homes second_served c in
     subst IsQuiet (sym last_is) (record {
       inboxes = q.inboxes;
-      turns = q.turns;
+      none_unpublished = q.none_unpublished;
       messages = q.messages;
       replies = q.replies;
       views = q.views;
-      wires = q.wires;
+      channels = q.channels;
       queues = λ c on. mail c;
     })
 
@@ -189,13 +189,13 @@ cut_views zero e l = (let no : false ≡ true = e in absurd cc)
 cut_views (suc zero) e l = refl
 cut_views (suc (suc j)) e l = absurd (omega (arith, l))
 
-cut_wires : (j : ℕ) → goes_on cut j ≡ true → j < 2 → cut.wires 0 j ≡ []
+cut_channels : (j : ℕ) → goes_on cut j ≡ true → j < 2 → cut.channels 0 j ≡ []
 unfolding set_is_committed tail_stops with_at has union single is_below adds next_from predecessor most appended entered widened
     taken_all sent_again forwarded open_replies trimmed left_open replies risen passed_on take_update promoted_to_head
     promoted_to_tail caught_up acked_to_predecessor asks_renewed
-cut_wires zero e l = refl
-cut_wires (suc zero) e l = absurd (cut_stops e)
-cut_wires (suc (suc j)) e l = absurd (omega (arith, l))
+cut_channels zero e l = refl
+cut_channels (suc zero) e l = absurd (cut_stops e)
+cut_channels (suc (suc j)) e l = absurd (omega (arith, l))
 
 cut_done : IsDone cut 0
 unfolding set_is_committed tail_stops with_at has union single is_below adds next_from predecessor most appended entered widened
@@ -203,11 +203,11 @@ unfolding set_is_committed tail_stops with_at has union single is_below adds nex
     promoted_to_tail caught_up acked_to_predecessor asks_renewed
 cut_done = record {
   inbox = refl;
-  turn = refl;
+  unpublished = refl;
   messages = λ j on. cut_messages j on (on_below cut j cut_two on);
   replies = λ c. refl;
   views = λ j over. cut_views j over (stopped_below cut j cut_two over);
-  wires = λ j on. cut_wires j on (on_below cut j cut_two on);
+  channels = λ j on. cut_channels j on (on_below cut j cut_two on);
 }
 
 cut_served : cut.seats ≡ served_seats 2 set_homes 0

@@ -11,7 +11,7 @@ use Rattle.interleavings.specs.Chains.{Seat, Chain, with_at}
 use Rattle.interleavings.specs.Moves.{Looks}
 use Rattle.interleavings.specs.Orders.{begun_call, reply_to}
 use Rattle.interleavings.specs.OtherMoves.{moved_by, HasNoOrder}
-use Rattle.interleavings.specs.WrongMoves.{with_older_looks, with_early_puts, with_early_notices, with_lossy_wires}
+use Rattle.interleavings.specs.WrongMoves.{with_older_looks, with_early_puts, with_early_notices, with_lossy_channels}
 use Rattle.interleavings.specs.WorkedRuns.{key, set, older_homes, before_older_look, early_homes}
 use Rattle.interleavings.specs.WorkedRuns.{before_unpublished_look, told_homes, before_outlived_look}
 use Rattle.interleavings.specs.WorkedRuns.{set_homes, lossy_moves, left_to_do}
@@ -102,10 +102,10 @@ early_notice = no_order with_early_notices 2 told_homes before_outlived_look 0 1
     (ap (λ (f : ℕ → Seat). f 1) told_served ∙ served_other 2 told_homes 0 1 (λ e. omega (arith, e)))
     told_goes_on told_node (opening_shows 1 2 (omega arith) (omega arith)))
 
--- ---- a wire that leaves out a message
+-- ---- a channel that leaves out a message
 
 abbrev lossy : Chain
-lossy = moved_by with_lossy_wires 2 set_homes lossy_moves
+lossy = moved_by with_lossy_channels 2 set_homes lossy_moves
 
 -- the set is begun,
 pub lossy_begun : begun_call lossy (name 0 0) ≡ Some set
@@ -131,14 +131,14 @@ unfolding lossy_moves with_at has union single is_below adds next_from predecess
     passed_on take_update
 lossy_second = refl
 
--- nothing is on a wire,
-pub lossy_down : lossy.wires 0 1 ≡ []
+-- nothing is on a channel,
+pub lossy_down : lossy.channels 0 1 ≡ []
 unfolding lossy_moves with_at has union single is_below adds next_from predecessor most appended entered trimmed
     passed_on take_update
 lossy_down = refl
 
--- nothing is on the wire back
-pub lossy_back : lossy.wires 1 0 ≡ []
+-- nothing is on the channel back
+pub lossy_back : lossy.channels 1 0 ≡ []
 unfolding lossy_moves with_at has union single is_below adds next_from predecessor most appended entered trimmed
     passed_on take_update
 lossy_back = refl

@@ -7,7 +7,7 @@ use Rattle.world.specs.Worlds.{World}
 use Rattle.interleavings.specs.Chains.{RunningServer, Chain, with_running, messages_from, messages_to, calls_from}
 use Rattle.interleavings.specs.Chains.{replies_to}
 use Rattle.interleavings.proofs.relation.StandsFor.{StandsFor, queue, sits_still, under_way}
-use Rattle.interleavings.proofs.lists.Places.{kept_at}
+use Rattle.interleavings.proofs.lists.Ordinals.{kept_at}
 
 -- a server that has the same queue, the same left to put, and is the same otherwise
 pub record IsAlike (s t : RunningServer) : Type 0 where
@@ -31,8 +31,8 @@ module _ (l : Chain) (w : World) (i : ℕ) (t : RunningServer) (h : StandsFor l 
 
   way_alike : (x y : ℕ) → under_way l x y ≡ under_way (with_running l i t) x y
   way_alike x y =
-      ap (λ q. messages_from x q ++ (l.wires x y ++ messages_to y (l.servers x).outbox)) (sym (same_queue y))
-      ∙ ap (λ os. messages_from x (queue ((with_running l i t).servers y)) ++ (l.wires x y ++ messages_to y os))
+      ap (λ q. messages_from x q ++ (l.channels x y ++ messages_to y (l.servers x).outbox)) (sym (same_queue y))
+      ∙ ap (λ os. messages_from x (queue ((with_running l i t).servers y)) ++ (l.channels x y ++ messages_to y os))
       (sym (same_outbox x))
 
   -- what stood for the chain still does

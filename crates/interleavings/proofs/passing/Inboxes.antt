@@ -6,7 +6,7 @@ use Rattle.node.specs.declared.messages.Input.{Input}
 use Rattle.node.proofs.Lists.{In, in_pushed}
 use Rattle.interleavings.specs.Chains.{RunningServer, Chain, messages_from, calls_from}
 use Rattle.interleavings.specs.Moves.{brought}
-use Rattle.interleavings.proofs.lists.Places.{at_other, at_same, kept_at}
+use Rattle.interleavings.proofs.lists.Ordinals.{at_other, at_same, kept_at}
 use Rattle.interleavings.proofs.lists.Joined.{calls_from-append, messages_from-append}
 use Rattle.interleavings.proofs.relation.StandsFor.{listed, queue}
 
@@ -27,7 +27,7 @@ module _ (l : Chain) (i : ℕ) (input : Input) where
   -- the input is the last one of that queue, and the other queues stay;
   pub queue_brought : queue ((brought l i input).servers i) ≡ queue (l.servers i) ++ input ∷ []
   queue_brought = ap queue (at_same l.servers i fuller)
-      ∙ sym (append_assoc (listed (l.servers i).turn) (l.servers i).inbox (input ∷ []))
+      ∙ sym (append_assoc (listed (l.servers i).unpublished) (l.servers i).inbox (input ∷ []))
 
   pub queue_apart : (k : ℕ) → k ≢ i → queue ((brought l i input).servers k) ≡ queue (l.servers k)
   queue_apart k other = ap queue (at_other l.servers i fuller k other)

@@ -26,9 +26,10 @@ noticed l w i j h stopped =
       stopped = brought_stopped l i (Gone j);
       node = brought_node l i (Gone j);
       ways = λ x y. ap (λ os. messages_from x (queue ((brought l i (Gone j)).servers y))
-          ++ (l.wires x y ++ messages_to y os))
+          ++ (l.channels x y ++ messages_to y os))
           (brought_outbox l i (Gone j) x)
-          ∙ ap (λ ms. ms ++ (l.wires x y ++ messages_to y (l.servers x).outbox)) (from_brought l i (Gone j) x refl y);
+          ∙ ap (λ ms. ms ++ (l.channels x y ++ messages_to y (l.servers x).outbox))
+          (from_brought l i (Gone j) x refl y);
       calls = λ k c e. calls_brought l i (Gone j) c refl k;
       replies = λ k c. ap (replies_to c) (brought_outbox l i (Gone j) k);
       notices = λ k x g. elim (in_brought l i (Gone j) k (Gone x) g) [

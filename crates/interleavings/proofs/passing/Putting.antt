@@ -1,16 +1,16 @@
--- A message is put onto a wire.
+-- A message is put onto a channel.
 use Rattle.std.proofs.Common.{◌≡◌, ◌≢◌, ℕ, List, [], ◌∷◌, ◌++◌, refl, ap, sym, ◌∙◌, subst, inl, inr, append_assoc}
 use Rattle.std.proofs.lemmas.Bool.{cases_eq, cond_both}
 use Rattle.node.specs.declared.messages.Peer.{Peer}
 use Rattle.node.specs.declared.messages.Input.TheVariants.{Gone}
 use Rattle.node.proofs.Lists.{In}
 use Rattle.world.specs.Worlds.{World}
-use Rattle.interleavings.specs.Chains.{RunningServer, Chain, with_at, with_running, with_wire, messages_from}
+use Rattle.interleavings.specs.Chains.{RunningServer, Chain, with_at, with_running, with_channel, messages_from}
 use Rattle.interleavings.specs.Chains.{messages_to, without_message, calls_from, replies_to}
 use Rattle.interleavings.specs.Moves.{Puts, put, done}
 use Rattle.interleavings.proofs.passing.Passes.{Passes, passes}
 use Rattle.interleavings.proofs.relation.StandsFor.{StandsFor, queue, sits_still}
-use Rattle.interleavings.proofs.lists.Places.{at_other, at_same, kept_at}
+use Rattle.interleavings.proofs.lists.Ordinals.{at_other, at_same, kept_at}
 use Rattle.interleavings.proofs.lists.Removed.{messages_without_first, others_without_message, replies_without_message}
 
 module _ (l : Chain) (w : World) (i j : ℕ) (h : StandsFor l w) (m : Peer) (ms : List Peer)
@@ -19,7 +19,7 @@ module _ (l : Chain) (w : World) (i j : ℕ) (h : StandsFor l w) (m : Peer) (ms 
   without = record (l.servers i) { outbox = without_message j (l.servers i).outbox }
 
   abbrev after : Chain
-  after = with_wire (with_running l i without) i j (l.wires i j ++ m ∷ [])
+  after = with_channel (with_running l i without) i j (l.channels i j ++ m ∷ [])
 
   same_queue : (k : ℕ) → queue (after.servers k) ≡ queue (l.servers k)
   same_queue k = kept_at queue l.servers i without refl k
@@ -27,37 +27,40 @@ module _ (l : Chain) (w : World) (i j : ℕ) (h : StandsFor l w) (m : Peer) (ms 
   same_stopped : (k : ℕ) → (after.servers k).stopped ≡ (l.servers k).stopped
   same_stopped k = kept_at (λ s. s.stopped) l.servers i without refl k
 
-  wire_here : after.wires i j ≡ l.wires i j ++ m ∷ []
-  wire_here = ap (λ row. row j) (at_same l.wires i (with_at (l.wires i) j (l.wires i j ++ m ∷ [])))
-      ∙ at_same (l.wires i) j (l.wires i j ++ m ∷ [])
+  channel_here : after.channels i j ≡ l.channels i j ++ m ∷ []
+  channel_here = ap (λ row. row j) (at_same l.channels i (with_at (l.channels i) j (l.channels i j ++ m ∷ [])))
+      ∙ at_same (l.channels i) j (l.channels i j ++ m ∷ [])
 
-  wire_beside : (y : ℕ) → y ≢ j → after.wires i y ≡ l.wires i y
-  wire_beside y other = ap (λ row. row y) (at_same l.wires i (with_at (l.wires i) j (l.wires i j ++ m ∷ [])))
-      ∙ at_other (l.wires i) j (l.wires i j ++ m ∷ []) y other
+  channel_beside : (y : ℕ) → y ≢ j → after.channels i y ≡ l.channels i y
+  channel_beside y other = ap (λ row. row y) (at_same l.channels i
+      (with_at (l.channels i) j (l.channels i j ++ m ∷ [])))
+      ∙ at_other (l.channels i) j (l.channels i j ++ m ∷ []) y other
 
-  wire_apart : (x y : ℕ) → x ≢ i → after.wires x y ≡ l.wires x y
-  wire_apart x y other = ap (λ row. row y) (at_other l.wires i (with_at (l.wires i) j (l.wires i j ++ m ∷ [])) x other)
+  channel_apart : (x y : ℕ) → x ≢ i → after.channels x y ≡ l.channels x y
+  channel_apart x y other = ap (λ row. row y) (at_other l.channels i
+      (with_at (l.channels i) j (l.channels i j ++ m ∷ [])) x other)
 
-  -- wire and what is left, together
+  -- channel and what is left, together
   rest_same : (x y : ℕ)
-      → after.wires x y ++ messages_to y (after.servers x).outbox ≡ l.wires x y ++ messages_to y (l.servers x).outbox
+      → after.channels x y ++ messages_to y (after.servers x).outbox ≡ l.channels x y
+      ++ messages_to y (l.servers x).outbox
   rest_same x y = elim (cases_eq x i) [
     | inl own ↦ rw own (elim (cases_eq y j) [
       | inl at ↦ rw at (
-          ap (λ (s : RunningServer). after.wires i j ++ messages_to j s.outbox) (at_same l.servers i without)
-          ∙ ap (λ ns. ns ++ messages_to j (without_message j (l.servers i).outbox)) wire_here
-          ∙ ap (λ ns. (l.wires i j ++ m ∷ []) ++ ns) (messages_without_first j (l.servers i).outbox m ms first)
-          ∙ append_assoc (l.wires i j) (m ∷ []) ms
-          ∙ ap (λ ns. l.wires i j ++ ns) (sym first)
+          ap (λ (s : RunningServer). after.channels i j ++ messages_to j s.outbox) (at_same l.servers i without)
+          ∙ ap (λ ns. ns ++ messages_to j (without_message j (l.servers i).outbox)) channel_here
+          ∙ ap (λ ns. (l.channels i j ++ m ∷ []) ++ ns) (messages_without_first j (l.servers i).outbox m ms first)
+          ∙ append_assoc (l.channels i j) (m ∷ []) ms
+          ∙ ap (λ ns. l.channels i j ++ ns) (sym first)
           )
       | inr other ↦
-          ap (λ (s : RunningServer). after.wires i y ++ messages_to y s.outbox) (at_same l.servers i without)
-          ∙ ap (λ ns. ns ++ messages_to y (without_message j (l.servers i).outbox)) (wire_beside y other)
-          ∙ ap (λ ns. l.wires i y ++ ns) (others_without_message j y (l.servers i).outbox other)
+          ap (λ (s : RunningServer). after.channels i y ++ messages_to y s.outbox) (at_same l.servers i without)
+          ∙ ap (λ ns. ns ++ messages_to y (without_message j (l.servers i).outbox)) (channel_beside y other)
+          ∙ ap (λ ns. l.channels i y ++ ns) (others_without_message j y (l.servers i).outbox other)
     ])
     | inr other ↦
-        ap (λ (s : RunningServer). after.wires x y ++ messages_to y s.outbox) (at_other l.servers i without x other)
-        ∙ ap (λ ns. ns ++ messages_to y (l.servers x).outbox) (wire_apart x y other)
+        ap (λ (s : RunningServer). after.channels x y ++ messages_to y s.outbox) (at_other l.servers i without x other)
+        ∙ ap (λ ns. ns ++ messages_to y (l.servers x).outbox) (channel_apart x y other)
   ]
 
   put_passes : Passes w l after
@@ -65,7 +68,7 @@ module _ (l : Chain) (w : World) (i j : ℕ) (h : StandsFor l w) (m : Peer) (ms 
     count = refl;
     stopped = same_stopped;
     node = λ k. kept_at (λ s. s.node) l.servers i without refl k;
-    ways = λ x y. ap (λ q. messages_from x q ++ (after.wires x y ++ messages_to y (after.servers x).outbox))
+    ways = λ x y. ap (λ q. messages_from x q ++ (after.channels x y ++ messages_to y (after.servers x).outbox))
         (same_queue y)
         ∙ ap (λ ns. messages_from x (queue (l.servers y)) ++ ns) (rest_same x y);
     calls = λ k c e. ap (calls_from c) (same_queue k);

@@ -12,13 +12,13 @@ use Rattle.interleavings.specs.Moves.{Takes, took, done}
 use Rattle.interleavings.proofs.passing.Alike.{IsAlike, alike_itself, alike_stands}
 use Rattle.interleavings.proofs.passing.Passes.{Passes, passes}
 use Rattle.interleavings.proofs.relation.StandsFor.{StandsFor, listed, queue, sits_still}
-use Rattle.interleavings.proofs.lists.Places.{at_other, at_same, kept_at}
+use Rattle.interleavings.proofs.lists.Ordinals.{at_other, at_same, kept_at}
 use Rattle.interleavings.proofs.lists.FirstOf.{calls_picked, from_picked, in_picked}
 
 module _ (l : Chain) (w : World) (i : ℕ) (sender : Sender) (h : StandsFor l w) (x : Input)
-    (free : (l.servers i).turn ≡ None) (first : first_of sender (l.servers i).inbox ≡ Some x) where
+    (free : (l.servers i).unpublished ≡ None) (first : first_of sender (l.servers i).inbox ≡ Some x) where
   abbrev busy : RunningServer
-  busy = record (l.servers i) { inbox = without_first_of sender (l.servers i).inbox; turn = Some x }
+  busy = record (l.servers i) { inbox = without_first_of sender (l.servers i).inbox; unpublished = Some x }
 
   free_queue : queue (l.servers i) ≡ (l.servers i).inbox
   free_queue = ap (λ t. listed t ++ (l.servers i).inbox) free
@@ -28,10 +28,10 @@ module _ (l : Chain) (w : World) (i : ℕ) (sender : Sender) (h : StandsFor l w)
     count = refl;
     stopped = λ k. kept_at (λ s. s.stopped) l.servers i busy refl k;
     node = λ k. kept_at (λ s. s.node) l.servers i busy refl k;
-    ways = λ a b. ap (λ ms. ms ++ (l.wires a b ++ messages_to b (with_at l.servers i busy a).outbox))
+    ways = λ a b. ap (λ ms. ms ++ (l.channels a b ++ messages_to b (with_at l.servers i busy a).outbox))
         (kept_at (λ s. messages_from a (queue s)) l.servers i busy
         (from_picked sender a x (l.servers i).inbox first ∙ ap (messages_from a) (sym free_queue)) b)
-        ∙ ap (λ os. messages_from a (queue (l.servers b)) ++ (l.wires a b ++ messages_to b os))
+        ∙ ap (λ os. messages_from a (queue (l.servers b)) ++ (l.channels a b ++ messages_to b os))
         (kept_at (λ s. s.outbox) l.servers i busy refl a);
     calls = λ k c e. kept_at (λ s. calls_from c (queue s)) l.servers i busy
         (calls_picked sender c x (l.servers i).inbox first ∙ ap (calls_from c) (sym free_queue)) k;
@@ -56,7 +56,7 @@ stays l w i t h same = alike_stands l w i t h
 
 took_stands : (l : Chain) (w : World) (i : ℕ) (sender : Sender)
     → StandsFor l w
-    → (l.servers i).turn ≡ None
+    → (l.servers i).unpublished ≡ None
     → (o : Option Input)
     → first_of sender (l.servers i).inbox ≡ o
     → StandsFor (with_running l i (took (l.servers i) sender o)) w
@@ -74,7 +74,8 @@ pub takes_stands : (l : Chain) (w : World) (i : ℕ) (sender : Sender)
 takes_stands l w i sender h =
     let s = l.servers i in
     let t = took s sender (first_of sender s.inbox) in
-    cond_both s.stopped s (cond (is_some s.turn) s t) (λ u. StandsFor (with_running l i u) w)
+    cond_both s.stopped s (cond (is_some s.unpublished) s t) (λ u. StandsFor (with_running l i u) w)
     (λ over. stays l w i s h refl)
-    (λ going. cond_both (is_some s.turn) s t (λ u. StandsFor (with_running l i u) w) (λ busy. stays l w i s h refl)
-    (λ free. took_stands l w i sender h (none_of s.turn free) (first_of sender s.inbox) refl))
+    (λ going. cond_both (is_some s.unpublished) s t (λ u. StandsFor (with_running l i u) w)
+    (λ busy. stays l w i s h refl)
+    (λ free. took_stands l w i sender h (none_of s.unpublished free) (first_of sender s.inbox) refl))

@@ -111,8 +111,8 @@ module _ (f : ℕ → ℕ) where
       by true e = refl
       by false e = ap (λ qs. read_with_port f r ∷ qs) e
 
-  -- the least mark is the same
+  -- the least lower bound is the same
   pub least_open_renamed : (acked : ℕ) (rs : List OpenRead)
       → least_open acked (map (read_with_port f) rs) ≡ least_open acked rs
   least_open_renamed acked [] = refl
-  least_open_renamed acked (r ∷ rs) = ap (λ n. min r.mark n) (least_open_renamed acked rs)
+  least_open_renamed acked (r ∷ rs) = ap (λ n. min r.lower_bound n) (least_open_renamed acked rs)

@@ -11,13 +11,13 @@ use Rattle.node.specs.declared.looks.Look.TheVariants.{Clean, Dirty}
 use Rattle.node.specs.declared.messages.Input.TheVariants.{Call as Called, From, Gone}
 use Rattle.node.specs.declared.messages.Peer.{Peer}
 use Rattle.node.specs.Faces.{face_of, look_at}
-use Rattle.interleavings.specs.Chains.{RunningServer, Seat, Chain, with_running, with_wire, with_seat, messages_to}
+use Rattle.interleavings.specs.Chains.{RunningServer, Seat, Chain, with_running, with_channel, with_seat, messages_to}
 use Rattle.interleavings.specs.Chains.{without_message, Sender, OfNotices}
 use Rattle.interleavings.specs.Moves.{Move, Sends, Takes, Publishes, Puts, Arrives, Replies, Receives, Looks, Stops}
 use Rattle.interleavings.specs.Moves.{Notices, is_free, brought, sent, received, looked, taking, publishing, put, arrived}
 use Rattle.interleavings.specs.Moves.{has_stopped, done}
 use Rattle.interleavings.specs.OwnPorts.{port_at, sent_from, with_own_ports}
-use Rattle.interleavings.proofs.ports.RenamedChains.{Same, of_chain, seat_there, same_server, same_wire, same_seat}
+use Rattle.interleavings.proofs.ports.RenamedChains.{Same, of_chain, seat_there, same_server, same_channel, same_seat}
 use Rattle.interleavings.proofs.ports.RenamedChains.{same_brought}
 use Rattle.interleavings.proofs.ports.RenamedServers.{running_renamed, sender_at, messages_renamed}
 use Rattle.interleavings.proofs.ports.RenamedServers.{without_message_renamed}
@@ -141,10 +141,10 @@ module _ (n : ℕ) (homes : List ℕ) (l g : Chain) (h : Same n homes l g) where
       (without_message_renamed f j (l.servers i).outbox))
       (h.stopped i) (λ over. over) in
       subst (λ (ws : ℕ → ℕ → List Peer).
-      Same n homes (with_wire (with_running l i s) i j (l.wires i j ++ m ∷ []))
-      (with_wire (with_running g i t) i j (ws i j ++ m ∷ [])))
-      (sym h.wires)
-      (same_wire n homes (with_running l i s) (with_running g i t) put_off i j (l.wires i j ++ m ∷ []))
+      Same n homes (with_channel (with_running l i s) i j (l.channels i j ++ m ∷ []))
+      (with_channel (with_running g i t) i j (ws i j ++ m ∷ [])))
+      (sym h.channels)
+      (same_channel n homes (with_running l i s) (with_running g i t) put_off i j (l.channels i j ++ m ∷ []))
 
   pub puts_same : (i j : ℕ) → Same n homes (with_own_ports homes l (Puts i j)) (done g (Puts i j))
   puts_same i j =
@@ -162,13 +162,14 @@ module _ (n : ℕ) (homes : List ℕ) (l g : Chain) (h : Same n homes l g) where
   arrived_same : (i j : ℕ) (ms : List Peer) → Same n homes (arrived l i j ms) (arrived g i j ms)
   arrived_same i j [] = h
   arrived_same i j (m ∷ ms) =
-      same_brought n homes (with_wire l i j ms) (with_wire g i j ms) (same_wire n homes l g h i j ms) j (From i m)
+      same_brought n homes (with_channel l i j ms) (with_channel g i j ms) (same_channel n homes l g h i j ms) j
+      (From i m)
       (From i m) (λ within. refl)
 
   pub arrives_same : (i j : ℕ) → Same n homes (with_own_ports homes l (Arrives i j)) (done g (Arrives i j))
   arrives_same i j =
-      subst (λ (ws : ℕ → ℕ → List Peer). Same n homes (arrived l i j (l.wires i j)) (arrived g i j (ws i j)))
-      (sym h.wires) (arrived_same i j (l.wires i j))
+      subst (λ (ws : ℕ → ℕ → List Peer). Same n homes (arrived l i j (l.channels i j)) (arrived g i j (ws i j)))
+      (sym h.channels) (arrived_same i j (l.channels i j))
 
   pub stops_same : (i : ℕ) → Same n homes (with_own_ports homes l (Stops i)) (done g (Stops i))
   stops_same i =

@@ -9,7 +9,7 @@ use Rattle.interleavings.specs.Chains.{OfNotices, first_of}
 use Rattle.interleavings.specs.Moves.{Takes, Replies, mailed, took, done}
 use Rattle.interleavings.specs.OwnPorts.{port_at, mailed_from, with_own_ports}
 use Rattle.interleavings.specs.Ports.{output_to}
-use Rattle.interleavings.proofs.lists.Places.{at_self}
+use Rattle.interleavings.proofs.lists.Ordinals.{at_self}
 use Rattle.interleavings.proofs.ports.RenamedChains.{Same, of_chain, seat_there, same_server, same_seat}
 use Rattle.interleavings.proofs.ports.RenamedServers.{running_renamed, replies_renamed, without_reply_renamed}
 use Rattle.interleavings.proofs.ports.OwnPortMoves.{named, where_not}
@@ -73,7 +73,7 @@ module _ (n : ℕ) (homes : List ℕ) (l g : Chain) (h : Same n homes l g) (i c 
       let s = g.servers n in
       let over : s.stopped ≡ true = h.stopped n ∙ h.over n (omega arith) in
       ap (λ t. with_running g n t)
-      (ap (λ b. cond b s (cond (is_some s.turn) s (took s OfNotices (first_of OfNotices s.inbox)))) over)
+      (ap (λ b. cond b s (cond (is_some s.unpublished) s (took s OfNotices (first_of OfNotices s.inbox)))) over)
       ∙ ap (λ ss. record g { servers = ss }) (at_self g.servers n)
 
   -- a reply by its port

@@ -4,7 +4,7 @@ use Rattle.std.specs.Prelude.{slice_get, slice_index_or, ◌==◌, IsSome}
 use Rattle.std.proofs.lemmas.Bool.{cond_both}
 use Rattle.std.proofs.lemmas.List.{take-map}
 use Rattle.world.specs.Calls.{CallId}
-use Rattle.world.specs.Orders.{Entry}
+use Rattle.world.specs.Orders.{OrderedCall}
 use Rattle.interleavings.specs.Asked.{IsAskedBy, AreAsked}
 use Rattle.interleavings.specs.Chains.{Seat, Chain, opening_chain, OfNotices}
 use Rattle.interleavings.specs.Moves.{Move, Sends, Takes, Publishes, Puts, Arrives, Replies, Receives, Looks, Stops}
@@ -67,12 +67,12 @@ module _ (n : ℕ) (homes : List ℕ) where
   calls_same : (ms : List Move) (x : CallId)
       → begun_call (moved n homes (map (named n homes) ms)) x
       ≡ begun_call (moved_by (with_own_ports homes) n homes ms) x
-  calls_same ms x = ap (λ (ss : ℕ → Seat). slice_get (ss x.connection).calls x.place) (same_run ms).seats
+  calls_same ms x = ap (λ (ss : ℕ → Seat). slice_get (ss x.connection).calls x.ordinal) (same_run ms).seats
 
   replies_are : (ms : List Move) (x : CallId)
       → reply_to (moved n homes (map (named n homes) ms)) x
       ≡ reply_to (moved_by (with_own_ports homes) n homes ms) x
-  replies_are ms x = ap (λ (ss : ℕ → Seat). slice_get (ss x.connection).got x.place) (same_run ms).seats
+  replies_are ms x = ap (λ (ss : ℕ → Seat). slice_get (ss x.connection).got x.ordinal) (same_run ms).seats
 
   module _ (moves : List Move) where
     abbrev names : List Move
@@ -90,7 +90,7 @@ module _ (n : ℕ) (homes : List ℕ) where
       not_begun = ap (λ ms. begun_call (moved n homes ms) y) (front p.k) ∙ calls_same (take p.k moves) y ∙ p.not_begun;
     }
 
-    order_too : (h : List Entry)
+    order_too : (h : List OrderedCall)
         → IsLinearization n homes names h
         → IsLinearizationBy (with_own_ports homes) n homes moves h
     order_too h o = record {
@@ -104,7 +104,7 @@ module _ (n : ℕ) (homes : List ℕ) where
     -- so there is an order
     pub one_order : n ≤ 16
         → AreAsked moves
-        → (h : List Entry) × IsLinearizationBy (with_own_ports homes) n homes moves h
+        → (h : List OrderedCall) × IsLinearizationBy (with_own_ports homes) n homes moves h
     one_order few asked =
         let o = linearizable n homes (simulates n homes few) names few (all_asked moves asked) in
         (o.0, order_too o.0 o.1)

@@ -6,11 +6,11 @@ use Rattle.std.proofs.lemmas.Bool.{cases_eq, cases_lt, both_ways, ltb-true, case
 use Rattle.std.proofs.lemmas.List.{map-append}
 use Rattle.node.specs.declared.messages.Input.{Input}
 use Rattle.node.specs.declared.messages.Peer.{Peer}
-use Rattle.interleavings.specs.Chains.{RunningServer, Seat, Chain, with_at, with_running, with_wire, with_seat}
+use Rattle.interleavings.specs.Chains.{RunningServer, Seat, Chain, with_at, with_running, with_channel, with_seat}
 use Rattle.interleavings.specs.Chains.{opening_chain}
 use Rattle.interleavings.specs.Moves.{brought}
 use Rattle.interleavings.specs.Ports.{input_at}
-use Rattle.interleavings.proofs.lists.Places.{at_other, at_same, kept_at}
+use Rattle.interleavings.proofs.lists.Ordinals.{at_other, at_same, kept_at}
 use Rattle.interleavings.proofs.ports.SeatNames.{seat_in}
 use Rattle.interleavings.proofs.ports.RenamedServers.{running_renamed}
 
@@ -20,7 +20,7 @@ pub record Same (n : ℕ) (homes : List ℕ) (l g : Chain) : Type 0 where
   pub servers : (i : ℕ) → i < n → g.servers i ≡ running_renamed (seat_in homes i) (l.servers i)
   pub stopped : (i : ℕ) → (g.servers i).stopped ≡ (l.servers i).stopped
   pub over : (i : ℕ) → n ≤ i → (l.servers i).stopped ≡ true
-  pub wires : g.wires ≡ l.wires
+  pub channels : g.channels ≡ l.channels
   pub seats : g.seats ≡ l.seats
   pub sits : (c : ℕ) → (l.seats c).home ≡ slice_index_or homes c n
 
@@ -38,7 +38,7 @@ module _ (n : ℕ) (homes : List ℕ) where
     servers = λ i within. refl;
     stopped = λ i. refl;
     over = λ i h. beyond i n h;
-    wires = refl;
+    channels = refl;
     seats = refl;
     sits = λ c. refl;
   }
@@ -89,19 +89,19 @@ module _ (n : ℕ) (homes : List ℕ) (l g : Chain) (h : Same n homes l g) where
           ∙ still (h.over i (omega (arith, above, same))))
       | inr other ↦ ap (λ (u : RunningServer). u.stopped) (at_other l.servers i s k other) ∙ h.over k above
     ];
-    wires = h.wires;
+    channels = h.channels;
     seats = h.seats;
     sits = h.sits;
   }
 
-  -- a wire does,
-  pub same_wire : (i j : ℕ) (ms : List Peer) → Same n homes (with_wire l i j ms) (with_wire g i j ms)
-  same_wire i j ms = record {
+  -- a channel does,
+  pub same_channel : (i j : ℕ) (ms : List Peer) → Same n homes (with_channel l i j ms) (with_channel g i j ms)
+  same_channel i j ms = record {
     count = h.count;
     servers = h.servers;
     stopped = h.stopped;
     over = h.over;
-    wires = ap (λ ws. with_at ws i (with_at (ws i) j ms)) h.wires;
+    channels = ap (λ ws. with_at ws i (with_at (ws i) j ms)) h.channels;
     seats = h.seats;
     sits = h.sits;
   }
@@ -113,7 +113,7 @@ module _ (n : ℕ) (homes : List ℕ) (l g : Chain) (h : Same n homes l g) where
     servers = h.servers;
     stopped = h.stopped;
     over = h.over;
-    wires = h.wires;
+    channels = h.channels;
     seats = ap (λ ss. with_at ss c s) h.seats;
     sits = λ d. kept_at (λ (u : Seat). u.home) l.seats c s stays d ∙ h.sits d;
   }

@@ -20,7 +20,8 @@ use Rattle.node.specs.Numbering.{taken, take_update, entered, is_room_for_update
 use Rattle.node.specs.Numbering.{receive_forward, receive_ack}
 use Rattle.node.specs.Reading.{asked, dirty_read, read, read_of, receive_query, open_read, without_read, answered}
 use Rattle.node.specs.Reading.{receive_answer}
-use Rattle.node.specs.Servers.{ServerState, Outcome, most, head_of, tail_of, is_head, is_tail, previous, next, silent}
+use Rattle.node.specs.Servers.{ServerState, RuleResult, most, head_of, tail_of, is_head, is_tail, previous, next}
+use Rattle.node.specs.Servers.{silent}
 use Rattle.node.specs.Servers.{putting, and_then, message_to, reply_at}
 use Rattle.node.specs.Views.{is_that}
 use Rattle.interleavings.specs.Ports.{with_port, read_with_port, output_to, renamed, renamed_outcome}
@@ -31,7 +32,7 @@ module _ (f : ℕ → ℕ) where
   -- ---- what rules are made of
 
   -- either of two outcomes
-  pub either_renamed : (b : Bool) (x y x' y' : Outcome)
+  pub either_renamed : (b : Bool) (x y x' y' : RuleResult)
       → x' ≡ renamed_outcome f x
       → y' ≡ renamed_outcome f y
       → cond b x' y' ≡ renamed_outcome f (cond b x y)
@@ -59,13 +60,14 @@ module _ (f : ℕ → ℕ) where
   putting_renamed s os os' e = ap (putting (renamed f s)) e
 
   -- one rule after another
-  pub then_renamed : (a a' : Outcome) (rule rule' : ServerState → Outcome)
+  pub then_renamed : (a a' : RuleResult) (rule rule' : ServerState → RuleResult)
       → a' ≡ renamed_outcome f a
       → ((s : ServerState) → rule' (renamed f s) ≡ renamed_outcome f (rule s))
       → and_then a' rule' ≡ renamed_outcome f (and_then a rule)
   then_renamed a a' rule rule' e g =
       ap (λ x. and_then x rule') e
-      ∙ ap (λ (x : Outcome). record { state = x.state; outputs = map (output_to f) a.outputs ++ x.outputs }) (g a.state)
+      ∙ ap (λ (x : RuleResult). record { state = x.state; outputs = map (output_to f) a.outputs ++ x.outputs })
+      (g a.state)
       ∙ ap (λ os. record { state = renamed f (rule a.state).state; outputs = os })
       (both_renamed f a.outputs (rule a.state).outputs)
 
@@ -187,7 +189,7 @@ module _ (f : ℕ → ℕ) where
   unfolding asked
   asked_renamed s port key =
       ap (λ rs. record (renamed f s) { asks = rs; next_ask = s.next_ask + 1 })
-      (one_read_more s.asks (record { ask = s.next_ask; port = port; key = key; mark = s.store.acked }))
+      (one_read_more s.asks (record { ask = s.next_ask; port = port; key = key; lower_bound = s.store.acked }))
 
   -- a read of a dirty key
   pub dirty_read_renamed : (s : ServerState) (port : ℕ) (key : List ℕ)
@@ -226,7 +228,7 @@ module _ (f : ℕ → ℕ) where
   unfolding answered
   answered_renamed s ask n None = refl
   answered_renamed s ask n (Some r) =
-      either_renamed (nat_le r.mark n && nat_le n (last_number s.store))
+      either_renamed (nat_le r.lower_bound n && nat_le n (last_number s.store))
       (record {
         state = record s { asks = without_read s.asks ask };
         outputs = reply_at r.port

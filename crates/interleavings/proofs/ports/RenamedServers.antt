@@ -8,7 +8,7 @@ use Rattle.node.specs.declared.messages.Input.{Input}
 use Rattle.node.specs.declared.messages.Input.TheVariants.{Call as Called, From, Gone}
 use Rattle.node.specs.declared.messages.Output.{Output}
 use Rattle.node.specs.declared.messages.Output.TheVariants.{To, Reply as Replied}
-use Rattle.node.specs.Servers.{Outcome}
+use Rattle.node.specs.Servers.{RuleResult}
 use Rattle.node.specs.Steps.{step}
 use Rattle.interleavings.specs.Chains.{RunningServer, messages_to, without_message, replies_to, without_reply, Sender}
 use Rattle.interleavings.specs.Chains.{OfSeat, OfServer, OfNotices, is_of, first_of, without_first_of}
@@ -22,7 +22,7 @@ running_renamed f s =
     record {
       node = renamed f s.node;
       inbox = map (input_at f) s.inbox;
-      turn = option_map (input_at f) s.turn;
+      unpublished = option_map (input_at f) s.unpublished;
       outbox = map (output_to f) s.outbox;
       stopped = s.stopped;
     }
@@ -121,7 +121,7 @@ module _ (f : ℕ → ℕ) (apart : (p q : ℕ) → f p ≡ f q → p ≡ q) whe
       → took (running_renamed f s) (sender_at f x) (option_map (input_at f) o) ≡ running_renamed f (took s x o)
   took_renamed s x None = refl
   took_renamed s x (Some input) =
-      ap (λ xs. record (running_renamed f s) { inbox = xs; turn = Some (input_at f input) })
+      ap (λ xs. record (running_renamed f s) { inbox = xs; unpublished = Some (input_at f input) })
       (without_first_renamed x s.inbox)
 
   -- what it takes
@@ -130,13 +130,13 @@ module _ (f : ℕ → ℕ) (apart : (p q : ℕ) → f p ≡ f q → p ≡ q) whe
   taking_renamed s x =
       let r = running_renamed f s in
       let t = took s x (first_of x s.inbox) in
-      ap (λ o. cond s.stopped r (cond (is_some (option_map (input_at f) s.turn)) r (took r (sender_at f x) o)))
+      ap (λ o. cond s.stopped r (cond (is_some (option_map (input_at f) s.unpublished)) r (took r (sender_at f x) o)))
       (first_renamed x s.inbox)
-      ∙ ap (λ u. cond s.stopped r (cond (is_some (option_map (input_at f) s.turn)) r u))
+      ∙ ap (λ u. cond s.stopped r (cond (is_some (option_map (input_at f) s.unpublished)) r u))
       (took_renamed s x (first_of x s.inbox))
-      ∙ ap (λ b. cond s.stopped r (cond b r (running_renamed f t))) (some_map f s.turn)
-      ∙ ap (λ u. cond s.stopped r u) (cond_under (running_renamed f) (is_some s.turn) s t)
-      ∙ cond_under (running_renamed f) s.stopped s (cond (is_some s.turn) s t)
+      ∙ ap (λ b. cond s.stopped r (cond b r (running_renamed f t))) (some_map f s.unpublished)
+      ∙ ap (λ u. cond s.stopped r u) (cond_under (running_renamed f) (is_some s.unpublished) s t)
+      ∙ cond_under (running_renamed f) s.stopped s (cond (is_some s.unpublished) s t)
 
 -- ---- a publish
 
@@ -145,23 +145,23 @@ published_renamed : (f : ℕ → ℕ) (s : RunningServer) (o : Option Input)
 published_renamed f s None = refl
 published_renamed f s (Some input) =
     let r = running_renamed f s in
-    ap (λ (a : Outcome). record r { node = a.state; turn = None; outbox = r.outbox ++ a.outputs })
+    ap (λ (a : RuleResult). record r { node = a.state; unpublished = None; outbox = r.outbox ++ a.outputs })
     (step_renamed f s.node input)
-    ∙ ap (λ os. record r { node = renamed f (step s.node input).state; turn = None; outbox = os })
+    ∙ ap (λ os. record r { node = renamed f (step s.node input).state; unpublished = None; outbox = os })
     (sym (map-append (output_to f) s.outbox (step s.node input).outputs))
 
 -- what it publishes
 pub publishing_renamed : (f : ℕ → ℕ) (s : RunningServer)
     → publishing (running_renamed f s) ≡ running_renamed f (publishing s)
 publishing_renamed f s =
-    ap (λ u. cond s.stopped (running_renamed f s) u) (published_renamed f s s.turn)
-    ∙ cond_under (running_renamed f) s.stopped s (published s s.turn)
+    ap (λ u. cond s.stopped (running_renamed f s) u) (published_renamed f s s.unpublished)
+    ∙ cond_under (running_renamed f) s.stopped s (published s s.unpublished)
 
 -- ---- who has stopped
 
 -- taking leaves it,
 pub taking_stopped : (s : RunningServer) (x : Sender) → (taking s x).stopped ≡ s.stopped
-taking_stopped s x = by s.stopped (is_some s.turn) (first_of x s.inbox)
+taking_stopped s x = by s.stopped (is_some s.unpublished) (first_of x s.inbox)
   where
     by : (b c : Bool) (o : Option Input) → (cond b s (cond c s (took s x o))).stopped ≡ s.stopped
     by true c o = refl
@@ -171,7 +171,7 @@ taking_stopped s x = by s.stopped (is_some s.turn) (first_of x s.inbox)
 
 -- and so does publishing
 pub publishing_stopped : (s : RunningServer) → (publishing s).stopped ≡ s.stopped
-publishing_stopped s = by s.stopped s.turn
+publishing_stopped s = by s.stopped s.unpublished
   where
     by : (b : Bool) (o : Option Input) → (cond b s (published s o)).stopped ≡ s.stopped
     by true o = refl

@@ -57,7 +57,8 @@ none_forgotten count homes moves few short asked quiet x on begun =
     let w = run_of count homes f.0 in
     let going = not-true _ (and_parts (nat_lt (l.seats x.connection).home l.count) _ on).1 in
     let rests = resting l w f.2 quiet (known count homes f.0 few).named in
-    by_seat l w x.place (l.seats x.connection) (slice_get w.connections x.connection) f.2 (f.2.seats x.connection) going
+    by_seat l w x.ordinal (l.seats x.connection) (slice_get w.connections x.connection) f.2 (f.2.seats x.connection)
+    going
     (quiet.queues x.connection on)
     (λ there alive.
     none_forgotten_at_rest count homes f.0 few (fourfold (length f.0) (length moves) (2 ^ 62) f.1 short) rests x

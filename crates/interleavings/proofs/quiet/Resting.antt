@@ -57,13 +57,13 @@ module _ (l : Chain) (w : World) (h : StandsFor l w) (q : IsQuiet l)
       (not_from_false _ (going i a))
 
   nothing_queued : (i : ℕ) → lives w i ≡ true → queue (l.servers i) ≡ []
-  nothing_queued i a = ap (λ t. listed t ++ (l.servers i).inbox) (q.turns i (on i a)) ∙ q.inboxes i (on i a)
+  nothing_queued i a = ap (λ t. listed t ++ (l.servers i).inbox) (q.none_unpublished i (on i a)) ∙ q.inboxes i (on i a)
 
   -- nothing is on a link between living servers
   nothing_linked : (i j : ℕ) → lives w i ≡ true → lives w j ≡ true → link w i j ≡ []
   nothing_linked i j a b = h.links i j (going j b)
-      ∙ ap (λ xs. messages_from i xs ++ (l.wires i j ++ messages_to j (l.servers i).outbox)) (nothing_queued j b)
-      ∙ ap (λ ms. ms ++ messages_to j (l.servers i).outbox) (q.wires i j (on i a) (on j b))
+      ∙ ap (λ xs. messages_from i xs ++ (l.channels i j ++ messages_to j (l.servers i).outbox)) (nothing_queued j b)
+      ∙ ap (λ ms. ms ++ messages_to j (l.servers i).outbox) (q.channels i j (on i a) (on j b))
       ∙ q.messages i j (on i a) (on j b)
 
   -- each living server knows who has failed

@@ -8,7 +8,7 @@ use Rattle.node.proofs.Lists.{get_front}
 use Rattle.world.specs.declared.events.Event.{Event}
 use Rattle.world.specs.Connections.{Connection}
 use Rattle.world.specs.Worlds.{World, run_of}
-use Rattle.world.specs.Orders.{Entry}
+use Rattle.world.specs.Orders.{OrderedCall}
 use Rattle.world.proofs.order.OneOrder.{one_order}
 use Rattle.interleavings.specs.Chains.{Seat, Chain, opening_chain}
 use Rattle.interleavings.specs.Moves.{Move, done, moved_from}
@@ -37,8 +37,8 @@ replied_there l w s p reply (Some k) h e = rw h.replies (get_front s.got s.mail 
 -- a world that stands for a chain shows its begun calls, and at least the replies that its seats have
 pub sees : (l : Chain) (w : World) → StandsFor l w → Seen l w
 sees l w h = record {
-  calls = λ x call e. begun_there l w (l.seats x.connection) x.place call _ (h.seats x.connection) e;
-  replies = λ x reply e. replied_there l w (l.seats x.connection) x.place reply _ (h.seats x.connection) e;
+  calls = λ x call e. begun_there l w (l.seats x.connection) x.ordinal call _ (h.seats x.connection) e;
+  replies = λ x reply e. replied_there l w (l.seats x.connection) x.ordinal reply _ (h.seats x.connection) e;
 }
 
 -- ---- runs
@@ -110,7 +110,7 @@ module _ (count : ℕ) (homes : List ℕ) where
       → (moves : List Move)
       → count ≤ 16
       → AreAsked moves
-      → (h : List Entry) × IsLinearization count homes moves h
+      → (h : List OrderedCall) × IsLinearization count homes moves h
   linearizable sim moves few asked =
       let b = behind sim moves (opening_chain count homes) [] (opens count homes) asked in
       let f : Follows count homes moves = record {

@@ -23,12 +23,12 @@ listed (Some x) = x ∷ []
 
 -- what a server has still to take a step for, the oldest first
 abbrev pub queue : RunningServer → List Input
-queue s = listed s.turn ++ s.inbox
+queue s = listed s.unpublished ++ s.inbox
 
 -- what is on its way from server i to server j, the oldest first
 abbrev pub under_way : Chain → ℕ → ℕ → List Peer
 under_way l i j =
-    messages_from i (queue (l.servers j)) ++ (l.wires i j ++ messages_to j (l.servers i).outbox)
+    messages_from i (queue (l.servers j)) ++ (l.channels i j ++ messages_to j (l.servers i).outbox)
 
 -- the call that waits for a step of server i, by a connection
 abbrev pub call_at : ℕ → Option Connection → List Call

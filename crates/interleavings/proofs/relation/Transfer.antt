@@ -9,7 +9,7 @@ use Rattle.table.specs.declared.operations.Reply.{Reply}
 use Rattle.world.specs.declared.events.Event.{Event}
 use Rattle.world.specs.Worlds.{World, run_of}
 use Rattle.world.specs.Calls.{CallId}
-use Rattle.world.specs.Orders.{Entry}
+use Rattle.world.specs.Orders.{OrderedCall}
 use Rattle.world.proofs.lists.Standing.{some_of}
 use Rattle.world.proofs.order.Since.{is_some}
 use Rattle.interleavings.specs.Chains.{Chain}
@@ -76,7 +76,7 @@ module _ (count : ℕ) (homes : List ℕ) (moves : List Move) (f : Follows count
   ]
 
   -- an order of the last schedule is one of the run
-  pub transfer : (h : List Entry)
+  pub transfer : (h : List OrderedCall)
       → schedules.IsLinearization count homes (f.at (length moves)) h
       → IsLinearization count homes moves h
   transfer h lin = record {

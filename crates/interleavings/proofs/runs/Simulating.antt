@@ -97,35 +97,35 @@ module _ (n : ℕ) (homes : List ℕ) (events : List Event) (few : n ≤ 16) whe
 
 -- ---- a publish
 
-turn_reaches : (l : Chain) (w : World) (i : ℕ) (input : Input)
+publishing_reaches : (l : Chain) (w : World) (i : ℕ) (input : Input)
     → Known w
     → StandsFor l w
     → (l.servers i).stopped ≡ false
-    → (l.servers i).turn ≡ Some input
+    → (l.servers i).unpublished ≡ Some input
     → Reaches w (done l (Publishes i))
-turn_reaches l w i (Called c call) f h going turn = (
+publishing_reaches l w i (Called c call) f h going unpublished = (
   Work c ∷ [],
   omega arith,
-  publishes_call l w i (Called c call) h going turn c call refl
+  publishes_call l w i (Called c call) h going unpublished c call refl
       (λ y e. f.joined i y (lives_on l w i h going) e)
       (λ k here home work. subst (λ x. AreAwaited (with_connection w c asked).connections x
       (step (server (with_connection w c asked) x) (Called c call)).outputs) home
       (f.works c k call here (subst (λ x. lives w x ≡ true) (sym home) (lives_on l w i h going)) work)),
 )
-turn_reaches l w i (From j m) f h going turn =
-    let first = h.links j i going ∙ way_first l w i (From j m) h going turn j m refl in
+publishing_reaches l w i (From j m) f h going unpublished =
+    let first = h.links j i going ∙ way_first l w i (From j m) h going unpublished j m refl in
     let alive = lives_on l w i h going in (
       Deliver j i ∷ [],
       omega arith,
-      publishes_message l w i (From j m) h going turn j m refl (f.carried j i m _ first)
+      publishes_message l w i (From j m) h going unpublished j m refl (f.carried j i m _ first)
           (λ y e. f.joined i y alive e) (f.delivers j i m _ first alive),
     )
-turn_reaches l w i (Gone j) f h going turn =
+publishing_reaches l w i (Gone j) f h going unpublished =
     let alive = lives_on l w i h going in (
       Tell i j ∷ [],
       omega arith,
-      publishes_notice l w i (Gone j) h going turn j refl (λ y e. f.joined i y alive e)
-          (f.tells i j alive (named_failed l w i (Gone j) h going turn j refl)),
+      publishes_notice l w i (Gone j) h going unpublished j refl (λ y e. f.joined i y alive e)
+          (f.tells i j alive (named_failed l w i (Gone j) h going unpublished j refl)),
     )
 
 still : (l : Chain) (w : World) (i : ℕ)
@@ -144,16 +144,17 @@ publishes_by : (l : Chain) (w : World) (i : ℕ)
     → StandsFor l w
     → (l.servers i).stopped ≡ false
     → (o : Option Input)
-    → (l.servers i).turn ≡ o
+    → (l.servers i).unpublished ≡ o
     → Reaches w (done l (Publishes i))
 publishes_by l w i f h going None e = still l w i h
-    (ap (λ b. cond b (l.servers i) (published (l.servers i) (l.servers i).turn)) going ∙ ap (published (l.servers i)) e)
-publishes_by l w i f h going (Some input) e = turn_reaches l w i input f h going e
+    (ap (λ b. cond b (l.servers i) (published (l.servers i) (l.servers i).unpublished)) going
+    ∙ ap (published (l.servers i)) e)
+publishes_by l w i f h going (Some input) e = publishing_reaches l w i input f h going e
 
 publishes_reach : (l : Chain) (w : World) (i : ℕ) → Known w → StandsFor l w → Reaches w (done l (Publishes i))
 publishes_reach l w i f h = elim (cases_Bool (l.servers i).stopped) [
-  | inl over ↦ still l w i h (ap (λ b. cond b (l.servers i) (published (l.servers i) (l.servers i).turn)) over)
-  | inr going ↦ publishes_by l w i f h going (l.servers i).turn refl
+  | inl over ↦ still l w i h (ap (λ b. cond b (l.servers i) (published (l.servers i) (l.servers i).unpublished)) over)
+  | inr going ↦ publishes_by l w i f h going (l.servers i).unpublished refl
 ]
 
 -- ---- all moves

@@ -11,7 +11,7 @@ use Rattle.world.specs.Worlds.{World, server, link, lives, with_connection}
 use Rattle.interleavings.specs.Chains.{RunningServer, Seat, Chain, with_at, with_running, with_seat, messages_from}
 use Rattle.interleavings.specs.Chains.{messages_to, calls_from, replies_to}
 use Rattle.interleavings.proofs.relation.StandsFor.{IsSeat, Sits, StandsFor, call_at, listed, queue, reply_at}
-use Rattle.interleavings.proofs.lists.Places.{at_other, at_same, kept_at}
+use Rattle.interleavings.proofs.lists.Ordinals.{at_other, at_same, kept_at}
 use Rattle.world.proofs.lists.Changed.{changed_other, changed_same}
 
 -- the c-th connection is this from now on, and all else is as it was
@@ -159,8 +159,8 @@ module _ (l : Chain) (w v : World) (c i : ℕ) (old k : Connection) (t : Running
     lives = λ x. r.lives x ∙ h.lives x ∙ ap not (sym (same_stopped x));
     servers = λ x e. r.servers x ∙ h.servers x (went x e) ∙ sym (kept_at (λ u. u.node) l.servers i t f.node x);
     links = λ x y e. r.links x y ∙ h.links x y (went y e)
-        ∙ ap (λ ms. ms ++ (l.wires x y ++ messages_to y (l.servers x).outbox)) (sym (from_same x y))
-        ∙ ap (λ ms. messages_from x (queue (with_at l.servers i t y)) ++ (l.wires x y ++ ms)) (sym (to_same x y));
+        ∙ ap (λ ms. ms ++ (l.channels x y ++ messages_to y (l.servers x).outbox)) (sym (from_same x y))
+        ∙ ap (λ ms. messages_from x (queue (with_at l.servers i t y)) ++ (l.channels x y ++ ms)) (sym (to_same x y));
     calls = calls_same;
     replies = replies_same;
     notices = λ x j g. (let a = h.notices x j (notice_same x j g) in (a.0, same_stopped j ∙ a.1));

@@ -25,7 +25,7 @@ use Rattle.proto.proofs.RestedLaws.{GivesRested, IsRested}
 use Rattle.interleavings.proofs.relation.StandsFor.{IsSeat, Reaches, Sits, StandsFor, Tallies, call_at, listed, queue}
 use Rattle.interleavings.proofs.relation.StandsFor.{reply_at, sits_still}
 use Rattle.interleavings.proofs.seats.OneSeat.{Reconnects, WaitsFor, one_seat, reconnects, reconnects_twice}
-use Rattle.interleavings.proofs.lists.Places.{at_other, at_same, same_both}
+use Rattle.interleavings.proofs.lists.Ordinals.{at_other, at_same, same_both}
 use Rattle.interleavings.proofs.passing.Inboxes.{brought_node, brought_outbox, brought_stopped, from_brought}
 use Rattle.interleavings.proofs.passing.Inboxes.{in_brought, queue_apart}
 use Rattle.interleavings.proofs.lists.Joined.{calls_from-append, messages_from-append}
@@ -127,7 +127,7 @@ module _ (l : Chain) (w : World) (c : ℕ) (call : Call) (a : IsSpelled call) (h
   all_answered = subst (λ x. Tallies x (length k.calls) (length k.replies)) at_idle g.tallies
 
   full_queue : queue full ≡ queue (l.servers i) ++ Called c call ∷ []
-  full_queue = sym (append_assoc (listed (l.servers i).turn) (l.servers i).inbox (Called c call ∷ []))
+  full_queue = sym (append_assoc (listed (l.servers i).unpublished) (l.servers i).inbox (Called c call ∷ []))
 
   -- the call is the open one
   pub call_opened : open_call (with_call w c call a k here seat_lives at_idle (g.rested seat_lives)) ≡ Some call
@@ -222,9 +222,9 @@ sent_passes l w c call h over =
       count = refl;
       stopped = brought_stopped u i (Called c call);
       node = brought_node u i (Called c call);
-      ways = λ x y. ap (λ os. messages_from x (queue (m.servers y)) ++ (l.wires x y
+      ways = λ x y. ap (λ os. messages_from x (queue (m.servers y)) ++ (l.channels x y
           ++ messages_to y os)) (brought_outbox u i (Called c call) x)
-          ∙ ap (λ ms. ms ++ (l.wires x y ++ messages_to y (l.servers x).outbox))
+          ∙ ap (λ ms. ms ++ (l.channels x y ++ messages_to y (l.servers x).outbox))
           (from_brought u i (Called c call) x refl y);
       calls = λ x d e. ap (calls_from d) (queue_apart u i (Called c call) x
           (λ f. both_ways _ e (ap (λ n. (l.servers n).stopped) f ∙ over)));

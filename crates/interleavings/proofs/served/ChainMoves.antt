@@ -18,7 +18,7 @@ use Rattle.interleavings.specs.Moves.{Move, Sends, Takes, Publishes, Puts, Arriv
 use Rattle.interleavings.specs.Moves.{Notices, is_free, read_of, looked, put, arrived, mailed}
 use Rattle.interleavings.specs.Moves.{has_stopped, brought, done}
 use Rattle.interleavings.specs.ServingMoves.{reply_by, look_reply, is_of_seat}
-use Rattle.interleavings.proofs.lists.Places.{kept_at}
+use Rattle.interleavings.proofs.lists.Ordinals.{kept_at}
 
 -- the seats after a call was sent,
 pub sends_seats : (l : Chain) (c : ℕ) (call : Call)
@@ -112,7 +112,7 @@ others_same l (Sends c call) d e = absurd (let no : true ≡ false = e in cc)
 others_same l (Takes i sender) d e = record { calls = refl; got = refl }
 others_same l (Publishes i) d e = record { calls = refl; got = refl }
 others_same l (Puts i j) d e = put_same l i j d (l.servers i).stopped (messages_to j (l.servers i).outbox)
-others_same l (Arrives i j) d e = arrived_same l i j d (l.wires i j)
+others_same l (Arrives i j) d e = arrived_same l i j d (l.channels i j)
 others_same l (Replies i c) d e = mailed_same l i c d (l.servers i).stopped (replies_to c (l.servers i).outbox)
 others_same l (Receives c) d e = absurd (let no : true ≡ false = e in cc)
 others_same l (Looks c key) d e = absurd (let no : true ≡ false = e in cc)

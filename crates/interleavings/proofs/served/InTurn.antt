@@ -9,7 +9,7 @@ use Rattle.table.specs.declared.operations.Call.{Call}
 use Rattle.table.specs.declared.operations.Reply.{Reply}
 use Rattle.node.proofs.Lists.{get_last}
 use Rattle.interleavings.specs.Chains.{with_at}
-use Rattle.interleavings.proofs.lists.Places.{at_same, at_other, at_self}
+use Rattle.interleavings.proofs.lists.Ordinals.{at_same, at_other, at_self}
 
 -- ---- two lists, one behind the other
 
@@ -80,7 +80,7 @@ found_there cs (suc m) n q l h = elim (cases_eq n m) [
 
 -- ---- whose call stands at a place
 
--- the connection, and the place among its calls
+-- the connection, and the ordinal among its calls
 pub owner : (ℕ → List Call) → ℕ → ℕ → ℕ × ℕ
 owner cs zero p = (0, p)
 owner cs (suc m) p = if nat_lt p (start cs m) then owner cs m p else (m, p - start cs m)
@@ -89,7 +89,7 @@ owner cs (suc m) p = if nat_lt p (start cs m) then owner cs m p else (m, p - sta
 pub record IsOwner (cs : ℕ → List Call) (m p : ℕ) (x : ℕ × ℕ) : Type 0 where
   pub below : x.0 < m
   pub inside : x.1 < length (cs x.0)
-  pub place : start cs x.0 + x.1 ≡ p
+  pub ordinal : start cs x.0 + x.1 ≡ p
 
 -- so it is, for a place that there is
 pub owner_is : (cs : ℕ → List Call) (m p : ℕ) → p < start cs m → IsOwner cs m p (owner cs m p)
@@ -103,11 +103,11 @@ owner_is cs (suc m) p h = by_test (nat_lt p (start cs m)) refl (λ l. owner_is c
         → IsOwner cs (suc m) p (cond b (owner cs m p) (m, p - start cs m))
     by_test true e f =
         let o = f (ltb-true p (start cs m) e) in
-        record { below = let b = o.below in omega (arith, b); inside = o.inside; place = o.place }
+        record { below = let b = o.below in omega (arith, b); inside = o.inside; ordinal = o.ordinal }
     by_test false e f =
         let n = start_next cs m in
         let past : start cs m ≤ p = ltb-false p (start cs m) e in
-        record { below = omega arith; inside = omega (arith, n, past, h); place = omega (arith, past) }
+        record { below = omega arith; inside = omega (arith, n, past, h); ordinal = omega (arith, past) }
 
 -- the place of a call is the call's
 pub owner_found : (cs : ℕ → List Call) (m n q : ℕ)

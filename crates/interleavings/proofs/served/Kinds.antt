@@ -21,14 +21,14 @@ use Rattle.node.proofs.DecisionLaws.{decided}
 use Rattle.proto.specs.declared.texts.Form.{Form}
 use Rattle.proto.specs.Sessions.{shows}
 use Rattle.world.specs.Calls.{CallId}
-use Rattle.world.specs.Orders.{Entry}
+use Rattle.world.specs.Orders.{OrderedCall}
 use Rattle.interleavings.specs.Chains.{Seat}
 use Rattle.interleavings.specs.Moves.{Move, Receives, done, moved}
 use Rattle.interleavings.specs.Orders.{begun_call, reply_to}
 use Rattle.interleavings.specs.Connections.{Connection, waits, may_have}
 use Rattle.interleavings.specs.ServingMoves.{ServingChain, ServingMove, served_at, opening_serving, served}
 use Rattle.interleavings.proofs.examples.InTwoParts.{moved_from-append}
-use Rattle.interleavings.proofs.lists.Places.{at_same}
+use Rattle.interleavings.proofs.lists.Ordinals.{at_same}
 use Rattle.interleavings.proofs.relation.Following.{linearizable}
 use Rattle.interleavings.proofs.runs.Simulating.{simulates}
 use Rattle.interleavings.proofs.served.Connected.{is_served}
@@ -107,8 +107,8 @@ module _ (count : ℕ) (homes : List ℕ) (moves : List ServingMove) (few : coun
       (made_along moves (opening_serving count homes) (opening_order count homes)) (Receives c ∷ []))
 
   -- the place of the call
-  abbrev place : CallId
-  place = record { connection = c; place = start (calls_at last c) (last.ended c) + length k.replies }
+  abbrev ordinal : CallId
+  ordinal = record { connection = c; ordinal = start (calls_at last c) (last.ended c) + length k.replies }
 
   module _ (mail : (last.chain.seats c).mail ≡ reply ∷ more) (wait : waits k ≡ true) where
     less : length k.replies < length k.calls
@@ -118,7 +118,7 @@ module _ (count : ℕ) (homes : List ℕ) (moves : List ServingMove) (few : coun
     w = waiting k (ordered.connected c (last.ended c)) less
 
     -- the seat waits for the reply of this call
-    got_is : length (last.chain.seats c).got ≡ place.place
+    got_is : length (last.chain.seats c).got ≡ ordinal.ordinal
     got_is =
         let h = ordered.seats c in
         let o = h.open_one less in
@@ -133,18 +133,19 @@ module _ (count : ℕ) (homes : List ℕ) (moves : List ServingMove) (few : coun
         ∙ at_same last.chain.seats c
         (record (last.chain.seats c) { got = (last.chain.seats c).got ++ reply ∷ []; mail = more })
 
-    replied : reply_to (moved count homes run) place ≡ Some reply
+    replied : reply_to (moved count homes run) ordinal ≡ Some reply
     replied =
-        ap (λ l. reply_to l place) (sym run_is)
-        ∙ ap (λ (x : Seat). slice_get x.got place.place) seats_then
+        ap (λ l. reply_to l ordinal) (sym run_is)
+        ∙ ap (λ (x : Seat). slice_get x.got ordinal.ordinal) seats_then
         ∙ ap (slice_get ((last.chain.seats c).got ++ reply ∷ [])) (sym got_is)
         ∙ get_last (last.chain.seats c).got reply
 
-    begun : begun_call (moved count homes run) place ≡ Some w.call
+    begun : begun_call (moved count homes run) ordinal ≡ Some w.call
     begun =
-        ap (λ l. begun_call l place) (sym run_is)
-        ∙ ap (λ (x : Seat). slice_get x.calls place.place) seats_then
-        ∙ begun_there last ordered (record { seat = c; number = last.ended c; place = length k.replies }) w.call w.made
+        ap (λ l. begun_call l ordinal) (sym run_is)
+        ∙ ap (λ (x : Seat). slice_get x.calls ordinal.ordinal) seats_then
+        ∙ begun_there last ordered (record { seat = c; number = last.ended c; ordinal = length k.replies }) w.call
+        w.made
 
     fits : Fits w.call.op
     fits = (made_asked k (ordered.connected c (last.ended c)) (length k.replies) w.call w.made).fits
@@ -155,15 +156,17 @@ module _ (count : ℕ) (homes : List ℕ) (moves : List ServingMove) (few : coun
         let o = linearizable count homes (simulates count homes few) run few
         (both_asked (made_along moves (opening_serving count homes) (opening_order count homes)) (Receives c ∷ [])
         (asked_along moves (opening_serving count homes) (opening_order count homes)) (tt, tt)) in
-        let a = o.1.answered place reply replied in
+        let a = o.1.answered ordinal reply replied in
         let call : a.1.entry.call ≡ w.call =
         same_Some a.1.entry.call w.call
         (sym (o.1.begun a.0 a.1.entry a.1.here) ∙ ap (begun_call (moved count homes run)) a.1.same ∙ begun) in
-        let here : slice_get (map {B = Call × Reply} (λ (e : Entry). (e.call, e.reply)) o.0) a.0 ≡ Some (w.call, reply) =
-        slice_get-map (λ (e : Entry). (e.call, e.reply)) o.0 a.0
-        ∙ ap (option_map (λ (e : Entry). (e.call, e.reply))) a.1.here
+        let here : slice_get (map {B = Call × Reply} (λ (e : OrderedCall). (e.call, e.reply)) o.0) a.0 ≡ Some
+        (w.call, reply) =
+        slice_get-map (λ (e : OrderedCall). (e.call, e.reply)) o.0 a.0
+        ∙ ap (option_map (λ (e : OrderedCall). (e.call, e.reply))) a.1.here
         ∙ ap (λ (x : Call). Some (x, a.1.entry.reply)) call
         ∙ ap (λ (r : Reply). Some (w.call, r)) a.2 in
         by_kind k.session.asked w.form reply w.asked
-        (legal_kind plain.opening (map (λ (e : Entry). (e.call, e.reply)) o.0) a.0 (w.call, reply) o.1.legal here fits
+        (legal_kind plain.opening (map (λ (e : OrderedCall). (e.call, e.reply)) o.0) a.0 (w.call, reply) o.1.legal here
+        fits
         ∙ sym w.fits)

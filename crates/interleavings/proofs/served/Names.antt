@@ -15,24 +15,24 @@ use Rattle.interleavings.proofs.served.InTurn.{owner_found}
 use Rattle.interleavings.proofs.served.Steps.{calls_at, replies_at, IsInOrder, Grows}
 
 -- where its seat has it
-abbrev pub place_of : ServingChain → CallName → CallId
-place_of s x = record { connection = x.seat; place = start (calls_at s x.seat) x.number + x.place }
+abbrev pub ordinal_of : ServingChain → CallName → CallId
+ordinal_of s x = record { connection = x.seat; ordinal = start (calls_at s x.seat) x.number + x.ordinal }
 
 -- whose it is
 abbrev pub name_of : ServingChain → CallId → CallName
 name_of s y = record {
   seat = y.connection;
-  number = (owner (calls_at s y.connection) (suc (s.ended y.connection)) y.place).0;
-  place = (owner (calls_at s y.connection) (suc (s.ended y.connection)) y.place).1;
+  number = (owner (calls_at s y.connection) (suc (s.ended y.connection)) y.ordinal).0;
+  ordinal = (owner (calls_at s y.connection) (suc (s.ended y.connection)) y.ordinal).1;
 }
 
 module _ (s : ServingChain) (h : IsInOrder s) where
   -- a call that was made is within its connection's calls,
   pub inside : (x : CallName) (call : Call)
       → call_made s x ≡ Some call
-      → (x.number < suc (s.ended x.seat)) × (x.place < length (calls_at s x.seat x.number))
+      → (x.number < suc (s.ended x.seat)) × (x.ordinal < length (calls_at s x.seat x.number))
   inside x call e =
-      let within = slice_get_within (calls_at s x.seat x.number) x.place call e in (
+      let within = slice_get_within (calls_at s x.seat x.number) x.ordinal call e in (
         elim (cases_lt (s.ended x.seat) x.number) [
           | inl past ↦
               let none = ap length ((h.seats x.seat).later x.number past).0 in
@@ -45,33 +45,33 @@ module _ (s : ServingChain) (h : IsInOrder s) where
   -- it has begun there,
   pub begun_there : (x : CallName) (call : Call)
       → call_made s x ≡ Some call
-      → begun_call s.chain (place_of s x) ≡ Some call
+      → begun_call s.chain (ordinal_of s x) ≡ Some call
   begun_there x call e =
       let i = inside x call e in
-      ap (λ cs. slice_get cs (start (calls_at s x.seat) x.number + x.place)) (h.seats x.seat).all_calls
-      ∙ found_there (calls_at s x.seat) (suc (s.ended x.seat)) x.number x.place i.0 i.1 ∙ e
+      ap (λ cs. slice_get cs (start (calls_at s x.seat) x.number + x.ordinal)) (h.seats x.seat).all_calls
+      ∙ found_there (calls_at s x.seat) (suc (s.ended x.seat)) x.number x.ordinal i.0 i.1 ∙ e
 
   -- and has the same reply there,
   pub same_reply : (x : CallName) (call : Call)
       → call_made s x ≡ Some call
-      → reply_got s x ≡ reply_to s.chain (place_of s x)
-  same_reply x call e = (h.seats x.seat).placed x.number x.place (inside x call e).1
+      → reply_got s x ≡ reply_to s.chain (ordinal_of s x)
+  same_reply x call e = (h.seats x.seat).placed x.number x.ordinal (inside x call e).1
 
   -- where it bears its name.
-  pub named_there : (x : CallName) (call : Call) → call_made s x ≡ Some call → name_of s (place_of s x) ≡ x
+  pub named_there : (x : CallName) (call : Call) → call_made s x ≡ Some call → name_of s (ordinal_of s x) ≡ x
   named_there x call e =
       let i = inside x call e in
-      ap (λ (p : ℕ × ℕ). record { seat = x.seat; number = p.0; place = p.1 })
-      (owner_found (calls_at s x.seat) (suc (s.ended x.seat)) x.number x.place i.0 i.1)
+      ap (λ (p : ℕ × ℕ). record { seat = x.seat; number = p.0; ordinal = p.1 })
+      (owner_found (calls_at s x.seat) (suc (s.ended x.seat)) x.number x.ordinal i.0 i.1)
 
   -- An answered call was made.
   pub made_if_answered : (x : CallName) (reply : Reply)
       → reply_got s x ≡ Some reply
       → (call : Call) × (call_made s x ≡ Some call)
   made_if_answered x reply e =
-      let within = slice_get_within (replies_at s x.seat x.number) x.place reply e in
+      let within = slice_get_within (replies_at s x.seat x.number) x.ordinal reply e in
       let few = (h.connected x.seat x.number).few in
-      elim (slice_get_cases (calls_at s x.seat x.number) x.place).1 [
+      elim (slice_get_cases (calls_at s x.seat x.number) x.ordinal).1 [
         | inl found ↦ (found.0, found.2)
         | inr past ↦ let p = past.0 in absurd (omega (arith, within, few, p))
       ]
@@ -79,27 +79,27 @@ module _ (s : ServingChain) (h : IsInOrder s) where
   -- A call that a seat has begun was made by the connection that it is named for, and stands at its place.
   pub made_there : (y : CallId) (call : Call)
       → begun_call s.chain y ≡ Some call
-      → (call_made s (name_of s y) ≡ Some call) × (place_of s (name_of s y) ≡ y)
+      → (call_made s (name_of s y) ≡ Some call) × (ordinal_of s (name_of s y) ≡ y)
   made_there y call e =
       let c = y.connection in
       let cs = calls_at s c in
       let m = suc (s.ended c) in
-      let at : slice_get (upto cs m) y.place ≡ Some call =
-      ap (λ xs. slice_get xs y.place) (sym (h.seats c).all_calls) ∙ e in
-      let o = owner_is cs m y.place (slice_get_within (upto cs m) y.place call at) in
-      let n = (owner cs m y.place).0 in
-      let q = (owner cs m y.place).1 in (
-        sym (found_there cs m n q o.below o.inside) ∙ ap (slice_get (upto cs m)) o.place ∙ at,
-        ap (λ (p : ℕ). record { connection = c; place = p }) o.place,
+      let at : slice_get (upto cs m) y.ordinal ≡ Some call =
+      ap (λ xs. slice_get xs y.ordinal) (sym (h.seats c).all_calls) ∙ e in
+      let o = owner_is cs m y.ordinal (slice_get_within (upto cs m) y.ordinal call at) in
+      let n = (owner cs m y.ordinal).0 in
+      let q = (owner cs m y.ordinal).1 in (
+        sym (found_there cs m n q o.below o.inside) ∙ ap (slice_get (upto cs m)) o.ordinal ∙ at,
+        ap (λ (p : ℕ). record { connection = c; ordinal = p }) o.ordinal,
       )
 
 -- What was made stands at the same place from then on.
-pub same_place : (s t : ServingChain) (x : CallName) (call : Call)
+pub same_ordinal : (s t : ServingChain) (x : CallName) (call : Call)
     → IsInOrder s
     → Grows s t
     → call_made s x ≡ Some call
-    → place_of t x ≡ place_of s x
-same_place s t x call h g e =
+    → ordinal_of t x ≡ ordinal_of s x
+same_ordinal s t x call h g e =
     let i = (inside s h x call e).0 in
-    ap (λ (cs : List Call). record { connection = x.seat; place = length cs + x.place })
+    ap (λ (cs : List Call). record { connection = x.seat; ordinal = length cs + x.ordinal })
     (upto_same (calls_at t x.seat) (calls_at s x.seat) x.number (λ j l. g.over x.seat j (omega (arith, l, i))))

@@ -7,7 +7,7 @@ use Rattle.std.proofs.lemmas.Option.{same_Some, slice_get-map}
 use Rattle.table.specs.Histories.{IsLegal}
 use Rattle.table.specs.declared.operations.Call.{Call}
 use Rattle.table.specs.declared.operations.Reply.{Reply}
-use Rattle.world.specs.Orders.{Entry, StandsAt}
+use Rattle.world.specs.Orders.{OrderedCall, StandsAt}
 use Rattle.world.proofs.lists.Standing.{some_of}
 use Rattle.world.proofs.order.Since.{is_some}
 use Rattle.interleavings.specs.Moves.{Move, moved, done}
@@ -25,15 +25,16 @@ use Rattle.interleavings.proofs.served.Connected.{is_served, has_all}
 use Rattle.interleavings.proofs.served.Steps.{IsInOrder, Grows}
 use Rattle.interleavings.proofs.served.Along.{opening_order, made_along, order_along, chain_along, short_along, asked_along}
 use Rattle.interleavings.proofs.served.Along.{grows_from, first_along}
-use Rattle.interleavings.proofs.served.Names.{place_of, name_of, begun_there, same_reply, named_there, made_if_answered}
-use Rattle.interleavings.proofs.served.Names.{made_there, same_place}
+use Rattle.interleavings.proofs.served.Names.{ordinal_of, name_of, begun_there, same_reply, named_there}
+use Rattle.interleavings.proofs.served.Names.{made_if_answered}
+use Rattle.interleavings.proofs.served.Names.{made_there, same_ordinal}
 
 -- an entry by the name of its connection
-abbrev named : ServingChain → Entry → ServedEntry
+abbrev named : ServingChain → OrderedCall → ServedEntry
 named s e = record { id = name_of s e.id; call = e.call; reply = e.reply }
 
-same_history : (s : ServingChain) (h : List Entry)
-    → map {B = Call × Reply} (λ (e : Entry). (e.call, e.reply)) h
+same_history : (s : ServingChain) (h : List OrderedCall)
+    → map {B = Call × Reply} (λ (e : OrderedCall). (e.call, e.reply)) h
     ≡ map {B = Call × Reply} (λ (e : ServedEntry). (e.call, e.reply)) (map (named s) h)
 same_history s [] = refl
 same_history s (e ∷ es) = ap (λ xs. (e.call, e.reply) ∷ xs) (same_history s es)
@@ -90,23 +91,23 @@ module _ (count : ℕ) (homes : List ℕ) (moves : List ServingMove) where
   front_grows : (k : ℕ) → Grows (front k) last
   front_grows k = grows_from k moves (opening_serving count homes) (opening_order count homes)
 
-  module _ (h : List Entry) (lin : IsLinearization count homes run h) where
+  module _ (h : List OrderedCall) (lin : IsLinearization count homes run h) where
     abbrev order : List ServedEntry
     order = map (named last) h
 
     -- an entry of the one is an entry of the other
     record IsEntry (i : ℕ) (x : CallName) : Type 0 where
-      entry : Entry
+      entry : OrderedCall
       here : slice_get h i ≡ Some entry
       its_name : name_of last entry.id ≡ x
       begun : begun_call last.chain entry.id ≡ Some entry.call
 
     entry_at : (i : ℕ) (e : ServedEntry)
         → slice_get order i ≡ Some e
-        → (x : Entry) × (slice_get h i ≡ Some x) × (named last x ≡ e)
+        → (x : OrderedCall) × (slice_get h i ≡ Some x) × (named last x ≡ e)
     entry_at i e at = mapped (named last) (slice_get h i) e (sym (slice_get-map (named last) h i) ∙ at)
 
-    begun_last : (i : ℕ) (x : Entry) → slice_get h i ≡ Some x → begun_call last.chain x.id ≡ Some x.call
+    begun_last : (i : ℕ) (x : OrderedCall) → slice_get h i ≡ Some x → begun_call last.chain x.id ≡ Some x.call
     begun_last i x at = ap (λ l. begun_call l x.id) same_chain ∙ lin.begun i x at
 
     stands_there : (i : ℕ) (x : CallName) → StandsThere order i x → IsEntry i x
@@ -120,15 +121,15 @@ module _ (count : ℕ) (homes : List ℕ) (moves : List ServingMove) where
         }
 
     -- its place
-    place_is : (i : ℕ) (x : CallName) (e : IsEntry i x) → place_of last x ≡ e.entry.id
-    place_is i x e =
-        subst (λ z. place_of last z ≡ e.entry.id) e.its_name
+    ordinal_is : (i : ℕ) (x : CallName) (e : IsEntry i x) → ordinal_of last x ≡ e.entry.id
+    ordinal_is i x e =
+        subst (λ z. ordinal_of last z ≡ e.entry.id) e.its_name
         (made_there last ordered e.entry.id e.entry.call e.begun).1
 
     -- a call that was made stands there if its place does
     named_so : (i : ℕ) (x : CallName) (call : Call)
         → call_made last x ≡ Some call
-        → (at : StandsAt h i (place_of last x))
+        → (at : StandsAt h i (ordinal_of last x))
         → StandsThere order i x
     named_so i x call made at = record {
       entry = named last at.entry;
@@ -142,25 +143,25 @@ module _ (count : ℕ) (homes : List ℕ) (moves : List ServingMove) where
     unfolding named_so
     answered_there x reply got =
         let m = made_if_answered last ordered x reply got in
-        let r = ap (λ l. reply_to l (place_of last x)) (sym same_chain)
+        let r = ap (λ l. reply_to l (ordinal_of last x)) (sym same_chain)
         ∙ sym (same_reply last ordered x m.0 m.1) ∙ got in
-        let a = lin.answered (place_of last x) reply r in
+        let a = lin.answered (ordinal_of last x) reply r in
         (a.0, named_so a.0 x m.0 m.1 a.1, a.2)
 
     precedes : (x y : CallName) (j k : ℕ) (reply : Reply)
         → reply_got (front k) x ≡ Some reply
         → call_made (front k) y ≡ None
         → (e : IsEntry j y)
-        → Precedes count homes run (place_of last x) e.entry.id
+        → Precedes count homes run (ordinal_of last x) e.entry.id
     precedes x y j k reply got not_made e =
         let f = front_chain k in
         let m = made_if_answered (front k) (front_ordered k) x reply got in
-        let same = same_place (front k) last x m.0 (front_ordered k) (front_grows k) m.1 in
-        let r : reply_to (front k).chain (place_of last x) ≡ Some reply =
+        let same = same_ordinal (front k) last x m.0 (front_ordered k) (front_grows k) m.1 in
+        let r : reply_to (front k).chain (ordinal_of last x) ≡ Some reply =
         ap (reply_to (front k).chain) same ∙ sym (same_reply (front k) (front_ordered k) x m.0 m.1) ∙ got in
         record {
           k = f.0;
-          answered = is_some _ reply (ap (λ l. reply_to l (place_of last x)) f.1 ∙ r);
+          answered = is_some _ reply (ap (λ l. reply_to l (ordinal_of last x)) f.1 ∙ r);
           not_begun =
               ap (λ l. begun_call l e.entry.id) f.1
               ∙ not_some (begun_call (front k).chain e.entry.id) (λ call begun. not_there call begun);
@@ -170,8 +171,8 @@ module _ (count : ℕ) (homes : List ℕ) (moves : List ServingMove) where
         not_there call begun =
             let z = name_of (front k) e.entry.id in
             let m = made_there (front k) (front_ordered k) e.entry.id call begun in
-            let now = (front_grows k).calls z.seat z.number z.place call m.0 in
-            let same = same_place (front k) last z call (front_ordered k) (front_grows k) m.0 ∙ m.1 in
+            let now = (front_grows k).calls z.seat z.number z.ordinal call m.0 in
+            let same = same_ordinal (front k) last z call (front_ordered k) (front_grows k) m.0 ∙ m.1 in
             let is : y ≡ z =
             sym e.its_name ∙ ap (name_of last) (sym same) ∙ named_there last ordered z call now in
             let no : None ≡ Some call = sym not_made ∙ ap (call_made (front k)) is ∙ m.0 in
@@ -185,9 +186,9 @@ module _ (count : ℕ) (homes : List ℕ) (moves : List ServingMove) where
         let e = stands_there j y s in
         let r = some_of (reply_got (front p.k) x) p.answered in
         let m = made_if_answered (front p.k) (front_ordered p.k) x r.0 r.1 in
-        let t = lin.in_time (place_of last x) e.entry.id j (precedes x y j p.k r.0 r.1 p.not_made e)
+        let t = lin.in_time (ordinal_of last x) e.entry.id j (precedes x y j p.k r.0 r.1 p.not_made e)
         (record { entry = e.entry; here = e.here; same = refl }) in
-        (t.0, t.1, named_so t.0 x m.0 ((front_grows p.k).calls x.seat x.number x.place m.0 m.1) t.2)
+        (t.0, t.1, named_so t.0 x m.0 ((front_grows p.k).calls x.seat x.number x.ordinal m.0 m.1) t.2)
 
     -- so it is an order of all connections' calls
     pub is_one_order : IsOneOrder done count homes moves (map (named (served done count homes moves)) h)
@@ -200,8 +201,8 @@ module _ (count : ℕ) (homes : List ℕ) (moves : List ServingMove) where
       once = λ i j x s t.
           let e = stands_there i x s in
           let f = stands_there j x t in
-          lin.once i j (place_of last x) (record { entry = e.entry; here = e.here; same = sym (place_is i x e) })
-          (record { entry = f.entry; here = f.here; same = sym (place_is j x f) });
+          lin.once i j (ordinal_of last x) (record { entry = e.entry; here = e.here; same = sym (ordinal_is i x e) })
+          (record { entry = f.entry; here = f.here; same = sym (ordinal_is j x f) });
       answered = answered_there;
       in_time = in_time_there;
     }
@@ -224,10 +225,12 @@ module _ (count : ℕ) (homes : List ℕ) (moves : List ServingMove) where
       let there = none_forgotten count homes run few
       (fewer (length run) (length moves) (2 ^ 62) n short)
       (asked_along moves (opening_serving count homes) (opening_order count homes))
-      (subst IsQuiet same_chain quiet) (place_of last x)
+      (subst IsQuiet same_chain quiet) (ordinal_of last x)
       (subst (λ l. goes_on l (l.seats x.seat).home ≡ true) same_chain on)
-      (is_some _ m.0 (ap (λ l. begun_call l (place_of last x)) (sym same_chain) ∙ begun_there last ordered x m.0 m.1)) in
-      subst IsSome (ap (λ l. reply_to l (place_of last x)) (sym same_chain) ∙ sym (same_reply last ordered x m.0 m.1)) there
+      (is_some _ m.0 (ap (λ l. begun_call l (ordinal_of last x)) (sym same_chain)
+      ∙ begun_there last ordered x m.0 m.1)) in
+      subst IsSome (ap (λ l. reply_to l (ordinal_of last x)) (sym same_chain) ∙ sym (same_reply last ordered x m.0 m.1))
+      there
     where
       fewer : (a b c : ℕ) → a ≤ b → b < c → a < c
       fewer a b c l k = omega (arith, l, k)
@@ -242,7 +245,7 @@ module _ (count : ℕ) (homes : List ℕ) (moves : List ServingMove) where
       (λ made. none_unanswered few short quiet (name c n) on made) rested
     where
       name : ℕ → ℕ → CallName
-      name a b = record { seat = a; number = b; place = length (last.connections a b).replies }
+      name a b = record { seat = a; number = b; ordinal = length (last.connections a b).replies }
 
   -- and its servers make a run of moves
   pub is_run : (ms : List Move) × AreAsked ms × ((served done count homes moves).chain ≡ moved count homes ms)

@@ -177,13 +177,13 @@ module _ (n : ℕ) (homes : List ℕ) where
       → call_made (served done n homes (map as_other ms)) x ≡ call_made (served own n homes ms) x
   made_same ms x =
       ap (λ (f : ℕ → ℕ → Connection).
-      slice_get (f x.seat x.number).calls x.place) (same_served ms)
+      slice_get (f x.seat x.number).calls x.ordinal) (same_served ms)
 
   got_same : (ms : List ServingMove) (x : CallName)
       → reply_got (served done n homes (map as_other ms)) x ≡ reply_got (served own n homes ms) x
   got_same ms x =
       ap (λ (f : ℕ → ℕ → Connection).
-      slice_get (f x.seat x.number).replies x.place) (same_served ms)
+      slice_get (f x.seat x.number).replies x.ordinal) (same_served ms)
 
   module _ (moves : List ServingMove) where
     abbrev others : List ServingMove

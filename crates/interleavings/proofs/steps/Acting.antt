@@ -5,7 +5,7 @@ use Rattle.std.specs.Prelude.{slice_get, not}
 use Rattle.std.proofs.lemmas.Bool.{cases_eq}
 use Rattle.std.proofs.lemmas.List.{length-set}
 use Rattle.node.specs.declared.messages.Input.TheVariants.{Gone}
-use Rattle.node.specs.Servers.{ServerState, Outcome}
+use Rattle.node.specs.Servers.{ServerState, RuleResult}
 use Rattle.node.proofs.Lists.{In}
 use Rattle.world.specs.Connections.{Connection}
 use Rattle.world.specs.Worlds.{World, server, link, lives, with_server, acted}
@@ -19,15 +19,15 @@ use Rattle.interleavings.proofs.steps.Awaited.{HasIts, asked_calls, asked_replie
 use Rattle.interleavings.proofs.steps.Awaited.{replied_calls, replied_other, replied_own}
 use Rattle.interleavings.proofs.relation.StandsFor.{IsSeat, Sits, StandsFor, Tallies, call_at, queue, reply_at}
 use Rattle.interleavings.proofs.relation.StandsFor.{under_way}
-use Rattle.interleavings.proofs.lists.Places.{at_other, at_same, kept_at}
+use Rattle.interleavings.proofs.lists.Ordinals.{at_other, at_same, kept_at}
 use Rattle.interleavings.proofs.lists.Joined.{messages_to-append, replies_to-append, sent_same}
 
 -- server i is what a step made of it, and what that put out is left to put
-abbrev pub act : Chain → ℕ → Outcome → Chain
+abbrev pub act : Chain → ℕ → RuleResult → Chain
 act l i a =
     with_running l i (record (l.servers i) { node = a.state; outbox = (l.servers i).outbox ++ a.outputs })
 
-module _ (l : Chain) (w : World) (i : ℕ) (a : Outcome) (h : StandsFor l w) (going : (l.servers i).stopped ≡ false)
+module _ (l : Chain) (w : World) (i : ℕ) (a : RuleResult) (h : StandsFor l w) (going : (l.servers i).stopped ≡ false)
     (within : i < length w.servers)
     (joined : (y : ℕ) → (l.servers y).stopped ≡ false → HasLink w i y)
     (awaited : AreAwaited w.connections i a.outputs) where
@@ -69,7 +69,7 @@ module _ (l : Chain) (w : World) (i : ℕ) (a : Outcome) (h : StandsFor l w) (go
 
   joined_mid : (y : ℕ) → HasLink w i y → HasLink (with_server w i a.state) i y
   unfolding with_server
-  joined_mid y g = record { row = g.row; place = g.place }
+  joined_mid y g = record { row = g.row; ordinal = g.ordinal }
 
   outbox_own : (y : ℕ)
       → messages_to y ((act l i a).servers i).outbox ≡ messages_to y (l.servers i).outbox ++ messages_to y a.outputs
@@ -79,7 +79,7 @@ module _ (l : Chain) (w : World) (i : ℕ) (a : Outcome) (h : StandsFor l w) (go
   from_own : (y : ℕ) → under_way l i y ++ messages_to y a.outputs ≡ under_way (act l i a) i y
   from_own y =
       let xs = messages_from i (queue (l.servers y)) in
-      let ys = l.wires i y in
+      let ys = l.channels i y in
       let zs = messages_to y (l.servers i).outbox in
       append_assoc xs (ys ++ zs) (messages_to y a.outputs)
       ∙ ap (λ us. xs ++ us) (append_assoc ys zs (messages_to y a.outputs) ∙ ap (λ us. ys ++ us) (sym (outbox_own y)))
@@ -87,9 +87,9 @@ module _ (l : Chain) (w : World) (i : ℕ) (a : Outcome) (h : StandsFor l w) (go
 
   from_other : (x y : ℕ) → x ≢ i → under_way l x y ≡ under_way (act l i a) x y
   from_other x y other =
-      ap (λ (s : RunningServer). messages_from x (queue (l.servers y)) ++ (l.wires x y ++ messages_to y s.outbox))
+      ap (λ (s : RunningServer). messages_from x (queue (l.servers y)) ++ (l.channels x y ++ messages_to y s.outbox))
       (sym (at_other l.servers i new x other))
-      ∙ ap (λ q. messages_from x q ++ (l.wires x y ++ messages_to y ((act l i a).servers x).outbox))
+      ∙ ap (λ q. messages_from x q ++ (l.channels x y ++ messages_to y ((act l i a).servers x).outbox))
       (sym (same_queue y))
 
   linked : (x y : ℕ) → (l.servers y).stopped ≡ false → link (acted w i a) x y ≡ under_way (act l i a) x y

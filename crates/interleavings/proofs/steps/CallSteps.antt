@@ -20,10 +20,10 @@ use Rattle.interleavings.specs.Chains.{Seat, Chain, messages_from, calls_from, r
 use Rattle.interleavings.specs.Moves.{Publishes, done}
 use Rattle.interleavings.proofs.relation.StandsFor.{IsSeat, Sits, StandsFor, Tallies, call_at, listed, lives_on, queue}
 use Rattle.interleavings.proofs.relation.StandsFor.{reply_at}
-use Rattle.interleavings.proofs.steps.TurnsOver.{TurnIsOver, freed, publishes_is, turn_is_over}
+use Rattle.interleavings.proofs.steps.StepsPublished.{StepIsPublished, freed, publishes_is, step_is_published}
 use Rattle.interleavings.proofs.steps.Acting.{acts}
 use Rattle.world.proofs.lists.Changed.{changed_other, changed_same}
-use Rattle.interleavings.proofs.lists.Places.{same_both}
+use Rattle.interleavings.proofs.lists.Ordinals.{same_both}
 
 -- ---- the first of the queue is this call: its connection has begun it
 
@@ -59,9 +59,9 @@ begun_of Asked k call e = absurd cc
 begun_of (Replied reply) k call e = absurd cc
 
 module _ (l : Chain) (w : World) (i : ℕ) (input : Input) (h : StandsFor l w)
-    (going : (l.servers i).stopped ≡ false) (turn : (l.servers i).turn ≡ Some input) where
-  over : TurnIsOver l i input
-  over = turn_is_over l i input turn
+    (going : (l.servers i).stopped ≡ false) (unpublished : (l.servers i).unpublished ≡ Some input) where
+  over : StepIsPublished l i input
+  over = step_is_published l i input unpublished
 
   module _ (c : ℕ) (call : Call) (is : input ≡ Called c call) (k : Connection)
       (here : slice_get w.connections c ≡ Some k) (home : k.home ≡ i) (work : to_work k.stage k ≡ Some call)
@@ -183,7 +183,7 @@ module _ (l : Chain) (w : World) (i : ℕ) (input : Input) (h : StandsFor l w)
         ap (λ s. step s (Called c call)) (server_asked ∙ h.servers i going) ∙ ap (step (l.servers i).node) (sym is) in
         let event : happens w (Work c) ≡ acted (with_connection w c asked) i a =
         worked_is ∙ ap (acted (with_connection w c asked) i) taken in
-        rw (publishes_is l i input turn going, event) (
+        rw (publishes_is l i input unpublished going, event) (
         acts (freed l i) (with_connection w c asked) i a call_stands (over.same_stopped i ∙ going) within_asked
         (λ y e. has_link-with_connection w c asked i y (joined y (h.lives y ∙ ap not (over.went y e))))
         (subst (λ o. AreAwaited (with_connection w c asked).connections i o.outputs) taken awaited)

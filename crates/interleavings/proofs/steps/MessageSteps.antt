@@ -18,13 +18,13 @@ use Rattle.world.proofs.streams.ForwardRuns.{HasLink, same_link, has_link-with_l
 use Rattle.interleavings.specs.Chains.{Seat, Chain, messages_from, messages_to, calls_from, replies_to}
 use Rattle.interleavings.specs.Moves.{Publishes, done}
 use Rattle.interleavings.proofs.relation.StandsFor.{Sits, StandsFor, lives_on, queue, sits_still, under_way}
-use Rattle.interleavings.proofs.steps.TurnsOver.{TurnIsOver, freed, publishes_is, turn_is_over}
+use Rattle.interleavings.proofs.steps.StepsPublished.{StepIsPublished, freed, publishes_is, step_is_published}
 use Rattle.interleavings.proofs.steps.Acting.{acts}
 
 module _ (l : Chain) (w : World) (i : ℕ) (input : Input) (h : StandsFor l w)
-    (going : (l.servers i).stopped ≡ false) (turn : (l.servers i).turn ≡ Some input) where
-  over : TurnIsOver l i input
-  over = turn_is_over l i input turn
+    (going : (l.servers i).stopped ≡ false) (unpublished : (l.servers i).unpublished ≡ Some input) where
+  over : StepIsPublished l i input
+  over = step_is_published l i input unpublished
 
   way_other : (x y : ℕ) → y ≢ i → under_way l x y ≡ under_way (freed l i) x y
   way_other x y other = over.way_kept x y (ap (messages_from x) (sym (over.queue_other y other)))
@@ -32,13 +32,13 @@ module _ (l : Chain) (w : World) (i : ℕ) (input : Input) (h : StandsFor l w)
   -- the message is the first on its way
   pub way_first : (j : ℕ) (m : Peer) → input ≡ From j m → under_way l j i ≡ m ∷ under_way (freed l i) j i
   way_first j m is =
-      let rest = l.wires j i ++ messages_to i (l.servers j).outbox in
+      let rest = l.channels j i ++ messages_to i (l.servers j).outbox in
       ap (λ ms. ms ++ rest) (ap (messages_from j) over.queue_before
       ∙ ap (λ p. messages_from j (p ∷ (l.servers i).inbox)) is
       ∙ ap (λ b. cond b (m ∷ messages_from j (l.servers i).inbox) (messages_from j (l.servers i).inbox))
       (eq-eqb j j refl)
       ∙ ap (λ q. m ∷ messages_from j q) (sym over.queue_after))
-      ∙ ap (λ os. m ∷ (messages_from j (queue ((freed l i).servers i)) ++ (l.wires j i ++ messages_to i os)))
+      ∙ ap (λ os. m ∷ (messages_from j (queue ((freed l i).servers i)) ++ (l.channels j i ++ messages_to i os)))
       (sym (over.same_outbox j))
 
   message_links : (j : ℕ) (m : Peer)
@@ -128,7 +128,7 @@ module _ (l : Chain) (w : World) (i : ℕ) (input : Input) (h : StandsFor l w)
       let event : happens w (Deliver j i) ≡ acted v i a =
       ap (delivered w j i) (h.links j i going ∙ way_first j m is)
       ∙ ap (λ b. cond b (takes v i (From j m)) w) (lives_on l w i h going) ∙ ap (acted v i) taken in
-      rw (publishes_is l i input turn going, event) (
+      rw (publishes_is l i input unpublished going, event) (
       acts (freed l i) v i a (message_stands j m is there) (over.same_stopped i ∙ going) (within_linked j rest)
       (λ y e. has_link-with_link w j i i y rest (joined y (h.lives y ∙ ap not (over.went y e))))
       (awaited_linked j rest a.outputs (subst (λ o. AreAwaited w.connections i o.outputs) same awaited))

@@ -14,13 +14,13 @@ use Rattle.world.proofs.streams.ForwardRuns.{HasLink}
 use Rattle.interleavings.specs.Chains.{Chain, messages_from, calls_from, replies_to}
 use Rattle.interleavings.specs.Moves.{Publishes, done}
 use Rattle.interleavings.proofs.relation.StandsFor.{StandsFor, lives_on, sits_still}
-use Rattle.interleavings.proofs.steps.TurnsOver.{TurnIsOver, freed, publishes_is, turn_is_over}
+use Rattle.interleavings.proofs.steps.StepsPublished.{StepIsPublished, freed, publishes_is, step_is_published}
 use Rattle.interleavings.proofs.steps.Acting.{acts}
 
 module _ (l : Chain) (w : World) (i : ℕ) (input : Input) (h : StandsFor l w)
-    (going : (l.servers i).stopped ≡ false) (turn : (l.servers i).turn ≡ Some input) where
-  over : TurnIsOver l i input
-  over = turn_is_over l i input turn
+    (going : (l.servers i).stopped ≡ false) (unpublished : (l.servers i).unpublished ≡ Some input) where
+  over : StepIsPublished l i input
+  over = step_is_published l i input unpublished
 
   -- nothing changes before the step
   notice_stands : (j : ℕ) → input ≡ Gone j → StandsFor (freed l i) w
@@ -58,7 +58,7 @@ module _ (l : Chain) (w : World) (i : ℕ) (input : Input) (h : StandsFor l w)
       let event : happens w (Tell i j) ≡ acted w i a =
       ap (λ b. cond b (takes w i (Gone j)) w) (and_from _ _ (lives_on l w i h going) (named_failed j is))
       ∙ ap (acted w i) same in
-      rw (publishes_is l i input turn going, event) (
+      rw (publishes_is l i input unpublished going, event) (
       acts (freed l i) w i a (notice_stands j is) (over.same_stopped i ∙ going)
       (living_parts w i (lives_on l w i h going)).0
       (λ y e. joined y (h.lives y ∙ ap not (over.went y e)))

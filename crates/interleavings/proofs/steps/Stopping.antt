@@ -15,7 +15,7 @@ use Rattle.interleavings.specs.Chains.{replies_to}
 use Rattle.interleavings.specs.Moves.{Stops, done}
 use Rattle.interleavings.proofs.relation.StandsFor.{Reaches, Sits, StandsFor, queue}
 use Rattle.interleavings.proofs.passing.Alike.{alike_stands}
-use Rattle.interleavings.proofs.lists.Places.{at_other, at_same, kept_at}
+use Rattle.interleavings.proofs.lists.Ordinals.{at_other, at_same, kept_at}
 
 or_none : (b : Bool) → (b || false) ≡ b
 or_none true = refl
@@ -96,8 +96,8 @@ module _ (l : Chain) (w : World) (i : ℕ) (h : StandsFor l w) (going : (l.serve
     lives = lived;
     servers = λ k e. server_less k ∙ h.servers k (went k e) ∙ sym (kept_at (λ s. s.node) l.servers i over refl k);
     links = λ x y e. link_less x y ∙ h.links x y (went y e)
-        ∙ ap (λ q. messages_from x q ++ (l.wires x y ++ messages_to y (l.servers x).outbox)) (sym (same_queue y))
-        ∙ ap (λ os. messages_from x (queue (after.servers y)) ++ (l.wires x y ++ messages_to y os))
+        ∙ ap (λ q. messages_from x q ++ (l.channels x y ++ messages_to y (l.servers x).outbox)) (sym (same_queue y))
+        ∙ ap (λ os. messages_from x (queue (after.servers y)) ++ (l.channels x y ++ messages_to y os))
         (sym (same_outbox x));
     calls = λ k c e. ap (calls_from c) (same_queue k) ∙ h.calls k c (went k e);
     replies = λ k c e. ap (replies_to c) (same_outbox k) ∙ h.replies k c (went k e);

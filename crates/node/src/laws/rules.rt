@@ -91,16 +91,16 @@ pub fn joins_keep_servers_sound()
         → (j < s.count) × (j ≢ s.id) }
 {}
 
-/// Open updates have ids below the next id; open reads have asks below the next ask, and marks up to the acknowledged
-/// number, the least of which is between the floor and that number.
+/// Open updates have ids below the next id; open reads have asks below the next ask, and lower bounds up to the
+/// acknowledged number, the least of which is between the floor and that number.
 pub fn open_calls_are_ordered()
     ensures updates { (above : ℕ) (us : List OpenUpdate) (next_id : ℕ)
         → AreUpdates above us next_id
         → above < next_id }
-    ensures reads { (above : ℕ) (mark : ℕ) (rs : List OpenRead) (next_ask : ℕ) (acked : ℕ)
-        → AreReads above mark rs next_ask acked
-        → (above < next_ask) × (mark ≤ acked) }
-    ensures least { (above : ℕ) (mark : ℕ) (rs : List OpenRead) (next_ask : ℕ) (acked : ℕ)
-        → AreReads above mark rs next_ask acked
-        → (mark ≤ least_open acked rs) × (least_open acked rs ≤ acked) }
+    ensures reads { (above : ℕ) (lower_bound : ℕ) (rs : List OpenRead) (next_ask : ℕ) (acked : ℕ)
+        → AreReads above lower_bound rs next_ask acked
+        → (above < next_ask) × (lower_bound ≤ acked) }
+    ensures least { (above : ℕ) (lower_bound : ℕ) (rs : List OpenRead) (next_ask : ℕ) (acked : ℕ)
+        → AreReads above lower_bound rs next_ask acked
+        → (lower_bound ≤ least_open acked rs) × (least_open acked rs ≤ acked) }
 {}

@@ -3,12 +3,15 @@ ghost use Rattle.std.specs.Prelude.{◌≡◌, ◌++◌, ◌∷◌, [], OnOk, On
 
 use super::clients::{answers, client, listen, says};
 use crossbeam_channel::{Receiver, Sender, unbounded};
-use io_threads::{Desks, Elsewhere, Front, FrontSettings, Gate, Pooled, open_desks, open_front};
+use io_threads::{
+    FrontEnd, FrontEndSettings, LoopHandles, Pooled, ScheduledElsewhere, ServedServer,
+    open_front_end, open_loop_handles,
+};
 use mio::Poll;
 use node::Peer;
 use rail::{Inlet, Links, Published, RailFault, Worker};
-use runtime::{Opened, Rest, Shape, Surroundings, all_links, all_servers, work};
-use seats::{Allowance, Gauge, InProcessLinks, Leash, Mark, SeatPool};
+use runtime::{Concurrency, Opened, Rest, Surroundings, all_links, all_servers, work};
+use seats::{Allowance, Gauge, InProcessLinks, Mark, OutputPermit, SeatPool};
 use std::alloc::{AllocError, Global};
 use std::io::Write;
 use std::marker::Model;
@@ -107,7 +110,7 @@ fn keep<R: Wait>(rt: &R, barrier: &Sender<Kept>, kept: Kept) {
 #[derive(Drop)]
 struct HeldChain {
     port: u16,
-    front: Front,
+    front_end: FrontEnd,
     head: Started,
     tail: Started,
     barrier: Receiver<Kept>,
@@ -171,12 +174,12 @@ impl HeldChain {
     fn end<R: Wait + Threads>(self, rt: &R) {
         let HeldChain {
             port: _,
-            front,
+            front_end,
             head,
             tail,
             barrier: _barrier,
         } = self;
-        front.end(rt);
+        front_end.end(rt);
         head.end(rt);
         tail.end(rt);
     }
@@ -203,26 +206,29 @@ fn held_chain<
         + Send
         + 'static,
 >(rt: R, alloc: Global) -> Option<HeldChain> {
-    let (desks, polls) = shared_desks(&rt, alloc)?;
+    let (loop_handles, polls) = shared_loop_handles(&rt, alloc)?;
     let (mut servers, links) = two_servers(rt, alloc)?;
-    let (tail, _, _) = start_last(rt, alloc, 1, &mut servers, links, &desks)?;
-    let (head, barrier) = start_head(rt, alloc, &mut servers, &desks)?;
+    let (tail, _, _) = start_last(rt, alloc, 1, &mut servers, links, &loop_handles)?;
+    let (head, barrier) = start_head(rt, alloc, &mut servers, &loop_handles)?;
     let (head, pools, failed) = head;
-    let (port, front) = serve(rt, alloc, &desks, polls, pools, failed)?;
+    let (port, front_end) = serve(rt, alloc, &loop_handles, polls, pools, failed)?;
     Some(HeldChain {
         port,
-        front,
+        front_end,
         head,
         tail,
         barrier,
     })
 }
 
-// The desk of one thread, and what that polls.
-fn shared_desks<R: Net>(rt: &R, alloc: Global) -> Option<(Arc<Desks, Global>, Vec<Poll>)> {
-    let (desks, polls) = open_desks(rt, alloc, 1).ok()?;
-    let desks = Arc::new(alloc, desks).ok()?;
-    Some((desks, polls))
+// The loop handle of one thread, and what that polls.
+fn shared_loop_handles<R: Net>(
+    rt: &R,
+    alloc: Global,
+) -> Option<(Arc<LoopHandles, Global>, Vec<Poll>)> {
+    let (loop_handles, polls) = open_loop_handles(rt, alloc, 1).ok()?;
+    let loop_handles = Arc::new(alloc, loop_handles).ok()?;
+    Some((loop_handles, polls))
 }
 
 // Two servers, and the links of the second.
@@ -230,8 +236,8 @@ fn two_servers<R: Wait + Threads + Copy + Drop>(
     rt: R,
     alloc: Global,
 ) -> Option<(Vec<Opened<R>>, InProcessLinks<R>)> {
-    let shape = Shape::new(&rt, Some(1), 1);
-    let mut servers = all_servers(rt, alloc, 2, shape, Allowance::new(None, 2)).ok()?;
+    let concurrency = Concurrency::new(&rt, Some(1), 1);
+    let mut servers = all_servers(rt, alloc, 2, concurrency, Allowance::new(None, 2)).ok()?;
     let links = all_links(rt, alloc, 2, &mut servers).ok()?.pop()?;
     Some((servers, links))
 }
@@ -241,7 +247,7 @@ fn start_head<R: Wait + Threads + Copy + Drop + Send + 'static>(
     rt: R,
     alloc: Global,
     servers: &mut Vec<Opened<R>>,
-    desks: &Arc<Desks, Global>,
+    loop_handles: &Arc<LoopHandles, Global>,
 ) -> Option<((Started, Vec<SeatPool>, Mark), Receiver<Kept>)> {
     let (sender, barrier) = unbounded(alloc).ok()?;
     let held = Barrier {
@@ -249,7 +255,7 @@ fn start_head<R: Wait + Threads + Copy + Drop + Send + 'static>(
         kept: sender,
         put: Vec::new(alloc),
     };
-    let head = start_last(rt, alloc, 0, servers, held, desks)?;
+    let head = start_last(rt, alloc, 0, servers, held, loop_handles)?;
     Some((head, barrier))
 }
 
@@ -260,7 +266,7 @@ fn start_last<R: Wait + Threads + Copy + Drop + Send + 'static, L: Links + Drop 
     id: u8,
     servers: &mut Vec<Opened<R>>,
     links: L,
-    desks: &Arc<Desks, Global>,
+    loop_handles: &Arc<LoopHandles, Global>,
 ) -> Option<(Started, Vec<SeatPool>, Mark)> {
     let Some(server) = servers.pop() else {
         drop(links);
@@ -276,7 +282,7 @@ fn start_last<R: Wait + Threads + Copy + Drop + Send + 'static, L: Links + Drop 
         pools,
         inlets,
     } = pooled;
-    let around = surroundings(alloc, id, &failed, gauge, desks);
+    let around = surroundings(alloc, id, &failed, gauge, loop_handles);
     let thread = start_worker(rt, worker, links, around)?;
     Some((Started { thread, inlets }, pools, failed))
 }
@@ -287,11 +293,11 @@ fn surroundings(
     id: u8,
     failed: &Mark,
     gauge: Gauge,
-    desks: &Arc<Desks, Global>,
+    loop_handles: &Arc<LoopHandles, Global>,
 ) -> Option<Surroundings> {
     Some(Surroundings {
         id,
-        desks: Arc::try_clone(desks).ok()?,
+        loop_handles: Arc::try_clone(loop_handles).ok()?,
         gauge,
         failed: failed.share().ok()?,
         ended: Mark::new(alloc).ok()?,
@@ -330,36 +336,45 @@ fn serve<
 >(
     rt: R,
     alloc: Global,
-    desks: &Arc<Desks, Global>,
+    loop_handles: &Arc<LoopHandles, Global>,
     polls: Vec<Poll>,
     pools: Vec<SeatPool>,
     failed: Mark,
-) -> Option<(u16, Front)> {
+) -> Option<(u16, FrontEnd)> {
     let (port, listener) = listen(&rt)?;
-    let gates = only_gate(alloc, listener, pools, failed)?;
-    let elsewhere = Arc::new(alloc, Elsewhere).ok()?;
-    let settings = FrontSettings {
+    let served_servers = only_served_server(alloc, listener, pools, failed)?;
+    let elsewhere = Arc::new(alloc, ScheduledElsewhere).ok()?;
+    let settings = FrontEndSettings {
         connections: 2,
         serves: 2,
     };
-    let front = open_front(rt, alloc, settings, &elsewhere, desks, polls, gates).ok()?;
-    Some((port, front))
+    let front_end = open_front_end(
+        rt,
+        alloc,
+        settings,
+        &elsewhere,
+        loop_handles,
+        polls,
+        served_servers,
+    )
+    .ok()?;
+    Some((port, front_end))
 }
 
-// The gate of the only server of a front.
-fn only_gate(
+// The only server of a front end, as it is served.
+fn only_served_server(
     alloc: Global,
     listener: TcpListener,
     pools: Vec<SeatPool>,
     mark: Mark,
-) -> Option<Vec<Gate>> {
-    let mut gates = Vec::new(alloc);
-    let gate = Gate {
+) -> Option<Vec<ServedServer>> {
+    let mut served_servers = Vec::new(alloc);
+    let served_server = ServedServer {
         listener,
         pools,
         mark,
-        leash: Leash::loose(),
+        output_permit: OutputPermit::loose(),
     };
-    gates.push(gate).ok()?;
-    Some(gates)
+    served_servers.push(served_server).ok()?;
+    Some(served_servers)
 }

@@ -1,9 +1,13 @@
 //! Threads that serve clients, and take the turns of the workers.
 
 use super::clients::{answers, client, listen};
-use io_threads::{Desks, Front, FrontSettings, Gate, open_desks, open_front};
-use runtime::{ClusterFault, Hall, Shape, Side, all_links, all_servers, all_sides};
-use seats::{Allowance, Leash};
+use io_threads::{
+    FrontEnd, FrontEndSettings, LoopHandles, ServedServer, open_front_end, open_loop_handles,
+};
+use runtime::{
+    ClusterFault, Concurrency, Scheduler, ServerParts, all_links, all_parts, all_servers,
+};
+use seats::{Allowance, OutputPermit};
 use std::alloc::Global;
 use std::net::{Net, TcpListener, TcpStream};
 use std::sync::{Arc, Wait};
@@ -15,7 +19,7 @@ use std::time::Clock;
 #[derive(Drop)]
 struct HelpedChain {
     ports: Vec<u16>,
-    front: Front,
+    front_end: FrontEnd,
 }
 
 // The thread that serves takes all turns of the chain.
@@ -23,7 +27,7 @@ struct HelpedChain {
 fn a_serving_thread_takes_all_turns(rt: HostRuntime) -> Result<(), Fail> {
     let chain = helped_chain(rt, rt.alloc()).ok_or("a chain")?;
     assert!(rt; passes(&rt, &chain));
-    chain.front.end(&rt);
+    chain.front_end.end(&rt);
     Ok(())
 }
 
@@ -54,70 +58,79 @@ fn helped_chain<
         + Send
         + 'static,
 >(rt: R, alloc: Global) -> Option<HelpedChain> {
-    let (desks, polls) = open_desks(&rt, alloc, 1).ok()?;
-    let desks = Arc::new(alloc, desks).ok()?;
-    let (hall, sides) = three_sides(rt, alloc, &desks)?;
-    let hall = Arc::new(alloc, hall).ok()?;
-    let (ports, gates) = all_gates(&rt, alloc, sides)?;
-    let settings = FrontSettings {
+    let (loop_handles, polls) = open_loop_handles(&rt, alloc, 1).ok()?;
+    let loop_handles = Arc::new(alloc, loop_handles).ok()?;
+    let (scheduler, servers_parts) = three_parts(rt, alloc, &loop_handles)?;
+    let scheduler = Arc::new(alloc, scheduler).ok()?;
+    let (ports, served_servers) = all_served_servers(&rt, alloc, servers_parts)?;
+    let settings = FrontEndSettings {
         connections: 1,
         serves: 1,
     };
-    let front = open_front(rt, alloc, settings, &hall, &desks, polls, gates).ok()?;
-    Some(HelpedChain { ports, front })
+    let front_end = open_front_end(
+        rt,
+        alloc,
+        settings,
+        &scheduler,
+        &loop_handles,
+        polls,
+        served_servers,
+    )
+    .ok()?;
+    Some(HelpedChain { ports, front_end })
 }
 
-/// The hall of the workers of three servers, and what each server has beside its own.
-pub fn three_sides<R: Wait + Threads + Copy + Drop>(
+/// The scheduler of the workers of three servers, and what each server has beside its own.
+pub fn three_parts<R: Wait + Threads + Copy + Drop>(
     rt: R,
     alloc: Global,
-    desks: &Arc<Desks, Global>,
-) -> Option<(Hall<R>, Vec<Side>)> {
-    let shape = Shape::new(&rt, Some(1), 1);
-    hall_of_three(rt, alloc, desks, shape).ok()
+    loop_handles: &Arc<LoopHandles, Global>,
+) -> Option<(Scheduler<R>, Vec<ServerParts>)> {
+    let concurrency = Concurrency::new(&rt, Some(1), 1);
+    scheduler_of_three(rt, alloc, loop_handles, concurrency).ok()
 }
 
 // The same for these numbers of threads and seats, or why there is none.
-fn hall_of_three<R: Wait + Copy + Drop>(
+fn scheduler_of_three<R: Wait + Copy + Drop>(
     rt: R,
     alloc: Global,
-    desks: &Arc<Desks, Global>,
-    shape: Shape,
-) -> Result<(Hall<R>, Vec<Side>), ClusterFault> {
-    let mut servers = all_servers(rt, alloc, 3, shape, Allowance::new(None, 3))?;
+    loop_handles: &Arc<LoopHandles, Global>,
+    concurrency: Concurrency,
+) -> Result<(Scheduler<R>, Vec<ServerParts>), ClusterFault> {
+    let mut servers = all_servers(rt, alloc, 3, concurrency, Allowance::new(None, 3))?;
     let links = all_links(rt, alloc, 3, &mut servers)?;
-    all_sides(alloc, desks, servers, links)
+    all_parts(alloc, loop_handles, servers, links)
 }
 
 // A port of each server.
-fn all_gates<R: Net<Listener = TcpListener, Stream = TcpStream>>(
+fn all_served_servers<R: Net<Listener = TcpListener, Stream = TcpStream>>(
     rt: &R,
     alloc: Global,
-    sides: Vec<Side>,
-) -> Option<(Vec<u16>, Vec<Gate>)> {
+    servers_parts: Vec<ServerParts>,
+) -> Option<(Vec<u16>, Vec<ServedServer>)> {
     let mut ports = Vec::new(alloc);
-    let mut gates = Vec::new(alloc);
-    for side in sides {
-        let (port, gate) = gate_of(rt, side)?;
+    let mut served_servers = Vec::new(alloc);
+    for parts in servers_parts {
+        let (port, served_server) = served_server_of(rt, parts)?;
         ports.push(port).ok()?;
-        gates.push(gate).ok()?;
+        served_servers.push(served_server).ok()?;
     }
-    Some((ports, gates))
+    Some((ports, served_servers))
 }
 
-// A port of a server, and its gate.
-fn gate_of<R: Net<Listener = TcpListener, Stream = TcpStream>>(
+// A port of a server, and the server as it is served.
+fn served_server_of<R: Net<Listener = TcpListener, Stream = TcpStream>>(
     rt: &R,
-    side: Side,
-) -> Option<(u16, Gate)> {
+    parts: ServerParts,
+) -> Option<(u16, ServedServer)> {
     let (port, listener) = listen(rt)?;
-    let Side { pools, home } = side;
-    let mark = home.failed.share().ok()?;
-    let gate = Gate {
+    let ServerParts { pools, control } = parts;
+    let mark = control.failed.share().ok()?;
+    let served_server = ServedServer {
         listener,
         pools,
         mark,
-        leash: Leash::loose(),
+        output_permit: OutputPermit::loose(),
     };
-    Some((port, gate))
+    Some((port, served_server))
 }

@@ -27,7 +27,7 @@ const GREETING: &[u8] = b"\x02\x00\x01\x02\x07\x02\x00\x00\x00\x00\x00\x00\x00\x
 
 const MASTERS: &[u8] = b"\x02\x00\x10\x02\x07\x02\x00\x00\x00\x00\x00\x00\x00\x01\x04craq";
 
-// A master of reign 1 greets so; its beats begin so, and so do the answers to both.
+// A master of epoch 1 greets so; its beats begin so, and so do the answers to both.
 const REIGN: &[u8] = b"\x02\x0b\x00\x00\x00\x00\x00\x00\x00\x01";
 
 const BEAT: &[u8] = b"\x02\x0c\x00\x00\x00\x00\x00\x00\x00\x01";

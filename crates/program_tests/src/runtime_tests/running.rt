@@ -1,7 +1,7 @@
 //! A program that runs a chain, with the other ends of its input and its output.
 
 use super::clients::{listen, says};
-use command_line::Numbers;
+use command_line::ClusterNumbers;
 use ends::{TrackedReader, TrackedWriter};
 use runtime::cluster;
 use std::alloc::Global;
@@ -36,7 +36,7 @@ pub fn ready<
 >(rt: R, alloc: Global, servers: u8, seats: u8) -> Option<(Running, u16)> {
     for _ in 0..50 {
         let port = some_port(&rt)?;
-        let numbers = Numbers {
+        let numbers = ClusterNumbers {
             servers,
             port,
             seats,
@@ -74,7 +74,7 @@ fn start<
         + Drop
         + Send
         + 'static,
->(rt: R, alloc: Global, numbers: Numbers) -> io::Result<Running> {
+>(rt: R, alloc: Global, numbers: ClusterNumbers) -> io::Result<Running> {
     let (theirs, input) = pipe(&rt)?;
     let (output, ours) = pipe(&rt)?;
     let started = thread::spawn(&rt, move || program(rt, alloc, numbers, theirs, ours));
@@ -98,7 +98,7 @@ fn program<
         + Drop
         + Send
         + 'static,
->(rt: R, alloc: Global, numbers: Numbers, input: PipeReader, output: PipeWriter) -> u8 {
+>(rt: R, alloc: Global, numbers: ClusterNumbers, input: PipeReader, output: PipeWriter) -> u8 {
     let mut input = TrackedReader::new(input);
     let mut output = TrackedWriter::new(output);
     let mut errors = TrackedWriter::new(Vec::new(alloc));

@@ -1,10 +1,10 @@
 //! A chain of three whose servers are visited by hand, without threads: no message is left lying.
-ghost use Rattle.faces.specs.Courses.{IsLater};
+ghost use Rattle.faces.specs.Histories.{IsLater};
 
-use super::helping::three_sides;
-use io_threads::{Stations, open_desks};
-use runtime::{Hall, Side};
-use seats::{SeatPool, ServerSet, Talk, Went};
+use super::helping::three_parts;
+use io_threads::{TurnScheduler, open_loop_handles};
+use runtime::{Scheduler, ServerParts};
+use seats::{ClientConnection, SeatPool, ServerSet, Went};
 use std::alloc::Global;
 use std::net::Net;
 use std::sync::{Arc, Wait};
@@ -37,12 +37,12 @@ fn all_pass<R: Wait + Threads + Net + Copy + Drop>(
     alloc: Global,
     most: usize,
 ) -> Option<bool> {
-    let (desks, polls) = open_desks(&rt, alloc, 1).ok()?;
-    let desks = Arc::new(alloc, desks).ok()?;
-    let (hall, mut sides) = three_sides(rt, alloc, &desks)?;
-    let passed = each_passes(&rt, alloc, &hall, &mut sides, most);
-    drop(sides);
-    drop(hall);
+    let (loop_handles, polls) = open_loop_handles(&rt, alloc, 1).ok()?;
+    let loop_handles = Arc::new(alloc, loop_handles).ok()?;
+    let (scheduler, mut servers_parts) = three_parts(rt, alloc, &loop_handles)?;
+    let passed = each_passes(&rt, alloc, &scheduler, &mut servers_parts, most);
+    drop(servers_parts);
+    drop(scheduler);
     drop(polls);
     Some(passed)
 }
@@ -50,12 +50,14 @@ fn all_pass<R: Wait + Threads + Net + Copy + Drop>(
 fn each_passes<R: Wait + Drop>(
     rt: &R,
     alloc: Global,
-    hall: &Hall<R>,
-    sides: &mut Vec<Side>,
+    scheduler: &Scheduler<R>,
+    servers_parts: &mut Vec<ServerParts>,
     most: usize,
 ) -> bool {
     for id in 0..3u8 {
-        if !sets_at(rt, alloc, hall, sides, id, most) || !all_show(rt, alloc, sides) {
+        if !sets_at(rt, alloc, scheduler, servers_parts, id, most)
+            || !all_show(rt, alloc, servers_parts)
+        {
             return false;
         }
     }
@@ -65,36 +67,36 @@ fn each_passes<R: Wait + Drop>(
 fn sets_at<R: Wait + Drop>(
     rt: &R,
     alloc: Global,
-    hall: &Hall<R>,
-    sides: &mut Vec<Side>,
+    scheduler: &Scheduler<R>,
+    servers_parts: &mut Vec<ServerParts>,
     id: u8,
     most: usize,
 ) -> bool {
-    match pool_of(sides, id) {
-        Some(pool) => sets(rt, alloc, hall, pool, id, most),
+    match pool_of(servers_parts, id) {
+        Some(pool) => sets(rt, alloc, scheduler, pool, id, most),
         None => false,
     }
 }
 
-fn all_show<R: Wait>(rt: &R, alloc: Global, sides: &mut Vec<Side>) -> bool {
+fn all_show<R: Wait>(rt: &R, alloc: Global, servers_parts: &mut Vec<ServerParts>) -> bool {
     for id in 0..3u8 {
-        if !shows_at(rt, alloc, sides, id) {
+        if !shows_at(rt, alloc, servers_parts, id) {
             return false;
         }
     }
     true
 }
 
-fn shows_at<R: Wait>(rt: &R, alloc: Global, sides: &mut Vec<Side>, id: u8) -> bool {
-    match pool_of(sides, id) {
+fn shows_at<R: Wait>(rt: &R, alloc: Global, servers_parts: &mut Vec<ServerParts>, id: u8) -> bool {
+    match pool_of(servers_parts, id) {
         Some(pool) => shows(rt, alloc, pool),
         None => false,
     }
 }
 
 // The seats of the first thread at a server.
-fn pool_of(sides: &mut Vec<Side>, id: u8) -> Option<&mut SeatPool> {
-    sides.get_mut(usize::from(id))?.pools.get_mut(0)
+fn pool_of(servers_parts: &mut Vec<ServerParts>, id: u8) -> Option<&mut SeatPool> {
+    servers_parts.get_mut(usize::from(id))?.pools.get_mut(0)
 }
 
 // Whether a set at a server is answered once no turn is due any more.
@@ -102,60 +104,75 @@ fn pool_of(sides: &mut Vec<Side>, id: u8) -> Option<&mut SeatPool> {
 fn sets<R: Wait + Drop>(
     rt: &R,
     alloc: Global,
-    hall: &Hall<R>,
+    scheduler: &Scheduler<R>,
     pool: &mut SeatPool,
     id: u8,
     most: usize,
 ) -> bool {
-    let mut talk = Talk::new(alloc, pool);
-    let asked = asks(rt, pool, &mut talk, b"set a 0 0 1\r\n1\r\n");
-    let sent = matches!(talk.go(rt, pool), Ok(Went::Reply));
-    hall.expect(id);
-    let settled = settles(hall, id, most);
-    let heard = talk.hear(rt, pool) == Ok(true);
-    let answered = answers(rt, pool, &mut talk, b"STORED\r\n");
-    drop(talk);
+    let mut client_connection = ClientConnection::new(alloc, pool);
+    let asked = asks(rt, pool, &mut client_connection, b"set a 0 0 1\r\n1\r\n");
+    let sent = matches!(client_connection.go(rt, pool), Ok(Went::Reply));
+    scheduler.expect(id);
+    let settled = settles(scheduler, id, most);
+    let heard = client_connection.hear(rt, pool) == Ok(true);
+    let answered = answers(rt, pool, &mut client_connection, b"STORED\r\n");
+    drop(client_connection);
     asked && sent && settled && heard && answered
 }
 
 // Whether a look at a server shows what was set, so that no call is sent.
 #[tactic(auto, using(crate::proofs::Later::later_same))]
 fn shows<R: Wait>(rt: &R, alloc: Global, pool: &mut SeatPool) -> bool {
-    let mut talk = Talk::new(alloc, pool);
-    let asked = asks(rt, pool, &mut talk, b"get a\r\n");
-    let answered = answers(rt, pool, &mut talk, b"VALUE a 0 1\r\n1\r\nEND\r\n");
-    drop(talk);
+    let mut client_connection = ClientConnection::new(alloc, pool);
+    let asked = asks(rt, pool, &mut client_connection, b"get a\r\n");
+    let answered = answers(
+        rt,
+        pool,
+        &mut client_connection,
+        b"VALUE a 0 1\r\n1\r\nEND\r\n",
+    );
+    drop(client_connection);
     asked && answered
 }
 
-// Whether a talk wants input, and takes this request.
-fn asks<R: Wait>(rt: &R, pool: &mut SeatPool, talk: &mut Talk, request: &[u8]) -> bool
-    requires known { IsLater talk.old.seen pool.old.seen }
-    ensures known { IsLater talk.new.seen pool.new.seen }
+// Whether a client connection wants input, and takes this request.
+fn asks<R: Wait>(
+    rt: &R,
+    pool: &mut SeatPool,
+    client_connection: &mut ClientConnection,
+    request: &[u8],
+) -> bool
+    requires known { IsLater client_connection.old.seen pool.old.seen }
+    ensures known { IsLater client_connection.new.seen pool.new.seen }
 {
-    let wants = matches!(talk.go(rt, pool), Ok(Went::Input));
-    wants && talk.wants_input() && talk.feed(request).is_ok()
+    let wants = matches!(client_connection.go(rt, pool), Ok(Went::Input));
+    wants && client_connection.wants_input() && client_connection.feed(request).is_ok()
 }
 
-// Whether just these bytes are due at a talk, and wait for nothing but to be written.
-fn answers<R: Wait>(rt: &R, pool: &mut SeatPool, talk: &mut Talk, reply: &[u8]) -> bool
-    requires known { IsLater talk.old.seen pool.old.seen }
+// Whether just these bytes are due at a client connection, and wait for nothing but to be written.
+fn answers<R: Wait>(
+    rt: &R,
+    pool: &mut SeatPool,
+    client_connection: &mut ClientConnection,
+    reply: &[u8],
+) -> bool
+    requires known { IsLater client_connection.old.seen pool.old.seen }
 {
-    matches!(talk.go(rt, pool), Ok(Went::Write)) && talk.output() == reply
+    matches!(client_connection.go(rt, pool), Ok(Went::Write)) && client_connection.output() == reply
 }
 
 // Visits a server, and each one at which a turn is due then, until none is due. Whether that is so after few turns, and
 // no server knows of one that is due.
-fn settles<R: Wait + Drop>(hall: &Hall<R>, id: u8, most: usize) -> bool {
+fn settles<R: Wait + Drop>(scheduler: &Scheduler<R>, id: u8, most: usize) -> bool {
     let mut due = ServerSet::new();
     due.add(id);
     let mut turns = 0usize;
     let mut last = id;
     for _ in 0..VISITS {
         let Some(at) = due.take_after(last) else {
-            return turns <= TURNS && hall.all_due() == ServerSet::new();
+            return turns <= TURNS && scheduler.all_due() == ServerSet::new();
         };
-        let visit = hall.take_turns(at, most);
+        let visit = scheduler.take_turns(at, most);
         turns = turns.wrapping_add(visit.turns);
         due.merge(visit.due);
         last = at;

@@ -6,14 +6,14 @@ use bytes::Bytes;
 use faces::FaceFault;
 use node::{Body, Look, Node, Peer, View};
 use rail::{
-    Inlet, Links, Published, RailFault, Reader, Room, Seat, Server, Stand, Told, Turn, Weight,
-    Worker, open,
+    Inlet, Links, Published, RailFault, Reader, Room, Seat, Server, ThreadHandle, Told, Turn,
+    Weight, Worker, open,
 };
 use std::alloc::Global;
 use std::sync::Wait;
 use table::{Call, Item, Key, Op, Reply, Target};
 
-/// What the worker, the last stand or the last inlet of a server does, and how that goes.
+/// What the worker, the last thread handle or the last inlet of a server does, and how that goes.
 #[derive(Clone, Copy)]
 pub(crate) enum Step {
     /// The worker waits for a message, and its turn is this one.
@@ -24,13 +24,13 @@ pub(crate) enum Step {
     Weighs(Weight),
     /// Since it was last asked, the worker has replied at port 0 or not, at port 1 or not, and at no other.
     Replied(bool, bool),
-    /// The stand sends a set of `a`.
+    /// The thread handle sends a set of `a`.
     Submits,
-    /// The stand waits for the reply to that, and sees what it wrote.
+    /// The thread handle waits for the reply to that, and sees what it wrote.
     SeesItsWrite,
-    /// The stand finds that reply, and sees what it wrote; or it finds none.
+    /// The thread handle finds that reply, and sees what it wrote; or it finds none.
     SeesIfAny(bool),
-    /// The stand waits for a reply, and is told that none comes.
+    /// The thread handle waits for a reply, and is told that none comes.
     IsClosed,
     /// The inlet brings this.
     Brings(News),
@@ -212,7 +212,7 @@ fn replied<R: Wait + Drop>(worker: &mut Worker<R>, first: bool, second: bool) ->
         && ports.is_empty() != (first || second)
 }
 
-// --- the stand
+// --- the thread handle
 
 pub(crate) fn key(alloc: Global, bytes: &[u8]) -> Result<Key, RailFault> {
     match Key::new(alloc, bytes)? {
@@ -256,10 +256,10 @@ fn sends<R: Wait>(rt: &R, seat: &mut Seat, call: Call) -> bool
 pub(crate) fn submits<R: Wait>(
     rt: &R,
     alloc: Global,
-    stands: &mut Vec<Stand>,
+    stands: &mut Vec<ThreadHandle>,
 ) -> Result<bool, RailFault> {
     match stands.last_mut() {
-        Some(stand) => Ok(sends(rt, &mut stand.seat, set_of_a(alloc)?)),
+        Some(thread_handle) => Ok(sends(rt, &mut thread_handle.seat, set_of_a(alloc)?)),
         None => Err(RailFault::NoReader),
     }
 }
@@ -319,13 +319,13 @@ fn is_its_write(
 fn sees_its_write<R: Wait>(
     rt: &R,
     alloc: Global,
-    stands: &mut Vec<Stand>,
+    stands: &mut Vec<ThreadHandle>,
 ) -> Result<bool, RailFault> {
-    let Some(stand) = stands.last_mut() else {
+    let Some(thread_handle) = stands.last_mut() else {
         return Err(RailFault::NoReader);
     };
-    match stand.seat.reply(rt) {
-        Ok((reply, told)) => is_its_write(alloc, &mut stand.reader, reply, told),
+    match thread_handle.seat.reply(rt) {
+        Ok((reply, told)) => is_its_write(alloc, &mut thread_handle.reader, reply, told),
         Err(fault) => Err(fault),
     }
 }
@@ -333,14 +333,14 @@ fn sees_its_write<R: Wait>(
 fn sees_if_any<R: Wait>(
     rt: &R,
     alloc: Global,
-    stands: &mut Vec<Stand>,
+    stands: &mut Vec<ThreadHandle>,
 ) -> Result<Option<bool>, RailFault> {
-    let Some(stand) = stands.last_mut() else {
+    let Some(thread_handle) = stands.last_mut() else {
         return Err(RailFault::NoReader);
     };
-    match stand.seat.reply_if_any(rt) {
+    match thread_handle.seat.reply_if_any(rt) {
         Ok(Some((reply, told))) => {
-            let sees = is_its_write(alloc, &mut stand.reader, reply, told)?;
+            let sees = is_its_write(alloc, &mut thread_handle.reader, reply, told)?;
             Ok(Some(sees))
         }
         Ok(None) => Ok(None),
@@ -348,7 +348,7 @@ fn sees_if_any<R: Wait>(
     }
 }
 
-pub(crate) fn is_closed<R: Wait>(rt: &R, alloc: Global, stands: &mut Vec<Stand>) -> bool {
+pub(crate) fn is_closed<R: Wait>(rt: &R, alloc: Global, stands: &mut Vec<ThreadHandle>) -> bool {
     sees_its_write(rt, alloc, stands) == Err(RailFault::Closed)
 }
 

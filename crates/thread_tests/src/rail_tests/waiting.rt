@@ -2,7 +2,7 @@
 
 use super::is_set_soon;
 use super::running::{News, brings, first_of, first_with, submits, turns};
-use rail::{Inlet, RailFault, Room, Stand, Turn, Worker};
+use rail::{Inlet, RailFault, Room, ThreadHandle, Turn, Worker};
 use std::alloc::{AllocError, Global};
 use std::sync::Wait;
 use std::sync::atomic::{AtomicU64, Ordering};
@@ -91,7 +91,11 @@ fn next_turn<R: Wait + Drop>(
 // --- a worker waits for a seat
 
 // Sends as many calls, and takes no reply.
-fn submits_all<R: Wait>(rt: &R, alloc: Global, stands: &mut Vec<Stand>) -> Result<bool, RailFault> {
+fn submits_all<R: Wait>(
+    rt: &R,
+    alloc: Global,
+    stands: &mut Vec<ThreadHandle>,
+) -> Result<bool, RailFault> {
     let mut sent = true;
     for _ in 0..CALLS {
         sent &= submits(rt, alloc, stands)?;
@@ -99,12 +103,12 @@ fn submits_all<R: Wait>(rt: &R, alloc: Global, stands: &mut Vec<Stand>) -> Resul
     Ok(sent)
 }
 
-// Takes a reply, if one stands at the last stand.
-fn has_reply<R: Wait>(rt: &R, stands: &mut Vec<Stand>) -> Result<bool, RailFault> {
-    let Some(stand) = stands.last_mut() else {
+// Takes a reply, if one stands at the last thread handle.
+fn has_reply<R: Wait>(rt: &R, stands: &mut Vec<ThreadHandle>) -> Result<bool, RailFault> {
+    let Some(thread_handle) = stands.last_mut() else {
         return Err(RailFault::NoReader);
     };
-    match stand.seat.reply_if_any(rt) {
+    match thread_handle.seat.reply_if_any(rt) {
         Ok(Some((reply, told))) => {
             drop(reply);
             drop(told);
@@ -117,7 +121,7 @@ fn has_reply<R: Wait>(rt: &R, stands: &mut Vec<Stand>) -> Result<bool, RailFault
 
 // Takes a reply, for which it waits ten seconds at most. None comes from a server that is stopped, once the seat has
 // taken those that it put before.
-fn has_reply_soon<R: Wait + Clock>(rt: &R, stands: &mut Vec<Stand>) -> bool {
+fn has_reply_soon<R: Wait + Clock>(rt: &R, stands: &mut Vec<ThreadHandle>) -> bool {
     for _ in 0..10_000 {
         match has_reply(rt, stands) {
             Ok(true) => return true,
@@ -132,7 +136,7 @@ fn has_reply_soon<R: Wait + Clock>(rt: &R, stands: &mut Vec<Stand>) -> bool {
 // many these are, if the worker stood still before its last turn.
 fn takes_all_late<R: Wait + Clock>(
     rt: &R,
-    stands: &mut Vec<Stand>,
+    stands: &mut Vec<ThreadHandle>,
     begun: &AtomicU64,
     taken: &AtomicU64,
 ) -> Result<Option<u64>, AllocError> {
@@ -161,7 +165,7 @@ fn turns_beside<R: Wait + Drop>(
 fn waits_for_room<R: Wait + Threads + Clock + Send + Sync + Drop>(
     rt: &R,
     worker: &mut Worker<R>,
-    stands: &mut Vec<Stand>,
+    stands: &mut Vec<ThreadHandle>,
 ) -> Result<bool, RailFault> {
     let begun = AtomicU64::new(0);
     let taken = AtomicU64::new(0);

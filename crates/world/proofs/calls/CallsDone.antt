@@ -34,7 +34,7 @@ pub record IsEntered (t : Traced) (i : ℕ) (a : Action) (o k : ℕ) (x : CallId
   pub call : Call
   pub is : a ≡ Enter port call
   pub here : o ≡ i
-  pub place : k ≡ length (issued_by t i)
+  pub ordinal : k ≡ length (issued_by t i)
   pub name : x ≡ open_id t.world port
 
 entered_or_old : (t : Traced) (i : ℕ) (a : Action) (k : ℕ) (x : CallId)
@@ -50,7 +50,7 @@ entered_or_old t i Trim k x h = inl (rw append-nil at h)
 entered_or_old t i (Enter port call) k x h =
     elim (pushed_cases (issued_by t i) _ k x h) [
       | inl old ↦ inl old
-      | inr new ↦ inr (record { port = port; call = call; is = refl; here = refl; place = new.0; name = new.1 })
+      | inr new ↦ inr (record { port = port; call = call; is = refl; here = refl; ordinal = new.0; name = new.1 })
     ]
 entered_or_old t i (Ask port key) k x h = inl (rw append-nil at h)
 entered_or_old t i (Show port key) k x h = inl (rw append-nil at h)
@@ -146,10 +146,10 @@ pending_new t i cause port call u g left is =
     let rooms : i < length t.issued = rw g.lawful.framed.issued lt in
     let next = g.lawful.calling.next_id i lt in
     let id : u.id ≡ length (issued_by t i) + 1 = ap (λ (x : OpenUpdate). x.id) is ∙ next in
-    let place : u.id - 1 ≡ length (issued_by t i) = omega (arith, id) in
+    let ordinal : u.id - 1 ≡ length (issued_by t i) = omega (arith, id) in
     let k = known_of t i cause (Some (Called port call)) g.guard.0 g.known in
     let at : slice_get (issued_by (done t i (Enter port call)) i) (u.id - 1) ≡ Some (open_id t.world port) =
-    rw (place, issued_done t i (Enter port call) rooms) (get_last (issued_by t i) _) in
+    rw (ordinal, issued_done t i (Enter port call) rooms) (get_last (issued_by t i) _) in
     let same_port : port ≡ u.port = sym (ap (λ (x : OpenUpdate). x.port) is) in
     let same_call : call ≡ u.call = sym (ap (λ (x : OpenUpdate). x.call) is) in
     let here : IsWith t i u.port u.call = rw (← same_port, ← same_call) k.1 in (

@@ -219,7 +219,7 @@ never_replied : (n : ℕ) (homes : List ℕ) (x : CallId) (reply : Reply)
 never_replied n homes x reply h =
     let k = reply_stands (outset n homes).world x reply h in
     let f = fresh_at homes x.connection k.0 k.1 in
-    none_there x.place reply (ap (λ rs. slice_get rs x.place) (sym (ap (λ (k : Connection). k.replies) f.2)) ∙ k.2)
+    none_there x.ordinal reply (ap (λ rs. slice_get rs x.ordinal) (sym (ap (λ (k : Connection). k.replies) f.2)) ∙ k.2)
 
 -- what is known of calls holds before any event
 pub calling_outset : (n : ℕ) (homes : List ℕ) → Calling (outset n homes)

@@ -30,22 +30,22 @@ use Rattle.world.proofs.trace.TraceLaws.{new_issued, server_done, server_other, 
 use Rattle.world.proofs.trace.TraceLaws.{connection_done, connection_before, begun_done, replied_done}
 use Rattle.node.proofs.OpenLists.{in_without}
 use Rattle.world.proofs.calls.Kept.{answer_later, asks_later}
-use Rattle.world.proofs.calls.OpenIds.{open_id_is, place_of, with_begun}
+use Rattle.world.proofs.calls.OpenIds.{open_id_is, ordinal_of, with_begun}
 use Rattle.world.proofs.calls.StepInputs.{IsStep, within, known_of}
 use Rattle.world.proofs.calls.Replying.{given}
 use Rattle.world.proofs.calls.CallsDone.{IsEntered, in_issued}
 
 -- ---- issued updates
 
--- the call of this place is with its server, or behind that
+-- the call of this ordinal is with its server, or behind that
 abbrev pub IsOut : ℕ → Connection → Type 0
-IsOut place c = (place < length c.replies)
-    ⊎ ((place ≡ length c.replies) × ((c.stage ≡ Asked) ⊎ ((reply : Reply) × (c.stage ≡ Replied reply))))
+IsOut ordinal c = (ordinal < length c.replies)
+    ⊎ ((ordinal ≡ length c.replies) × ((c.stage ≡ Asked) ⊎ ((reply : Reply) × (c.stage ≡ Replied reply))))
 
-out_kept : (os : List Output) (c place : ℕ) (k l : Connection) → Answers os c k l → IsOut place k → IsOut place l
-out_kept os c place k l (inl same) h = rw same h
-out_kept os c place k l (inr answered) (inl less) = rw answered.4 (inl less)
-out_kept os c place k l (inr answered) (inr open_one) = rw answered.4 (inr (open_one.0, inr (answered.0, refl)))
+out_kept : (os : List Output) (c ordinal : ℕ) (k l : Connection) → Answers os c k l → IsOut ordinal k → IsOut ordinal l
+out_kept os c ordinal k l (inl same) h = rw same h
+out_kept os c ordinal k l (inr answered) (inl less) = rw answered.4 (inl less)
+out_kept os c ordinal k l (inr answered) (inr open_one) = rw answered.4 (inr (open_one.0, inr (answered.0, refl)))
 
 home_kept : (os : List Output) (c : ℕ) (k l : Connection) → Answers os c k l → l.home ≡ k.home
 home_kept os c k l (inl same) = rw same refl
@@ -55,7 +55,7 @@ home_kept os c k l (inr answered) = rw answered.4 refl
 abbrev pub IsBegunAt : Traced → ℕ → CallId → Type 0
 IsBegunAt t o x =
     (call : Call) × (c : Connection) × (begun_call t.world x ≡ Some call) × (is_update call.op ≡ true)
-    × (slice_get t.world.connections x.connection ≡ Some c) × (c.home ≡ o) × IsOut x.place c
+    × (slice_get t.world.connections x.connection ≡ Some c) × (c.home ≡ o) × IsOut x.ordinal c
 
 out_done : (t : Traced) (i : ℕ) (a : Action) (o : ℕ) (x : CallId) → IsBegunAt t o x → IsBegunAt (done t i a) o x
 out_done t i a o x h =
@@ -66,7 +66,7 @@ out_done t i a o x h =
       h.3,
       k.1,
       home_kept _ x.connection h.1 k.0 k.2 ∙ h.5,
-      out_kept _ x.connection x.place h.1 k.0 k.2 h.6,
+      out_kept _ x.connection x.ordinal h.1 k.0 k.2 h.6,
     )
 
 -- what is known if an update enters
@@ -89,7 +89,7 @@ with_out t o c call h update = (
   update,
   h.here,
   h.home,
-  inr (place_of t.world c h.connection h.here, inl h.stage),
+  inr (ordinal_of t.world c h.connection h.here, inl h.stage),
 )
 
 -- after an action each issued update is a begun call of a connection at its origin
@@ -126,7 +126,7 @@ issued_once t i cause a o p k l x g h f =
       ]
       | inr new ↦ elim (in_issued t i cause a g p l x f) [
         | inl old ↦ absurd (new_once t i cause a o k p l x g new old)
-        | inr too ↦ (new.here ∙ sym too.here, new.place ∙ sym too.place)
+        | inr too ↦ (new.here ∙ sym too.here, new.ordinal ∙ sym too.ordinal)
       ]
     ]
 
@@ -234,7 +234,7 @@ pub waiting_done : (t : Traced) (i : ℕ) (cause : Cause) (a : Action) (c : ℕ)
     → IsStep t i cause a
     → slice_get (done t i a).world.connections c ≡ Some l
     → l.stage ≡ Replied reply
-    → IsAnswer (done t i a) (record { connection = c; place = length l.replies }) reply
+    → IsAnswer (done t i a) (record { connection = c; ordinal = length l.replies }) reply
 waiting_done t i cause a c l reply g h stage =
     let k = connection_before t i a c l h in
     elim k.2 [

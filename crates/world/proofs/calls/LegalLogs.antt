@@ -124,9 +124,9 @@ passed_next t i cause e g m =
     let before = previous_is _ _ _ m.previous in
     let below : m.from < i = rw (l.framed.id i lt) at before.below in
     let front = begins_taken (log t i) (log t m.from) (l.logged.begins m.from i below lt before.out) in
-    let place : e.number - 1 ≡ length (log t i) =
+    let ordinal : e.number - 1 ≡ length (log t i) =
     omega (arith, m.next, held_last (log t i) (server t.world i).store (l.logged.holds i lt)) in
-    let at : slice_get (log t m.from) (length (log t i)) ≡ Some e = rw place at carried.1 in
+    let at : slice_get (log t m.from) (length (log t i)) ≡ Some e = rw ordinal at carried.1 in
     let own = take_all (length (log t i)) (log t i) (omega arith) in
     record {
       id = rw front at (l.calling.ids m.from (length (log t i)) e at);
@@ -145,7 +145,7 @@ next_entry t i cause e g =
 pub record IsAppended (t : Traced) (i : ℕ) (a : Action) (j k : ℕ) (e : LogEntry) : Type 0 where
   pub is : a ≡ Append e
   pub here : j ≡ i
-  pub place : k ≡ length (log t i)
+  pub ordinal : k ≡ length (log t i)
 
 appended_or_old : (t : Traced) (i : ℕ) (a : Action) (k : ℕ) (e : LogEntry)
     → slice_get (log t i ++ new_entries a) k ≡ Some e
@@ -153,7 +153,7 @@ appended_or_old : (t : Traced) (i : ℕ) (a : Action) (k : ℕ) (e : LogEntry)
 appended_or_old t i (Widen v) k e h = inl (rw append-nil at h)
 appended_or_old t i (Append d) k e h =
     elim (pushed_cases (log t i) d k e h)
-    [ inl old ↦ inl old | inr new ↦ inr (record { is = ap Append (sym new.1); here = refl; place = new.0 }) ]
+    [ inl old ↦ inl old | inr new ↦ inr (record { is = ap Append (sym new.1); here = refl; ordinal = new.0 }) ]
 appended_or_old t i (Reach n) k e h = inl (rw append-nil at h)
 appended_or_old t i (Settle d) k e h = inl (rw append-nil at h)
 appended_or_old t i (Send j body) k e h = inl (rw append-nil at h)
@@ -197,7 +197,7 @@ new_front : (t : Traced) (i : ℕ) (cause : Cause) (a : Action) (j k : ℕ) (e :
     → IsAppended t i a j k e
     → take k (log (done t i a) j) ≡ log t i
 new_front t i cause a j k e g new =
-    rw (new.here, new.place) (begins_taken (log t i) (log (done t i a) i) (g.later.logs i))
+    rw (new.here, new.ordinal) (begins_taken (log t i) (log (done t i a) i) (g.later.logs i))
 
 -- after an action the ids of an origin are 1, 2, 3 and so on in each log
 pub ids_done : (t : Traced) (i : ℕ) (cause : Cause) (a : Action) (j k : ℕ) (e : LogEntry)
@@ -222,9 +222,9 @@ decided_done t i cause a j k e g h =
       | inr new ↦
           let all = take_all (length (log t i)) (log t i) (omega arith) in
           let front : take k (log (done t i a) j) ≡ take k (log t i) =
-          new_front t i cause a j k e g new ∙ sym all ∙ ap (λ n. take n (log t i)) (sym new.place) in
+          new_front t i cause a j k e g new ∙ sym all ∙ ap (λ n. take n (log t i)) (sym new.ordinal) in
           decided_as t (log t i) _ k e front
-          (rw new.place (next_entry t i cause e (subst (λ b. IsStep t i cause b) new.is g)).decided)
+          (rw new.ordinal (next_entry t i cause e (subst (λ b. IsStep t i cause b) new.is g)).decided)
     ])
 
 -- ---- what was seen

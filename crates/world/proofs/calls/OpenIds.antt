@@ -6,28 +6,28 @@ use Rattle.table.specs.declared.operations.Call.{Call}
 use Rattle.world.specs.Connections.{Connection, open_call}
 use Rattle.world.specs.Worlds.{World}
 use Rattle.world.specs.Calls.{begun_call}
-use Rattle.world.proofs.trace.Traces.{Traced, open_id, open_place}
+use Rattle.world.proofs.trace.Traces.{Traced, open_id, open_ordinal}
 use Rattle.world.proofs.trace.Layers.{IsWith}
 use Rattle.world.proofs.trace.LaterMoves.{call_found}
 
--- the place of the open call of a connection that stands there
-pub place_of : (w : World) (c : ℕ) (k : Connection)
+-- the ordinal of the open call of a connection that stands there
+pub ordinal_of : (w : World) (c : ℕ) (k : Connection)
     → slice_get w.connections c ≡ Some k
-    → (open_id w c).place ≡ length k.replies
-place_of w c k h = ap open_place h
+    → (open_id w c).ordinal ≡ length k.replies
+ordinal_of w c k h = ap open_ordinal h
 
 -- the open call of a connection is named by the place after its replies
 pub open_id_is : (w : World) (c : ℕ) (k : Connection)
     → slice_get w.connections c ≡ Some k
-    → open_id w c ≡ record { connection = c; place = length k.replies }
-open_id_is w c k h = ap (λ n. record { connection = c; place = n }) (ap open_place h)
+    → open_id w c ≡ record { connection = c; ordinal = length k.replies }
+open_id_is w c k h = ap (λ n. record { connection = c; ordinal = n }) (ap open_ordinal h)
 
 -- an open call is begun under the name of its connection's open call
 pub open_begun : (w : World) (c : ℕ) (k : Connection) (call : Call)
     → slice_get w.connections c ≡ Some k
     → open_call k ≡ Some call
     → begun_call w (open_id w c) ≡ Some call
-open_begun w c k call h g = call_found w (open_id w c) k call h (ap (λ n. slice_get k.calls n) (place_of w c k h) ∙ g)
+open_begun w c k call h g = call_found w (open_id w c) k call h (ap (λ n. slice_get k.calls n) (ordinal_of w c k h) ∙ g)
 
 -- of one connection there is one open call
 pub same_connection : (w : World) (c : ℕ) (k l : Connection)

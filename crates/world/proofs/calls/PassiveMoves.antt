@@ -92,33 +92,35 @@ progress_home k l (Works h) = h.home
 progress_home k l (Hands h) = h.home
 
 -- what is out stays out
-progress_out : (k l : Connection) (place : ℕ) → Progress k l → IsOut place k → IsOut place l
-progress_out k l place (Stays h) o = rw (h.replies, h.stage) o
-progress_out k l place (Starts h) (inl less) = rw h.replies (inl less)
-progress_out k l place (Starts h) (inr (same, inl asked)) = let never : Idle ≡ Asked = sym h.before ∙ asked in absurd cc
-progress_out k l place (Starts h) (inr (same, inr waits)) =
+progress_out : (k l : Connection) (ordinal : ℕ) → Progress k l → IsOut ordinal k → IsOut ordinal l
+progress_out k l ordinal (Stays h) o = rw (h.replies, h.stage) o
+progress_out k l ordinal (Starts h) (inl less) = rw h.replies (inl less)
+progress_out k l ordinal (Starts h) (inr (same, inl asked)) =
+    let never : Idle ≡ Asked = sym h.before ∙ asked in absurd cc
+progress_out k l ordinal (Starts h) (inr (same, inr waits)) =
     let never : Idle ≡ Replied waits.0 = sym h.before ∙ waits.1 in absurd cc
-progress_out k l place (Works h) (inl less) = rw h.replies (inl less)
-progress_out k l place (Works h) (inr (same, inl asked)) = let never : Begun ≡ Asked = sym h.before ∙ asked in absurd cc
-progress_out k l place (Works h) (inr (same, inr waits)) =
+progress_out k l ordinal (Works h) (inl less) = rw h.replies (inl less)
+progress_out k l ordinal (Works h) (inr (same, inl asked)) =
+    let never : Begun ≡ Asked = sym h.before ∙ asked in absurd cc
+progress_out k l ordinal (Works h) (inr (same, inr waits)) =
     let never : Begun ≡ Replied waits.0 = sym h.before ∙ waits.1 in absurd cc
-progress_out k l place (Hands h) (inl less) =
+progress_out k l ordinal (Hands h) (inl less) =
     let more = length-append k.replies (h.reply ∷ []) in rw h.replies (inl (omega (arith, more, less)))
-progress_out k l place (Hands h) (inr open_one) =
+progress_out k l ordinal (Hands h) (inr open_one) =
     let more = length-append k.replies (h.reply ∷ []) in rw h.replies (inl (omega (arith, more, open_one.0)))
 
 -- and what is over stays over
-progress_over : (k l : Connection) (place : ℕ) → Progress k l → IsOver place k → IsOver place l
-progress_over k l place (Stays h) o = rw (h.replies, h.stage) o
-progress_over k l place (Starts h) (inl less) = rw h.replies (inl less)
-progress_over k l place (Starts h) (inr waits) =
+progress_over : (k l : Connection) (ordinal : ℕ) → Progress k l → IsOver ordinal k → IsOver ordinal l
+progress_over k l ordinal (Stays h) o = rw (h.replies, h.stage) o
+progress_over k l ordinal (Starts h) (inl less) = rw h.replies (inl less)
+progress_over k l ordinal (Starts h) (inr waits) =
     let never : Idle ≡ Replied waits.1 = sym h.before ∙ waits.2 in absurd cc
-progress_over k l place (Works h) (inl less) = rw h.replies (inl less)
-progress_over k l place (Works h) (inr waits) =
+progress_over k l ordinal (Works h) (inl less) = rw h.replies (inl less)
+progress_over k l ordinal (Works h) (inr waits) =
     let never : Begun ≡ Replied waits.1 = sym h.before ∙ waits.2 in absurd cc
-progress_over k l place (Hands h) (inl less) =
+progress_over k l ordinal (Hands h) (inl less) =
     let more = length-append k.replies (h.reply ∷ []) in rw h.replies (inl (omega (arith, more, less)))
-progress_over k l place (Hands h) (inr waits) =
+progress_over k l ordinal (Hands h) (inr waits) =
     let more = length-append k.replies (h.reply ∷ []) in rw h.replies (inl (omega (arith, more, waits.0)))
 
 -- a connection whose call is with its server stays
@@ -139,8 +141,16 @@ progress_waits k l reply (Hands h) waits = let never : Idle ≡ Replied reply = 
 
 passive_begun : (t u : Traced) → IsPassive t u → (o : ℕ) (x : CallId) → IsBegunAt t o x → IsBegunAt u o x
 passive_begun t u q o x h =
-    let l = q.after x.connection h.1 h.4 in
-    (h.0, l.0, q.later.calls x h.0 h.2, h.3, l.1, progress_home h.1 l.0 l.2 ∙ h.5, progress_out h.1 l.0 x.place l.2 h.6)
+    let l = q.after x.connection h.1 h.4 in (
+      h.0,
+      l.0,
+      q.later.calls x h.0 h.2,
+      h.3,
+      l.1,
+      progress_home h.1 l.0 l.2
+          ∙ h.5,
+      progress_out h.1 l.0 x.ordinal l.2 h.6,
+    )
 
 passive_with : (t u : Traced) → IsPassive t u → (i c : ℕ) (call : Call) → IsWith t i c call → IsWith u i c call
 passive_with t u q i c call h =
@@ -162,7 +172,7 @@ passive_name : (t u : Traced)
 passive_name t u q i c call h =
     let l = q.after c h.connection h.here in
     let s = progress_asked h.connection l.0 l.2 h.stage in
-    open_id_is u.world c l.0 l.1 ∙ ap (λ (rs : List Reply). record { connection = c; place = length rs }) s.replies
+    open_id_is u.world c l.0 l.1 ∙ ap (λ (rs : List Reply). record { connection = c; ordinal = length rs }) s.replies
     ∙ sym (open_id_is t.world c h.connection h.here)
 
 passive_pending : (t u : Traced) → IsPassive t u → (i : ℕ) (v : OpenUpdate) → IsPending t i v → IsPending u i v
@@ -174,17 +184,17 @@ handed_then : (t u : Traced) (x : CallId) (k l : Connection) (reply : Reply)
     → Lawful t
     → slice_get t.world.connections x.connection ≡ Some k
     → IsHanded k l
-    → slice_get l.replies x.place ≡ Some reply
+    → slice_get l.replies x.ordinal ≡ Some reply
     → IsAnswer u x reply
 handed_then t u x k l reply q lawful here h at =
-    let pushed : slice_get (k.replies ++ h.reply ∷ []) x.place ≡ Some reply = rw h.replies at at in
-    elim (pushed_cases k.replies h.reply x.place reply pushed) [
+    let pushed : slice_get (k.replies ++ h.reply ∷ []) x.ordinal ≡ Some reply = rw h.replies at at in
+    elim (pushed_cases k.replies h.reply x.ordinal reply pushed) [
       | inl old ↦ answer_later t u x reply q.later
           (lawful.calling.handed x reply (reply_found t.world x k reply here old))
       | inr new ↦
           let waits = lawful.calling.waiting x.connection k h.reply here h.before in
-          let name : record { connection = x.connection; place = length k.replies } ≡ x =
-          ap (λ n. record { connection = x.connection; place = n }) (sym new.0) in
+          let name : record { connection = x.connection; ordinal = length k.replies } ≡ x =
+          ap (λ n. record { connection = x.connection; ordinal = n }) (sym new.0) in
           answer_later t u x reply q.later (rw (← name, new.1) waits)
     ]
 
@@ -193,7 +203,7 @@ progress_handed : (t u : Traced) (x : CallId) (k l : Connection) (reply : Reply)
     → Lawful t
     → slice_get t.world.connections x.connection ≡ Some k
     → Progress k l
-    → slice_get l.replies x.place ≡ Some reply
+    → slice_get l.replies x.ordinal ≡ Some reply
     → IsAnswer u x reply
 progress_handed t u x k l reply q lawful here (Stays h) at =
     answer_later t u x reply q.later
@@ -223,7 +233,7 @@ passive_waiting : (t u : Traced)
     → (c : ℕ) (l : Connection) (reply : Reply)
     → slice_get u.world.connections c ≡ Some l
     → l.stage ≡ Replied reply
-    → IsAnswer u (record { connection = c; place = length l.replies }) reply
+    → IsAnswer u (record { connection = c; ordinal = length l.replies }) reply
 passive_waiting t u q lawful c l reply here stage =
     let k = q.before c l here in
     let s = progress_waits k.0 l reply k.2 stage in
@@ -257,7 +267,7 @@ calling_passive t u q l =
 passive_read : (t u : Traced) → IsPassive t u → (r : AnsweredRead) → IsRead t r → IsRead u r
 passive_read t u q r is =
     let l = q.after r.id.connection is.connection is.here in
-    read_later t u r l.0 q.later is l.1 (progress_over is.connection l.0 r.id.place l.2 is.over)
+    read_later t u r l.0 q.later is l.1 (progress_over is.connection l.0 r.id.ordinal l.2 is.over)
 
 -- a move that isn't a server's action keeps what is known of answered reads
 pub read_passive : (t u : Traced) → IsPassive t u → Lawful t → Read u

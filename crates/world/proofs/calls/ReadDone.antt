@@ -21,24 +21,26 @@ use Rattle.world.proofs.trace.Layers.{Later, IsWith, IsRead, Read}
 use Rattle.world.proofs.trace.WorldLaws.{Answers, changed_one}
 use Rattle.world.proofs.trace.TraceLaws.{new_reads, reads_done, connection_done}
 use Rattle.world.proofs.lists.Beginnings.{begins-take, begins-length}
-use Rattle.world.proofs.calls.OpenIds.{place_of, with_begun}
+use Rattle.world.proofs.calls.OpenIds.{ordinal_of, with_begun}
 use Rattle.world.proofs.calls.StepInputs.{IsStep}
 use Rattle.world.proofs.calls.NewReads.{IsNewRead, new_read}
 
 -- ---- the call of an answered read isn't with its server
 
--- the call of this place has a reply, which was handed over or waits
+-- the call of this ordinal has a reply, which was handed over or waits
 abbrev pub IsOver : ℕ → Connection → Type 0
-IsOver place c = (place < length c.replies) ⊎ ((place ≡ length c.replies) × (reply : Reply) × (c.stage ≡ Replied reply))
+IsOver ordinal c =
+    (ordinal < length c.replies) ⊎ ((ordinal ≡ length c.replies) × (reply : Reply) × (c.stage ≡ Replied reply))
 
-over_kept : (os : List Output) (c place : ℕ) (k l : Connection) → Answers os c k l → IsOver place k → IsOver place l
-over_kept os c place k l (inl same) h = rw same h
-over_kept os c place k l (inr answered) (inl less) = rw answered.4 (inl less)
-over_kept os c place k l (inr answered) (inr waits) = rw answered.4 (inr (waits.0, answered.0, refl))
+over_kept : (os : List Output) (c ordinal : ℕ) (k l : Connection) → Answers os c k l → IsOver ordinal k
+    → IsOver ordinal l
+over_kept os c ordinal k l (inl same) h = rw same h
+over_kept os c ordinal k l (inr answered) (inl less) = rw answered.4 (inl less)
+over_kept os c ordinal k l (inr answered) (inr waits) = rw answered.4 (inr (waits.0, answered.0, refl))
 
-asked_not_over : (place : ℕ) (k : Connection) → place ≡ length k.replies → k.stage ≡ Asked → IsOver place k → ⊥
-asked_not_over place k at asked (inl less) = omega (arith, at)
-asked_not_over place k at asked (inr waits) = let e : Asked ≡ Replied waits.1 = sym asked ∙ waits.2 in absurd cc
+asked_not_over : (ordinal : ℕ) (k : Connection) → ordinal ≡ length k.replies → k.stage ≡ Asked → IsOver ordinal k → ⊥
+asked_not_over ordinal k at asked (inl less) = omega (arith, at)
+asked_not_over ordinal k at asked (inr waits) = let e : Asked ≡ Replied waits.1 = sym asked ∙ waits.2 in absurd cc
 
 -- a call that is with its server is none of the answered reads
 pub unread : (t : Traced) (i c : ℕ) (call : Call) (r : AnsweredRead)
@@ -50,9 +52,9 @@ unread t i c call r h is =
     let spot : slice_get t.world.connections c ≡ Some is.connection =
     subst (λ (x : CallId). slice_get t.world.connections x.connection ≡ Some is.connection) same is.here in
     let one : is.connection ≡ h.connection = same_Some _ _ (sym spot ∙ h.here) in
-    let place : r.id.place ≡ length is.connection.replies =
-    ap (λ (x : CallId). x.place) same ∙ place_of t.world c is.connection spot in
-    asked_not_over r.id.place is.connection place (rw one h.stage) is.over
+    let ordinal : r.id.ordinal ≡ length is.connection.replies =
+    ap (λ (x : CallId). x.ordinal) same ∙ ordinal_of t.world c is.connection spot in
+    asked_not_over r.id.ordinal is.connection ordinal (rw one h.stage) is.over
 
 -- ---- an answered read, later on
 
@@ -70,7 +72,7 @@ pub read_later : (t u : Traced) (r : AnsweredRead) (k : Connection)
     → Later t u
     → (is : IsRead t r)
     → slice_get u.world.connections r.id.connection ≡ Some k
-    → IsOver r.id.place k
+    → IsOver r.id.ordinal k
     → IsRead u r
 read_later t u r k l is here over =
     let more = begins-length t.committed u.committed l.committed in
@@ -92,7 +94,7 @@ old_read : (t : Traced) (i : ℕ) (a : Action) (r : AnsweredRead)
     → IsRead (done t i a) r
 old_read t i a r l is =
     let k = connection_done t i a r.id.connection is.connection is.here in
-    read_later t (done t i a) r k.0 l is k.1 (over_kept _ r.id.connection r.id.place is.connection k.0 k.2 is.over)
+    read_later t (done t i a) r k.0 l is k.1 (over_kept _ r.id.connection r.id.ordinal is.connection k.0 k.2 is.over)
 
 -- ---- a read that is answered now
 
@@ -133,8 +135,8 @@ now_read t i a r l n =
     let there : slice_get (done t i a).world.connections n.port ≡ Some (record k { stage = Replied (Value r.item) }) =
     rw (← waits) (put_there t i a n.port (Value r.item) k n.put n.asked.here) in
     let port : r.id.connection ≡ n.port = ap (λ (x : CallId). x.connection) n.name in
-    let place : r.id.place ≡ length k.replies =
-    ap (λ (x : CallId). x.place) n.name ∙ place_of t.world n.port k n.asked.here in
+    let ordinal : r.id.ordinal ≡ length k.replies =
+    ap (λ (x : CallId). x.ordinal) n.name ∙ ordinal_of t.world n.port k n.asked.here in
     let more = begins-length t.committed (done t i a).committed l.committed in
     record {
       call = n.call;
@@ -145,7 +147,7 @@ now_read t i a r l n =
       number = omega (arith, n.number, more);
       item = n.item ∙ item_kept t (done t i a) r.number r.key l.committed n.number;
       here = rw port there;
-      over = inr (place, Value r.item, refl);
+      over = inr (ordinal, Value r.item, refl);
     }
 
 -- ---- the answered reads after an action

@@ -39,7 +39,7 @@ pub acked_committed : (t : Traced) (i : ℕ) (e : LogEntry)
 acked_committed t i e l lives h acked =
     let lt = (alive t.world i lives).within in
     let r = held_entry (log t i) (server t.world i).store e (l.logged.holds i lt) h in (
-      begins_back t.committed (log t i) (e.number - 1) e (l.logged.living i lives) r.place
+      begins_back t.committed (log t i) (e.number - 1) e (l.logged.living i lives) r.ordinal
           (omega (arith, r.low, acked, l.logged.within i lt)),
       r.valid,
     )

@@ -11,9 +11,9 @@ use Rattle.table.specs.declared.operations.Call.{Call}
 use Rattle.table.specs.declared.operations.Reply.{Reply}
 use Rattle.table.specs.declared.operations.Reply.TheVariants.{Value}
 use Rattle.world.specs.Calls.{CallId}
-use Rattle.world.specs.Orders.{Entry, StandsAt, IsLinearization}
+use Rattle.world.specs.Orders.{OrderedCall, StandsAt, IsLinearization}
 use Rattle.world.specs.WorkedSchedules.{name, said, dirty_homes, dirty_events}
-use Rattle.world.proofs.examples.WorkedOrders.{under, call_there, reply_there, one_place}
+use Rattle.world.proofs.examples.WorkedOrders.{under, call_there, reply_there, one_ordinal}
 use Rattle.world.proofs.examples.WorkedDirtyRead.{key, set, get, called, replied}
 
 abbrev the_set : CallId
@@ -39,7 +39,7 @@ unseen_set_is_illegal first rest legal =
     let e : Value None ≡ Value (Some item) = get_finds first (Value None) rest legal in absurd cc
 
 named : (c p : ℕ) (call : Call)
-    → under ((set ∷ []) ∷ (get ∷ []) ∷ []) (record { connection = c; place = p }) ≡ Some call
+    → under ((set ∷ []) ∷ (get ∷ []) ∷ []) (record { connection = c; ordinal = p }) ≡ Some call
     → ((c ≡ 0) × (p ≡ 0) × (call ≡ set)) ⊎ ((c ≡ 1) × (p ≡ 0) × (call ≡ get))
 named zero zero call h = inl (refl, refl, sym (same_Some set call h))
 named zero (suc p) call h = absurd cc
@@ -50,11 +50,11 @@ named (suc (suc c)) p call h = absurd cc
 id_of : (c p d q : ℕ)
     → c ≡ d
     → p ≡ q
-    → ◌≡◌ {A = CallId} (record { connection = c; place = p }) (record { connection = d; place = q })
-id_of c p d q e f i = record { connection = e i; place = f i }
+    → ◌≡◌ {A = CallId} (record { connection = c; ordinal = p }) (record { connection = d; ordinal = q })
+id_of c p d q e f i = record { connection = e i; ordinal = f i }
 
 -- an order in which the set stands first and the get next is none
-set_first : (e f : Entry) (h : List Entry)
+set_first : (e f : OrderedCall) (h : List OrderedCall)
     → IsLinearization 3 dirty_homes dirty_events (e ∷ f ∷ h)
     → e.call ≡ set
     → f.call ≡ get
@@ -67,7 +67,7 @@ set_first e f h order first second reply =
     (subst (λ d. P set d f.reply) second (subst (λ c. P c f.call f.reply) first order.legal)))
 
 -- the unanswered set stands nowhere before the get
-pub set_before_get : (h : List Entry)
+pub set_before_get : (h : List OrderedCall)
     → IsLinearization 3 dirty_homes dirty_events h
     → (i j : ℕ)
     → i < j
@@ -78,26 +78,26 @@ set_before_get [] order i j l set_at get_at = let e = set_at.here in absurd cc
 set_before_get (e ∷ []) order i zero l set_at get_at = absurd (omega (arith, l))
 set_before_get (e ∷ []) order i (suc j) l set_at get_at = let e = get_at.here in absurd cc
 set_before_get (e ∷ f ∷ h) order i j l set_at get_at =
-    let first = named e.id.connection e.id.place e.call
+    let first = named e.id.connection e.id.ordinal e.call
     (call_there 3 dirty_homes dirty_events (e ∷ f ∷ h) order _ called 0 e refl) in
-    let second = named f.id.connection f.id.place f.call
+    let second = named f.id.connection f.id.ordinal f.call
     (call_there 3 dirty_homes dirty_events (e ∷ f ∷ h) order _ called 1 f refl) in
     by_names first second
   where
-    by_names : ((e.id.connection ≡ 0) × (e.id.place ≡ 0) × (e.call ≡ set))
-        ⊎ ((e.id.connection ≡ 1) × (e.id.place ≡ 0) × (e.call ≡ get))
-        → ((f.id.connection ≡ 0) × (f.id.place ≡ 0) × (f.call ≡ set))
-        ⊎ ((f.id.connection ≡ 1) × (f.id.place ≡ 0) × (f.call ≡ get))
+    by_names : ((e.id.connection ≡ 0) × (e.id.ordinal ≡ 0) × (e.call ≡ set))
+        ⊎ ((e.id.connection ≡ 1) × (e.id.ordinal ≡ 0) × (e.call ≡ get))
+        → ((f.id.connection ≡ 0) × (f.id.ordinal ≡ 0) × (f.call ≡ set))
+        ⊎ ((f.id.connection ≡ 1) × (f.id.ordinal ≡ 0) × (f.call ≡ get))
         → ⊥
     by_names (inr get_first) second =
         let at_0 : StandsAt (e ∷ f ∷ h) 0 the_get =
         record { entry = e; here = refl; same = id_of _ _ _ _ get_first.0 get_first.1 } in
-        let place : 0 ≡ j = order.once 0 j the_get at_0 get_at in
-        absurd (omega (arith, place, l))
+        let ordinal : 0 ≡ j = order.once 0 j the_get at_0 get_at in
+        absurd (omega (arith, ordinal, l))
     by_names (inl first) (inl again) =
         let same : e.id ≡ f.id = id_of _ _ _ _ (first.0 ∙ sym again.0) (first.1 ∙ sym again.1) in
-        let place : 0 ≡ 1 = one_place 3 dirty_homes dirty_events (e ∷ f ∷ h) order 0 1 e f refl refl same in
-        absurd (omega (arith, place))
+        let ordinal : 0 ≡ 1 = one_ordinal 3 dirty_homes dirty_events (e ∷ f ∷ h) order 0 1 e f refl refl same in
+        absurd (omega (arith, ordinal))
     by_names (inl first) (inr second) =
         let id : f.id ≡ the_get = id_of _ _ _ _ second.0 second.1 in
         let reply : f.reply ≡ Value None = reply_there 3 dirty_homes dirty_events (e ∷ f ∷ h) order _ replied 1 f refl

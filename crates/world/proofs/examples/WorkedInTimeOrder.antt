@@ -10,7 +10,7 @@ use Rattle.table.specs.declared.operations.Reply.{Reply}
 use Rattle.table.specs.declared.operations.Reply.TheVariants.{Stored}
 use Rattle.world.specs.Worlds.{run_of}
 use Rattle.world.specs.Calls.{CallId, begun_call, reply_to, is_given}
-use Rattle.world.specs.Orders.{Entry, StandsAt, IsLinearization, GivenBefore}
+use Rattle.world.specs.Orders.{OrderedCall, StandsAt, IsLinearization, GivenBefore}
 use Rattle.world.specs.WorkedSchedules.{name, entry, said, sets_homes, sets_events, sets_exchanged}
 use Rattle.world.proofs.examples.WorkedOrders.{under, calls_under, replies_under}
 use Rattle.world.proofs.examples.WorkedInTime.{first, second, called, replied, first_before_second}
@@ -20,10 +20,10 @@ pub exchanged_legal : IsLegal (said sets_exchanged)
 exchanged_legal = (refl, (refl, tt))
 
 -- the second set, which the exchanged order has first
-abbrev pub front : Entry
+abbrev pub front : OrderedCall
 front = entry (name 1 0) second Stored
 
-abbrev back : Entry
+abbrev back : OrderedCall
 back = entry (name 0 0) first Stored
 
 -- the calls of the two connections
@@ -31,26 +31,27 @@ abbrev pub both_calls : List (List Call)
 both_calls = (first ∷ []) ∷ (second ∷ []) ∷ []
 
 -- each entry is one of these calls
-pub exchanged_called : (i : ℕ) (e : Entry) → slice_get sets_exchanged i ≡ Some e → under both_calls e.id ≡ Some e.call
+pub exchanged_called : (i : ℕ) (e : OrderedCall) → slice_get sets_exchanged i ≡ Some e
+    → under both_calls e.id ≡ Some e.call
 exchanged_called zero e h =
-    subst (λ (f : Entry). under both_calls f.id ≡ Some f.call) (same_Some front e h) refl
+    subst (λ (f : OrderedCall). under both_calls f.id ≡ Some f.call) (same_Some front e h) refl
 exchanged_called (suc zero) e h =
-    subst (λ (f : Entry). under both_calls f.id ≡ Some f.call) (same_Some back e h) refl
+    subst (λ (f : OrderedCall). under both_calls f.id ≡ Some f.call) (same_Some back e h) refl
 exchanged_called (suc (suc i)) e h = absurd cc
 
 -- each entry is a begun call
-pub exchanged_begun : (i : ℕ) (e : Entry)
+pub exchanged_begun : (i : ℕ) (e : OrderedCall)
     → slice_get sets_exchanged i ≡ Some e
     → begun_call (run_of 2 sets_homes sets_events) e.id ≡ Some e.call
 exchanged_begun i e here =
     calls_under 2 sets_homes sets_events both_calls called e.id ∙ exchanged_called i e here
 
-connection_of : (i : ℕ) (e : Entry) → slice_get sets_exchanged i ≡ Some e → i + e.id.connection ≡ 1
+connection_of : (i : ℕ) (e : OrderedCall) → slice_get sets_exchanged i ≡ Some e → i + e.id.connection ≡ 1
 connection_of zero e h =
-    let first_is : 1 ≡ e.id.connection = ap (λ (f : Entry). f.id.connection) (same_Some front e h) in
+    let first_is : 1 ≡ e.id.connection = ap (λ (f : OrderedCall). f.id.connection) (same_Some front e h) in
     omega (arith, first_is)
 connection_of (suc zero) e h =
-    let second_is : 0 ≡ e.id.connection = ap (λ (f : Entry). f.id.connection) (same_Some back e h) in
+    let second_is : 0 ≡ e.id.connection = ap (λ (f : OrderedCall). f.id.connection) (same_Some back e h) in
     omega (arith, second_is)
 connection_of (suc (suc i)) e h = absurd cc
 
@@ -69,7 +70,7 @@ both_replies = (Stored ∷ []) ∷ (Stored ∷ []) ∷ []
 pub exchanged_replied : (x : CallId) (reply : Reply)
     → under both_replies x ≡ Some reply
     → (i : ℕ) × (at : StandsAt sets_exchanged i x) × (at.entry.reply ≡ reply)
-exchanged_replied x reply got = there x.connection x.place got
+exchanged_replied x reply got = there x.connection x.ordinal got
   where
     there : (c p : ℕ)
         → under both_replies (name c p) ≡ Some reply
@@ -89,7 +90,7 @@ exchanged_answered x reply got =
 
 -- a begun call is one of the two
 abbrev IsFirstCall : CallId → Type 0
-IsFirstCall x = ((x.connection ≡ 0) × (x.place ≡ 0)) ⊎ ((x.connection ≡ 1) × (x.place ≡ 0))
+IsFirstCall x = ((x.connection ≡ 0) × (x.ordinal ≡ 0)) ⊎ ((x.connection ≡ 1) × (x.ordinal ≡ 0))
 
 named : (c p : ℕ) (call : Call) → under both_calls (name c p) ≡ Some call → IsFirstCall (name c p)
 named zero zero call h = inl (refl, refl)
@@ -105,9 +106,9 @@ at_two : (x y : CallId)
     → slice_get sets_homes x.connection ≡ slice_get sets_homes y.connection
     → x ≡ y
 at_two x y (inl a) (inl b) same =
-    λ i. record { connection = (a.0 ∙ sym b.0) i; place = (a.1 ∙ sym b.1) i }
+    λ i. record { connection = (a.0 ∙ sym b.0) i; ordinal = (a.1 ∙ sym b.1) i }
 at_two x y (inr a) (inr b) same =
-    λ i. record { connection = (a.0 ∙ sym b.0) i; place = (a.1 ∙ sym b.1) i }
+    λ i. record { connection = (a.0 ∙ sym b.0) i; ordinal = (a.1 ∙ sym b.1) i }
 at_two x y (inl a) (inr b) same =
     let e : 1 ≡ 0 = same_Some 1 0 (ap (slice_get sets_homes) (sym a.0) ∙ same ∙ ap (slice_get sets_homes) b.0) in
     absurd (omega (arith, e))
@@ -124,8 +125,8 @@ exchanged_in_turn x y j before at_j =
     let begun = calls_under 2 sets_homes sets_events both_calls called in
     let u = before.update in
     let v = before.later_update in
-    let same : x ≡ y = at_two x y (named x.connection x.place u.0 (sym (begun x) ∙ u.1))
-    (named y.connection y.place v.0 (sym (begun y) ∙ v.1)) before.one_server in
+    let same : x ≡ y = at_two x y (named x.connection x.ordinal u.0 (sym (begun x) ∙ u.1))
+    (named y.connection y.ordinal v.0 (sym (begun y) ∙ v.1)) before.one_server in
     let w = run_of 2 sets_homes (take before.k sets_events) in
     absurd (both_ways (is_given w y) before.not_given (ap (λ z. is_given w z) (sym same) ∙ before.given))
 

@@ -9,7 +9,7 @@ use Rattle.table.specs.declared.operations.Reply.{Reply}
 use Rattle.world.specs.declared.events.Event.{Event}
 use Rattle.world.specs.Worlds.{World, run_of}
 use Rattle.world.specs.Calls.{CallId, begun_call, reply_to}
-use Rattle.world.specs.Orders.{Entry, StandsAt, Precedes, GivenBefore, IsLinearization}
+use Rattle.world.specs.Orders.{OrderedCall, StandsAt, Precedes, GivenBefore, IsLinearization}
 use Rattle.world.specs.WorkedSchedules.{name, flight_homes, flight_events, sets_exchanged}
 use Rattle.world.proofs.lists.Standing.{some_of}
 use Rattle.world.proofs.moments.AllLaws.{all_moments}
@@ -43,7 +43,7 @@ replied_still count homes events few j k l x reply h =
 -- ---- what a linearization asks for, but for turns
 
 -- each entry is a begun call
-pub flight_begun : (i : ℕ) (e : Entry)
+pub flight_begun : (i : ℕ) (e : OrderedCall)
     → slice_get sets_exchanged i ≡ Some e
     → begun_call (run_of 2 flight_homes flight_events) e.id ≡ Some e.call
 flight_begun i e here =
@@ -71,7 +71,7 @@ never_precedes x y j before at_j = elim (cases_lt before.k 4) [
       let reply = some_of (reply_to (run_of 2 flight_homes (take before.k flight_events)) x) before.answered in
       let late = replied_still 2 flight_homes flight_events few_servers before.k 4 (omega (arith, early)) x reply.0
       reply.1 in
-      none_under x.connection x.place reply.0
+      none_under x.connection x.ordinal reply.0
       (sym (replies_under 2 flight_homes (take 4 flight_events) ([] ∷ [] ∷ []) replied_late x) ∙ late)
   | inr late ↦
       let e = at_j.entry in

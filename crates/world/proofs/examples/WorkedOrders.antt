@@ -9,7 +9,7 @@ use Rattle.world.specs.declared.events.Event.{Event}
 use Rattle.world.specs.Connections.{Connection}
 use Rattle.world.specs.Worlds.{World, run_of}
 use Rattle.world.specs.Calls.{CallId, begun_call, reply_to}
-use Rattle.world.specs.Orders.{Entry, StandsAt, IsLinearization}
+use Rattle.world.specs.Orders.{OrderedCall, StandsAt, IsLinearization}
 
 -- the calls of each connection, and its replies
 abbrev pub calls_in : World → List (List Call)
@@ -21,10 +21,10 @@ replies_in w = map (λ k. k.replies) w.connections
 
 -- what stands under a call's name
 abbrev pub under : {X : Type 0} → List (List X) → CallId → Option X
-under rows x = option_and_then (λ row. slice_get row x.place) (slice_get rows x.connection)
+under rows x = option_and_then (λ row. slice_get row x.ordinal) (slice_get rows x.connection)
 
 -- a call with its reply
-abbrev pub said : Entry → Call × Reply
+abbrev pub said : OrderedCall → Call × Reply
 said e = (e.call, e.reply)
 
 by_rows : {X : Type 0} (f : Connection → List X) (ks : List Connection) (c p : ℕ)
@@ -39,41 +39,42 @@ pub calls_under : (count : ℕ) (homes : List ℕ) (events : List Event) (calls 
     → calls_in (run_of count homes events) ≡ calls
     → (x : CallId) → begun_call (run_of count homes events) x ≡ under calls x
 calls_under count homes events calls same x =
-    by_rows (λ k. k.calls) (run_of count homes events).connections x.connection x.place ∙ ap (λ rows. under rows x) same
+    by_rows (λ k. k.calls) (run_of count homes events).connections x.connection x.ordinal
+    ∙ ap (λ rows. under rows x) same
 
 -- a call's reply is the one that these rows of replies have under its name
 pub replies_under : (count : ℕ) (homes : List ℕ) (events : List Event) (replies : List (List Reply))
     → replies_in (run_of count homes events) ≡ replies
     → (x : CallId) → reply_to (run_of count homes events) x ≡ under replies x
 replies_under count homes events replies same x = by_rows (λ k. k.replies) (run_of count homes events).connections
-    x.connection x.place ∙ ap (λ rows. under rows x) same
+    x.connection x.ordinal ∙ ap (λ rows. under rows x) same
 
-module _ (count : ℕ) (homes : List ℕ) (events : List Event) (h : List Entry)
+module _ (count : ℕ) (homes : List ℕ) (events : List Event) (h : List OrderedCall)
     (order : IsLinearization count homes events h) where
   -- an entry's call is the one that was begun under its name
   pub call_there : (calls : List (List Call))
       → calls_in (run_of count homes events) ≡ calls
-      → (i : ℕ) (e : Entry)
+      → (i : ℕ) (e : OrderedCall)
       → slice_get h i ≡ Some e
       → under calls e.id ≡ Some e.call
   call_there calls same i e here =
       ap (λ rows. under rows e.id) (sym same)
-      ∙ sym (by_rows (λ k. k.calls) (run_of count homes events).connections e.id.connection e.id.place)
+      ∙ sym (by_rows (λ k. k.calls) (run_of count homes events).connections e.id.connection e.id.ordinal)
       ∙ order.begun i e here
 
   -- an entry of an answered call has the reply that it got
   pub reply_there : (replies : List (List Reply))
       → replies_in (run_of count homes events) ≡ replies
-      → (i : ℕ) (e : Entry)
+      → (i : ℕ) (e : OrderedCall)
       → slice_get h i ≡ Some e
       → (reply : Reply) → under replies e.id ≡ Some reply → e.reply ≡ reply
   reply_there replies same i e here reply got =
       let found = order.answered e.id reply
-      (by_rows (λ k. k.replies) (run_of count homes events).connections e.id.connection e.id.place
+      (by_rows (λ k. k.replies) (run_of count homes events).connections e.id.connection e.id.ordinal
       ∙ ap (λ rows. under rows e.id) same ∙ got) in
-      let place : found.0 ≡ i = order.once found.0 i e.id found.1 (record { entry = e; here = here; same = refl }) in
-      let one : e ≡ found.1.entry = same_Some _ _ (sym here ∙ ap (slice_get h) (sym place) ∙ found.1.here) in
-      ap (λ (x : Entry). x.reply) one ∙ found.2
+      let ordinal : found.0 ≡ i = order.once found.0 i e.id found.1 (record { entry = e; here = here; same = refl }) in
+      let one : e ≡ found.1.entry = same_Some _ _ (sym here ∙ ap (slice_get h) (sym ordinal) ∙ found.1.here) in
+      ap (λ (x : OrderedCall). x.reply) one ∙ found.2
 
   -- an answered call stands somewhere
   pub stands : (replies : List (List Reply))
@@ -83,11 +84,12 @@ module _ (count : ℕ) (homes : List ℕ) (events : List Event) (h : List Entry)
       → (i : ℕ) × StandsAt h i x
   stands replies same x reply got =
       let found = order.answered x reply
-      (by_rows (λ k. k.replies) (run_of count homes events).connections x.connection x.place
+      (by_rows (λ k. k.replies) (run_of count homes events).connections x.connection x.ordinal
       ∙ ap (λ rows. under rows x) same ∙ got) in
       (found.0, found.1)
 
   -- two entries of one name are one entry
-  pub one_place : (i j : ℕ) (e f : Entry) → slice_get h i ≡ Some e → slice_get h j ≡ Some f → e.id ≡ f.id → i ≡ j
-  one_place i j e f here there same = order.once i j f.id (record { entry = e; here = here; same = same })
+  pub one_ordinal : (i j : ℕ) (e f : OrderedCall) → slice_get h i ≡ Some e → slice_get h j ≡ Some f → e.id ≡ f.id
+      → i ≡ j
+  one_ordinal i j e f here there same = order.once i j f.id (record { entry = e; here = here; same = same })
       (record { entry = f; here = there; same = refl })

@@ -12,14 +12,14 @@ use Rattle.table.specs.declared.operations.Call.{Call}
 use Rattle.table.specs.declared.operations.Op.TheVariants.{Read, Set, Incr}
 use Rattle.table.specs.declared.operations.Reply.TheVariants.{Number, Value}
 use Rattle.table.specs.declared.operations.Target.TheVariants.{One}
-use Rattle.world.specs.Orders.{Entry, IsLinearization}
+use Rattle.world.specs.Orders.{OrderedCall, IsLinearization}
 use Rattle.world.specs.WorkedSchedules.{said, resent_homes, resent_events, resent_twice}
-use Rattle.world.proofs.examples.WorkedOrders.{under, call_there, one_place}
+use Rattle.world.proofs.examples.WorkedOrders.{under, call_there, one_ordinal}
 use Rattle.world.proofs.examples.WorkedResent.{key, set, incr, get, eight, eight_with, one_put, seven, found_seven}
 use Rattle.world.proofs.examples.WorkedResent.{found_eight, called}
 
 is_incr : (c p : ℕ)
-    → under ((set ∷ incr ∷ get ∷ []) ∷ []) (record { connection = c; place = p }) ≡ Some incr
+    → under ((set ∷ incr ∷ get ∷ []) ∷ []) (record { connection = c; ordinal = p }) ≡ Some incr
     → (c ≡ 0) × (p ≡ 1)
 is_incr zero zero h =
     let e : Set 0 (codes "7") ≡ Incr 1 = ap (λ (call : Call). call.op) (same_Some set incr h) in absurd cc
@@ -30,21 +30,21 @@ is_incr zero (suc (suc (suc p))) h = absurd cc
 is_incr (suc c) p h = absurd cc
 
 -- whatever order the calls stand in, the incr stands at one place
-pub incr_once : (h : List Entry)
+pub incr_once : (h : List OrderedCall)
     → IsLinearization 3 resent_homes resent_events h
-    → (i j : ℕ) (e f : Entry)
+    → (i j : ℕ) (e f : OrderedCall)
     → slice_get h i ≡ Some e
     → slice_get h j ≡ Some f
     → e.call ≡ incr
     → f.call ≡ incr
     → i ≡ j
 incr_once h order i j e f here there first second =
-    let one = is_incr e.id.connection e.id.place
+    let one = is_incr e.id.connection e.id.ordinal
     (call_there 3 resent_homes resent_events h order _ called i e here ∙ ap Some first) in
-    let two = is_incr f.id.connection f.id.place
+    let two = is_incr f.id.connection f.id.ordinal
     (call_there 3 resent_homes resent_events h order _ called j f there ∙ ap Some second) in
-    one_place 3 resent_homes resent_events h order i j e f here there
-    (λ k. record { connection = (one.0 ∙ sym two.0) k; place = (one.1 ∙ sym two.1) k })
+    one_ordinal 3 resent_homes resent_events h order i j e f here there
+    (λ k. record { connection = (one.0 ∙ sym two.0) k; ordinal = (one.1 ∙ sym two.1) k })
 
 -- what follows the first incr, if that found this
 abbrev behind_incr : Option Item → Type 0
@@ -70,5 +70,5 @@ twice_legal = (
 -- but no order of the schedule's calls is this one
 pub twice_is_no_order : IsLinearization 3 resent_homes resent_events resent_twice → ⊥
 twice_is_no_order order =
-    let place : 1 ≡ 3 = incr_once resent_twice order 1 3 _ _ refl refl refl refl in
-    absurd (omega (arith, place))
+    let ordinal : 1 ≡ 3 = incr_once resent_twice order 1 3 _ _ refl refl refl refl in
+    absurd (omega (arith, ordinal))

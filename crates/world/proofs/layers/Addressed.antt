@@ -83,7 +83,7 @@ aimed t i j cause (Forward e) s is n own sound known (to_next, here) =
 aimed t i j cause (Ack m) s is n own sound known (back, acked) =
     let h = previous_of s j back in
     record { to = h.out; goes = (rw is at h.below, λ x a l. h.between x a (omega (arith, is))); fit = tt; entry = tt }
-aimed t i j cause (Query ask key) s is n own sound known (to_tail, apart, low, port, mark, here) =
+aimed t i j cause (Query ask key) s is n own sound known (to_tail, apart, low, port, lower_bound, here) =
     let h = tail_of_is s j to_tail in
     record {
       to = h.out;

@@ -30,12 +30,12 @@ use Rattle.proto.specs.declared.words.Word.{Word}
 use Rattle.proto.specs.declared.words.Word.TheVariants as words
 use Rattle.proto.specs.declared.storage.Verb.{Verb}
 use Rattle.proto.specs.declared.storage.Verb.TheVariants as verbs
-use Rattle.proto.specs.declared.passing.Passing.{Passing}
+use Rattle.proto.specs.declared.skipped_blocks.SkippedBlock.{SkippedBlock}
 use Rattle.proto.specs.declared.front.Found.{Found}
 use Rattle.proto.specs.declared.front.Found.TheVariants.{Request as Requested, Refused, Nothing}
 use Rattle.proto.specs.declared.texts.Form.{Form}
 use Rattle.proto.specs.Turns.{Faulty, Calls}
-use Rattle.proto.specs.Sessions.{Held, Given, by_keys, by_request, by_found, by_passing, by_later, next_of}
+use Rattle.proto.specs.Sessions.{Held, Given, by_keys, by_request, by_found, by_skipped_block, by_later, next_of}
 use Rattle.node.specs.Lawful.{IsCall}
 
 -- ---- what a line asks for
@@ -186,12 +186,13 @@ front_safe bytes = asked_front bytes (asked_at bytes) (end_safe line_limit bytes
 -- what is found at the front, if it is a request, has data within the limit
 abbrev pub IsSafeFound : Found → Type 0
 IsSafeFound (Requested request n) = IsSafeRequest request
-IsSafeFound (Refused passing) = Unit {0}
+IsSafeFound (Refused skipped_block) = Unit {0}
 IsSafeFound Nothing = Unit {0}
 
-found_safe : (o : Option (Request × ℕ)) (refused : Option Passing) → IsSafeFront o → IsSafeFound (found_of o refused)
+found_safe : (o : Option (Request × ℕ)) (refused : Option SkippedBlock) → IsSafeFront o
+    → IsSafeFound (found_of o refused)
 found_safe (Some front) refused h = h
-found_safe None (Some passing) h = tt
+found_safe None (Some skipped_block) h = tt
 found_safe None None h = tt
 
 -- ---- the next turn
@@ -217,16 +218,16 @@ request_fits (Bad fault) h s = tt
 
 found_fits : (found : Found) (h : Held) → IsSafeFound found → HasCall (by_found found h)
 found_fits (Requested request n) h s = request_fits request _ s
-found_fits (Refused passing) h s = tt
+found_fits (Refused skipped_block) h s = tt
 found_fits Nothing h s = tt
 
-passing_fits : (passing : Option Passing) (h : Held) → HasCall (by_passing passing h)
-passing_fits None h =
+skipped_block_fits : (skipped_block : Option SkippedBlock) (h : Held) → HasCall (by_skipped_block skipped_block h)
+skipped_block_fits None h =
     found_fits (found_at h.unread) h (found_safe (front h.unread) (refused_at h.unread) (front_safe h.unread))
-passing_fits (Some p) h = cond_both (p.left == 0) _ _ (λ given. HasCall given) (λ t. tt) (λ f. tt)
+skipped_block_fits (Some p) h = cond_both (p.left == 0) _ _ (λ given. HasCall given) (λ t. tt) (λ f. tt)
 
 later_fits : (keys : List (List ℕ)) (h : Held) → HasCall (by_later keys h)
-later_fits [] h = passing_fits h.passing h
+later_fits [] h = skipped_block_fits h.skipped_block h
 later_fits (key ∷ keys) h = keys_fit (key ∷ keys) h.unique h
 
 turn_fits : (h : Held) → HasCall (next_of h)

@@ -114,7 +114,7 @@ holds-dropped_to es s n h low high = record {
 -- an entry of the store stands at its place in the log
 pub record IsHeld (es : List LogEntry) (floor : ℕ) (e : LogEntry) : Type 0 where
   pub low : 1 ≤ e.number
-  pub place : slice_get es (e.number - 1) ≡ Some e
+  pub ordinal : slice_get es (e.number - 1) ≡ Some e
   pub above : floor < e.number
   pub high : e.number ≤ length es
   pub valid : IsEntry e
@@ -125,11 +125,11 @@ held_entry es s e h i =
     let at : slice_get es (s.floor + i.0) ≡ Some e =
     sym (ap (λ fs. slice_get fs i.0) h.rest ∙ slice_get-drop s.floor es i.0) ∙ i.1 in
     let is = h.numbered (s.floor + i.0) e at in
-    let place : e.number - 1 ≡ s.floor + i.0 = omega (arith, is.0) in
+    let ordinal : e.number - 1 ≡ s.floor + i.0 = omega (arith, is.0) in
     let less = slice_get_within es (s.floor + i.0) e at in
     record {
       low = omega (arith, is.0);
-      place = rw place at;
+      ordinal = rw ordinal at;
       above = omega (arith, is.0);
       high = omega (arith, is.0, less);
       valid = is.1;

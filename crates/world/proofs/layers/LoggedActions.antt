@@ -157,9 +157,9 @@ fit_passed t i cause e f l lt known valid p =
     subst (λ b. Carries t p.from p.message.view b) p.body (heard t i cause p.from p.message known p.came).carries in
     let above = previous_of s p.from p.previous in
     let last = held_last (log t i) s.store (l.holds i lt) in
-    let place : e.number - 1 ≡ length (log t i) = omega (arith, p.next, last) in
+    let ordinal : e.number - 1 ≡ length (log t i) = omega (arith, p.next, last) in
     let id = f.id i lt in
-    fit_appended t i e l lt valid p.next (λ k less o. rw (← place) (
+    fit_appended t i e l lt valid p.next (λ k less o. rw (← ordinal) (
     elim (cases_order k p.from) [
       | inl same ↦ rw same c.1
       | inr other ↦ elim other [
@@ -249,7 +249,7 @@ carried t i cause j (Op id call) f l h m = tt
 carried t i cause j (Forward e) f l h m =
     let lt = (alive t.world i h).within in
     let e = held_entry (log t i) (server t.world i).store e (l.holds i lt) m.1 in
-    (e.low, e.place, λ k less o. l.begins k i less lt o _ _ e.place)
+    (e.low, e.ordinal, λ k less o. l.begins k i less lt o _ _ e.ordinal)
 carried t i cause j (Ack n) f l h m =
     let is : n ≡ (server t.world i).store.acked = m.1 in
     (omega arith, λ k more less o. rw is (l.acks i k more less o))

@@ -9,7 +9,7 @@ use Rattle.node.specs.declared.messages.Peer.{Peer}
 use Rattle.node.specs.declared.messages.Input.{Input}
 use Rattle.node.specs.declared.messages.Input.TheVariants.{Call as Called, From, Gone}
 use Rattle.node.specs.Views.{has, union, single}
-use Rattle.node.specs.Servers.{ServerState, Outcome}
+use Rattle.node.specs.Servers.{ServerState, RuleResult}
 use Rattle.node.specs.Steps.{step}
 use Rattle.node.specs.Lawful.{IsLawful, IsInput, HoldsEntry}
 use Rattle.node.proofs.RuleLaws.{lawful-step}
@@ -55,14 +55,14 @@ fits_known t i (From j m) known = (known.0.fit, known.0.entry)
 fits_known t i (Gone j) known = (tt, tt)
 
 -- the server that took an input is what its step made of it
-pub server-acted : (w : World) (i : ℕ) (a : Outcome) → i < length w.servers → server (acted w i a) i ≡ a.state
+pub server-acted : (w : World) (i : ℕ) (a : RuleResult) → i < length w.servers → server (acted w i a) i ≡ a.state
 server-acted w i a l = server-put_all (with_server w i a.state) i a.outputs i ∙ server_same w i a.state l
 
-server-acted_other : (w : World) (i k : ℕ) (a : Outcome) → k ≢ i → server (acted w i a) k ≡ server w k
+server-acted_other : (w : World) (i k : ℕ) (a : RuleResult) → k ≢ i → server (acted w i a) k ≡ server w k
 server-acted_other w i k a other =
     server-put_all (with_server w i a.state) i a.outputs k ∙ server_apart w i k a.state other
 
-count-acted : (w : World) (i : ℕ) (a : Outcome) → length (acted w i a).servers ≡ length w.servers
+count-acted : (w : World) (i : ℕ) (a : RuleResult) → length (acted w i a).servers ≡ length w.servers
 unfolding with_server
 count-acted w i a = ap (λ (ss : List ServerState). length ss) (servers-put_all (with_server w i a.state) i a.outputs)
     ∙ length-set w.servers i a.state

@@ -13,7 +13,7 @@ use Rattle.world.specs.Worlds.{link}
 use Rattle.world.specs.Calls.{CallId}
 use Rattle.node.proofs.Lists.{In}
 use Rattle.node.specs.Actions.{Cause, left}
-use Rattle.world.proofs.trace.Traces.{AnsweredRead, Traced, issued_by, open_id, open_place, reconnected, unlinked}
+use Rattle.world.proofs.trace.Traces.{AnsweredRead, Traced, issued_by, open_id, open_ordinal, reconnected, unlinked}
 use Rattle.world.proofs.trace.Layers.{Later, Lawful, IsWith, IsKnown}
 use Rattle.world.proofs.layers.Addressed.{addressed_later}
 use Rattle.world.proofs.layers.LoggedLaws.{carries_later}
@@ -64,13 +64,13 @@ begun_apart t i c call g w =
     absurd cc
 
 -- and no other call by its name is with its server, or behind it
-not_over : (k : Connection) (place : ℕ) → k.stage ≡ Begun → place ≡ length k.replies
-    → (place < length k.replies)
-    ⊎ ((place ≡ length k.replies) × ((k.stage ≡ Asked) ⊎ ((reply : Reply) × (k.stage ≡ Replied reply))))
+not_over : (k : Connection) (ordinal : ℕ) → k.stage ≡ Begun → ordinal ≡ length k.replies
+    → (ordinal < length k.replies)
+    ⊎ ((ordinal ≡ length k.replies) × ((k.stage ≡ Asked) ⊎ ((reply : Reply) × (k.stage ≡ Replied reply))))
     → ⊥
-not_over k place e same (inl less) = absurd (omega (arith, same, less))
-not_over k place e same (inr (at, inl asked)) = absurd (let never : Begun ≡ Asked = sym e ∙ asked in cc)
-not_over k place e same (inr (at, inr replied)) =
+not_over k ordinal e same (inl less) = absurd (omega (arith, same, less))
+not_over k ordinal e same (inr (at, inl asked)) = absurd (let never : Begun ≡ Asked = sym e ∙ asked in cc)
+not_over k ordinal e same (inr (at, inr replied)) =
     absurd (let never : Begun ≡ Replied replied.0 = sym e ∙ replied.1 in cc)
 
 asked_there : (t : Traced) (c : ℕ) (g : CanWork t c)
@@ -83,8 +83,8 @@ asked_there t c g =
     ]
 
 open_id_asked : (t : Traced) (c : ℕ) (g : CanWork t c)
-    → open_id (reconnected t c asked).world c ≡ record { connection = c; place = length g.connection.replies }
-open_id_asked t c g = ap (λ o. record { connection = c; place = open_place o }) (asked_there t c g)
+    → open_id (reconnected t c asked).world c ≡ record { connection = c; ordinal = length g.connection.replies }
+open_id_asked t c g = ap (λ o. record { connection = c; ordinal = open_ordinal o }) (asked_there t c g)
 
 with_asked : (t : Traced) (c : ℕ) (g : CanWork t c) → IsWith (reconnected t c asked) g.connection.home c g.call
 with_asked t c g =
@@ -95,27 +95,27 @@ issued_apart : (t : Traced) (c : ℕ) (g : CanWork t c)
     → Lawful t
     → (o k : ℕ) (x : CallId)
     → slice_get (issued_by t o) k ≡ Some x
-    → x ≡ record { connection = c; place = length g.connection.replies }
+    → x ≡ record { connection = c; ordinal = length g.connection.replies }
     → ⊥
 issued_apart t c g l o k x h e =
     let at = l.calling.begun o k x h in
     let same = same_there t.world.connections x.connection c at.1 g.connection (ap (λ (y : CallId). y.connection) e)
     at.4 g.here in
-    not_over at.1 x.place (ap (λ (y : Connection). y.stage) same ∙ g.stage)
-    (ap (λ (y : CallId). y.place) e ∙ ap (λ (y : Connection). length y.replies) (sym same)) at.6
+    not_over at.1 x.ordinal (ap (λ (y : Connection). y.stage) same ∙ g.stage)
+    (ap (λ (y : CallId). y.ordinal) e ∙ ap (λ (y : Connection). length y.replies) (sym same)) at.6
 
 read_apart : (t : Traced) (c : ℕ) (g : CanWork t c)
     → Lawful t
     → (k : ℕ) (r : AnsweredRead)
     → slice_get t.reads k ≡ Some r
-    → r.id ≡ record { connection = c; place = length g.connection.replies }
+    → r.id ≡ record { connection = c; ordinal = length g.connection.replies }
     → ⊥
 read_apart t c g l k r h e =
     let at = l.read.reads k r h in
     let same = same_there t.world.connections r.id.connection c at.connection g.connection
     (ap (λ (y : CallId). y.connection) e) at.here g.here in
-    not_over at.connection r.id.place (ap (λ (y : Connection). y.stage) same ∙ g.stage)
-    (ap (λ (y : CallId). y.place) e ∙ ap (λ (y : Connection). length y.replies) (sym same))
+    not_over at.connection r.id.ordinal (ap (λ (y : Connection). y.stage) same ∙ g.stage)
+    (ap (λ (y : CallId). y.ordinal) e ∙ ap (λ (y : Connection). length y.replies) (sym same))
     (elim at.over [ inl less ↦ inl less | inr over ↦ inr (over.0, inr (over.1, over.2)) ])
 
 -- a call that goes to its server

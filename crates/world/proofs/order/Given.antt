@@ -10,7 +10,7 @@ use Rattle.table.specs.declared.operations.Reply.{Reply}
 use Rattle.node.specs.declared.messages.Input.{Input}
 use Rattle.node.specs.declared.messages.Input.TheVariants.{Call as Called}
 use Rattle.node.specs.declared.messages.Output.TheVariants.{Reply as Answered}
-use Rattle.node.specs.Servers.{ServerState, Outcome}
+use Rattle.node.specs.Servers.{ServerState, RuleResult}
 use Rattle.node.specs.Numbering.{is_room_for_update}
 use Rattle.node.specs.Steps.{step}
 use Rattle.node.proofs.Lists.{In}
@@ -36,15 +36,15 @@ use Rattle.world.proofs.waiting.StageEvents.{fits_update}
 use Rattle.world.proofs.order.Spent.{IsFull, full_later}
 use Rattle.world.proofs.order.WithServers.{WasAsked, IsNew, stood, asked_way}
 
--- the call of this place of a connection
-abbrev pub at_place : ℕ → ℕ → CallId
-at_place c n = record { connection = c; place = n }
+-- the call of this ordinal of a connection
+abbrev pub at_ordinal : ℕ → ℕ → CallId
+at_ordinal c n = record { connection = c; ordinal = n }
 
 -- ---- what holds behind each event
 
 -- the open call of this connection was issued by its server, or that has no room
 abbrev pub IsIssuedOrFull : Traced → ℕ → Connection → Type 0
-IsIssuedOrFull t c k = In (at_place c (length k.replies)) (issued_by t k.home) ⊎ IsFull t k.home
+IsIssuedOrFull t c k = In (at_ordinal c (length k.replies)) (issued_by t k.home) ⊎ IsFull t k.home
 
 -- so is each update that is with its server
 abbrev pub AllIssued : Traced → Type 0
@@ -55,7 +55,7 @@ same_open : (k l : Connection) → k.calls ≡ l.calls → k.replies ≡ l.repli
 same_open k l calls replies = λ i. slice_get (calls i) (length (replies i))
 
 -- who has a reply that fits isn't with its server any more
-not_asked : (v : World) (a : ℕ) (o : Outcome) (c : ℕ) (k : Connection)
+not_asked : (v : World) (a : ℕ) (o : RuleResult) (c : ℕ) (k : Connection)
     → slice_get v.connections c ≡ Some k
     → Fits c k o.outputs
     → (k' : Connection)
@@ -80,8 +80,8 @@ module _ (t u : Traced) (f : Follows t u) where
           | inl n ↦ inl (
             n.0,
             ap (λ h. slice_get (issued_by u h) n.0) was.home
-                ∙ f.later.issued old.home n.0 (at_place c (length old.replies)) n.1
-                ∙ ap (λ (rs : List Reply). Some (at_place c (length rs))) (sym was.replies),
+                ∙ f.later.issued old.home n.0 (at_ordinal c (length old.replies)) n.1
+                ∙ ap (λ (rs : List Reply). Some (at_ordinal c (length rs))) (sym was.replies),
           )
           | inr full ↦ inr
               (subst (λ h. IsFull u h) (sym was.home) (full_later t u old.home f.before f.after f.later full))
@@ -94,7 +94,7 @@ module _ (t u : Traced) (f : Follows t u) where
       → k.stage ≡ Asked
       → is_update new.working.call.op ≡ true
       → is_room_for_update (server t.world new.working.connection.home) ≡ true
-      → In (at_place c (length k.replies)) (issued_by u k.home)
+      → In (at_ordinal c (length k.replies)) (issued_by u k.home)
   entered c k new here stage is room =
       let r = new.working in
       let a = r.connection.home in
@@ -164,7 +164,7 @@ issued_first n homes c k here stage =
 pub record IsGivenAt (w : World) (x : CallId) : Type 0 where
   pub connection : Connection
   pub here : slice_get w.connections x.connection ≡ Some connection
-  pub low : x.place < length connection.replies + given_calls connection.stage
+  pub low : x.ordinal < length connection.replies + given_calls connection.stage
 
 -- where the test says so
 pub given_at : (w : World) (x : CallId) → is_given w x ≡ true → IsGivenAt w x
@@ -172,15 +172,15 @@ given_at w x h = by_connection (slice_get w.connections x.connection) refl h
   where
     by_connection : (o : Option Connection)
         → slice_get w.connections x.connection ≡ o
-        → is_given_by o x.place ≡ true
+        → is_given_by o x.ordinal ≡ true
         → IsGivenAt w x
     by_connection None e g = absurd cc
     by_connection (Some k) e g = record { connection = k; here = e; low = ltb-true _ _ g }
 
-below_given : (place : ℕ) (k : Connection) → IsOut place k → place < length k.replies + given_calls k.stage
-below_given place k (inl less) = omega (arith, less)
-below_given place k (inr (same, inl is)) = omega (arith, same, ap given_calls is)
-below_given place k (inr (same, inr waits)) = omega (arith, same, ap given_calls waits.1)
+below_given : (ordinal : ℕ) (k : Connection) → IsOut ordinal k → ordinal < length k.replies + given_calls k.stage
+below_given ordinal k (inl less) = omega (arith, less)
+below_given ordinal k (inr (same, inl is)) = omega (arith, same, ap given_calls is)
+below_given ordinal k (inr (same, inr waits)) = omega (arith, same, ap given_calls waits.1)
 
 -- an issued update was given to its server
 pub issued_is_given : (t : Traced)
@@ -190,8 +190,8 @@ pub issued_is_given : (t : Traced)
     → is_given t.world x ≡ true
 issued_is_given t l o n x h =
     let b = l.calling.begun o n x h in
-    ap (λ p. is_given_by p x.place) b.4
-    ∙ lt-ltb x.place (length b.1.replies + given_calls b.1.stage) (below_given x.place b.1 b.6)
+    ap (λ p. is_given_by p x.ordinal) b.4
+    ∙ lt-ltb x.ordinal (length b.1.replies + given_calls b.1.stage) (below_given x.ordinal b.1 b.6)
 
 -- and an update that was given to its server is issued, or the server had no room
 module _ (t : Traced) (l : Lawful t) (issued : AllIssued t) (x : CallId)
@@ -212,31 +212,31 @@ module _ (t : Traced) (l : Lawful t) (issued : AllIssued t) (x : CallId)
   by_stage : (k : Connection) (stage : Stage)
       → slice_get t.world.connections x.connection ≡ Some k
       → k.stage ≡ stage
-      → length k.replies ≤ x.place
-      → x.place < length k.replies + given_calls stage
+      → length k.replies ≤ x.ordinal
+      → x.ordinal < length k.replies + given_calls stage
       → In x (issued_by t k.home) ⊎ IsFull t k.home
   by_stage k Idle here e high low = absurd (omega (arith, high, low))
   by_stage k Begun here e high low = absurd (omega (arith, high, low))
   by_stage k Asked here e high low =
-      let same : x.place ≡ length k.replies = omega (arith, high, low) in
+      let same : x.ordinal ≡ length k.replies = omega (arith, high, low) in
       let i = issued x.connection k here e in
       let begun : begun_call t.world x ≡ Some i.0 =
       call_found t.world x k i.0 here (ap (slice_get k.calls) same ∙ i.1) in
       elim (i.2 (update i.0 begun)) [
-        | inl there ↦ inl (there.0, there.1 ∙ ap (λ n. Some (at_place x.connection n)) (sym same))
+        | inl there ↦ inl (there.0, there.1 ∙ ap (λ n. Some (at_ordinal x.connection n)) (sym same))
         | inr full ↦ inr full
       ]
   by_stage k (Replied reply) here e high low =
-      let same : x.place ≡ length k.replies = omega (arith, high, low) in
+      let same : x.ordinal ≡ length k.replies = omega (arith, high, low) in
       let answer = l.calling.waiting x.connection k reply here e in
-      inl (answered_issued k reply here (subst (λ n. IsAnswer t (at_place x.connection n) reply) (sym same) answer))
+      inl (answered_issued k reply here (subst (λ n. IsAnswer t (at_ordinal x.connection n) reply) (sym same) answer))
 
   -- an update that was given to its server was issued by it, unless it had no id or number left
   pub given_is_issued : (g : IsGivenAt t.world x)
       → In x (issued_by t g.connection.home) ⊎ IsFull t g.connection.home
-  given_is_issued g = elim (cases_lt x.place (length g.connection.replies)) [
+  given_is_issued g = elim (cases_lt x.ordinal (length g.connection.replies)) [
     | inl answered ↦
-        let reply = found_below g.connection.replies x.place answered in
+        let reply = found_below g.connection.replies x.ordinal answered in
         inl (answered_issued g.connection reply.0 g.here
         (l.calling.handed x reply.0 (reply_found t.world x g.connection reply.0 g.here reply.1)))
     | inr high ↦ by_stage g.connection g.connection.stage g.here refl high g.low

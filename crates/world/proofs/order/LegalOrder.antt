@@ -10,13 +10,13 @@ use Rattle.table.specs.declared.operations.Reply.{Reply}
 use Rattle.table.specs.declared.operations.Reply.TheVariants.{Value}
 use Rattle.versions.specs.Entries.{LogEntry}
 use Rattle.world.specs.Calls.{CallId}
-use Rattle.world.specs.Orders.{Entry}
+use Rattle.world.specs.Orders.{OrderedCall}
 use Rattle.world.proofs.trace.Traces.{AnsweredRead}
 use Rattle.world.proofs.order.Placing.{Placed, of_update, of_read, reads_at, placed}
 
 -- what a list of the order says: calls with their replies
 abbrev pub said : List Placed → List (Call × Reply)
-said ps = map (λ (e : Entry). (e.call, e.reply)) (map (λ (p : Placed). p.entry) ps)
+said ps = map (λ (e : OrderedCall). (e.call, e.reply)) (map (λ (p : Placed). p.entry) ps)
 
 module _ (name : LogEntry → CallId) (asked : CallId → Call) (table : ℕ → PlainTable) where
   -- the k-th update makes of the k-th table the next one

@@ -17,7 +17,7 @@ use Rattle.table.specs.declared.operations.Target.TheVariants.{One, All}
 use Rattle.versions.specs.Entries.{LogEntry}
 use Rattle.versions.specs.Stores.{items_after}
 use Rattle.world.specs.Calls.{CallId, begun_call}
-use Rattle.world.specs.Orders.{Entry, StandsAt}
+use Rattle.world.specs.Orders.{OrderedCall, StandsAt}
 use Rattle.node.proofs.Lists.{In}
 use Rattle.world.proofs.trace.Traces.{Traced, AnsweredRead, issued_by}
 use Rattle.world.proofs.trace.Layers.{entries_of, IsNamed, IsDecided, Lawful}
@@ -81,7 +81,7 @@ more_of (x ∷ es) (suc j) (suc k) e l h =
 -- ---- the order
 
 no_name : CallId
-no_name = record { connection = 0; place = 0 }
+no_name = record { connection = 0; ordinal = 0 }
 
 no_call : Call
 no_call = record { target = All; op = ReadOp }
@@ -113,7 +113,7 @@ abbrev pub ranked : Traced → List Placed
 ranked t = placed (name_of t) (asked_of t) t.reads 0 t.committed
 
 -- the order of the calls of a traced world
-abbrev pub order_of : Traced → List Entry
+abbrev pub order_of : Traced → List OrderedCall
 order_of t = map (λ (p : Placed). p.entry) (ranked t)
 
 -- ---- the tables along the order
@@ -229,4 +229,4 @@ pub record Stands (t : Traced) (i : ℕ) (x : CallId) : Type 0 where
 pub stands : (t : Traced) (i : ℕ) (x : CallId) → StandsAt (order_of t) i x → Stands t i x
 stands t i x s =
     let p = mapped_get (λ (p : Placed). p.entry) (ranked t) i s.entry s.here in
-    record { rank = p.0; here = p.1; same = ap (λ (e : Entry). e.id) p.2 ∙ s.same }
+    record { rank = p.0; here = p.1; same = ap (λ (e : OrderedCall). e.id) p.2 ∙ s.same }

@@ -9,11 +9,11 @@ use Rattle.versions.specs.Entries.{LogEntry}
 use Rattle.world.specs.declared.events.Event.{Event}
 use Rattle.world.specs.Worlds.{World, run_of}
 use Rattle.world.specs.Calls.{CallId, begun_call, reply_to, IsUpdate, is_given}
-use Rattle.world.specs.Orders.{Entry, StandsAt, IsLinearization, Precedes, GivenBefore}
+use Rattle.world.specs.Orders.{OrderedCall, StandsAt, IsLinearization, Precedes, GivenBefore}
 use Rattle.world.proofs.lists.Standing.{some_of}
 use Rattle.world.proofs.trace.Traces.{Traced, AnsweredRead, issued_by}
 use Rattle.world.proofs.trace.Layers.{entries_of, IsNamed, IsAnswer, Later, Newer, Lawful}
-use Rattle.world.proofs.order.Placing.{Placed, IsBefore, of_update, of_read, sorted_places, before_places}
+use Rattle.world.proofs.order.Placing.{Placed, IsBefore, of_update, of_read, sorted_ordinals, before_ordinals}
 use Rattle.world.proofs.order.Placing.{never_before_itself}
 use Rattle.world.proofs.order.Placings.{sorted, update_found, read_placed}
 use Rattle.world.proofs.order.LegalOrder.{legal}
@@ -130,17 +130,17 @@ once t l i j x a b =
       | inr other ↦ elim other [
         | inl less ↦ absurd
             (never_before_itself q.rank
-            (rw one at (sorted_places (ranked t) i j p.rank q.rank (sorted_order t) less p.here q.here)))
+            (rw one at (sorted_ordinals (ranked t) i j p.rank q.rank (sorted_order t) less p.here q.here)))
         | inr greater ↦ absurd
             (never_before_itself q.rank
-            (rw one at (sorted_places (ranked t) j i q.rank p.rank (sorted_order t) greater q.here p.here)))
+            (rw one at (sorted_ordinals (ranked t) j i q.rank p.rank (sorted_order t) greater q.here p.here)))
       ]
     ]
 
 -- each entry is a begun call
 begun : (t : Traced)
     → Lawful t
-    → (i : ℕ) (e : Entry)
+    → (i : ℕ) (e : OrderedCall)
     → slice_get (order_of t) i ≡ Some e
     → begun_call t.world e.id ≡ Some e.call
 begun t l i e h =
@@ -159,18 +159,18 @@ begun t l i e h =
 
 -- an answer's place in the order
 record Answered (t : Traced) (x : CallId) (reply : Reply) (p : Placed) : Type 0 where
-  place : ℕ
-  here : slice_get (ranked t) place ≡ Some p
+  ordinal : ℕ
+  here : slice_get (ranked t) ordinal ≡ Some p
   same : p.entry.id ≡ x
   replied : p.entry.reply ≡ reply
 
 stands_there : (t : Traced) (x : CallId) (reply : Reply) (p : Placed) (a : Answered t x reply p)
     → (i : ℕ) × (at : StandsAt (order_of t) i x) × (at.entry.reply ≡ reply)
 stands_there t x reply p a = (
-  a.place,
+  a.ordinal,
   record {
     entry = p.entry;
-    here = get_mapped (λ (p : Placed). p.entry) (ranked t) a.place p a.here;
+    here = get_mapped (λ (p : Placed). p.entry) (ranked t) a.ordinal p a.here;
     same = a.same;
   },
   a.replied,
@@ -188,7 +188,7 @@ answer_stands : (t : Traced)
 answer_stands t l x reply (inl u) =
     let p = update_found (name_of t) (asked_of t) t.reads 0 t.committed u.0 u.1 u.2 in
     record {
-      place = p.0;
+      ordinal = p.0;
       here = p.1 ∙ ap (λ k. Some (of_update (name_of t) (asked_of t) k u.1)) (front u.0);
       same = named_is t u.1 x u.3;
       replied = u.4;
@@ -197,7 +197,7 @@ answer_stands t l x reply (inr r) =
     let f = l.read.reads r.0 r.1 r.2 in
     let p = read_placed (name_of t) (asked_of t) t.reads 0 t.committed r.0 r.1 r.2 (omega arith)
     (omega (arith, f.number)) in
-    record { place = p.0; here = p.1; same = r.3; replied = r.4 }
+    record { ordinal = p.0; here = p.1; same = r.3; replied = r.4 }
 
 answered : (t : Traced)
     → Lawful t
@@ -346,13 +346,13 @@ in_time count homes events t l moment x y j before at_j =
     let early = answer_early m.past t m.lawful m.later x reply.0 a in
     let after = late m.past t m.lawful m.later m.newer y (rw (← m.same) at before.not_begun) q.rank
     (comes_from t q.rank (j, q.here)) q.same in
-    let earlier = before_places (ranked t) p.place j (rank_of t x reply.0 b) q.rank (sorted_order t)
+    let earlier = before_ordinals (ranked t) p.ordinal j (rank_of t x reply.0 b) q.rank (sorted_order t)
     (early_late m.past (rank_of t x reply.0 b) q.rank early after) p.here q.here in (
-      p.place,
+      p.ordinal,
       earlier,
       record {
         entry = (rank_of t x reply.0 b).entry;
-        here = get_mapped (λ (p : Placed). p.entry) (ranked t) p.place (rank_of t x reply.0 b) p.here;
+        here = get_mapped (λ (p : Placed). p.entry) (ranked t) p.ordinal (rank_of t x reply.0 b) p.here;
         same = p.same;
       },
     )
@@ -361,13 +361,13 @@ in_time count homes events t l moment x y j before at_j =
 
 -- an update that stands in the order is a committed entry
 record IsUpdateThere (t : Traced) (j : ℕ) (y : CallId) : Type 0 where
-  place : ℕ
+  ordinal : ℕ
   entry : LogEntry
-  here : slice_get t.committed place ≡ Some entry
+  here : slice_get t.committed ordinal ≡ Some entry
   named : IsNamed t entry y
   rank : Placed
   there : slice_get (ranked t) j ≡ Some rank
-  number : rank.number ≡ suc place
+  number : rank.number ≡ suc ordinal
 
 update_there : (t : Traced)
     → Lawful t
@@ -379,7 +379,7 @@ update_there t l y j update s =
     let q = stands t j y s in
     elim (comes_from t q.rank (j, q.here)) [
       | inl u ↦ record {
-        place = u.0;
+        ordinal = u.0;
         entry = u.1;
         here = u.2.0;
         named = subst (λ n. IsNamed t u.1 n) (sym (id_of u.2.1) ∙ q.same) (is_named t l u.0 u.1 u.2.0);
@@ -399,7 +399,7 @@ update_there t l y j update s =
 earlier_entry : (t : Traced) (x : CallId) (i : ℕ) (e : LogEntry) (j : ℕ) (y : CallId) (u : IsUpdateThere t j y)
     → slice_get t.committed i ≡ Some e
     → IsNamed t e x
-    → i < u.place
+    → i < u.ordinal
     → (k : ℕ) × (k < j) × StandsAt (order_of t) k x
 earlier_entry t x i e j y u here named less =
     let p = update_found (name_of t) (asked_of t) t.reads 0 t.committed i e here in
@@ -408,7 +408,7 @@ earlier_entry t x i e j y u here named less =
     p.1 ∙ ap (λ k. Some (of_update (name_of t) (asked_of t) k e)) (front i) in
     let less_number : suc i < u.rank.number = omega (arith, less, u.number) in (
       p.0,
-      before_places (ranked t) p.0 j rank u.rank (sorted_order t) (inl less_number) there u.there,
+      before_ordinals (ranked t) p.0 j rank u.rank (sorted_order t) (inl less_number) there u.there,
       record {
         entry = rank.entry;
         here = get_mapped (λ (p : Placed). p.entry) (ranked t) p.0 rank there;
@@ -424,13 +424,13 @@ earlier_id : (t : Traced)
     → n < u.entry.id - 1
     → (i : ℕ) × (i < j) × StandsAt (order_of t) i x
 earlier_id t l x y j n u here less =
-    let id = id_committed t l u.place u.entry u.here in
-    let e = entry_below u.entry.origin n t.committed u.place (id_committed t l)
-    (omega (arith, slice_get_within t.committed u.place u.entry u.here)) (omega (arith, less, id)) in
-    let place : e.1.id - 1 ≡ n = omega (arith, e.5) in
+    let id = id_committed t l u.ordinal u.entry u.here in
+    let e = entry_below u.entry.origin n t.committed u.ordinal (id_committed t l)
+    (omega (arith, slice_get_within t.committed u.ordinal u.entry u.here)) (omega (arith, less, id)) in
+    let ordinal : e.1.id - 1 ≡ n = omega (arith, e.5) in
     let named : IsNamed t e.1 x = (
       omega (arith, e.5),
-      ap (λ o. slice_get (issued_by t o) (e.1.id - 1)) e.4 ∙ ap (slice_get (issued_by t u.entry.origin)) place ∙ here,
+      ap (λ o. slice_get (issued_by t o) (e.1.id - 1)) e.4 ∙ ap (slice_get (issued_by t u.entry.origin)) ordinal ∙ here,
     ) in
     earlier_entry t x e.0 e.1 j y u e.3 named e.2
 

@@ -5,7 +5,7 @@ use Rattle.std.proofs.lemmas.Bool.{cases_lt}
 use Rattle.std.proofs.lemmas.List.{take_all}
 use Rattle.world.specs.declared.events.Event.{Event}
 use Rattle.world.specs.Worlds.{run_of}
-use Rattle.world.specs.Orders.{Entry, IsLinearization}
+use Rattle.world.specs.Orders.{OrderedCall, IsLinearization}
 use Rattle.world.proofs.trace.Traces.{Traced, outset}
 use Rattle.world.proofs.trace.Outsets.{count_outset, server_outset, log_outset, link_outset, nothing_in}
 use Rattle.world.proofs.lists.Fronts.{found_below}
@@ -107,7 +107,7 @@ module _ (n : ℕ) (homes : List ℕ) (events : List Event) (few : n ≤ 16) whe
   ]
 
   -- the order of the last world is a linearization of the schedule
-  pub one_order : (h : List Entry) × IsLinearization n homes events h
+  pub one_order : (h : List OrderedCall) × IsLinearization n homes events h
   one_order = (
     order_of last,
     linearization n homes events last last_world (all.lawful (length events)) (homes_there (length events)) moment,

@@ -8,15 +8,15 @@ use Rattle.table.specs.declared.operations.Call.{Call}
 use Rattle.table.specs.declared.operations.Reply.TheVariants.{Value}
 use Rattle.versions.specs.Entries.{LogEntry}
 use Rattle.world.specs.Calls.{CallId}
-use Rattle.world.specs.Orders.{Entry}
+use Rattle.world.specs.Orders.{OrderedCall}
 use Rattle.node.proofs.Lists.{In, in_joined}
 use Rattle.world.proofs.trace.Traces.{AnsweredRead}
 
--- An entry of the order with its rank: a number, and a turn among those of this number.
+-- A call of the order with its rank: a number, and a turn among those of this number.
 pub record Placed : Type 0 where
   pub number : ℕ
   pub turn : ℕ
-  pub entry : Entry
+  pub entry : OrderedCall
 
 -- one stands before the other
 abbrev pub IsBefore : Placed → Placed → Type 0
@@ -81,17 +81,17 @@ sorted_joined (p ∷ ps) qs s t f = (
 )
 
 -- what stands earlier comes before
-pub sorted_places : (ps : List Placed) (i j : ℕ) (p q : Placed)
+pub sorted_ordinals : (ps : List Placed) (i j : ℕ) (p q : Placed)
     → Sorted ps
     → i < j
     → slice_get ps i ≡ Some p
     → slice_get ps j ≡ Some q
     → IsBefore p q
-sorted_places [] i j p q s l h g = absurd cc
-sorted_places (x ∷ ps) zero zero p q s l h g = absurd (omega arith)
-sorted_places (x ∷ ps) zero (suc j) p q s l h g = rw (same_Some x p h) at (each_below x ps q s.0 (j, g))
-sorted_places (x ∷ ps) (suc i) zero p q s l h g = absurd (omega arith)
-sorted_places (x ∷ ps) (suc i) (suc j) p q s l h g = sorted_places ps i j p q s.1 (omega arith) h g
+sorted_ordinals [] i j p q s l h g = absurd cc
+sorted_ordinals (x ∷ ps) zero zero p q s l h g = absurd (omega arith)
+sorted_ordinals (x ∷ ps) zero (suc j) p q s l h g = rw (same_Some x p h) at (each_below x ps q s.0 (j, g))
+sorted_ordinals (x ∷ ps) (suc i) zero p q s l h g = absurd (omega arith)
+sorted_ordinals (x ∷ ps) (suc i) (suc j) p q s l h g = sorted_ordinals ps i j p q s.1 (omega arith) h g
 
 -- none comes before itself
 pub never_before_itself : (p : Placed) → IsBefore p p → ⊥
@@ -105,16 +105,16 @@ never_both p q h g = elim h [
 ]
 
 -- what comes before stands earlier
-pub before_places : (ps : List Placed) (i j : ℕ) (p q : Placed)
+pub before_ordinals : (ps : List Placed) (i j : ℕ) (p q : Placed)
     → Sorted ps
     → IsBefore p q
     → slice_get ps i ≡ Some p
     → slice_get ps j ≡ Some q
     → i < j
-before_places ps i j p q s b h g = elim (cases_order i j) [
+before_ordinals ps i j p q s b h g = elim (cases_order i j) [
   | inl same ↦ absurd (never_before_itself q (rw (same_Some p q (sym h ∙ rw (← same) at g)) at b))
   | inr other ↦ elim other [
     | inl less ↦ less
-    | inr greater ↦ absurd (never_both p q b (sorted_places ps j i q p s greater g h))
+    | inr greater ↦ absurd (never_both p q b (sorted_ordinals ps j i q p s greater g h))
   ]
 ]

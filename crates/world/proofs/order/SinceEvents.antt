@@ -9,7 +9,7 @@ use Rattle.world.specs.declared.connections.Stage.TheVariants.{Idle, Begun, Aske
 use Rattle.world.specs.Connections.{Connection, came, begun, asked, handed}
 use Rattle.world.specs.Worlds.{World, server, link, with_link, with_connection, lives, where_home_lives}
 use Rattle.world.specs.Calls.{CallId, begun_call}
-use Rattle.world.proofs.trace.Traces.{Traced, log, open_id, open_place, reconnected, unlinked, failing}
+use Rattle.world.proofs.trace.Traces.{Traced, log, open_id, open_ordinal, reconnected, unlinked, failing}
 use Rattle.world.proofs.trace.ChangeLaws.{connection_reconnected, link_unlinked, log_unlinked, server_unlinked}
 use Rattle.world.proofs.trace.Layers.{Later, Lawful}
 use Rattle.world.proofs.trace.Moves.{Move, Does, Comes, Starts, Works, Hands, Takes, Fails, moved, IsMove}
@@ -34,8 +34,8 @@ name_kept t c d change k h stage keeps =
           ∙ keeps k stage
       | inr g ↦ ap (λ (k : Connection). k.replies) g.1
     ] in
-    ap (λ n. record { connection = d; place = n })
-    (ap open_place r.1 ∙ ap (λ (rs : List Reply). length rs) same ∙ sym (ap open_place h))
+    ap (λ n. record { connection = d; ordinal = n })
+    (ap open_ordinal r.1 ∙ ap (λ (rs : List Reply). length rs) same ∙ sym (ap open_ordinal h))
 
 since_reconnected : (z t : Traced) (c : ℕ) (change : Connection → Connection)
     → Lawful t

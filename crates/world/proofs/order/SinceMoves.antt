@@ -79,8 +79,8 @@ appended_since t u i cause e later s g = elim g.guard.1 [
         → ((x : CallId) × IsNamed t e x) ⊎ (length t.committed ≤ length (log u i))
     forwarded j m body k number =
         let c : Rattle.world.proofs.trace.Layers.Carries u j m.view (Forward e) = rw body at k.1 in
-        let place : e.number - 1 ≡ length (log u i) = omega (arith, number) in
-        rw place at (s.entries j (e.number - 1) e k.0.sender c.1)
+        let ordinal : e.number - 1 ≡ length (log u i) = omega (arith, number) in
+        rw ordinal at (s.entries j (e.number - 1) e k.0.sender c.1)
 
 -- ---- an action
 
@@ -203,15 +203,16 @@ asks_done t u i cause a later s g x r lt h =
     ])
 
 -- an open read's number was given
-ask_given : (above mark : ℕ) (rs : List OpenRead) (next_ask acked : ℕ) (r : OpenRead)
-    → AreReads above mark rs next_ask acked
+ask_given : (above lower_bound : ℕ) (rs : List OpenRead) (next_ask acked : ℕ) (r : OpenRead)
+    → AreReads above lower_bound rs next_ask acked
     → In r rs
     → r.ask < next_ask
-ask_given above mark [] next_ask acked r h at_r = absurd cc
-ask_given above mark (q ∷ rs) next_ask acked r h (zero, e) = let b =
-    reads_bound q.ask q.mark rs next_ask acked h.2 in let same =
+ask_given above lower_bound [] next_ask acked r h at_r = absurd cc
+ask_given above lower_bound (q ∷ rs) next_ask acked r h (zero, e) = let b =
+    reads_bound q.ask q.lower_bound rs next_ask acked h.2 in let same =
     ap (λ (x : OpenRead). x.ask) (same_Some q r e) in omega (arith, b.0, same)
-ask_given above mark (q ∷ rs) next_ask acked r h (suc k, e) = ask_given q.ask q.mark rs next_ask acked r h.2 (k, e)
+ask_given above lower_bound (q ∷ rs) next_ask acked r h (suc k, e) =
+    ask_given q.ask q.lower_bound rs next_ask acked r h.2 (k, e)
 
 sends_since : (t u : Traced) (i : ℕ) (cause : Cause) (y : ℕ) (b : Body)
     → Later t u

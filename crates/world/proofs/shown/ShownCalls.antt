@@ -78,10 +78,10 @@ replies_among (k ∷ ks) (suc c) p few = replies_among ks c p (λ d. few (suc d)
 -- each begun call is shown, as it was begun
 pub calls_are_shown : (count : ℕ) (homes : List ℕ) (events : List Event) (x : CallId)
     → call_shown (transcript_of (run_of count homes events)) x ≡ begun_call (run_of count homes events) x
-calls_are_shown count homes events x = calls_among (run_of count homes events).connections x.connection x.place
+calls_are_shown count homes events x = calls_among (run_of count homes events).connections x.connection x.ordinal
 
 -- so is the reply that it got
 pub replies_are_shown : (count : ℕ) (homes : List ℕ) (events : List Event) (x : CallId)
     → reply_shown (transcript_of (run_of count homes events)) x ≡ reply_to (run_of count homes events) x
-replies_are_shown count homes events x = replies_among (run_of count homes events).connections x.connection x.place
+replies_are_shown count homes events x = replies_among (run_of count homes events).connections x.connection x.ordinal
     (λ c k here. omega (arith, in_step count homes events c k here))

@@ -18,7 +18,7 @@ use Rattle.world.specs.Calls.{CallId, IsBegun, IsAnswered, has_living_home}
 use Rattle.world.specs.Forgotten.{NoneForgotten}
 use Rattle.world.specs.Transcripts.{ConnectionShown, TranscriptShown, calls_shown, connection_shown, transcript_of}
 use Rattle.world.specs.Shown.{calls_in, replies_in}
-use Rattle.world.specs.Sent.{course_of, sent_bytes, calls_of}
+use Rattle.world.specs.Sent.{position_of, sent_bytes, calls_of}
 use Rattle.world.specs.Progress.{past}
 use Rattle.world.specs.Scenes.{is_count}
 use Rattle.world.proofs.lists.Standing.{get_within, some_of}
@@ -124,18 +124,18 @@ module _ (count : ℕ) (homes : List ℕ) (events : List Event) (t : TranscriptS
       let shown = ap (λ (k : ConnectionShown). slice_get k.calls p) s.same ∙ there in
       has_reply s.connection.calls s.connection.replies p call shown
 
-  -- it has been sent the texts of the turns up to its place
+  -- it has been sent the texts of the turns up to its ordinal
   pub sent_shown : Each count homes events
-      (λ c k. k.session.out ≡ sent_bytes (course_of count homes events c) k.replies)
-      → EachShown t (λ c k. k.sent ≡ sent_bytes (course_of count homes events c) (replies_in k.calls))
+      (λ c k. k.session.out ≡ sent_bytes (position_of count homes events c) k.replies)
+      → EachShown t (λ c k. k.sent ≡ sent_bytes (position_of count homes events c) (replies_in k.calls))
   sent_shown law c k here =
       let s = of c k here in
       ap (λ (k : ConnectionShown). k.sent) (sym s.same) ∙ law c s.connection s.here
-      ∙ ap (sent_bytes (course_of count homes events c)) (sym (replies_of_shown c k s))
+      ∙ ap (sent_bytes (position_of count homes events c)) (sym (replies_of_shown c k s))
 
   -- its calls are the first of its stream
   abbrev stream_calls : ℕ → List Call
-  stream_calls c = calls_of (turns (course_of count homes events c).stream)
+  stream_calls c = calls_of (turns (position_of count homes events c).stream)
 
   -- if each connection's begun calls are the first of its stream, so are those that are shown
   pub begun_shown : Each count homes events (λ c k. k.calls ≡ take (length k.calls) (stream_calls c))
@@ -145,9 +145,9 @@ module _ (count : ℕ) (homes : List ℕ) (events : List Event) (t : TranscriptS
       calls_of_shown c k s ∙ law c s.connection s.here
       ∙ ap (λ n. take n (stream_calls c)) (sym (length_of_shown c k s))
 
-  -- those up to its place have replies
+  -- those up to its ordinal have replies
   abbrev answered_calls : ℕ → ℕ
-  answered_calls c = length (calls_of (past (course_of count homes events c)))
+  answered_calls c = length (calls_of (past (position_of count homes events c)))
 
   -- if each connection has as many replies as calls were answered, so many are shown
   pub answered_shown : Each count homes events (λ c k. length k.replies ≡ answered_calls c)
@@ -174,7 +174,7 @@ module _ (count : ℕ) (homes : List ℕ) (events : List Event) (t : TranscriptS
   begun_there : (c p : ℕ) (k : ConnectionShown) (call : CallTranscript)
       → slice_get k.calls p ≡ Some call
       → Of c k
-      → IsBegun (run_of count homes events) (record { connection = c; place = p })
+      → IsBegun (run_of count homes events) (record { connection = c; ordinal = p })
   begun_there c p k call there s =
       let within = slice_get_within k.calls p call there in
       rw s.here (get_within s.connection.calls p (omega (arith, length_of_shown c k s, within)))
@@ -182,14 +182,14 @@ module _ (count : ℕ) (homes : List ℕ) (events : List Event) (t : TranscriptS
   home_there : (c p : ℕ) (k : ConnectionShown)
       → Of c k
       → lives (run_of count homes events) k.home ≡ true
-      → has_living_home (run_of count homes events) (record { connection = c; place = p }) ≡ true
+      → has_living_home (run_of count homes events) (record { connection = c; ordinal = p }) ≡ true
   home_there c p k s alive =
       rw s.here (ap (λ (k : ConnectionShown). lives (run_of count homes events) k.home) s.same ∙ alive)
 
   answered_there : (c p : ℕ) (k : ConnectionShown) (call : CallTranscript)
       → slice_get k.calls p ≡ Some call
       → Of c k
-      → IsAnswered (run_of count homes events) (record { connection = c; place = p })
+      → IsAnswered (run_of count homes events) (record { connection = c; ordinal = p })
       → IsSome call.reply
   answered_there c p k call there s answered =
       let reply = some_of (slice_get s.connection.replies p) (rw s.here at answered) in
@@ -205,7 +205,7 @@ module _ (count : ℕ) (homes : List ℕ) (events : List Event) (t : TranscriptS
       → IsSome call.reply)
   none_forgotten_shown law quiet c k here alive p call there =
       let s = of c k here in
-      let x : CallId = record { connection = c; place = p } in
+      let x : CallId = record { connection = c; ordinal = p } in
       let quiet = ap (λ (t : TranscriptShown). t.quiet) (sym is) ∙ quiet in
       answered_there c p k call there s (law quiet x (begun_there c p k call there s) (home_there c p k s alive))
 

@@ -124,12 +124,13 @@ in_sent y m (Replied c reply ∷ os) (suc k) h = in_sent y m os k h
 -- there is a link from i to j
 pub record HasLink (w : World) (i j : ℕ) : Type 0 where
   pub row : i < length w.links
-  pub place : j < length (get_or w.links i [])
+  pub ordinal : j < length (get_or w.links i [])
 
 -- a link that is there holds the messages that are put on it
 pub same_link : (w : World) (i j : ℕ) (ms : List Peer) → HasLink w i j → link (with_link w i j ms) i j ≡ ms
 unfolding link with_link
-same_link w i j ms h = rw (get_or-set_same w.links i _ [] h.row) (get_or-set_same (get_or w.links i []) j ms [] h.place)
+same_link w i j ms h =
+    rw (get_or-set_same w.links i _ [] h.row) (get_or-set_same (get_or w.links i []) j ms [] h.ordinal)
 
 -- the row of a server behind a change of one of its links
 abbrev set_row : World → ℕ → ℕ → List Peer → List (List Peer)
@@ -143,13 +144,13 @@ pub has_link-with_link : (w : World) (i j x y : ℕ) (ms : List Peer) → HasLin
 unfolding with_link
 has_link-with_link w i j x y ms h = record {
   row = rw (length-set w.links i (set_row w i j ms)) h.row;
-  place = elim (cases_eq x i) [
+  ordinal = elim (cases_eq x i) [
     | inl same ↦ rw (
       same,
       get_or-set_same w.links i (set_row w i j ms) [] (rw same at h.row),
       length-set (get_or w.links i []) j ms,
-    ) (rw same at h.place)
-    | inr other ↦ rw (get_or-set_other w.links i x (set_row w i j ms) [] other) h.place
+    ) (rw same at h.ordinal)
+    | inr other ↦ rw (get_or-set_other w.links i x (set_row w i j ms) [] other) h.ordinal
   ];
 }
 
@@ -170,7 +171,7 @@ pub has_link-with_connection : (w : World) (c : ℕ) (change : Connection → Co
     → HasLink w x y
     → HasLink (with_connection w c change) x y
 unfolding with_connection
-has_link-with_connection w c change x y h = record { row = h.row; place = h.place }
+has_link-with_connection w c change x y h = record { row = h.row; ordinal = h.ordinal }
 
 -- what a server puts out to y goes behind what stands on its link to y
 pub link-put_all_to : (w : World) (i : ℕ) (os : List Output) (y : ℕ)

@@ -19,7 +19,7 @@ use Rattle.node.specs.declared.messages.Output.{Output}
 use Rattle.node.specs.declared.messages.Output.TheVariants.{To}
 use Rattle.table.specs.declared.operations.Reply.{Reply}
 use Rattle.node.specs.Views.{View, is_same}
-use Rattle.node.specs.Servers.{ServerState, Outcome, tail_of, is_tail, previous, next, message_to}
+use Rattle.node.specs.Servers.{ServerState, RuleResult, tail_of, is_tail, previous, next, message_to}
 use Rattle.node.specs.Numbering.{open_update, replied, reply_to, appended, entered}
 use Rattle.node.specs.Reading.{asked}
 use Rattle.node.specs.Joining.{widened}
@@ -286,11 +286,11 @@ does_last [] c s g = omega arith
 does_last (a ∷ later) c s g = omega (arith, act_last c s a g.0, does_last later (left c) (act s a).state g.2)
 
 -- server x is told the acknowledged number
-abbrev pub Acks : ℕ → Outcome → Type 0
+abbrev pub Acks : ℕ → RuleResult → Type 0
 Acks x a = (m : Peer) × (n : ℕ) × In (To x m) a.outputs × (m.body ≡ Ack n) × (a.state.store.acked ≤ n)
 
 -- what a step tells the neighbours, whether they stayed or are new
-pub record Informs (s : ServerState) (a : Outcome) : Type 0 where
+pub record Informs (s : ServerState) (a : RuleResult) : Type 0 where
   pub last : last_number s.store ≤ last_number a.state.store
   pub same : (y : ℕ)
       → next s ≡ Some y
@@ -333,7 +333,7 @@ informs_step s input h fit valid =
     let xs = w.done.actions in
     subst (λ o. Informs s o) (sym w.done.same)
     (informs_does xs (Some input) s w.done.guarded w.turns
-    (subst (λ (o : Outcome). IsPaid o.state (due_in_the_end (nothing_due s) s xs)) w.done.same w.paid))
+    (subst (λ (o : RuleResult). IsPaid o.state (due_in_the_end (nothing_due s) s xs)) w.done.same w.paid))
 
 -- ---- the tail
 
@@ -432,7 +432,7 @@ does_query (a ∷ later) c d s r j g t i e never =
     ]
 
 -- the read was open under this tail, or the tail is asked
-abbrev pub Inquires : ServerState → Outcome → Type 0
+abbrev pub Inquires : ServerState → RuleResult → Type 0
 Inquires s o = (r : OpenRead) (j : ℕ) → In r o.state.asks → tail_of o.state ≡ Some j
     → (In r s.asks × (tail_of s ≡ Some j)) ⊎ Asks r j o.outputs
 
@@ -460,4 +460,4 @@ inquires_step s input h fit valid =
     let xs = w.done.actions in
     subst (λ o. Inquires s o) (sym w.done.same)
     (inquires_does xs (Some input) s w.done.guarded w.turns
-    (subst (λ (o : Outcome). IsPaid o.state (due_in_the_end (nothing_due s) s xs)) w.done.same w.paid))
+    (subst (λ (o : RuleResult). IsPaid o.state (due_in_the_end (nothing_due s) s xs)) w.done.same w.paid))

@@ -10,7 +10,7 @@ use Rattle.node.specs.declared.messages.Peer.{Peer}
 use Rattle.node.specs.declared.messages.Input.{Input}
 use Rattle.node.specs.declared.messages.Input.TheVariants.{Call as Called, From, Gone}
 use Rattle.node.specs.Views.{has, union, single}
-use Rattle.node.specs.Servers.{ServerState, Outcome}
+use Rattle.node.specs.Servers.{ServerState, RuleResult}
 use Rattle.node.specs.Steps.{step}
 use Rattle.node.specs.Lawful.{IsInput, HoldsEntry, IsLawful}
 use Rattle.world.specs.declared.connections.Stage.TheVariants.{Begun}
@@ -56,7 +56,7 @@ still_failing w i =
 -- ---- what a step leaves
 
 -- server a did this, and each other is as it was
-record IsActed (w u : World) (a : ℕ) (o : Outcome) : Type 0 where
+record IsActed (w u : World) (a : ℕ) (o : RuleResult) : Type 0 where
   own : server u a ≡ o.state
   others : (x : ℕ) → x ≢ a → server u x ≡ server w x
   count : length u.servers ≡ length w.servers
@@ -66,7 +66,7 @@ record IsActed (w u : World) (a : ℕ) (o : Outcome) : Type 0 where
 
 has_link-with_server : (w : World) (i : ℕ) (s : ServerState) (x y : ℕ) → HasLink w x y → HasLink (with_server w i s) x y
 unfolding with_server
-has_link-with_server w i s x y h = record { row = h.row; place = h.place }
+has_link-with_server w i s x y h = record { row = h.row; ordinal = h.ordinal }
 
 link-with_server : (w : World) (i : ℕ) (s : ServerState) (x y : ℕ) → link (with_server w i s) x y ≡ link w x y
 unfolding link with_server
@@ -80,7 +80,7 @@ failed-with_server : (w : World) (i : ℕ) (s : ServerState) → (with_server w 
 unfolding with_server
 failed-with_server w i s = refl
 
-acted_is : (w : World) (a : ℕ) (o : Outcome) → a < length w.servers → IsActed w (acted w a o) a o
+acted_is : (w : World) (a : ℕ) (o : RuleResult) → a < length w.servers → IsActed w (acted w a o) a o
 acted_is w a o l =
     let w1 = with_server w a o.state in
     record {
@@ -163,7 +163,7 @@ has_link t f i j a b =
     let within : i < length t.world.links = omega (arith, f.rows, a) in
     record {
       row = within;
-      place = omega (arith, f.row i (get_or t.world.links i []) (slice_get-get_or t.world.links i [] within), b);
+      ordinal = omega (arith, f.row i (get_or t.world.links i []) (slice_get-get_or t.world.links i [] within), b);
     }
 
 -- what an event makes of servers and links: nothing, or a step of a living server

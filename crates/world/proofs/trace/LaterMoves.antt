@@ -25,31 +25,31 @@ use Rattle.world.proofs.trace.ChangeLaws.{connection_reconnected}
 
 -- ---- calls and replies by their names
 
--- a begun call stands at its place among the calls of its connection
+-- a begun call stands at its ordinal among the calls of its connection
 pub call_stands : (w : World) (x : CallId) (call : Call)
     → begun_call w x ≡ Some call
-    → (k : Connection) × (slice_get w.connections x.connection ≡ Some k) × (slice_get k.calls x.place ≡ Some call)
-call_stands w x call h = option_and_then_some (λ (k : Connection). slice_get k.calls x.place)
+    → (k : Connection) × (slice_get w.connections x.connection ≡ Some k) × (slice_get k.calls x.ordinal ≡ Some call)
+call_stands w x call h = option_and_then_some (λ (k : Connection). slice_get k.calls x.ordinal)
     (slice_get w.connections x.connection) call h (λ k e g. (k, e, g))
 
 -- what stands among the calls of a connection is a begun call
 pub call_found : (w : World) (x : CallId) (k : Connection) (call : Call)
     → slice_get w.connections x.connection ≡ Some k
-    → slice_get k.calls x.place ≡ Some call
+    → slice_get k.calls x.ordinal ≡ Some call
     → begun_call w x ≡ Some call
 call_found w x k call e h = rw e h
 
 -- the reply to a call stands at the call's place among the replies of its connection
 pub reply_stands : (w : World) (x : CallId) (reply : Reply)
     → reply_to w x ≡ Some reply
-    → (k : Connection) × (slice_get w.connections x.connection ≡ Some k) × (slice_get k.replies x.place ≡ Some reply)
-reply_stands w x reply h = option_and_then_some (λ (k : Connection). slice_get k.replies x.place)
+    → (k : Connection) × (slice_get w.connections x.connection ≡ Some k) × (slice_get k.replies x.ordinal ≡ Some reply)
+reply_stands w x reply h = option_and_then_some (λ (k : Connection). slice_get k.replies x.ordinal)
     (slice_get w.connections x.connection) reply h (λ k e g. (k, e, g))
 
--- what stands among the replies of a connection is the reply to the call of this place
+-- what stands among the replies of a connection is the reply to the call of this ordinal
 pub reply_found : (w : World) (x : CallId) (k : Connection) (reply : Reply)
     → slice_get w.connections x.connection ≡ Some k
-    → slice_get k.replies x.place ≡ Some reply
+    → slice_get k.replies x.ordinal ≡ Some reply
     → reply_to w x ≡ Some reply
 reply_found w x k reply e h = rw e h
 
@@ -131,11 +131,11 @@ later_reconnected t c change f =
       calls = λ x call h. (let at = call_stands t.world x call h in
           let new = connection_reconnected t c change x.connection at.0 at.1 in
           call_found (reconnected t c change).world x new.0 call new.1
-          ((kept_changed c change x.connection at.0 new.0 f new.2).calls x.place call at.2));
+          ((kept_changed c change x.connection at.0 new.0 f new.2).calls x.ordinal call at.2));
       replies = λ x reply h. (let at = reply_stands t.world x reply h in
           let new = connection_reconnected t c change x.connection at.0 at.1 in
           reply_found (reconnected t c change).world x new.0 reply new.1
-          ((kept_changed c change x.connection at.0 new.0 f new.2).replies x.place reply at.2));
+          ((kept_changed c change x.connection at.0 new.0 f new.2).replies x.ordinal reply at.2));
     }
 
 -- ---- links and failures

@@ -175,8 +175,8 @@ pub record Calling (t : Traced) : Type 0 where
   pub begun : (o k : ℕ) (x : CallId) → slice_get (issued_by t o) k ≡ Some x
       → (call : Call) × (c : Connection) × (begun_call t.world x ≡ Some call) × (is_update call.op ≡ true)
       × (slice_get t.world.connections x.connection ≡ Some c) × (c.home ≡ o)
-      × ((x.place < length c.replies)
-      ⊎ ((x.place ≡ length c.replies) × ((c.stage ≡ Asked) ⊎ ((reply : Reply) × (c.stage ≡ Replied reply)))))
+      × ((x.ordinal < length c.replies)
+      ⊎ ((x.ordinal ≡ length c.replies) × ((c.stage ≡ Asked) ⊎ ((reply : Reply) × (c.stage ≡ Replied reply)))))
   pub next_id : (o : ℕ) → o < count t → (server t.world o).next_id ≡ length (issued_by t o) + 1
   pub once : (o p k l : ℕ) (x : CallId)
       → slice_get (issued_by t o) k ≡ Some x
@@ -204,7 +204,7 @@ pub record Calling (t : Traced) : Type 0 where
   pub waiting : (c : ℕ) (k : Connection) (reply : Reply)
       → slice_get t.world.connections c ≡ Some k
       → k.stage ≡ Replied reply
-      → IsAnswer t (record { connection = c; place = length k.replies }) reply
+      → IsAnswer t (record { connection = c; ordinal = length k.replies }) reply
   pub issues : (i j : ℕ) (m : Peer) → In m (link t.world i j) → Asks t i m.body
 
 -- ---- answered reads
@@ -220,8 +220,8 @@ pub record IsRead (t : Traced) (r : AnsweredRead) : Type 0 where
   pub item : r.item ≡ item_at (items_after opening_table.items (take r.number t.committed)) r.key
   -- its call isn't with its server any more
   pub here : slice_get t.world.connections r.id.connection ≡ Some connection
-  pub over : (r.id.place < length connection.replies)
-      ⊎ ((r.id.place ≡ length connection.replies) × (reply : Reply) × (connection.stage ≡ Replied reply))
+  pub over : (r.id.ordinal < length connection.replies)
+      ⊎ ((r.id.ordinal ≡ length connection.replies) × (reply : Reply) × (connection.stage ≡ Replied reply))
 
 -- each answered read is one, and none is answered twice
 pub record Read (t : Traced) : Type 0 where

@@ -27,7 +27,7 @@ use Rattle.node.proofs.Lists.{In}
 use Rattle.world.proofs.trace.WorldLaws.{server_same, server_apart, Answers, servers-put_all, failed-put_all}
 use Rattle.world.proofs.trace.WorldLaws.{server-put_all, link-put_all, connection-put_all, connection-before_all}
 use Rattle.node.specs.Actions.{Action, Widen, Append, Reach, Settle, Send, Finish, Trim, Enter, Ask, Show, act}
-use Rattle.world.proofs.trace.Traces.{AnsweredRead, Traced, log, issued_by, count, last_living, open_id, open_place}
+use Rattle.world.proofs.trace.Traces.{AnsweredRead, Traced, log, issued_by, count, last_living, open_id, open_ordinal}
 use Rattle.world.proofs.trace.Traces.{logs_after, issued_after, done}
 
 -- ---- what an action adds
@@ -270,22 +270,22 @@ same_calls f h os c k k' (inr g) = ap f g.4 ∙ h k (Replied g.0)
 -- calls stay begun as they were, and get no reply before it is handed
 pub begun_done : (t : Traced) (i : ℕ) (a : Action) (x : CallId) → begun_call (done t i a).world x ≡ begun_call t.world x
 begun_done t i a x =
-    kept_by_done (λ o. option_and_then (λ k. slice_get k.calls x.place) o) t i a x.connection
-    (λ k k' r. ap (λ calls. slice_get calls x.place)
+    kept_by_done (λ o. option_and_then (λ k. slice_get k.calls x.ordinal) o) t i a x.connection
+    (λ k k' r. ap (λ calls. slice_get calls x.ordinal)
     (same_calls (λ k. k.calls) (λ k stage. refl) (act (server t.world i) a).outputs x.connection k k' r)) _
     _ refl refl
 
 -- an action hands over no reply
 pub replied_done : (t : Traced) (i : ℕ) (a : Action) (x : CallId) → reply_to (done t i a).world x ≡ reply_to t.world x
 replied_done t i a x =
-    kept_by_done (λ o. option_and_then (λ k. slice_get k.replies x.place) o) t i a x.connection
-    (λ k k' r. ap (λ replies. slice_get replies x.place)
+    kept_by_done (λ o. option_and_then (λ k. slice_get k.replies x.ordinal) o) t i a x.connection
+    (λ k k' r. ap (λ replies. slice_get replies x.ordinal)
     (same_calls (λ k. k.replies) (λ k stage. refl) (act (server t.world i) a).outputs x.connection k k' r)) _
     _ refl refl
 
 -- the name of a connection's open call stays through an action
 pub open_id_done : (t : Traced) (i : ℕ) (a : Action) (c : ℕ) → open_id (done t i a).world c ≡ open_id t.world c
 open_id_done t i a c =
-    kept_by_done (λ o. record { connection = c; place = open_place o }) t i a c
-    (λ k k' r. ap (λ (rs : List Reply). record { connection = c; place = length rs })
+    kept_by_done (λ o. record { connection = c; ordinal = open_ordinal o }) t i a c
+    (λ k k' r. ap (λ (rs : List Reply). record { connection = c; ordinal = length rs })
     (same_calls (λ k. k.replies) (λ k stage. refl) (act (server t.world i) a).outputs c k k' r)) _ _ refl refl

@@ -51,14 +51,14 @@ abbrev pub committed_by : Option ℕ → List (List LogEntry) → List LogEntry 
 committed_by None logs before = before
 committed_by (Some i) logs before = slice_index_or logs i []
 
--- the place of a connection's open call
-abbrev pub open_place : Option Connection → ℕ
-open_place None = 0
-open_place (Some k) = length k.replies
+-- the ordinal of a connection's open call
+abbrev pub open_ordinal : Option Connection → ℕ
+open_ordinal None = 0
+open_ordinal (Some k) = length k.replies
 
 -- the call that is open at a connection, by its name
 abbrev pub open_id : World → ℕ → CallId
-open_id w c = record { connection = c; place = open_place (slice_get w.connections c) }
+open_id w c = record { connection = c; ordinal = open_ordinal (slice_get w.connections c) }
 
 -- the logs, the issued updates and the answered reads after an action of server i
 abbrev pub logs_after : Traced → ℕ → Action → List (List LogEntry)

@@ -33,31 +33,32 @@ pub record Tailed (w : World) (i j : ℕ) : Type 0 where
   pub other : j ≢ i
   pub unaware : has (server w j).view i ≡ false
 
--- i asks j for this read, or j answers it with a number that isn't below its mark
+-- i asks j for this read, or j answers it with a number that isn't below its lower bound
 abbrev pub IsOnItsWay : World → ℕ → ℕ → OpenRead → Type 0
 IsOnItsWay w i j r =
     ((m : Peer) × (key : List ℕ) × In m (link w i j) × (m.body ≡ Query r.ask key))
-    ⊎ ((m : Peer) × (n : ℕ) × In m (link w j i) × (m.body ≡ Answer r.ask n) × (r.mark ≤ n))
+    ⊎ ((m : Peer) × (n : ℕ) × In m (link w j i) × (m.body ≡ Answer r.ask n) × (r.lower_bound ≤ n))
 
 -- what holds between steps
 abbrev pub Asking : World → Type 0
 Asking w = (i j : ℕ) → Tailed w i j → (r : OpenRead) → In r (server w i).asks → IsOnItsWay w i j r
 
--- ---- marks and asks
+-- ---- lower bounds and asks
 
-mark_within : (above mark : ℕ) (rs : List OpenRead) (next_ask acked : ℕ) (r : OpenRead)
-    → AreReads above mark rs next_ask acked
+lower_bound_within : (above lower_bound : ℕ) (rs : List OpenRead) (next_ask acked : ℕ) (r : OpenRead)
+    → AreReads above lower_bound rs next_ask acked
     → In r rs
-    → r.mark ≤ acked
-mark_within above mark [] next_ask acked r h i = absurd (let n = i.1 in cc)
-mark_within above mark (q ∷ rs) next_ask acked r h (zero, i) =
+    → r.lower_bound ≤ acked
+lower_bound_within above lower_bound [] next_ask acked r h i = absurd (let n = i.1 in cc)
+lower_bound_within above lower_bound (q ∷ rs) next_ask acked r h (zero, i) =
     let same : q ≡ r =
-    cc in omega (arith, ap (λ (x : OpenRead). x.mark) same, lowest q.ask q.mark rs next_ask acked h.2)
+    cc in omega (arith, ap (λ (x : OpenRead). x.lower_bound) same, lowest q.ask q.lower_bound rs next_ask acked h.2)
   where
     lowest : (a m : ℕ) (xs : List OpenRead) (n k : ℕ) → AreReads a m xs n k → m ≤ k
     lowest a m [] n k g = g.1
-    lowest a m (x ∷ xs) n k g = omega (arith, g.1, lowest x.ask x.mark xs n k g.2)
-mark_within above mark (q ∷ rs) next_ask acked r h (suc k, i) = mark_within q.ask q.mark rs next_ask acked r h.2 (k, i)
+    lowest a m (x ∷ xs) n k g = omega (arith, g.1, lowest x.ask x.lower_bound xs n k g.2)
+lower_bound_within above lower_bound (q ∷ rs) next_ask acked r h (suc k, i) =
+    lower_bound_within q.ask q.lower_bound rs next_ask acked r h.2 (k, i)
 
 -- ---- a message that comes
 
@@ -76,7 +77,7 @@ heeds t i a m h addressed from lawful =
 
 -- ---- a query reaches the tail
 
--- a query that reaches the tail is answered with a number that isn't below its read's mark
+-- a query that reaches the tail is answered with a number that isn't below its read's lower bound
 pub query_met : (t : Traced) (i a : ℕ) (m : Peer) (ms : List Peer) (r : OpenRead) (key : List ℕ)
     → Lawful t
     → link t.world i a ≡ m ∷ ms
@@ -87,7 +88,7 @@ pub query_met : (t : Traced) (i a : ℕ) (m : Peer) (ms : List Peer) (r : OpenRe
     → tail_of (server t.world i) ≡ Some a
     → has (step (server t.world a) (From i m)).state.view i ≡ false
     → (answer : Peer) × (n : ℕ) × In (To i answer) (step (server t.world a) (From i m)).outputs
-    × (answer.body ≡ Answer r.ask n) × (r.mark ≤ n)
+    × (answer.body ≡ Answer r.ask n) × (r.lower_bound ≤ n)
 query_met t i a m ms r key h first is from lawful waits to unaware =
     let addressed = h.framed.sound i a m (rw first (0, refl)) in
     let o = step (server t.world a) (From i m) in
@@ -110,7 +111,8 @@ query_met t i a m ms r key h first is from lawful waits to unaware =
     let last : is_tail s ≡ true = is_itself (tail_of s) s.id (found ∙ ap Some (sym id)) in
     let acks = h.logged.acks i a g.0 addressed.receiver (tail_of_is (server t.world i) a to).out in
     let held = (h.logged.holds a addressed.receiver).acked in
-    let mark = mark_within 0 (server t.world i).store.floor (server t.world i).asks (server t.world i).next_ask
+    let lower_bound = lower_bound_within 0 (server t.world i).store.floor (server t.world i).asks
+    (server t.world i).next_ask
     (server t.world i).store.acked r from.reads waits in
     let took : IsTakenIn i (Query r.ask key) o = subst (λ b. IsTakenIn i b o) is (known.1 unaware) in
     let answer = took last in (
@@ -118,17 +120,17 @@ query_met t i a m ms r key h first is from lawful waits to unaware =
       last_number s.store,
       answer.1,
       answer.2,
-      omega (arith, mark, acks, held, last_is t h.logged a addressed.receiver, informs.last),
+      omega (arith, lower_bound, acks, held, last_is t h.logged a addressed.receiver, informs.last),
     )
 
 -- ---- an answer reaches who asked
 
--- a read that its tail answers with a number from its mark on isn't open behind the delivery
+-- a read that its tail answers with a number from its lower bound on isn't open behind the delivery
 pub answer_met : (t : Traced) (i j : ℕ) (m : Peer) (ms : List Peer) (r : OpenRead) (n : ℕ)
     → Lawful t
     → link t.world j i ≡ m ∷ ms
     → m.body ≡ Answer r.ask n
-    → r.mark ≤ n
+    → r.lower_bound ≤ n
     → IsSound (server t.world j)
     → IsLawful (server t.world i)
     → lives t.world i ≡ true

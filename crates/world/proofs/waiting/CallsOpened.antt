@@ -12,7 +12,7 @@ use Rattle.versions.specs.Stores.{last_number, value_at, is_clean}
 use Rattle.node.specs.declared.servers.OpenUpdate.{OpenUpdate}
 use Rattle.node.specs.declared.servers.OpenRead.{OpenRead}
 use Rattle.node.specs.declared.messages.Input.TheVariants.{Call as Called}
-use Rattle.node.specs.Servers.{ServerState, Outcome, most}
+use Rattle.node.specs.Servers.{ServerState, RuleResult, most}
 use Rattle.node.specs.Numbering.{entered, is_room_for_update, update}
 use Rattle.node.specs.Reading.{dirty_read, read_of}
 use Rattle.node.specs.Steps.{trimmed, step}
@@ -35,11 +35,11 @@ pub record HasRoom (s : ServerState) : Type 0 where
   pub ask : s.next_ask < most
 
 -- the call of a port waits, or has its reply
-abbrev pub IsTakenIn : ℕ → Bool → Outcome → Type 0
+abbrev pub IsTakenIn : ℕ → Bool → RuleResult → Type 0
 IsTakenIn c shows o = IsOpenAt o.state c ⊎ AnswersPort c shows o.outputs
 
 -- the update of a port waits, or has its reply
-abbrev pub IsUpdateIn : ℕ → Outcome → Type 0
+abbrev pub IsUpdateIn : ℕ → RuleResult → Type 0
 IsUpdateIn c o = ((u : OpenUpdate) × In u o.state.pend × (u.port ≡ c)) ⊎ AnswersPort c false o.outputs
 
 update_taken : (s : ServerState) (port : ℕ) (made : Call)
@@ -75,7 +75,7 @@ unfolding dirty_read
 taken_dirty s port key room =
     rw (lt-ltb _ _ room.ask)
     (inl (inr (
-      record { ask = s.next_ask; port = port; key = key; mark = s.store.acked },
+      record { ask = s.next_ask; port = port; key = key; lower_bound = s.store.acked },
       asked_in s port key,
       refl,
     )))
@@ -90,7 +90,8 @@ taken_read : (s : ServerState) (port : ℕ) (target : Target)
     → HasRoom s
     → IsTakenIn port true (read_of s port target)
 taken_read s port All other room = absurd (other refl)
-taken_read s port (One key) other room = cond_both (is_clean s.store key) _ _ (λ (o : Outcome). IsTakenIn port true o)
+taken_read s port (One key) other room =
+    cond_both (is_clean s.store key) _ _ (λ (o : RuleResult). IsTakenIn port true o)
     (λ t. inr (Value (value_at s.store key (last_number s.store)), (0, refl), refl))
     (λ f. taken_dirty s port key room)
 
@@ -106,7 +107,7 @@ pub call_opened : (s : ServerState) (port : ℕ) (made : Call)
     → IsTakenIn port (not (is_update made.op)) (step s (Called port made))
 call_opened s port made h fit room =
     elim (cond_both (is_update made.op) (update s port made) (read_of s port made.target)
-    (λ (o : Outcome). IsTakenIn port (not (is_update made.op)) o)
+    (λ (o : RuleResult). IsTakenIn port (not (is_update made.op)) o)
     (λ t. subst (λ b. IsTakenIn port (not b) (update s port made)) (sym t) (taken_update s port made h fit t room))
     (λ f. subst (λ b. IsTakenIn port (not b) (read_of s port made.target)) (sym f)
     (taken_read s port made.target (no_flush made.target made.op fit.1 f) room))) [
@@ -129,7 +130,7 @@ pub update_opened : (s : ServerState) (port : ℕ) (made : Call)
     → IsUpdateIn port (step s (Called port made))
 update_opened s port made h fit is may =
     elim (cond_both (is_update made.op) (update s port made) (read_of s port made.target)
-    (λ (o : Outcome). IsUpdateIn port o) (λ t. update_taken s port made h fit is may)
+    (λ (o : RuleResult). IsUpdateIn port o) (λ t. update_taken s port made h fit is may)
     (λ f. absurd (both_ways _ f is))) [
       | inl waits ↦ inl (trimmed_update _ port waits)
       | inr x ↦ inr x

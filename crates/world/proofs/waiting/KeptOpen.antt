@@ -12,7 +12,7 @@ use Rattle.node.specs.declared.servers.OpenUpdate.{OpenUpdate}
 use Rattle.node.specs.declared.servers.OpenRead.{OpenRead}
 use Rattle.node.specs.declared.messages.Output.{Output}
 use Rattle.node.specs.declared.messages.Output.TheVariants.{Reply as Answered}
-use Rattle.node.specs.Servers.{ServerState, Outcome, and_then}
+use Rattle.node.specs.Servers.{ServerState, RuleResult, and_then}
 use Rattle.node.specs.Numbering.{appended, entered, left_open_by, reply_to}
 use Rattle.node.specs.Reading.{asked}
 use Rattle.node.specs.Joining.{widened}
@@ -29,7 +29,7 @@ abbrev pub AnswersPort : ℕ → Bool → List Output → Type 0
 AnswersPort c shows os = (reply : Reply) × In (Answered c reply) os × (is_value reply ≡ shows)
 
 -- each own call that was open is so still, or has a reply of its kind put out
-pub record KeepsOpen (s : ServerState) (o : Outcome) : Type 0 where
+pub record KeepsOpen (s : ServerState) (o : RuleResult) : Type 0 where
   pub updates : (u : OpenUpdate) → In u s.pend → In u o.state.pend ⊎ AnswersPort u.port false o.outputs
   pub reads : (r : OpenRead) → In r s.asks → In r o.state.asks ⊎ AnswersPort r.port true o.outputs
 
@@ -40,7 +40,7 @@ answers_behind : (c : ℕ) (shows : Bool) (os ps : List Output) → AnswersPort 
 answers_behind c shows os ps x = (x.0, in_behind os ps (Answered c x.0) x.1, x.2)
 
 -- two rules that leave each own call open or answer it do so one after the other
-pub open_then : (s : ServerState) (a : Outcome) (rule : ServerState → Outcome)
+pub open_then : (s : ServerState) (a : RuleResult) (rule : ServerState → RuleResult)
     → KeepsOpen s a
     → KeepsOpen a.state (rule a.state)
     → KeepsOpen s (and_then a rule)
@@ -57,7 +57,7 @@ open_then s a rule h g =
     }
 
 -- a rule that closes no own call leaves each open
-pub open_still : (s : ServerState) (o : Outcome)
+pub open_still : (s : ServerState) (o : RuleResult)
     → ((u : OpenUpdate) → In u s.pend → In u o.state.pend)
     → ((r : OpenRead) → In r s.asks → In r o.state.asks)
     → KeepsOpen s o
@@ -112,5 +112,5 @@ open_all (a ∷ later) c s g =
     open_then s (act s a) (λ t. does t later) (open_act c s a g.0 g.1) (open_all later (left c) (act s a).state g.2)
 
 -- a rule that is a list of guarded actions leaves each own call open, or answers it
-pub open_done : (c : Cause) (s : ServerState) (o : Outcome) → IsDone c s o → KeepsOpen s o
+pub open_done : (c : Cause) (s : ServerState) (o : RuleResult) → IsDone c s o → KeepsOpen s o
 open_done c s o d = subst (λ x. KeepsOpen s x) (sym d.same) (open_all d.actions c s d.guarded)

@@ -196,14 +196,14 @@ module _ (k : ℕ) (t : Traced) (h : Lawful t) (servers : (i : ℕ) → i < coun
   answered_at : (x : CallId) (o : Option Connection)
       → slice_get t.world.connections x.connection ≡ o
       → home_lives t.world o ≡ true
-      → IsSome (option_and_then (λ c. slice_get c.calls x.place) o)
-      → IsSome (option_and_then (λ c. slice_get c.replies x.place) o)
+      → IsSome (option_and_then (λ c. slice_get c.calls x.ordinal) o)
+      → IsSome (option_and_then (λ c. slice_get c.replies x.ordinal) o)
   answered_at x None here alive begun = absurd cc
   answered_at x (Some c) here alive begun =
-      let call = some_of (slice_get c.calls x.place) begun in
-      all_replied c.stage c x.place refl (r.in_step x.connection c here)
+      let call = some_of (slice_get c.calls x.ordinal) begun in
+      all_replied c.stage c x.ordinal refl (r.in_step x.connection c here)
       (resting.connections x.connection c here alive) (none_asked x.connection c here alive)
-      (slice_get_within c.calls x.place call.0 call.1)
+      (slice_get_within c.calls x.ordinal call.0 call.1)
 
   all_answered : (x : CallId) → IsBegun t.world x → has_living_home t.world x ≡ true → IsAnswered t.world x
   all_answered x begun alive = answered_at x (slice_get t.world.connections x.connection) refl alive begun

@@ -10,7 +10,7 @@ use Rattle.node.specs.declared.messages.Body.TheVariants.{Op, Forward}
 use Rattle.node.specs.declared.messages.Peer.{Peer}
 use Rattle.node.specs.declared.messages.Input.{Input}
 use Rattle.node.specs.declared.messages.Input.TheVariants.{From}
-use Rattle.node.specs.Servers.{ServerState, Outcome, seen_of, head_of, is_head}
+use Rattle.node.specs.Servers.{ServerState, RuleResult, seen_of, head_of, is_head}
 use Rattle.node.specs.Numbering.{appended}
 use Rattle.node.specs.Steps.{step}
 use Rattle.node.specs.Lawful.{IsInput, HoldsEntry, IsSound, IsLawful}
@@ -115,7 +115,7 @@ does_long (a ∷ later) c input s u f id low g x =
 -- ---- steps
 
 -- what a step does for own updates, and what it sends to a head that stays or is new
-pub record Serves (s : ServerState) (input : Input) (a : Outcome) : Type 0 where
+pub record Serves (s : ServerState) (input : Input) (a : RuleResult) : Type 0 where
   pub id : a.state.id ≡ s.id
   pub few : a.state.next_id ≤ s.next_id + takes_of (Some input)
   pub seen : (o : ℕ) → o < 16 → seen_of s o ≤ seen_of a.state o
@@ -211,5 +211,5 @@ serves_step s input h fit valid own first room expected =
     subst (λ o. Serves s input o) (sym w.done.same)
     (serves_does xs input s h.sound (record { actions = xs; guarded = w.done.guarded; same = refl })
     w.done.guarded w.turns
-    (subst (λ (o : Outcome). IsPaid o.state (due_in_the_end (nothing_due s) s xs)) w.done.same w.paid) own first
+    (subst (λ (o : RuleResult). IsPaid o.state (due_in_the_end (nothing_due s) s xs)) w.done.same w.paid) own first
     room expected)

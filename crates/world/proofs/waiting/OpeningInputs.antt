@@ -59,10 +59,10 @@ module _ (t : Traced) (l : Lawful t) (i a : ℕ) (m : Peer) (there : In m (link 
       let out : has s.view i ≡ false = false_from_ne_true _ (λ e. both_ways _ p.out (grown.view i e)) in
       let c : Carries t i m.view (Forward e) = subst (λ b. Carries t i m.view b) is (l.logged.carries i a m there) in
       let begins = l.logged.begins i a (omega (arith, p.below, id)) here out in
-      let place : e.number ≡ length (log t a) + 1 = omega (arith, number, same.last, last_is t l.logged a here) in
+      let ordinal : e.number ≡ length (log t a) + 1 = omega (arith, number, same.last, last_is t l.logged a here) in
       let front : take (e.number - 1) (log t i) ≡ log t a =
-      begins-take (e.number - 1) (log t a) (log t i) begins (omega (arith, place))
-      ∙ take_all (e.number - 1) (log t a) (omega (arith, place)) in
+      begins-take (e.number - 1) (log t a) (log t i) begins (omega (arith, ordinal))
+      ∙ take_all (e.number - 1) (log t a) (omega (arith, ordinal)) in
       let origin : e.origin ≡ a = own ∙ id in
       let next = l.calling.ids i (e.number - 1) e c.1 in
       let counted : entries_of e.origin (take (e.number - 1) (log t i)) ≡ entries_of a (log t a) =

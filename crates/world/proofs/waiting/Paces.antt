@@ -1,7 +1,7 @@
 -- How many ids and asks a step takes: one if it takes in an own call, and otherwise none.
 use Rattle.std.proofs.Common.{ℕ, ◌+◌, ◌≤◌, List, [], ◌∷◌, None, Some, arith, ap}
 use Rattle.node.specs.declared.messages.Input.TheVariants.{Call as Called, From, Gone}
-use Rattle.node.specs.Servers.{ServerState, Outcome}
+use Rattle.node.specs.Servers.{ServerState, RuleResult}
 use Rattle.node.specs.Numbering.{appended, entered}
 use Rattle.node.specs.Reading.{asked}
 use Rattle.node.specs.Joining.{widened}
@@ -51,10 +51,10 @@ pace_all (a ∷ later) c s g =
     (omega (arith, one.0, all.0), omega (arith, one.1, all.1))
 
 -- what a done step takes
-pub pace : (c : Cause) (s : ServerState) (o : Outcome)
+pub pace : (c : Cause) (s : ServerState) (o : RuleResult)
     → IsDone c s o
     → (o.state.next_id ≤ s.next_id + takes_of c) × (o.state.next_ask ≤ s.next_ask + takes_of c)
 pace c s o d = let all = pace_all d.actions c s d.guarded in (
-  omega (arith, all.0, ap (λ (x : Outcome). x.state.next_id) d.same),
-  omega (arith, all.1, ap (λ (x : Outcome). x.state.next_ask) d.same),
+  omega (arith, all.0, ap (λ (x : RuleResult). x.state.next_id) d.same),
+  omega (arith, all.1, ap (λ (x : RuleResult). x.state.next_ask) d.same),
 )

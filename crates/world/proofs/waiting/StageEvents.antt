@@ -16,7 +16,7 @@ use Rattle.node.specs.declared.messages.Input.TheVariants.{Call as Called, From,
 use Rattle.node.specs.declared.messages.Output.{Output}
 use Rattle.node.specs.declared.messages.Output.TheVariants.{Reply as Answered}
 use Rattle.node.specs.Views.{union, single}
-use Rattle.node.specs.Servers.{Outcome}
+use Rattle.node.specs.Servers.{RuleResult}
 use Rattle.node.specs.Steps.{step}
 use Rattle.node.specs.Lawful.{IsInput, HoldsEntry, IsLawful}
 use Rattle.world.specs.declared.connections.Stage.{Stage}
@@ -177,7 +177,7 @@ module _ (t : Traced) (h : Lawful t) (servers : (i : ℕ) → i < count t → Is
         ap (λ o. may_have o x.0) (ap (λ y. open_call y) (sym same) ∙ w.asked) ∙ fits_read g.0 x.0 g.3 x.2,
       )
 
-  still_open : (a c : ℕ) (k : Connection) (o : Outcome)
+  still_open : (a c : ℕ) (k : Connection) (o : RuleResult)
       → a < count t
       → KeepsOpen (server t.world a) o
       → slice_get t.world.connections c ≡ Some k

@@ -7,7 +7,7 @@ use Rattle.table.specs.declared.operations.Reply.{Reply}
 use Rattle.node.specs.declared.messages.Input.{Input}
 use Rattle.node.specs.declared.messages.Output.{Output}
 use Rattle.node.specs.declared.messages.Output.TheVariants.{To, Reply as Answered}
-use Rattle.node.specs.Servers.{Outcome}
+use Rattle.node.specs.Servers.{RuleResult}
 use Rattle.node.specs.Steps.{step}
 use Rattle.world.specs.declared.connections.Stage.{Stage}
 use Rattle.world.specs.declared.connections.Stage.TheVariants.{Idle, Begun, Asked, Replied}
@@ -83,7 +83,7 @@ fitting w i (Answered d r ∷ os) c k here (reply, (suc n, e), may) k' there a =
 -- ---- a step
 
 -- what each call that is with server a is behind the step
-abbrev pub IsKept : World → ℕ → Outcome → Type 0
+abbrev pub IsKept : World → ℕ → RuleResult → Type 0
 IsKept v a o = (c : ℕ) (k : Connection) → slice_get v.connections c ≡ Some k → k.stage ≡ Asked
     → ((k.home ≢ a) × IsOpenAt (server v k.home) c) ⊎ ((k.home ≡ a) × (IsOpenAt o.state c ⊎ Fits c k o.outputs))
 

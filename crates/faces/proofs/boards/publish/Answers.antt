@@ -8,26 +8,27 @@ pub show-requires-clause-later : goal.show-requires-clause-later
 show-requires-clause-later g c =
     let w = c.append-writer.result.0 in
     let change = c.args.change in
-    let acts : pending w ≡ acts_of change.steps.items change.acked c.args.front =
+    let acts : pending w ≡ acts_of change.steps.items change.acked c.args.log_position =
     when_ok c.append-writer.result.1 _ _ _ c.in-Ok.is c.append-writer.ensures.acts in
-    changed_later w.desk.shown.value c.args.writer.desk.shown.value _ change.steps.items change.acked c.args.front
+    changed_later w.desk.shown.value c.args.writer.desk.shown.value _ change.steps.items change.acked
+    c.args.log_position
     (ap (λ d. d.shown.value) c.append-writer.ensures.desk) acts c.requires.later
 
 pub show-requires-clause-face : goal.show-requires-clause-face
 show-requires-clause-face g c =
     let w = c.append-writer.result.0 in
     let change = c.args.change in
-    let acts : pending w ≡ acts_of change.steps.items change.acked c.args.front =
+    let acts : pending w ≡ acts_of change.steps.items change.acked c.args.log_position =
     when_ok c.append-writer.result.1 _ _ _ c.in-Ok.is c.append-writer.ensures.acts in
-    changed_face w.desk.shown.value c.args.writer.desk.shown.value _ change.steps.items change.acked c.args.front
+    changed_face w.desk.shown.value c.args.writer.desk.shown.value _ change.steps.items change.acked c.args.log_position
     (ap (λ d. d.shown.value) c.append-writer.ensures.desk) acts c.requires.face
 
 pub returns-in-Ok : goal.returns-in-Ok
 returns-in-Ok g c =
     let w = c.append-writer.result.0 in
     let change = c.args.change in
-    let acts : pending w ≡ acts_of change.steps.items change.acked c.args.front =
+    let acts : pending w ≡ acts_of change.steps.items change.acked c.args.log_position =
     when_ok c.append-writer.result.1 _ _ _ c.in-Ok.is c.append-writer.ensures.acts in
-    published_as c.show.result.1 (λ p. Shows c.show.result.0 p) _ c.args.front
-    (ap (λ (s : Shown). s.course)
-    (folded_by w.desk.shown.value _ change.steps.items change.acked c.args.front acts)) c.show.ensures
+    published_as c.show.result.1 (λ p. Shows c.show.result.0 p) _ c.args.log_position
+    (ap (λ (s : Shown). s.history)
+    (folded_by w.desk.shown.value _ change.steps.items change.acked c.args.log_position acts)) c.show.ensures

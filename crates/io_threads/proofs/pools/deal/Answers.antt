@@ -4,12 +4,13 @@ use Rattle.io_threads.proofs.Dealt.{all_made, as_left, as_more, may_be_given, ma
 use Rattle.io_threads.proofs.Dealt.{stand_replied, was_given, was_made}
 use Rattle.io_threads.proofs.pools.deal.Goals as goal
 
-pub loop-stand-init : goal.loop-stand-init
-loop-stand-init c =
-    let same : into_iter_items c.into_iter-stand-iterator.result ≡ c.args.stands.items = search rules in
+pub loop-thread_handle-init : goal.loop-thread_handle-init
+loop-thread_handle-init c =
+    let same : into_iter_items c.into_iter-thread_handle-iterator.result ≡ c.args.stands.items = search rules in
     record {
       server = λ o are.
-          none_made o c.args.stands.items (into_iter_items c.into_iter-stand-iterator.result) c.args.others.items
+          none_made o c.args.stands.items (into_iter_items c.into_iter-thread_handle-iterator.result)
+          c.args.others.items
           c.new-pools.result.items same c.new-pools.ensures.items are;
       count = search rules;
     }
@@ -17,24 +18,26 @@ loop-stand-init c =
 pub add_pool-requires : goal.add_pool-requires
 add_pool-requires c =
     let o = c.requires.server.0 in
-    let are = as_left o (into_iter_items c.loop-stand.stand-iterator)
-    (c.in-Some.stand ∷ into_iter_items c.next.new.self) c.args.others.items c.loop-stand.pools.items
-    c.in-Some.ensures.steps.0 (c.loop-stand.invariant.server o c.requires.server.1) in
+    let are = as_left o (into_iter_items c.loop-thread_handle.thread_handle-iterator)
+    (c.in-Some.thread_handle ∷ into_iter_items c.next.new.self) c.args.others.items c.loop-thread_handle.pools.items
+    c.in-Some.ensures.steps.0 (c.loop-thread_handle.invariant.server o c.requires.server.1) in
     record {
-      server = may_be_made o c.in-Some.stand (into_iter_items c.next.new.self) c.args.others.items
-          c.loop-stand.pools.items are;
-      replied = stand_replied o c.in-Some.stand (into_iter_items c.next.new.self) c.args.others.items
-          c.loop-stand.pools.items are;
+      server = may_be_made o c.in-Some.thread_handle (into_iter_items c.next.new.self) c.args.others.items
+          c.loop-thread_handle.pools.items are;
+      replied = stand_replied o c.in-Some.thread_handle (into_iter_items c.next.new.self) c.args.others.items
+          c.loop-thread_handle.pools.items are;
     }
 
-pub loop-stand-preserved : goal.loop-stand-preserved
-loop-stand-preserved c =
+pub loop-thread_handle-preserved : goal.loop-thread_handle-preserved
+loop-thread_handle-preserved c =
     record {
       server = λ o given.
-          was_made o c.in-Some.stand (into_iter_items c.next.new.self) c.args.others.items c.loop-stand.pools.items
-          (as_left o (into_iter_items c.loop-stand.stand-iterator)
-          (c.in-Some.stand ∷ into_iter_items c.next.new.self) c.args.others.items c.loop-stand.pools.items
-          c.in-Some.ensures.steps.0 (c.loop-stand.invariant.server o given)) _ c.add_pool.ensures.server;
+          was_made o c.in-Some.thread_handle (into_iter_items c.next.new.self) c.args.others.items
+          c.loop-thread_handle.pools.items
+          (as_left o (into_iter_items c.loop-thread_handle.thread_handle-iterator)
+          (c.in-Some.thread_handle ∷ into_iter_items c.next.new.self) c.args.others.items
+          c.loop-thread_handle.pools.items
+          c.in-Some.ensures.steps.0 (c.loop-thread_handle.invariant.server o given)) _ c.add_pool.ensures.server;
       count = search rules;
     }
 
@@ -43,10 +46,10 @@ loop-seat-init c =
     let same : into_iter_items c.into_iter-seat-iterator.result ≡ c.args.others.items = search rules in
     record {
       server = λ o given.
-          all_made o (into_iter_items c.loop-stand.stand-iterator) c.args.others.items
-          (into_iter_items c.into_iter-seat-iterator.result) c.loop-stand.pools.items
-          (c.loop-stand.invariant.server o given) same;
-      count = omega (arith, c.in-None.ensures.steps.0, c.loop-stand.invariant.count);
+          all_made o (into_iter_items c.loop-thread_handle.thread_handle-iterator) c.args.others.items
+          (into_iter_items c.into_iter-seat-iterator.result) c.loop-thread_handle.pools.items
+          (c.loop-thread_handle.invariant.server o given) same;
+      count = omega (arith, c.in-None.ensures.steps.0, c.loop-thread_handle.invariant.count);
     }
 
 pub give-requires : goal.give-requires

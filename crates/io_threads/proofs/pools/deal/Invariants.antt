@@ -1,16 +1,16 @@
 use Rattle.std.proofs.Common.{◌≡◌, ◌+◌, [], length, vec_len}
 use Rattle.std.specs.Vec.Iter.{into_iter_items}
-use Rattle.faces.specs.Courses.{Origin}
+use Rattle.faces.specs.Histories.{Origin}
 use Rattle.io_threads.specs.Pools.{AreOf}
 use Rattle.io_threads.proofs.pools.deal.Given as goal
 
 -- the stands that are left, the seats, and the pools, are of the server that the stands and the seats are of; each
 -- stand that isn't left has its pool
-abbrev pub invariant-loop-stand : goal.invariant-loop-stand
-invariant-loop-stand l = record {
+abbrev pub invariant-loop-thread_handle : goal.invariant-loop-thread_handle
+invariant-loop-thread_handle l = record {
   server : (o : Origin) → AreOf o l.fn.stands.items l.fn.others.items []
-      → AreOf o (into_iter_items l.stand-iterator) l.fn.others.items l.pools.items;
-  count : vec_len l.pools + length (into_iter_items l.stand-iterator) ≡ vec_len l.fn.stands;
+      → AreOf o (into_iter_items l.thread_handle-iterator) l.fn.others.items l.pools.items;
+  count : vec_len l.pools + length (into_iter_items l.thread_handle-iterator) ≡ vec_len l.fn.stands;
 }
 
 -- the same of the seats that are left

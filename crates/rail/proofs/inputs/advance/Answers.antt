@@ -8,7 +8,7 @@ use Rattle.rail.proofs.inputs.advance.Goals as goal
 
 pub put_replies-requires-clause-ports : goal.put_replies-requires-clause-ports
 put_replies-requires-clause-ports g c =
-    let n = length c.args.posts.now.items in
+    let n = length c.args.reply_senders.now.items in
     subst (AreRepliesBelow n) (sym (c.in-Ok.ensures.outputs ∙ ap outputs_after c.in-Ok.ensures.published))
     (replies_next c.args.publisher.now.published c.args.input n c.requires.input.0 c.requires.input.1 c.requires.lawful
     c.requires.«open» c.requires.calls)

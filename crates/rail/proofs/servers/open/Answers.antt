@@ -4,27 +4,28 @@ use Rattle.node.specs.declared.messages.Input.{Input}
 use Rattle.node.specs.Replies.{AreOpenBelow}
 use Rattle.node.specs.Runs.{after}
 use Rattle.faces.specs.Publishers.{Publishing}
-use Rattle.rail.specs.declared.inbox.Ticket.{Ticket}
+use Rattle.rail.specs.declared.inbox.InboxKnowledge.{InboxKnowledge}
 use Rattle.rail.specs.Inlets.{inlets_from}
-use Rattle.rail.specs.Letters.{PostState}
-use Rattle.rail.specs.Servers.{seats_from, stands_from}
-use Rattle.rail.specs.Turns.{ArePosts}
+use Rattle.rail.specs.NotedReplies.{ReplySenderState}
+use Rattle.rail.specs.Servers.{seats_from, thread_handles_from}
+use Rattle.rail.specs.Turns.{AreReplySenders}
 use Rattle.rail.proofs.Opening.{are_opened, length_opened, idle_below}
 use Rattle.rail.proofs.servers.«open».Goals as goal
 
 pub new-worker-requires-clause-ports : goal.new-worker-requires-clause-ports
 new-worker-requires-clause-ports g c =
     let made = c.in-Ok-beside.ensures in
-    ap (λ (v : Ticket). v.ports) c.close.ensures.pass
-    ∙ (made.gate.0
-    ∙ sym (ap length made.posts
+    ap (λ (v : InboxKnowledge). v.ports) c.close.ensures.pass
+    ∙ (made.inbox_builder.0
+    ∙ sym (ap length made.reply_senders
     ∙ length_opened c.in-Ok.publisher.published.origin 0 (c.args.readers + c.args.more)))
 
-pub new-worker-requires-clause-posts : goal.new-worker-requires-clause-posts
-new-worker-requires-clause-posts g c =
+pub new-worker-requires-clause-reply_senders : goal.new-worker-requires-clause-reply_senders
+new-worker-requires-clause-reply_senders g c =
     let same = sym c.beside.ensures.publisher in
-    let posts = sym c.in-Ok-beside.ensures.posts in
-    subst (λ (x : Publishing × List PostState). ArePosts x.0.published.origin 0 x.1) (λ i. (same i, posts i))
+    let reply_senders = sym c.in-Ok-beside.ensures.reply_senders in
+    subst (λ (x : Publishing × List ReplySenderState). AreReplySenders x.0.published.origin 0 x.1)
+    (λ i. (same i, reply_senders i))
     (are_opened c.in-Ok.publisher.published.origin 0 (c.args.readers + c.args.more))
 
 pub new-worker-requires-clause-open : goal.new-worker-requires-clause-open
@@ -32,7 +33,7 @@ new-worker-requires-clause-open g c =
     let same = c.beside.ensures.publisher in
     let start = ap (λ (x : Publishing). x.published.origin.start) same ∙ c.in-Ok.ensures.start in
     let none = ap (λ (x : Publishing). x.published.inputs) same ∙ c.in-Ok.ensures.inputs in
-    let n = length c.in-Ok-beside.posts.items in
+    let n = length c.in-Ok-beside.reply_senders.items in
     subst (λ (is : List Input). AreOpenBelow n (after c.beside.new.publisher.published.origin.start is)) (sym none)
     (subst (AreOpenBelow n) (sym start) (idle_below c.args.node n c.requires.idle))
 
@@ -53,9 +54,9 @@ returns-in-Ok-beside g c =
             taken = [];
             published = record { origin = (same i).published.origin; inputs = none i };
             goes = true;
-            posts = made.posts i;
+            reply_senders = made.reply_senders i;
           });
-      stands = made.stands ∙ ap (λ (b : TableId). stands_from o b 0 c.args.readers) inbox;
+      stands = made.stands ∙ ap (λ (b : TableId). thread_handles_from o b 0 c.args.readers) inbox;
       seats = made.seats ∙ ap (λ (b : TableId). seats_from o b c.args.readers c.args.more) inbox;
       brought_by = made.inlets ∙ ap (λ (b : TableId). inlets_from b (c.args.readers + c.args.more) c.args.inlets) inbox;
     }

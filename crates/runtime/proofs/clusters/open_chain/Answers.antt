@@ -3,8 +3,8 @@ use Rattle.runtime.specs.Wiring.{Core, numbers, openings, starts_of}
 use Rattle.runtime.proofs.Standing.{seated}
 use Rattle.runtime.proofs.clusters.open_chain.Goals as goal
 
-pub all_sides-requires : goal.all_sides-requires
-all_sides-requires g c =
+pub all_parts-requires : goal.all_parts-requires
+all_parts-requires g c =
     let same : starts_of c.all_links.new.servers.items ≡ starts_of c.in_ok-servers.servers.items =
     ap (λ cs. map (λ (x : Core). x.worker.published.origin.start) cs) c.all_links.ensures.cores in
     let size : vec_len c.all_links.new.servers ≡ c.args.count =
@@ -14,7 +14,9 @@ all_sides-requires g c =
       links = c.in_ok-links.ensures.senders ∙ ap numbers (sym c.in_ok-links.ensures.count);
     }
 
-pub returns-clause-sides : goal.returns-clause-sides
-returns-clause-sides g c =
-    seated c.args.count c.in_ok-servers.servers.items c.all_links.new.servers.items c.in_ok-hall.sides.items
-    c.in_ok-servers.ensures.workers c.in_ok-servers.ensures.pools c.all_links.ensures.cores c.in_ok-hall.ensures.sides
+pub returns-clause-servers_parts : goal.returns-clause-servers_parts
+returns-clause-servers_parts g c =
+    seated c.args.count c.in_ok-servers.servers.items c.all_links.new.servers.items
+    c.in_ok-scheduler.servers_parts.items
+    c.in_ok-servers.ensures.workers c.in_ok-servers.ensures.pools c.all_links.ensures.cores
+    c.in_ok-scheduler.ensures.servers_parts

@@ -1,6 +1,6 @@
 use Rattle.std.proofs.Common.{sym, None, Some, add-one}
 use Rattle.std.proofs.lemmas.List.{take_rest}
-use Rattle.schedules.proofs.Places.{cut_from_first}
+use Rattle.schedules.proofs.Ordinals.{cut_from_first}
 use Rattle.schedules.proofs.cuts.cut.Goals as goal
 
 -- if there is no such byte, nothing is cut

@@ -8,5 +8,5 @@ unfolding picture_text
 returns c =
     on_ok_weaker c.put.result
     (five_more _ _ _ _ _ _ _ _ _ _ _
-    c.in_ok-put_head.ensures c.in_ok-put_marks.ensures c.in_ok-put_arrows.ensures c.in_ok-put_marks-2.ensures)
+    c.in_ok-put_head.ensures c.in_ok-put_glyphs.ensures c.in_ok-put_arrows.ensures c.in_ok-put_glyphs-2.ensures)
     c.put.ensures

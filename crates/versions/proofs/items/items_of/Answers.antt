@@ -1,7 +1,7 @@
 use Rattle.std.proofs.Common.{◌≡◌, [], ◌++◌, ap, sym, ◌∙◌, append-nil}
 use Rattle.std.specs.FinMap.{empty}
 use Rattle.std.proofs.lemmas.Map.Keys.{IsDistinct-from_sorted}
-use Rattle.table.specs.Keys.{place_cmp}
+use Rattle.table.specs.Keys.{tree_key_cmp}
 use Rattle.versions.specs.Records.{puts_of}
 use Rattle.versions.specs.Stores.{items_put}
 use Rattle.versions.proofs.Bases.{base-puts}
@@ -11,7 +11,8 @@ use Rattle.versions.proofs.items.items_of.Goals as goal
 pub returns : goal.returns
 returns c =
     let es = c.args.records.now.entries in
-    let none : c.loop-place.place-iterator ≡ [] = c.in-None.ensures.steps.0 in
-    let all : c.loop-place.found.items ≡ puts_of es = sym (append-nil c.loop-place.found.items)
-    ∙ ap (λ rest. c.loop-place.found.items ++ puts_of rest) (sym none) ∙ c.loop-place.invariant in
-    ap (items_put empty) all ∙ base-puts es (IsDistinct-from_sorted place_cmp _ c.iter-place-items.ensures.ordered)
+    let none : c.loop-tree_key.tree_key-iterator ≡ [] = c.in-None.ensures.steps.0 in
+    let all : c.loop-tree_key.found.items ≡ puts_of es = sym (append-nil c.loop-tree_key.found.items)
+    ∙ ap (λ rest. c.loop-tree_key.found.items ++ puts_of rest) (sym none) ∙ c.loop-tree_key.invariant in
+    ap (items_put empty) all ∙ base-puts es (IsDistinct-from_sorted tree_key_cmp _
+    c.iter-tree_key-items.ensures.ordered)

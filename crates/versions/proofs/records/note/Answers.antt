@@ -23,6 +23,6 @@ returns-in-Some-clause-err c =
 pub returns-in_ok-insert-in-None-clause-items : goal.returns-in_ok-insert-in-None-clause-items
 returns-in_ok-insert-in-None-clause-items c =
     items_stay c.args.records.now.entries _ c.args.key.now (record { item = None; numbers = c.push-in-None.new.self })
-    (ap item_in (c.in-None.ensures.value ∙ ap (record_at c.args.records.now.entries) c.place.ensures))
-    (λ q. rw (← c.in_ok-to_place-in-None.ensures, ← c.get_mut.follows.holds-at-none)
+    (ap item_in (c.in-None.ensures.value ∙ ap (record_at c.args.records.now.entries) c.tree_key.ensures))
+    (λ q. rw (← c.in_ok-to_tree_key-in-None.ensures, ← c.get_mut.follows.holds-at-none)
     (c.in_ok-insert-in-None.ensures.updates.0 q))

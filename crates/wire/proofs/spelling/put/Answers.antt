@@ -24,14 +24,14 @@ returns-in-Accepted c =
     c.put_head-in-Accepted.ensures.text c.put_acceptance.ensures
     ∙ ap (λ frame. old ++ spelling frame) (sym c.in-Accepted.is)
 
--- a greeting in a reign is written by its spelling
+-- a greeting in an epoch is written by its spelling
 pub returns-in-Reign : goal.returns-in-Reign
 returns-in-Reign c =
     let old = c.args.out.now.items in
     let marked = c.put_head-in-Reign.new.out.items in
-    let done = c.put_reign.new.out.items in
-    then_more old marked done (2 ∷ 11 ∷ []) (eight_bytes c.in-Reign.reign)
-    c.put_head-in-Reign.ensures.text c.put_reign.ensures
+    let done = c.put_epoch.new.out.items in
+    then_more old marked done (2 ∷ 11 ∷ []) (eight_bytes c.in-Reign.epoch)
+    c.put_head-in-Reign.ensures.text c.put_epoch.ensures
     ∙ ap (λ frame. old ++ spelling frame) (sym c.in-Reign.is)
 
 -- a beat is written by its spelling

@@ -15,13 +15,13 @@ returns c =
     let timed = c.extend_reserved-4.new.self.items in
     let lost = c.extend_reserved-5.new.self.items in
     let done = c.extend_reserved-6.new.self.items in
-    let reign = eight_bytes alive.reign in
+    let epoch = eight_bytes alive.epoch in
     let stamp = eight_bytes alive.stamp in
     let end = eight_bytes alive.end in
     let term = eight_bytes alive.term in
     let gone = to_be_bytes w16 alive.gone in
     let known = to_be_bytes w16 alive.known in
-    let reign_put = spelled_so old reigning c.to_be_bytes.result reign c.extend_reserved.ensures.items
+    let epoch_put = spelled_so old reigning c.to_be_bytes.result epoch c.extend_reserved.ensures.items
     c.to_be_bytes.ensures in
     let stamp_put = spelled_so reigning stamped c.to_be_bytes-2.result stamp c.extend_reserved-2.ensures.items
     c.to_be_bytes-2.ensures in
@@ -33,7 +33,7 @@ returns c =
     c.to_be_bytes-5.ensures in
     let known_put = spelled_so lost done c.to_be_bytes-6.result known c.extend_reserved-6.ensures.items
     c.to_be_bytes-6.ensures in
-    then_more old reigning done reign (stamp ++ (end ++ (term ++ (gone ++ known)))) reign_put
+    then_more old reigning done epoch (stamp ++ (end ++ (term ++ (gone ++ known)))) epoch_put
     (then_more reigning stamped done stamp (end ++ (term ++ (gone ++ known))) stamp_put
     (then_more stamped ended done end (term ++ (gone ++ known)) end_put
     (then_more ended timed done term (gone ++ known) term_put

@@ -9,10 +9,10 @@ returns c =
     let old = c.args.out.now.items in
     let reigning = c.extend_reserved.new.self.items in
     let done = c.extend_reserved-2.new.self.items in
-    let reign = eight_bytes beat.reign in
+    let epoch = eight_bytes beat.epoch in
     let stamp = eight_bytes beat.stamp in
-    let reign_put = spelled_so old reigning c.to_be_bytes.result reign c.extend_reserved.ensures.items
+    let epoch_put = spelled_so old reigning c.to_be_bytes.result epoch c.extend_reserved.ensures.items
     c.to_be_bytes.ensures in
     let stamp_put = spelled_so reigning done c.to_be_bytes-2.result stamp c.extend_reserved-2.ensures.items
     c.to_be_bytes-2.ensures in
-    then_more old reigning done reign stamp reign_put stamp_put
+    then_more old reigning done epoch stamp epoch_put stamp_put

@@ -1,7 +1,7 @@
 use Rattle.std.proofs.Common.{◌≡◌, ◌∙◌, sym}
 use Rattle.proto.specs.declared.sessions.Step.TheVariants.{Emit}
 use Rattle.proto.specs.Sessions.{next_of, step_of}
-use Rattle.world.proofs.courses.FaultLaws.{passed_step, shorter_step}
+use Rattle.world.proofs.positions.FaultLaws.{passed_step, shorter_step}
 use Rattle.world.proofs.connections.next_call.Goals as goal
 
 -- behind a fault fewer are to come, so the loop ends

@@ -1,4 +1,4 @@
-use Rattle.world.proofs.courses.Progress.{begin_passes_all, begin_closes}
+use Rattle.world.proofs.positions.Progress.{begin_passes_all, begin_closes}
 use Rattle.world.proofs.laws.begin_leaves_no_request.Goals as goal
 
 -- a begin at a living home after which no call is open has passed all turns of the stream

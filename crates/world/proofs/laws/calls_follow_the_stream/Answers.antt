@@ -1,4 +1,4 @@
-use Rattle.world.proofs.courses.CoursesRun.{begun_is, answered_is}
+use Rattle.world.proofs.positions.PositionsRun.{begun_is, answered_is}
 use Rattle.world.proofs.laws.calls_follow_the_stream.Goals as goal
 
 -- the calls that a connection has begun are the first among the turns of its stream
@@ -10,7 +10,7 @@ returns-clause-begun c =
       answers = c.answer_keeps_turns.ensures;
     }) c.faults_take_bytes.ensures
 
--- as many of them are answered as there are calls up to its place
+-- as many of them are answered as there are calls up to its ordinal
 pub returns-clause-answered : goal.returns-clause-answered
 returns-clause-answered c =
     answered_is (record {

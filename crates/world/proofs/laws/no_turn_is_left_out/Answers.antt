@@ -1,4 +1,4 @@
-use Rattle.world.proofs.courses.Progress.{is_at}
+use Rattle.world.proofs.positions.Progress.{is_at}
 use Rattle.world.proofs.laws.no_turn_is_left_out.Goals as goal
 
 -- the turns of a stream are those that its connection has passed, the open one, and those still to come

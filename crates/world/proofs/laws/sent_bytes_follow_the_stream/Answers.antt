@@ -1,7 +1,7 @@
-use Rattle.world.proofs.courses.CoursesRun.{sent_is}
+use Rattle.world.proofs.positions.PositionsRun.{sent_is}
 use Rattle.world.proofs.laws.sent_bytes_follow_the_stream.Goals as goal
 
--- a connection was sent the texts of its stream's turns up to its place, however the stream was cut
+-- a connection was sent the texts of its stream's turns up to its ordinal, however the stream was cut
 pub returns : goal.returns
 returns c =
     sent_is (record {

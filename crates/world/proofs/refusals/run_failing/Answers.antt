@@ -23,7 +23,7 @@ returns-in_ok-transcript-in-Ok-clause-stepped c =
     subst (λ (w : World). WouldStep w c.args.events.now c.in-Ok.refused.items p.0 p.1) start
     (c.in-Ok.ensures.run.stepped n p here)
 
--- each connection is shown to have been sent the texts of the turns up to its place
+-- each connection is shown to have been sent the texts of the turns up to its ordinal
 pub returns-in_ok-transcript-in-Ok-clause-sent : goal.returns-in_ok-transcript-in-Ok-clause-sent
 returns-in_ok-transcript-in-Ok-clause-sent c =
     let start = c.into_world-world.ensures ∙ ap (λ (s : SceneState). s.world) c.in_ok-new.ensures.opening in

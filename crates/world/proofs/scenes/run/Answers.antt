@@ -15,7 +15,7 @@ returns-clause-shown c =
     ap (λ t. reply_shown t x) is
     ∙ c.transcripts_show_the_calls.ensures.reply c.args.count c.args.homes.now c.args.events.now x
 
--- each connection is shown to have been sent the texts of the turns up to its place
+-- each connection is shown to have been sent the texts of the turns up to its ordinal
 pub returns-clause-sent : goal.returns-clause-sent
 returns-clause-sent c =
     let all : length c.args.events.now ≤ c.loop-event.event-index = omega (arith, c.loop-event-test.false) in

@@ -7,4 +7,4 @@ invariant_of-result c =
     (ap (λ (v : Knowledge). v.knows) c.requires.server, ap (λ (v : Knowledge). v.origin) c.requires.server)
 
 pub returns : goal.returns
-returns c = ap (λ (v : Knowledge). record { seen = c.args.front; looks = v.courses }) c.requires.server
+returns c = ap (λ (v : Knowledge). record { seen = c.args.log_position; looks = v.histories }) c.requires.server

@@ -5,8 +5,8 @@ use Rattle.faces.proofs.version_trees.VersionTree.set.Goals as goal
 
 pub less-self-inside-requires : goal.less-self-inside-requires
 less-self-inside-requires c =
-    counted_before c.self.inside.tree.entries c.in_ok-to_place.field-0 c.args.key.now c.in-Some-before.before
-    c.in_ok-before.before c.self.inside.bytes c.in-Some.bytes _ c.in_ok-to_place.ensures c.in_ok-before.ensures.old
+    counted_before c.self.inside.tree.entries c.in_ok-to_tree_key.field-0 c.args.key.now c.in-Some-before.before
+    c.in_ok-before.before c.self.inside.bytes c.in-Some.bytes _ c.in_ok-to_tree_key.ensures c.in_ok-before.ensures.old
     c.self.invariant c.in-Some.ensures c.in-Some-before.is
 
 pub invariant_of-self-2 : goal.invariant_of-self-2
@@ -19,13 +19,13 @@ invariant_of-self-2 c =
           w.less-self-inside.ensures)
       | in-None w ↦ rw w.self-is (less_none k o _ c.in-Some.bytes w.in-None.is refl)
     ] in
-    count_set c.self.inside.tree.entries c.insert-2.new.self.entries c.in_ok-to_place.field-0 k c.in_ok-again.field-0
-    c.args.version.now o c.self.inside.bytes c.in-Some.bytes c.match-before.self c.in_ok-to_place.ensures
+    count_set c.self.inside.tree.entries c.insert-2.new.self.entries c.in_ok-to_tree_key.field-0 k c.in_ok-again.field-0
+    c.args.version.now o c.self.inside.bytes c.in-Some.bytes c.match-before.self c.in_ok-to_tree_key.ensures
     c.in_ok-again.ensures c.in_ok-before.ensures.updates.0 c.in_ok-before.ensures.old c.self.invariant
     c.in-Some.ensures less
 
 pub returns-clause-ok : goal.returns-clause-ok
 returns-clause-ok c = rw (← c.self.view_is)
-    (map_set c.self.inside.tree.entries c.insert-2.new.self.entries c.in_ok-to_place.field-0 c.args.key.now
-    c.in_ok-again.field-0 c.args.version.now c.in_ok-to_place.ensures c.in_ok-again.ensures
+    (map_set c.self.inside.tree.entries c.insert-2.new.self.entries c.in_ok-to_tree_key.field-0 c.args.key.now
+    c.in_ok-again.field-0 c.args.version.now c.in_ok-to_tree_key.ensures c.in_ok-again.ensures
     c.in_ok-before.ensures.updates.0)

@@ -1,5 +1,5 @@
 use Rattle.std.proofs.Common.{◌≡◌, ◌≤◌, false}
-use Rattle.faces.specs.Courses.{IsLater}
+use Rattle.faces.specs.Histories.{IsLater}
 use Rattle.io_threads.specs.Clients.{HasPassed}
 use Rattle.io_threads.proofs.clients.Client.go_on.Given as goal
 
@@ -7,10 +7,10 @@ use Rattle.io_threads.proofs.clients.Client.go_on.Given as goal
 abbrev pub invariant-loop : goal.invariant-loop
 invariant-loop g l =
     record {
-      known : IsLater l.self.talk.seen l.pool.seen;
+      known : IsLater l.self.client_connection.seen l.pool.seen;
       later : IsLater l.fn.pool.seen l.pool.seen;
       whole : l.self.refused ≡ false;
-      first : l.self.talk.first ≡ l.fn.self.talk.first;
+      first : l.self.client_connection.first ≡ l.fn.self.client_connection.first;
       given : HasPassed l.fn.self.given l.self.given;
       taken : HasPassed l.fn.self.taken l.self.taken;
       gone : l.self.gone ≡ l.fn.self.gone;

@@ -4,9 +4,9 @@ use Rattle.crossbeam_channel.specs.Claims.{view}
 use Rattle.node.specs.declared.messages.Input.{Input}
 use Rattle.node.specs.Lawful.{IsInput, HoldsEntry}
 use Rattle.node.specs.Replies.{AreCallsBelow, AreOpenBelow}
-use Rattle.faces.specs.Courses.{Course, server_after, with_next}
+use Rattle.faces.specs.Histories.{History, server_after, with_next}
 use Rattle.faces.specs.Publishers.{Publishing}
-use Rattle.rail.specs.Letters.{PostState}
+use Rattle.rail.specs.NotedReplies.{ReplySenderState}
 use Rattle.rail.specs.Turns.{HasReplied}
 use Rattle.rail.specs.Workers.{WorkerState, IsGoing}
 use Rattle.rail.proofs.Replying.{replied_none}
@@ -23,7 +23,7 @@ returns-in_default-clause-did g c =
             record {
               published = refl;
               stopped = ap is_some none;
-              replies = replied_none c.self.inside.told 0 c.self.inside.posts.items;
+              replies = replied_none c.self.inside.told 0 c.self.inside.reply_senders.items;
               closed =
                   c.self.invariant.closed none;
             };
@@ -49,13 +49,13 @@ invariant_of-self-then-is_ok g c =
     let got = c.into_input-input.ensures in
     let back = sym c.self.view_is in
     let same = sym got.0 in
-    let calls = subst (λ (x : ℕ × Input). AreCallsBelow x.0 (x.1 ∷ [])) (λ i. (length (back i).posts, same i))
+    let calls = subst (λ (x : ℕ × Input). AreCallsBelow x.0 (x.1 ∷ [])) (λ i. (length (back i).reply_senders, same i))
     c.requires.port in
     let ok : is_err done.result ≡ false = search rules in
     let next = ok_by done.result _ ok done.ensures.next in
     let goes = ok_by done.result _ ok done.ensures.goes in
     going_worker (Some done.new.publisher) c.in-Some.publisher done.new.publisher me.told done.new.told
-    c.into_input-input.result me.posts.items _ _ _
+    c.into_input-input.result me.reply_senders.items _ _ _
     refl going goes next.0 next.1 (ok_by done.result _ ok done.ensures.replies) c.self.invariant.placed
     c.self.invariant.as_many
     (subst IsInput same got.1) (subst HoldsEntry same got.2) calls
@@ -68,7 +68,8 @@ returns-then-is_ok-clause-did g c =
     let going =
     subst (λ (o : Option Publishing). IsGoing o me.told (view me.inbox.pass).ports) some c.self.invariant.going in
     let got = c.into_input-input.ensures in
-    let calls = subst (λ (w : WorkerState). AreCallsBelow (length w.posts) (c.args.input ∷ [])) (sym c.self.view_is)
+    let calls = subst (λ (w : WorkerState). AreCallsBelow (length w.reply_senders) (c.args.input ∷ []))
+    (sym c.self.view_is)
     c.requires.port in
     let ok : is_err done.result ≡ false = search rules in
     let next = ok_by done.result _ ok done.ensures.next in
@@ -90,8 +91,9 @@ invariant_of-self-2 g c =
     let refused : is_err done.result ≡ true = search rules in
     let told' = done.new.told in
     let origin = cut_origin _ _ c.in-Some.publisher.published told' c.into_input-input.result
-    (err_by done.result _ refused done.ensures.cut) ∙ ap (λ (x : Course). x.origin) going.0 in
-    let closed = subst (λ (ps : List PostState). HasReplied told' 0 ps c.close_all.new.posts.items [])
+    (err_by done.result _ refused done.ensures.cut) ∙ ap (λ (x : History). x.origin) going.0 in
+    let closed = subst (λ (ps : List ReplySenderState). HasReplied told' 0 ps c.close_all.new.reply_senders.items [])
     (err_by done.result _ refused done.ensures.unreplied) (c.close_all.ensures.replies told') in
-    stopped_worker c.take.new.self told' me.posts.items _ _ me.told.origin after origin closed c.self.invariant.placed
+    stopped_worker c.take.new.self told' me.reply_senders.items _ _ me.told.origin after origin closed
+    c.self.invariant.placed
     c.self.invariant.as_many c.close_all.ensures.closed

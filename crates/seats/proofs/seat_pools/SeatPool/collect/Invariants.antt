@@ -1,5 +1,5 @@
 use Rattle.std.proofs.Common.{◌≡◌}
-use Rattle.faces.specs.Courses.{IsLater}
+use Rattle.faces.specs.Histories.{IsLater}
 use Rattle.seats.specs.SeatPools.{HasAllSeats}
 use Rattle.seats.proofs.seat_pools.SeatPool.collect.Given as goal
 

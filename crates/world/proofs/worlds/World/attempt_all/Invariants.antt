@@ -3,5 +3,5 @@ use Rattle.world.specs.LivingParts.{IsFailingRun}
 use Rattle.world.proofs.worlds.World.attempt_all.Given as goal
 
 -- so far these events have happened or been refused
-abbrev pub invariant-loop-place : goal.invariant-loop-place
-invariant-loop-place l = IsFailingRun l.fn.self (take l.place l.events) l.refused.items l.self
+abbrev pub invariant-loop-ordinal : goal.invariant-loop-ordinal
+invariant-loop-ordinal l = IsFailingRun l.fn.self (take l.ordinal l.events) l.refused.items l.self

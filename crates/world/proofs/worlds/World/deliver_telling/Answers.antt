@@ -1,8 +1,8 @@
 use Rattle.std.proofs.Common.{◌≡◌, sym, ◌∙◌, subst, true, OnOk, IfOk}
-use Rattle.world.specs.declared.deeds.Deed.{Deed}
+use Rattle.world.specs.declared.event_effects.EventEffect.{EventEffect}
 use Rattle.world.specs.Worlds.{World, lives}
 use Rattle.world.proofs.bodies.LinkLists.{message_delivered, none_delivered}
-use Rattle.world.proofs.bodies.DeedLaws.{message_deed, no_message_deed}
+use Rattle.world.proofs.bodies.EventEffectLaws.{message_event_effect, no_message_event_effect}
 use Rattle.world.proofs.worlds.World.deliver_telling.Goals as goal
 
 -- the first message of the link is given to the server
@@ -14,12 +14,12 @@ returns-in-Some-clause-ok c =
     c.in-Some.ensures.first c.in-Some.ensures.rest) c.take_telling.ensures.ok
 
 -- what the server made of the message is told
-pub returns-in-Some-clause-deed : goal.returns-in-Some-clause-deed
-returns-in-Some-clause-deed c =
+pub returns-in-Some-clause-event_effect : goal.returns-in-Some-clause-event_effect
+returns-in-Some-clause-event_effect c =
     let alive : lives c.args.self.now c.args.j ≡ true = sym c.lives.ensures.lives ∙ c.if-not-lives.false in
-    subst (λ (x : Deed). IfOk c.take_telling.result (λ deed. deed ≡ x))
-    (message_deed _ _ c.self.view_is c.args.i c.args.j c.in-Some.message _ alive c.in-Some.ensures.first)
-    c.take_telling.ensures.deed
+    subst (λ (x : EventEffect). IfOk c.take_telling.result (λ event_effect. event_effect ≡ x))
+    (message_event_effect _ _ c.self.view_is c.args.i c.args.j c.in-Some.message _ alive c.in-Some.ensures.first)
+    c.take_telling.ensures.event_effect
 
 -- from a link without messages nothing is delivered
 pub returns-in-None-clause-ok : goal.returns-in-None-clause-ok
@@ -27,5 +27,6 @@ returns-in-None-clause-ok c =
     none_delivered _ _ c.self.view_is c.args.i c.args.j c.pop.new.self c.in-None.ensures.first c.in-None.ensures.rest
 
 -- of a link without messages it is told that nothing was done
-pub returns-in-None-clause-deed : goal.returns-in-None-clause-deed
-returns-in-None-clause-deed c = no_message_deed _ _ c.self.view_is c.args.i c.args.j c.in-None.ensures.first
+pub returns-in-None-clause-event_effect : goal.returns-in-None-clause-event_effect
+returns-in-None-clause-event_effect c =
+    no_message_event_effect _ _ c.self.view_is c.args.i c.args.j c.in-None.ensures.first

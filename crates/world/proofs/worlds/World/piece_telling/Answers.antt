@@ -1,18 +1,19 @@
 use Rattle.std.proofs.Common.{sym, ◌∙◌}
 use Rattle.world.specs.Connections.{came}
-use Rattle.world.specs.Deeds.{piece_deed}
+use Rattle.world.specs.EventEffects.{piece_event_effect}
 use Rattle.world.proofs.bodies.ConnectionLists.{served_changed, unserved_kept}
-use Rattle.world.proofs.bodies.DeedLaws.{served_deed}
+use Rattle.world.proofs.bodies.EventEffectLaws.{served_event_effect}
 use Rattle.world.proofs.worlds.World.piece_telling.Goals as goal
 
 -- at a connection with a living home the bytes come
 pub returns-then-home_lives-clause-ok : goal.returns-then-home_lives-clause-ok
 returns-then-home_lives-clause-ok c = served_changed _ _ c.self.view_is c.args.c (came c.args.bytes.now) _ _
-    (sym c.home_lives.ensures ∙ c.if-home_lives.true) c.index_mut.ensures.value c.in_ok-deed.ensures.ok
+    (sym c.home_lives.ensures ∙ c.if-home_lives.true) c.index_mut.ensures.value c.in_ok-event_effect.ensures.ok
 
 -- what a piece at a living home did is told
-pub returns-then-home_lives-clause-deed : goal.returns-then-home_lives-clause-deed
-returns-then-home_lives-clause-deed c = c.in_ok-deed.ensures.deed ∙ served_deed _ _ c.self.view_is c.args.c piece_deed _
+pub returns-then-home_lives-clause-event_effect : goal.returns-then-home_lives-clause-event_effect
+returns-then-home_lives-clause-event_effect c =
+    c.in_ok-event_effect.ensures.event_effect ∙ served_event_effect _ _ c.self.view_is c.args.c piece_event_effect _
     (sym c.home_lives.ensures ∙ c.if-home_lives.true) c.index_mut.ensures.value
 
 -- at any other connection nothing happens

@@ -1,11 +1,11 @@
 use Rattle.std.proofs.Common.{◌≡◌, sym, ◌∙◌, ap, subst, true, OnOk, IfOk, Some, None}
 use Rattle.std.specs.Prelude.{slice_get}
-use Rattle.world.specs.declared.deeds.Deed.{Deed}
+use Rattle.world.specs.declared.event_effects.EventEffect.{EventEffect}
 use Rattle.world.specs.Connections.{to_work, asked}
 use Rattle.world.specs.Worlds.{World, home_lives}
-use Rattle.world.specs.Deeds.{call_deed}
+use Rattle.world.specs.EventEffects.{call_event_effect}
 use Rattle.world.proofs.bodies.ConnectionLists.{call_worked, none_worked}
-use Rattle.world.proofs.bodies.DeedLaws.{served_work, called_deed}
+use Rattle.world.proofs.bodies.EventEffectLaws.{served_work, called_event_effect}
 use Rattle.world.proofs.worlds.World.work_telling.Goals as goal
 
 -- the begun call goes to its server, and what that puts out goes its ways
@@ -21,15 +21,15 @@ returns-in-Some-clause-ok c =
     c.index_mut-connection.ensures.value c.home-home.ensures call_is asked_is) c.take_telling.ensures.ok
 
 -- what the server made of the call is told
-pub returns-in-Some-clause-deed : goal.returns-in-Some-clause-deed
-returns-in-Some-clause-deed c =
+pub returns-in-Some-clause-event_effect : goal.returns-in-Some-clause-event_effect
+returns-in-Some-clause-event_effect c =
     let served : home_lives c.args.self.now (slice_get c.args.self.now.connections c.args.c) ≡ true =
     sym c.home_lives.ensures ∙ c.if-not-home_lives.false in
     let old = c.index_mut-connection.result.now in
     let call_is : Some c.in-Some.call ≡ to_work old.stage old = sym c.in-Some.is ∙ c.in_ok-call.ensures.call in
-    subst (λ (x : Deed). IfOk c.take_telling.result (λ deed. deed ≡ x))
-    (called_deed _ _ c.self.view_is c.args.c c.home-home.result old c.in-Some.call _ served
-    c.index_mut-connection.ensures.value c.home-home.ensures call_is) c.take_telling.ensures.deed
+    subst (λ (x : EventEffect). IfOk c.take_telling.result (λ event_effect. event_effect ≡ x))
+    (called_event_effect _ _ c.self.view_is c.args.c c.home-home.result old c.in-Some.call _ served
+    c.index_mut-connection.ensures.value c.home-home.ensures call_is) c.take_telling.ensures.event_effect
 
 -- if no call was begun, nothing happens
 pub returns-in-None-clause-ok : goal.returns-in-None-clause-ok
@@ -43,11 +43,11 @@ returns-in-None-clause-ok c =
     c.index_mut-connection.ensures.value none kept
 
 -- if no call was begun, it is told that nothing was done
-pub returns-in-None-clause-deed : goal.returns-in-None-clause-deed
-returns-in-None-clause-deed c =
+pub returns-in-None-clause-event_effect : goal.returns-in-None-clause-event_effect
+returns-in-None-clause-event_effect c =
     let served : home_lives c.args.self.now (slice_get c.args.self.now.connections c.args.c) ≡ true =
     sym c.home_lives.ensures ∙ c.if-not-home_lives.false in
     let old = c.index_mut-connection.result.now in
     let none : None ≡ to_work old.stage old = sym c.in-None.is ∙ c.in_ok-call.ensures.call in
-    ap (call_deed c.args.self.now c.args.c old.home) none
+    ap (call_event_effect c.args.self.now c.args.c old.home) none
     ∙ sym (served_work _ _ c.self.view_is c.args.c old served c.index_mut-connection.ensures.value)

@@ -1,0 +1,315 @@
+//! The clients of one thread at one server, and the seats that it has there.
+
+use crate::clients::{Pause, Ready};
+use crate::loop_handles::Arrival;
+use crate::served_clients::{ServedClients, Waits};
+use crate::wait_queues::WaitQueue;
+use mio::{Interest, Registry, Token};
+use seats::{Mark, OutputPermit, SeatPool};
+use std::alloc::{AllocError, Global};
+use std::sync::Wait;
+use std::time::Clock;
+
+/// How many servers a process has at most; tokens hold a client's key times this, and the server's id.
+pub(crate) const SERVERS: usize = 16;
+
+/// What a connection table is made of. Unlike the connection table it may be sent to another thread.
+#[derive(Drop)]
+pub(crate) struct ConnectionTableParts {
+    /// The server.
+    pub(crate) id: u8,
+    pub(crate) pool: SeatPool,
+    /// Set as soon as the server answers no more calls.
+    pub(crate) mark: Mark,
+    /// What may hold back the server's output.
+    pub(crate) output_permit: OutputPermit,
+}
+
+/// The clients of one thread at one server. Each waits for its socket, or its key stands in one of the four lines,
+/// once.
+#[derive(Drop)]
+pub(crate) struct ConnectionTable {
+    id: u8,
+    served_clients: ServedClients,
+    // The keys of those that may go on.
+    queue: WaitQueue,
+    // Of those whose calls wait for a seat. One is free only while such a call is about to be sent.
+    line: WaitQueue,
+    // Of those whose calls were sent.
+    asking: WaitQueue,
+    // Of those whose output the server may not put out yet.
+    held: WaitQueue,
+    // Whether a call was sent since this was last asked for.
+    has_sent: bool,
+    // Set as soon as the server answers no more calls.
+    mark: Mark,
+    // What may hold back the server's output.
+    output_permit: OutputPermit,
+    // Whether all clients were closed for that, and none is let in.
+    is_shut: bool,
+}
+
+impl ConnectionTable {
+    /// Without clients. It allocates nothing.
+    pub(crate) fn new(alloc: Global, table_parts: ConnectionTableParts) -> ConnectionTable {
+        let ConnectionTableParts {
+            id,
+            pool,
+            mark,
+            output_permit,
+        } = table_parts;
+        ConnectionTable {
+            id,
+            served_clients: ServedClients::new(alloc, pool),
+            queue: WaitQueue::new(alloc),
+            line: WaitQueue::new(alloc),
+            asking: WaitQueue::new(alloc),
+            held: WaitQueue::new(alloc),
+            has_sent: false,
+            mark,
+            output_permit,
+            is_shut: false,
+        }
+    }
+
+    /// A connection table of each. Refused only if memory is out.
+    pub(crate) fn open_all(
+        alloc: Global,
+        all: Vec<ConnectionTableParts>,
+    ) -> Result<Vec<ConnectionTable>, AllocError> {
+        let mut connection_tables = Vec::new(alloc);
+        for table_parts in all {
+            connection_tables.push(ConnectionTable::new(alloc, table_parts))?;
+        }
+        Ok(connection_tables)
+    }
+
+    /// Its server.
+    pub(crate) fn id(&self) -> u8 {
+        self.id
+    }
+
+    /// Whether it has no client.
+    pub(crate) fn is_empty(&self) -> bool {
+        self.served_clients.is_empty()
+    }
+
+    /// Whether a client may take steps.
+    pub(crate) fn is_busy(&self) -> bool {
+        !self.queue.is_empty()
+    }
+
+    /// Whether a reply is waited for: that to a client's call, or one that frees a seat for it.
+    pub(crate) fn awaits_reply(&self) -> bool {
+        !self.asking.is_empty() || !self.line.is_empty()
+    }
+
+    /// Whether output of a client waits until the server may put it out.
+    pub(crate) fn holds_output(&self) -> bool {
+        !self.held.is_empty()
+    }
+
+    /// Whether a call was sent since this was last asked.
+    pub(crate) fn take_sent(&mut self) -> bool {
+        let sent = self.has_sent;
+        self.has_sent = false;
+        sent
+    }
+
+    /// Takes a client in, which is closed at once if the server answers no more calls, or memory is out.
+    pub(crate) fn admit(&mut self, registry: &Registry, arrival: Arrival) {
+        if self.is_shut || self.mark.is_set() {
+            drop(arrival);
+            return;
+        }
+        let Arrival {
+            permit,
+            mut stream,
+            ..
+        } = arrival;
+        let _ = stream.set_nodelay(true);
+        let token = self
+            .served_clients
+            .next_key()
+            .wrapping_mul(SERVERS)
+            .wrapping_add(usize::from(self.id));
+        let interests = Interest::READABLE | Interest::WRITABLE;
+        if registry
+            .register(&mut stream, Token(token), interests)
+            .is_ok()
+        {
+            self.served_clients.add(stream, permit);
+        } else {
+            drop(permit);
+            drop(stream);
+        }
+    }
+
+    /// A client's socket was found ready for this. If it waits for that, it goes on for a while. If it is gone while
+    /// its call or its output waits, it is closed at once.
+    pub(crate) fn is_ready_for<R: Wait + Clock>(
+        &mut self,
+        rt: &R,
+        key: usize,
+        ready: Ready,
+        piece: &mut [u8],
+    ) {
+        match self.served_clients.is_ready_for(key, ready) {
+            Some(Waits::Socket) => self.go(rt, key, piece),
+            Some(Waits::Seat) => {
+                if ready.gone {
+                    self.line.leave(key);
+                    self.served_clients.close(key);
+                }
+            }
+            Some(Waits::Reply) => {
+                if ready.gone {
+                    self.asking.leave(key);
+                    self.served_clients.close(key);
+                }
+            }
+            Some(Waits::Lease) => {
+                if ready.gone {
+                    self.held.leave(key);
+                    self.served_clients.close(key);
+                }
+            }
+            Some(Waits::Turn) | None => {}
+        }
+    }
+
+    /// Looks at a client, so that it is near once it goes on.
+    pub(crate) fn look_at(&self, key: usize) -> usize {
+        self.served_clients.look_at(key)
+    }
+
+    /// Closes all clients, without a further byte, if the server is marked and they weren't closed before.
+    pub(crate) fn mind_mark(&mut self) {
+        if !self.is_shut && self.mark.is_set() {
+            self.shut();
+        }
+    }
+
+    // Closes all clients, for ever.
+    fn shut(&mut self) {
+        self.is_shut = true;
+        self.queue.clear();
+        self.line.clear();
+        self.asking.clear();
+        self.held.clear();
+        self.served_clients.close_all();
+    }
+
+    /// Has each client that may take steps take some. Those whose output waited may, once the server may put it out.
+    pub(crate) fn serve_queue<R: Wait + Clock>(&mut self, rt: &R, piece: &mut [u8]) {
+        self.serve_held(rt, piece);
+        for _ in 0..self.queue.len() {
+            let Some(key) = self.queue.next() else {
+                return;
+            };
+            self.go(rt, key, piece);
+        }
+    }
+
+    /// Takes the replies that stand at its seats, and has their clients go on, and those for whom a seat is free.
+    /// Whether there were any.
+    pub(crate) fn collect<R: Wait + Clock>(&mut self, rt: &R, piece: &mut [u8]) -> bool {
+        self.mind_mark();
+        self.served_clients.collect(rt);
+        let mut any = self.serve_line(rt, piece);
+        for _ in 0..self.asking.len() {
+            let Some(key) = self.asking.next() else {
+                return any;
+            };
+            match self.served_clients.hear(rt, key) {
+                Some(false) => self.await_reply(key),
+                Some(true) => {
+                    any = true;
+                    self.serve_line(rt, piece);
+                    self.go(rt, key, piece);
+                }
+                None => {
+                    self.shut();
+                    return true;
+                }
+            }
+        }
+        any
+    }
+
+    // Has those that stand in line for a seat go on, as long as one is free. Whether there were any.
+    fn serve_line<R: Wait + Clock>(&mut self, rt: &R, piece: &mut [u8]) -> bool {
+        let mut any = false;
+        for _ in 0..self.line.len() {
+            if !self.served_clients.has_free_seat() {
+                return any;
+            }
+            let Some(key) = self.line.next() else {
+                return any;
+            };
+            any = true;
+            self.go(rt, key, piece);
+        }
+        any
+    }
+
+    // Has those go on whose output waits, if the server may put it out now.
+    fn serve_held<R: Wait + Clock>(&mut self, rt: &R, piece: &mut [u8]) {
+        if self.held.is_empty() || !self.output_permit.lets(rt) {
+            return;
+        }
+        for _ in 0..self.held.len() {
+            let Some(key) = self.held.next() else {
+                return;
+            };
+            self.go(rt, key, piece);
+        }
+    }
+
+    // Has a client go on for a while, unless the server is marked: then all are closed.
+    fn go<R: Wait + Clock>(&mut self, rt: &R, key: usize, piece: &mut [u8]) {
+        if self.mark.is_set() {
+            self.shut();
+            return;
+        }
+        match self.served_clients.go(rt, key, piece, &self.output_permit) {
+            Pause::Turn => self.enqueue(key),
+            Pause::Socket => {}
+            Pause::Seat => self.stand_in_line(key),
+            Pause::Reply => {
+                self.has_sent = true;
+                self.await_reply(key);
+            }
+            Pause::Lease => self.hold(key),
+            Pause::Over => self.served_clients.close(key),
+        }
+    }
+
+    // A client may go on.
+    fn enqueue(&mut self, key: usize) {
+        if self.queue.join(key).is_err() {
+            self.served_clients.close(key);
+        }
+    }
+
+    // A client's call waits for a seat.
+    fn stand_in_line(&mut self, key: usize) {
+        if self.line.join(key).is_err() {
+            self.served_clients.close(key);
+        }
+    }
+
+    // A client's call was sent. There is room for as many as there are seats, so memory is never out here.
+    fn await_reply(&mut self, key: usize) {
+        if self.asking.join(key).is_err() {
+            self.shut();
+        }
+    }
+
+    // A client's output waits until the server may put it out.
+    fn hold(&mut self, key: usize) {
+        if self.held.join(key).is_err() {
+            self.served_clients.close(key);
+        }
+    }
+}

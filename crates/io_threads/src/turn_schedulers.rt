@@ -1,0 +1,63 @@
+//! Who takes the turns of the servers' workers.
+
+use rail::PortSet;
+use seats::ServerSet;
+
+/// What came of a visit to a server.
+#[derive(Clone, Copy, Debug)]
+pub struct Visit {
+    /// How many turns were taken.
+    pub turns: usize,
+    /// The servers where a turn is due then.
+    pub due: ServerSet,
+    /// The ports to which replies were put.
+    pub replied: PortSet,
+}
+
+impl Visit {
+    /// A visit at which nothing was done.
+    pub fn nothing() -> Visit {
+        Visit {
+            turns: 0,
+            due: ServerSet::new(),
+            replied: PortSet::new(),
+        }
+    }
+}
+
+/// Where the turns of the servers of one process are taken. Nobody waits there: a server at whose worker another thread
+/// is has its turns taken by that thread.
+///
+/// Who has put a call into a server's inbox says so (`expect`), and then takes turns there, and at each server that is
+/// answered as due; or it leaves them to the server's own thread.
+pub trait TurnScheduler {
+    /// A call was put into the inbox of server `id`, where turns will be taken.
+    fn expect(&self, id: u8);
+
+    /// Takes up to this many turns of server `id`, if no other thread is at it.
+    fn take_turns(&self, id: u8, most: usize) -> Visit;
+
+    /// The servers where a turn may be due.
+    fn all_due(&self) -> ServerSet;
+
+    /// Leaves it to these servers' own threads to take turns there.
+    fn leave(&self, servers: ServerSet);
+}
+
+/// A scheduler for whom others take all turns: each worker has a thread of its own, which its inbox wakes.
+#[derive(Clone, Copy, Debug, Drop)]
+pub struct ScheduledElsewhere;
+
+impl TurnScheduler for ScheduledElsewhere {
+    fn expect(&self, _id: u8) {}
+
+    fn take_turns(&self, _id: u8, _most: usize) -> Visit {
+        Visit::nothing()
+    }
+
+    fn all_due(&self) -> ServerSet {
+        ServerSet::new()
+    }
+
+    fn leave(&self, _servers: ServerSet) {}
+}

@@ -1,0 +1,9 @@
+use Rattle.std.proofs.Common.{◌≡◌, ◌++◌, map, take, drop}
+use Rattle.leases.specs.ServerRecords.{ServerRecordState, begun}
+use Rattle.leases.proofs.master_machines.begin_all.Given as goal
+
+abbrev pub invariant-loop-server_record : goal.invariant-loop-server_record
+invariant-loop-server_record l =
+    l.server_records ≡ map (λ (w : ServerRecordState). begun w l.epoch)
+    (take l.server_record-index l.initial.server_records)
+    ++ drop l.server_record-index l.initial.server_records

@@ -1,0 +1,17 @@
+use Rattle.std.proofs.Common.{arith}
+use Rattle.leases.specs.ServerRecords.{ServerRecordState, spared}
+use Rattle.leases.proofs.Passes.{written_more, written_all}
+use Rattle.leases.proofs.master_machines.spare_all.Goals as goal
+
+pub loop-server_record-preserved : goal.loop-server_record-preserved
+loop-server_record-preserved c =
+    written_more (λ (w : ServerRecordState). spared w) c.args.server_records.now c.loop-server_record.server_records
+    c.loop-server_record.server_record-index
+    c.server_record-item.result c.spare.new.self (omega arith) c.loop-server_record.invariant c.server_record-item.is
+    c.spare.ensures
+
+pub returns : goal.returns
+returns c =
+    written_all (λ (w : ServerRecordState). spared w) c.args.server_records.now c.loop-server_record.server_records
+    c.loop-server_record.server_record-index
+    (omega arith) c.loop-server_record.invariant

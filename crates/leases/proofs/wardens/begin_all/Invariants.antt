@@ -1,8 +1,0 @@
-use Rattle.std.proofs.Common.{◌≡◌, ◌++◌, map, take, drop}
-use Rattle.leases.specs.Wards.{WardState, begun}
-use Rattle.leases.proofs.wardens.begin_all.Given as goal
-
-abbrev pub invariant-loop-ward : goal.invariant-loop-ward
-invariant-loop-ward l =
-    l.wards ≡ map (λ (w : WardState). begun w l.reign) (take l.ward-index l.initial.wards)
-    ++ drop l.ward-index l.initial.wards

@@ -1,0 +1,218 @@
+//! What all who speak at a server's peer port share.
+ghost use Rattle.std.specs.Prelude.{◌≡◌, None, Some, true, false, OnOk, IfErr, IfOk};
+ghost use Rattle.node.specs.Views.{adds, is_below};
+ghost use Rattle.leases.specs.Holding.{answer_to};
+ghost use Rattle.links.specs.Greetings.{HasInlet, IsAdmitted, IsRefused, refusal};
+ghost use Rattle.links.specs.PeerPorts.{IsCalledGone, cuts_of, host_of};
+ghost use Rattle.links.specs.Orders.{IsAnswer, NamesServer};
+ghost use Rattle.links.specs.Speakers.{Greets};
+
+use crate::admissions::PeerAdmission;
+use crate::greeter_inlets::GreeterInlets;
+use crate::speakers::Speaker;
+use leases::{Answer, Lease, Order, Term};
+use node::{SERVERS, View};
+use peers::Identity;
+use rail::Inlet;
+use std::alloc::Global;
+use std::sync::{Mutex, Wait};
+use wire::{Acceptance, Introduction, Reason};
+
+/// What ends connections, reads the clock, and publishes when the lease ends.
+pub trait Cuts {
+    /// Server `j` was called gone. The connection to it is ended: a write that waits there fails, and so do all later
+    /// ones. So a machine that is silent and takes no bytes can't hold up a server that was told of its failure. If it
+    /// is this server itself, it answers no call any more, and all its connections to other servers are ended. It may
+    /// wait for others who do this.
+    fn cut<R: Wait>(&self, rt: &R, j: u8);
+
+    /// This server itself was called gone, and who said so has its answer: the server is to end.
+    fn end(&self);
+
+    /// What the server's clock shows, in nanoseconds. None if it can't be read.
+    fn now(&self) -> Option<u64>;
+
+    /// The server's lease has heard an order. This is called under the admission's lock, so that ends are published in
+    /// the order in which they are made, for those who ask without that lock.
+    fn renewed(&self, lease: &Lease);
+}
+
+/// What all who speak at a server's peer port share.
+#[derive(Drop)]
+pub struct PeerPort<C> {
+    host: Identity,
+    admission: Mutex<PeerAdmission>,
+    // Brings what masters tell.
+    notices: Mutex<Inlet>,
+    cuts: C,
+}
+
+impl<C: Cuts> PeerPort<C> {
+    /// The peer port of a server, before anyone has greeted: with the inlets of the other servers, the inlet of all
+    /// masters, and a lease of this term, or one that always holds.
+    pub fn new(
+        host: Identity,
+        greeter_inlets: GreeterInlets,
+        notices: Inlet,
+        term: Option<Term>,
+        cuts: C,
+    ) -> PeerPort<C>
+        ensures host { host_of result ≡ host }
+        ensures cuts { cuts_of result ≡ cuts }
+    {
+        PeerPort {
+            host,
+            admission: Mutex::new(PeerAdmission::new(greeter_inlets, term)),
+            notices: Mutex::new(notices),
+            cuts,
+        }
+    }
+
+    /// What ends connections, and reads the clock.
+    pub fn cuts(&self) -> &C
+        ensures { result.now ≡ cuts_of self.now }
+    {
+        &self.cuts
+    }
+
+    /// What the server tells of itself.
+    pub fn host(&self) -> &Identity
+        ensures { result.now ≡ host_of self.now }
+    {
+        &self.host
+    }
+
+    /// The inlet that all masters share.
+    pub(crate) fn notices(&self) -> &Mutex<Inlet> {
+        &self.notices
+    }
+
+    /// The speaker who greets so, and what it is answered; or why it isn't accepted (`PeerAdmission::admit`). Of each
+    /// server one greeting at most is accepted, since a speaker of its id has the one inlet that waited for it
+    /// (`Speaker`). It may wait for others who greet.
+    pub fn greet<R: Wait>(
+        &self,
+        rt: &R,
+        alloc: Global,
+        id: u8,
+        opener: &Introduction,
+    ) -> Result<(Speaker, Acceptance), Reason>
+        // It is judged by the admission as others have left it, whom no clause can name.
+        ensures accepted { IfOk result (λ accepted. IsAdmitted (host_of self.now) id opener.now accepted.0 accepted.1) }
+        ensures refused { IfErr result (λ reason. IsRefused (host_of self.now) id opener.now reason) }
+        ensures greets { IfOk result (λ accepted. Greets id accepted.0) }
+        ensures start { IfOk result (λ accepted. accepted.1.start ≡ (host_of self.now).start) }
+    {
+        let mut admission = self.admission.lock(rt);
+        greet_at(&mut admission, alloc, &self.host, id, opener)
+    }
+
+    /// These servers were called gone: each is cut of which this is news. Of a server that the chain hasn't nothing is
+    /// noted. It tells whether this server itself isn't among them, or was known to be. It may wait.
+    pub fn learn<R: Wait>(&self, rt: &R, view: View) -> bool
+        // What was known stands under a lock, so no clause can say when this is news.
+        ensures { result ≡ false → IsCalledGone (host_of self.now) view }
+    {
+        if !self.note(rt, view) {
+            return true;
+        }
+        for j in 0..SERVERS {
+            if view.has(j) {
+                self.cuts.cut(rt, j);
+            }
+        }
+        if self.host.id < SERVERS && view.has(self.host.id) {
+            false
+        } else {
+            true
+        }
+    }
+
+    /// What the server does with an order of a master and answers to it, when its clock shows `now`. If it is a notice
+    /// that is taken, the server that it names is cut, if that is news. Who calls brings the notice then. It may wait.
+    pub(crate) fn hear<R: Wait>(&self, rt: &R, order: Order, now: u64) -> Answer
+        requires server { NamesServer order }
+        // It is answered by the admission as others have left it, whom no clause can name.
+        ensures { IsAnswer order result }
+    {
+        let (answer, is_news) = self.heed(rt, order, now);
+        if let Answer::Notes(j) = answer {
+            if is_news {
+                self.cuts.cut(rt, j);
+            }
+        }
+        answer
+    }
+
+    /// Stops the server. It may wait, also for masters.
+    pub fn stop<R: Wait>(&self, rt: &R) {
+        let mut inlet = self.notices.lock(rt);
+        let _ = inlet.stop(rt);
+    }
+
+    /// Ends the server, since it was called gone.
+    pub(crate) fn end<R: Wait>(&self, rt: &R) {
+        self.cuts.end();
+        self.stop(rt);
+    }
+
+    // What the admission does with an order, and whether it is news of a failure. The lease is published under the
+    // admission's lock, so that ends are published in the order in which they are made.
+    fn heed<R: Wait>(&self, rt: &R, order: Order, now: u64) -> (Answer, bool)
+        requires server { NamesServer order }
+        ensures { IsAnswer order result.0 }
+    {
+        let mut admission = self.admission.lock(rt);
+        let heeded = heed_at(&mut admission, order, now);
+        self.cuts.renewed(admission.lease());
+        heeded
+    }
+
+    // Notes that these have failed. It tells whether that is news.
+    fn note<R: Wait>(&self, rt: &R, view: View) -> bool
+        ensures { result ≡ true → is_below view self.now.host.servers ≡ true }
+    {
+        if self.host.servers <= SERVERS && view.is_below(self.host.servers) {
+            let mut admission = self.admission.lock(rt);
+            admission.note(view)
+        } else {
+            false
+        }
+    }
+}
+
+// The speaker who greets so at this admission, and what it is answered; or why it isn't accepted.
+fn greet_at(
+    admission: &mut PeerAdmission,
+    alloc: Global,
+    host: &Identity,
+    id: u8,
+    opener: &Introduction,
+) -> Result<(Speaker, Acceptance), Reason>
+    ensures accepted { OnOk result (refusal host.now admission.old id opener.now ≡ None) }
+    ensures inlet { IfOk result (λ accepted. HasInlet admission.old id accepted.0) }
+    ensures greets { IfOk result (λ accepted. Greets id accepted.0) }
+    ensures start { IfOk result (λ accepted. accepted.1.start ≡ host.now.start) }
+    ensures gone { IfOk result (λ accepted. accepted.1.gone ≡ admission.old.gone) }
+    ensures refused { IfErr result (λ reason. refusal host.now admission.old id opener.now ≡ Some reason) }
+{
+    let gone = admission.gone().bits();
+    match admission.admit(alloc, host, id, opener) {
+        Ok(speaker) => {
+            let start = host.start;
+            Ok((speaker, Acceptance { start, gone }))
+        }
+        Err(reason) => Err(reason),
+    }
+}
+
+// What this admission does with an order, and whether it is news of a failure.
+fn heed_at(admission: &mut PeerAdmission, order: Order, now: u64) -> (Answer, bool)
+    requires server { NamesServer order }
+    ensures answer { result.0 ≡ answer_to admission.old.lease order admission.old.gone now }
+    ensures news { result.1 ≡ adds admission.old.gone admission.new.gone }
+{
+    let gone = admission.gone();
+    let answer = admission.hear(order, now);
+    (answer, gone.adds(admission.gone()))
+}

@@ -1,8 +1,0 @@
-use Rattle.crossbeam_channel.specs.Claims.{view}
-use Rattle.rail.proofs.Mailing.{gets}
-use Rattle.rail.proofs.posts.Letters.take.Goals as goal
-
-pub recv_as-requires-clause-rule : goal.recv_as-requires-clause-rule
-recv_as-requires-clause-rule g c =
-    let me = c.loop.self in
-    rw (me.takes) (gets me.pass.id _ (view me.pass).list, λ items views h at. tt)

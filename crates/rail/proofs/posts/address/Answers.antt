@@ -1,5 +1,0 @@
-use Rattle.rail.proofs.Mailing.{opens}
-use Rattle.rail.proofs.posts.address.Goals as goal
-
-pub another-requires-clause-rule : goal.another-requires-clause-rule
-another-requires-clause-rule g c = rw c.requires.first (opens c.args.pass.now.id _)

@@ -1,4 +1,0 @@
-use Rattle.rail.proofs.posts.open.Given as goal
-
-abbrev pub ghosts-address : goal.ghosts-address
-ghosts-address a = record { address = record { origin = a.published.now.origin; port = a.port } }

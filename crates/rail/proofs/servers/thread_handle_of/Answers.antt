@@ -1,0 +1,12 @@
+use Rattle.std.proofs.Common.{◌≡◌, ◌∙◌}
+use Rattle.faces.specs.Readers.{yet_to_look}
+use Rattle.rail.specs.Servers.{history_at}
+use Rattle.rail.proofs.Opening.{is_thread_handle_at}
+use Rattle.rail.proofs.servers.thread_handle_of.Goals as goal
+
+pub returns-clause-thread_handle : goal.returns-clause-thread_handle
+returns-clause-thread_handle c =
+    let o = c.args.published.now.origin in
+    let reader : c.args.reader ≡ yet_to_look (history_at o) =
+    c.requires.reader ∙ (λ i. yet_to_look (record { origin = o; inputs = c.requires.first i })) in
+    is_thread_handle_at o c.args.inbox_builder.now.pass.table_id c.args.port _ reader c.in_ok-seat.ensures.seat

@@ -1,0 +1,16 @@
+//! Who sits beside a worker.
+ghost use Rattle.std.specs.Prelude.{◌≡◌};
+ghost use Rattle.std.specs.Coded.{codes};
+ghost use Rattle.logbook.specs.Pages.{book_coded};
+ghost use Rattle.versions.specs.Stores.{coded_items};
+
+use crate::seats::Seat;
+use faces::Reader;
+
+/// A reader and a seat of one server, for one thread beside its worker.
+#[derive(Drop)]
+pub struct ThreadHandle {
+    pub reader: Reader,
+    pub seat: Seat,
+    pub ghost together: { seat.origin ≡ reader.seen.origin } by { Prim.hlevel (codes, coded_items, book_coded) },
+}

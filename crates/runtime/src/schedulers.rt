@@ -1,0 +1,292 @@
+//! The workers of the servers of one process. Whoever puts a message takes the turn that it asks for, unless another
+//! thread is at that worker.
+ghost use Rattle.std.specs.Prelude.{◌≡◌, ◌++◌, ◌∷◌, [], map, OnOk};
+ghost use Rattle.runtime.specs.Findings.{Finds};
+ghost use Rattle.runtime.specs.Schedulers.{ids};
+
+use crate::alarms::Alarm;
+use crate::endings::Ending;
+use crate::workers_with_links::{Found, WorkerWithLinks};
+use io_threads::{LoopHandles, TurnScheduler, Visit};
+use rail::{PortSet, Worker};
+use seats::{Gauge, InProcessLinks, ServerSet};
+use std::alloc::{AllocError, Global};
+use std::sync::atomic::{AtomicBool, Ordering};
+use std::sync::{Arc, Mutex, Wait};
+use std::thread::Parker;
+
+/// How many turns a worker's own thread takes under one lock.
+const TURNS: usize = 64;
+
+/// Where the turns of one server are taken.
+#[derive(Drop)]
+struct RunSlot<R: Wait + Drop> {
+    id: u8,
+    // It is only ever tried, so nobody waits for it.
+    worker_with_links: Mutex<WorkerWithLinks<R>>,
+    // Whether its inbox may hold a message that nobody is about to take.
+    due: AtomicBool,
+    // Whether no more turns are taken.
+    ended: AtomicBool,
+    // Where the note of its end is put.
+    ending: Ending,
+    // Whether its items may take more memory.
+    gauge: Gauge,
+    // Where the worker's own thread sleeps.
+    parker: Parker,
+}
+
+/// The run slots of all servers of a process, by their ids.
+///
+/// No message is left lying. Who puts one into an inbox sets the run slot's `due` afterwards, and then tries the run
+/// slot or rings its thread, which tries it. One who has the lock clears `due` before it looks into the inbox, sets it
+/// again unless it found the inbox empty, gives the lock back, and only then takes `due`; if it was set, it tries again
+/// or rings. So if a try fails, the one who has the lock still takes `due` after the one who tried has set it. All
+/// these steps are in one order (`SeqCst`).
+#[derive(Drop)]
+pub struct Scheduler<R: Wait + Drop> {
+    run_slots: Vec<RunSlot<R>>,
+    // Rung when a server has stopped since memory was refused.
+    alarm: Alarm,
+    // The threads that serve the servers' clients.
+    loop_handles: Arc<LoopHandles, Global>,
+}
+
+// What some turns of one server have done.
+#[derive(Clone, Copy)]
+struct Taken {
+    turns: usize,
+    // The servers that were sent something.
+    reached: ServerSet,
+    // The ports to which replies were put.
+    replied: PortSet,
+}
+
+impl<R: Wait + Drop> RunSlot<R> {
+    // Takes up to this many turns if no other thread is at the worker.
+    fn try_turns(&self, most: usize, alarm: &Alarm) -> Option<Taken> {
+        let mut worker_with_links = self.worker_with_links.try_lock()?;
+        if self.ended.load(Ordering::SeqCst) {
+            drop(worker_with_links);
+            return None;
+        }
+        self.due.store(false, Ordering::SeqCst);
+        let mut turns = 0usize;
+        for _ in 0..most {
+            match self.turn(&mut *worker_with_links, alarm) {
+                Found::Message | Found::Stopped(_) | Found::Refused(_) => {
+                    turns = turns.wrapping_add(1);
+                }
+                Found::Nothing | Found::Closed(_) | Found::End => break,
+            }
+        }
+        if turns == most {
+            self.due.store(true, Ordering::SeqCst);
+        }
+        self.gauge.note(worker_with_links.weight());
+        Some(Taken {
+            turns,
+            reached: worker_with_links.take_reached(),
+            replied: worker_with_links.take_replied(),
+        })
+    }
+
+    // Takes a turn, if there is a message. If the server has ended, the note of that is put where others look. If
+    // memory was refused, the alarm is rung too.
+    fn turn(&self, worker_with_links: &mut WorkerWithLinks<R>, alarm: &Alarm) -> Found
+        ensures { Finds worker_with_links.old.id worker_with_links.old.worker worker_with_links.new.worker result }
+    {
+        let found = worker_with_links.turn();
+        match found {
+            Found::Nothing | Found::Message => {}
+            Found::Stopped(ended) => self.ending.put(ended),
+            Found::Refused(ended) => {
+                self.ending.put(ended);
+                alarm.ring();
+            }
+            Found::Closed(ended) => {
+                self.ending.put(ended);
+                self.end();
+            }
+            Found::End => self.end(),
+        }
+        found
+    }
+
+    // No more turns are taken, and the worker's thread ends.
+    fn end(&self) {
+        self.ended.store(true, Ordering::SeqCst);
+        self.parker.unpark();
+    }
+
+    fn ring(&self) {
+        self.due.store(true, Ordering::SeqCst);
+        self.parker.unpark();
+    }
+}
+
+impl<R: Wait + Drop> Scheduler<R> {
+    /// A scheduler without servers, whose clients the threads of these loop handles serve.
+    pub(crate) fn new(alloc: Global, loop_handles: Arc<LoopHandles, Global>) -> Scheduler<R>
+        ensures { ids result ≡ [] }
+    {
+        Scheduler {
+            run_slots: Vec::new(alloc),
+            alarm: Alarm::new(),
+            loop_handles,
+        }
+    }
+
+    /// Adds the worker of the next server, whose id this is, with that server's links. The note of its end is put there
+    /// as soon as the server is stopped, or out of memory, or nobody is left who could send it anything. After each
+    /// turn the gauge is told what the server holds.
+    pub(crate) fn add(
+        &mut self,
+        id: u8,
+        worker: Worker<R>,
+        links: InProcessLinks<R>,
+        ending: Ending,
+        gauge: Gauge,
+    ) -> Result<(), AllocError>
+        requires worker { worker.published.origin.start.id ≡ id }
+        requires links { links.id ≡ id }
+        ensures { OnOk result (ids self.new ≡ ids self.old ++ id ∷ []) }
+    {
+        let run_slot = RunSlot {
+            id,
+            worker_with_links: Mutex::new(WorkerWithLinks::new(id, worker, links)),
+            due: AtomicBool::new(false),
+            ended: AtomicBool::new(false),
+            ending,
+            gauge,
+            parker: Parker::new(),
+        };
+        match self.run_slots.push(run_slot) {
+            Ok(()) => Ok(()),
+            Err(_) => Err(AllocError),
+        }
+    }
+
+    /// What is rung when a server has stopped since memory was refused.
+    pub(crate) fn alarm(&self) -> &Alarm {
+        &self.alarm
+    }
+
+    /// Wakes the threads that serve clients: a server answers no more calls.
+    pub(crate) fn wake_all(&self) {
+        self.loop_handles.wake_all();
+    }
+
+    fn run_slot(&self, id: u8) -> Option<&RunSlot<R>> {
+        self.run_slots.get(usize::from(id))
+    }
+
+    /// Wakes the thread of a server's worker, into whose inbox something was put.
+    pub(crate) fn ring(&self, id: u8) {
+        if let Some(run_slot) = self.run_slot(id) {
+            run_slot.ring();
+        }
+    }
+
+    // Says that something was put into the inboxes of these servers, and that they will be tried.
+    fn note(&self, servers: ServerSet) {
+        let mut left = servers;
+        for _ in 0..self.run_slots.len() {
+            let Some(id) = left.take_after(0) else {
+                return;
+            };
+            self.expect(id);
+        }
+    }
+
+    /// The thread of a server's worker: whenever it is rung it takes turns, there and at the servers that these reach,
+    /// until none is due that it knows of. It ends with the worker.
+    pub(crate) fn attend(&self, rt: &R, id: u8) {
+        let Some(run_slot) = self.run_slot(id) else {
+            return;
+        };
+        for _ in rt.forever() {
+            run_slot.parker.park(rt);
+            self.carry(rt, id);
+            if run_slot.ended.load(Ordering::SeqCst) {
+                return;
+            }
+        }
+        unreachable!()
+    }
+
+    // Takes turns of a server, and wakes those who serve the clients that have replies. Answers where turns are due.
+    fn visit(&self, id: u8) -> ServerSet {
+        let visit = self.take_turns(id, TURNS);
+        if !visit.replied.is_empty() {
+            self.loop_handles.wake(id, visit.replied);
+        }
+        visit.due
+    }
+
+    // Takes turns as long as one is due.
+    fn carry(&self, rt: &R, id: u8) {
+        let mut due = ServerSet::new();
+        due.add(id);
+        let mut last = id;
+        for _ in rt.forever() {
+            match due.take_after(last) {
+                Some(at) => {
+                    last = at;
+                    due.merge(self.visit(at));
+                }
+                None => return,
+            }
+        }
+        unreachable!()
+    }
+}
+
+impl<R: Wait + Drop> TurnScheduler for Scheduler<R> {
+    fn expect(&self, id: u8) {
+        if let Some(run_slot) = self.run_slot(id) {
+            run_slot.due.store(true, Ordering::SeqCst);
+        }
+    }
+
+    fn take_turns(&self, id: u8, most: usize) -> Visit {
+        let Some(run_slot) = self.run_slot(id) else {
+            return Visit::nothing();
+        };
+        let Some(taken) = run_slot.try_turns(most, &self.alarm) else {
+            return Visit::nothing();
+        };
+        self.note(taken.reached);
+        let mut due = taken.reached;
+        if run_slot.due.swap(false, Ordering::SeqCst) {
+            due.add(id);
+        }
+        Visit {
+            turns: taken.turns,
+            due,
+            replied: taken.replied,
+        }
+    }
+
+    fn all_due(&self) -> ServerSet {
+        let mut due = ServerSet::new();
+        let mut id = 0u8;
+        for run_slot in self.run_slots.iter() {
+            if run_slot.due.load(Ordering::SeqCst) {
+                due.add(id);
+            }
+            id = id.wrapping_add(1);
+        }
+        due
+    }
+
+    fn leave(&self, servers: ServerSet) {
+        let mut left = servers;
+        for _ in 0..self.run_slots.len() {
+            let Some(id) = left.take_after(0) else {
+                return;
+            };
+            self.ring(id);
+        }
+    }
+}

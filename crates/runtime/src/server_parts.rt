@@ -1,0 +1,324 @@
+//! The parts of a chain of servers in one process, before their threads are started.
+ghost use Rattle.std.specs.Prelude.{◌≡◌, ◌≢◌, ◌≤◌, ◌++◌, ◌∷◌, [], None, true, vec_len, All, IfOk, IfSome, IsSome};
+ghost use Rattle.std.specs.Prelude.{OnOk, OnErr};
+ghost use Rattle.node.specs.Nodes.{fresh, is_idle};
+ghost use Rattle.io_threads.specs.Pools.{AreAllAt, BeginsAs};
+ghost use Rattle.runtime.specs.Schedulers.{ids};
+ghost use Rattle.runtime.specs.Wiring.{
+  AreDealt,
+  ArePartsOf,
+  HasOwnPools,
+  IsDealt,
+  IsPartsOf,
+  LeadsControl,
+  all_inlets_in,
+};
+ghost use Rattle.runtime.specs.Wiring.{core_of, cores_of, inlets_in, inlets_of, listed, numbers, openings, senders};
+ghost use Rattle.runtime.specs.Wiring.{starts_of};
+
+use crate::cluster_faults::ClusterFault;
+use crate::concurrency::Concurrency;
+use crate::controls::ServerControl;
+use crate::dealing::inlet_for;
+use crate::endings::Ending;
+use crate::schedulers::Scheduler;
+use io_threads::{LoopHandles, Pooled, open_pools};
+use node::Node;
+use rail::Worker;
+use seats::{Allowance, Gauge, InProcessLinks, InboxLink, Mark, SeatPool};
+use std::alloc::{AllocError, Global};
+use std::sync::{Arc, Wait};
+
+/// A server of a process, before its links stand.
+#[derive(Drop)]
+pub struct Opened<R: Wait + Drop> {
+    /// Its worker, the seats of each thread, and its inlets.
+    pub pooled: Pooled<R>,
+    /// The mark that is set as soon as it answers no more calls.
+    pub failed: Mark,
+    /// Whether its items may take more memory.
+    pub gauge: Gauge,
+}
+
+/// What a server has beside its worker.
+#[derive(Drop)]
+pub struct ServerParts {
+    /// The seats of each thread.
+    pub pools: Vec<SeatPool>,
+    /// What the program's own thread sees of it.
+    pub control: ServerControl,
+}
+
+/// The `count` servers of a chain, each at the place of its id, with an inlet for each other server and for the
+/// program's own thread. The items of each may take as much memory.
+#[tactic(auto, using(crate::proofs::Wired::control_none, crate::proofs::Standing::starts_none, crate::proofs::Standing::own_none))]
+pub fn all_servers<R: Wait + Copy + Drop>(
+    rt: R,
+    alloc: Global,
+    count: u8,
+    concurrency: Concurrency,
+    allowance: Allowance,
+) -> Result<Vec<Opened<R>>, ClusterFault>
+    requires chain { (1 ≤ count) × (count ≤ 16) }
+    ensures count { IfOk result (λ servers. vec_len servers ≡ count) }
+    ensures workers { IfOk result (λ servers. starts_of servers.items ≡ openings count count) }
+    ensures pools { IfOk result (λ servers. All HasOwnPools (cores_of servers.items)) }
+    ensures inlets { IfOk result (λ servers. All (λ server. LeadsControl server) servers.items) }
+{
+    let mut servers = Vec::new(alloc);
+    for id in 0..count {
+        let node = idle_node(alloc, id, count)?;
+        let server = open_server(rt, alloc, node, count, concurrency, allowance)?;
+        servers.push(server)?;
+    }
+    Ok(servers)
+}
+
+/// A server of `count` that begins as this node, with an inlet for each other server and for who fails servers.
+pub(crate) fn open_server<R: Wait + Copy + Drop>(
+    rt: R,
+    alloc: Global,
+    node: Node,
+    count: u8,
+    concurrency: Concurrency,
+    allowance: Allowance,
+) -> Result<Opened<R>, ClusterFault>
+    requires chain { (1 ≤ count) × (count ≤ 16) }
+    requires idle { is_idle node ≡ true }
+    ensures worker { IfOk result (λ opened. BeginsAs node opened.pooled.worker) }
+    ensures pools { IfOk result (λ opened. HasOwnPools (core_of opened)) }
+    ensures inlets { IfOk result (λ opened. LeadsControl opened) }
+{
+    let (failed, gauge) = match mark_and_gauge(alloc, allowance) {
+        Ok(both) => both,
+        Err(AllocError) => {
+            drop(node);
+            return Err(ClusterFault::Memory);
+        }
+    };
+    let Concurrency { threads, seats } = concurrency;
+    let inlets = usize::from(count);
+    let Ok(pooled) = open_pools(rt, alloc, node, seats, threads, inlets, &failed, &gauge) else {
+        return Err(ClusterFault::Memory);
+    };
+    Ok(Opened {
+        pooled,
+        failed,
+        gauge,
+    })
+}
+
+// The mark of a server, and its gauge.
+fn mark_and_gauge(alloc: Global, allowance: Allowance) -> Result<(Mark, Gauge), AllocError> {
+    let failed = Mark::new(alloc)?;
+    let gauge = Gauge::new(alloc, allowance)?;
+    Ok((failed, gauge))
+}
+
+/// Server `id` of a chain of `count`, before any input.
+pub(crate) fn idle_node(alloc: Global, id: u8, count: u8) -> Result<Node, ClusterFault>
+    ensures which { IfOk result (λ node. node ≡ fresh id count) }
+    ensures idle { IfOk result (λ node. is_idle node ≡ true) }
+{
+    match Node::new(alloc, id, count) {
+        Ok(node) => {
+            if node.is_idle() {
+                Ok(node)
+            } else {
+                drop(node);
+                Err(ClusterFault::Run)
+            }
+        }
+        Err(_) => Err(ClusterFault::Run),
+    }
+}
+
+/// The links of all servers, in the order of their ids, for which each takes an inlet of each other one, and nothing
+/// else.
+#[tactic(auto, using(crate::proofs::Wired::all_none))]
+pub fn all_links<R: Wait + Copy + Drop>(
+    rt: R,
+    alloc: Global,
+    count: u8,
+    servers: &mut Vec<Opened<R>>,
+) -> Result<Vec<InProcessLinks<R>>, ClusterFault>
+    ensures count { IfOk result (λ all. vec_len all ≡ count) }
+    ensures senders { IfOk result (λ all. senders all.items ≡ numbers count) }
+    ensures dealt { IfOk result (λ all.
+        AreDealt (inlets_of servers.old.items) (inlets_of servers.new.items) (all_inlets_in all.items)) }
+    ensures servers { vec_len servers.new ≡ vec_len servers.old }
+    ensures cores { cores_of servers.new.items ≡ cores_of servers.old.items }
+{
+    let mut all = Vec::new(alloc);
+    for id in 0..count {
+        let links = links_of(alloc, id, servers)?;
+        all.push(InProcessLinks::new(rt, id, links))?;
+    }
+    Ok(all)
+}
+
+// The links of one server.
+#[tactic(auto, using(crate::proofs::Wired::links_none))]
+fn links_of<R: Wait + Drop>(
+    alloc: Global,
+    id: u8,
+    servers: &mut Vec<Opened<R>>,
+) -> Result<Vec<InboxLink>, AllocError>
+    ensures count { IfOk result (λ links. vec_len links ≡ vec_len servers.old) }
+    ensures dealt { IfOk result (λ links.
+        IsDealt id (inlets_of servers.old.items) (inlets_of servers.new.items) (inlets_in links.items)) }
+    ensures servers { vec_len servers.new ≡ vec_len servers.old }
+    ensures cores { cores_of servers.new.items ≡ cores_of servers.old.items }
+{
+    let mut links = Vec::new(alloc);
+    for j in 0..servers.len() {
+        links.push(link_to(id, j, &mut servers[j]))?;
+    }
+    Ok(links)
+}
+
+// The link of server `id` to server `j`.
+fn link_to<R: Wait + Drop>(id: u8, j: usize, server: &mut Opened<R>) -> InboxLink
+    ensures taken { server.old.pooled.inlets.items ≡ server.new.pooled.inlets.items ++ listed result.inlet }
+    ensures own { j ≡ id → result.inlet ≡ None }
+    ensures whole { j ≢ id → result.inlet ≡ None → server.new.pooled.inlets.items ≡ [] }
+    ensures core { core_of server.new ≡ core_of server.old }
+{
+    InboxLink::new(inlet_for(usize::from(id), j, &mut server.pooled.inlets))
+}
+
+/// The scheduler of all workers, by their servers' ids, and what each server has beside its own. The worker of each
+/// server gets the links of that server: the scheduler takes no others.
+pub fn all_parts<R: Wait + Drop>(
+    alloc: Global,
+    loop_handles: &Arc<LoopHandles, Global>,
+    servers: Vec<Opened<R>>,
+    links: Vec<InProcessLinks<R>>,
+) -> Result<(Scheduler<R>, Vec<ServerParts>), ClusterFault>
+    requires workers { starts_of servers.items ≡ openings (vec_len servers) (vec_len servers) }
+    requires links { senders links.items ≡ numbers (vec_len links) }
+    ensures count { IfOk result (λ all. vec_len all.1 ≡ vec_len servers) }
+    ensures scheduler { IfOk result (λ all. ids all.0 ≡ numbers (vec_len servers)) }
+    ensures servers_parts { IfOk result (λ all. ArePartsOf servers.items all.1.items) }
+{
+    let mut scheduler = Scheduler::new(alloc, Arc::try_clone(loop_handles)?);
+    let mut servers_parts = Vec::new(alloc);
+    let mut left = links.into_iter();
+    for server in servers {
+        let own = left.next();
+        let parts = add_linked(alloc, &mut scheduler, servers_parts.len(), server, own)?;
+        servers_parts.push(parts)?;
+    }
+    Ok((scheduler, servers_parts))
+}
+
+// Adds a server with its links to the scheduler, at this place. It gives what the server has beside its worker. Refused
+// with Run if there are no links.
+fn add_linked<R: Wait + Drop>(
+    alloc: Global,
+    scheduler: &mut Scheduler<R>,
+    place: usize,
+    server: Opened<R>,
+    links: Option<InProcessLinks<R>>,
+) -> Result<ServerParts, ClusterFault>
+    requires worker { server.pooled.worker.published.origin.start.id ≡ place }
+    requires links { IfSome links (λ links. links.id ≡ place) }
+    ensures links { OnOk result (IsSome links) }
+    ensures scheduler { OnOk result (ids scheduler.new ≡ ids scheduler.old ++ place ∷ []) }
+    ensures parts { IfOk result (λ parts. IsPartsOf server parts) }
+{
+    match links {
+        Some(links) => add_server(alloc, scheduler, place, server, links),
+        None => {
+            drop(server);
+            Err(ClusterFault::Run)
+        }
+    }
+}
+
+// The same, with its links. Refused with Run if the server has no inlet left, or no chain has such a place.
+fn add_server<R: Wait + Drop>(
+    alloc: Global,
+    scheduler: &mut Scheduler<R>,
+    place: usize,
+    server: Opened<R>,
+    links: InProcessLinks<R>,
+) -> Result<ServerParts, ClusterFault>
+    requires worker { server.pooled.worker.published.origin.start.id ≡ place }
+    requires links { links.id ≡ place }
+    ensures scheduler { OnOk result (ids scheduler.new ≡ ids scheduler.old ++ place ∷ []) }
+    ensures parts { IfOk result (λ parts. IsPartsOf server parts) }
+{
+    let Opened {
+        pooled,
+        failed,
+        gauge,
+    } = server;
+    let Pooled {
+        worker,
+        pools,
+        inlets,
+    } = pooled;
+    let mut inlets = inlets;
+    let Some(inlet) = inlets.pop() else {
+        drop(worker);
+        drop(links);
+        drop(pools);
+        return Err(ClusterFault::Run);
+    };
+    match add_worker(alloc, scheduler, place, worker, links, gauge) {
+        Ok(ending) => Ok(ServerParts {
+            pools,
+            control: ServerControl::new(inlet, failed, ending),
+        }),
+        Err(fault) => {
+            drop(pools);
+            drop(inlet);
+            drop(failed);
+            Err(fault)
+        }
+    }
+}
+
+// Adds a worker with its links to the scheduler, at this place. It gives where the note of its end will be.
+fn add_worker<R: Wait + Drop>(
+    alloc: Global,
+    scheduler: &mut Scheduler<R>,
+    place: usize,
+    worker: Worker<R>,
+    links: InProcessLinks<R>,
+    gauge: Gauge,
+) -> Result<Ending, ClusterFault>
+    requires worker { worker.published.origin.start.id ≡ place }
+    requires links { links.id ≡ place }
+    ensures { OnOk result (ids scheduler.new ≡ ids scheduler.old ++ place ∷ []) }
+{
+    let Ok(id) = u8::try_from(place) else {
+        drop(worker);
+        drop(links);
+        drop(gauge);
+        return Err(ClusterFault::Run);
+    };
+    match shared_ending(alloc) {
+        Ok((ending, shared)) => match scheduler.add(id, worker, links, shared, gauge) {
+            Ok(()) => Ok(ending),
+            Err(AllocError) => {
+                drop(ending);
+                Err(ClusterFault::Memory)
+            }
+        },
+        Err(AllocError) => {
+            drop(worker);
+            drop(links);
+            drop(gauge);
+            Err(ClusterFault::Memory)
+        }
+    }
+}
+
+// Where the note of a server's end will be, twice.
+fn shared_ending(alloc: Global) -> Result<(Ending, Ending), AllocError> {
+    let ending = Ending::new(alloc)?;
+    let shared = ending.share()?;
+    Ok((ending, shared))
+}

@@ -1,0 +1,16 @@
+use Rattle.std.proofs.Common.{◌≡◌}
+use Rattle.faces.specs.Histories.{IsLater}
+use Rattle.seats.specs.ClientConnections.{HasLooked, IsFurther}
+use Rattle.seats.specs.declared.client_connections.CallStanding.TheVariants.{Idle}
+use Rattle.seats.proofs.client_connections.ClientConnection.go_on.Given as goal
+
+abbrev pub invariant-loop : goal.invariant-loop
+invariant-loop g l =
+    record {
+      idle : l.self.standing ≡ Idle;
+      known : IsLater l.self.seen l.pool.seen;
+      later : IsLater l.fn.pool.seen l.pool.seen;
+      first : l.self.first ≡ l.fn.self.first;
+      further : IsFurther l.fn.self.connected l.self.connected;
+      looked : HasLooked l.fn.self.connected l.self.connected l.fn.pool l.pool;
+    }

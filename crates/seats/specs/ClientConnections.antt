@@ -1,0 +1,152 @@
+-- Connections at a server's seats: what has come of one, and what it waits for.
+use Rattle.std.specs.Prelude.{◌≡◌, ◌⊎◌, ℕ, true, List, [], ◌∷◌, ◌++◌, Option, Some}
+use Rattle.table.specs.declared.items.Item.{Item}
+use Rattle.table.specs.declared.operations.Call.{Call}
+use Rattle.table.specs.declared.operations.Reply.{Reply}
+use Rattle.table.specs.declared.operations.Reply.TheVariants.{Value}
+use Rattle.node.specs.Lawful.{IsCall}
+use Rattle.proto.specs.Turns.{Outcome, Refused, Replied, is_store}
+use Rattle.faces.specs.Histories.{History, IsLater, Origin}
+use Rattle.faces.specs.Readers.{HasLookedAtMostOnce}
+use Rattle.rail.specs.Seats.{SeatState}
+use Rattle.serving.specs.declared.connections.Wants.TheVariants.{Read, Write, End as Ends}
+use Rattle.serving.specs.Connections.{Connected, unused}
+use Rattle.serving.specs.Serving.{AreAnswered}
+use Rattle.serving.specs.Wanted.{IsWanted}
+use Rattle.seats.specs.declared.client_connections.CallStanding.{CallStanding}
+use Rattle.seats.specs.declared.client_connections.CallStanding.TheVariants.{Idle, Reading, Unsent, Sent, Over}
+use Rattle.seats.specs.declared.client_connections.Went.{Went}
+use Rattle.seats.specs.declared.client_connections.Went.TheVariants.{Input, Write as Writes, Seat, Reply as Waits, More}
+use Rattle.seats.specs.declared.client_connections.Went.TheVariants.{End}
+use Rattle.seats.specs.Replies.{IsSubmitted, ShowsClean, ShowsReply}
+use Rattle.seats.specs.SeatPools.{IsFreeAt, Pooling}
+use Rattle.seats.specs.Submitters.{Submitting}
+
+-- What has come of a connection; where it stands; and what its reader had seen at first, and when its last call had its
+-- reply.
+pub record ClientConnectionState : Type 0 where
+  pub connected : Connected
+  pub standing : CallStanding
+  pub first : History
+  pub seen : History
+
+-- at first
+abbrev pub begun : History → ClientConnectionState
+begun seen = record { connected = unused; standing = Idle; first = seen; seen = seen }
+
+-- with a piece of input more
+abbrev pub fed : ClientConnectionState → List ℕ → ClientConnectionState
+fed t piece = record t { connected = record t.connected { read = t.connected.read ++ piece }; standing = Idle }
+
+-- A look is the reply: what was looked at begins with all that was seen before.
+pub record IsPeeked (before after : History) (call : Call) (reply : Reply) : Type 0 where
+  pub item : Option Item
+  pub later : IsLater before after
+  pub shown : ShowsClean after call item
+  pub reply_is : reply ≡ Value item
+
+-- A look is the reply, or it is the server's, at some seat.
+abbrev pub IsReplied : History → Call → Reply → History → Type 0
+IsReplied before call reply after =
+    IsPeeked before after call reply
+    ⊎ ((seat : SeatState) × (then : SeatState) × IsSubmitted before after seat then call reply)
+
+-- What was looked at for this call, which came to this at once: for a reply the face that stood, once, and that shows
+-- the reply; and nothing for a refusal.
+abbrev pub HasLookedFor : Call → Outcome → Pooling → Pooling → Type 0
+HasLookedFor call (Replied reply) before after =
+    (after.looks ≡ before.looks ++ after.seen ∷ []) × ShowsReply after.seen call reply
+HasLookedFor call Refused before after = after ≡ before
+
+-- These calls came to this at once by these looks, in turn: each reply by one of its own, and a refusal by none.
+abbrev pub AreLookedFor : List Call → List Outcome → List History → Type 0
+AreLookedFor [] [] looks = looks ≡ []
+AreLookedFor [] (outcome ∷ outcomes) looks = ⊥
+AreLookedFor (call ∷ calls) [] looks = ⊥
+AreLookedFor (call ∷ calls) (Refused ∷ outcomes) looks = AreLookedFor calls outcomes looks
+AreLookedFor (call ∷ calls) (Replied reply ∷ outcomes) [] = ⊥
+AreLookedFor (call ∷ calls) (Replied reply ∷ outcomes) (look ∷ looks) =
+    ShowsReply look call reply × AreLookedFor calls outcomes looks
+
+-- Its connection waits for no call, and may want input; or for this one, which waits for a seat, or is open at this
+-- seat of its server.
+abbrev pub StandsAt : CallStanding → Connected → Origin → Type 0
+StandsAt Idle c origin = c.waiting ≡ []
+StandsAt Reading c origin = IsWanted Read c
+StandsAt (Unsent call) c origin = (c.waiting ≡ call ∷ []) × IsCall call
+StandsAt (Sent s) c origin =
+    (call : Call) × (c.waiting ≡ call ∷ []) × (s.waiting ≡ Some call) × (s.seat.origin ≡ origin)
+StandsAt Over c origin = Unit {0}
+
+-- More calls have their replies or were refused, and more output is due.
+pub record IsFurther (c d : Connected) : Type 0 where
+  pub more : List Call
+  pub came : List Outcome
+  pub lines : List ℕ
+  pub read : d.read ≡ c.read
+  pub calls : d.calls ≡ c.calls ++ more
+  pub outcomes : d.outcomes ≡ c.outcomes ++ came
+  pub due : d.due ≡ c.due ++ lines
+  pub written : d.written ≡ c.written
+  pub ended : d.ended ≡ c.ended
+
+-- More calls came to something, all of them at once: these are the faces that were looked at for them, each as it stood
+-- then, and no other was looked at.
+pub record HasLooked (c d : Connected) (p q : Pooling) : Type 0 where
+  pub more : List Call
+  pub came : List Outcome
+  pub faces : List History
+  pub calls : d.calls ≡ c.calls ++ more
+  pub outcomes : d.outcomes ≡ c.outcomes ++ came
+  pub looks : q.looks ≡ p.looks ++ faces
+  pub each : AreLookedFor more came faces
+
+-- The same, and then at most one look more, for a call that came to nothing by it.
+pub record HasLookedOn (c d : Connected) (p q : Pooling) : Type 0 where
+  pub between : Pooling
+  pub looked : HasLooked c d p between
+  pub once : HasLookedAtMostOnce between.looks q.looks
+
+-- a call that stores waits for a seat
+abbrev pub HoldsStore : CallStanding → Type 0
+HoldsStore standing = (call : Call) × (standing ≡ Unsent call) × (is_store call.op ≡ true)
+
+-- it went so far
+abbrev pub HasGone : Went → ClientConnectionState → Type 0
+HasGone Input t = (t.standing ≡ Reading) × IsWanted Read t.connected
+HasGone Writes t = (t.standing ≡ Idle) × IsWanted Write t.connected
+HasGone Seat t = (call : Call) × (t.standing ≡ Unsent call)
+HasGone Waits t = (s : Submitting) × (t.standing ≡ Sent s)
+HasGone More t = t.standing ≡ Idle
+HasGone (End end) t = (t.standing ≡ Idle) × IsWanted (Ends end) t.connected
+
+-- a call waits, for a seat or for its reply
+abbrev pub LeavesCall : Went → Type 0
+LeavesCall Input = ⊥
+LeavesCall Writes = ⊥
+LeavesCall Seat = Unit {0}
+LeavesCall Waits = Unit {0}
+LeavesCall More = ⊥
+LeavesCall (End end) = ⊥
+
+-- It went so far, by looks alone unless a call waits: before that was sent it may have been looked for, once, in vain.
+abbrev pub HasGoneByLooks : Went → Connected → Connected → Pooling → Pooling → Type 0
+HasGoneByLooks Input c d p q = HasLooked c d p q
+HasGoneByLooks Writes c d p q = HasLooked c d p q
+HasGoneByLooks Seat c d p q = HasLookedOn c d p q
+HasGoneByLooks Waits c d p q = HasLookedOn c d p q
+HasGoneByLooks More c d p q = HasLooked c d p q
+HasGoneByLooks (End end) c d p q = HasLooked c d p q
+
+-- the seat that it has, if any, is one of this server at which no call is open
+abbrev pub HoldsFree : Origin → CallStanding → Type 0
+HoldsFree origin Idle = Unit {0}
+HoldsFree origin Reading = Unit {0}
+HoldsFree origin (Unsent call) = Unit {0}
+HoldsFree origin (Sent s) = IsFreeAt origin s
+HoldsFree origin Over = Unit {0}
+
+-- what holds of a client connection
+pub record IsClientConnection (c : Connected) (standing : CallStanding) (first seen : History) : Type 0 where
+  pub answered : AreAnswered IsReplied first c.calls c.outcomes seen
+  pub stands : StandsAt standing c seen.origin

@@ -1,0 +1,491 @@
+//! A connection at a server's seats, without a thread: each of its calls is refused or answered by a look at once, or
+//! sent at a seat, whose reply is taken later.
+ghost use Rattle.std.specs.Prelude.{◌≡◌, IfOk, MatchOption, OnErr, OnOk};
+ghost use Rattle.table.specs.declared.operations.Call.{Call};
+ghost use Rattle.proto.specs.Turns.{Outcome, Refused};
+ghost use Rattle.faces.specs.Histories.{IsLater};
+ghost use Rattle.faces.specs.Readers.{HasLookedAtMostOnce};
+ghost use Rattle.serving.specs.Connections.{HasOutcome, MayRefuse};
+ghost use Rattle.serving.specs.Serving.{CameTo};
+ghost use Rattle.serving.specs.Wanted.{IsAsking};
+ghost use Rattle.seats.specs.declared.client_connections.CallStanding.TheVariants.{Idle, Over, Reading, Unsent};
+ghost use Rattle.seats.specs.declared.client_connections.Went.TheVariants.{Seat};
+ghost use Rattle.seats.specs.SeatPools.{HasSameReader};
+ghost use Rattle.seats.specs.ClientConnections.{HasLookedFor, HoldsFree, IsReplied};
+
+use crate::outcomes::{hand_on, is_refused, settle};
+use crate::seat_pools::SeatPool;
+use crate::submitters::Submitter;
+use rail::Told;
+use serving::{Connection, End, ServeFault, Wants};
+use std::alloc::{AllocError, Global};
+use std::marker::Model;
+use std::mem;
+use std::sync::Wait;
+use table::Call;
+
+/// How far a client connection went.
+#[derive(Clone, Copy, PartialEq, Eq)]
+pub enum Went {
+    /// All is answered and written: it wants input.
+    Input,
+    /// It wants that output is written.
+    Write,
+    /// Its call waits for a free seat.
+    Seat,
+    /// Its call was sent, and its reply isn't here yet.
+    Reply,
+    /// It made as many calls as it may in one go, and can go on.
+    More,
+    /// All is answered and written, and nothing more is wanted.
+    End(End),
+}
+
+/// Where a client connection stands.
+#[derive(Drop)]
+pub enum CallStanding {
+    /// No call waits.
+    Idle,
+    /// It wants input.
+    Reading,
+    /// This call waits for a seat.
+    Unsent(Call),
+    /// The call that waits is open at this seat.
+    Sent(Submitter),
+    /// A call got no reply, or memory was refused: no further call is made.
+    Over,
+}
+
+/// The most calls that are answered by looks or refused in one go, so that others' connections aren't held for long.
+pub const MOST_CALLS: usize = 32;
+
+/// A connection at a server's seats: it is fed with input, makes the calls of that, one after another, and says what it
+/// waits for. Contracts see the connection, where it stands, and what its reader had seen at first and when its last
+/// call had its reply (`ClientConnectionState`).
+#[derive(Drop)]
+pub struct ClientConnection {
+    // The fields lie in this order: what a call by a look touches lies close together.
+    first: Told,
+    seen: Told,
+    connection: Connection,
+    standing: CallStanding,
+}
+
+impl Model for ClientConnection {
+    ghost use Rattle.std.specs.Coded.{codes};
+    ghost use Rattle.atomic_table.specs.Seated.{table_id_coded};
+    ghost use Rattle.logbook.specs.Pages.{book_coded};
+    ghost use Rattle.table.specs.Items.{coded_item};
+    ghost use Rattle.versions.specs.Stores.{coded_items};
+    ghost use Rattle.seats.specs.ClientConnections.{ClientConnectionState, IsClientConnection};
+
+    ghost Value = { ClientConnectionState };
+
+    ghost coded = { Prim.hlevel (codes, coded_item, coded_items, book_coded, table_id_coded) };
+
+    ghost view = { λ t. record {
+      connected = t.connection;
+      standing = t.standing;
+      first = t.first;
+      seen = t.seen;
+    } };
+
+    ghost invariant = { λ t. IsClientConnection t.connection t.standing t.first t.seen };
+}
+
+impl ClientConnection {
+    ghost use Rattle.std.specs.Prelude.{◌≡◌, ◌≤◌, ◌↔◌, ◌++◌, ℕ, List, [], true, take, drop, length};
+    ghost use Rattle.std.specs.Prelude.{OnOk, OnErr, IfOk, IsErr, IfSome, IsTrue};
+    ghost use Rattle.std.specs.Prelude.{MatchBool, MatchOption, MatchResult};
+    ghost use Rattle.faces.specs.Histories.{IsLater};
+    ghost use Rattle.serving.specs.Connections.{IsBegun};
+    ghost use Rattle.serving.specs.Serving.{AreAnswered};
+    ghost use Rattle.seats.specs.SeatPools.{HasSameReader};
+    ghost use Rattle.seats.specs.ClientConnections.{
+      HasGone,
+      HasGoneByLooks,
+      HasLooked,
+      HasLookedOn,
+      HoldsStore,
+      IsFurther,
+    };
+    ghost use Rattle.seats.specs.ClientConnections.{IsReplied, LeavesCall, StandsAt, begun, fed};
+    ghost use Rattle.seats.specs.declared.client_connections.CallStanding.TheVariants.{Idle, Reading, Over};
+
+    /// A client's connection of which nothing was read. It allocates nothing.
+    pub fn new(alloc: Global, pool: &SeatPool) -> ClientConnection
+        ensures { result ≡ begun pool.now.seen }
+    {
+        ClientConnection {
+            connection: Connection::new(alloc),
+            standing: CallStanding::Idle,
+            first: pool.tell(),
+            seen: pool.tell(),
+        }
+    }
+
+    /// Whatever was done: the calls are the first ones of the bytes that were read, each with what it came to, and what
+    /// was written, with what is due, is a beginning of what is due for them. Each call came to something, in order: to
+    /// the reply of a clean look, or the server's, and each of these has seen what the one before it had seen; or to a
+    /// refusal, if it stores, which leaves what was seen as it was.
+    pub fn so_far(&self)
+        ensures begun { (more : List ℕ) → IsBegun self.now.connected (self.now.connected.read ++ more) }
+        ensures answered { AreAnswered IsReplied self.now.first self.now.connected.calls self.now.connected.outcomes
+            self.now.seen }
+        ensures stands { StandsAt self.now.standing self.now.connected self.now.seen.origin }
+    {
+        self.connection.so_far();
+    }
+
+    /// Whether it wants input.
+    pub fn wants_input(&self) -> bool
+        ensures { IsTrue result ↔ (self.now.standing ≡ Reading) }
+    {
+        matches!(self.standing, CallStanding::Reading)
+    }
+
+    /// Takes a piece of input, which is copied once. Refused if memory is out, and then the piece counts as not read.
+    pub fn feed(&mut self, piece: &[u8]) -> Result<(), AllocError>
+        requires reads { self.old.standing ≡ Reading }
+        ensures ok { OnOk result (self.new ≡ fed self.old piece.now) }
+        ensures err { OnErr result (self.new ≡
+            record self.old { connected = record self.old.connected { failed = true } }) }
+    {
+        self.connection.feed(piece)?;
+        stand_idle(&mut self.standing);
+        Ok(())
+    }
+
+    /// The input has ended.
+    pub fn input_ended(&mut self)
+        requires reads { self.old.standing ≡ Reading }
+        ensures { self.new ≡
+            record self.old { connected = record self.old.connected { ended = true }; standing = Idle } }
+    {
+        self.connection.input_ended();
+        stand_idle(&mut self.standing);
+    }
+
+    /// Goes on as far as it can: it makes the calls of what was read, one after another, each by a look at once, or at
+    /// a free seat of the pool, until it waits for something. A call that stores is refused while the pool has no room,
+    /// and isn't made then. A call gets no reply if the server is marked or gone. After a fault no further call is
+    /// made, and it answers a fault from then on; what is due may still be written.
+    pub fn go<R: Wait>(&mut self, rt: &R, pool: &mut SeatPool) -> Result<Went, ServeFault>
+        requires known { IsLater self.old.seen pool.old.seen }
+        ensures known { IsLater self.new.seen pool.new.seen }
+        ensures later { IsLater pool.old.seen pool.new.seen }
+        ensures first { self.new.first ≡ self.old.first }
+        ensures further { IsFurther self.old.connected self.new.connected }
+        ensures went { IfOk result (λ went. HasGone went self.new) }
+        // No reply of a look was kept, and no look is forgotten: each reply to its calls is of a look of its own, at
+        // the face that stood. Beside these at most one look was made, for the call that it leaves waiting, or at which
+        // a fault came.
+        ensures looked { MatchResult result
+            (λ went. HasGoneByLooks went self.old.connected self.new.connected pool.old pool.new)
+            (λ _. HasLookedOn self.old.connected self.new.connected pool.old pool.new) }
+        ensures over { OnErr result (self.new.standing ≡ Over) }
+        ensures spent { self.old.standing ≡ Over → IsErr result × (self.new ≡ self.old) × (pool.new ≡ pool.old) }
+    {
+        match &self.standing {
+            CallStanding::Idle => self.go_on(rt, pool),
+            CallStanding::Reading => Ok(Went::Input),
+            CallStanding::Unsent(call) => {
+                if is_refused(pool, call) {
+                    self.pass_over(rt, pool)
+                } else {
+                    self.send(rt, pool)
+                }
+            }
+            CallStanding::Sent(_) => Ok(Went::Reply),
+            CallStanding::Over => Err(ServeFault::Call),
+        }
+    }
+
+    /// Takes the reply to the call that was sent, if it has come, and says whether it did: no call waits then, and its
+    /// seat is free.
+    pub fn hear<R: Wait>(&mut self, rt: &R, pool: &mut SeatPool) -> Result<bool, ServeFault>
+        requires known { IsLater self.old.seen pool.old.seen }
+        ensures known { IsLater self.new.seen pool.new.seen }
+        ensures later { IsLater pool.old.seen pool.new.seen }
+        ensures first { self.new.first ≡ self.old.first }
+        ensures further { IsFurther self.old.connected self.new.connected }
+        ensures looks { pool.new.looks ≡ pool.old.looks }
+        ensures heard { IfOk result (λ heard. MatchBool heard (self.new.standing ≡ Idle) (self.new ≡ self.old)) }
+        ensures over { OnErr result (self.new.standing ≡ Over) }
+    {
+        let CallStanding::Sent(submitter) = &mut self.standing else {
+            return Ok(false);
+        };
+        match pool.take_reply(rt, submitter) {
+            Ok(None) => Ok(false),
+            Ok(Some(reply)) => {
+                give_back(&mut self.standing, pool);
+                hand_on(&mut self.connection, &mut self.seen, pool, reply)?;
+                stand_at(&mut self.standing, CallStanding::Idle);
+                Ok(true)
+            }
+            Err(_) => {
+                give_back(&mut self.standing, pool);
+                Err(ServeFault::Call)
+            }
+        }
+    }
+
+    /// The output that is due.
+    pub fn output(&self) -> &[u8]
+        ensures { result.now ≡ self.now.connected.due }
+    {
+        self.connection.output()
+    }
+
+    /// The first n bytes of the output were written.
+    pub fn written(&mut self, n: usize)
+        requires { n ≤ length self.old.connected.due }
+        ensures { self.new ≡ record self.old {
+          connected = record self.old.connected {
+            due = drop n self.old.connected.due;
+            written = self.old.connected.written ++ take n self.old.connected.due;
+          };
+        } }
+    {
+        self.connection.written(n);
+    }
+
+    /// Ends it. Its seat, if it has one, goes back to the pool, which takes the reply that nobody waits for any more.
+    pub fn leave(self, pool: &mut SeatPool)
+        requires known { IsLater self.seen pool.old.seen }
+        ensures { HasSameReader pool.old pool.new }
+    {
+        let ClientConnection {
+            connection,
+            standing,
+            first,
+            seen,
+        } = self;
+        drop(connection);
+        drop(first);
+        drop(seen);
+        match standing {
+            CallStanding::Sent(submitter) => {
+                pool.leave(submitter);
+            }
+            other => drop(other),
+        }
+    }
+
+    // Makes calls while no call waits.
+    fn go_on<R: Wait>(&mut self, rt: &R, pool: &mut SeatPool) -> Result<Went, ServeFault>
+        requires idle { self.old.standing ≡ Idle }
+        requires known { IsLater self.old.seen pool.old.seen }
+        ensures known { IsLater self.new.seen pool.new.seen }
+        ensures later { IsLater pool.old.seen pool.new.seen }
+        ensures first { self.new.first ≡ self.old.first }
+        ensures further { IsFurther self.old.connected self.new.connected }
+        ensures went { IfOk result (λ went. HasGone went self.new) }
+        ensures looked { MatchResult result
+            (λ went. HasGoneByLooks went self.old.connected self.new.connected pool.old pool.new)
+            (λ _. HasLookedOn self.old.connected self.new.connected pool.old pool.new) }
+        ensures over { OnErr result (self.new.standing ≡ Over) }
+    {
+        for _ in 0..MOST_CALLS {
+            match self.step(pool)? {
+                None => {}
+                Some(Went::Seat) => return self.send(rt, pool),
+                Some(went) => return Ok(went),
+            }
+        }
+        Ok(Went::More)
+    }
+
+    // Refuses the call that waits for a seat, and goes on.
+    fn pass_over<R: Wait>(&mut self, rt: &R, pool: &mut SeatPool) -> Result<Went, ServeFault>
+        requires store { HoldsStore self.old.standing }
+        requires known { IsLater self.old.seen pool.old.seen }
+        ensures known { IsLater self.new.seen pool.new.seen }
+        ensures later { IsLater pool.old.seen pool.new.seen }
+        ensures first { self.new.first ≡ self.old.first }
+        ensures further { IsFurther self.old.connected self.new.connected }
+        ensures went { IfOk result (λ went. HasGone went self.new) }
+        ensures looked { MatchResult result
+            (λ went. HasGoneByLooks went self.old.connected self.new.connected pool.old pool.new)
+            (λ _. HasLookedOn self.old.connected self.new.connected pool.old pool.new) }
+        ensures over { OnErr result (self.new.standing ≡ Over) }
+    {
+        refuse(&mut self.connection, &mut self.standing)?;
+        self.go_on(rt, pool)
+    }
+
+    // The connection's next step. None if it was a call that a look answered, or that was refused.
+    fn step(&mut self, pool: &mut SeatPool) -> Result<Option<Went>, ServeFault>
+        requires idle { self.old.standing ≡ Idle }
+        requires known { IsLater self.old.seen pool.old.seen }
+        ensures known { IsLater self.new.seen pool.new.seen }
+        ensures later { IsLater pool.old.seen pool.new.seen }
+        ensures first { self.new.first ≡ self.old.first }
+        ensures further { IsFurther self.old.connected self.new.connected }
+        ensures went { IfOk result
+            (λ found. MatchOption found (self.new.standing ≡ Idle) (λ went. HasGone went self.new)) }
+        ensures looked { MatchResult result
+            (λ found. MatchOption found (HasLooked self.old.connected self.new.connected pool.old pool.new)
+            (λ went. HasGoneByLooks went self.old.connected self.new.connected pool.old pool.new))
+            (λ _. HasLookedOn self.old.connected self.new.connected pool.old pool.new) }
+        ensures over { OnErr result (self.new.standing ≡ Over) }
+    {
+        match self.connection.next() {
+            Ok(Wants::Call(target, op)) => ask(
+                &mut self.connection,
+                &mut self.standing,
+                &mut self.seen,
+                pool,
+                Call { target, op },
+            ),
+            Ok(Wants::Write) => Ok(Some(Went::Write)),
+            Ok(Wants::Read) => {
+                stand_reading(&mut self.standing);
+                Ok(Some(Went::Input))
+            }
+            Ok(Wants::End(end)) => Ok(Some(Went::End(end))),
+            Err(_) => {
+                stand_at(&mut self.standing, CallStanding::Over);
+                Err(ServeFault::Memory)
+            }
+        }
+    }
+
+    // Sends the call that waits at a free seat, if there is one.
+    fn send<R: Wait>(&mut self, rt: &R, pool: &mut SeatPool) -> Result<Went, ServeFault>
+        requires unsent { HasGone Went.Seat self.old }
+        requires known { IsLater self.old.seen pool.old.seen }
+        ensures same { self.new ≡ record self.old { standing = self.new.standing } }
+        ensures pool { HasSameReader pool.old pool.new }
+        ensures waits { IfOk result (λ went. LeavesCall went) }
+        ensures went { IfOk result (λ went. HasGone went self.new) }
+        ensures over { OnErr result (self.new.standing ≡ Over) }
+    {
+        let Some(mut submitter) = pool.take_free() else {
+            return Ok(Went::Seat);
+        };
+        let call = unsent(mem::replace(&mut self.standing, CallStanding::Over));
+        match submitter.submit(rt, call) {
+            Ok(()) => {
+                stand_at(&mut self.standing, CallStanding::Sent(submitter));
+                Ok(Went::Reply)
+            }
+            Err(_) => {
+                pool.put(submitter);
+                Err(ServeFault::Call)
+            }
+        }
+    }
+}
+
+// Refuses the call that waits.
+fn refuse(connection: &mut Connection, standing: &mut CallStanding) -> Result<(), ServeFault>
+    requires may_refuse { MayRefuse connection.old.waiting }
+    ensures ok { OnOk result (HasOutcome Refused connection.old connection.new × (standing.new ≡ Idle)) }
+    ensures err { OnErr result ((standing.new ≡ Over) ×
+        (connection.new ≡ record connection.old { failed = connection.new.failed })) }
+{
+    match connection.refuse() {
+        Ok(()) => {
+            stand_at(standing, CallStanding::Idle);
+            Ok(())
+        }
+        Err(_) => {
+            stand_at(standing, CallStanding::Over);
+            Err(ServeFault::Memory)
+        }
+    }
+}
+
+// Has the call that waits come to something at once. If it doesn't, it waits for a seat.
+fn ask(
+    connection: &mut Connection,
+    standing: &mut CallStanding,
+    seen: &mut Told,
+    pool: &mut SeatPool,
+    call: Call,
+) -> Result<Option<Went>, ServeFault>
+    requires idle { standing.old ≡ Idle }
+    requires asking { IsAsking call.target call.op connection.old }
+    requires known { IsLater seen.old pool.old.seen }
+    ensures known { IsLater seen.new pool.new.seen }
+    ensures later { IsLater pool.old.seen pool.new.seen }
+    ensures ok { IfOk result (λ found. MatchOption found
+        ((outcome : Outcome) × CameTo IsReplied seen.old call outcome seen.new ×
+        HasOutcome outcome connection.old connection.new × (standing.new ≡ Idle))
+        (λ went. (went ≡ Seat) × (standing.new ≡ Unsent call) × (connection.new ≡ connection.old) ×
+        (seen.new ≡ seen.old))) }
+    ensures looked { IfOk result (λ found. MatchOption found
+        ((outcome : Outcome) × HasOutcome outcome connection.old connection.new ×
+        HasLookedFor call outcome pool.old pool.new)
+        (λ went. (went ≡ Seat) × (connection.new ≡ connection.old))) }
+    ensures once { HasLookedAtMostOnce pool.old.looks pool.new.looks }
+    ensures err { OnErr result ((standing.new ≡ Over) × (seen.new ≡ seen.old) ×
+        (connection.new ≡ record connection.old { failed = connection.new.failed })) }
+{
+    match settle(connection, seen, pool, &call) {
+        Ok(true) => {
+            drop(call);
+            Ok(None)
+        }
+        Ok(false) => {
+            stand_at(standing, CallStanding::Unsent(call));
+            Ok(Some(Went::Seat))
+        }
+        Err(fault) => {
+            drop(call);
+            stand_at(standing, CallStanding::Over);
+            Err(fault)
+        }
+    }
+}
+
+// The call that waits for a seat.
+fn unsent(standing: CallStanding) -> Call
+    requires { (call : Call) × (standing ≡ Unsent call) }
+    ensures { standing ≡ Unsent result }
+{
+    match standing {
+        CallStanding::Unsent(call) => call,
+        other => {
+            drop(other);
+            unreachable!()
+        }
+    }
+}
+
+// No call waits from now on. It wanted input, so nothing is moved out.
+fn stand_idle(standing: &mut CallStanding)
+    requires { standing.old ≡ Reading }
+    ensures { standing.new ≡ Idle }
+{
+    *standing = CallStanding::Idle;
+}
+
+// From now on it wants input. No call waited, so nothing is moved out.
+fn stand_reading(standing: &mut CallStanding)
+    requires { standing.old ≡ Idle }
+    ensures { standing.new ≡ Reading }
+{
+    *standing = CallStanding::Reading;
+}
+
+// From now on it stands so. What it stood at is dropped, whatever that was.
+fn stand_at(standing: &mut CallStanding, next: CallStanding)
+    ensures { standing.new ≡ next }
+{
+    drop(mem::replace(standing, next));
+}
+
+// Gives the seat back to the pool, if it has one.
+fn give_back(standing: &mut CallStanding, pool: &mut SeatPool)
+    requires { HoldsFree pool.old.seen.origin standing.old }
+    ensures standing { standing.new ≡ Over }
+    ensures pool { HasSameReader pool.old pool.new }
+{
+    match mem::replace(standing, CallStanding::Over) {
+        CallStanding::Sent(submitter) => pool.put(submitter),
+        other => drop(other),
+    }
+}

@@ -1,6 +1,0 @@
-use Rattle.std.proofs.Common.{◌≡◌, ◌++◌, take, flat_map}
-use Rattle.traces.specs.Deeds.{appended_line}
-use Rattle.traces.proofs.deeds.put_entries.Given as goal
-
-abbrev pub invariant-loop-entry : goal.invariant-loop-entry
-invariant-loop-entry l = l.text ≡ l.initial.text ++ flat_map appended_line (take l.entry-index l.entries)

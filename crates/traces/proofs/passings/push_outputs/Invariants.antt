@@ -1,7 +1,0 @@
-use Rattle.std.proofs.Common.{◌≡◌, ◌++◌, drop, map}
-use Rattle.traces.specs.Passings.{output_put}
-use Rattle.traces.proofs.passings.push_outputs.Given as goal
-
-abbrev pub invariant-loop-output : goal.invariant-loop-output
-invariant-loop-output l = l.puts.items ++ map (output_put l.row l.i) (drop l.output-index l.outputs)
-    ≡ l.initial.puts.items ++ map (output_put l.row l.i) l.outputs

@@ -1,7 +1,0 @@
-use Rattle.std.proofs.Common.{◌≡◌, ◌++◌, drop}
-use Rattle.traces.specs.Passings.{takes_from}
-use Rattle.traces.proofs.passings.takes_of.Given as goal
-
-abbrev pub invariant-loop-place : goal.invariant-loop-place
-invariant-loop-place l = l.takes.items ++ takes_from l.homes l.events l.place l.row (drop l.place l.deeds)
-    ≡ takes_from l.homes l.events 0 0 l.deeds
