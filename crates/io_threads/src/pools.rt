@@ -61,7 +61,7 @@ pub fn open_pools<R: Wait + Drop>(
         threads,
         seats - threads,
         inlets,
-        Room::of_chain(),
+        Room::of_chain(inlets),
     )?;
     match deal(alloc, stands, others, mark, gauge) {
         Ok(pools) => Ok(Pooled {

@@ -45,7 +45,7 @@ taken_of items views i j from own put made ports got h there here =
 
 -- the sender's pass knows where the replies are of, and all that were put
 is_putter : (items : List NotedReply) (views : List ReplyKnowledge) (i : ℕ) (a : Address) (put : List NotedReply)
-    (p : reply_messages.ReplySenders items views)
+    (p : reply_messages.DeliversReplies items views)
     → get_elem? views i ≡ some (reply_messages.putter a put)
     → reply_messages.putter a put ≡ reply_messages.putter p.address p.put
 is_putter items views i a put p at =
@@ -56,7 +56,7 @@ is_putter items views i a put p at =
 
 -- the seat's knows the same, and all that were taken
 is_taker : (items : List NotedReply) (views : List ReplyKnowledge) (j : ℕ) (b : Address) (got : List NotedReply)
-    (p : reply_messages.ReplySenders items views)
+    (p : reply_messages.DeliversReplies items views)
     → get_elem? views j ≡ some (reply_messages.taker b got)
     → reply_messages.taker b got ≡ reply_messages.taker p.address p.taken
 is_taker items views j b got p at =
@@ -68,28 +68,28 @@ is_taker items views j b got p at =
 module _ (items : List NotedReply) (views : List ReplyKnowledge) (i j : ℕ) (a b : Address)
     (put got : List NotedReply) where
   -- what was put is what the seat took, and then what stands in its queue
-  pub taken_from : reply_messages.ReplyMessages items views
+  pub taken_from : reply_messages.IsReplyQueue items views
       → get_elem? views i ≡ some (reply_messages.putter a put)
       → get_elem? views j ≡ some (reply_messages.taker b got)
       → put ≡ got ++ items
   taken_from h there here =
       ⊎_elim (λ (new : (items ≡ []) × (views ≡ reply_messages.unknowing ∷ [])). absurd
       (not_new items views i (reply_messages.putter a put) refl there new.1))
-      (λ (p : reply_messages.ReplySenders items views).
+      (λ (p : reply_messages.DeliversReplies items views).
       ap (λ (y : ReplyKnowledge). y.list) (is_putter items views i a put p there)
       ∙ (sym p.order
       ∙ ap (λ (y : ReplyKnowledge). y.list ++ items) (sym (is_taker items views j b got p here))))
       h
 
   -- both are at one address
-  pub same_address : reply_messages.ReplyMessages items views
+  pub same_address : reply_messages.IsReplyQueue items views
       → get_elem? views i ≡ some (reply_messages.putter a put)
       → get_elem? views j ≡ some (reply_messages.taker b got)
       → a ≡ b
   same_address h there here =
       ⊎_elim (λ (new : (items ≡ []) × (views ≡ reply_messages.unknowing ∷ [])). absurd
       (not_new items views i (reply_messages.putter a put) refl there new.1))
-      (λ (p : reply_messages.ReplySenders items views).
+      (λ (p : reply_messages.DeliversReplies items views).
       address_in a p.address put p.put (is_putter items views i a put p there)
       ∙ sym (address_out b p.address got p.taken (is_taker items views j b got p here)))
       h

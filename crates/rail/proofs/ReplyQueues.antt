@@ -8,7 +8,7 @@ use Rattle.crossbeam_channel.specs.Fifo.{Pushes, Pops, Forks}
 use Rattle.rail.specs.NotedReplies.{Address, NotedReply, ReplySenderState}
 use Rattle.rail.specs.declared.reply_channels.ReplyKnowledge.{ReplyKnowledge}
 use Rattle.rail.specs.Turns.{HasPutReplies}
-use Rattle.rail.specs.ReplyMessages.{address_of, unknowing, putter, taker, AllAt, ReplySenders, ReplyMessages}
+use Rattle.rail.specs.ReplyMessages.{address_of, unknowing, putter, taker, AllAt, DeliversReplies, IsReplyQueue}
 
 -- what each pass knows
 abbrev pub Fits : Address → List NotedReply → List NotedReply → ℕ → ℕ → ℕ → ReplyKnowledge → Type 0
@@ -48,16 +48,16 @@ address_in a b put put' e = λ i. record { origin = (e i).origin; port = (e i).p
 pub address_out : (a b : Address) (put put' : List NotedReply) → taker a put ≡ taker b put' → a ≡ b
 address_out a b put put' e = λ i. record { origin = (e i).origin; port = (e i).port }
 
-pub begins : ReplyMessages [] (unknowing ∷ [])
+pub begins : IsReplyQueue [] (unknowing ∷ [])
 begins = inl (refl, refl)
 
 put_on : (pass : ℕ) (a : Address) (put : List NotedReply) (x : NotedReply) (items : List NotedReply)
     (views : List ReplyKnowledge)
     → address_of x ≡ a
-    → (p : ReplySenders items views)
+    → (p : DeliversReplies items views)
     → putter a put ≡ putter p.address p.put
     → pass ≡ p.sender
-    → ReplySenders (items ++ x ∷ []) (set views pass (putter a (put ++ x ∷ [])))
+    → DeliversReplies (items ++ x ∷ []) (set views pass (putter a (put ++ x ∷ [])))
 put_on pass a put x items views is p mine here =
     let same : a ≡ p.address = address_in a p.address put p.put mine in
     let w : ReplyKnowledge = putter a (put ++ x ∷ []) in record {
@@ -79,12 +79,12 @@ put_on pass a put x items views is p mine here =
 
 pub puts : (n pass : ℕ) (a : Address) (put : List NotedReply) (x : NotedReply)
     → address_of x ≡ a
-    → Pushes ReplyMessages n pass (putter a put) x (λ w. w ≡ putter a (put ++ x ∷ []))
+    → Pushes IsReplyQueue n pass (putter a put) x (λ w. w ≡ putter a (put ++ x ∷ []))
 puts n pass a put x is items views _ h at = (
   putter a (put ++ x ∷ []),
   ⊎_elim (λ (new : (items ≡ []) × (views ≡ unknowing ∷ [])). absurd
       (not_new items views pass (putter a put) refl at new.1))
-      (λ (p : ReplySenders items views).
+      (λ (p : DeliversReplies items views).
       inr (⊎_elim (λ (mine : (putter a put ≡ putter p.address p.put) × (pass ≡ p.sender)). put_on pass a put x items
       views is p mine.0 mine.1)
       (λ (other : (putter a put ≡ taker p.address p.taken) × (pass ≡ p.receiver)). absurd
@@ -96,10 +96,10 @@ puts n pass a put x is items views _ h at = (
 
 get_on : (pass : ℕ) (a : Address) (got : List NotedReply) (x : NotedReply) (items : List NotedReply)
     (views : List ReplyKnowledge)
-    → (p : ReplySenders (x ∷ items) views)
+    → (p : DeliversReplies (x ∷ items) views)
     → taker a got ≡ taker p.address p.taken
     → pass ≡ p.receiver
-    → ReplySenders items (set views pass (taker a (got ++ x ∷ [])))
+    → DeliversReplies items (set views pass (taker a (got ++ x ∷ [])))
 get_on pass a got x items views p mine here =
     let same : a ≡ p.address = address_out a p.address got p.taken mine in
     let w : ReplyKnowledge = taker a (got ++ x ∷ []) in record {
@@ -121,7 +121,7 @@ get_on pass a got x items views p mine here =
 got_at : (pass : ℕ) (a : Address) (got : List NotedReply) (x : NotedReply) (items : List NotedReply)
     (views : List ReplyKnowledge)
     → get_elem? views pass ≡ some (taker a got)
-    → (p : ReplySenders (x ∷ items) views)
+    → (p : DeliversReplies (x ∷ items) views)
     → (taker a got ≡ taker p.address p.taken) × (pass ≡ p.receiver)
 got_at pass a got x items views at p =
     ⊎_elim (λ (other : (taker a got ≡ putter p.address p.put) × (pass ≡ p.sender)). absurd
@@ -132,14 +132,14 @@ got_at pass a got x items views at p =
 in_use : (x : NotedReply) (items : List NotedReply) (views : List ReplyKnowledge) (pass : ℕ) (v : ReplyKnowledge)
     → v.whole ≡ false
     → get_elem? views pass ≡ some v
-    → ReplyMessages (x ∷ items) views
-    → ReplySenders (x ∷ items) views
+    → IsReplyQueue (x ∷ items) views
+    → DeliversReplies (x ∷ items) views
 in_use x items views pass v part at h =
     ⊎_elim (λ (new : (x ∷ items ≡ []) × (views ≡ unknowing ∷ [])). absurd
-    (not_new (x ∷ items) views pass v part at new.1)) (λ (p : ReplySenders (x ∷ items) views). p) h
+    (not_new (x ∷ items) views pass v part at new.1)) (λ (p : DeliversReplies (x ∷ items) views). p) h
 
 pub gets : (pass : ℕ) (a : Address) (got : List NotedReply)
-    → Pops ReplyMessages pass (taker a got)
+    → Pops IsReplyQueue pass (taker a got)
     (λ x w. (w ≡ taker a (got ++ x ∷ [])) × (x.told.origin ≡ a.origin) × (x.port ≡ a.port))
 gets pass a got x items views h at =
     let p = in_use x items views pass (taker a got) refl at h in
@@ -159,7 +159,7 @@ both a (suc (suc pass)) v e = absurd (some-ne-none v (sym e))
 
 opened : (a : Address) (pass : ℕ)
     → get_elem? (unknowing ∷ []) pass ≡ some unknowing
-    → ReplySenders [] (set (unknowing ∷ []) pass (putter a []) ++ taker a [] ∷ [])
+    → DeliversReplies [] (set (unknowing ∷ []) pass (putter a []) ++ taker a [] ∷ [])
 opened a zero at = record {
   address = a;
   put = [];
@@ -172,13 +172,13 @@ opened a zero at = record {
 }
 opened a (suc pass) at = absurd (some-ne-none unknowing (sym at))
 
-pub opens : (pass : ℕ) (a : Address) → Forks ReplyMessages pass unknowing (putter a []) (taker a [])
+pub opens : (pass : ℕ) (a : Address) → Forks IsReplyQueue pass unknowing (putter a []) (taker a [])
 opens pass a items views h at =
     ⊎_elim (λ (new : (items ≡ []) × (views ≡ unknowing ∷ [])).
-    inr (subst (λ (y : List NotedReply × List ReplyKnowledge). ReplySenders y.0
+    inr (subst (λ (y : List NotedReply × List ReplyKnowledge). DeliversReplies y.0
     (set y.1 pass (putter a []) ++ taker a [] ∷ []))
     (λ i. (sym new.0 i, sym new.1 i)) (opened a pass (sym (ap (λ l. get_elem? l pass) new.1) ∙ at))))
-    (λ (p : ReplySenders items views).
+    (λ (p : DeliversReplies items views).
     absurd (⊎_elim (λ (y : (unknowing ≡ putter p.address p.put) × (pass ≡ p.sender)). true≢false
     (ap (λ (s : ReplyKnowledge). s.whole) y.0))
     (λ (y : (unknowing ≡ taker p.address p.taken) × (pass ≡ p.receiver)). true≢false

@@ -46,7 +46,7 @@ AllAt a [] = Unit {0}
 AllAt a (m ∷ ms) = (address_of m ≡ a) × AllAt a ms
 
 -- what was taken, and then what stands in the queue, is what was put
-pub record ReplySenders (items : List NotedReply) (views : List ReplyKnowledge) : Type 0 where
+pub record DeliversReplies (items : List NotedReply) (views : List ReplyKnowledge) : Type 0 where
   pub address : Address
   pub put : List NotedReply
   pub taken : List NotedReply
@@ -59,5 +59,5 @@ pub record ReplySenders (items : List NotedReply) (views : List ReplyKnowledge) 
       → ((v ≡ putter address put) × (pass ≡ sender)) ⊎ ((v ≡ taker address taken) × (pass ≡ receiver))
 
 -- the queue is new, or in use
-abbrev pub ReplyMessages : List NotedReply → List ReplyKnowledge → Type 0
-ReplyMessages items views = ((items ≡ []) × (views ≡ unknowing ∷ [])) ⊎ ReplySenders items views
+abbrev pub IsReplyQueue : List NotedReply → List ReplyKnowledge → Type 0
+IsReplyQueue items views = ((items ≡ []) × (views ≡ unknowing ∷ [])) ⊎ DeliversReplies items views

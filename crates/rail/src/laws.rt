@@ -26,13 +26,13 @@ pub fn taken_begins_sent()
 pub fn replies_begin_those_put()
     ensures rest { (items : List NotedReply) (views : List ReplyKnowledge) (i j : ℕ) (a b : Address)
         (put got : List NotedReply)
-        → reply_messages.ReplyMessages items views
+        → reply_messages.IsReplyQueue items views
         → get_elem? views i ≡ some (reply_messages.putter a put)
         → get_elem? views j ≡ some (reply_messages.taker b got)
         → put ≡ got ++ items }
     ensures address { (items : List NotedReply) (views : List ReplyKnowledge) (i j : ℕ) (a b : Address)
         (put got : List NotedReply)
-        → reply_messages.ReplyMessages items views
+        → reply_messages.IsReplyQueue items views
         → get_elem? views i ≡ some (reply_messages.putter a put)
         → get_elem? views j ≡ some (reply_messages.taker b got)
         → a ≡ b }

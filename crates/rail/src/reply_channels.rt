@@ -3,7 +3,7 @@ ghost use Rattle.std.specs.Prelude.{◌≡◌, ◌<◌, [], ◌∷◌, ◌++◌,
 ghost use Rattle.crossbeam_channel.specs.Claims.{view, IsSeatAt};
 ghost use Rattle.crossbeam_channel.specs.Ends.{sends_on, receives_on};
 ghost use Rattle.rail.specs.NotedReplies.{reply_sender_at};
-ghost use Rattle.rail.specs.ReplyMessages.{HasGot, IsTaker, ReplyMessages, address_of, putter, taker, unknowing};
+ghost use Rattle.rail.specs.ReplyMessages.{HasGot, IsTaker, IsReplyQueue, address_of, putter, taker, unknowing};
 ghost use Rattle.rail.specs.Takes.{IsTake, IsTry};
 ghost use Rattle.rail.specs.Turns.{HasPutReplies};
 
@@ -33,7 +33,7 @@ pub struct ReplyKnowledge {
 pub struct InTurn;
 
 impl Protocol<ReplyMessage, ReplyKnowledge> for InTurn {
-    ghost holds = { ReplyMessages };
+    ghost holds = { IsReplyQueue };
 
     ghost first = { unknowing };
 }

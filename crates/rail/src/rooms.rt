@@ -1,5 +1,5 @@
 //! How many messages may stand in an inbox.
-ghost use Rattle.std.specs.Prelude.{◌≡◌, ◌≤◌};
+ghost use Rattle.std.specs.Prelude.{◌≡◌, ◌≤◌, ◌*◌};
 
 /// How many messages an inbox has room for, which is one at least. Who sends waits while it is full.
 #[derive(Clone, Copy, Debug, PartialEq, Eq)]
@@ -16,12 +16,16 @@ impl Room {
         Room { messages: 1 }
     }
 
-    /// As much as each server of a chain in one program has. It has to be at least four times as many messages as there
-    /// are calls that may be open at all these servers, 16 times 16 at most. With fewer than those calls the workers of
-    /// a chain wait on each other for ever, each to put a message into the other's full inbox.
-    pub fn of_chain() -> Room
-        ensures { result.messages ≡ 4096 }
+    /// As much as each server of a chain of this many has: 128 messages for each of them, 8 for each call that may be
+    /// open at them. With fewer than 4 for each call the workers of a chain may wait on each other for ever, each to put
+    /// a message into the other's full inbox. It has few more, since each message takes the next place of a ring, and a
+    /// ring that stays in the processor's near memory costs less.
+    pub fn of_chain(servers: usize) -> Room
+        requires { (1 ≤ servers) × (servers ≤ 16) }
+        ensures { result.messages ≡ 128 * servers }
     {
-        Room { messages: 4096 }
+        Room {
+            messages: 128 * servers,
+        }
     }
 }

@@ -57,7 +57,7 @@ pub(crate) fn all_go<R: Wait + Drop + Copy>(
 ) -> Result<bool, RailFault>
     requires { (1 ≤ readers) × (readers ≤ 16) }
 {
-    all_go_with(rt, alloc, count, readers, Room::of_chain(), steps)
+    all_go_with(rt, alloc, count, readers, Room::of_chain(16), steps)
 }
 
 /// The same, with this room in the server's inbox.
@@ -140,7 +140,7 @@ pub(crate) fn first_of<R: Wait + Drop + Copy>(
 ) -> Result<Server<R>, RailFault>
     requires { (1 ≤ readers) × (readers ≤ 16) }
 {
-    first_with(rt, alloc, count, readers, Room::of_chain())
+    first_with(rt, alloc, count, readers, Room::of_chain(16))
 }
 
 /// The same, with this room in its inbox.
