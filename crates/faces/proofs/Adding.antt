@@ -50,7 +50,7 @@ adds_goes log v e old len begun has pre false is =
       rw is tt,
     )
 
--- whatever the book is, the exchange adds the entry to all that was seen, or finds that the log is longer
+-- whatever the book is, the exchange adds the item to all that was seen, or finds that the log is longer
 pub adds_moves : (v : List HistoryItem) (e : HistoryItem) (old : ℕ) → length (drop 1 v) ≡ old → IsBegun v
     → Moves IsCounted shown moved 0 (v, (no_nib, None)) (λ n. either (n == old) (old + 1) n)
     (Adds (step 0 old (old + 1) e) (v, (no_nib, None)))

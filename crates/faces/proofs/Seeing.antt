@@ -10,7 +10,7 @@ use Rattle.faces.specs.Boards.{Keeps}
 use Rattle.faces.specs.Histories.{History, IsLater}
 use Rattle.faces.proofs.Beginnings.{prefix_shorter}
 
--- each list that a place has seen begins what stands
+-- each history that a place has seen begins what stands
 pub each_begins : (x : Face) (views : List Knowledge) (i : ℕ) (v : Knowledge)
     → Keeps x views
     → get_elem? views i ≡ some v

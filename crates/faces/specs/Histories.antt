@@ -40,6 +40,6 @@ with_next c input = record { origin = c.origin; inputs = c.inputs ++ input ∷ [
 abbrev pub history_of : Book → List HistoryItem → History
 history_of book log = record { origin = record { book = book; start = start_of log }; inputs = inputs_of log }
 
--- no server's name
+-- no server's origin
 abbrev pub nowhere : Origin
 nowhere = record { book = record { number = 0; log_name = 0; cells_name = 0 }; start = opening 0 1 }

@@ -6,7 +6,7 @@ use Rattle.node.specs.declared.messages.Input.{Input}
 use Rattle.faces.specs.declared.logs.HistoryItem.{HistoryItem}
 use Rattle.faces.specs.declared.logs.HistoryItem.TheVariants.{Began, Took}
 
--- the first entry is what the server began with
+-- the first item is what the server began with
 abbrev pub IsBegun : List HistoryItem → Type 0
 IsBegun [] = ⊥
 IsBegun (Began node ∷ es) = Unit {0}
@@ -24,7 +24,7 @@ inputs_of [] = []
 inputs_of (Began node ∷ es) = inputs_of es
 inputs_of (Took input ∷ es) = input ∷ inputs_of es
 
--- what stands behind the first entry is counted by the book's one word
+-- what stands after the first item is counted by the book's one word
 pub record IsCounted (cells : List Cell) (log : List HistoryItem) : Type 0 where
   pub words : cells ≡ (length (drop 1 log), true) ∷ []
   pub begun : IsBegun log
@@ -33,6 +33,6 @@ pub record IsCounted (cells : List Cell) (log : List HistoryItem) : Type 0 where
 abbrev pub head_of : Book → Named
 head_of b = record { tracked = true; key = 0; book = b }
 
--- the entry was added to all that had been seen, or the log was longer
+-- the item was added to all that had been seen, or the log was longer
 abbrev pub Adds : Step HistoryItem → View HistoryItem ℕ → ℕ → View HistoryItem ℕ → Type 0
 Adds s v found w = MatchBool (found == s.old) (w.0 ≡ v.0 ++ s.ask ∷ []) (Unit {0})

@@ -49,7 +49,7 @@ pub fn acts_of(
     Ok(acts)
 }
 
-// The acts of these steps, behind those so far.
+// The acts of these steps, after those so far.
 fn put_steps(alloc: Global, steps: Vec<FaceStep>, acts: &mut Vec<Act>) -> Result<(), AllocError>
     ensures { OnOk result (acts.new.items ≡ acts.old.items ++ map act_of steps.items) }
 {

@@ -7,9 +7,9 @@ ghost use Rattle.faces.specs.declared.boards.Knowledge.{Knowledge};
 ghost use Rattle.faces.specs.Boards.{Keeps};
 ghost use Rattle.faces.specs.Histories.{History, IsLater};
 
-/// For who compares what readers of one server were shown, or one of them and the publisher: each list that a place has
-/// seen, a reader's by a look or the publisher's by a publish, is a beginning of the list that is published. So of any
-/// two of them one is a beginning of the other.
+/// For who compares what readers of one server were shown, or one of them and the publisher: each history that a place
+/// has seen, a reader's by a look or the publisher's by a publish, is a beginning of the history that is published. So
+/// of any two of them one is a beginning of the other.
 pub fn seen_begins_published()
     ensures each { (x : Face) (views : List Knowledge) (i : ℕ) (v : Knowledge)
         → Keeps x views

@@ -83,7 +83,7 @@ pub struct Log {
 }
 
 impl Log {
-    /// A log of a server that took no input, and the sight of it.
+    /// A log of a server that took no input, and what was seen of it.
     pub fn open(node: &Node) -> (Log, LogKnowledge)
         ensures { (result.1.log ≡ Began node.now ∷ []) × (result.1.book ≡ result.0.head.book) }
     {

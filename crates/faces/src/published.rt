@@ -110,8 +110,8 @@ impl Told {
         Told { log_position }
     }
 
-    /// Whether it tells of all the inputs that the other one tells of. Of two lists of one server, one begins with the
-    /// other.
+    /// Whether it tells of all the inputs that the other one tells of. Of two histories of one server, one begins with
+    /// the other.
     pub fn has_all_of(&self, other: &Told) -> bool
         requires server { other.now.origin ≡ self.now.origin }
         ensures { MatchBool result (IsLater other.now self.now) (IsLater self.now other.now) }

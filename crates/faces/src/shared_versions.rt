@@ -10,8 +10,8 @@ use std::marker::Model;
 use std::sync::Arc;
 use table::Item;
 
-/// A key's version in a block of its own, which its copies share: so a copy of a face holds eight bytes of it. Contracts
-/// see the version.
+/// A key's version in a block of its own, which its copies share: so a copy of a face holds eight bytes of it.
+/// Contracts see the version.
 #[derive(Drop)]
 pub struct SharedVersion {
     block: Arc<Block>,

@@ -1,4 +1,4 @@
--- The stands and the seats of a server that was opened.
+-- The thread handles and the seats of a server that was opened.
 use Rattle.std.proofs.Common.{◌≡◌, ◌∙◌, ◌∷◌, ◌++◌, ◌+◌, ℕ, zero, suc, List, [], All, length, refl, ap, set, subst}
 use Rattle.std.proofs.Common.{sym}
 use Rattle.std.proofs.lemmas.List.Elements.{All-nil, All-append, All-cons, All-head, All-set, All-tail, All-weaker}
@@ -35,7 +35,8 @@ length_from o b k (suc n) = ap suc (length_from o b (k + 1) n)
 module _ (node : NodeState) (readers more inlets : ℕ) (w : WorkerState) (beside : List ThreadHandle)
     (others : List SeatState)
     (brought : List InletState) (opened : IsOpened node readers more inlets w beside others brought) where
-  -- the stands and the seats of a server that was opened are all of its worker's server, and no pool is of another
+  -- the thread handles and the seats of a server that was opened are all of its worker's server, and no pool is of
+  -- another
   opened_at : AreOf w.published.origin beside others []
   opened_at =
       let same : w.published.origin ≡ opened.origin = ap (λ (v : WorkerState). v.published.origin) opened.worker in
@@ -136,11 +137,11 @@ as_more o more next pools same are = subst (λ (l : List SeatState). AreOf o [] 
 module _ (o : Origin) (thread_handle : ThreadHandle) (rest : List ThreadHandle) (more : List SeatState)
     (pools : List Pooling)
     (are : AreOf o (thread_handle ∷ rest) more pools) where
-  -- the next stand is of this server
+  -- the next thread handle is of this server
   next_stand : IsRepliedAt o thread_handle.seat
   next_stand = All-head (λ (s : ThreadHandle). IsRepliedAt o s.seat) thread_handle rest are.stands
 
-  -- the pools are of the server of the next stand
+  -- the pools are of the server of the next thread handle
   pub may_be_made : All (λ (pool : Pooling). pool.seen.origin ≡ thread_handle.seat.origin) pools
   may_be_made =
       All-weaker (λ (pool : Pooling). pool.seen.origin ≡ o)

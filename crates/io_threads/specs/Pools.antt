@@ -1,4 +1,4 @@
--- Stands and seats that are dealt out to threads.
+-- Thread handles and seats that are dealt out to threads.
 use Rattle.std.specs.Prelude.{◌≡◌, true, List, [], All}
 use Rattle.node.specs.Nodes.{NodeState}
 use Rattle.faces.specs.Histories.{Origin}

@@ -13,7 +13,7 @@ use std::time::Clock;
 /// How many servers a process has at most; tokens hold a client's key times this, and the server's id.
 pub(crate) const SERVERS: usize = 16;
 
-/// What a connection table is made of. Unlike the connection table it may be sent to another thread.
+/// What a connection table is made of. Unlike the table itself it may be sent to another thread.
 #[derive(Drop)]
 pub(crate) struct ConnectionTableParts {
     /// The server.
@@ -25,7 +25,7 @@ pub(crate) struct ConnectionTableParts {
     pub(crate) output_permit: OutputPermit,
 }
 
-/// The clients of one thread at one server. Each waits for its socket, or its key stands in one of the four lines,
+/// The clients of one thread at one server. Each waits for its socket, or its key stands in one of the four queues,
 /// once.
 #[derive(Drop)]
 pub(crate) struct ConnectionTable {

@@ -56,7 +56,7 @@ impl<T: Drop> From<AllocFailed<T>> for FrontEndFault {
 pub struct FrontEndSettings {
     /// How many may be open at once, of each server.
     pub connections: u64,
-    /// How many are accepted of each server, before the front ends; 0 for no end.
+    /// How many are accepted of each server before the front end closes; with 0 it never does.
     pub serves: u64,
 }
 

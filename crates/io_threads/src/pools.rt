@@ -25,7 +25,7 @@ pub struct Pooled<R: Wait + Drop> {
     pub inlets: Vec<Inlet>,
 }
 
-/// Opens a server that begins as this node, with these many seats, which are dealt out to the threads in turn: that of
+/// Opens a server that begins as this node, with this many seats, which are dealt out to the threads in turn: that of
 /// port 0 to the first thread, that of port 1 to the second, and so on. All are seats of the worker's server. Each
 /// thread has one reader, and the face has room for no more. The inlets lead to the worker's inbox. The mark is set as
 /// soon as the server answers no more calls, and the gauge tells whether its items may take more memory. Refused if
@@ -109,7 +109,7 @@ fn place_after(place: usize, count: usize) -> usize {
     if next < count { next } else { 0 }
 }
 
-// One more pool, of this stand.
+// One more pool, of this thread handle.
 #[tactic(auto, using(crate::proofs::Dealt::one_more))]
 fn add_pool(
     alloc: Global,
@@ -145,7 +145,7 @@ fn give(pools: &mut Vec<SeatPool>, place: usize, seat: Seat) -> Result<(), Alloc
     }
 }
 
-// A pool with this stand's reader and seat.
+// A pool with this thread handle's reader and seat.
 fn pool_of(
     alloc: Global,
     thread_handle: ThreadHandle,

@@ -27,7 +27,7 @@ pub(crate) enum Waits {
     Lease,
 }
 
-/// A client, with its place among the connections of its server.
+/// A client, with the permit of its connection.
 #[derive(Drop)]
 pub(crate) struct ServedClient {
     // Before the client, as it is dropped first: who sees its connection end finds room.

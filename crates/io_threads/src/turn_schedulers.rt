@@ -25,8 +25,8 @@ impl Visit {
     }
 }
 
-/// Where the turns of the servers of one process are taken. Nobody waits there: a server at whose worker another thread
-/// is has its turns taken by that thread.
+/// Has the turns of the servers of one process taken. Nobody waits for a worker: if another thread is at it, that
+/// thread takes its turns.
 ///
 /// Who has put a call into a server's inbox says so (`expect`), and then takes turns there, and at each server that is
 /// answered as due; or it leaves them to the server's own thread.
@@ -44,7 +44,7 @@ pub trait TurnScheduler {
     fn leave(&self, servers: ServerSet);
 }
 
-/// A scheduler for whom others take all turns: each worker has a thread of its own, which its inbox wakes.
+/// A scheduler that leaves all turns to others: each worker has a thread of its own, which its inbox wakes.
 #[derive(Clone, Copy, Debug, Drop)]
 pub struct ScheduledElsewhere;
 

@@ -1,4 +1,4 @@
-//! Lines of clients that wait.
+//! Queues of clients that wait.
 ghost use Rattle.std.specs.Prelude.{◌≡◌, ◌==◌, filter, not};
 
 use std::alloc::{AllocError, Global};

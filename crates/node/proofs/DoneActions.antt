@@ -17,7 +17,7 @@ use Rattle.node.specs.Actions.{due, due_after, AreInTurn, due_in_the_end}
 use Rattle.node.proofs.SoundActions.{sound_act, IsSeatOf, seat_act, Grown, grown_same, grown_then, grown_act}
 use Rattle.node.proofs.Growth.{is_trim, Grows, grows_self, grows_then, grows_act}
 
--- ---- a list behind a list
+-- ---- a list after a list
 
 -- two lists of actions, one after the other, do what the first and then the second does
 pub does-append : (s : ServerState) (xs ys : List Action) → does s (xs ++ ys) ≡ and_then (does s xs) (λ t. does t ys)
@@ -201,7 +201,7 @@ pub record IsRule (c : Cause) (s : ServerState) (d : Due) (a : RuleResult) (P : 
   pub after : P (due_in_the_end d s done.actions)
   pub grows : Grows s a.state
 
--- an outcome that equals a rule's is that rule
+-- a result that equals a rule's is that rule's
 pub rule_as : (c : Cause) (s : ServerState) (d : Due) (a b : RuleResult) (P : Due → Type 0)
     → b ≡ a
     → IsRule c s d a P

@@ -46,7 +46,7 @@ in_joined [] ys x h = inr h
 in_joined (z ∷ xs) ys x (zero, h) = inl (0, h)
 in_joined (z ∷ xs) ys x (suc k, h) = elim (in_joined xs ys x (k, h)) [ inl g ↦ inl (suc g.0, g.1) | inr g ↦ inr g ]
 
--- what stands in a list still does with others behind it
+-- what stands in a list still does with others after it
 pub in_front : {X : Type 0} (xs ys : List X) (x : X) → In x xs → In x (xs ++ ys)
 in_front xs ys x h = (h.0, get_front xs ys h.0 x h.1)
 

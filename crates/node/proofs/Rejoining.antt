@@ -1,4 +1,4 @@
--- The steps of joining, one after another: the server behind each, and all that they put out.
+-- The steps of joining, one after another: the server after each, and all that they put out.
 use Rattle.std.proofs.Common.{◌≡◌, ℕ, ◌==◌, ◌&&◌, not, List, ◌++◌, refl, sym, ap, ◌∙◌, append_assoc}
 use Rattle.std.proofs.lemmas.Bool.{cond_both}
 use Rattle.std.specs.Prelude.{Result, Ok, Err, OnOk}

@@ -32,7 +32,7 @@ unfolding forwarded
 forwarded_none s [] is = refl
 forwarded_none s (e ∷ es) is = absurd (omega arith)
 
--- one more entry is forwarded, and those behind it are left
+-- one more entry is forwarded, and those after it are left
 pub forwarded_step : (s : ServerState) (rest es : List LogEntry) (e : LogEntry) (whole done after : List Output)
     → rest ≡ e ∷ es
     → whole ≡ done ++ forwarded s rest
@@ -59,7 +59,7 @@ unfolding sent_again
 sent_none s [] is = refl
 sent_none s (u ∷ us) is = absurd (omega arith)
 
--- one more own call is sent to the head again, and those behind it are left
+-- one more own call is sent to the head again, and those after it are left
 pub sent_step : (s : ServerState) (rest us : List OpenUpdate) (u : OpenUpdate) (whole done after : List Output)
     → rest ≡ u ∷ us
     → whole ≡ done ++ sent_again s rest
@@ -85,7 +85,7 @@ unfolding asked_again
 asked_none s [] is = refl
 asked_none s (r ∷ rs) is = absurd (omega arith)
 
--- one more open read asks the tail again, and those behind it are left
+-- one more open read asks the tail again, and those after it are left
 pub asked_step : (s : ServerState) (rest rs : List OpenRead) (r : OpenRead) (whole done after : List Output)
     → rest ≡ r ∷ rs
     → whole ≡ done ++ asked_again s rest
@@ -111,7 +111,7 @@ unfolding replies_to
 replied_none s [] is = refl
 replied_none s (r ∷ rs) is = absurd (omega arith)
 
--- one more open read is answered, and those behind it are left
+-- one more open read is answered, and those after it are left
 pub replied_step : (s : ServerState) (rest rs : List OpenRead) (r : OpenRead) (whole done after : List Output)
     → rest ≡ r ∷ rs
     → whole ≡ done ++ replies_to s rest

@@ -11,7 +11,7 @@ use Rattle.node.specs.Numbering.{taken, is_taken, appended}
 use Rattle.node.specs.Joining.{call_at, taken_all}
 use Rattle.node.specs.Lawful.{IsCall, AreUpdates}
 
--- the call at a place, and those behind it
+-- the call at a place, and those after it
 pub record IsCallAt (us : List OpenUpdate) (i : ℕ) (id : ℕ) (made : Call) : Type 0 where
   pub update : OpenUpdate
   pub is_id : id ≡ update.id
@@ -36,7 +36,7 @@ call_at_is (u ∷ us) (suc i) id made h =
     let next : suc i + 1 ≡ suc (i + 1) = omega arith in
     record { update = g.update; is_id = g.is_id; is_call = g.is_call; rest = rw next g.rest }
 
--- if no call is found at a place, none is behind it
+-- if no call is found at a place, none is after it
 pub no_call_at : (us : List OpenUpdate) (i : ℕ) → ◌≡◌ {A = Option (ℕ × Call)} None (call_at us i) → drop i us ≡ []
 no_call_at [] zero h = refl
 no_call_at [] (suc i) h = refl

@@ -25,7 +25,7 @@ log_entry floor k [] e log h = absurd cc
 log_entry floor zero (x ∷ es) e log h = subst (λ y. IsEntry y) (same_Some x e h) log.0
 log_entry floor (suc k) (x ∷ es) e log h = log_entry (floor + 1) k es e log.2 h
 
--- what stands in a list behind its first m stood m places later in the whole
+-- what stands in a list after its first m stood m places later in the whole
 pub get_dropped : {X : Type 0} (m : ℕ) (xs : List X) (k n : ℕ) (x : X)
     → n ≡ m + k
     → slice_get (drop m xs) k ≡ Some x

@@ -34,8 +34,8 @@ pub record FaceState : Type 0 where
   pub cleared : ℕ
   pub acked : ℕ
 
--- a look at a key: clean with its newest version's item where that version is acknowledged, clean without item where
--- there is no version, and dirty otherwise
+-- a look at a key: clean with its newest version's item if that version is acknowledged, clean without item if there
+-- is no version, and dirty otherwise
 abbrev pub look_at_version : ℕ → ℕ → Option Version → Look Item
 look_at_version cleared acked None = if nat_le cleared acked then Clean None else Dirty
 look_at_version cleared acked (Some v) = if nat_le v.number acked then Clean v.item else Dirty

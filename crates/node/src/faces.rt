@@ -57,7 +57,7 @@ fn base_step(key: Key, item: Item) -> FaceStep
     FaceStep::Set(key, Version { number, item })
 }
 
-// The same for each, behind the steps so far.
+// The same for each, after the steps so far.
 fn put_base(items: Vec<(Key, Item)>, steps: &mut Vec<FaceStep>) -> Result<(), AllocError>
     ensures { OnOk result (steps.new.items ≡ steps.old.items ++ map faces.base_step items.items) }
 {
@@ -97,7 +97,7 @@ fn step_of(entry: &Entry) -> Result<Option<FaceStep>, AllocError>
     }
 }
 
-// The same behind the steps so far.
+// The same after the steps so far.
 fn put_step(entry: &Entry, steps: &mut Vec<FaceStep>) -> Result<(), AllocError>
     ensures { OnOk result
         (steps.new.items ≡ steps.old.items

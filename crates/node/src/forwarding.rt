@@ -15,7 +15,7 @@ use std::collections::VecDeque;
 use std::collections::vec_deque::Iter;
 use versions::Entry;
 
-// Where the entry's call is an own one without a reply, its port gets the reply.
+// If the entry's call is an own one without a reply, its port gets the reply.
 fn settle(
     id: u8,
     pend: &mut VecDeque<OpenUpdate>,

@@ -42,7 +42,7 @@ impl Replica {
         self.rejoin(old, last_before, acked_before, outputs)
     }
 
-    // The steps behind the first, of a server whose view was widened.
+    // The steps after the first, of a server whose view was widened.
     fn rejoin(
         &mut self,
         old: View,

@@ -72,7 +72,7 @@ length_opened o k (suc n) = ap suc (length_opened o (k + 1) n)
 pub idle_below : (n : NodeState) (ports : ℕ) → is_idle n ≡ true → AreOpenBelow ports n.server
 idle_below n ports idle = λ port reads above. idle-none_open n port reads idle
 
--- a reader that hasn't looked and a seat before any call make that stand
+-- a reader that hasn't looked and a seat before any call make that thread handle
 pub is_thread_handle_at : (o : Origin) (b : TableId) (k : ℕ) (s : ThreadHandle)
     → s.reader ≡ yet_to_look (history_at o)
     → s.seat ≡ seat_at o b k

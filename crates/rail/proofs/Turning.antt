@@ -73,7 +73,7 @@ going_worker now c p told told' i reply_senders reply_senders' ports outputs is 
       going = subst (λ (n : Option Publishing). IsGoing n told' ports) (sym is) (sym at, lawful, waits, goes);
     }
 
--- a refused input leaves the server's name
+-- a refused input leaves the server's origin
 pub cut_origin : {C : Type 0} (l l' : LinksState C) (c c' : History) (i : Input)
     → IsCut l l' c c' i
     → c'.origin ≡ c.origin

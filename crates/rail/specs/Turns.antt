@@ -48,7 +48,7 @@ module _ {C : Type 0} (l l' : LinksState C) where
 abbrev pub outputs_after : History → List Output
 outputs_after c = last_outputs c.origin.start c.inputs
 
--- An input was refused: nothing was published or put; or the published list grew by it, and then some of the first
+-- An input was refused: nothing was published or put; or the published history grew by it, and then some of the first
 -- messages of its step were put.
 abbrev pub IsCut : {C : Type 0} → LinksState C → LinksState C → History → History → Input → Type 0
 IsCut l l' c c' input =

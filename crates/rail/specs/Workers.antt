@@ -55,9 +55,9 @@ pub record IsStopped (w w' : WorkerState) : Type 0 where
   pub closed : AreClosed w'.reply_senders
 
 module _ {C : Type 0} (w w' : WorkerState) (l l' : LinksState C) where
-  -- An input was given to a server that goes on: the published list grew by it, and then what its step put out was put:
-  -- its messages save those on links that have failed, and its replies, each of which has a seat, save those that are
-  -- handed back.
+  -- An input was given to a server that goes on: the published history grew by it, and then what its step put out was
+  -- put: its messages save those on links that have failed, and its replies, each of which has a seat, save those that
+  -- are handed back.
   pub record HasGone (input : Input) : Type 0 where
     pub going : w.goes ≡ true
     pub still : w'.goes ≡ true
@@ -73,7 +73,7 @@ module _ {C : Type 0} (w w' : WorkerState) (l l' : LinksState C) where
     pub messages : l' ≡ l
 
   -- An input was refused, as memory was out, and the server is stopped from now on. Nothing was published or put; or
-  -- the published list grew by the input, and then some of the first messages of its step were put. Nothing was
+  -- the published history grew by the input, and then some of the first messages of its step were put. Nothing was
   -- replied, and no seat's end is held.
   pub record WasCut (input : Input) : Type 0 where
     pub going : w.goes ≡ true

@@ -16,10 +16,10 @@ impl Room {
         Room { messages: 1 }
     }
 
-    /// As much as each server of a chain of this many has: 128 messages for each of them, 8 for each call that may be
-    /// open at them. With fewer than 4 for each call the workers of a chain may wait on each other for ever, each to put
-    /// a message into the other's full inbox. It has few more, since each message takes the next place of a ring, and a
-    /// ring that stays in the processor's near memory costs less.
+    /// The room of each inbox in a chain of this many servers: 128 messages for each server, 8 for each call that may
+    /// be open in the chain. With fewer than 4 for each call its workers may wait on each other for ever, each to put a
+    /// message into the other's full inbox. It isn't much more than that, since each message takes the next place of a
+    /// ring, and a ring that stays in the processor's near memory costs less.
     pub fn of_chain(servers: usize) -> Room
         requires { (1 ≤ servers) × (servers ≤ 16) }
         ensures { result.messages ≡ 128 * servers }

@@ -115,7 +115,7 @@ impl<R: Wait + Drop> Links for InProcessLinks<R> {
 
     ghost Carried = { InboxMessage };
 
-    // A message is on a wire as the inbox message that it comes from the server of these links.
+    // On a wire, a message is the inbox message which says that it comes from the server of these links.
     ghost state = { λ s. record {
       list = all_put s.receivers (sent_on s.links.items);
       failures = failures_at s.links.items;

@@ -11,15 +11,15 @@ use Rattle.std.proofs.lemmas.Map.Views.{tells_apart}
 use Rattle.table.specs.Keys.{key_cmp, tree_key_of, tree_key_cmp}
 use Rattle.table.proofs.Maps.{get_entry, one_put, one_removed}
 
--- places are in order
+-- tree keys are in order
 pub tree_key_total : IsTotalOrder tree_key_cmp
 tree_key_total = on_total tree_key_of nat_list_cmp_total
 
--- keys at one place are one key
+-- keys with one tree key are one key
 pub tree_key_tie : (k q : List ℕ) → is_at (tree_key_cmp k) q ≡ true → k ≡ q
 tree_key_tie k q e = ap (drop 1) (tells_apart exact_bytes (tree_key_of k) (tree_key_of q) e)
 
--- a key is at its own place
+-- a key's tree key is its own
 pub tree_key_itself : (k : List ℕ) → is_at (tree_key_cmp k) k ≡ true
 tree_key_itself k = (eq_by_cmp_equiv tree_key_total).refl k
 
@@ -33,11 +33,11 @@ tied_by k q false true h g =
     let same : k ≡ q = tells_apart exact_bytes k q g in
     sym h ∙ ap (λ x. is_at (tree_key_cmp k) x) (sym same) ∙ tree_key_itself k
 
--- a key is at another's place exactly if it is that key
+-- a key has another's tree key exactly if it is that key
 pub same_tie : (k q : List ℕ) → is_at (tree_key_cmp k) q ≡ is_at (key_cmp k) q
 same_tie k q = tied_by k q _ _ refl refl
 
--- the value that a list of entries has at a key's place
+-- the value that a list of entries has at a key's tree key
 abbrev pub placed_at : {X : Type 0} → List (List ℕ × X) → List ℕ → Option X
 placed_at es key = lookup (is_at (tree_key_cmp key)) es
 
@@ -50,14 +50,14 @@ pub get_tree_key : {X : Type 0} (es : List (List ℕ × X)) (q : List ℕ)
     → get (from_entries {R = key_cmp} es) q ≡ placed_at es q
 get_tree_key es q = get_entry es q ∙ sym (same_lookup es q)
 
--- trees that differ at one place by a new value make maps that do
+-- trees that differ at one tree key by a new value make maps that do
 pub tree_key_put : {X : Type 0} (es fs : List (List ℕ × X)) (k : List ℕ) (v : X)
     → ((q : List ℕ) → placed_at fs q ≡ cond (is_at (tree_key_cmp k) q) (Some v) (placed_at es q))
     → from_entries {R = key_cmp} fs ≡ insert (from_entries es) k v
 tree_key_put es fs k v h =
     one_put es fs k v (λ q. sym (same_lookup fs q) ∙ h q ∙ (λ i. cond (same_tie k q i) (Some v) (same_lookup es q i)))
 
--- trees that differ at one place by its absence make maps that do
+-- trees that differ at one tree key by its absence make maps that do
 pub tree_key_removed : {X : Type 0} (es fs : List (List ℕ × X)) (k : List ℕ)
     → ((q : List ℕ) → placed_at fs q ≡ cond (is_at (tree_key_cmp k) q) None (placed_at es q))
     → from_entries {R = key_cmp} fs ≡ remove (from_entries es) k

@@ -15,10 +15,10 @@ use std::marker::Model;
 // An odd number whose multiples lie far apart: 2^64 divided by the golden ratio (Knuth, "Sorting and Searching", 6.4).
 const SPREAD: u64 = 11_400_714_819_323_198_485;
 
-/// A key as a tree holds it. They stand in the order of their hashes, and then of their bytes. A hash is a number that
-/// the bytes make, kept beside them: a search compares it, and reads the bytes of the key alone that it finds. Hashes
-/// of keys that follow one another lie far apart, so a tree's nodes fill up in whatever order keys come. Contracts see
-/// a tree key as the key's bytes.
+/// A key as a tree holds it. Tree keys stand in the order of their hashes, and then of their bytes. A hash is a number
+/// that the bytes make, kept beside them: a search compares it, and reads the bytes of the key alone that it finds.
+/// Hashes of keys that follow one another lie far apart, so a tree's nodes fill up in whatever order keys come.
+/// Contracts see a tree key as the key's bytes.
 #[derive(Debug, Drop)]
 pub struct TreeKey {
     hash: u64,

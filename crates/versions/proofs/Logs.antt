@@ -45,7 +45,7 @@ apart q All (Put item) h e = cc
 apart q All Drop h e = cc
 apart q All Clear h e = cc
 
--- behind the first entry, each place is one further
+-- after the first entry, each place is one further
 further : (e : LogEntry) (es : List LogEntry) (floor n : ℕ)
     → floor + 1 < n
     → item_put_at es (n - (floor + 1) - 1) ≡ item_put_at (e ∷ es) (n - floor - 1)

@@ -4,8 +4,8 @@ use Rattle.faces.specs.Histories.{Origin}
 use Rattle.io_threads.specs.Pools.{AreOf}
 use Rattle.io_threads.proofs.pools.deal.Given as goal
 
--- the stands that are left, the seats, and the pools, are of the server that the stands and the seats are of; each
--- stand that isn't left has its pool
+-- the thread handles that are left, the seats, and the pools, are of the server that the thread handles and the seats
+-- are of; each thread handle that isn't left has its pool
 abbrev pub invariant-loop-thread_handle : goal.invariant-loop-thread_handle
 invariant-loop-thread_handle l = record {
   server : (o : Origin) → AreOf o l.fn.stands.items l.fn.others.items []

@@ -48,7 +48,7 @@ renew_asks-requires c =
     c.in_ok-promote_to_head.ensures.state in
     record { chain = rw made r.third }
 
--- the steps behind the first, one after another, do what a join does once the view was widened
+-- the steps after the first, one after another, do what a join does once the view was widened
 pub returns : goal.returns
 returns c =
     let made = c.in_ok-promote_to_tail.ensures.state ∙ ap (λ (t : ServerState). (promoted_to_tail t).state)

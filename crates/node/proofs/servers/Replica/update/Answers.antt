@@ -12,7 +12,7 @@ submit-requires-clause-chain c =
     rw (c.in_ok-enter.ensures, same)
     (sound-entered c.args.self.now c.args.port c.args.call.now c.requires.call c.requires.update c.requires.chain)
 
--- where there is room, an own update call enters and is then taken or sent
+-- if there is room, an own update call enters and is then taken or sent
 pub returns : goal.returns
 returns c =
     let same : c.in_ok-clone.field-0 ≡ c.args.call.now = search rules in
