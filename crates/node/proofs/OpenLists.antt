@@ -65,7 +65,7 @@ update_apart above [] next_id id u h (k, e) = absurd cc
 update_apart above (v ∷ us) next_id id u h i =
     update_step _ v u us (without_update us id) next_id id refl h.3 (update_apart v.id us next_id id u h.3) i
 
--- each read that waits has an ask above the bound of the list, and a lower bound that is no lower than its bound
+-- each read that waits has an ask above the list's bound of asks, and a lower bound no lower than the list's
 pub read_above : (above lower_bound : ℕ) (rs : List OpenRead) (next_ask acked : ℕ) (r : OpenRead)
     → AreReads above lower_bound rs next_ask acked
     → In r rs

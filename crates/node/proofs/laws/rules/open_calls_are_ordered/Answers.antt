@@ -9,6 +9,6 @@ returns-clause-updates c = updates_bound
 pub returns-clause-reads : goal.returns-clause-reads
 returns-clause-reads c = reads_bound
 
--- the least lower bound is from the bound of the lower bounds to the acknowledged number
+-- the least lower bound is from the list's own to the acknowledged number
 pub returns-clause-least : goal.returns-clause-least
 returns-clause-least c = least_within
