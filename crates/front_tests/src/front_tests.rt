@@ -1,4 +1,4 @@
-//! Fronts over real sockets: few threads that serve many connections. Each port is one that nobody listens on.
+//! Front ends over real sockets: few threads that serve many connections. Each port is one that nobody listens on.
 
 use super::served::{Served, Serves, TakesTurns, open, open_served};
 use io_threads::FrontEndSettings;

@@ -170,7 +170,7 @@ fn serve<R: Wait + Threads + Clock + Net + Copy + Drop + Send + 'static, T: Drop
     })
 }
 
-// The only server of a front end, as it is served.
+// The only server that a front end serves.
 fn only_served_server(
     alloc: Global,
     listener: TcpListener,

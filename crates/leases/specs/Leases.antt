@@ -14,9 +14,9 @@ pub record Beat : Type 0 where
   -- the instant at which the server took the beat, however late
   pub taken : ℕ
 
--- A look that a server answered: it was taken, and later the clock was read. When its answer was written doesn't
---   matter.
--- A reply or a message that the server put out is one too: it was made up, and later the clock was read.
+-- What a server answered by its lease: a look was taken, and later the clock was read. When its answer was written
+-- doesn't matter. A reply or a message that the server put out is one too: it was made up, and later the clock was
+-- read.
 pub record LeasedAnswer : Type 0 where
   pub taken : ℕ
   pub read : ℕ

@@ -39,7 +39,7 @@ pub record IsSent (pair : Pair) (term other : ℕ) (notice : Notice) (before : L
   -- If this one told that it knew the other one to be gone, then it did so before it took the beat.
   pub known : HasKnown server_record.id all other → HasToldOf pair.clock term other before
 
--- What the watched server heard, of masters that are as their server records.
+-- What the watched server heard, of masters that do what their server records have due.
 pub record IsServed (pair : Pair) (term other : ℕ) (notice : Notice) (timed_orders : List TimedOrder) : Type 0 where
   -- when it takes a beat it is in the epoch that it entered last,
   pub epoch : (before after : List TimedOrder) (x epoch stamp gone : ℕ)

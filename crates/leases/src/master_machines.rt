@@ -70,8 +70,8 @@ impl Model for MasterMachine {
 }
 
 impl MasterMachine {
-    /// A master of this name that has just started, in a chain of n servers, when its clock shows `now`. Nothing
-    /// is known of the servers, and it has no epoch. No two masters have the same name. Fails only if memory runs out.
+    /// A master of this name that has just started, in a chain of n servers, when its clock shows `now`. Nothing is
+    /// known of the servers, and it has no epoch. No two masters have the same name. Fails only if memory runs out.
     pub fn new(
         alloc: Global,
         name: u32,

@@ -190,7 +190,7 @@ impl Answers {
         self.add_seconds(milliseconds);
     }
 
-    // Adds a time in seconds, with three digits behind the point.
+    // Adds a time in seconds, with three digits after the point.
     fn add_seconds(&mut self, milliseconds: u64) {
         self.add(Buffer::new().format(milliseconds / SECOND).as_bytes());
         self.add(b".");

@@ -83,7 +83,7 @@ impl Decider {
         }
     }
 
-    // Does what news asks for.
+    // Does what a piece of news asks for.
     fn take<R: Wait + Clock, W: Sink, X: Sink>(
         &mut self,
         rt: &R,

@@ -6,7 +6,7 @@ use Rattle.node.specs.declared.messages.Peer.{Peer}
 use Rattle.rail.specs.declared.inbox_messages.InboxMessage.{InboxMessage}
 use Rattle.rail.specs.declared.inbox_messages.InboxMessage.TheVariants.{Took, Stop, End}
 
--- the server that brings this event
+-- the server that brings this inbox message
 brings : InboxMessage → ℕ
 brings (Took (Called port call)) = 0
 brings (Took (From i peer)) = i

@@ -143,7 +143,7 @@ ArePartsOf [] servers_parts = servers_parts ≡ []
 ArePartsOf (server ∷ servers) [] = ⊥
 ArePartsOf (server ∷ servers) (parts ∷ servers_parts) = IsPartsOf server parts × ArePartsOf servers servers_parts
 
--- The seats of each of these are of the server of its place, where the first one is server k.
+-- The seats of each of these are of the server of its place; the first one is server k.
 abbrev pub AreSeatedFrom : ℕ → List ServerParts → Type 0
 AreSeatedFrom k [] = Unit {0}
 AreSeatedFrom k (parts ∷ servers_parts) =
@@ -157,6 +157,6 @@ controls_of servers_parts = map (λ parts. parts.control) servers_parts
 abbrev pub pools_of : List ServerParts → List (List Pooling)
 pools_of servers_parts = map (λ parts. parts.pools.items) servers_parts
 
--- the seats behind each served server, by threads
+-- the seats of each server that a front end serves, by threads
 abbrev pub pools_in : List ServedServer → List (List Pooling)
 pools_in served_servers = map (λ served_server. served_server.pools.items) served_servers

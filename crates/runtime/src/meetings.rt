@@ -25,8 +25,8 @@ use std::sync::{Arc, Wait};
 use std::thread::Threads;
 use std::time::Clock;
 
-/// The peer port of the server that the settings name, which other servers and masters enter, and the server's lease,
-/// which has the term of the settings. The mark is set if the server is called gone.
+/// The peer port of the server that the settings name, at which other servers and masters greet, and the server's
+/// lease, which has the term of the settings. The mark is set if the server is called gone.
 pub(crate) fn new_peer_port<R: Clock + Copy + Drop>(
     rt: R,
     alloc: Global,

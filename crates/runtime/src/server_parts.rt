@@ -187,8 +187,8 @@ fn link_to<R: Wait + Drop>(id: u8, j: usize, server: &mut Opened<R>) -> InboxLin
     InboxLink::new(inlet_for(usize::from(id), j, &mut server.pooled.inlets))
 }
 
-/// The scheduler of all workers, by their servers' ids, and what each server has beside its own. The worker of each
-/// server gets the links of that server: the scheduler takes no others.
+/// The scheduler of all workers, by their servers' ids, and what each server has beside its worker. The worker of
+/// each server gets the links of that server: the scheduler takes no others.
 pub fn all_parts<R: Wait + Drop>(
     alloc: Global,
     loop_handles: &Arc<LoopHandles, Global>,

@@ -1,5 +1,5 @@
 //! Tests of what the threads of a server stand on, by public functions. A crate with tests is proved twice, so they
-//! stand here, and each library is proved once. Those of the front that serves clients are `front_tests`.
+//! stand here, and each library is proved once. Those of front ends are `front_tests`.
 #![tactic(auto)]
 
 #[cfg(test)]

@@ -249,7 +249,7 @@ fn looks_while_held<R: Wait + Threads + Clock + Send + Sync + Drop>(
     Ok(went && held.in_time && clean)
 }
 
-// Whether the second stand of a server looks so while the call of the first is taken.
+// Whether the second thread handle of a server looks so while the call of the first is taken.
 fn second_looks<R: Wait + Threads + Clock + Send + Sync + Drop + Copy>(
     rt: R,
     alloc: Global,

@@ -425,7 +425,7 @@ fn many_cuts_of_silent_requests_and_bad_blocks(rt: HostRuntime) -> Result<(), Fa
     holds(is_same_at_each(rt.alloc(), exchange, 0, SILENT.len(), 1))
 }
 
-// Whether that holds of cuts before and behind a large block, or a little in it, and at some places far in it.
+// Whether that holds of cuts before and after a large block, or a little in it, and at some places far in it.
 fn is_same_around_block(alloc: Global, exchange: Exchange<'_>) -> Result<bool, AllocError> {
     let (front, back) = (LARGE_LINE.len(), LARGE_READ.len());
     let last = exchange.requests.len().wrapping_sub(back);

@@ -361,7 +361,7 @@ fn serve<
     Some((port, front_end))
 }
 
-// The only server of a front end, as it is served.
+// The only server that a front end serves.
 fn only_served_server(
     alloc: Global,
     listener: TcpListener,

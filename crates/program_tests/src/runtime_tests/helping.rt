@@ -80,7 +80,7 @@ fn helped_chain<
     Some(HelpedChain { ports, front_end })
 }
 
-/// The scheduler of the workers of three servers, and what each server has beside its own.
+/// The scheduler of the workers of three servers, and what each server has beside its worker.
 pub fn three_parts<R: Wait + Threads + Copy + Drop>(
     rt: R,
     alloc: Global,

@@ -47,7 +47,7 @@ pub(crate) enum News {
     End,
 }
 
-/// Whether all steps of the first of n servers, with stands for this many threads and one inlet, go as they say.
+/// Whether all steps of the first of n servers, with handles for this many threads and one inlet, go as they say.
 pub(crate) fn all_go<R: Wait + Drop + Copy>(
     rt: R,
     alloc: Global,
@@ -131,7 +131,7 @@ fn idle_node(alloc: Global, count: u8) -> Result<Node, RailFault>
     }
 }
 
-/// The first of n servers, with stands for this many threads and one inlet.
+/// The first of n servers, with handles for this many threads and one inlet.
 pub(crate) fn first_of<R: Wait + Drop + Copy>(
     rt: R,
     alloc: Global,
