@@ -311,7 +311,7 @@ fn add_and_replace(rt: HostRuntime) -> Result<(), Fail> {
     all_hold(other_of_new(rt.alloc(), &ADDED))
 }
 
-// A byte fits behind an item of a byte less than the limit, and then no byte more.
+// An item of a byte less than the limit takes one byte more, and then none.
 static GROWN: [Step; 5] = [
     (b"a", Ask::Sets(LIMIT - 1), Answer::Stored),
     (b"a", Ask::Puts(Verb::Append, 0, b"y"), Answer::Stored),

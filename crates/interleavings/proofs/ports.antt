@@ -1,5 +1,5 @@
--- Ports are names: a step commutes with a renaming of ports (open calls, the rules, then joins and steps); and so chains
--- whose servers number their own seats do what the others do (begin with `SeatNames` and `RenamedChains`).
+-- Ports are names: a step commutes with a renaming of ports (open calls, the rules, then joins and steps); and so
+-- chains whose servers number their own seats do what the others do (begin with `SeatNames` and `RenamedChains`).
 pub mod OpenCalls
 pub mod RenamedRules
 pub mod RenamedSteps

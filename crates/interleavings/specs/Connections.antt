@@ -27,7 +27,7 @@ abbrev pub opening_connection : Connection
 opening_connection =
     record { read = []; session = fresh; due = None; calls = []; replies = []; outcomes = []; written = [] }
 
--- these bytes are read: they come behind those before, at whatever place the input was cut
+-- these bytes are read: they come after those before, at whatever place the input was cut
 abbrev pub heard : List ℕ → Connection → Connection
 heard piece k = record k { read = k.read ++ piece; session = fed k.session piece }
 

@@ -37,7 +37,7 @@ replying_from port l i c s =
     then mailed_from port l i c s (replies_to port (l.servers i).outbox)
     else l
 
--- The moves with these ports. Where server i takes an input of seat p, p is a port there.
+-- The moves with these ports. If server i takes an input of seat p, p is a port there.
 abbrev pub with_own_ports : List ℕ → Doing
 with_own_ports homes l (Sends c call) = sent_from (port_at homes c (l.seats c).home) l c call (l.seats c)
 with_own_ports homes l (Replies i c) = replying_from (port_at homes c (l.seats c).home) l i c (l.seats c)

@@ -10,8 +10,8 @@ use Rattle.interleavings.specs.Orders.{begun_call, reply_to}
 abbrev pub goes_on : Chain → ℕ → Bool
 goes_on l i = nat_lt i l.count && not (l.servers i).stopped
 
--- Nothing is left to do. What servers that have stopped left behind doesn't count: what they had taken and not published,
--- what they had published and not put, and what of theirs is still on a channel.
+-- Nothing is left to do. What servers that have stopped left behind doesn't count: what they had taken and not
+-- published, what they had published and not put, and what of theirs is still on a channel.
 pub record IsQuiet (l : Chain) : Type 0 where
   -- Each server that goes on has taken all that its inbox held,
   pub inboxes : (i : ℕ) → goes_on l i ≡ true → (l.servers i).inbox ≡ []

@@ -92,7 +92,7 @@ call_made s x = slice_get (s.connections x.seat x.number).calls x.ordinal
 abbrev pub reply_got : ServingChain → CallName → Option Reply
 reply_got s x = slice_get (s.connections x.seat x.number).replies x.ordinal
 
--- An entry of an order: a call's name, the call, and its reply.
+-- A call of an order: its name, what it asks, and its reply.
 pub record ServedEntry : Type 0 where
   pub id : CallName
   pub call : Call
@@ -116,7 +116,7 @@ pub record IsOneOrder (does : Doing) (count : ℕ) (homes : List ℕ) (moves : L
     Type 0 where
   -- each reply in it is that of a single table, after all calls before it;
   pub legal : IsLegal (map (λ e. (e.call, e.reply)) h)
-  -- each entry is a call that its connection made;
+  -- each of its calls is one that its connection made;
   pub made : (i : ℕ) (e : ServedEntry)
       → slice_get h i ≡ Some e
       → call_made (served does count homes moves) e.id ≡ Some e.call

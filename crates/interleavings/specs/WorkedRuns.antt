@@ -17,7 +17,7 @@ key = codes "a"
 abbrev pub set : Call
 set = set_of key (codes "p")
 
--- what a get finds behind it
+-- what a get finds after it
 abbrev pub item : Item
 item = record { flags = 0; bytes = codes "p"; unique = 1 }
 

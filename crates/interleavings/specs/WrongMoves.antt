@@ -12,7 +12,7 @@ use Rattle.interleavings.specs.OtherMoves.{Doing}
 
 -- ---- A look may show an older face than the one that stands: here it shows the one with which the server opened.
 
--- a look at that face, where a look may be
+-- a look at that face, if a look may be made
 abbrev pub looking_back : Chain → ℕ → List ℕ → Seat → Chain
 looking_back l c key s =
     if is_free s && not (l.servers s.home).stopped

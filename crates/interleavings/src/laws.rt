@@ -30,8 +30,8 @@ pub fn every_run_is_linearizable()
         → (h : List OrderedCall) × IsLinearization count homes moves h }
 {}
 
-/// No call is forgotten: if nothing is left to do, each call of a seat whose server goes on has its reply. Fewer than 2^62
-/// moves leave each server a number for the next call.
+/// No call is forgotten: if nothing is left to do, each call of a seat whose server goes on has its reply. Fewer than
+/// 2^62 moves leave each server a number for the next call.
 pub fn no_call_is_forgotten()
     ensures { (count : ℕ) (homes : List ℕ) (moves : List Move)
         → count ≤ 16
@@ -48,8 +48,8 @@ pub fn ports_are_names()
         → step (renamed f s) (input_at f input) ≡ renamed_outcome f (step s input) }
 {}
 
-/// Seats may be numbered by each server for itself: every run of moves in which a seat's calls have the port that it has
-/// among the seats of its server, has an order of its calls.
+/// Seats may be numbered by each server for itself: every run of moves in which a seat's calls have the port that it
+/// has among the seats of its server, has an order of its calls.
 pub fn seats_may_have_own_ports()
     ensures order { (count : ℕ) (homes : List ℕ) (moves : List Move)
         → count ≤ 16

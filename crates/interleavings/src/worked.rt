@@ -41,8 +41,8 @@ pub fn failover_with_looks()
     ensures asked { AreAsked failover_moves }
 {}
 
-/// The tail commits a set and stops before it has put the acknowledgement. The head is told, and answers; then nothing is
-/// left to do, though what the tail had left to put was never put.
+/// The tail commits a set and stops before it has put the acknowledgement. The head is told, and answers; then nothing
+/// is left to do, though what the tail had left to put was never put.
 pub fn stopped_before_put()
     ensures left { messages_to 0 ((moved 2 set_homes cut_moves).servers 1).outbox
         ≡ record { view = 0; body = Ack 1 } ∷ [] }

@@ -1,4 +1,4 @@
--- Runs of a session: what is done with it, one call after another, and what has come of it.
+-- Runs of a session: what is done with it, one session call after another, and what has come of it.
 use Rattle.std.specs.Prelude.{◌≡◌, ℕ, ◌≤◌, List, [], ◌∷◌, ◌++◌, length, take, drop, Option, None, Some}
 use Rattle.table.specs.declared.operations.Reply.{Reply}
 use Rattle.proto.specs.declared.texts.Form.{Form}
@@ -23,7 +23,7 @@ pub record Run : Type 0 where
   pub taken : List ℕ
   pub held : Held
 
--- before any call
+-- before any session call
 abbrev pub opening_run : Run
 opening_run = record { stream = []; given = []; outcomes = []; taken = []; held = fresh }
 
@@ -36,7 +36,7 @@ turn_given (Some turn) = turn ∷ []
 abbrev pub taken_from : Held → ℕ → Held
 taken_from h n = record h { out = drop n h.out }
 
--- a run with one call more
+-- a run with one session call more
 abbrev pub acted : Run → SessionCall → Run
 acted run (Feed piece) = record run { stream = run.stream ++ piece; held = fed run.held piece }
 acted run Next = record run { given = run.given ++ turn_given (next_of run.held).0; held = (next_of run.held).1 }
@@ -54,7 +54,7 @@ IsAllowed h (Answer reply) = CanAnswer h.asked reply
 IsAllowed h Refuse = CanRefuse h.asked
 IsAllowed h (Take n) = n ≤ length h.out
 
--- This has come of a run from a new session, each call of which was allowed when it was its turn.
+-- This has come of a run from a new session, each session call of which was allowed when it was made.
 pub data IsRun : Run → Type 0 where
   Opens : IsRun opening_run
   Acts : (run : Run) (call_made : SessionCall) → IsRun run → IsAllowed run.held call_made → IsRun (acted run call_made)

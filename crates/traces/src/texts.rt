@@ -57,7 +57,7 @@ impl Text {
         self.number(number)
     }
 
-    /// Adds words and a place: a server's or a connection's number.
+    /// Adds words and a number that is a `usize`: a server's, a connection's or a coordinate.
     #[tactic(auto, unfolding(crate::specs::Words::labelled))]
     pub fn numbered(&mut self, words: &[u8], place: usize) -> Result<(), AllocError>
         ensures { OnOk result (self.new ≡ self.old ++ labelled words.now place) }

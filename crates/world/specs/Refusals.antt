@@ -29,17 +29,17 @@ steps_at w (Fail i) = None
 steps_at w (Tell i j) = if lives w i && has_failed w j then Some i else None
 steps_at w (Hand c) = None
 
--- the events in which each named place, counted from 0, is replaced by the failure of the server that is named with it
+-- the events, of which each that has a named ordinal, counted from 0, is replaced by the failure of the server with it
 abbrev pub with_failures : List Event → List (ℕ × ℕ) → List Event
 with_failures events [] = events
 with_failures events ((ordinal, server) ∷ refused) = with_failures (slice_set events ordinal (Fail server)) refused
 
--- the named places rise, and none is below this one
+-- the named ordinals rise, and none is below this one
 abbrev pub RiseFrom : ℕ → List (ℕ × ℕ) → Type 0
 RiseFrom least [] = Unit {0}
 RiseFrom least ((ordinal, server) ∷ refused) = (least ≤ ordinal) × RiseFrom (ordinal + 1) refused
 
--- From the world w on, with the named failures, this server would have stepped at this place of the events:
+-- From the world w on, with the named failures, this server would have stepped at the event of this ordinal:
 pub record WouldStep (w : World) (events : List Event) (refused : List (ℕ × ℕ)) (ordinal server : ℕ) : Type 0 where
   pub event : Event
   pub here : slice_get events ordinal ≡ Some event

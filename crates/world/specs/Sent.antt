@@ -12,9 +12,9 @@ use Rattle.world.specs.declared.connections.Stage.TheVariants.{Idle, Begun, Aske
 use Rattle.world.specs.Connections.{Connection}
 use Rattle.world.specs.Worlds.{World, lives, happens, opening_world}
 
--- A connection's stream is what came to it while it was open and its server lived; its ordinal, how many turns of that
--- stream it has passed:
--- faults by `begin`, calls by `hand`.
+-- The position of a connection in its stream.
+-- The stream is what came to the connection while it was open and its server lived.
+-- The ordinal is how many turns of the stream it has passed: faults by `begin`, calls by `hand`.
 pub record StreamPosition : Type 0 where
   pub stream : List ℕ
   pub ordinal : ℕ

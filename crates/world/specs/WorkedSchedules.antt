@@ -26,7 +26,7 @@ incr_of key = record { target = One key; op = Incr 1 }
 abbrev pub get_of : List ℕ → Call
 get_of key = record { target = One key; op = Read }
 
--- an entry of an order
+-- a call of an order
 abbrev pub entry : CallId → Call → Reply → OrderedCall
 entry x call reply = record { id = x; call = call; reply = reply }
 
@@ -63,9 +63,9 @@ dirty_transcript = record {
   quiet = false;
 }
 
--- ---- Three servers, a client of the tail. The head takes an incr and fails before anyone has its entry; the tail
--- sends the
--- ---- incr again, to the next head.
+-- ---- Three servers, a client of the tail.
+-- ---- The head takes an incr and fails before anyone has its entry;
+-- ---- the tail sends the incr again, to the next head.
 
 abbrev pub resent_homes : List ℕ
 resent_homes = 2 ∷ []

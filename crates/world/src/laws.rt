@@ -29,7 +29,7 @@ pub fn one_order()
         → (h : List OrderedCall) × IsLinearization count homes events h }
 {}
 
-/// Each connection has been sent the texts of its stream's turns up to its ordinal, however the stream was cut.
+/// Each connection has been sent the texts of its stream's turns up to its position, however the stream was cut.
 pub fn sent_bytes_follow_the_stream()
     ensures { (count : ℕ) (homes : List ℕ) (events : List Event) (c : ℕ) (k : Connection)
         → slice_get (run_of count homes events).connections c ≡ Some k
@@ -41,7 +41,7 @@ pub fn sent_bytes_follow_the_stream()
     proto::faults_take_bytes();
 }
 
-/// The calls that a connection has begun are the first among the turns of its stream, and those up to its ordinal are
+/// The calls that a connection has begun are the first among the turns of its stream, and those up to its position are
 /// answered.
 pub fn calls_follow_the_stream()
     ensures begun { (count : ℕ) (homes : List ℕ) (events : List Event) (c : ℕ) (k : Connection)

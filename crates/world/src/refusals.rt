@@ -22,20 +22,20 @@ use crate::worlds::World;
 use crate::{Event, Scene, SceneFault, Transcript};
 use std::alloc::Global;
 
-/// Runs a schedule as `run` does, but for this: if the step of a server is out of memory, the event is the
-/// failure of that server, and the run goes on. Beside what the run shows it gives the place of each such event,
-/// counted from 0, with the server, in the order of the places. Refused as `run` is, with `Memory` if a growth outside
-/// a server's step is refused. It costs what `run` costs, and two numbers for each refused step.
+/// Runs a schedule as `run` does, but for this: if the step of a server is out of memory, the event is the failure of
+/// that server, and the run goes on. Beside what the run shows it gives the ordinal of each such event, counted from
+/// 0, with the server, in the order of the ordinals. Refused as `run` is, with `Memory` if a growth outside a server's
+/// step is refused. It costs what `run` costs, and two numbers for each refused step.
 pub fn run_failing(
     alloc: Global,
     count: usize,
     homes: &[usize],
     events: &[Event],
 ) -> Result<(Transcript, Vec<(usize, usize)>), SceneFault>
-    // The events of this run are those that were passed, with the failure of the named server at each named place.
+    // The events of this run are those that were passed, with the failure of the named server at each named ordinal.
     ensures transcript { IfOk result (λ found. let events = with_failures events.now found.1.items in
         found.0 ≡ transcript_of (run_of count homes.now events)) }
-    // The named places rise,
+    // The named ordinals rise,
     ensures rise { IfOk result (λ found. RiseFrom 0 found.1.items) }
     // and each named server is the one that would step at its event, and hasn't failed before.
     ensures stepped { IfOk result (λ found. (n : ℕ) (p : ℕ × ℕ) → slice_get found.1.items n ≡ Some p
@@ -100,7 +100,7 @@ pub fn run_failing(
 
 impl World {
     /// What the events do, one after another; if the step of a server is out of memory, its failure in
-    /// place of the event. The places of these events, counted from 0, each with its server.
+    /// place of the event. The ordinals of these events, counted from 0, each with its server.
     pub fn attempt_all(
         &mut self,
         alloc: Global,

@@ -106,7 +106,7 @@ fn queries_beside_the_tail_are_passed_over(rt: HostRuntime) -> Result<(), Fail> 
     all_hold(other_of_dirty(rt.alloc(), &QUERIES))
 }
 
-// No view is of a chain of three, and nobody who fails is before or behind.
+// No view is of a chain of three, and nobody who fails is before or after.
 static VIEWS: [Row; 10] = [
     (Given::From(2, 0b0010, Said::Ack(1)), 0),
     (Given::From(2, 0b1000, Said::Ack(1)), 0),

@@ -182,7 +182,7 @@ fn stays_ended(
     Ok(ended)
 }
 
-// A frame, a byte behind it, and what bad front that is.
+// A frame, a byte after it, and what bad front that is.
 type End = (&'static [u8], u8, Found);
 
 static ENDS: [End; 2] = [
@@ -194,7 +194,7 @@ static ENDS: [End; 2] = [
     ),
 ];
 
-// Whether the frame is read, and then the bad front behind it ends the stream.
+// Whether the frame is read, and then the bad front after it ends the stream.
 fn ends(alloc: Global, frames: &mut Frames, end: End) -> Result<bool, Fault> {
     let (front, last, wanted) = end;
     frames.feed(front)?;

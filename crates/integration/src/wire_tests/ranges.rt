@@ -13,7 +13,7 @@ pub(super) fn message(alloc: Global, kind: u8, behind: &[u8]) -> Result<Vec<u8>,
     Ok(text)
 }
 
-/// Bytes, behind the first number of a message of some kind or behind nothing, and what stands at the front then.
+/// Bytes, after the first number of a message of some kind or after nothing, and what stands at the front then.
 pub(super) type Row = (Option<u8>, &'static [u8], Found);
 
 fn found_of(alloc: Global, kind: Option<u8>, bytes: &[u8]) -> Result<Found, Fault> {
@@ -39,7 +39,7 @@ pub(super) fn other_front(alloc: Global, rows: &[Row]) -> Result<Option<usize>, 
     Ok(None)
 }
 
-// Behind the number of a query.
+// After the number of a query.
 static KEYS: [Row; 7] = [
     (Some(4), b"\x00", Found::Malformed),
     (Some(4), b"\x01\x20", Found::Malformed),
@@ -55,7 +55,7 @@ fn keys_out_of_range(rt: HostRuntime) -> Result<(), Fail> {
     all_hold(other_front(rt.alloc(), &KEYS))
 }
 
-// Behind the id of an operation.
+// After the id of an operation.
 static OPERATIONS: [Row; 6] = [
     (Some(1), b"\x00\x07", Found::Malformed),
     (Some(1), b"\x00\x0a", Found::Frame),
@@ -70,7 +70,7 @@ fn operations_out_of_range(rt: HostRuntime) -> Result<(), Fail> {
     all_hold(other_front(rt.alloc(), &OPERATIONS))
 }
 
-// Behind the number of an entry.
+// After the number of an entry.
 static ENTRIES: [Row; 6] = [
     (Some(2), b"\x10", Found::Malformed),
     (

@@ -138,7 +138,7 @@ fn three_bytes_put(alloc: Global) -> Result<Entry, Fault> {
     Ok(Entry::new(1, 0, 1, target, Reply::Stored, Change::Put(item)))
 }
 
-// Whether the frame is written as these bytes, alone and behind itself.
+// Whether the frame is written as these bytes, alone and after itself.
 fn is_written(alloc: Global, frame: &Frame, wanted: &[u8]) -> Result<bool, Fault> {
     let alone = spelled(alloc, frame)?;
     Ok(alone.as_slice() == wanted && is_written_behind(alloc, frame, wanted)?)

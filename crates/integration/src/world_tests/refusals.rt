@@ -89,7 +89,7 @@ fn refused_steps(rt: &HostRuntime) -> Result<usize, Fail> {
     compared(rt, &mut schedule)
 }
 
-// What a run shows is what `run` shows of the events with a failure for each step that was refused. Where one was, the
+// What a run shows is what `run` shows of the events with a failure for each step that was refused. If one was, the
 // test ends in that refusal. It writes the refused steps and the transcript, which `tools/refused_steps` reads.
 #[test]
 fn a_refused_step_is_a_failure(rt: HostRuntime) -> Result<(), Fail> {

@@ -115,7 +115,7 @@ fn other_of_new(
     other
 }
 
-// A set goes down a chain of three. Its client is answered behind the acknowledgement that comes up, and not before.
+// A set goes down a chain of three. Its client is answered after the acknowledgement that comes up, and not before.
 static STORED: [Row; 6] = [
     (Events::Lines(b""), true, 0, b""),
     (

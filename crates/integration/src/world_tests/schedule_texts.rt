@@ -16,14 +16,14 @@ fn bad_line(alloc: Global, text: &[u8]) -> Result<u64, Fault> {
     }
 }
 
-// The same of some lines behind others.
+// The same of some lines after others.
 fn bad_line_behind(alloc: Global, head: &[u8], lines: &[u8]) -> Result<u64, Fault> {
     let mut text = Vec::from_slice(alloc, head)?;
     text.extend_from_slice(lines)?;
     bad_line(alloc, text.as_slice())
 }
 
-// Texts that are parted by `%`, and the first bad line of each of them, behind others.
+// Texts that are parted by `%`, and the first bad line of each of them, after others.
 type Texts = (&'static [u8], u64);
 
 fn are_bad(alloc: Global, head: &[u8], texts: Texts) -> Result<bool, Fault> {
@@ -235,7 +235,7 @@ fn a_schedule_has_up_to_64_homes(rt: HostRuntime) -> Result<(), Fail> {
     holds(up_to_64_homes(rt.alloc()))
 }
 
-// The lines of a head that others stand behind.
+// The lines of a head, after which others stand.
 const HEAD: &[u8] = b"servers 2\nhomes 0\n";
 
 static CONNECTION_LINES: [Texts; 6] = [

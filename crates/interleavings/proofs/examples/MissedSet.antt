@@ -162,7 +162,7 @@ module _ (does : Doing) (count : ℕ) (homes : List ℕ) (early : List Move) (fi
     entry_named : (i : ℕ) (e : OrderedCall) → slice_get h i ≡ Some e → Named e.id.connection e.id.ordinal e.call
     entry_named i e here = named e.id.connection e.id.ordinal e.call (order.begun i e here)
 
-    -- the first two entries of an order are none of the two calls in any order
+    -- an order doesn't begin with the two calls, whichever of them is first
     first_two : (e f : OrderedCall) (t : List OrderedCall)
         → h ≡ e ∷ f ∷ t
         → slice_get h 0 ≡ Some e

@@ -25,8 +25,8 @@ use Rattle.interleavings.proofs.ports.RenamedServers.{taking_renamed, taking_sto
 use Rattle.interleavings.proofs.ports.RenamedServers.{publishing_stopped}
 use Rattle.interleavings.proofs.ports.SeatNames.{seat_in, seat_named, seat_apart}
 
--- The move with the seats' numbers as ports. A reply that would go to a seat of another server isn't put: a move without
--- effect, of a server beyond the chain, stands for it.
+-- The move with the seats' numbers as ports. A reply that would go to a seat of another server isn't put: a move
+-- without effect, of a server beyond the chain, stands for it.
 abbrev pub named : ℕ → List ℕ → Move → Move
 named n homes (Takes i sender) = Takes i (sender_at (seat_in homes i) sender)
 named n homes (Replies i c) = cond (slice_index_or homes c n == i) (Replies i c) (Takes n OfNotices)

@@ -31,7 +31,7 @@ use Rattle.interleavings.proofs.ports.OpenCalls.{without_read_renamed}
 module _ (f : ℕ → ℕ) where
   -- ---- what rules are made of
 
-  -- either of two outcomes
+  -- either of two rules' results
   pub either_renamed : (b : Bool) (x y x' y' : RuleResult)
       → x' ≡ renamed_outcome f x
       → y' ≡ renamed_outcome f y

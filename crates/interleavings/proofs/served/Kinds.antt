@@ -106,7 +106,7 @@ module _ (count : ℕ) (homes : List ℕ) (moves : List ServingMove) (few : coun
       ∙ sym (moved_from-append (opening_serving count homes).chain
       (made_along moves (opening_serving count homes) (opening_order count homes)) (Receives c ∷ []))
 
-  -- the place of the call
+  -- the call's id among those of its seat
   abbrev ordinal : CallId
   ordinal = record { connection = c; ordinal = start (calls_at last c) (last.ended c) + length k.replies }
 

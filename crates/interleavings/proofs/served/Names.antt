@@ -1,4 +1,4 @@
--- A call of a connection is one of its seat, at the place behind those of the connections before.
+-- A call of a connection is one of its seat, with an ordinal after those of the connections before.
 use Rattle.std.proofs.Common.{◌≡◌, ℕ, suc, ◌+◌, ◌<◌, List, length, Some, arith, ap}
 use Rattle.std.proofs.Common.{sym, ◌∙◌, inl, inr}
 use Rattle.std.specs.Prelude.{slice_get}
@@ -14,11 +14,11 @@ use Rattle.interleavings.proofs.served.InTurn.{upto, upto_same, start, found_the
 use Rattle.interleavings.proofs.served.InTurn.{owner_found}
 use Rattle.interleavings.proofs.served.Steps.{calls_at, replies_at, IsInOrder, Grows}
 
--- where its seat has it
+-- its id among the calls of its seat
 abbrev pub ordinal_of : ServingChain → CallName → CallId
 ordinal_of s x = record { connection = x.seat; ordinal = start (calls_at s x.seat) x.number + x.ordinal }
 
--- whose it is
+-- the name that its connection gives it
 abbrev pub name_of : ServingChain → CallId → CallName
 name_of s y = record {
   seat = y.connection;
@@ -42,7 +42,7 @@ module _ (s : ServingChain) (h : IsInOrder s) where
         within,
       )
 
-  -- it has begun there,
+  -- its seat has begun it, under its id,
   pub begun_there : (x : CallName) (call : Call)
       → call_made s x ≡ Some call
       → begun_call s.chain (ordinal_of s x) ≡ Some call
@@ -51,13 +51,13 @@ module _ (s : ServingChain) (h : IsInOrder s) where
       ap (λ cs. slice_get cs (start (calls_at s x.seat) x.number + x.ordinal)) (h.seats x.seat).all_calls
       ∙ found_there (calls_at s x.seat) (suc (s.ended x.seat)) x.number x.ordinal i.0 i.1 ∙ e
 
-  -- and has the same reply there,
+  -- and has the same reply,
   pub same_reply : (x : CallName) (call : Call)
       → call_made s x ≡ Some call
       → reply_got s x ≡ reply_to s.chain (ordinal_of s x)
   same_reply x call e = (h.seats x.seat).placed x.number x.ordinal (inside x call e).1
 
-  -- where it bears its name.
+  -- and its id leads back to its name.
   pub named_there : (x : CallName) (call : Call) → call_made s x ≡ Some call → name_of s (ordinal_of s x) ≡ x
   named_there x call e =
       let i = inside x call e in
@@ -76,7 +76,7 @@ module _ (s : ServingChain) (h : IsInOrder s) where
         | inr past ↦ let p = past.0 in absurd (omega (arith, within, few, p))
       ]
 
-  -- A call that a seat has begun was made by the connection that it is named for, and stands at its place.
+  -- A call that a seat has begun was made by the connection that it is named for, and the name leads back to its id.
   pub made_there : (y : CallId) (call : Call)
       → begun_call s.chain y ≡ Some call
       → (call_made s (name_of s y) ≡ Some call) × (ordinal_of s (name_of s y) ≡ y)
@@ -93,7 +93,7 @@ module _ (s : ServingChain) (h : IsInOrder s) where
         ap (λ (p : ℕ). record { connection = c; ordinal = p }) o.ordinal,
       )
 
--- What was made stands at the same place from then on.
+-- What was made has the same id from then on.
 pub same_ordinal : (s t : ServingChain) (x : CallName) (call : Call)
     → IsInOrder s
     → Grows s t

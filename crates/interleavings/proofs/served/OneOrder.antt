@@ -29,7 +29,7 @@ use Rattle.interleavings.proofs.served.Names.{ordinal_of, name_of, begun_there, 
 use Rattle.interleavings.proofs.served.Names.{made_if_answered}
 use Rattle.interleavings.proofs.served.Names.{made_there, same_ordinal}
 
--- an entry by the name of its connection
+-- a call of an order, by the name that its connection gives it
 abbrev named : ServingChain → OrderedCall → ServedEntry
 named s e = record { id = name_of s e.id; call = e.call; reply = e.reply }
 
@@ -95,7 +95,7 @@ module _ (count : ℕ) (homes : List ℕ) (moves : List ServingMove) where
     abbrev order : List ServedEntry
     order = map (named last) h
 
-    -- an entry of the one is an entry of the other
+    -- a call of the one order is a call of the other
     record IsEntry (i : ℕ) (x : CallName) : Type 0 where
       entry : OrderedCall
       here : slice_get h i ≡ Some entry
@@ -120,13 +120,13 @@ module _ (count : ℕ) (homes : List ℕ) (moves : List ServingMove) where
           begun = begun_last i e.0 e.1;
         }
 
-    -- its place
+    -- its id among the calls of its seat
     ordinal_is : (i : ℕ) (x : CallName) (e : IsEntry i x) → ordinal_of last x ≡ e.entry.id
     ordinal_is i x e =
         subst (λ z. ordinal_of last z ≡ e.entry.id) e.its_name
         (made_there last ordered e.entry.id e.entry.call e.begun).1
 
-    -- a call that was made stands there if its place does
+    -- a call that was made stands there if its id does
     named_so : (i : ℕ) (x : CallName) (call : Call)
         → call_made last x ≡ Some call
         → (at : StandsAt h i (ordinal_of last x))

@@ -212,7 +212,7 @@ module _ (l : Chain) (w : World) (i : ℕ) (a : RuleResult) (h : StandsFor l w) 
         })
       ])
 
-  -- the world after the outcome stands for the chain after it
+  -- the world after the rule's result stands for the chain after it
   pub acts : StandsFor (act l i a) (acted w i a)
   acts = record {
     count = h.count ∙ sym counted;

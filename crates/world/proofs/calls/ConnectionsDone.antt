@@ -37,7 +37,7 @@ use Rattle.world.proofs.calls.CallsDone.{IsEntered, in_issued}
 
 -- ---- issued updates
 
--- the call of this ordinal is with its server, or behind that
+-- the call of this ordinal is with its server, or has a reply, which was handed over or waits
 abbrev pub IsOut : ℕ → Connection → Type 0
 IsOut ordinal c = (ordinal < length c.replies)
     ⊎ ((ordinal ≡ length c.replies) × ((c.stage ≡ Asked) ⊎ ((reply : Reply) × (c.stage ≡ Replied reply))))

@@ -16,7 +16,7 @@ pub ordinal_of : (w : World) (c : ℕ) (k : Connection)
     → (open_id w c).ordinal ≡ length k.replies
 ordinal_of w c k h = ap open_ordinal h
 
--- the open call of a connection is named by the place after its replies
+-- the open call of a connection is named by the ordinal after those of its replies
 pub open_id_is : (w : World) (c : ℕ) (k : Connection)
     → slice_get w.connections c ≡ Some k
     → open_id w c ≡ record { connection = c; ordinal = length k.replies }

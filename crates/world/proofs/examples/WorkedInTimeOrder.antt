@@ -30,7 +30,7 @@ back = entry (name 0 0) first Stored
 abbrev pub both_calls : List (List Call)
 both_calls = (first ∷ []) ∷ (second ∷ []) ∷ []
 
--- each entry is one of these calls
+-- each call of the order is one of these
 pub exchanged_called : (i : ℕ) (e : OrderedCall) → slice_get sets_exchanged i ≡ Some e
     → under both_calls e.id ≡ Some e.call
 exchanged_called zero e h =
@@ -39,7 +39,7 @@ exchanged_called (suc zero) e h =
     subst (λ (f : OrderedCall). under both_calls f.id ≡ Some f.call) (same_Some back e h) refl
 exchanged_called (suc (suc i)) e h = absurd cc
 
--- each entry is a begun call
+-- each call of the order was begun
 pub exchanged_begun : (i : ℕ) (e : OrderedCall)
     → slice_get sets_exchanged i ≡ Some e
     → begun_call (run_of 2 sets_homes sets_events) e.id ≡ Some e.call

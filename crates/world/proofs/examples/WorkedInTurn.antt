@@ -42,7 +42,7 @@ replied_still count homes events few j k l x reply h =
 
 -- ---- what a linearization asks for, but for turns
 
--- each entry is a begun call
+-- each call of the order was begun
 pub flight_begun : (i : ℕ) (e : OrderedCall)
     → slice_get sets_exchanged i ≡ Some e
     → begun_call (run_of 2 flight_homes flight_events) e.id ≡ Some e.call

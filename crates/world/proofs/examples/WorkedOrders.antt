@@ -51,7 +51,7 @@ replies_under count homes events replies same x = by_rows (λ k. k.replies) (run
 
 module _ (count : ℕ) (homes : List ℕ) (events : List Event) (h : List OrderedCall)
     (order : IsLinearization count homes events h) where
-  -- an entry's call is the one that was begun under its name
+  -- a call of the order is the one that was begun under its name
   pub call_there : (calls : List (List Call))
       → calls_in (run_of count homes events) ≡ calls
       → (i : ℕ) (e : OrderedCall)
@@ -62,7 +62,7 @@ module _ (count : ℕ) (homes : List ℕ) (events : List Event) (h : List Ordere
       ∙ sym (by_rows (λ k. k.calls) (run_of count homes events).connections e.id.connection e.id.ordinal)
       ∙ order.begun i e here
 
-  -- an entry of an answered call has the reply that it got
+  -- a call of the order that was answered has the reply that it got
   pub reply_there : (replies : List (List Reply))
       → replies_in (run_of count homes events) ≡ replies
       → (i : ℕ) (e : OrderedCall)
@@ -88,7 +88,7 @@ module _ (count : ℕ) (homes : List ℕ) (events : List Event) (h : List Ordere
       ∙ ap (λ rows. under rows x) same ∙ got) in
       (found.0, found.1)
 
-  -- two entries of one name are one entry
+  -- two calls of the order with one name are one
   pub one_ordinal : (i j : ℕ) (e f : OrderedCall) → slice_get h i ≡ Some e → slice_get h j ≡ Some f → e.id ≡ f.id
       → i ≡ j
   one_ordinal i j e f here there same = order.once i j f.id (record { entry = e; here = here; same = same })

@@ -25,7 +25,7 @@ use Rattle.world.proofs.order.OneOrder.{one_order}
 use Rattle.world.proofs.examples.WorkedResent.{set, incr, get, eight, eight_with, seven, entry_on, taken_twice}
 use Rattle.world.proofs.examples.WorkedResent.{ends_with, called, replied}
 
--- a call of the client, by its place
+-- a call of the client, by its ordinal
 abbrev pub the : ℕ → CallId
 the ordinal = record { connection = 0; ordinal = ordinal }
 
@@ -99,7 +99,7 @@ module _ (h : List OrderedCall) (order : IsLinearization 3 resent_homes resent_e
   within : get_at.0 < length h
   within = slice_get_within h get_at.0 get_at.1.entry get_at.1.here
 
-  -- an entry is one of the three, at its place
+  -- each call of an order is one of the three, at its place
   abbrev Kind : ℕ → OrderedCall → Type 0
   Kind k e =
       ((k ≡ set_at.0) × (said e ≡ (set, Stored)))

@@ -54,7 +54,7 @@ pub length-failures : (es : List Event) (rs : List (ℕ × ℕ)) → length (wit
 length-failures es [] = refl
 length-failures es ((k, s) ∷ rs) = length-failures (slice_set es k (Fail s)) rs ∙ length-set es k (Fail s)
 
--- the named places are below this one
+-- the named ordinals are below this one
 abbrev Below : ℕ → List (ℕ × ℕ) → Type 0
 Below n rs = (m : ℕ) (p : ℕ × ℕ) → slice_get rs m ≡ Some p → p.0 < n
 
@@ -98,7 +98,7 @@ module _ (w : World) (past : List Event) (rs : List (ℕ × ℕ)) (u : World) (r
   below : Below (length past) rs
   below m p h = let would = run.stepped m p h in slice_get_within past p.0 would.event would.here
 
-  -- what was known of an earlier place still is, whatever comes at the end
+  -- what was known of an earlier ordinal still is, whatever comes at the end
   along : (rs' : List (ℕ × ℕ)) (f : Event) → with_failures (past ++ e ∷ []) rs' ≡ done ++ f ∷ []
       → (p : ℕ × ℕ) → WouldStep w past rs p.0 p.1 → WouldStep w (past ++ e ∷ []) rs' p.0 p.1
   along rs' f is p would =
@@ -167,7 +167,7 @@ module _ (w : World) (past : List Event) (rs : List (ℕ × ℕ)) (u : World) (r
 pub not_begun : (w : World) → IsFailingRun w [] [] w
 not_begun w = record { same = refl; rise = tt; stepped = λ m p h. absurd cc }
 
--- the places and servers so far, with this one
+-- the ordinals and servers so far, with this one
 abbrev pub noted : ℕ → List (ℕ × ℕ) → Option ℕ → List (ℕ × ℕ)
 noted k rs None = rs
 noted k rs (Some s) = rs ++ (k, s) ∷ []

@@ -34,7 +34,7 @@ unfolding put_all
 put-append w i [] ps = refl
 put-append w i (o ∷ os) ps = put-append (put w i o) i os ps
 
--- one outcome behind another
+-- what one rule made of the server, and then what another did
 acted_twice : (w : World) (i : ℕ) (s t : ServerState) (os ps : List Output)
     → put_all (with_server (put_all (with_server w i s) i os) i t) i ps ≡ put_all (with_server w i t) i (os ++ ps)
 acted_twice w i s t os ps =

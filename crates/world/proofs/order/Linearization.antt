@@ -137,7 +137,7 @@ once t l i j x a b =
       ]
     ]
 
--- each entry is a begun call
+-- each call of the order was begun
 begun : (t : Traced)
     → Lawful t
     → (i : ℕ) (e : OrderedCall)

@@ -39,7 +39,7 @@ pub call_found : (w : World) (x : CallId) (k : Connection) (call : Call)
     → begun_call w x ≡ Some call
 call_found w x k call e h = rw e h
 
--- the reply to a call stands at the call's place among the replies of its connection
+-- the reply to a call stands at the call's ordinal among the replies of its connection
 pub reply_stands : (w : World) (x : CallId) (reply : Reply)
     → reply_to w x ≡ Some reply
     → (k : Connection) × (slice_get w.connections x.connection ≡ Some k) × (slice_get k.replies x.ordinal ≡ Some reply)

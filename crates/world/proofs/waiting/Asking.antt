@@ -125,7 +125,7 @@ query_met t i a m ms r key h first is from lawful waits to unaware =
 
 -- ---- an answer reaches who asked
 
--- a read that its tail answers with a number from its lower bound on isn't open behind the delivery
+-- a read that its tail answers with a number from its lower bound on isn't open after the delivery
 pub answer_met : (t : Traced) (i j : ℕ) (m : Peer) (ms : List Peer) (r : OpenRead) (n : ℕ)
     → Lawful t
     → link t.world j i ≡ m ∷ ms

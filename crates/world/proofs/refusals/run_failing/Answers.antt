@@ -43,7 +43,7 @@ returns-in_ok-transcript-in-Ok-clause-calls c =
     begun_shown c.args.count c.args.homes.now events _ is
     (c.calls_follow_the_stream.ensures.begun c.args.count c.args.homes.now events)
 
--- as many have replies as there are calls up to the connection's place
+-- as many have replies as there are calls up to the connection's ordinal
 pub returns-in_ok-transcript-in-Ok-clause-answered : goal.returns-in_ok-transcript-in-Ok-clause-answered
 returns-in_ok-transcript-in-Ok-clause-answered c =
     let start = c.into_world-world.ensures ∙ ap (λ (s : SceneState). s.world) c.in_ok-new.ensures.opening in

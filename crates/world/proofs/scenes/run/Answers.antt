@@ -35,7 +35,7 @@ returns-clause-calls c =
     begun_shown c.args.count c.args.homes.now c.args.events.now _ is
     (c.calls_follow_the_stream.ensures.begun c.args.count c.args.homes.now c.args.events.now)
 
--- as many have replies as there are calls up to the connection's place
+-- as many have replies as there are calls up to the connection's ordinal
 pub returns-clause-answered : goal.returns-clause-answered
 returns-clause-answered c =
     let all : length c.args.events.now ≤ c.loop-event.event-index = omega (arith, c.loop-event-test.false) in

@@ -11,7 +11,7 @@ returns-clause-transcript c = sets_are_shown
 pub returns-clause-legal : goal.returns-clause-legal
 returns-clause-legal c = exchanged_legal
 
--- each of its entries is a begun call
+-- each of its calls was begun
 pub returns-clause-begun : goal.returns-clause-begun
 returns-clause-begun c i e here = exchanged_begun i e here
 
