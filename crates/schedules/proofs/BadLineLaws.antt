@@ -33,7 +33,7 @@ module _ (count : ℕ) (homes : List ℕ) (first second : List ℕ) (servers : I
       → r ≡ Err n
       → IsFirstOf all n
 
-  -- behind the head: the first line that says nothing of events
+  -- after the head: the first line that says nothing of events
   bad_event : (rest front : List (List ℕ)) (m : ℕ)
       → Goes front rest m (events_of count connections (counted_from m rest))
   bad_event [] front m further said split number counted each h = cc
@@ -161,7 +161,7 @@ ended : (all : List (List ℕ)) (n : ℕ)
 ended all n number stated few =
     record { before = all; others = []; split = sym (append-nil all); number = number; as_stated = stated; bad = few }
 
--- behind `servers`: no line is left, or the next isn't of homes, or a later one is bad
+-- after `servers`: no line is left, or the next isn't of homes, or a later one is bad
 bad_homes : (all front rest : List (List ℕ)) (m n : ℕ) (first : List ℕ) (count : ℕ)
     → all ≡ front ++ rest
     → m ≡ length front + 1

@@ -9,7 +9,7 @@ use Rattle.proto.specs.Grammar.{has_no_lf}
 use Rattle.schedules.specs.Cuts.{lf, cut, lines}
 use Rattle.schedules.specs.SpelledSchedules.{AreLines}
 
--- bytes are cut behind a part that doesn't have the byte
+-- bytes are cut after a part that doesn't have the byte
 pub cut_read : (byte : ℕ) (front rest : List ℕ)
     → byte == byte ≡ true
     → list_all (λ b. not (b == byte)) front ≡ true

@@ -84,7 +84,7 @@ some_byte : (b : ℕ) (front : List ℕ) → SpellsByte b front → 1 ≤ length
 some_byte b [] h = let read : front_byte [] ≡ Some (b, []) = byte_read b [] [] h in absurd cc
 some_byte b (x ∷ xs) h = omega arith
 
--- what is left behind a byte that a text's front spells
+-- what is left after a byte that a text's front spells
 pub record IsFront (text : List ℕ) (b : ℕ) (later : List ℕ) : Type 0 where
   pub front : List ℕ
   pub split : text ≡ front ++ later

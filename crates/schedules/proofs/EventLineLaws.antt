@@ -1,4 +1,4 @@
--- Lines behind the head: a line is read as what it is the line of, and as nothing else.
+-- Lines after the head: a line is read as what it is the line of, and as nothing else.
 use Rattle.std.proofs.Common.{◌≡◌, ℕ, ◌^◌, ◌<◌, ◌≤◌, ◌⊎◌, inl, inr, Bool, true, false, cond, List, [], ◌∷◌, ◌++◌}
 use Rattle.std.proofs.Common.{length, Option, None, Some, refl, ap, ◌∙◌, subst, arith, lit≤}
 use Rattle.std.specs.Prelude.{codes, decimal, replicate}
@@ -67,7 +67,7 @@ server_read i low = number_read 0 100 i (lit≤ tt) (omega arith) low
 server_spelled : (field : List ℕ) (i : ℕ) → server_number field ≡ Some i → (i < 100) × (field ≡ decimal i)
 server_spelled field i h = let is = number_spelled 0 100 field i (lit≤ tt) h in (is.1, is.2)
 
--- a number and what stands behind its space
+-- a number and what stands after its space
 number_cut : (n : ℕ) (rest : List ℕ) → n < 2 ^ 64 → cut space (decimal n ++ space ∷ rest) ≡ Some (decimal n, rest)
 number_cut n rest small = cut_read space (decimal n) rest refl (no_space_in_number n small)
 

@@ -35,7 +35,7 @@ pub one_passed : (front : List (List ℕ)) (line : List ℕ)
 one_passed front line passed =
     filter-append (λ l. not (is_passed_over l)) front (line ∷ []) ∙ (rw passed (append-nil (counted_lines front)))
 
--- the number of the line behind one more is one more
+-- the number of the line after one more is one more
 pub one_longer : (front : List (List ℕ)) (line : List ℕ) (m : ℕ)
     → m ≡ length front + 1
     → m + 1 ≡ length (front ++ line ∷ []) + 1

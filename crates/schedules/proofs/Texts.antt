@@ -11,7 +11,7 @@ read_on bytes room rest = option_map (λ more. bytes ++ more) (unescape_upto roo
 abbrev onto : ℕ → Option (List ℕ) → Option (List ℕ)
 onto b o = option_and_then (λ more. Some (b ∷ more)) o
 
--- the byte at the front of a text in front of what the text behind it spells
+-- the byte at the front of a text in front of what the text after it spells
 abbrev by_byte : ℕ → Option (ℕ × List ℕ) → Option (List ℕ)
 by_byte n o = option_and_then (λ front. onto front.0 (unescape_upto n front.1)) o
 

@@ -165,7 +165,7 @@ counted_at n f bytes le = rw (le-ltb (length bytes) n le) refl
 
 -- ---- numbers
 
--- what is known of a width: its numbers are written as so many bytes, and read again
+-- what is known of a width: its numbers are written as that many bytes, and read again
 pub record IsWide (w : Width) : Type 0 where
   pub len : (n : ℕ) → length (to_be_bytes w n) ≡ byte_len w
   pub back : (bytes : List ℕ)

@@ -24,7 +24,7 @@ past position = take position.ordinal (turns position.stream)
 
 -- The connection k has come so far:
 pub record IsAt (k : Connection) (position : StreamPosition) : Type 0 where
-  -- its ordinal is at most how many turns its stream has;
+  -- its ordinal is at most the number of turns of its stream;
   pub ordinal : position.ordinal ≤ length (turns position.stream)
   -- whatever bytes may follow, the turns of its stream are those that are past, the open one, and those that its
   -- session has still to give;

@@ -29,7 +29,7 @@ steps_at w (Fail i) = None
 steps_at w (Tell i j) = if lives w i && has_failed w j then Some i else None
 steps_at w (Hand c) = None
 
--- the events, of which each that has a named ordinal, counted from 0, is replaced by the failure of the server with it
+-- the events; the one at each named ordinal, counted from 0, is replaced by the failure of the server named with it
 abbrev pub with_failures : List Event → List (ℕ × ℕ) → List Event
 with_failures events [] = events
 with_failures events ((ordinal, server) ∷ refused) = with_failures (slice_set events ordinal (Fail server)) refused

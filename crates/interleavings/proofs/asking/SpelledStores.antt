@@ -37,7 +37,7 @@ word_short Cas = omega arith
 
 -- ---- the whole command
 
--- the fields behind the command word: no expiry time
+-- the fields after the command word: no expiry time
 abbrev pub store_fields : List ℕ → ℕ → ℕ → List (List ℕ) → List (List ℕ)
 store_fields key flags size own = key ∷ decimal flags ∷ codes "0" ∷ decimal size ∷ (own ++ [])
 

@@ -47,7 +47,7 @@ set_moves_asked = (set_asked, (tt, (tt, (tt, (tt, (tt, (tt, (tt, (tt, (tt, (tt, 
 
 -- ---- a failover
 
--- the head behind the set, and behind the notice
+-- the head after the set, and after the notice
 abbrev taken_set : ServerState
 taken_set = (step (opening 0 2) (Called 0 set)).state
 
@@ -82,7 +82,7 @@ shows_item = look-face_of left_alone key lawful_alone.sound ∙ clean_there
 abbrev first : Chain
 first = moved 2 failover_homes set_is_taken
 
--- behind the notice
+-- after the notice
 abbrev pub second : Chain
 second = moved_from first tail_stops
 
@@ -124,7 +124,7 @@ second_node = refl
 dirty_look : done first (Looks 1 key) ≡ first
 dirty_look = look_passes first 0 taken_set first_seat first_goes_on first_node shows_dirty
 
--- the look behind the failover shows the item
+-- the look after the failover shows the item
 pub last_is : moved 2 failover_homes failover_moves ≡ with_seat second 1 (looked_seat 0 (Some item))
 last_is =
     moved_from-append (opening_chain 2 failover_homes) set_is_taken (Looks 1 key ∷ (tail_stops ++ Looks 1 key ∷ []))

@@ -8,7 +8,7 @@ use Rattle.interleavings.specs.Moves.{Move, done, moved_from, moved}
 use Rattle.interleavings.specs.Orders.{begun_call, reply_to, Precedes, IsLinearization}
 use Rattle.interleavings.specs.OtherMoves.{Doing, moved_from_by, moved_by, PrecedesBy, IsLinearizationBy}
 
--- one part behind the other
+-- one part after the other
 pub moved_from-append : (l : Chain) (ms ns : List Move) → moved_from l (ms ++ ns) ≡ moved_from (moved_from l ms) ns
 moved_from-append l [] ns = refl
 moved_from-append l (m ∷ ms) ns = moved_from-append (done l m) ms ns

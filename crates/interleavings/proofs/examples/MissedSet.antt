@@ -27,7 +27,7 @@ use Rattle.interleavings.proofs.examples.WorkedLooks.{looked_seat}
 abbrev pub set_seat : ℕ → List Reply → List Reply → Seat
 set_seat home got mail = record { home = home; calls = set ∷ []; got = got; mail = mail }
 
--- the seats behind a set of the first one: it was begun, then its reply stood in the queue, and then it was taken
+-- the seats after a set of the first one: it was begun, then its reply stood in the queue, and then it was taken
 abbrev pub served_seats : ℕ → List ℕ → ℕ → ℕ → Seat
 served_seats count homes home =
     with_at

@@ -135,7 +135,7 @@ second_quiet : IsQuiet second
 second_quiet = quiet_pair second second_two second_done (λ on. absurd (second_stops on))
     (served_quiet second failover_homes second_served)
 
--- nothing is left to do behind the look
+-- nothing is left to do after the look
 pub failover_quiet : IsQuiet (moved 2 failover_homes failover_moves)
 failover_quiet =
     let shown = looked_seat 0 (Some item) in

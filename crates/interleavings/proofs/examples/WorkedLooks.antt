@@ -15,7 +15,7 @@ use Rattle.interleavings.specs.Moves.{Looks, read_of, looked, looking, done}
 use Rattle.interleavings.specs.WorkedRuns.{key}
 use Rattle.interleavings.specs.WrongMoves.{with_older_looks, looking_back}
 
--- the seat of this home behind a look that showed this
+-- the seat of this home after a look that showed this
 abbrev pub looked_seat : ℕ → Option Item → Seat
 looked_seat home found =
     record { home = home; calls = read_of key ∷ []; got = Value found ∷ []; mail = [] }

@@ -1,4 +1,4 @@
--- What waits in two lists of inputs or of outputs, one behind the other.
+-- What waits in two lists of inputs or of outputs, one after the other.
 use Rattle.std.proofs.Common.{◌≡◌, ℕ, Bool, true, false, cond, List, [], ◌∷◌, ◌++◌, refl, ap}
 use Rattle.std.specs.Prelude.{◌==◌}
 use Rattle.node.specs.declared.messages.Input.{Input}

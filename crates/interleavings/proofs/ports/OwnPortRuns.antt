@@ -41,7 +41,7 @@ module _ (n : ℕ) (homes : List ℕ) where
   same_from (m ∷ ms) l g h =
       same_from ms (with_own_ports homes l m) (done g (named n homes m)) (moves_same m l g h)
 
-  -- the two chains behind a run
+  -- the two chains after a run
   pub same_run : (ms : List Move)
       → Same n homes (moved_by (with_own_ports homes) n homes ms) (moved n homes (map (named n homes) ms))
   same_run ms = same_from ms (opening_chain n homes) (opening_chain n homes) (same_opening n homes)

@@ -6,7 +6,7 @@ use Rattle.std.proofs.lemmas.Bool.{cases_eq, ne_eqb}
 use Rattle.std.proofs.lemmas.Option.{same_Some}
 use Rattle.interleavings.specs.OwnPorts.{seats_at, port_at}
 
--- the seat that has port p at server i, by the homes of the seats; a port that no seat has counts on behind all seats
+-- the seat that has port p at server i, by the homes of the seats; a port that no seat has counts on after all seats
 abbrev pub seat_in : List ℕ → ℕ → ℕ → ℕ
 seat_in [] i p = p
 seat_in (home ∷ homes) i zero = cond (home == i) 0 (suc (seat_in homes i zero))

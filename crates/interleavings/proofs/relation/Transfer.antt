@@ -23,7 +23,7 @@ pub record Seen (l : Chain) (w : World) : Type 0 where
   pub calls : (x : CallId) (call : Call) → world.begun_call w x ≡ Some call → begun_call l x ≡ Some call
   pub replies : (x : CallId) (reply : Reply) → reply_to l x ≡ Some reply → world.reply_to w x ≡ Some reply
 
--- schedules that follow a run: one behind each first k moves, each going on from those before it
+-- schedules that follow a run: one after each first k moves, each going on from those before it
 pub record Follows (count : ℕ) (homes : List ℕ) (moves : List Move) : Type 0 where
   pub at : ℕ → List Event
   pub goes : (j k : ℕ) → j ≤ k → (more : List Event) × (at k ≡ at j ++ more)
@@ -39,7 +39,7 @@ none_of None p f h = refl
 none_of (Some x) p f h = absurd (let no : Some x ≡ None = sym (f x refl) ∙ h in cc)
 
 module _ (count : ℕ) (homes : List ℕ) (moves : List Move) (f : Follows count homes moves) where
-  -- behind all moves, also if k is more than there are
+  -- after all moves, also if k is more than there are
   run_all : (k : ℕ) → length moves ≤ k → moved count homes (take k moves) ≡ moved count homes moves
   run_all k l = ap (moved count homes) (take_all k moves l)
 

@@ -58,7 +58,7 @@ module _ (l : Chain) (w : World) (i c : ℕ) (h : StandsFor l w) (going : (l.ser
   abbrev without : RunningServer
   without = record (l.servers i) { outbox = without_reply c (l.servers i).outbox }
 
-  -- the connection behind the hand
+  -- the connection after the hand
   handed_is : (reply : Reply) (k : Connection)
       → lives w k.home ≡ true
       → k.stage ≡ Replied reply

@@ -10,7 +10,7 @@ use Rattle.interleavings.proofs.served.InTurn.{upto}
 use Rattle.interleavings.proofs.served.Steps.{IsInOrder, Grows, grows_same, grows_more}
 use Rattle.interleavings.proofs.served.EachMove.{step}
 
--- one part behind the other
+-- one part after the other
 pub served_from-append : (s : ServingChain) (ms ns : List ServingMove)
     → served_from done s (ms ++ ns) ≡ served_from done (served_from done s ms) ns
 served_from-append s [] ns = refl

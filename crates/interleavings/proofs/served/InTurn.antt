@@ -11,7 +11,7 @@ use Rattle.node.proofs.Lists.{get_last}
 use Rattle.interleavings.specs.Chains.{with_at}
 use Rattle.interleavings.proofs.lists.Ordinals.{at_same, at_other, at_self}
 
--- ---- two lists, one behind the other
+-- ---- two lists, one after the other
 
 -- a place in the first
 pub get_before : {X : Type 0} (xs ys : List X) (p : ℕ) → p < length xs → slice_get (xs ++ ys) p ≡ slice_get xs p
@@ -63,7 +63,7 @@ starts_before cs n (suc m) l = elim (cases_eq n m) [
       omega (arith, e, s)
 ]
 
--- a call stands behind those of the connections before
+-- a call stands after those of the connections before
 pub found_there : (cs : ℕ → List Call) (m n q : ℕ)
     → n < m
     → q < length (cs n)

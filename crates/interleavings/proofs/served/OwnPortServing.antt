@@ -166,7 +166,7 @@ module _ (n : ℕ) (homes : List ℕ) where
           ap (λ (e : ℕ → ℕ). record { chain = u.chain; ended = e; connections = s.connections }) (sym h.ended)
           ∙ ap (λ f. record { chain = u.chain; ended = u.ended; connections = f }) (sym h.connections)
 
-  -- behind a run
+  -- after a run
   same_served : (ms : List ServingMove)
       → (served done n homes (map as_other ms)).connections ≡ (served own n homes ms).connections
   same_served ms =

@@ -101,7 +101,7 @@ module _ (does : Doing) where
   from_replied (m ∷ ms) s none all =
       from_replied ms (served_by does s m) none.1 (move_replied s m none.0 all)
 
-  -- behind a run
+  -- after a run
   pub all_replied : (count : ℕ) (homes : List ℕ) (moves : List ServingMove)
       → NoneRefused moves
       → (c n : ℕ)

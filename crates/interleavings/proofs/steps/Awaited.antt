@@ -1,4 +1,4 @@
--- Connections behind a server's outputs, each reply of which is awaited.
+-- Connections after a server's outputs, each reply of which is awaited.
 use Rattle.std.proofs.Common.{◌≡◌, ◌≢◌, ℕ, true, cond, List, [], ◌∷◌, None, Some, refl, ◌⊎◌, inl, inr, ap, sym, ◌∙◌}
 use Rattle.std.proofs.Common.{subst}
 use Rattle.std.specs.Prelude.{slice_get, ◌==◌}
@@ -26,7 +26,7 @@ HasIts i os c k k' =
     ⊎ ((reply : Reply) × (replies_to c os ≡ reply ∷ []) × (k.home ≡ i) × (k.stage ≡ Asked)
     × (k' ≡ record k { stage = Replied reply }))
 
--- the connection behind the reply to it
+-- the connection after the reply to it
 replied_is : (k : Connection) (stage : Stage) (reply : Reply)
     → stage ≡ Asked
     → may_have (open_call k) reply ≡ true
@@ -51,7 +51,7 @@ other_reply : (i c d : ℕ) (reply : Reply) (os : List Output) (k k' : Connectio
 other_reply i c d reply os k k' other (inl h) = inl (rw (ne_eqb d c other) h.0, h.1)
 other_reply i c d reply os k k' other (inr h) = inr (h.0, rw (ne_eqb d c other) h.1, h.2, h.3, h.4)
 
--- behind these outputs a connection has its own reply, or is as it was
+-- after these outputs a connection has its own reply, or is as it was
 pub connection_has : (w : World) (i : ℕ) (os : List Output) (c : ℕ) (k : Connection)
     → AreAwaited w.connections i os
     → slice_get w.connections c ≡ Some k

@@ -37,7 +37,7 @@ use Rattle.world.proofs.calls.StepInputs.{IsStep, within, known_of}
 
 -- ---- an entry that may be appended
 
--- its id is the next one of its origin, and it is what its call decides behind the whole log
+-- its id is the next one of its origin, and it is what its call decides after the whole log
 pub record IsNextEntry (t : Traced) (i : ℕ) (e : LogEntry) : Type 0 where
   pub id : e.id ≡ entries_of e.origin (log t i) + 1
   pub decided : IsDecided t (log t i) (length (log t i)) e

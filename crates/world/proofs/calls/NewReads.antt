@@ -94,7 +94,7 @@ finished_read t i cause r n q g is =
       put = refl;
     })
 
--- a clean key's newest item is that behind the committed entries
+-- a clean key's newest item is that after the committed entries
 clean_committed : (key : List ℕ) (es fs : List LogEntry) (s : StoreState)
     → Holds es s
     → Begins fs es

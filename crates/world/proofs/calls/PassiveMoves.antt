@@ -68,7 +68,7 @@ stays_self k = Stays (record { home = refl; calls = refl; replies = refl; stage 
 
 -- ---- the move
 
--- u is behind t by a move that isn't a server's action
+-- u comes after t by a move that isn't a server's action
 pub record IsPassive (t u : Traced) : Type 0 where
   pub later : Later t u
   pub server : (k : ℕ) → server u.world k ≡ server t.world k

@@ -25,7 +25,7 @@ the_get = name 1 0
 abbrev item : Item
 item = record { flags = 0; bytes = codes "p"; unique = 1 }
 
--- behind the set a single table's get finds its item
+-- after the set a single table's get finds its item
 pub get_finds : (first second : Reply) (rest : List (Call × Reply))
     → IsLegal ((set, first) ∷ (get, second) ∷ rest)
     → second ≡ Value (Some item)

@@ -48,7 +48,7 @@ set = set_of key (codes "7")
 abbrev pub incr : Call
 incr = incr_of key
 
--- the get behind it
+-- the get after it
 abbrev pub get : Call
 get = get_of key
 
@@ -64,7 +64,7 @@ eight_with digits = record { flags = 0; bytes = digits; unique = 2 }
 abbrev pub eight : Item
 eight = eight_with (decimal 8)
 
--- the items behind the set
+-- the items after the set
 abbrev pub one_put : Items
 one_put = insert empty key seven
 
@@ -93,7 +93,7 @@ acting id view rest seen pend next_id = record {
   next_ask = 1;
 }
 
--- the world behind the head's entry: what server 1 holds, and the links from it and from server 2 to it, are still to
+-- the world after the head's entry: what server 1 holds, and the links from it and from server 2 to it, are still to
 -- be said
 abbrev pub middle : LogEntry → List LogEntry → ℕ → List Peer → List Peer → World
 middle first rest seen down up = record {
@@ -130,7 +130,7 @@ first = entry_on (item_at one_put key)
 abbrev asked_twice : World
 asked_twice = middle first [] 1 [] (record { view = 1; body = Op 2 incr } ∷ [])
 
--- the world behind the next head's entry e of the incr: it is forwarded to the tail
+-- the world after the next head's entry e of the incr: it is forwarded to the tail
 abbrev pub taken_twice : LogEntry → World
 taken_twice e = middle first (e ∷ []) 2 (record { view = 1; body = Forward e } ∷ []) []
 
@@ -151,11 +151,11 @@ run_on : (w : World) (es fs : List Event) → run_from w (es ++ fs) ≡ run_from
 run_on w [] fs = refl
 run_on w (e ∷ es) fs = run_on (happens w e) es fs
 
--- behind the set the counter is 7
+-- after the set the counter is 7
 pub found_seven : item_at one_put key ≡ Some seven
 found_seven = get-insert nat_list_cmp_total empty key seven key
 
--- behind the incr the counter is 8
+-- after the incr the counter is 8
 pub found_eight : item_at (insert one_put key eight) key ≡ Some eight
 found_eight = get-insert nat_list_cmp_total one_put key eight key
 

@@ -55,7 +55,7 @@ abbrev pub IsSafeFate : Fate → ℕ → Type 0
 IsSafeFate (Put key verb silent) size = size ≤ limit
 IsSafeFate (Refuse fault) size = Unit {0}
 
--- what a line asks, whole or behind a block, has data within the limit
+-- what a line asks, alone or with the block after it, has data within the limit
 abbrev pub IsSafe : Asked → Type 0
 IsSafe (Whole request) = IsSafeRequest request
 IsSafe (Behind block) = IsSafeFate block.fate block.size

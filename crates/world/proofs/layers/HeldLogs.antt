@@ -80,14 +80,14 @@ held_items es s n h low =
     ∙ sym (items_after-append opening_table.items (take s.floor es) (take (n - s.floor) (drop s.floor es)))
     ∙ ap (λ fs. items_after opening_table.items fs) (sym parts)
 
--- a key's item at a number, from the floor on, is that after so many entries of the log
+-- a key's item at a number, from the floor on, is that after as many entries of the log
 pub held_value : (es : List LogEntry) (s : StoreState) (key : List ℕ) (n : ℕ)
     → Holds es s
     → s.floor ≤ n
     → value_at s key n ≡ item_at (items_after opening_table.items (take n es)) key
 held_value es s key n h low = ap (λ items. item_at items key) (held_items es s n h low)
 
--- what comes behind a number
+-- what comes after a number
 pub held_after : (es : List LogEntry) (s : StoreState) (n : ℕ)
     → Holds es s
     → s.floor ≤ n

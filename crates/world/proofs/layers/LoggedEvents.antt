@@ -1,4 +1,4 @@
--- Logs and acknowledged numbers hold before any event, and behind a changed connection, a message taken off and a
+-- Logs and acknowledged numbers hold before any event, and after a changed connection, a message taken off and a
 -- failure.
 use Rattle.std.proofs.Common.{◌≡◌, ℕ, ◌<◌, List, [], ◌∷◌, length, refl, arith, inl, ap, sym, ◌∙◌}
 use Rattle.std.proofs.lemmas.Option.{none-some as none_some}
@@ -21,7 +21,7 @@ use Rattle.world.proofs.layers.LoggedLaws.{logged_from, kept_alike}
 last_alike : (v w : World) → w.failed ≡ v.failed → length w.servers ≡ length v.servers → last_living w ≡ last_living v
 last_alike v w failed servers = rw (failed, servers) refl
 
--- logs and acknowledged numbers hold behind a changed connection
+-- logs and acknowledged numbers hold after a changed connection
 pub logged_reconnected : (t : Traced) (c : ℕ) (change : Connection → Connection)
     → Lawful t
     → Later t (reconnected t c change)
@@ -35,7 +35,7 @@ logged_reconnected t c change w later framed =
     logged_from t u l later framed (kept_alike t u l later (server_reconnected t c change) (log_reconnected t c change)
     (λ i h. kept ∙ l.last i (sym same ∙ h)) (λ h. kept) (λ i j m h. rw (link_reconnected t c change i j) at h))
 
--- logs and acknowledged numbers hold behind a message that was taken off a link
+-- logs and acknowledged numbers hold after a message that was taken off a link
 pub logged_unlinked : (t : Traced) (i j : ℕ) (m : Peer) (ms : List Peer)
     → link t.world i j ≡ m ∷ ms
     → Lawful t
@@ -50,7 +50,7 @@ logged_unlinked t i j m ms e w later framed =
     logged_from t u l later framed (kept_alike t u l later (server_unlinked t i j ms) (log_unlinked t i j ms)
     (λ k h. kept ∙ l.last k (sym same ∙ h)) (λ h. kept) (link_unlinked t i j m ms e))
 
--- logs and acknowledged numbers hold behind a failure
+-- logs and acknowledged numbers hold after a failure
 pub logged_failing : (t : Traced) (i : ℕ)
     → Lawful t
     → Later t (failing t i)

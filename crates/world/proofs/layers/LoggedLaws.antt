@@ -59,7 +59,7 @@ source_by t u None h l later last kept = elim l.source [
 ]
 source_by t u (Some i) h l later last kept = inr (i, (alive u.world i (last_lives u.world i h)).within, last i h)
 
--- what must be shown of a world behind another
+-- what must be shown of a world after another
 pub record IsKept (t u : Traced) : Type 0 where
   pub holds : (i : ℕ) → i < count u → Holds (log u i) (server u.world i).store
   pub begins : (i j : ℕ) → i < j → j < count u → has (server u.world j).view i ≡ false → Begins (log u j) (log u i)

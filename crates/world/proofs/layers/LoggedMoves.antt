@@ -1,4 +1,4 @@
--- Logs and acknowledged numbers hold behind each move, and the committed entries only grow.
+-- Logs and acknowledged numbers hold after each move, and the committed entries only grow.
 use Rattle.std.proofs.Common.{ℕ, List}
 use Rattle.node.specs.declared.messages.Peer.{Peer}
 use Rattle.world.specs.Connections.{Connection, came, begun, asked, handed}
@@ -30,7 +30,7 @@ grows_moved t (Hands c) h w = grows_reconnected t c (where_home_lives t.world (�
 grows_moved t (Takes i j ms) h w = grows_unlinked t i j ms
 grows_moved t (Fails i) h w = grows_failing t i w.logged
 
--- logs and acknowledged numbers hold behind each move
+-- logs and acknowledged numbers hold after each move
 pub logged_moved : (t : Traced) (m : Move)
     → IsMove t m
     → Lawful t

@@ -50,7 +50,7 @@ begins-take (suc n) (x ∷ xs) (y ∷ ys) b l =
     let rest : take n ys ≡ take n xs = begins-take n xs ys (λ k z h. b (suc k) z h) (omega arith) in
     cc
 
--- what stands in a list behind its first n stands n places later in the whole
+-- what stands in a list after its first n stands n places later in the whole
 pub slice_get-drop : {X : Type 0} (n : ℕ) (xs : List X) (k : ℕ) → slice_get (drop n xs) k ≡ slice_get xs (n + k)
 slice_get-drop zero xs k = rw zero-add refl
 slice_get-drop (suc n) [] k = refl

@@ -80,7 +80,7 @@ lawful_by laws t m g l =
     let calling = laws.calling t m g l later framed logged in
     record { framed = framed; logged = logged; calling = calling; read = laws.read t m g l later framed logged calling }
 
--- a move, and what comes behind it
+-- a move, and what comes after it
 pub goes_first : Laws
     → (before : Memory) (t : Traced) (m : Move) (g : IsMove t m)
     → Recalls before m
@@ -135,7 +135,7 @@ goes_all laws before t i cause (a ∷ later) of l living known g =
 
 -- ---- what else is kept
 
--- what each move keeps, as long as the message that was taken off last is recalled, holds behind many
+-- what each move keeps, as long as the message that was taken off last is recalled, holds after many
 pub kept_through : Laws → (P : Memory → Traced → Type 0)
     → ((before : Memory) (t : Traced) (m : Move) (g : IsMove t m) → Recalls before m → Lawful t → Later t (moved t m)
     → Lawful (moved t m) → P before t → P (recalled t m g before) (moved t m))

@@ -1,4 +1,4 @@
--- Each event is made of moves: behind it stands a traced world whose world is the event's.
+-- Each event is made of moves: after it stands a traced world whose world is the event's.
 use Rattle.std.proofs.Common.{◌≡◌, ◌≢◌, ℕ, ◌<◌, true, List, [], ◌∷◌, length, Option, Some, None, refl, inl, inr, sym}
 use Rattle.std.proofs.Common.{ap, ◌∙◌, subst}
 use Rattle.std.specs.Prelude.{slice_get, nat_lt, ◌&&◌}
@@ -35,14 +35,14 @@ use Rattle.world.proofs.moments.Goings.{Laws, GoesOn, Goes, stays, later_by, law
 abbrev pub AllLawful : World → Type 0
 AllLawful w = (i : ℕ) → i < length w.servers → IsLawful (server w i)
 
--- behind t stands a traced world whose world is w
+-- after t stands a traced world whose world is w
 pub record Reaches (t : Traced) (w : World) : Type 0 where
   pub after : Traced
   pub goes : Goes t after
   pub world : after.world ≡ w
   pub all : AllLawful w
 
--- a lawful world is behind itself
+-- a lawful world comes after itself
 pub reached : (t : Traced) → Lawful t → AllLawful t.world → Reaches t t.world
 reached t l all = record { after = t; goes = stays t l; world = refl; all = all }
 
@@ -80,7 +80,7 @@ all_taken w i input l fit all same k low =
       | inr other ↦ rw (server-acted_other w i k (step (server w i) input) other) (all k (rw same at low))
     ]
 
--- behind t, if server i takes this input, stands a traced world
+-- after t, if server i takes this input, stands a traced world
 record Took (t : Traced) (i : ℕ) (input : Input) : Type 0 where
   after : Traced
   goes : (before : Memory) → IsOf before i (Some input) → GoesOn before t after
@@ -240,7 +240,7 @@ tells laws t i j l all =
 
 -- ---- all events
 
--- behind each event stands a traced world that comes by moves
+-- after each event stands a traced world that comes by moves
 pub happened : Laws → (t : Traced) (e : Event) → Lawful t → AllLawful t.world → Reaches t (happens t.world e)
 happened laws t (Piece c bytes) l all =
     subst (λ w. Reaches t w) (world_reconnected t c _)

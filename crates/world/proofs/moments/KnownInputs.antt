@@ -63,7 +63,7 @@ begun_apart t i c call g w =
     let never : Begun ≡ Asked = sym g.stage ∙ ap (λ (k : Connection). k.stage) same ∙ w.stage in
     absurd cc
 
--- and no other call by its name is with its server, or behind it
+-- and no other call by its name is with its server, or has a reply
 not_over : (k : Connection) (ordinal : ℕ) → k.stage ≡ Begun → ordinal ≡ length k.replies
     → (ordinal < length k.replies)
     ⊎ ((ordinal ≡ length k.replies) × ((k.stage ≡ Asked) ⊎ ((reply : Reply) × (k.stage ≡ Replied reply))))

@@ -1,4 +1,4 @@
--- A schedule's moments: behind its first k events stands a traced world, and each comes by moves of those before it.
+-- A schedule's moments: after its first k events stands a traced world, and each comes by moves of those before it.
 use Rattle.std.proofs.Common.{◌≡◌, ℕ, zero, suc, ◌<◌, ◌≤◌, List, [], ◌∷◌, ◌++◌, take, Some, None, refl, arith, sym, ap}
 use Rattle.std.proofs.Common.{◌∙◌, subst}
 use Rattle.std.specs.Prelude.{slice_get}
@@ -11,9 +11,9 @@ use Rattle.world.proofs.trace.Outsets.{count_outset, framed_outset, lawful_outse
 use Rattle.world.proofs.moments.Goings.{Laws, Goes, stays, goes_both}
 use Rattle.world.proofs.moments.Happenings.{AllLawful, Reaches, happened}
 
--- a lawful world behind each beginning of these events, each of which comes by moves of those before
+-- a lawful world after each beginning of these events, each of which comes by moves of those before
 pub record Moments (t : Traced) (events : List Event) : Type 0 where
-  -- the traced world behind the first k events
+  -- the traced world after the first k events
   pub at : ℕ → Traced
   pub start : at 0 ≡ t
   pub world : (k : ℕ) → (at k).world ≡ run_from t.world (take k events)

@@ -1,4 +1,4 @@
--- The ids of an origin are 1, 2, 3 and so on: so an entry stands behind those with its origin's smaller ids.
+-- The ids of an origin are 1, 2, 3 and so on: so an entry stands after those with its origin's smaller ids.
 use Rattle.std.proofs.Common.{◌≡◌, ℕ, zero, suc, ◌+◌, ◌<◌, ◌≤◌, List, [], ◌∷◌, ◌++◌, length, take, Some, sym, ap, ◌∙◌}
 use Rattle.std.proofs.Common.{arith, inl, inr}
 use Rattle.std.specs.Prelude.{slice_get}

@@ -40,7 +40,7 @@ use Rattle.world.proofs.order.WithServers.{WasAsked, IsNew, stood, asked_way}
 abbrev pub at_ordinal : ℕ → ℕ → CallId
 at_ordinal c n = record { connection = c; ordinal = n }
 
--- ---- what holds behind each event
+-- ---- what holds after each event
 
 -- the open call of this connection was issued by its server, or that has no room
 abbrev pub IsIssuedOrFull : Traced → ℕ → Connection → Type 0
@@ -88,7 +88,7 @@ module _ (t u : Traced) (f : Follows t u) where
         ],
       )
 
-  -- where there is room
+  -- if there is room
   entered : (c : ℕ) (k : Connection) (new : IsNew t.world u.world c k)
       → slice_get u.world.connections c ≡ Some k
       → k.stage ≡ Asked
@@ -166,7 +166,7 @@ pub record IsGivenAt (w : World) (x : CallId) : Type 0 where
   pub here : slice_get w.connections x.connection ≡ Some connection
   pub low : x.ordinal < length connection.replies + given_calls connection.stage
 
--- where the test says so
+-- if the test says so
 pub given_at : (w : World) (x : CallId) → is_given w x ≡ true → IsGivenAt w x
 given_at w x h = by_connection (slice_get w.connections x.connection) refl h
   where

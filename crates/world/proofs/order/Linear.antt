@@ -1,4 +1,4 @@
--- The committed updates by number, with the answered reads behind their numbers, are one order of all calls.
+-- The committed updates by number, with the answered reads after their numbers, are one order of all calls.
 use Rattle.std.proofs.Common.{◌≡◌, ◌≢◌, ℕ, zero, suc, ◌+◌, ◌-◌, ◌<◌, ◌≤◌, Bool, true, false, List, [], ◌∷◌, ◌++◌}
 use Rattle.std.proofs.Common.{length, take, map, Option, None, Some, refl, sym, ap, ◌∙◌, arith, subst, ◌⊎◌, inl, inr}
 use Rattle.std.specs.Prelude.{slice_get, slice_index_or, ◌==◌}
@@ -49,7 +49,7 @@ mapped_get f [] k y h = absurd cc
 mapped_get f (x ∷ xs) zero y h = (x, refl, same_Some (f x) y h)
 mapped_get f (x ∷ xs) (suc k) y h = mapped_get f xs k y h
 
--- the items behind one entry more
+-- the items after one entry more
 pub items_more : (items : Items) (es : List LogEntry) (k : ℕ) (e : LogEntry)
     → slice_get es k ≡ Some e
     → items_after items (take (suc k) es) ≡ changed (items_after items (take k es)) e.target e.change

@@ -36,11 +36,11 @@ module _ (n : ℕ) (homes : List ℕ) (events : List Event) (few : n ≤ 16) whe
   pub all : Moments (outset n homes) events
   all = all_moments n homes events few
 
-  -- the traced world behind all events
+  -- the traced world after all events
   abbrev last : Traced
   last = all.at (length events)
 
-  -- behind the first k events, if there are no more than k
+  -- after the first k events, if there are no more than k
   run_all : (k : ℕ) → length events ≤ k → run_of n homes (take k events) ≡ run_of n homes events
   run_all k l = ap (run_of n homes) (take_all k events l)
 

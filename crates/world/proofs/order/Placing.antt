@@ -1,4 +1,4 @@
--- Updates and reads in one list: each update at its number, and behind it the reads of that number in the order of
+-- Updates and reads in one list: each update at its number, and after it the reads of that number in the order of
 -- their answers.
 use Rattle.std.proofs.Common.{◌≡◌, ℕ, zero, suc, ◌<◌, List, [], ◌∷◌, ◌++◌, Some, refl, sym, ◌∙◌, arith, ◌⊎◌, inl, inr}
 use Rattle.std.specs.Prelude.{slice_get, ◌==◌, if◌then◌else◌}
@@ -27,7 +27,7 @@ abbrev pub IsBelow : Placed → List Placed → Type 0
 IsBelow p [] = Unit {0}
 IsBelow p (q ∷ qs) = IsBefore p q × IsBelow p qs
 
--- each stands before all behind it
+-- each stands before all after it
 abbrev pub Sorted : List Placed → Type 0
 Sorted [] = Unit {0}
 Sorted (p ∷ ps) = IsBelow p ps × Sorted ps

@@ -79,7 +79,7 @@ module _ (name : LogEntry → CallId) (asked : CallId → Call) where
       (reads_at name asked n (suc q) rs) (λ ps. In (of_read name asked (q + suc j) r) ps)
       (λ t. rw move (suc later.0, later.1)) (λ t. rw move later)
 
-  -- an update behind number n, or a read from number n on
+  -- an update after number n, or a read from number n on
   abbrev pub IsPlaced : List AnsweredRead → ℕ → List LogEntry → Placed → Type 0
   IsPlaced rs n es p =
       ((k : ℕ) × (e : LogEntry) × (slice_get es k ≡ Some e) × (p ≡ of_update name asked (n + k) e))

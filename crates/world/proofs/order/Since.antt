@@ -30,7 +30,7 @@ SaysSince t u i j (Answer ask n) =
 abbrev pub IsOldOrLater : Traced → Traced → ℕ → OpenRead → Type 0
 IsOldOrLater t u i r = IsSome (begun_call t.world (open_id u.world r.port)) ⊎ ((server t.world i).next_ask ≤ r.ask)
 
--- u is later than t: the entries of calls that weren't begun at t stand behind those committed at t, and so with reads
+-- u is later than t: the entries of calls that weren't begun at t stand after those committed at t, and so with reads
 pub record Since (t u : Traced) : Type 0 where
   pub entries : (i k : ℕ) (e : LogEntry)
       → i < count u

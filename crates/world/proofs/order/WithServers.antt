@@ -1,4 +1,4 @@
--- Which calls are with their servers behind an event: those that were before, and the one that the event gave to its
+-- Which calls are with their servers after an event: those that were before, and the one that the event gave to its
 -- server.
 use Rattle.std.proofs.Common.{◌≡◌, ℕ, List, Some, refl, sym, ap, ◌∙◌, subst, ◌⊎◌, inl, inr}
 use Rattle.std.specs.Prelude.{slice_get}
@@ -101,7 +101,7 @@ pub stood : (w u : World) (c : ℕ) (k : Connection)
     → slice_get w.connections c ≡ Some k
 stood w u c k same here = ap (λ (x : World). slice_get x.connections c) (sym same) ∙ here
 
--- a call that is with its server behind an event was with it before, or is the one that the event gave to it
+-- a call that is with its server after an event was with it before, or is the one that the event gave to it
 pub asked_way : (w u : World) (c : ℕ) (k : Connection)
     → Way w u
     → slice_get u.connections c ≡ Some k

@@ -1,4 +1,4 @@
--- The turn behind the faults, one fault after another.
+-- The turn after the faults, one fault after another.
 use Rattle.std.proofs.Common.{◌≡◌, ℕ, zero, suc, ◌<◌, Bool, true, false, cond, None, Some, refl, arith, sym, ◌∙◌}
 use Rattle.table.specs.declared.operations.Call.{Call}
 use Rattle.table.specs.declared.operations.Op.{Op}
@@ -38,7 +38,7 @@ passes (None, left) later fault e = cc
 passes (Some (Faulty other), left) later fault e = refl
 passes (Some (Calls call form), left) later fault e = cc
 
--- behind a fault is what is behind the rest
+-- after a fault is what is after the rest
 passed_one : FaultsTakeBytes
     → (h left : Held) (fault : Fault)
     → (next_of h).0 ≡ Some (Faulty fault)
@@ -61,7 +61,7 @@ emits (None, left) e = by_closed left.closed e
 emits (Some (Faulty fault), left) e = (fault, refl)
 emits (Some (Calls call form), left) e = cc
 
--- one fault more is passed, and what stands behind the faults stays
+-- one fault more is passed, and what stands after the faults stays
 pub passed_step : FaultsTakeBytes
     → (h left : Held)
     → Emit ≡ step_of (next_of h)
@@ -69,7 +69,7 @@ pub passed_step : FaultsTakeBytes
     → past_faults left ≡ past_faults h
 passed_step law h left e is = let fault = emits (next_of h) e in passed_one law h left fault.0 fault.1 is
 
--- behind a fault fewer can come, so that passing them ends
+-- after a fault fewer can come, so that passing them ends
 pub shorter_step : FaultsTakeBytes
     → (h left : Held)
     → Emit ≡ step_of (next_of h)

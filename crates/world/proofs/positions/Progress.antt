@@ -117,7 +117,7 @@ abbrev OpensNone : Given → Type 0
 OpensNone r = (call : Call) (form : Form) → r.0 ≡ Some (Calls call form) → ⊥
 
 module _ (law : SessionLaws) (takes : FaultsTakeBytes) where
-  -- if no call stands behind the faults that stand next, nothing is to come
+  -- if no call stands after the faults that stand next, nothing is to come
   nothing_left : (n : ℕ) (h : Held)
       → most_faults h < n
       → OpensNone (past_faults_upto n h)

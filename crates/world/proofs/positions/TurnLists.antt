@@ -18,13 +18,13 @@ use Rattle.proto.specs.Sessions.{next_of, answered_by}
 use Rattle.proto.specs.Streams.{texts, to_come}
 use Rattle.world.specs.Sent.{calls_of}
 
--- the calls among turns, with more of them behind
+-- the calls among turns, with more of them at the end
 pub calls_of_more : (xs ys : List Turn) → calls_of (xs ++ ys) ≡ calls_of xs ++ calls_of ys
 calls_of_more [] ys = refl
 calls_of_more (Faulty fault ∷ xs) ys = calls_of_more xs ys
 calls_of_more (Calls call form ∷ xs) ys = ap (λ calls. call ∷ calls) (calls_of_more xs ys)
 
--- a fault behind turns whose calls are answered
+-- a fault after turns whose calls are answered
 pub texts_fault : (fault : Fault) (ts : List Turn) (rs : List Reply)
     → length rs ≡ length (calls_of ts)
     → texts (ts ++ Faulty fault ∷ []) rs ≡ texts ts rs ++ fault_text fault
@@ -35,7 +35,7 @@ texts_fault fault (Calls call form ∷ ts) [] h = absurd (omega (arith, h))
 texts_fault fault (Calls call form ∷ ts) (r ∷ rs) h =
     rw (texts_fault fault ts rs (omega (arith, h))) (sym (append_assoc (text form r) (texts ts rs) (fault_text fault)))
 
--- an answered call behind them
+-- an answered call after them
 pub texts_call : (call : Call) (form : Form) (reply : Reply) (ts : List Turn) (rs : List Reply)
     → length rs ≡ length (calls_of ts)
     → texts (ts ++ Calls call form ∷ []) (rs ++ reply ∷ []) ≡ texts ts rs ++ text form reply
@@ -48,7 +48,7 @@ texts_call call form reply (Calls other shape ∷ ts) (r ∷ rs) h =
     rw (texts_call call form reply ts rs (omega (arith, h)))
     (sym (append_assoc (text shape r) (texts ts rs) (text form reply)))
 
--- what a step writes behind this output, and which call it opens
+-- what a step writes after this output, and which call it opens
 abbrev pub Writes : List ℕ → Given → Type 0
 Writes out (None, left) = left.out ≡ out
 Writes out (Some (Faulty fault), left) = left.out ≡ out ++ fault_text fault
@@ -121,7 +121,7 @@ fed_asked h xs = by_closed h.closed
     by_closed true = refl
     by_closed false = refl
 
--- an answer writes the reply's text behind the output
+-- an answer writes the reply's text after the output
 pub answered_out : (asked : Option Form) (form : Form) (h : Held) (reply : Reply)
     → asked ≡ Some form
     → (answered_by asked h reply).out ≡ h.out ++ text form reply

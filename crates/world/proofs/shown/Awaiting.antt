@@ -42,7 +42,7 @@ use Rattle.world.proofs.moments.AllLaws.{laws}
 use Rattle.world.proofs.order.OneOrder.{all}
 use Rattle.node.specs.Lawful.{IsInput, HoldsEntry}
 
--- outputs behind others
+-- outputs after others
 awaited-append : (w : World) (i : ℕ) (os ps : List Output)
     → AreAwaited w.connections i os
     → AreAwaited (put_all w i os).connections i ps

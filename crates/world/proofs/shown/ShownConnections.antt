@@ -149,7 +149,7 @@ module _ (count : ℕ) (homes : List ℕ) (events : List Event) (t : TranscriptS
   abbrev answered_calls : ℕ → ℕ
   answered_calls c = length (calls_of (past (position_of count homes events c)))
 
-  -- if each connection has as many replies as calls were answered, so many are shown
+  -- if each connection has as many replies as calls were answered, as many are shown
   pub answered_shown : Each count homes events (λ c k. length k.replies ≡ answered_calls c)
       → EachShown t (λ c k. length (replies_in k.calls) ≡ answered_calls c)
   answered_shown law c k here =

@@ -1,4 +1,4 @@
--- Where nothing is on its way between living servers and each knows who failed, all have the same log, and have
+-- If nothing is on its way between living servers and each knows who failed, all have the same log, and have
 -- acknowledged all of it.
 use Rattle.std.proofs.Common.{◌≡◌, ◌==◌, ◌||◌, Bool, not, ℕ, zero, suc, ◌+◌, ◌<◌, ◌≤◌, true, false, List, [], ◌∷◌}
 use Rattle.std.proofs.Common.{length, Option, Some, None, refl, sym, ap, ◌∙◌, arith, inl, inr}

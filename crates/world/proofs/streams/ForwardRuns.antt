@@ -132,7 +132,7 @@ unfolding link with_link
 same_link w i j ms h =
     rw (get_or-set_same w.links i _ [] h.row) (get_or-set_same (get_or w.links i []) j ms [] h.ordinal)
 
--- the row of a server behind a change of one of its links
+-- the row of a server after a change of one of its links
 abbrev set_row : World → ℕ → ℕ → List Peer → List (List Peer)
 set_row w i j ms = set (get_or w.links i []) j ms
 
@@ -173,7 +173,7 @@ pub has_link-with_connection : (w : World) (c : ℕ) (change : Connection → Co
 unfolding with_connection
 has_link-with_connection w c change x y h = record { row = h.row; ordinal = h.ordinal }
 
--- what a server puts out to y goes behind what stands on its link to y
+-- what a server puts out to y goes after what stands on its link to y
 pub link-put_all_to : (w : World) (i : ℕ) (os : List Output) (y : ℕ)
     → HasLink w i y
     → link (put_all w i os) i y ≡ link w i y ++ sent_to y os

@@ -252,7 +252,7 @@ module _ (t : Traced) (h : Lawful t) where
 
 -- ---- two moments
 
--- what is known of two moments, the later one behind the earlier
+-- what is known of two moments, the later one after the earlier
 pub record Follows (t u : Traced) : Type 0 where
   pub before : Lawful t
   pub after : Lawful u

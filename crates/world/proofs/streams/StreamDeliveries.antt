@@ -141,7 +141,7 @@ module _ (t u : Traced) (h : Follows t u) (i a : ℕ) (m : Peer) (p : Stepped t.
   stream_step (Query ask key) is s run apart unaware = same_stream s run apart
   stream_step (Answer ask n) is s run apart unaware = same_stream s run apart
 
-  -- what the sender of the message forwards to its receiver goes on behind the delivery
+  -- what the sender of the message forwards to its receiver goes on after the delivery
   pub forwards_delivered : (Linked t.world i a → Stream t.world i a) → Linked u.world i a → Stream u.world i a
   forwards_delivered f l =
       let apart = sender_apart t i a m addressed in
@@ -184,7 +184,7 @@ module _ (t u : Traced) (h : Follows t u) (i a : ℕ) (m : Peer) (p : Stepped t.
         ap (λ (x : ServerState). last_number x.store) p.own,
       ))
 
-  -- the receiver of the message has what its sender acknowledged, or is told, behind the delivery
+  -- the receiver of the message has what its sender acknowledged, or is told, after the delivery
   pub acks_delivered : (LinkedBack t.world a i → IsTold t.world a i) → LinkedBack u.world a i → IsTold u.world a i
   acks_delivered f l =
       let apart = sender_apart t i a m addressed in

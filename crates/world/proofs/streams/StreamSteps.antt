@@ -81,7 +81,7 @@ module _ (t u : Traced) (h : Follows t u) (a : ℕ) (input : Input) (p : Stepped
   informs : Informs (server t.world a) (step (server t.world a) input)
   informs = informs_step (server t.world a) input (h.servers a p.here) p.fit p.valid
 
-  -- who is linked to its successor behind another's step was so before it
+  -- who is linked to its successor after another's step was so before it
   pub linked_other : (x y : ℕ) → x ≢ a → Linked u.world x y → Linked t.world x y
   linked_other x y other l = record {
     here = rw (← h.later.count) l.here;
@@ -158,7 +158,7 @@ module _ (t u : Traced) (h : Follows t u) (a : ℕ) (input : Input) (p : Stepped
 
   -- ---- acknowledged numbers
 
-  -- who is linked to its predecessor behind another's step was so before it
+  -- who is linked to its predecessor after another's step was so before it
   pub linked_back_other : (x y : ℕ) → y ≢ a → LinkedBack u.world x y → LinkedBack t.world x y
   linked_back_other x y other l = record {
     here = rw (← h.later.count) l.here;

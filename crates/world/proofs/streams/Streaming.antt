@@ -48,7 +48,7 @@ pub record Linked (w : World) (x y : ℕ) : Type 0 where
   pub unaware : has (server w y).view x ≡ false
   pub alive : has w.failed y ≡ false
 
--- x forwards to y all its entries behind one that y has reached
+-- x forwards to y all its entries after one that y has reached
 pub record Stream (w : World) (x y : ℕ) : Type 0 where
   pub from : ℕ
   pub reached : from ≤ last_number (server w y).store

@@ -95,7 +95,7 @@ kept_handed Asked k = kept_same k
 kept_handed (Replied reply) k =
     record { home = refl; calls = λ n x h. h; replies = λ n x h. get_front k.replies (reply ∷ []) n x h }
 
--- a change that leaves the home and only adds calls and replies does so also where only living homes change
+-- a change that leaves the home and only adds calls and replies does so also if only living homes change
 pub kept_where_home_lives : (w : World) (change : Connection → Connection)
     → ((k : Connection) → Kept k (change k))
     → (k : Connection)

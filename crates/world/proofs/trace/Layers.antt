@@ -83,7 +83,7 @@ pub record Framed (t : Traced) : Type 0 where
 
 -- ---- logs and acknowledged numbers
 
--- the store is that of this log: its base is made of the entries up to the floor, its rest is what comes behind
+-- the store is that of this log: its base is made of the entries up to the floor, its rest is what comes after
 pub record Holds (es : List LogEntry) (s : StoreState) : Type 0 where
   pub within : s.floor ≤ length es
   pub base : s.base ≡ items_after opening_table.items (take s.floor es)
@@ -234,7 +234,7 @@ pub record Read (t : Traced) : Type 0 where
 
 -- ---- what came after a moment
 
--- u, a later moment than t: a committed entry of a call that wasn't begun at t stands behind those committed at t,
+-- u, a later moment than t: a committed entry of a call that wasn't begun at t stands after those committed at t,
 -- and a read that wasn't begun at t has no lower number
 pub record Newer (t u : Traced) : Type 0 where
   pub entries : (k : ℕ) (e : LogEntry)

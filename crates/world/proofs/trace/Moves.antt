@@ -55,7 +55,7 @@ pub record CanWork (t : Traced) (c : ℕ) : Type 0 where
   pub stage : connection.stage ≡ Begun
   pub called : open_call connection ≡ Some call
 
--- the link from i to a living j has these messages behind its first one
+-- the link from i to a living j has these messages after its first one
 pub record CanTake (t : Traced) (i j : ℕ) (ms : List Peer) : Type 0 where
   pub message : Peer
   pub here : link t.world i j ≡ message ∷ ms
@@ -127,7 +127,7 @@ abbrev pub AreMoves : Memory → Traced → List Move → Type 0
 AreMoves before t [] = Unit {0}
 AreMoves before t (m ∷ ms) = (g : IsMove t m) × Recalls before m × AreMoves (recalled t m g before) (moved t m) ms
 
--- what is recalled behind them
+-- what is recalled after them
 abbrev pub recalled_last : (before : Memory) (t : Traced) (ms : List Move) → AreMoves before t ms → Memory
 recalled_last before t [] are = before
 recalled_last before t (m ∷ ms) are = recalled_last (recalled t m are.0 before) (moved t m) ms are.2

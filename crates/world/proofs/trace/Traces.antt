@@ -12,7 +12,7 @@ use Rattle.world.specs.Worlds.{World, server, with_link, with_connection, openin
 use Rattle.world.specs.Calls.{CallId}
 use Rattle.node.specs.Actions.{Action, Append, Finish, Enter, Show, act}
 
--- A read that a server answered: which call, its key, the number of the entries behind which it stands, and the item or
+-- A read that a server answered: which call, its key, the number of the entries after which it stands, and the item or
 -- none.
 pub record AnsweredRead : Type 0 where
   pub id : CallId

@@ -118,7 +118,7 @@ pub link-with_connection : (w : World) (c : ℕ) (change : Connection → Connec
 unfolding link with_connection
 link-with_connection w c change x y = refl
 
--- a message on a link behind outputs stood there before, or is one of them
+-- a message on a link after outputs stood there before, or is one of them
 pub link-put_all : (w : World) (i : ℕ) (os : List Output) (x y : ℕ) (m : Peer)
     → In m (link (put_all w i os) x y)
     → In m (link w x y) ⊎ ((x ≡ i) × In (To y m) os)
@@ -135,7 +135,7 @@ link-put_all w i (Answered c reply ∷ os) x y m h =
       | inr new ↦ inr (new.0, (suc new.1.0, new.1.1))
     ]
 
--- a connection behind these outputs of a server: as it was, or its open call has its reply
+-- a connection after these outputs of a server: as it was, or its open call has its reply
 abbrev pub Answers : List Output → ℕ → Connection → Connection → Type 0
 Answers os c k k' =
     (k' ≡ k)
@@ -155,7 +155,7 @@ replied_cases Asked reply k e =
     ]
 replied_cases (Replied first) reply k e = inl refl
 
--- one output, and those behind it
+-- one output, and those after it
 pub answers_one : (c d : ℕ) (reply : Reply) (k k' : Connection)
     → Changes d (λ x. replied x.stage reply x) c k k'
     → Answers (Answered d reply ∷ []) c k k'
@@ -183,7 +183,7 @@ behind_first : (o : Output) (os : List Output) (c : ℕ) (k k' : Connection) →
 behind_first o os c k k' (inl e) = inl e
 behind_first o os c k k' (inr g) = inr (g.0, (suc g.1.0, g.1.1), g.2, g.3, g.4)
 
--- what becomes of a connection behind the outputs of a server
+-- what becomes of a connection after the outputs of a server
 pub connection-put_all : (w : World) (i : ℕ) (os : List Output) (c : ℕ) (k : Connection)
     → slice_get w.connections c ≡ Some k
     → (k' : Connection) × (slice_get (put_all w i os).connections c ≡ Some k') × Answers os c k k'
@@ -197,7 +197,7 @@ connection-put_all w i (Answered d reply ∷ os) c k h =
     let r = connection-put_all (put w i (Answered d reply)) i os c one.0 one.1 in
     (r.0, r.1, answers_then (Answered d reply) os c k one.0 r.0 (answers_one c d reply k one.0 one.2) r.2)
 
--- a connection behind outputs is what became of one before them
+-- a connection after outputs is what became of one before them
 pub connection-before_all : (w : World) (i : ℕ) (os : List Output) (c : ℕ) (k' : Connection)
     → slice_get (put_all w i os).connections c ≡ Some k'
     → (k : Connection) × (slice_get w.connections c ≡ Some k) × Answers os c k k'

@@ -181,7 +181,7 @@ bounded_outset n homes =
 
 -- ---- the first event uses none, so that there are fewer than events
 
--- behind the first event no update is issued, and no id or ask is used, since no call was begun before it
+-- after the first event no update is issued, and no id or ask is used, since no call was begun before it
 pub bounded_first : (n : ℕ) (homes : List ℕ)
     → n ≤ 16
     → (u : World)

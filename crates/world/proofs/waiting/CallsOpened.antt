@@ -1,4 +1,4 @@
--- An own call that is taken in is open behind the step, or answered by it, if numbers are left.
+-- An own call that is taken in is open after the step, or answered by it, if numbers are left.
 use Rattle.std.proofs.Common.{◌≡◌, ℕ, ◌<◌, Bool, true, false, not, List, [], ◌∷◌, None, refl, sym, subst, ◌⊎◌, inl, inr}
 use Rattle.std.proofs.lemmas.Bool.{cond_both, both_ways, and_from, lt-ltb, or_right}
 use Rattle.table.specs.Operations.{is_update, Suits}
@@ -99,7 +99,7 @@ trimmed_open : (s : ServerState) (c : ℕ) → IsOpenAt s c → IsOpenAt (trimme
 unfolding trimmed
 trimmed_open s c h = h
 
--- so it is behind the step
+-- so it is after the step
 pub call_opened : (s : ServerState) (port : ℕ) (made : Call)
     → IsLawful s
     → IsCall made
@@ -121,7 +121,7 @@ trimmed_update : (s : ServerState) (c : ℕ)
 unfolding trimmed
 trimmed_update s c h = h
 
--- an update that there is room for waits behind the step, or has its reply
+-- an update that there is room for waits after the step, or has its reply
 pub update_opened : (s : ServerState) (port : ℕ) (made : Call)
     → IsLawful s
     → IsCall made

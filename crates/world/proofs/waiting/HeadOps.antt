@@ -223,7 +223,7 @@ act_new_head d s (Enter port call) h other is = absurd (other is)
 act_new_head d s (Ask port key) h other is = absurd (other is)
 act_new_head d s (Show port key) h other is = absurd (other is)
 
--- the actions of a step send a new head all ids behind one that this server has seen
+-- the actions of a step send a new head all ids after one that this server has seen
 pub does_new_op : (actions : List Action) (c : Cause) (d : Due) (s : ServerState) (h : ℕ)
     → AreGuarded c s actions
     → AreInTurn d s actions

@@ -46,8 +46,8 @@ op_ids ms = brought op_id ms
 abbrev pub unacked : StoreState → List LogEntry
 unacked s = entries_after s s.acked
 
--- ids up to some number are answered; those behind it up to the last one that was issued wait; and the entries that
--- wait for their acknowledgement have ids behind it too, up to the greatest seen
+-- ids up to some number are answered; those after it up to the last one that was issued wait; and the entries that
+-- wait for their acknowledgement have ids after it too, up to the greatest seen
 pub record AreOwn (next_id seen : ℕ) (waits takes : List ℕ) : Type 0 where
   pub answered : ℕ
   pub last : ℕ
@@ -82,7 +82,7 @@ pub record Headed (w : World) (o h : ℕ) : Type 0 where
   pub other : h ≢ o
   pub unaware : has (server w h).view o ≡ false
 
--- o sends to h all its ids behind one that h has seen
+-- o sends to h all its ids after one that h has seen
 pub record Sends (w : World) (o h : ℕ) : Type 0 where
   pub from : ℕ
   pub last : ℕ

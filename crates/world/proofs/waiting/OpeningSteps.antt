@@ -102,7 +102,7 @@ below_or_above x y other = elim (cases_lt x y) [
 
 module _ (t u : Traced) (h : Follows t u) (a : ℕ) (input : Input) (p : Stepped t.world u.world a input)
     (serves : Serves (server t.world a) input (step (server t.world a) input)) where
-  -- who has a head behind another's step had it before
+  -- who has a head after another's step had it before
   pub headed_other : (x y : ℕ) → x ≢ a → Headed u.world x y → Headed t.world x y
   headed_other x y other l = record {
     here = rw (← h.later.count) l.here;

@@ -34,7 +34,7 @@ abbrev pub Along : (Due → ServerState → Type 0) → Due → ServerState → 
 Along P d s [] = P d s
 Along P d s (a ∷ later) = P d s × Along P (due d s a) (act s a).state later
 
--- what holds along actions holds behind the last one
+-- what holds along actions holds after the last one
 pub along_end : (P : Due → ServerState → Type 0) (actions : List Action) (d : Due) (s : ServerState)
     → Along P d s actions
     → P (due_in_the_end d s actions) (does s actions).state

@@ -1,4 +1,4 @@
--- Where nothing is on its way between living servers and each knows who failed, no own call of a living server is open.
+-- If nothing is on its way between living servers and each knows who failed, no own call of a living server is open.
 use Rattle.std.proofs.Common.{◌≡◌, ℕ, ◌+◌, ◌<◌, ◌≤◌, true, false, List, [], ◌∷◌, length, Option, Some, None, refl, sym}
 use Rattle.std.proofs.Common.{ap, subst, ◌∙◌, arith, inl, inr}
 use Rattle.std.proofs.lemmas.Bool.{cases_eq, both_ways}

@@ -65,14 +65,14 @@ never_begun (None, left) k e a = let g : Idle ≡ Asked = sym e ∙ a in cc
 never_begun (Some (Faulty fault), left) k e a = let g : Idle ≡ Asked = sym e ∙ a in cc
 never_begun (Some (Calls call form), left) k e a = let g : Begun ≡ Asked = a in cc
 
--- a connection whose call is with its server behind a begin is as it was before
+-- a connection whose call is with its server after a begin is as it was before
 pub same_begun : (s : Stage) (k : Connection) → k.stage ≡ s → (begun s k).stage ≡ Asked → begun s k ≡ k
 same_begun Idle k e a = absurd (never_begun (past_faults k.session) k e a)
 same_begun Begun k e a = refl
 same_begun Asked k e a = refl
 same_begun (Replied reply) k e a = refl
 
--- a connection whose call is with its server behind a hand is as it was before
+-- a connection whose call is with its server after a hand is as it was before
 pub same_handed : (s : Stage) (k : Connection) → k.stage ≡ s → (handed s k).stage ≡ Asked → handed s k ≡ k
 same_handed Idle k e a = refl
 same_handed Begun k e a = refl

@@ -29,7 +29,7 @@ Fits c k os = (reply : Reply) × In (Answered c reply) os × (may_have (open_cal
 
 -- ---- what outputs make of a stage
 
--- a connection whose call is with its server behind outputs got no reply by them
+-- a connection whose call is with its server after outputs got no reply by them
 pub still_asked : (os : List Output) (c : ℕ) (k k' : Connection) → Answers os c k k' → k'.stage ≡ Asked → k' ≡ k
 still_asked os c k k' (inl e) a = e
 still_asked os c k k' (inr r) a =
@@ -82,7 +82,7 @@ fitting w i (Answered d r ∷ os) c k here (reply, (suc n, e), may) k' there a =
 
 -- ---- a step
 
--- what each call that is with server a is behind the step
+-- what each call that is with server a is after the step
 abbrev pub IsKept : World → ℕ → RuleResult → Type 0
 IsKept v a o = (c : ℕ) (k : Connection) → slice_get v.connections c ≡ Some k → k.stage ≡ Asked
     → ((k.home ≢ a) × IsOpenAt (server v k.home) c) ⊎ ((k.home ≡ a) × (IsOpenAt o.state c ⊎ Fits c k o.outputs))

@@ -2,7 +2,7 @@ use Rattle.std.proofs.Common.{sym}
 use Rattle.proto.proofs.LoneGetLaws.{cut_front}
 use Rattle.proto.proofs.front.after.Goals as goal
 
--- what is left behind a prefix stands after it
+-- the bytes that are left are those after the prefix
 pub returns : goal.returns
 returns c =
     let found = c.in_ok-rest.ensures.cases in

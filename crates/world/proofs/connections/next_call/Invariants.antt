@@ -3,7 +3,7 @@ use Rattle.proto.specs.Streams.{most_faults}
 use Rattle.world.specs.Connections.{past_faults}
 use Rattle.world.proofs.connections.next_call.Given as goal
 
--- what stands behind the faults that are left is what stood behind all of them
+-- what stands after the faults that are left is what stood after all of them
 abbrev pub invariant-passing : goal.invariant-passing
 invariant-passing l = record {
   same : past_faults l.session ≡ past_faults l.initial.session;
