@@ -3,22 +3,22 @@ use Rattle.std.proofs.Common.{◌≡◌, ◌∙◌, ap, sym, inl, inr, List, [],
 use Rattle.std.proofs.lemmas.Result.{IfOk-weaker}
 use Rattle.std.specs.declared.result.Result.{Result}
 use Rattle.node.specs.Faces.{FaceState}
-use Rattle.faces.specs.declared.boards.Knowledge.{Knowledge}
+use Rattle.faces.specs.declared.boards.BoardKnowledge.{BoardKnowledge}
 use Rattle.faces.specs.Histories.{History, IsLater, shown_after}
 use Rattle.faces.specs.Shown.{Shown}
 use Rattle.faces.specs.Boards.{IsShownBy, Knows}
 use Rattle.faces.specs.Readers.{HasLookedAtMostOnce}
 
 -- it knows whose face it saw
-pub knows_after : (w u : Knowledge) (stood before after : History)
+pub knows_after : (w u : BoardKnowledge) (stood before after : History)
     → u ≡ w
     → Knows w stood.origin
     → stood.origin ≡ before.origin
     → IsLater before after
     → Knows u after.origin
 knows_after w u stood before after left knows same later = (
-  ap (λ (v : Knowledge). v.knows) left ∙ knows.0,
-  ap (λ (v : Knowledge). v.origin) left ∙ (knows.1 ∙ (same ∙ sym later.origin)),
+  ap (λ (v : BoardKnowledge). v.knows) left ∙ knows.0,
+  ap (λ (v : BoardKnowledge). v.origin) left ∙ (knows.1 ∙ (same ∙ sym later.origin)),
 )
 
 -- the answer is the look at the face that stood
@@ -32,16 +32,16 @@ found_after r look_in face after shown found =
     (λ look h. h.0 ∙ (ap look_in shown ∙ ap (λ (c : History). look_in (shown_after c)) (sym h.1))) found
 
 -- the place has seen one history more
-pub seen_after : (old : List History) (w u : Knowledge) (stood : History) (face : Shown)
+pub seen_after : (old : List History) (w u : BoardKnowledge) (stood : History) (face : Shown)
     → u ≡ w
     → w.histories ≡ old ++ stood ∷ []
     → face.history ≡ stood
     → u.histories ≡ old ++ face.history ∷ []
 seen_after old w u stood face left histories same =
-    ap (λ (v : Knowledge). v.histories) left ∙ (histories ∙ ap (λ (c : History). old ++ c ∷ []) (sym same))
+    ap (λ (v : BoardKnowledge). v.histories) left ∙ (histories ∙ ap (λ (c : History). old ++ c ∷ []) (sym same))
 
 -- and it is the one after which the answer is
-pub looked_after : {L E : Type 0} (r : Result L E) (F : L → Type 0) (old : List History) (u : Knowledge)
+pub looked_after : {L E : Type 0} (r : Result L E) (F : L → Type 0) (old : List History) (u : BoardKnowledge)
     (stood after : History)
     → u.histories ≡ old ++ stood ∷ []
     → IfOk r (λ look. F look × (after ≡ stood))
@@ -51,10 +51,10 @@ looked_after r F old u stood after histories found =
     (λ look h. histories ∙ ap (λ (c : History). old ++ c ∷ []) (sym h.1)) found
 
 -- a place that found no face has seen what it had
-pub never_looked : (v w : Knowledge) → w ≡ v → HasLookedAtMostOnce v.histories w.histories
-never_looked v w same = inl (ap (λ (k : Knowledge). k.histories) same)
+pub never_looked : (v w : BoardKnowledge) → w ≡ v → HasLookedAtMostOnce v.histories w.histories
+never_looked v w same = inl (ap (λ (k : BoardKnowledge). k.histories) same)
 
 -- one that found a face has seen one history more
-pub once_looked : (old : List History) (w u : Knowledge) (stood : History) → u ≡ w → w.histories ≡ old ++ stood ∷ []
+pub once_looked : (old : List History) (w u : BoardKnowledge) (stood : History) → u ≡ w → w.histories ≡ old ++ stood ∷ []
     → HasLookedAtMostOnce old u.histories
-once_looked old w u stood left histories = inr (stood, ap (λ (k : Knowledge). k.histories) left ∙ histories)
+once_looked old w u stood left histories = inr (stood, ap (λ (k : BoardKnowledge). k.histories) left ∙ histories)

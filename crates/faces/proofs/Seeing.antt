@@ -5,13 +5,13 @@ use Rattle.std.proofs.lemmas.Bool.{cases_lt}
 use mathlib.Core.Option.{some}
 use lib.ListN.{get_elem?}
 use Rattle.faces.specs.declared.faces.Face.{Face}
-use Rattle.faces.specs.declared.boards.Knowledge.{Knowledge}
+use Rattle.faces.specs.declared.boards.BoardKnowledge.{BoardKnowledge}
 use Rattle.faces.specs.Boards.{Keeps}
 use Rattle.faces.specs.Histories.{History, IsLater}
 use Rattle.faces.proofs.Beginnings.{prefix_shorter}
 
 -- each history that a place has seen begins what stands
-pub each_begins : (x : Face) (views : List Knowledge) (i : ℕ) (v : Knowledge)
+pub each_begins : (x : Face) (views : List BoardKnowledge) (i : ℕ) (v : BoardKnowledge)
     → Keeps x views
     → get_elem? views i ≡ some v
     → All (λ c. IsLater c x.history) v.histories
@@ -41,7 +41,7 @@ one_of_two c d stands p q = ⊎_elim
     (λ (most : length d.inputs ≤ length c.inputs). inr (shorter_begins d c stands q p most))
     (cases_lt (length c.inputs) (length d.inputs))
 
-pub any_two : (x : Face) (views : List Knowledge) (i j : ℕ) (v w : Knowledge) (c d : History)
+pub any_two : (x : Face) (views : List BoardKnowledge) (i j : ℕ) (v w : BoardKnowledge) (c d : History)
     → Keeps x views
     → get_elem? views i ≡ some v
     → get_elem? views j ≡ some w

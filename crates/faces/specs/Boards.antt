@@ -3,20 +3,20 @@ use Rattle.std.specs.Prelude.{◌≡◌, ℕ, true, false, List, [], ◌∷◌, 
 use mathlib.Core.Option.{some}
 use lib.ListN.{get_elem?}
 use Rattle.faces.specs.declared.faces.Face.{Face}
-use Rattle.faces.specs.declared.boards.Knowledge.{Knowledge}
+use Rattle.faces.specs.declared.boards.BoardKnowledge.{BoardKnowledge}
 use Rattle.faces.specs.Histories.{Origin, History, IsLater, nowhere, shown_after}
 use Rattle.faces.specs.Shown.{Shown}
 
 -- a place that knows nothing
-abbrev pub newcomer : Knowledge
+abbrev pub newcomer : BoardKnowledge
 newcomer = record { knows = false; origin = nowhere; histories = [] }
 
 -- a place that knows whose face stands, and hasn't seen it
-abbrev pub seated : Origin → Knowledge
+abbrev pub seated : Origin → BoardKnowledge
 seated origin = record { knows = true; origin = origin; histories = [] }
 
 -- it knows whose face stands
-abbrev pub Knows : Knowledge → Origin → Type 0
+abbrev pub Knows : BoardKnowledge → Origin → Type 0
 Knows v origin = (v.knows ≡ true) × (v.origin ≡ origin)
 
 -- what stands is the server's face after the inputs that it says
@@ -24,18 +24,18 @@ abbrev pub IsShownBy : Shown → Type 0
 IsShownBy x = x.face ≡ shown_after x.history
 
 -- This history is one of the server that a place knows, if any, and begins with all that the place has seen.
-pub record Fits (c : History) (v : Knowledge) : Type 0 where
+pub record Fits (c : History) (v : BoardKnowledge) : Type 0 where
   pub server : v.knows ≡ true → v.origin ≡ c.origin
   pub seen : All (λ d. IsLater d c) v.histories
 
 -- and what stands begins with all that any place has seen
-abbrev pub Keeps : Face → List Knowledge → Type 0
-Keeps x views = IsShownBy x × ((seat : ℕ) (v : Knowledge) → get_elem? views seat ≡ some v → Fits x.history v)
+abbrev pub Keeps : Face → List BoardKnowledge → Type 0
+Keeps x views = IsShownBy x × ((seat : ℕ) (v : BoardKnowledge) → get_elem? views seat ≡ some v → Fits x.history v)
 
 -- What a look tells of what stands, or a change of what stands from then on: that it is the server's face after the
 -- inputs that it says; whose face it is, as before; and that these inputs are what the place has now seen, once more,
 -- and begin with all that it had seen.
-pub record Tells (v : Knowledge) (x y : Face) (w : Knowledge) : Type 0 where
+pub record Tells (v : BoardKnowledge) (x y : Face) (w : BoardKnowledge) : Type 0 where
   pub shown : IsShownBy y
   pub server : Knows w y.history.origin
   pub same : v.knows ≡ true → v.origin ≡ y.history.origin

@@ -6,7 +6,7 @@ use Rattle.node.specs.Nodes.{NodeState, running}
 use Rattle.faces.specs.declared.logs.Log.{Log}
 use Rattle.faces.specs.declared.faces.Face.{Face}
 use Rattle.faces.specs.declared.acts.Act.{Act}
-use Rattle.faces.specs.declared.boards.Knowledge.{Knowledge}
+use Rattle.faces.specs.declared.boards.BoardKnowledge.{BoardKnowledge}
 use Rattle.faces.specs.Histories.{History, server_after}
 use Rattle.faces.specs.Showing.{Shows}
 
@@ -22,6 +22,6 @@ IsCurrent node log published = (node ≡ running (server_after published)) × (p
 module _ {P A S : Type 0} {g : Ghosts Face Act S} where
   -- while there is a writer: the node is the server after what was published, and the writer shows the face of that
   -- server
-  abbrev pub IsShowing : Option (Writer Face Act Knowledge P A S g) → NodeState → Log → History → Type 0
+  abbrev pub IsShowing : Option (Writer Face Act BoardKnowledge P A S g) → NodeState → Log → History → Type 0
   IsShowing None node log published = Unit {0}
   IsShowing (Some writer) node log published = IsCurrent node log published × Shows writer published

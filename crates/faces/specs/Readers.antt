@@ -6,7 +6,7 @@ use Rattle.table.specs.declared.items.Item.{Item}
 use Rattle.node.specs.Faces.{FaceState, look_at}
 use Rattle.node.specs.declared.looks.Look.TheVariants.{Clean}
 use Rattle.faces.specs.declared.faces.Face.{Face}
-use Rattle.faces.specs.declared.boards.Knowledge.{Knowledge}
+use Rattle.faces.specs.declared.boards.BoardKnowledge.{BoardKnowledge}
 use Rattle.faces.specs.Histories.{History, Origin}
 use Rattle.faces.specs.Boards.{Knows}
 
@@ -30,11 +30,11 @@ ShowsItem face key = (item : Item) × (look_at face key ≡ Clean (Some item))
 
 module _ {P A : Type 0} where
   -- there is a place, at this server's board
-  abbrev pub IsPlaceOf : Option (Place Face Knowledge P A) → Origin → Type 0
+  abbrev pub IsPlaceOf : Option (Place Face BoardKnowledge P A) → Origin → Type 0
   IsPlaceOf None origin = ⊥
   IsPlaceOf (Some place) origin = Knows (view place.place) origin
 
   -- the histories whose faces stood when it looked
-  abbrev pub looks_of : Option (Place Face Knowledge P A) → List History
+  abbrev pub looks_of : Option (Place Face BoardKnowledge P A) → List History
   looks_of None = []
   looks_of (Some place) = (view place.place).histories

@@ -42,7 +42,7 @@ impl Model for HistoryOrigin {
 
 /// What a place at the board knows: the server, once it has looked; and what it has seen, look by look: the history
 /// whose face stood then. The writer's place has seen what it showed. No value of it is made.
-pub struct Knowledge {
+pub struct BoardKnowledge {
     pub knows: bool,
     pub origin: HistoryOrigin,
     pub histories: LinkedList<LogPosition>,
@@ -51,7 +51,7 @@ pub struct Knowledge {
 /// The rule of the board.
 pub struct BoardRule;
 
-impl Protocol<Face, Knowledge> for BoardRule {
+impl Protocol<Face, BoardKnowledge> for BoardRule {
     ghost use Rattle.faces.specs.Boards.{Keeps, newcomer};
 
     ghost holds = { Keeps };
@@ -62,7 +62,7 @@ impl Protocol<Face, Knowledge> for BoardRule {
 /// A look at the face, and a change of it.
 pub struct BoardSteps;
 
-impl Outcome<Face, Knowledge> for BoardSteps {
+impl Outcome<Face, BoardKnowledge> for BoardSteps {
     ghost use Rattle.faces.specs.Boards.{Tells};
 
     ghost then = { λ v x y w. Tells v x y w };
@@ -71,7 +71,7 @@ impl Outcome<Face, Knowledge> for BoardSteps {
 /// A reader's place learns from the writer's whose face stands. It hasn't seen it.
 pub struct ReaderLearns;
 
-impl Split<Knowledge> for ReaderLearns {
+impl Split<BoardKnowledge> for ReaderLearns {
     ghost use Rattle.faces.specs.Boards.{seated};
 
     ghost left = { λ v. v };
@@ -79,7 +79,7 @@ impl Split<Knowledge> for ReaderLearns {
     ghost right = { λ v. seated v.origin };
 }
 
-impl Join<Knowledge> for ReaderLearns {
+impl Join<BoardKnowledge> for ReaderLearns {
     ghost use Rattle.faces.specs.Boards.{newcomer};
 
     ghost both = { λ v w. w };
@@ -87,9 +87,9 @@ impl Join<Knowledge> for ReaderLearns {
     ghost spent = { newcomer };
 }
 
-pub type FacePlace = Place<Face, Knowledge, BoardRule>;
+pub type FacePlace = Place<Face, BoardKnowledge, BoardRule>;
 
-pub type FaceWriter = Writer<Face, Act, Knowledge, BoardRule>;
+pub type FaceWriter = Writer<Face, Act, BoardKnowledge, BoardRule>;
 
 /// The first face is shown, and the writer knows whose it is.
 pub fn begin<R: Wait>(rt: &R, writer: FaceWriter) -> (FaceWriter, Result<Published, AllocError>)

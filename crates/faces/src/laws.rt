@@ -3,7 +3,7 @@ ghost use Rattle.std.specs.Prelude.{◌≡◌, ◌⊎◌, ℕ, List, All, Contai
 ghost use mathlib.Core.Option.{some};
 ghost use lib.ListN.{get_elem?};
 ghost use Rattle.faces.specs.declared.faces.Face.{Face};
-ghost use Rattle.faces.specs.declared.boards.Knowledge.{Knowledge};
+ghost use Rattle.faces.specs.declared.boards.BoardKnowledge.{BoardKnowledge};
 ghost use Rattle.faces.specs.Boards.{Keeps};
 ghost use Rattle.faces.specs.Histories.{History, IsLater};
 
@@ -11,11 +11,11 @@ ghost use Rattle.faces.specs.Histories.{History, IsLater};
 /// has seen, a reader's by a look or the publisher's by a publish, is a beginning of the history that is published. So
 /// of any two of them one is a beginning of the other.
 pub fn seen_begins_published()
-    ensures each { (x : Face) (views : List Knowledge) (i : ℕ) (v : Knowledge)
+    ensures each { (x : Face) (views : List BoardKnowledge) (i : ℕ) (v : BoardKnowledge)
         → Keeps x views
         → get_elem? views i ≡ some v
         → All (λ c. IsLater c x.history) v.histories }
-    ensures any_two { (x : Face) (views : List Knowledge) (i j : ℕ) (v w : Knowledge) (c d : History)
+    ensures any_two { (x : Face) (views : List BoardKnowledge) (i j : ℕ) (v w : BoardKnowledge) (c d : History)
         → Keeps x views
         → get_elem? views i ≡ some v
         → get_elem? views j ≡ some w

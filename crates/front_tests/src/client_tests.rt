@@ -241,7 +241,7 @@ fn served<R: Wait + Clock + Copy + Drop>(
         writes,
         seen: &seen,
     };
-    let mut alone = open_alone(rt, alloc, socket, OutputPermit::loose())?;
+    let mut alone = open_alone(rt, alloc, socket, OutputPermit::without_lease())?;
     let is_over = is_over(&mut alone);
     alone.end();
     Some(Came {
@@ -369,7 +369,7 @@ fn sent_by_lease<R: Wait + Clock + Copy + Drop>(
     alloc: Global,
 ) -> Option<(bool, usize, usize)> {
     let shared = lease_of_an_hour(alloc)?;
-    let output_permit = OutputPermit::held_by(Arc::try_clone(&shared).ok()?);
+    let output_permit = OutputPermit::by_lease(Arc::try_clone(&shared).ok()?);
     let seen = Seen::new();
     let socket = Socket {
         bytes: BAD,

@@ -2,7 +2,7 @@
 
 use super::servers::pooled;
 use io_threads::{
-    FrontEnd, FrontEndSettings, LoopHandles, Pooled, ScheduledElsewhere, ServedServer,
+    FrontEnd, FrontEndServer, FrontEndSettings, LoopHandles, Pooled, ScheduledElsewhere,
     open_front_end, open_loop_handles,
 };
 use mio::Poll;
@@ -176,14 +176,14 @@ fn only_served_server(
     listener: TcpListener,
     pools: Vec<SeatPool>,
     mark: &Mark,
-) -> Option<Vec<ServedServer>> {
+) -> Option<Vec<FrontEndServer>> {
     let mut served_servers = Vec::new(alloc);
     let mark = mark.share().ok()?;
-    let served_server = ServedServer {
+    let served_server = FrontEndServer {
         listener,
         pools,
         mark,
-        output_permit: OutputPermit::loose(),
+        output_permit: OutputPermit::without_lease(),
     };
     served_servers.push(served_server).ok()?;
     Some(served_servers)

@@ -113,9 +113,9 @@ arrived l i j [] = l
 arrived l i j (m ∷ ms) = brought (with_channel l i j ms) j (From i m)
 
 -- server i puts the first of these replies, which it has left for seat c, into the queue of that seat
-abbrev pub mailed : Chain → ℕ → ℕ → Seat → List Reply → Chain
-mailed l i c s [] = l
-mailed l i c s (reply ∷ more) =
+abbrev pub reply_put : Chain → ℕ → ℕ → Seat → List Reply → Chain
+reply_put l i c s [] = l
+reply_put l i c s (reply ∷ more) =
     with_seat (with_running l i (record (l.servers i) { outbox = without_reply c (l.servers i).outbox })) c
     (record s { mail = s.mail ++ reply ∷ [] })
 
@@ -133,7 +133,7 @@ done l (Publishes i) = with_running l i (publishing (l.servers i))
 done l (Puts i j) = if (l.servers i).stopped then l else put l i j (messages_to j (l.servers i).outbox)
 done l (Arrives i j) = arrived l i j (l.channels i j)
 done l (Replies i c) =
-    if (l.servers i).stopped then l else mailed l i c (l.seats c) (replies_to c (l.servers i).outbox)
+    if (l.servers i).stopped then l else reply_put l i c (l.seats c) (replies_to c (l.servers i).outbox)
 done l (Receives c) = received l c (l.seats c) (l.seats c).mail
 done l (Looks c key) = looking l c key (l.seats c)
 done l (Stops i) = with_running l i (record (l.servers i) { stopped = true })

@@ -24,9 +24,9 @@ sent_from port l c call s =
     else l
 
 -- server i puts the first of these replies, which it has left for the port of seat c, into the queue of that seat
-abbrev pub mailed_from : ℕ → Chain → ℕ → ℕ → Seat → List Reply → Chain
-mailed_from port l i c s [] = l
-mailed_from port l i c s (reply ∷ more) =
+abbrev pub reply_put_from : ℕ → Chain → ℕ → ℕ → Seat → List Reply → Chain
+reply_put_from port l i c s [] = l
+reply_put_from port l i c s (reply ∷ more) =
     with_seat (with_running l i (record (l.servers i) { outbox = without_reply port (l.servers i).outbox })) c
     (record s { mail = s.mail ++ reply ∷ [] })
 
@@ -34,7 +34,7 @@ mailed_from port l i c s (reply ∷ more) =
 abbrev pub replying_from : ℕ → Chain → ℕ → ℕ → Seat → Chain
 replying_from port l i c s =
     if s.home == i && not (l.servers i).stopped
-    then mailed_from port l i c s (replies_to port (l.servers i).outbox)
+    then reply_put_from port l i c s (replies_to port (l.servers i).outbox)
     else l
 
 -- The moves with these ports. If server i takes an input of seat p, p is a port there.

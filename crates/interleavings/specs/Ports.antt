@@ -32,5 +32,5 @@ abbrev pub renamed : (ℕ → ℕ) → ServerState → ServerState
 renamed f s = record s { pend = map (with_port f) s.pend; asks = map (read_with_port f) s.asks }
 
 -- what a rule makes of it, likewise
-abbrev pub renamed_outcome : (ℕ → ℕ) → RuleResult → RuleResult
-renamed_outcome f a = record { state = renamed f a.state; outputs = map (output_to f) a.outputs }
+abbrev pub renamed_result : (ℕ → ℕ) → RuleResult → RuleResult
+renamed_result f a = record { state = renamed f a.state; outputs = map (output_to f) a.outputs }

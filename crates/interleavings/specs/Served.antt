@@ -93,14 +93,14 @@ abbrev pub reply_got : ServingChain → CallName → Option Reply
 reply_got s x = slice_get (s.connections x.seat x.number).replies x.ordinal
 
 -- A call of an order: its name, what it asks, and its reply.
-pub record ServedEntry : Type 0 where
+pub record ServedCall : Type 0 where
   pub id : CallName
   pub call : Call
   pub reply : Reply
 
 -- the call x stands at place i of the order
-pub record StandsThere (h : List ServedEntry) (i : ℕ) (x : CallName) : Type 0 where
-  pub entry : ServedEntry
+pub record StandsThere (h : List ServedCall) (i : ℕ) (x : CallName) : Type 0 where
+  pub entry : ServedCall
   pub here : slice_get h i ≡ Some entry
   pub named : entry.id ≡ x
 
@@ -112,12 +112,12 @@ pub record ComesBefore (does : Doing) (count : ℕ) (homes : List ℕ) (moves : 
   pub not_made : call_made (served does count homes (take k moves)) y ≡ None
 
 -- The order h is one of all connections' calls, if a move of the running chain does this:
-pub record IsOneOrder (does : Doing) (count : ℕ) (homes : List ℕ) (moves : List ServingMove) (h : List ServedEntry) :
+pub record IsOneOrder (does : Doing) (count : ℕ) (homes : List ℕ) (moves : List ServingMove) (h : List ServedCall) :
     Type 0 where
   -- each reply in it is that of a single table, after all calls before it;
   pub legal : IsLegal (map (λ e. (e.call, e.reply)) h)
   -- each of its calls is one that its connection made;
-  pub made : (i : ℕ) (e : ServedEntry)
+  pub made : (i : ℕ) (e : ServedCall)
       → slice_get h i ≡ Some e
       → call_made (served does count homes moves) e.id ≡ Some e.call
   -- no call stands in it twice;

@@ -14,10 +14,10 @@ ghost use Rattle.interleavings.specs.Orders.{IsLinearization};
 ghost use Rattle.interleavings.specs.Quiet.{IsQuiet, NoneForgotten};
 ghost use Rattle.interleavings.specs.OtherMoves.{Doing, IsLinearizationBy};
 ghost use Rattle.interleavings.specs.OwnPorts.{seats_at, port_at, with_own_ports};
-ghost use Rattle.interleavings.specs.Ports.{input_at, renamed, renamed_outcome};
+ghost use Rattle.interleavings.specs.Ports.{input_at, renamed, renamed_result};
 ghost use Rattle.interleavings.specs.Connections.{waits, may_have};
 ghost use Rattle.interleavings.specs.ServingMoves.{ServingMove, served_at, served};
-ghost use Rattle.interleavings.specs.Served.{unrefused, NoneRefused, IsServed, ServedEntry, IsOneOrder};
+ghost use Rattle.interleavings.specs.Served.{unrefused, NoneRefused, IsServed, ServedCall, IsOneOrder};
 ghost use Rattle.interleavings.specs.Served.{NoneUnanswered, AllHaveAll};
 ghost use Rattle.world.specs.Orders.{OrderedCall};
 
@@ -45,7 +45,7 @@ pub fn no_call_is_forgotten()
 /// its ports renamed, in what the server holds and in what it puts out.
 pub fn ports_are_names()
     ensures { (f : ℕ → ℕ) (s : ServerState) (input : Input)
-        → step (renamed f s) (input_at f input) ≡ renamed_outcome f (step s input) }
+        → step (renamed f s) (input_at f input) ≡ renamed_result f (step s input) }
 {}
 
 /// Seats may be numbered by each server for itself: every run of moves in which a seat's calls have the port that it
@@ -72,7 +72,7 @@ pub fn served_seats_may_have_own_ports()
     // There is one order of the calls of all connections.
     ensures order { (count : ℕ) (homes : List ℕ) (moves : List ServingMove)
         → count ≤ 16
-        → (h : List ServedEntry) × IsOneOrder (with_own_ports homes) count homes moves h }
+        → (h : List ServedCall) × IsOneOrder (with_own_ports homes) count homes moves h }
     // Each connection makes the calls that its bytes spell, but for stores that are refused, and is written the texts
     // of its turns.
     ensures bytes { (count : ℕ) (homes : List ℕ) (moves : List ServingMove) (c n : ℕ)
@@ -108,7 +108,7 @@ pub fn clients_see_one_table()
     // There is one order of the calls of all connections, in which a single table would have answered them.
     ensures order { (count : ℕ) (homes : List ℕ) (moves : List ServingMove)
         → count ≤ 16
-        → (h : List ServedEntry) × IsOneOrder done count homes moves h }
+        → (h : List ServedCall) × IsOneOrder done count homes moves h }
     // Each connection makes the calls that its bytes spell, in turn, but for stores that are refused. It is written the
     // texts of its turns, each call's with its reply or the line of a refusal: a beginning of them, and all of them
     // once no output is left and no turn can begin.

@@ -8,7 +8,7 @@ use Rattle.faces.specs.Histories.{Origin}
 use Rattle.rail.specs.declared.thread_handles.ThreadHandle.{ThreadHandle}
 use Rattle.rail.specs.Inlets.{InletState, LeadTo, inlet_at, inlets_from}
 use Rattle.rail.specs.Seats.{SeatState}
-use Rattle.rail.specs.Servers.{IsOpened, seat_at, seats_from, stand_at, thread_handles_from}
+use Rattle.rail.specs.Servers.{IsOpened, seat_at, seats_from, thread_handle_at, thread_handles_from}
 use Rattle.rail.specs.Workers.{WorkerState}
 use Rattle.seats.specs.Replies.{HasAllReplies}
 use Rattle.seats.specs.SeatPools.{Pooling}
@@ -19,7 +19,7 @@ all_at : (o : Origin) (b : TableId) (k n : ℕ)
     → All (λ (thread_handle : ThreadHandle). IsRepliedAt o thread_handle.seat) (thread_handles_from o b k n)
 all_at o b k zero = All-nil (λ (thread_handle : ThreadHandle). IsRepliedAt o thread_handle.seat)
 all_at o b k (suc n) =
-    All-cons (λ (thread_handle : ThreadHandle). IsRepliedAt o thread_handle.seat) (stand_at o b k)
+    All-cons (λ (thread_handle : ThreadHandle). IsRepliedAt o thread_handle.seat) (thread_handle_at o b k)
     (thread_handles_from o b (k + 1) n) (refl, refl)
     (all_at o b (k + 1) n)
 
@@ -42,8 +42,8 @@ module _ (node : NodeState) (readers more inlets : ℕ) (w : WorkerState) (besid
       let same : w.published.origin ≡ opened.origin = ap (λ (v : WorkerState). v.published.origin) opened.worker in
       let are : AreOf opened.origin beside others [] =
       record {
-        stands = subst (All (λ (thread_handle : ThreadHandle). IsRepliedAt opened.origin thread_handle.seat))
-            (sym opened.stands)
+        thread_handles = subst (All (λ (thread_handle : ThreadHandle). IsRepliedAt opened.origin thread_handle.seat))
+            (sym opened.thread_handles)
             (all_at opened.origin opened.inbox 0 readers);
         seats = subst (All (IsRepliedAt opened.origin)) (sym opened.seats)
             (all_seats_at opened.origin opened.inbox readers more);
@@ -61,8 +61,8 @@ module _ (node : NodeState) (readers more inlets : ℕ) (w : WorkerState) (besid
   opened_pools pools all = all w.published.origin opened_at
 
   -- there is a thread handle for each reader
-  pub opened_stands : length beside ≡ readers
-  opened_stands = ap length opened.stands ∙ length_from opened.origin opened.inbox 0 readers
+  pub opened_handles : length beside ≡ readers
+  opened_handles = ap length opened.thread_handles ∙ length_from opened.origin opened.inbox 0 readers
 
   -- its worker begins as the node
   pub opened_worker : BeginsAs node w
@@ -108,14 +108,14 @@ one_changed o pools after place pool all new same =
     (All-set (λ (p : Pooling). p.seen.origin ≡ o) pools place pool new all)
 
 -- no pool was made yet
-pub none_made : (o : Origin) (stands left : List ThreadHandle) (others : List SeatState) (pools : List Pooling)
-    → left ≡ stands
+pub none_made : (o : Origin) (thread_handles left : List ThreadHandle) (others : List SeatState) (pools : List Pooling)
+    → left ≡ thread_handles
     → pools ≡ []
-    → AreOf o stands others []
+    → AreOf o thread_handles others []
     → AreOf o left others pools
-none_made o stands left others pools same none are =
+none_made o thread_handles left others pools same none are =
     record {
-      stands = subst (All (λ (thread_handle : ThreadHandle). IsRepliedAt o thread_handle.seat)) (sym same) are.stands;
+      thread_handles = subst (All (λ (thread_handle : ThreadHandle). IsRepliedAt o thread_handle.seat)) (sym same) are.thread_handles;
       seats = are.seats;
       pools = subst (All (λ (pool : Pooling). pool.seen.origin ≡ o)) (sym none) are.pools;
     }
@@ -138,29 +138,29 @@ module _ (o : Origin) (thread_handle : ThreadHandle) (rest : List ThreadHandle) 
     (pools : List Pooling)
     (are : AreOf o (thread_handle ∷ rest) more pools) where
   -- the next thread handle is of this server
-  next_stand : IsRepliedAt o thread_handle.seat
-  next_stand = All-head (λ (s : ThreadHandle). IsRepliedAt o s.seat) thread_handle rest are.stands
+  next_handle : IsRepliedAt o thread_handle.seat
+  next_handle = All-head (λ (s : ThreadHandle). IsRepliedAt o s.seat) thread_handle rest are.thread_handles
 
   -- the pools are of the server of the next thread handle
   pub may_be_made : All (λ (pool : Pooling). pool.seen.origin ≡ thread_handle.seat.origin) pools
   may_be_made =
       All-weaker (λ (pool : Pooling). pool.seen.origin ≡ o)
       (λ (pool : Pooling). pool.seen.origin ≡ thread_handle.seat.origin)
-      (λ pool same. same ∙ sym next_stand.0) pools are.pools
+      (λ pool same. same ∙ sym next_handle.0) pools are.pools
 
   -- and it has all replies
   pub stand_replied : HasAllReplies thread_handle.seat
-  stand_replied = next_stand.1
+  stand_replied = next_handle.1
 
   -- and once its pool was made, all that are left are of this server
   pub was_made : (after : List Pooling) → All (λ (pool : Pooling). pool.seen.origin ≡ thread_handle.seat.origin) after
       → AreOf o rest more after
   was_made after given =
       record {
-        stands = All-tail (λ (s : ThreadHandle). IsRepliedAt o s.seat) thread_handle rest are.stands;
+        thread_handles = All-tail (λ (s : ThreadHandle). IsRepliedAt o s.seat) thread_handle rest are.thread_handles;
         seats = are.seats;
         pools = All-weaker (λ (pool : Pooling). pool.seen.origin ≡ thread_handle.seat.origin)
-            (λ (pool : Pooling). pool.seen.origin ≡ o) (λ pool same. same ∙ next_stand.0) after given;
+            (λ (pool : Pooling). pool.seen.origin ≡ o) (λ pool same. same ∙ next_handle.0) after given;
       }
 
 -- all thread handles have their pools: what is left are seats
@@ -168,7 +168,7 @@ pub all_made : (o : Origin) (left : List ThreadHandle) (more rest : List SeatSta
     → AreOf o left more pools → rest ≡ more → AreOf o [] rest pools
 all_made o left more rest pools are same =
     record {
-      stands = All-nil (λ (s : ThreadHandle). IsRepliedAt o s.seat);
+      thread_handles = All-nil (λ (s : ThreadHandle). IsRepliedAt o s.seat);
       seats = subst (All (IsRepliedAt o)) (sym same) are.seats;
       pools = are.pools;
     }
@@ -194,7 +194,7 @@ module _ (o : Origin) (seat : SeatState) (rest : List SeatState) (pools : List P
       → AreOf o [] rest after
   was_given after given =
       record {
-        stands = are.stands;
+        thread_handles = are.thread_handles;
         seats = All-tail (IsRepliedAt o) seat rest are.seats;
         pools = All-weaker (λ (pool : Pooling). pool.seen.origin ≡ seat.origin)
             (λ (pool : Pooling). pool.seen.origin ≡ o) (λ pool same. same ∙ next_seat.0) after given;

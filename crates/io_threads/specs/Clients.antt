@@ -14,7 +14,7 @@ use Rattle.io_threads.specs.declared.clients.Pause.TheVariants.{Turn, Socket, Se
 -- A connection with its socket: what has come of it, the bytes that the socket gave, and those that it took; whether
 -- memory was refused to what it gave last; whether the system said that nobody reads any more; and how many reads and
 -- writes of the socket have failed.
-pub record Visiting : Type 0 where
+pub record ClientState : Type 0 where
   pub client_connection : ClientConnectionState
   pub given : List ℕ
   pub taken : List ℕ
@@ -33,14 +33,14 @@ pub record HasPassed (before after : List ℕ) : Type 0 where
   pub is : after ≡ before ++ more
 
 -- A client waits for its socket
-pub data AwaitsSocket (v : Visiting) : Type 0 where
+pub data AwaitsSocket (v : ClientState) : Type 0 where
   -- if it wants input,
   Input : v.client_connection.standing ≡ Reading → AwaitsSocket v
   -- or output is due.
   Output : 0 < length v.client_connection.connected.due → AwaitsSocket v
 
 -- A client, of whose reads and writes this number had failed before, goes no further
-pub data IsPast (faults : ℕ) (v : Visiting) : Type 0 where
+pub data IsPast (faults : ℕ) (v : ClientState) : Type 0 where
   -- once memory was refused to what its socket gave,
   Refused : v.refused ≡ true → IsPast faults v
   -- nobody reads any more,
@@ -55,7 +55,7 @@ pub data IsPast (faults : ℕ) (v : Visiting) : Type 0 where
 -- It paused for this reason, and n of its reads and writes had failed before: others are to have their turn; it
 -- waits for its socket; its call waits for a seat; its call was sent; output is due, which the server may not put out;
 -- or it goes no further.
-abbrev pub HasPaused : Pause → ℕ → Visiting → Type 0
+abbrev pub HasPaused : Pause → ℕ → ClientState → Type 0
 HasPaused Turn faults v = Unit {0}
 HasPaused Socket faults v = AwaitsSocket v
 HasPaused Seat faults v = (call : Call) × (v.client_connection.standing ≡ Unsent call)

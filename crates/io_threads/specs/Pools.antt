@@ -20,7 +20,7 @@ AreAllAt origin pools = All (λ pool. pool.seen.origin ≡ origin) pools
 -- seats.
 pub record AreOf (origin : Origin) (left : List ThreadHandle) (more : List SeatState) (made : List Pooling) : Type
     0 where
-  pub stands : All (λ thread_handle. IsRepliedAt origin thread_handle.seat) left
+  pub thread_handles : All (λ thread_handle. IsRepliedAt origin thread_handle.seat) left
   pub seats : All (IsRepliedAt origin) more
   pub pools : All (λ pool. pool.seen.origin ≡ origin) made
 

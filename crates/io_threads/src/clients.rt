@@ -44,7 +44,7 @@ pub struct Ready {
 const PASSES: usize = 4;
 
 /// A client's connection with its socket. Contracts see what has come of the connection, the bytes that the socket gave
-/// and those that it took, and why it may go no further (`Visiting`). The type keeps that what the socket gave was fed,
+/// and those that it took, and why it may go no further (`ClientState`). The type keeps that what the socket gave was fed,
 /// unless memory was refused, and that what it took is what the connection counts as written.
 #[derive(Drop)]
 pub struct Client<S: Read + Write> {
@@ -68,9 +68,9 @@ impl<S: Read + Write> Model for Client<S> {
     ghost use Rattle.logbook.specs.Pages.{book_coded};
     ghost use Rattle.table.specs.Items.{coded_item};
     ghost use Rattle.versions.specs.Stores.{coded_items};
-    ghost use Rattle.io_threads.specs.Clients.{Visiting, IsPassed};
+    ghost use Rattle.io_threads.specs.Clients.{ClientState, IsPassed};
 
-    ghost Value = { Visiting };
+    ghost Value = { ClientState };
 
     ghost coded = { Prim.hlevel (codes, coded_item, coded_items, book_coded, table_id_coded) };
 

@@ -25,7 +25,7 @@ pub enum FrontEndFault {
     #[error("out of memory, threads or files")]
     Memory,
     /// The numbers are of no front end: some thread would have no seat, or there are too many servers.
-    #[error("no such front")]
+    #[error("no such front end")]
     Numbers,
 }
 
@@ -63,7 +63,7 @@ pub struct FrontEndSettings {
 /// One server of a front end: where its clients connect, the seats of each thread, the mark that is set as soon as it
 /// answers no more calls, and what may hold back its output.
 #[derive(Drop)]
-pub struct ServedServer {
+pub struct FrontEndServer {
     pub listener: TcpListener,
     pub pools: Vec<SeatPool>,
     pub mark: Mark,
@@ -90,7 +90,7 @@ pub fn open_front_end<
     turn_scheduler: &Arc<T, Global>,
     loop_handles: &Arc<LoopHandles, Global>,
     polls: Vec<Poll>,
-    served_servers: Vec<ServedServer>,
+    served_servers: Vec<FrontEndServer>,
 ) -> Result<FrontEnd, FrontEndFault> {
     if served_servers.len() > SERVERS {
         return Err(FrontEndFault::Numbers);
@@ -121,7 +121,7 @@ fn start<
     turn_scheduler: &Arc<T, Global>,
     loop_handles: &Arc<LoopHandles, Global>,
     polls: Vec<Poll>,
-    served_servers: Vec<ServedServer>,
+    served_servers: Vec<FrontEndServer>,
 ) -> Result<FrontEnd, FrontEndFault> {
     let threads = polls.len();
     let (entrances, table_parts) = furnish(alloc, settings, threads, served_servers)?;
@@ -182,13 +182,13 @@ fn furnish(
     alloc: Global,
     settings: FrontEndSettings,
     threads: usize,
-    served_servers: Vec<ServedServer>,
+    served_servers: Vec<FrontEndServer>,
 ) -> Result<(Vec<Entrance>, Vec<Vec<ConnectionTableParts>>), FrontEndFault> {
     let mut entrances = Vec::new(alloc);
     let mut table_parts = no_table_parts(alloc, threads)?;
     let mut id = 0u8;
     for served_server in served_servers {
-        let ServedServer {
+        let FrontEndServer {
             listener,
             pools,
             mark,

@@ -17,7 +17,7 @@ mod turn_schedulers;
 mod wait_queues;
 
 pub use clients::{Client, Pause, Ready};
-pub use front_ends::{FrontEnd, FrontEndFault, FrontEndSettings, ServedServer, open_front_end};
+pub use front_ends::{FrontEnd, FrontEndFault, FrontEndServer, FrontEndSettings, open_front_end};
 pub use limits::{most_files, open_files, usual_threads};
 pub use loop_handles::{LoopHandles, open_loop_handles};
 pub use pools::{Pooled, open_pools};

@@ -51,7 +51,7 @@ pub fn open_pools<R: Wait + Drop>(
 {
     let Server {
         worker,
-        stands,
+        thread_handles,
         seats: others,
         inlets,
     } = open(
@@ -63,7 +63,7 @@ pub fn open_pools<R: Wait + Drop>(
         inlets,
         Room::of_chain(inlets),
     )?;
-    match deal(alloc, stands, others, mark, gauge) {
+    match deal(alloc, thread_handles, others, mark, gauge) {
         Ok(pools) => Ok(Pooled {
             worker,
             pools,
@@ -81,18 +81,18 @@ pub fn open_pools<R: Wait + Drop>(
 // server that is, the pools are all of it.
 fn deal(
     alloc: Global,
-    stands: Vec<ThreadHandle>,
+    thread_handles: Vec<ThreadHandle>,
     others: Vec<Seat>,
     mark: &Mark,
     gauge: &Gauge,
 ) -> Result<Vec<SeatPool>, AllocError>
-    requires server { (o : Origin) × AreOf o stands.items others.items [] }
+    requires server { (o : Origin) × AreOf o thread_handles.items others.items [] }
     ensures server { IfOk result
-        (λ pools. (o : Origin) → AreOf o stands.items others.items [] → AreAllAt o pools.items) }
-    ensures count { IfOk result (λ pools. vec_len pools ≡ vec_len stands) }
+        (λ pools. (o : Origin) → AreOf o thread_handles.items others.items [] → AreAllAt o pools.items) }
+    ensures count { IfOk result (λ pools. vec_len pools ≡ vec_len thread_handles) }
 {
     let mut pools = Vec::new(alloc);
-    for thread_handle in stands {
+    for thread_handle in thread_handles {
         add_pool(alloc, &mut pools, thread_handle, mark, gauge)?;
     }
     let mut next = 0usize;

@@ -3,7 +3,7 @@ pub mod Looks
 pub mod Holders
 pub mod Tellings
 pub mod Whole
-pub mod Warding
+pub mod Recording
 pub mod Runs
 pub mod Served
 pub mod Late

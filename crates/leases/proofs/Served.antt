@@ -12,7 +12,7 @@ use Rattle.leases.specs.Runs.{TimedOrder, At, timed_orders_by, lease_after, IsRu
 use Rattle.leases.specs.Serving.{HasToldOf, IsSent, IsServed}
 use Rattle.leases.proofs.Holders.{held_by_a_beat, learned_while_held, term-learned, end-learned}
 use Rattle.leases.proofs.Runs.{Placed, placed, before_its_end}
-use Rattle.leases.proofs.Warding.{told_for_beat}
+use Rattle.leases.proofs.Recording.{told_for_beat}
 
 -- one timed order more
 one_more : (clock : Clock) (es : List TimedOrder) (x : ℕ) (order : Order) (gone : ℕ) (lease : LeaseState)

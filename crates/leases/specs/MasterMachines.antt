@@ -128,8 +128,8 @@ abbrev pub may_claim : MasterMachineState → ℕ → Bool
 may_claim m now = is_due m.claim (has_all m.met m.chain) now
 
 -- it has taken this epoch, and each server record begins anew in it
-abbrev pub crowned : MasterMachineState → ℕ → ℕ → MasterMachineState
-crowned m epoch now = record m { claim = claimed m.claim epoch now; server_records = all_begun m.server_records epoch }
+abbrev pub epoch_taken : MasterMachineState → ℕ → ℕ → MasterMachineState
+epoch_taken m epoch now = record m { claim = claimed m.claim epoch now; server_records = all_begun m.server_records epoch }
 
 -- a server does nothing more
 abbrev pub given_up : MasterMachineState → ℕ → MasterMachineState

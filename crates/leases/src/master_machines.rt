@@ -20,7 +20,7 @@ ghost use Rattle.leases.specs.MasterMachines.{
   stood_down,
   told,
   may_claim,
-  crowned,
+  epoch_taken,
   given_up,
 };
 ghost use Rattle.leases.specs.MasterMachines.{all_spared, patience_of, is_late, is_cut_off, sparing, attended};
@@ -174,7 +174,7 @@ impl MasterMachine {
         ensures due { IfSome result (λ epoch. may_claim self.old now ≡ true) }
         ensures above { IfSome result (λ epoch. self.old.claim.highest < epoch) }
         ensures own { IfSome result (λ epoch. epoch % 2 ^ 32 ≡ self.old.claim.name) }
-        ensures state { IfSome result (λ epoch. self.new ≡ crowned self.old epoch now) }
+        ensures state { IfSome result (λ epoch. self.new ≡ epoch_taken self.old epoch now) }
         ensures none { IfNone result (self.new ≡ self.old) }
         ensures missed { IfNone result (may_claim self.old now ≡ true → 2 ^ 64 ≤ self.old.claim.highest + 2 ^ 32) }
     {

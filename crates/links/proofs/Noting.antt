@@ -21,15 +21,15 @@ named_by true j id report h e = subst (λ k. k < 16) (same_id j id e) h
 named_by false j id report h e = absurd cc
 
 -- whom an order's notice names, a set can have
-pub noted_has_inlet : (lease : LeaseState) (order : Order) (gone now id : ℕ)
+pub noted_fits_set : (lease : LeaseState) (order : Order) (gone now id : ℕ)
     → NamesServer order
     → answer_to lease order gone now ≡ Notes id
     → id < 16
-noted_has_inlet lease (Reign epoch) gone now id h e = absurd cc
-noted_has_inlet lease (Beat epoch stamp) gone now id h e = absurd cc
-noted_has_inlet lease (Silent epoch j) gone now id h e =
+noted_fits_set lease (Reign epoch) gone now id h e = absurd cc
+noted_fits_set lease (Beat epoch stamp) gone now id h e = absurd cc
+noted_fits_set lease (Silent epoch j) gone now id h e =
     named_by (nat_eq epoch lease.epoch) j id (report_of (heeded lease (Silent epoch j) gone now) gone now) h e
-noted_has_inlet lease (Gone j) gone now id h e = subst (λ k. k < 16) (same_id j id e) h
+noted_fits_set lease (Gone j) gone now id h e = subst (λ k. k < 16) (same_id j id e) h
 
 silence_named : (own : Bool) (id j : ℕ) (report : Report)
     → answer_with (if own then Some id else None) report ≡ Notes j

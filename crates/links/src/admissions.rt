@@ -74,7 +74,7 @@ impl PeerAdmission {
 
     /// What the server does with an order of a master and answers to it, when its clock shows `now`. A notice is noted
     /// here before any other order is heard, so that no answer hides what the server was told.
-    #[tactic(auto, using(crate::proofs::Noting::noted_has_inlet))]
+    #[tactic(auto, using(crate::proofs::Noting::noted_fits_set))]
     pub fn hear(&mut self, order: Order, now: u64) -> Answer
         requires server { NamesServer order }
         ensures answer { result ≡ answer_to self.old.lease order self.old.gone now }

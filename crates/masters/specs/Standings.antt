@@ -1,14 +1,14 @@
 -- A master that watches: how a server stands with it, and what is due if the server is seen so (this project's rule).
 use Rattle.std.specs.Prelude.{ℕ, Bool, true, false, Option, None, Some, nat_eq, if◌then◌else◌}
-use Rattle.masters.specs.declared.standings.WatchedStanding.{WatchedStanding}
-use Rattle.masters.specs.declared.standings.WatchedStanding.TheVariants.{Unmet, Watched, Lost, Gone}
+use Rattle.masters.specs.declared.standings.ReachStanding.{ReachStanding}
+use Rattle.masters.specs.declared.standings.ReachStanding.TheVariants.{Unmet, Watched, Lost, Gone}
 use Rattle.masters.specs.declared.standings.Observation.{Observation}
 use Rattle.masters.specs.declared.standings.Observation.TheVariants.{Stands, Accepted, Refused, Replaced, Unreached}
 use Rattle.masters.specs.declared.standings.Reaction.{Reaction}
 use Rattle.masters.specs.declared.standings.Reaction.TheVariants.{Wait, TellMet, TellLost, CallGone}
 
 -- it was reached, and wasn't called gone
-abbrev pub is_watched : WatchedStanding → Bool
+abbrev pub is_watched : ReachStanding → Bool
 is_watched Unmet = false
 is_watched Watched = true
 is_watched Lost = true
@@ -39,14 +39,14 @@ met_due unreached Replaced = CallGone
 met_due unreached Unreached = unreached
 
 -- what is due
-abbrev pub due : WatchedStanding → Observation → Reaction
+abbrev pub due : ReachStanding → Observation → Reaction
 due Unmet observation = unmet_due observation
 due Watched observation = met_due TellLost observation
 due Lost observation = met_due Wait observation
 due Gone observation = Wait
 
 -- how the server stands once that was done
-abbrev pub standing_after : WatchedStanding → Reaction → WatchedStanding
+abbrev pub standing_after : ReachStanding → Reaction → ReachStanding
 standing_after standing Wait = standing
 standing_after standing TellMet = Watched
 standing_after standing TellLost = Lost

@@ -4,7 +4,7 @@ ghost use Rattle.masters.specs.Standings.{due, has_ended, is_watched, seen_as, s
 
 /// How a server stands with a master that watches.
 #[derive(Clone, Copy, PartialEq, Eq)]
-pub(crate) enum WatchedStanding {
+pub(crate) enum ReachStanding {
     /// It was never reached.
     Unmet,
     /// It was reached, and nothing was told since.
@@ -45,42 +45,42 @@ pub(crate) enum Reaction {
 
 /// What is due if a server that stood so is seen so. It is called gone if it was reached and its process has ended, and
 /// in no other case.
-pub(crate) fn due(standing: WatchedStanding, observation: Observation) -> Reaction
+pub(crate) fn due(standing: ReachStanding, observation: Observation) -> Reaction
     ensures reaction { result ≡ due standing observation }
     ensures gone { (result ≡ Reaction.CallGone) ↔ ((is_watched standing ≡ true) × (has_ended observation ≡ true)) }
 {
     match standing {
-        WatchedStanding::Unmet => match observation {
+        ReachStanding::Unmet => match observation {
             Observation::Accepted => Reaction::TellMet,
             Observation::Stands
             | Observation::Refused
             | Observation::Replaced
             | Observation::Unreached => Reaction::Wait,
         },
-        WatchedStanding::Watched => match observation {
+        ReachStanding::Watched => match observation {
             Observation::Stands => Reaction::Wait,
             Observation::Accepted => Reaction::TellMet,
             Observation::Refused | Observation::Replaced => Reaction::CallGone,
             Observation::Unreached => Reaction::TellLost,
         },
-        WatchedStanding::Lost => match observation {
+        ReachStanding::Lost => match observation {
             Observation::Accepted => Reaction::TellMet,
             Observation::Refused | Observation::Replaced => Reaction::CallGone,
             Observation::Stands | Observation::Unreached => Reaction::Wait,
         },
-        WatchedStanding::Gone => Reaction::Wait,
+        ReachStanding::Gone => Reaction::Wait,
     }
 }
 
 /// How the server stands once that was done.
-pub(crate) fn standing_after(standing: WatchedStanding, reaction: Reaction) -> WatchedStanding
+pub(crate) fn standing_after(standing: ReachStanding, reaction: Reaction) -> ReachStanding
     ensures { result ≡ standing_after standing reaction }
 {
     match reaction {
         Reaction::Wait => standing,
-        Reaction::TellMet => WatchedStanding::Watched,
-        Reaction::TellLost => WatchedStanding::Lost,
-        Reaction::CallGone => WatchedStanding::Gone,
+        Reaction::TellMet => ReachStanding::Watched,
+        Reaction::TellLost => ReachStanding::Lost,
+        Reaction::CallGone => ReachStanding::Gone,
     }
 }
 

@@ -5,7 +5,7 @@ use crate::command::TellFault;
 use crate::conversations::converse;
 use crate::greetings::{Channel, Greeted, greet};
 use crate::news::{News, NewsSender};
-use crate::standings::{Observation, Reaction, WatchedStanding, due, seen_as, standing_after};
+use crate::standings::{Observation, ReachStanding, Reaction, due, seen_as, standing_after};
 use crossbeam_channel::Receiver;
 use ends::TrackedWriter;
 use leases::Order;
@@ -48,7 +48,7 @@ pub(crate) struct Watcher {
     news_sender: NewsSender,
     // So long it waits for the connection's end, and so long it pauses between two tries to connect.
     beat: Duration,
-    standing: WatchedStanding,
+    standing: ReachStanding,
     // The number of the server's start, once it was reached, and who is gone as far as it knows.
     start: Option<u64>,
     gone: u16,
@@ -77,8 +77,8 @@ impl Watcher {
             news_sender,
             beat,
             standing: match start {
-                Some(_) => WatchedStanding::Watched,
-                None => WatchedStanding::Unmet,
+                Some(_) => ReachStanding::Watched,
+                None => ReachStanding::Unmet,
             },
             start,
             gone: 0,
@@ -114,7 +114,7 @@ impl Watcher {
                     return;
                 }
             }
-            if self.standing == WatchedStanding::Gone {
+            if self.standing == ReachStanding::Gone {
                 return;
             }
             if self.stream.is_none() {
@@ -170,7 +170,7 @@ impl Watcher {
                 .put(rt, News::Broken(self.watched_server.id));
         }
         drop(mem::replace(frames, Frames::new(self.alloc)));
-        if self.standing == WatchedStanding::Watched {
+        if self.standing == ReachStanding::Watched {
             self.open_soon(rt)
         } else {
             self.open(rt)

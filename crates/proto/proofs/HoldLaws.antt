@@ -215,9 +215,9 @@ refused_passed : (h : Held) (asked : Option Form)
 refused_passed h None is = is
 refused_passed h (Some form) is = is
 
-acted_passed : (run : Run) (call_made : SessionCall)
+acted_passed : (run : Run) (session_call : SessionCall)
     → IsPassed run.held.skipped_block run.held.unread
-    → IsPassed (acted run call_made).held.skipped_block (acted run call_made).held.unread
+    → IsPassed (acted run session_call).held.skipped_block (acted run session_call).held.unread
 acted_passed run (Feed piece) is = fed_passed run.held piece is
 acted_passed run Next is = (next_leaves run.held is).passed
 acted_passed run (Answer reply) is = answered_passed run.held run.held.asked reply is
@@ -226,7 +226,7 @@ acted_passed run (Take n) is = is
 
 passed_along : (run : Run) → IsRun run → IsPassed run.held.skipped_block run.held.unread
 passed_along run Opens = tt
-passed_along run (Acts earlier call_made is allowed) = acted_passed earlier call_made (passed_along earlier is)
+passed_along run (Acts earlier session_call is allowed) = acted_passed earlier session_call (passed_along earlier is)
 
 -- along every run an open session with no turn to give holds less than a line and the largest block
 pub holds_little : (run : Run)

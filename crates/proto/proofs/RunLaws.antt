@@ -19,7 +19,7 @@ given_first : (given : List Turn) (turn : Option Turn) (later : List Turn)
 given_first given None later = ap (λ ts. ts ++ later) (append-nil given)
 given_first given (Some turn) later = append_assoc given (turn ∷ []) later
 
-acted_tells : (run : Run) (call_made : SessionCall) → TellsAll run → TellsAll (acted run call_made)
+acted_tells : (run : Run) (session_call : SessionCall) → TellsAll run → TellsAll (acted run session_call)
 acted_tells run (Feed piece) all = record {
   turns = λ more. ap (λ h. run.given ++ to_come h) (fed_twice run.held piece more)
       ∙ (all.turns (piece ++ more) ∙ ap turns (sym (append_assoc run.stream piece more)));
@@ -46,7 +46,7 @@ acted_tells run (Take n) all = record {
 
 tells_all : (run : Run) → IsRun run → TellsAll run
 tells_all run Opens = record { turns = λ more. refl; end = λ more. refl }
-tells_all run (Acts earlier call_made is allowed) = acted_tells earlier call_made (tells_all earlier is)
+tells_all run (Acts earlier session_call is allowed) = acted_tells earlier session_call (tells_all earlier is)
 
 -- the turns that were given and those that are still to come are those of all the bytes
 pub any_cutting : (run : Run) → IsRun run → run.given ++ to_come run.held ≡ turns run.stream

@@ -82,11 +82,11 @@ fed_written h piece ts os taken is = by_closed h.closed refl
     by_closed true e = rw e is
     by_closed false e = rw e is
 
-acted_written : (run : Run) (call_made : SessionCall)
-    → IsAllowed run.held call_made
+acted_written : (run : Run) (session_call : SessionCall)
+    → IsAllowed run.held session_call
     → IsWritten run.held.asked run.given run.outcomes (run.taken ++ run.held.out)
-    → IsWritten (acted run call_made).held.asked (acted run call_made).given (acted run call_made).outcomes
-    ((acted run call_made).taken ++ (acted run call_made).held.out)
+    → IsWritten (acted run session_call).held.asked (acted run session_call).given (acted run session_call).outcomes
+    ((acted run session_call).taken ++ (acted run session_call).held.out)
 acted_written run (Feed piece) allowed is = fed_written run.held piece run.given run.outcomes run.taken is
 acted_written run Next allowed is = next_written run.held (next_of run.held) run.given run.outcomes run.taken allowed
     (next_writes run.held) (rw allowed at is)
@@ -102,7 +102,7 @@ acted_written run (Take n) allowed is =
 
 written : (run : Run) → IsRun run → IsWritten run.held.asked run.given run.outcomes (run.taken ++ run.held.out)
 written run Opens = (refl, refl)
-written run (Acts earlier call_made is allowed) = acted_written earlier call_made allowed (written earlier is)
+written run (Acts earlier session_call is allowed) = acted_written earlier session_call allowed (written earlier is)
 
 by_asked_texts : (asked : Option Form) (ts : List Turn) (os : List Outcome) (bytes : List ℕ)
     → IsWritten asked ts os bytes

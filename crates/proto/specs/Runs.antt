@@ -57,7 +57,7 @@ IsAllowed h (Take n) = n ≤ length h.out
 -- This has come of a run from a new session, each session call of which was allowed when it was made.
 pub data IsRun : Run → Type 0 where
   Opens : IsRun opening_run
-  Acts : (run : Run) (call_made : SessionCall) → IsRun run → IsAllowed run.held call_made → IsRun (acted run call_made)
+  Acts : (run : Run) (session_call : SessionCall) → IsRun run → IsAllowed run.held session_call → IsRun (acted run session_call)
 
 -- how many calls are open
 abbrev pub open_calls : Option Form → ℕ

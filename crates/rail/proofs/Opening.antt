@@ -15,7 +15,7 @@ use Rattle.rail.specs.Inlets.{InletState, inlet_at, inlets_from}
 use Rattle.rail.specs.NotedReplies.{ReplySenderState, reply_sender_at}
 use Rattle.rail.specs.Seats.{SeatState}
 use Rattle.rail.specs.Turns.{AreReplySenders}
-use Rattle.rail.specs.Servers.{history_at, reply_senders_from, seat_at, seats_from, stand_at, thread_handles_from}
+use Rattle.rail.specs.Servers.{history_at, reply_senders_from, seat_at, seats_from, thread_handle_at, thread_handles_from}
 
 pub more_reply_senders : (o : Origin) (k n m : ℕ) → m ≡ k + n
     → reply_senders_from o k (n + 1) ≡ reply_senders_from o k n ++ reply_sender_at o m ∷ []
@@ -27,11 +27,11 @@ more_reply_senders o k (suc n) m is =
 
 pub more_thread_handles : (o : Origin) (b : TableId) (k n m : ℕ)
     → m ≡ k + n
-    → thread_handles_from o b k (n + 1) ≡ thread_handles_from o b k n ++ stand_at o b m ∷ []
-more_thread_handles o b k zero m is = ap (λ (j : ℕ). stand_at o b j ∷ []) (let e : k ≡ m = omega (arith, is) in e)
+    → thread_handles_from o b k (n + 1) ≡ thread_handles_from o b k n ++ thread_handle_at o b m ∷ []
+more_thread_handles o b k zero m is = ap (λ (j : ℕ). thread_handle_at o b j ∷ []) (let e : k ≡ m = omega (arith, is) in e)
 more_thread_handles o b k (suc n) m is =
     let e : suc n + 1 ≡ suc (n + 1) = omega arith in
-    ap (thread_handles_from o b k) e ∙ ap (λ (ps : List ThreadHandle). stand_at o b k ∷ ps)
+    ap (thread_handles_from o b k) e ∙ ap (λ (ps : List ThreadHandle). thread_handle_at o b k ∷ ps)
     (more_thread_handles o b (k + 1) n m (omega (arith, is)))
 
 pub seats_more : (o : Origin) (b : TableId) (k n m : ℕ)
@@ -76,7 +76,7 @@ idle_below n ports idle = λ port reads above. idle-none_open n port reads idle
 pub is_thread_handle_at : (o : Origin) (b : TableId) (k : ℕ) (s : ThreadHandle)
     → s.reader ≡ yet_to_look (history_at o)
     → s.seat ≡ seat_at o b k
-    → s ≡ stand_at o b k
+    → s ≡ thread_handle_at o b k
 is_thread_handle_at o b k s reader seat = λ i. record {
   reader = reader i;
   seat = seat i;

@@ -29,13 +29,13 @@ seats_from o b k zero = []
 seats_from o b k (suc n) = seat_at o b k ∷ seats_from o b (k + 1) n
 
 -- a reader that has seen no input and hasn't looked, and the seat of port k before any call
-abbrev pub stand_at : Origin → TableId → ℕ → ThreadHandle
-stand_at o b k = record { reader = yet_to_look (history_at o); seat = seat_at o b k; together = refl }
+abbrev pub thread_handle_at : Origin → TableId → ℕ → ThreadHandle
+thread_handle_at o b k = record { reader = yet_to_look (history_at o); seat = seat_at o b k; together = refl }
 
 -- the thread handles of n ports, from port k on
 abbrev pub thread_handles_from : Origin → TableId → ℕ → ℕ → List ThreadHandle
 thread_handles_from o b k zero = []
-thread_handles_from o b k (suc n) = stand_at o b k ∷ thread_handles_from o b (k + 1) n
+thread_handles_from o b k (suc n) = thread_handle_at o b k ∷ thread_handles_from o b (k + 1) n
 
 -- A worker, thread handles, more seats and inlets of one running server, which begins as this node, before any input.
 -- The seats have the ports after those of the thread handles. All of them send to the worker's inbox, each by its port
@@ -52,6 +52,6 @@ pub record IsOpened (node : NodeState) (readers more inlets : ℕ) (w : WorkerSt
     goes = true;
     reply_senders = reply_senders_from origin 0 (readers + more);
   }
-  pub stands : beside ≡ thread_handles_from origin inbox 0 readers
+  pub thread_handles : beside ≡ thread_handles_from origin inbox 0 readers
   pub seats : others ≡ seats_from origin inbox readers more
   pub brought_by : brought ≡ inlets_from inbox (readers + more) inlets

@@ -32,27 +32,27 @@ pub struct InboxKnowledge {
 }
 
 /// The rule of the inbox.
-pub struct InOrder;
+pub struct InboxRule;
 
-impl Protocol<Envelope, InboxKnowledge> for InOrder {
+impl Protocol<Envelope, InboxKnowledge> for InboxRule {
     ghost holds = { Delivers };
 
     ghost first = { taker 0 0 [] };
 }
 
 /// One more sender of calls, at one more port.
-pub struct AddsCaller;
+pub struct AddsSeat;
 
-impl Split<InboxKnowledge> for AddsCaller {
+impl Split<InboxKnowledge> for AddsSeat {
     ghost left = { λ v. taker (v.made + 1) (v.ports + 1) v.got };
 
     ghost right = { λ v. sender v.made (v.ports + 1) [] };
 }
 
 /// One more sender, of no calls.
-pub struct AddsBringer;
+pub struct AddsInlet;
 
-impl Split<InboxKnowledge> for AddsBringer {
+impl Split<InboxKnowledge> for AddsInlet {
     ghost left = { λ v. taker (v.made + 1) v.ports v.got };
 
     ghost right = { λ v. sender v.made 0 [] };
@@ -80,9 +80,9 @@ impl Lesson<Envelope, InboxKnowledge> for TakesOne {
     ghost fact = { λ v items. Unit {0} };
 }
 
-pub type InboxSender = RuledSender<Envelope, InboxKnowledge, InOrder>;
+pub type InboxSender = RuledSender<Envelope, InboxKnowledge, InboxRule>;
 
-pub type InboxReceiver = RuledReceiver<Envelope, InboxKnowledge, InOrder>;
+pub type InboxReceiver = RuledReceiver<Envelope, InboxKnowledge, InboxRule>;
 
 /// One sender of the inbox, with its pass.
 #[derive(Drop)]
@@ -121,7 +121,7 @@ impl InboxBuilder {
         ensures pass { IfOk result (λ g. view g.pass ≡ taker 0 0 []) }
         ensures room { IfOk result (λ g. ruled_capacity (sends_on g.to) ≡ room.messages) }
     {
-        let (to, inbox, pass) = bounded_with::<Envelope, InboxKnowledge, InOrder, Global>(
+        let (to, inbox, pass) = bounded_with::<Envelope, InboxKnowledge, InboxRule, Global>(
             alloc,
             room.messages,
         )?;
@@ -145,7 +145,7 @@ impl InboxBuilder {
     {
         let to = self.to.try_clone()?;
         let from = self.made;
-        let pass = self.to.another::<AddsCaller>(&mut self.pass);
+        let pass = self.to.another::<AddsSeat>(&mut self.pass);
         self.made = from + 1;
         Ok(Slot { from, to, pass })
     }
@@ -161,7 +161,7 @@ impl InboxBuilder {
     {
         let to = self.to.try_clone()?;
         let from = self.made;
-        let pass = self.to.another::<AddsBringer>(&mut self.pass);
+        let pass = self.to.another::<AddsInlet>(&mut self.pass);
         self.made = from + 1;
         Ok(Slot { from, to, pass })
     }

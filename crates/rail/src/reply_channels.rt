@@ -30,9 +30,9 @@ pub struct ReplyKnowledge {
 }
 
 /// The rule of a seat's replies.
-pub struct InTurn;
+pub struct ReplyRule;
 
-impl Protocol<ReplyMessage, ReplyKnowledge> for InTurn {
+impl Protocol<ReplyMessage, ReplyKnowledge> for ReplyRule {
     ghost holds = { IsReplyQueue };
 
     ghost first = { unknowing };
@@ -85,9 +85,9 @@ impl Lesson<ReplyMessage, ReplyKnowledge> for Gets {
     ghost fact = { λ v items. Unit {0} };
 }
 
-pub type ReplyMessageSender = RuledSender<ReplyMessage, ReplyKnowledge, InTurn>;
+pub type ReplyMessageSender = RuledSender<ReplyMessage, ReplyKnowledge, ReplyRule>;
 
-pub type ReplyMessageReceiver = RuledReceiver<ReplyMessage, ReplyKnowledge, InTurn>;
+pub type ReplyMessageReceiver = RuledReceiver<ReplyMessage, ReplyKnowledge, ReplyRule>;
 
 /// The worker's end of a seat's replies. Contracts see whose they are, what was put, whether one may have been handed
 /// back, and whether the end is held (`ReplySenderState`).
@@ -159,7 +159,7 @@ pub fn open(
     ensures reply_receiver { IfOk result
         (λ r. view r.1.pass ≡ taker (record { origin = published.now.origin; port = port }) []) }
 {
-    let (to, from, mut putting) = bounded_with::<ReplyMessage, ReplyKnowledge, InTurn, Global>(
+    let (to, from, mut putting) = bounded_with::<ReplyMessage, ReplyKnowledge, ReplyRule, Global>(
         alloc, room,
     )?;
     let getting = address::<Brand>(&to, &mut putting, published, port);

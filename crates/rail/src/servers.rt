@@ -13,7 +13,7 @@ ghost use Rattle.rail.specs.Servers.{
   reply_senders_from,
   seat_at,
   seats_from,
-  stand_at,
+  thread_handle_at,
   thread_handles_from,
 };
 
@@ -36,7 +36,7 @@ use std::sync::Wait;
 #[derive(Drop)]
 pub struct Server<R: Wait + Drop> {
     pub worker: Worker<R>,
-    pub stands: Vec<ThreadHandle>,
+    pub thread_handles: Vec<ThreadHandle>,
     pub seats: Vec<Seat>,
     pub inlets: Vec<Inlet>,
 }
@@ -59,7 +59,7 @@ pub fn open<R: Wait + Drop>(
     requires inlets { (1 ≤ inlets) × (inlets ≤ 16) }
     requires idle { is_idle node ≡ true }
     ensures { MatchResult result
-        (λ s. IsOpened node readers more inlets s.worker s.stands.items s.seats.items s.inlets.items)
+        (λ s. IsOpened node readers more inlets s.worker s.thread_handles.items s.seats.items s.inlets.items)
         (λ fault. (fault ≡ RailFault.Memory) ⊎ (fault ≡ RailFault.NoReader)) }
 {
     hold_lawful(&node);
@@ -76,11 +76,11 @@ pub fn open<R: Wait + Drop>(
         more,
         inlets,
     ) {
-        Ok((stands, seats, reply_senders, inlets)) => {
+        Ok((thread_handles, seats, reply_senders, inlets)) => {
             let worker = Worker::new(rt, inbox_builder.close(), publisher, reply_senders);
             Ok(Server {
                 worker,
-                stands,
+                thread_handles,
                 seats,
                 inlets,
             })
@@ -117,7 +117,7 @@ fn beside(
     ensures inbox_builder { IfOk result
         (λ _. ((view inbox_builder.new.pass).ports ≡ readers + more) × ((view inbox_builder.new.pass).got ≡ [])) }
     ensures inbox { OnOk result (inbox_builder.new.pass.table_id ≡ inbox_builder.old.pass.table_id) }
-    ensures stands { IfOk result
+    ensures thread_handles { IfOk result
         (λ r. r.0.items ≡ thread_handles_from publisher.old.published.origin inbox_builder.old.pass.table_id 0
         readers) }
     ensures seats { IfOk result
@@ -127,7 +127,12 @@ fn beside(
     ensures inlets { IfOk result (λ r. r.3.items ≡ inlets_from inbox_builder.old.pass.table_id (readers + more) inlets) }
     ensures fault { IfErr result (λ fault. (fault ≡ RailFault.Memory) ⊎ (fault ≡ RailFault.NoReader)) }
 {
-    let (stands, mut reply_senders) = all_thread_handles(alloc, publisher, inbox_builder, readers)?;
+    let (thread_handles, mut reply_senders) = all_thread_handles(
+        alloc,
+        publisher,
+        inbox_builder,
+        readers,
+    )?;
     let seats = more_seats(
         alloc,
         publisher.published(),
@@ -137,7 +142,7 @@ fn beside(
         more,
     )?;
     let inlets = all_inlets(alloc, inbox_builder, inlets)?;
-    Ok((stands, seats, reply_senders, inlets))
+    Ok((thread_handles, seats, reply_senders, inlets))
 }
 
 // The thread handles of the first n ports, and their reply senders.
@@ -153,13 +158,13 @@ fn all_thread_handles(
     ensures publisher { publisher.new ≡ publisher.old }
     ensures inbox_builder { IfOk result (λ _. view inbox_builder.new.pass ≡ taker readers readers []) }
     ensures inbox { OnOk result (inbox_builder.new.pass.table_id ≡ inbox_builder.old.pass.table_id) }
-    ensures stands { IfOk result
+    ensures thread_handles { IfOk result
         (λ r. r.0.items ≡ thread_handles_from publisher.old.published.origin inbox_builder.old.pass.table_id 0
         readers) }
     ensures reply_senders { IfOk result (λ r. r.1.items ≡ reply_senders_from publisher.old.published.origin 0 readers) }
     ensures fault { IfErr result (λ fault. (fault ≡ RailFault.Memory) ⊎ (fault ≡ RailFault.NoReader)) }
 {
-    let mut stands = Vec::new(alloc);
+    let mut thread_handles = Vec::new(alloc);
     let mut reply_senders = Vec::new(alloc);
     for port in 0..readers {
         let (thread_handle, reply_sender) = one_thread_handle(
@@ -168,10 +173,10 @@ fn all_thread_handles(
             inbox_builder,
             port,
         )?;
-        stands.push(thread_handle)?;
+        thread_handles.push(thread_handle)?;
         reply_senders.push(reply_sender)?;
     }
-    Ok((stands, reply_senders))
+    Ok((thread_handles, reply_senders))
 }
 
 // The thread handle of a port, and its reply sender.
@@ -187,7 +192,7 @@ fn one_thread_handle(
     ensures publisher { publisher.new ≡ publisher.old }
     ensures inbox_builder { IfOk result (λ _. view inbox_builder.new.pass ≡ taker (port + 1) (port + 1) []) }
     ensures inbox { OnOk result (inbox_builder.new.pass.table_id ≡ inbox_builder.old.pass.table_id) }
-    ensures thread_handle { IfOk result (λ r. r.0 ≡ stand_at publisher.old.published.origin
+    ensures thread_handle { IfOk result (λ r. r.0 ≡ thread_handle_at publisher.old.published.origin
         inbox_builder.old.pass.table_id port) }
     ensures reply_sender { IfOk result (λ r. r.1 ≡ reply_sender_at publisher.old.published.origin port) }
     ensures fault { IfErr result (λ fault. (fault ≡ RailFault.Memory) ⊎ (fault ≡ RailFault.NoReader)) }
@@ -223,7 +228,7 @@ fn thread_handle_of(
     requires first { published.now.inputs ≡ [] }
     ensures inbox_builder { IfOk result (λ _. view inbox_builder.new.pass ≡ taker (port + 1) (port + 1) []) }
     ensures inbox { OnOk result (inbox_builder.new.pass.table_id ≡ inbox_builder.old.pass.table_id) }
-    ensures thread_handle { IfOk result (λ r. r.0 ≡ stand_at published.now.origin inbox_builder.old.pass.table_id port) }
+    ensures thread_handle { IfOk result (λ r. r.0 ≡ thread_handle_at published.now.origin inbox_builder.old.pass.table_id port) }
     ensures reply_sender { IfOk result (λ r. r.1 ≡ reply_sender_at published.now.origin port) }
 {
     let (seat, reply_sender) = one_seat(alloc, published, inbox_builder, port)?;

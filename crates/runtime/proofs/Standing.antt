@@ -10,7 +10,7 @@ use Rattle.rail.specs.Workers.{WorkerState}
 use Rattle.seats.specs.SeatPools.{Pooling}
 use Rattle.seats.specs.declared.in_process_links.InProcessLinks.{InProcessLinks}
 use Rattle.io_threads.specs.Pools.{BeginsAs}
-use Rattle.io_threads.specs.declared.front_ends.ServedServer.{ServedServer}
+use Rattle.io_threads.specs.declared.front_ends.FrontEndServer.{FrontEndServer}
 use Rattle.runtime.specs.declared.server_parts.Opened.{Opened}
 use Rattle.runtime.specs.declared.server_parts.ServerParts.{ServerParts}
 use Rattle.runtime.specs.Wiring.{AreSeatedFrom, ArePartsOf, Core, HasOwnPools, core_of, cores_of, numbers, openings}
@@ -229,8 +229,8 @@ taken_all f whole made [] so_far none = sym (so_far ∙ append-nil made)
 taken_all f whole made (x ∷ xs) so_far none = absurd (omega (arith, none))
 
 -- one served server more
-pub served_servers_pushed : (served_servers more : List ServedServer) (served_server : ServedServer)
+pub served_servers_pushed : (served_servers more : List FrontEndServer) (served_server : FrontEndServer)
     → more ≡ served_servers ++ served_server ∷ []
     → pools_in more ≡ pools_in served_servers ++ served_server.pools.items ∷ []
 served_servers_pushed served_servers more served_server pushed =
-    ap pools_in pushed ∙ map_pushed (λ (g : ServedServer). g.pools.items) served_servers served_server
+    ap pools_in pushed ∙ map_pushed (λ (g : FrontEndServer). g.pools.items) served_servers served_server

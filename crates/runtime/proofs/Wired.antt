@@ -7,26 +7,26 @@ use Rattle.seats.specs.declared.in_process_links.InboxLink.{InboxLink}
 use Rattle.seats.specs.declared.in_process_links.InProcessLinks.{InProcessLinks}
 use Rattle.runtime.specs.declared.server_parts.Opened.{Opened}
 use Rattle.runtime.specs.declared.server_parts.ServerParts.{ServerParts}
-use Rattle.runtime.specs.Wiring.{AreDealt, ArePartsOf, IsDealt, IsPartsOf, LeadsControl, all_inlets_in, inlets_in}
+use Rattle.runtime.specs.Wiring.{AreDealt, ArePartsOf, IsDealt, IsPartsOf, LeadsToOwnInbox, all_inlets_in, inlets_in}
 use Rattle.runtime.specs.Wiring.{inlets_of, list_at, listed}
 use Rattle.runtime.specs.Wiring.{numbers, senders}
 use Rattle.runtime.proofs.Dealt.{all_dealt_more, all_dealt_none, dealt_more, dealt_none, map_at, map_pushed, map_set}
 
 -- no server yet
-pub control_none : {R : Type 0} (servers : List (Opened R)) → servers ≡ []
-    → All (λ (s : Opened R). LeadsControl s) servers
-control_none {R} servers none =
-    All-same (λ (s : Opened R). LeadsControl s) servers [] none (All-nil (λ (s : Opened R). LeadsControl s))
+pub leads_none : {R : Type 0} (servers : List (Opened R)) → servers ≡ []
+    → All (λ (s : Opened R). LeadsToOwnInbox s) servers
+leads_none {R} servers none =
+    All-same (λ (s : Opened R). LeadsToOwnInbox s) servers [] none (All-nil (λ (s : Opened R). LeadsToOwnInbox s))
 
 -- one server more
-pub control_more : {R : Type 0} (before after : List (Opened R)) (server : Opened R)
-    → All (λ (s : Opened R). LeadsControl s) before
-    → LeadsControl server
+pub leads_more : {R : Type 0} (before after : List (Opened R)) (server : Opened R)
+    → All (λ (s : Opened R). LeadsToOwnInbox s) before
+    → LeadsToOwnInbox server
     → after ≡ before ++ server ∷ []
-    → All (λ (s : Opened R). LeadsControl s) after
-control_more {R} before after server all control pushed =
-    All-same (λ (s : Opened R). LeadsControl s) after (before ++ server ∷ []) pushed
-    (All-push (λ (s : Opened R). LeadsControl s) before server all control)
+    → All (λ (s : Opened R). LeadsToOwnInbox s) after
+leads_more {R} before after server all control pushed =
+    All-same (λ (s : Opened R). LeadsToOwnInbox s) after (before ++ server ∷ []) pushed
+    (All-push (λ (s : Opened R). LeadsToOwnInbox s) before server all control)
 
 -- no link yet
 pub links_none : {R : Type 0} (id : ℕ) (servers : List (Opened R)) (links : List InboxLink) → links ≡ []

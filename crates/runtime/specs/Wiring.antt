@@ -9,7 +9,7 @@ use Rattle.seats.specs.SeatPools.{Pooling}
 use Rattle.seats.specs.declared.gauges.Gauge.{Gauge}
 use Rattle.seats.specs.declared.marks.Mark.{Mark}
 use Rattle.io_threads.specs.Pools.{AreAllAt}
-use Rattle.io_threads.specs.declared.front_ends.ServedServer.{ServedServer}
+use Rattle.io_threads.specs.declared.front_ends.FrontEndServer.{FrontEndServer}
 use Rattle.seats.specs.declared.in_process_links.InboxLink.{InboxLink}
 use Rattle.seats.specs.declared.in_process_links.InProcessLinks.{InProcessLinks}
 use Rattle.runtime.specs.declared.controls.ServerControl.{ServerControl}
@@ -47,8 +47,8 @@ row zero f = []
 row (suc n) f = f zero ∷ row n (λ j. f (suc j))
 
 -- the inlets that a server has lead to its worker's inbox
-abbrev pub LeadsControl : {R : Type 0} → Opened R → Type 0
-LeadsControl server = LeadTo server.pooled.worker.inbox server.pooled.inlets.items
+abbrev pub LeadsToOwnInbox : {R : Type 0} → Opened R → Type 0
+LeadsToOwnInbox server = LeadTo server.pooled.worker.inbox server.pooled.inlets.items
 
 -- the inlets of each server that are left
 abbrev pub inlets_of : {R : Type 0} → List (Opened R) → List (List InletState)
@@ -158,5 +158,5 @@ abbrev pub pools_of : List ServerParts → List (List Pooling)
 pools_of servers_parts = map (λ parts. parts.pools.items) servers_parts
 
 -- the seats of each server that a front end serves, by threads
-abbrev pub pools_in : List ServedServer → List (List Pooling)
+abbrev pub pools_in : List FrontEndServer → List (List Pooling)
 pools_in served_servers = map (λ served_server. served_server.pools.items) served_servers

@@ -13,7 +13,7 @@ use crate::schedulers::Scheduler;
 use crate::server_parts::{ServerParts, all_links, all_parts, all_servers};
 use command_line::ClusterNumbers;
 use io_threads::{
-    FrontEnd, FrontEndSettings, LoopHandles, ServedServer, open_front_end, open_loop_handles,
+    FrontEnd, FrontEndServer, FrontEndSettings, LoopHandles, open_front_end, open_loop_handles,
 };
 use masters::keep_alive;
 use mio::Poll;
@@ -159,7 +159,7 @@ fn all_served_servers(
     alloc: Global,
     listeners: Vec<TcpListener>,
     servers_parts: Vec<ServerParts>,
-) -> Result<(Vec<ServerControl>, Vec<ServedServer>), ClusterFault>
+) -> Result<(Vec<ServerControl>, Vec<FrontEndServer>), ClusterFault>
     ensures controls { IfOk result (λ all. all.0.items ≡ controls_of servers_parts.items) }
     ensures pools { IfOk result (λ all. pools_in all.1.items ≡ pools_of servers_parts.items) }
 {
@@ -179,14 +179,14 @@ fn all_served_servers(
 }
 
 // Where the clients of a server without a lease come in.
-fn loose_served_server(listener: TcpListener, pools: Vec<SeatPool>, mark: Mark) -> ServedServer
+fn loose_served_server(listener: TcpListener, pools: Vec<SeatPool>, mark: Mark) -> FrontEndServer
     ensures { result.pools.items ≡ pools.items }
 {
-    ServedServer {
+    FrontEndServer {
         listener,
         pools,
         mark,
-        output_permit: OutputPermit::loose(),
+        output_permit: OutputPermit::without_lease(),
     }
 }
 

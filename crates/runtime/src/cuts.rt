@@ -77,7 +77,7 @@ impl<R: Clock + Drop> Connections<R> {
     pub(crate) fn output_permit(&self) -> Result<OutputPermit, AllocError>
         ensures { IfOk result (λ output_permit. output_permit ≡ may_end self.now) }
     {
-        Ok(OutputPermit::held_by(Arc::try_clone(&self.lease)?))
+        Ok(OutputPermit::by_lease(Arc::try_clone(&self.lease)?))
     }
 
     /// What the link to server `j` looks at: what is set as soon as that is called gone, what is set as soon as this

@@ -48,7 +48,7 @@ impl<R: Wait + Clock + Drop, W: Sink> LeasedSink<R, W> {
 
     // Waits until the server may put anything out. False if it answers no call any more.
     fn awaits_lease(&self) -> bool
-        ensures loose { self.now.output_permit ≡ false → result ≡ true }
+        ensures without_lease { self.now.output_permit ≡ false → result ≡ true }
     {
         for _ in self.rt.forever() {
             if self.output_permit.lets(&self.rt) {

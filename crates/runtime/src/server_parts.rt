@@ -10,7 +10,7 @@ ghost use Rattle.runtime.specs.Wiring.{
   HasOwnPools,
   IsDealt,
   IsPartsOf,
-  LeadsControl,
+  LeadsToOwnInbox,
   all_inlets_in,
 };
 ghost use Rattle.runtime.specs.Wiring.{core_of, cores_of, inlets_in, inlets_of, listed, numbers, openings, senders};
@@ -51,7 +51,7 @@ pub struct ServerParts {
 
 /// The `count` servers of a chain, each at the place of its id, with an inlet for each other server and for the
 /// program's own thread. The items of each may take as much memory.
-#[tactic(auto, using(crate::proofs::Wired::control_none, crate::proofs::Standing::starts_none, crate::proofs::Standing::own_none))]
+#[tactic(auto, using(crate::proofs::Wired::leads_none, crate::proofs::Standing::starts_none, crate::proofs::Standing::own_none))]
 pub fn all_servers<R: Wait + Copy + Drop>(
     rt: R,
     alloc: Global,
@@ -63,7 +63,7 @@ pub fn all_servers<R: Wait + Copy + Drop>(
     ensures count { IfOk result (λ servers. vec_len servers ≡ count) }
     ensures workers { IfOk result (λ servers. starts_of servers.items ≡ openings count count) }
     ensures pools { IfOk result (λ servers. All HasOwnPools (cores_of servers.items)) }
-    ensures inlets { IfOk result (λ servers. All (λ server. LeadsControl server) servers.items) }
+    ensures inlets { IfOk result (λ servers. All (λ server. LeadsToOwnInbox server) servers.items) }
 {
     let mut servers = Vec::new(alloc);
     for id in 0..count {
@@ -87,7 +87,7 @@ pub(crate) fn open_server<R: Wait + Copy + Drop>(
     requires idle { is_idle node ≡ true }
     ensures worker { IfOk result (λ opened. BeginsAs node opened.pooled.worker) }
     ensures pools { IfOk result (λ opened. HasOwnPools (core_of opened)) }
-    ensures inlets { IfOk result (λ opened. LeadsControl opened) }
+    ensures inlets { IfOk result (λ opened. LeadsToOwnInbox opened) }
 {
     let (failed, gauge) = match mark_and_gauge(alloc, allowance) {
         Ok(both) => both,

@@ -3,7 +3,7 @@ ghost use Rattle.std.specs.Prelude.{◌≡◌, ◌⊎◌, IfOk};
 ghost use Rattle.node.specs.Nodes.{fresh};
 ghost use Rattle.leases.specs.Shared.{is_timed};
 ghost use Rattle.io_threads.specs.Pools.{AreAllAt, BeginsAs};
-ghost use Rattle.runtime.specs.Wiring.{HasOwnPools, LeadsControl, core_of};
+ghost use Rattle.runtime.specs.Wiring.{HasOwnPools, LeadsToOwnInbox, core_of};
 
 use crate::banners::tell_server;
 use crate::concurrency::Concurrency;
@@ -16,7 +16,7 @@ use crate::working::{Rest, Surroundings, work};
 use command_line::{FAILED, GONE, MEMORY};
 use ends::{Sink, write_all};
 use io_threads::{
-    FrontEndSettings, LoopHandles, Pooled, ScheduledElsewhere, ServedServer, open_front_end,
+    FrontEndServer, FrontEndSettings, LoopHandles, Pooled, ScheduledElsewhere, open_front_end,
     open_loop_handles,
 };
 use links::PeerLinks;
@@ -213,7 +213,7 @@ fn serve_clients<R: Wait + Threads + Clock + Net + Copy + Drop + Send + 'static,
     let turn_scheduler = Arc::new(alloc, ScheduledElsewhere)?;
     let mark = failed.share()?;
     let mut served_servers = Vec::new(alloc);
-    served_servers.push(ServedServer {
+    served_servers.push(FrontEndServer {
         listener,
         pools,
         mark,
@@ -310,7 +310,7 @@ fn idle_server<R: Wait + Copy + Drop>(
     ensures worker { IfOk result (λ opened. let numbers = settings.now.numbers in
         BeginsAs (fresh numbers.id numbers.servers) opened.pooled.worker) }
     ensures pools { IfOk result (λ opened. HasOwnPools (core_of opened)) }
-    ensures inlets { IfOk result (λ opened. LeadsControl opened) }
+    ensures inlets { IfOk result (λ opened. LeadsToOwnInbox opened) }
 {
     let servers = settings.numbers.servers;
     if servers == 0 || servers > SERVERS {

@@ -29,14 +29,14 @@ impl OutputPermit {
     ghost use Rattle.std.specs.Arc.{arc_value};
 
     /// Of a server without a lease: nothing holds it back.
-    pub fn loose() -> OutputPermit
+    pub fn without_lease() -> OutputPermit
         ensures { result ≡ false }
     {
         OutputPermit { lease: None }
     }
 
     /// Of a server with this lease, which holds it back only if it has a term.
-    pub fn held_by(lease: Arc<SharedLease<AnyEnd>, Global>) -> OutputPermit
+    pub fn by_lease(lease: Arc<SharedLease<AnyEnd>, Global>) -> OutputPermit
         ensures { result ≡ (arc_value lease).is_timed }
     {
         if lease.is_timed() {
@@ -63,7 +63,7 @@ impl OutputPermit {
     /// is read. Else it may exactly if the clock can be read now, and the lease holds by that reading. What may not is
     /// to wait, and this to be asked again.
     pub fn lets<C: Clock>(&self, clock: &C) -> bool
-        ensures loose { self.now ≡ false → result ≡ true }
+        ensures without_lease { self.now ≡ false → result ≡ true }
     {
         match &self.lease {
             Some(lease) => holds_now(lease, clock),

@@ -78,16 +78,16 @@ fn outlive<R: Wait + Drop + Copy>(rt: R, alloc: Global, steps: &[Step]) -> Resul
     let went = go_on(&rt, alloc, &mut server, steps);
     let Server {
         worker,
-        mut stands,
+        mut thread_handles,
         seats,
         mut inlets,
     } = server;
     drop(worker);
     drop(seats);
-    let sent = submits(&rt, alloc, &mut stands);
-    let closed = is_closed(&rt, alloc, &mut stands);
+    let sent = submits(&rt, alloc, &mut thread_handles);
+    let closed = is_closed(&rt, alloc, &mut thread_handles);
     let brought = brings(&rt, &mut inlets, News::Ack(0));
-    drop(stands);
+    drop(thread_handles);
     drop(inlets);
     Ok(went? && !sent? && closed && !brought)
 }
@@ -108,11 +108,11 @@ fn worker_ends(rt: HostRuntime) -> Result<(), Fail> {
 fn is_told_alone<R: Wait + Drop + Copy>(rt: R, alloc: Global) -> Result<bool, RailFault> {
     let Server {
         mut worker,
-        stands,
+        thread_handles,
         seats,
         inlets,
     } = first_of(rt, alloc, 2, 1)?;
-    drop(stands);
+    drop(thread_handles);
     drop(seats);
     drop(inlets);
     let turned = turns(&mut worker, Turn::Went);
@@ -256,9 +256,9 @@ fn second_looks<R: Wait + Threads + Clock + Send + Sync + Drop + Copy>(
 ) -> Result<bool, RailFault> {
     let b = key(alloc, b"b")?;
     let mut server = first_of(rt, alloc, 2, 2)?;
-    let looked = match server.stands.pop() {
+    let looked = match server.thread_handles.pop() {
         Some(mut second) => {
-            let looked = match submits(&rt, alloc, &mut server.stands) {
+            let looked = match submits(&rt, alloc, &mut server.thread_handles) {
                 Ok(true) => looks_while_held(&rt, &mut server.worker, &mut second, &b),
                 refused => refused,
             };

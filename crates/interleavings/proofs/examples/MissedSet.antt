@@ -50,9 +50,9 @@ named_so : (x : CallId) (c p : ℕ) → x.connection ≡ c → x.ordinal ≡ p �
 named_so x c p e f i = record { connection = e i; ordinal = f i }
 
 -- the one call of a seat
-at_ordinal : (asked : Call) (p : ℕ) (call : Call) → slice_get (asked ∷ []) p ≡ Some call → (p ≡ 0) × (call ≡ asked)
-at_ordinal asked zero call h = (refl, sym (same_Some asked call h))
-at_ordinal asked (suc p) call h = absurd cc
+id_at : (asked : Call) (p : ℕ) (call : Call) → slice_get (asked ∷ []) p ≡ Some call → (p ≡ 0) × (call ≡ asked)
+id_at asked zero call h = (refl, sym (same_Some asked call h))
+id_at asked (suc p) call h = absurd cc
 
 -- the set first and then the get that finds nothing aren't legal
 unseen : (e f : OrderedCall) (t : List OrderedCall)
@@ -112,12 +112,12 @@ module _ (does : Doing) (count : ℕ) (homes : List ℕ) (early : List Move) (fi
   named : (c p : ℕ) (call : Call) → slice_get (last.seats c).calls p ≡ Some call → Named c p call
   named c p call h = elim (cases_eq c 0) [
     | inl first ↦
-        let it = at_ordinal set p call
+        let it = id_at set p call
         (ap (λ (s : Seat). slice_get s.calls p) (sym (ap last.seats first ∙ first_seat)) ∙ h) in
         inl (first, it.0, it.1)
     | inr not_first ↦ elim (cases_eq c 1) [
       | inl second ↦
-          let it = at_ordinal (read_of key) p call
+          let it = id_at (read_of key) p call
           (ap (λ (s : Seat). slice_get s.calls p) (sym (ap last.seats second ∙ second_seat)) ∙ h) in
           inr (second, it.0, it.1)
       | inr not_second ↦ absurd (

@@ -6,8 +6,8 @@ use Rattle.std.proofs.lemmas.Bool.{cases_eq, ne_eqb}
 use Rattle.table.specs.declared.operations.Reply.{Reply}
 use Rattle.interleavings.specs.Chains.{RunningServer, Seat, Chain, with_running, replies_to, without_reply}
 use Rattle.interleavings.specs.Chains.{OfNotices, first_of}
-use Rattle.interleavings.specs.Moves.{Takes, Replies, mailed, took, done}
-use Rattle.interleavings.specs.OwnPorts.{port_at, mailed_from, with_own_ports}
+use Rattle.interleavings.specs.Moves.{Takes, Replies, reply_put, took, done}
+use Rattle.interleavings.specs.OwnPorts.{port_at, reply_put_from, with_own_ports}
 use Rattle.interleavings.specs.Ports.{output_to}
 use Rattle.interleavings.proofs.lists.Ordinals.{at_self}
 use Rattle.interleavings.proofs.ports.RenamedChains.{Same, of_chain, seat_there, same_server, same_seat}
@@ -19,7 +19,7 @@ module _ (n : ℕ) (homes : List ℕ) (l g : Chain) (h : Same n homes l g) (i c 
   mailed_same : (port : ℕ)
       → seat_in homes i port ≡ c
       → (rs : List Reply)
-      → Same n homes (mailed_from port l i c (l.seats c) rs) (mailed g i c (l.seats c) rs)
+      → Same n homes (reply_put_from port l i c (l.seats c) rs) (reply_put g i c (l.seats c) rs)
   mailed_same port is [] = h
   mailed_same port is (reply ∷ more) =
       let f = seat_in homes i in
@@ -40,7 +40,7 @@ module _ (n : ℕ) (homes : List ℕ) (l g : Chain) (h : Same n homes l g) (i c 
   replies_here : (l.seats c).home ≡ i
       → Same n homes
       (cond (not (l.servers i).stopped)
-      (mailed_from (port_at homes c (l.seats c).home) l i c (l.seats c)
+      (reply_put_from (port_at homes c (l.seats c).home) l i c (l.seats c)
       (replies_to (port_at homes c (l.seats c).home) (l.servers i).outbox)) l)
       (done g (Replies i c))
   replies_here at =
@@ -50,13 +50,13 @@ module _ (n : ℕ) (homes : List ℕ) (l g : Chain) (h : Same n homes l g) (i c 
       let os = (l.servers i).outbox in
       let rs = replies_to port os in
       let there = replies_to c (g.servers i).outbox in
-      subst (λ b. Same n homes (cond (not (l.servers i).stopped) (mailed_from port l i c s rs) l)
-      (cond b g (mailed g i c (g.seats c) there)))
+      subst (λ b. Same n homes (cond (not (l.servers i).stopped) (reply_put_from port l i c s rs) l)
+      (cond b g (reply_put g i c (g.seats c) there)))
       (sym (h.stopped i))
-      (subst (λ (ss : ℕ → Seat). Same n homes (cond (not (l.servers i).stopped) (mailed_from port l i c s rs) l)
-      (cond (l.servers i).stopped g (mailed g i c (ss c) there)))
+      (subst (λ (ss : ℕ → Seat). Same n homes (cond (not (l.servers i).stopped) (reply_put_from port l i c s rs) l)
+      (cond (l.servers i).stopped g (reply_put g i c (ss c) there)))
       (sym h.seats)
-      (where_not n homes l g h (l.servers i).stopped (mailed_from port l i c s rs) (mailed g i c s there)
+      (where_not n homes l g h (l.servers i).stopped (reply_put_from port l i c s rs) (reply_put g i c s there)
       (λ going.
       let within = of_chain n homes l g h i going in
       let known = seat_there n homes l g h c (omega (arith, within, at)) in
@@ -64,7 +64,7 @@ module _ (n : ℕ) (homes : List ℕ) (l g : Chain) (h : Same n homes l g) (i c 
       let same : there ≡ rs =
       ap (λ (u : RunningServer). replies_to c u.outbox) (h.servers i within)
       ∙ ap (λ d. replies_to d (map (output_to f) os)) (sym is) ∙ replies_renamed f (seat_apart homes i) port os in
-      subst (λ xs. Same n homes (mailed_from port l i c s rs) (mailed g i c s xs)) (sym same)
+      subst (λ xs. Same n homes (reply_put_from port l i c s rs) (reply_put g i c s xs)) (sym same)
       (mailed_same port is rs))))
 
   -- a server beyond the chain takes nothing
@@ -81,7 +81,7 @@ module _ (n : ℕ) (homes : List ℕ) (l g : Chain) (h : Same n homes l g) (i c 
   replies_same =
       let s = l.seats c in
       let port = port_at homes c s.home in
-      let x = mailed_from port l i c s (replies_to port (l.servers i).outbox) in
+      let x = reply_put_from port l i c s (replies_to port (l.servers i).outbox) in
       let st = (l.servers i).stopped in
       subst (λ k. Same n homes (cond (s.home == i && not st) x l) (done g (cond (k == i) (Replies i c) (Takes n OfNotices))))
       (h.sits c)

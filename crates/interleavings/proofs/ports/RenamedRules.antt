@@ -24,7 +24,7 @@ use Rattle.node.specs.Servers.{ServerState, RuleResult, most, head_of, tail_of, 
 use Rattle.node.specs.Servers.{silent}
 use Rattle.node.specs.Servers.{putting, and_then, message_to, reply_at}
 use Rattle.node.specs.Views.{is_that}
-use Rattle.interleavings.specs.Ports.{with_port, read_with_port, output_to, renamed, renamed_outcome}
+use Rattle.interleavings.specs.Ports.{with_port, read_with_port, output_to, renamed, renamed_result}
 use Rattle.interleavings.proofs.ports.OpenCalls.{left_open_renamed, replies_renamed, both_renamed, open_read_renamed}
 use Rattle.interleavings.proofs.ports.OpenCalls.{without_read_renamed}
 
@@ -33,9 +33,9 @@ module _ (f : ℕ → ℕ) where
 
   -- either of two rules' results
   pub either_renamed : (b : Bool) (x y x' y' : RuleResult)
-      → x' ≡ renamed_outcome f x
-      → y' ≡ renamed_outcome f y
-      → cond b x' y' ≡ renamed_outcome f (cond b x y)
+      → x' ≡ renamed_result f x
+      → y' ≡ renamed_result f y
+      → cond b x' y' ≡ renamed_result f (cond b x y)
   either_renamed true x y x' y' e g = e
   either_renamed false x y x' y' e g = g
 
@@ -56,14 +56,14 @@ module _ (f : ℕ → ℕ) where
   -- a server that puts out something
   pub putting_renamed : (s : ServerState) (os os' : List Output)
       → os' ≡ map (output_to f) os
-      → putting (renamed f s) os' ≡ renamed_outcome f (putting s os)
+      → putting (renamed f s) os' ≡ renamed_result f (putting s os)
   putting_renamed s os os' e = ap (putting (renamed f s)) e
 
   -- one rule after another
   pub then_renamed : (a a' : RuleResult) (rule rule' : ServerState → RuleResult)
-      → a' ≡ renamed_outcome f a
-      → ((s : ServerState) → rule' (renamed f s) ≡ renamed_outcome f (rule s))
-      → and_then a' rule' ≡ renamed_outcome f (and_then a rule)
+      → a' ≡ renamed_result f a
+      → ((s : ServerState) → rule' (renamed f s) ≡ renamed_result f (rule s))
+      → and_then a' rule' ≡ renamed_result f (and_then a rule)
   then_renamed a a' rule rule' e g =
       ap (λ x. and_then x rule') e
       ∙ ap (λ (x : RuleResult). record { state = x.state; outputs = map (output_to f) a.outputs ++ x.outputs })
@@ -81,7 +81,7 @@ module _ (f : ℕ → ℕ) where
       (left_open_renamed f s.id s.pend (newly_acked s n))
 
   -- a rise, with what it puts out
-  pub rise_renamed : (s : ServerState) (n : ℕ) → rise (renamed f s) n ≡ renamed_outcome f (rise s n)
+  pub rise_renamed : (s : ServerState) (n : ℕ) → rise (renamed f s) n ≡ renamed_result f (rise s n)
   rise_renamed s n =
       let rs = replies s.id s.pend (newly_acked s n) in
       let ms = message_to s (previous s) (Ack n) in
@@ -102,7 +102,7 @@ module _ (f : ℕ → ℕ) where
 
   -- an entry is passed on
   pub passed_on_renamed : (s : ServerState) (e : LogEntry)
-      → passed_on (renamed f s) e ≡ renamed_outcome f (passed_on s e)
+      → passed_on (renamed f s) e ≡ renamed_result f (passed_on s e)
   unfolding passed_on
   passed_on_renamed s e =
       either_renamed (is_tail s) (rise s (last_number s.store)) (putting s (message_to s (next s) (Forward e))) _ _
@@ -119,7 +119,7 @@ module _ (f : ℕ → ℕ) where
 
   -- an update is taken at the head, and passed on
   pub take_update_renamed : (s : ServerState) (origin id : ℕ) (call : Call)
-      → take_update (renamed f s) origin id call ≡ renamed_outcome f (take_update s origin id call)
+      → take_update (renamed f s) origin id call ≡ renamed_result f (take_update s origin id call)
   unfolding take_update
   take_update_renamed s origin id call =
       let e = entry_of s origin id call in
@@ -141,7 +141,7 @@ module _ (f : ℕ → ℕ) where
 
   -- a call is taken or goes to the head
   pub called_renamed : (s : ServerState) (id : ℕ) (call : Call)
-      → called (renamed f s) id call ≡ renamed_outcome f (called s id call)
+      → called (renamed f s) id call ≡ renamed_result f (called s id call)
   called_renamed s id call =
       either_renamed (is_head s) (take_update s s.id id call) (putting s (message_to s (head_of s) (Op id call))) _ _
       (take_update_renamed s s.id id call)
@@ -149,7 +149,7 @@ module _ (f : ℕ → ℕ) where
 
   -- an own update call
   pub update_renamed : (s : ServerState) (port : ℕ) (call : Call)
-      → update (renamed f s) (f port) call ≡ renamed_outcome f (update s port call)
+      → update (renamed f s) (f port) call ≡ renamed_result f (update s port call)
   update_renamed s port call =
       either_renamed (is_room_for_update s) (called (entered s port call) s.next_id call) (silent s) _ _
       (ap (λ t. called t s.next_id call) (entered_renamed s port call)
@@ -157,21 +157,21 @@ module _ (f : ℕ → ℕ) where
 
   -- an op comes
   pub receive_op_renamed : (s : ServerState) (i id : ℕ) (call : Call)
-      → receive_op (renamed f s) i id call ≡ renamed_outcome f (receive_op s i id call)
+      → receive_op (renamed f s) i id call ≡ renamed_result f (receive_op s i id call)
   receive_op_renamed s i id call =
       either_renamed (is_head s && is_update call.op) (take_update s i id call) (silent s) _ _
       (take_update_renamed s i id call) refl
 
   -- a forward comes
   pub receive_forward_renamed : (s : ServerState) (i : ℕ) (e : LogEntry)
-      → receive_forward (renamed f s) i e ≡ renamed_outcome f (receive_forward s i e)
+      → receive_forward (renamed f s) i e ≡ renamed_result f (receive_forward s i e)
   receive_forward_renamed s i e =
       either_renamed (is_that (previous s) i && e.number == last_number s.store + 1) (passed_on (appended s e) e)
       (silent s) _ _ (ap (λ t. passed_on t e) (appended_renamed s e) ∙ passed_on_renamed (appended s e) e) refl
 
   -- an acknowledgement comes
   pub receive_ack_renamed : (s : ServerState) (i n : ℕ)
-      → receive_ack (renamed f s) i n ≡ renamed_outcome f (receive_ack s i n)
+      → receive_ack (renamed f s) i n ≡ renamed_result f (receive_ack s i n)
   receive_ack_renamed s i n =
       either_renamed (is_that (next s) i && nat_lt s.store.acked n && nat_le n (last_number s.store)) (rise s n)
       (silent s) _ _ (rise_renamed s n) refl
@@ -193,7 +193,7 @@ module _ (f : ℕ → ℕ) where
 
   -- a read of a dirty key
   pub dirty_read_renamed : (s : ServerState) (port : ℕ) (key : List ℕ)
-      → dirty_read (renamed f s) (f port) key ≡ renamed_outcome f (dirty_read s port key)
+      → dirty_read (renamed f s) (f port) key ≡ renamed_result f (dirty_read s port key)
   unfolding dirty_read
   dirty_read_renamed s port key =
       let ms = message_to s (tail_of s) (Query s.next_ask key) in
@@ -203,7 +203,7 @@ module _ (f : ℕ → ℕ) where
 
   -- a read of a key
   pub read_renamed : (s : ServerState) (port : ℕ) (key : List ℕ)
-      → read (renamed f s) (f port) key ≡ renamed_outcome f (read s port key)
+      → read (renamed f s) (f port) key ≡ renamed_result f (read s port key)
   read_renamed s port key =
       either_renamed (is_clean s.store key)
       (putting s (reply_at port (Value (value_at s.store key (last_number s.store))))) (dirty_read s port key) _ _ refl
@@ -211,20 +211,20 @@ module _ (f : ℕ → ℕ) where
 
   -- a read of a target
   pub read_of_renamed : (s : ServerState) (port : ℕ) (target : Target)
-      → read_of (renamed f s) (f port) target ≡ renamed_outcome f (read_of s port target)
+      → read_of (renamed f s) (f port) target ≡ renamed_result f (read_of s port target)
   read_of_renamed s port (One key) = read_renamed s port key
   read_of_renamed s port All = refl
 
   -- a query comes
   pub receive_query_renamed : (s : ServerState) (i ask : ℕ)
-      → receive_query (renamed f s) i ask ≡ renamed_outcome f (receive_query s i ask)
+      → receive_query (renamed f s) i ask ≡ renamed_result f (receive_query s i ask)
   receive_query_renamed s i ask =
       let ms = message_to s (Some i) (Answer ask (last_number s.store)) in
       either_renamed (is_tail s) (putting s ms) (silent s) _ _ refl refl
 
   -- an open read is answered
   pub answered_renamed : (s : ServerState) (ask n : ℕ) (o : Option OpenRead)
-      → answered (renamed f s) ask n (option_map (read_with_port f) o) ≡ renamed_outcome f (answered s ask n o)
+      → answered (renamed f s) ask n (option_map (read_with_port f) o) ≡ renamed_result f (answered s ask n o)
   unfolding answered
   answered_renamed s ask n None = refl
   answered_renamed s ask n (Some r) =
@@ -242,7 +242,7 @@ module _ (f : ℕ → ℕ) where
 
   -- an answer comes
   pub receive_answer_renamed : (s : ServerState) (i ask n : ℕ)
-      → receive_answer (renamed f s) i ask n ≡ renamed_outcome f (receive_answer s i ask n)
+      → receive_answer (renamed f s) i ask n ≡ renamed_result f (receive_answer s i ask n)
   receive_answer_renamed s i ask n =
       either_renamed (is_that (tail_of s) i) (answered s ask n (open_read s.asks ask)) (silent s) _ _
       (ap (answered (renamed f s) ask n) (open_read_renamed f s.asks ask)

@@ -22,7 +22,7 @@ use Rattle.node.specs.Servers.{ServerState, head_of, tail_of, is_head, is_tail, 
 use Rattle.node.specs.Servers.{and_then, message_to, reply_at}
 use Rattle.node.specs.Steps.{call, gone, receive, received, is_heard, from_peer, taken_in, trimmed, step}
 use Rattle.node.specs.Views.{View, has, single, adds, head, tail, predecessor, is_that, is_same}
-use Rattle.interleavings.specs.Ports.{with_port, read_with_port, output_to, input_at, renamed, renamed_outcome}
+use Rattle.interleavings.specs.Ports.{with_port, read_with_port, output_to, input_at, renamed, renamed_result}
 use Rattle.interleavings.proofs.ports.OpenCalls.{both_renamed, least_open_renamed}
 use Rattle.interleavings.proofs.ports.RenamedRules.{either_renamed, message_renamed, putting_renamed, then_renamed}
 use Rattle.interleavings.proofs.ports.RenamedRules.{rise_renamed, taken_renamed, update_renamed, read_of_renamed}
@@ -55,7 +55,7 @@ module _ (f : ℕ → ℕ) where
       ∙ both_renamed f (message_to s (head_of s) (Op u.id u.call)) (sent_again s us)
 
   to_head_renamed : (old : View) (s : ServerState)
-      → promoted_to_head old (renamed f s) ≡ renamed_outcome f (promoted_to_head old s)
+      → promoted_to_head old (renamed f s) ≡ renamed_result f (promoted_to_head old s)
   unfolding promoted_to_head
   to_head_renamed old s =
       either_renamed f (is_head s) _ _ _ _
@@ -64,7 +64,7 @@ module _ (f : ℕ → ℕ) where
       (either_renamed f (is_same (head old s.count) (head_of s)) (silent s) (putting s (sent_again s s.pend)) _ _ refl
       (putting_renamed f s (sent_again s s.pend) _ (sent_again_renamed s s.pend)))
 
-  to_tail_renamed : (s : ServerState) → promoted_to_tail (renamed f s) ≡ renamed_outcome f (promoted_to_tail s)
+  to_tail_renamed : (s : ServerState) → promoted_to_tail (renamed f s) ≡ renamed_result f (promoted_to_tail s)
   unfolding promoted_to_tail
   to_tail_renamed s =
       either_renamed f (is_tail s && nat_lt s.store.acked (last_number s.store)) (rise s (last_number s.store))
@@ -80,14 +80,14 @@ module _ (f : ℕ → ℕ) where
       ∙ both_renamed f (message_to s (next s) (Forward e)) (forwarded s es)
 
   caught_up_renamed : (old : View) (last : ℕ) (s : ServerState)
-      → caught_up old last (renamed f s) ≡ renamed_outcome f (caught_up old last s)
+      → caught_up old last (renamed f s) ≡ renamed_result f (caught_up old last s)
   unfolding caught_up
   caught_up_renamed old last s =
       let es = entries_after s.store (needed_above old last s) in
       putting_renamed f s (forwarded s es) _ (forwarded_renamed s es)
 
   to_predecessor_renamed : (old : View) (acked : ℕ) (s : ServerState)
-      → acked_to_predecessor old acked (renamed f s) ≡ renamed_outcome f (acked_to_predecessor old acked s)
+      → acked_to_predecessor old acked (renamed f s) ≡ renamed_result f (acked_to_predecessor old acked s)
   unfolding acked_to_predecessor
   to_predecessor_renamed old acked s =
       let ms = message_to s (previous s) (Ack s.store.acked) in
@@ -113,7 +113,7 @@ module _ (f : ℕ → ℕ) where
       ∙ both_renamed f (message_to s (tail_of s) (Query r.ask r.key)) (asked_again s rs)
 
   asks_renewed_renamed : (old : View) (s : ServerState)
-      → asks_renewed old (renamed f s) ≡ renamed_outcome f (asks_renewed old s)
+      → asks_renewed old (renamed f s) ≡ renamed_result f (asks_renewed old s)
   unfolding asks_renewed
   asks_renewed_renamed old s =
       either_renamed f (is_same (tail old s.count) (tail_of s)) (silent s) _ _ _ refl
@@ -123,7 +123,7 @@ module _ (f : ℕ → ℕ) where
       (putting_renamed f s (asked_again s s.asks) _ (asked_again_renamed s s.asks)))
 
   rejoined_renamed : (old : View) (last acked : ℕ) (s : ServerState)
-      → rejoined old last acked (renamed f s) ≡ renamed_outcome f (rejoined old last acked s)
+      → rejoined old last acked (renamed f s) ≡ renamed_result f (rejoined old last acked s)
   rejoined_renamed old last acked s =
       then_renamed f _ _ (asks_renewed old) (asks_renewed old)
       (then_renamed f _ _ (acked_to_predecessor old acked) (acked_to_predecessor old acked)
@@ -131,7 +131,7 @@ module _ (f : ℕ → ℕ) where
       (then_renamed f _ _ promoted_to_tail promoted_to_tail (to_head_renamed old s) to_tail_renamed)
       (caught_up_renamed old last)) (to_predecessor_renamed old acked)) (asks_renewed_renamed old)
 
-  join_renamed : (s : ServerState) (v : View) → join (renamed f s) v ≡ renamed_outcome f (join s v)
+  join_renamed : (s : ServerState) (v : View) → join (renamed f s) v ≡ renamed_result f (join s v)
   join_renamed s v =
       either_renamed f (not (adds s.view v)) (silent s)
       (rejoined s.view (last_number s.store) s.store.acked (widened s v)) _ _ refl
@@ -141,18 +141,18 @@ module _ (f : ℕ → ℕ) where
   -- ---- steps
 
   call_renamed : (s : ServerState) (port : ℕ) (asked : Call)
-      → call (renamed f s) (f port) asked ≡ renamed_outcome f (call s port asked)
+      → call (renamed f s) (f port) asked ≡ renamed_result f (call s port asked)
   call_renamed s port asked =
       either_renamed f (is_update asked.op) (update s port asked) (read_of s port asked.target) _ _
       (update_renamed f s port asked) (read_of_renamed f s port asked.target)
 
-  gone_renamed : (s : ServerState) (j : ℕ) → gone (renamed f s) j ≡ renamed_outcome f (gone s j)
+  gone_renamed : (s : ServerState) (j : ℕ) → gone (renamed f s) j ≡ renamed_result f (gone s j)
   gone_renamed s j =
       either_renamed f (nat_lt j s.count && not (j == s.id)) (join s (single j)) (silent s) _ _
       (join_renamed s (single j)) refl
 
   receive_renamed : (s : ServerState) (i : ℕ) (body : Body)
-      → receive (renamed f s) i body ≡ renamed_outcome f (receive s i body)
+      → receive (renamed f s) i body ≡ renamed_result f (receive s i body)
   receive_renamed s i (Op id asked) = receive_op_renamed f s i id asked
   receive_renamed s i (Forward e) = receive_forward_renamed f s i e
   receive_renamed s i (Ack n) = receive_ack_renamed f s i n
@@ -160,12 +160,12 @@ module _ (f : ℕ → ℕ) where
   receive_renamed s i (Answer ask n) = receive_answer_renamed f s i ask n
 
   received_renamed : (i : ℕ) (body : Body) (s : ServerState)
-      → received (renamed f s) i body ≡ renamed_outcome f (received s i body)
+      → received (renamed f s) i body ≡ renamed_result f (received s i body)
   received_renamed i body s =
       either_renamed f (has s.view i) (silent s) (receive s i body) _ _ refl (receive_renamed s i body)
 
   from_peer_renamed : (s : ServerState) (i : ℕ) (peer : Peer)
-      → from_peer (renamed f s) i peer ≡ renamed_outcome f (from_peer s i peer)
+      → from_peer (renamed f s) i peer ≡ renamed_result f (from_peer s i peer)
   from_peer_renamed s i peer =
       either_renamed f (is_heard s i peer.view) (and_then (join s peer.view) (λ t. received t i peer.body))
       (silent s) _ _
@@ -173,7 +173,7 @@ module _ (f : ℕ → ℕ) where
       (join_renamed s peer.view) (received_renamed i peer.body)) refl
 
   taken_in_renamed : (s : ServerState) (input : Input)
-      → taken_in (renamed f s) (input_at f input) ≡ renamed_outcome f (taken_in s input)
+      → taken_in (renamed f s) (input_at f input) ≡ renamed_result f (taken_in s input)
   taken_in_renamed s (Called port asked) = call_renamed s port asked
   taken_in_renamed s (From i peer) = from_peer_renamed s i peer
   taken_in_renamed s (Gone j) = gone_renamed s j
@@ -185,7 +185,7 @@ module _ (f : ℕ → ℕ) where
 
   -- a step of the renamed server, at the renamed input, is the step renamed
   pub step_renamed : (s : ServerState) (input : Input)
-      → step (renamed f s) (input_at f input) ≡ renamed_outcome f (step s input)
+      → step (renamed f s) (input_at f input) ≡ renamed_result f (step s input)
   step_renamed s input =
       ap (λ a. record { state = trimmed a.state; outputs = a.outputs }) (taken_in_renamed s input)
       ∙ ap (λ t. record { state = t; outputs = map (output_to f) (taken_in s input).outputs })

@@ -12,7 +12,7 @@ use Rattle.world.specs.Connections.{Connection, handed, to_work}
 use Rattle.world.specs.Waiting.{waiting_reply}
 use Rattle.world.specs.Worlds.{World, lives, where_home_lives, happens}
 use Rattle.interleavings.specs.Chains.{RunningServer, Seat, Chain, replies_to, without_reply}
-use Rattle.interleavings.specs.Moves.{Replies, mailed, done}
+use Rattle.interleavings.specs.Moves.{Replies, reply_put, done}
 use Rattle.interleavings.proofs.relation.StandsFor.{IsSeat, Reaches, Sits, StandsFor, Tallies, call_at, listed}
 use Rattle.interleavings.proofs.relation.StandsFor.{reply_at}
 use Rattle.interleavings.proofs.seats.OneSeat.{Reconnects, WaitsFor, one_seat, reconnects}
@@ -106,7 +106,7 @@ module _ (l : Chain) (w : World) (i c : ℕ) (h : StandsFor l w) (going : (l.ser
 
   by_replies : (rs : List Reply)
       → replies_to c (l.servers i).outbox ≡ rs
-      → Reaches w (mailed l i c (l.seats c) rs)
+      → Reaches w (reply_put l i c (l.seats c) rs)
   by_replies [] first = ([], omega arith, h)
   by_replies (reply ∷ more) first =
       let f = has c i reply more (slice_get w.connections c) (sym (h.replies i c going) ∙ first) in
@@ -127,5 +127,5 @@ module _ (l : Chain) (w : World) (i c : ℕ) (h : StandsFor l w) (going : (l.ser
 -- a reply that is put is a hand
 pub replies_reach : (l : Chain) (w : World) (i c : ℕ) → StandsFor l w → Reaches w (done l (Replies i c))
 replies_reach l w i c h =
-    cond_both (l.servers i).stopped l (mailed l i c (l.seats c) (replies_to c (l.servers i).outbox)) (λ m. Reaches w m)
+    cond_both (l.servers i).stopped l (reply_put l i c (l.seats c) (replies_to c (l.servers i).outbox)) (λ m. Reaches w m)
     (λ t. ([], omega arith, h)) (λ going. by_replies l w i c h going (replies_to c (l.servers i).outbox) refl)

@@ -53,13 +53,13 @@ unrefused_asked (c ∷ cs) [] a = a
 unrefused_asked (c ∷ cs) (Replied reply ∷ os) a = (a.0, unrefused_asked cs os a.1)
 unrefused_asked (c ∷ cs) (Refused ∷ os) a = unrefused_asked cs os a.1
 
-at_ordinal : (cs ds : List Call) (q : ℕ) (call : Call)
+id_at : (cs ds : List Call) (q : ℕ) (call : Call)
     → AllAsked (cs ++ ds)
     → slice_get cs q ≡ Some call
     → IsAsked call
-at_ordinal [] ds q call a e = absurd (let no : None ≡ Some call = e in cc)
-at_ordinal (c ∷ cs) ds zero call a e = subst IsAsked (same_Some c call e) a.0
-at_ordinal (c ∷ cs) ds (suc q) call a e = at_ordinal cs ds q call a.1 e
+id_at [] ds q call a e = absurd (let no : None ≡ Some call = e in cc)
+id_at (c ∷ cs) ds zero call a e = subst IsAsked (same_Some c call e) a.0
+id_at (c ∷ cs) ds (suc q) call a e = id_at cs ds q call a.1 e
 
 -- a number that was read is below its bound
 number_below : (bound : ℕ) (field : List ℕ) (n : ℕ) → number_of bound field ≡ Some n → n < bound
@@ -200,5 +200,5 @@ pub made_asked : (k : Connection) (t : IsConnected k) (q : ℕ) (call : Call)
     → slice_get k.calls q ≡ Some call
     → IsAsked call
 made_asked k t q call e =
-    at_ordinal k.calls (as_list k.due ++ calls_of (to_come k.session)) q call
+    id_at k.calls (as_list k.due ++ calls_of (to_come k.session)) q call
     (subst AllAsked (calls_spelled k t) (made_or_later k)) e

@@ -15,7 +15,7 @@ use Rattle.node.specs.declared.looks.Look.TheVariants.{Clean, Dirty}
 use Rattle.node.specs.Faces.{face_of, look_at}
 use Rattle.interleavings.specs.Chains.{Seat, Chain, with_at, messages_to, replies_to}
 use Rattle.interleavings.specs.Moves.{Move, Sends, Takes, Publishes, Puts, Arrives, Replies, Receives, Looks, Stops}
-use Rattle.interleavings.specs.Moves.{Notices, is_free, read_of, looked, put, arrived, mailed}
+use Rattle.interleavings.specs.Moves.{Notices, is_free, read_of, looked, put, arrived, reply_put}
 use Rattle.interleavings.specs.Moves.{has_stopped, brought, done}
 use Rattle.interleavings.specs.ServingMoves.{reply_by, look_reply, is_of_seat}
 use Rattle.interleavings.proofs.lists.Ordinals.{kept_at}
@@ -92,7 +92,7 @@ arrived_same l i j d [] = same_calls l d
 arrived_same l i j d (m ∷ ms) = record { calls = refl; got = refl }
 
 mailed_same : (l : Chain) (i c d : ℕ) (b : Bool) (rs : List Reply)
-    → SameCalls l (cond b l (mailed l i c (l.seats c) rs)) d
+    → SameCalls l (cond b l (reply_put l i c (l.seats c) rs)) d
 mailed_same l i c d true rs = same_calls l d
 mailed_same l i c d false [] = same_calls l d
 mailed_same l i c d false (r ∷ rs) =

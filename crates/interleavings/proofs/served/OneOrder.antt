@@ -15,7 +15,7 @@ use Rattle.interleavings.specs.Orders.{begun_call, reply_to, Precedes, IsLineari
 use Rattle.interleavings.specs.Asked.{AreAsked}
 use Rattle.interleavings.specs.Quiet.{goes_on, IsQuiet}
 use Rattle.interleavings.specs.ServingMoves.{ServingChain, ServingMove, served, opening_serving}
-use Rattle.interleavings.specs.Served.{IsServed, CallName, call_made, reply_got, ServedEntry, StandsThere, ComesBefore}
+use Rattle.interleavings.specs.Served.{IsServed, CallName, call_made, reply_got, ServedCall, StandsThere, ComesBefore}
 use Rattle.interleavings.specs.Served.{IsOneOrder, NoneUnanswered, AllHaveAll}
 use Rattle.interleavings.proofs.relation.Following.{linearizable}
 use Rattle.interleavings.proofs.relation.Transfer.{take_front}
@@ -30,12 +30,12 @@ use Rattle.interleavings.proofs.served.Names.{made_if_answered}
 use Rattle.interleavings.proofs.served.Names.{made_there, same_ordinal}
 
 -- a call of an order, by the name that its connection gives it
-abbrev named : ServingChain → OrderedCall → ServedEntry
+abbrev named : ServingChain → OrderedCall → ServedCall
 named s e = record { id = name_of s e.id; call = e.call; reply = e.reply }
 
 same_history : (s : ServingChain) (h : List OrderedCall)
     → map {B = Call × Reply} (λ (e : OrderedCall). (e.call, e.reply)) h
-    ≡ map {B = Call × Reply} (λ (e : ServedEntry). (e.call, e.reply)) (map (named s) h)
+    ≡ map {B = Call × Reply} (λ (e : ServedCall). (e.call, e.reply)) (map (named s) h)
 same_history s [] = refl
 same_history s (e ∷ es) = ap (λ xs. (e.call, e.reply) ∷ xs) (same_history s es)
 
@@ -92,7 +92,7 @@ module _ (count : ℕ) (homes : List ℕ) (moves : List ServingMove) where
   front_grows k = grows_from k moves (opening_serving count homes) (opening_order count homes)
 
   module _ (h : List OrderedCall) (lin : IsLinearization count homes run h) where
-    abbrev order : List ServedEntry
+    abbrev order : List ServedCall
     order = map (named last) h
 
     -- a call of the one order is a call of the other
@@ -102,7 +102,7 @@ module _ (count : ℕ) (homes : List ℕ) (moves : List ServingMove) where
       its_name : name_of last entry.id ≡ x
       begun : begun_call last.chain entry.id ≡ Some entry.call
 
-    entry_at : (i : ℕ) (e : ServedEntry)
+    entry_at : (i : ℕ) (e : ServedCall)
         → slice_get order i ≡ Some e
         → (x : OrderedCall) × (slice_get h i ≡ Some x) × (named last x ≡ e)
     entry_at i e at = mapped (named last) (slice_get h i) e (sym (slice_get-map (named last) h i) ∙ at)
@@ -116,7 +116,7 @@ module _ (count : ℕ) (homes : List ℕ) (moves : List ServingMove) where
         record {
           entry = e.0;
           here = e.1;
-          its_name = ap (λ (z : ServedEntry). z.id) e.2 ∙ s.named;
+          its_name = ap (λ (z : ServedCall). z.id) e.2 ∙ s.named;
           begun = begun_last i e.0 e.1;
         }
 
@@ -196,7 +196,7 @@ module _ (count : ℕ) (homes : List ℕ) (moves : List ServingMove) where
       legal = subst IsLegal (same_history last h) lin.legal;
       made = λ i e at.
           let x = entry_at i e at in
-          subst (λ (z : ServedEntry). call_made last z.id ≡ Some z.call) x.2
+          subst (λ (z : ServedCall). call_made last z.id ≡ Some z.call) x.2
           (made_there last ordered x.0.id x.0.call (begun_last i x.0 x.1)).0;
       once = λ i j x s t.
           let e = stands_there i x s in
@@ -208,7 +208,7 @@ module _ (count : ℕ) (homes : List ℕ) (moves : List ServingMove) where
     }
 
   -- so there is one,
-  pub one_order : count ≤ 16 → (h : List ServedEntry) × IsOneOrder done count homes moves h
+  pub one_order : count ≤ 16 → (h : List ServedCall) × IsOneOrder done count homes moves h
   one_order few =
       let o = linearizable count homes (simulates count homes few) run few
       (asked_along moves (opening_serving count homes) (opening_order count homes)) in

@@ -18,7 +18,7 @@ use Rattle.interleavings.specs.ServingMoves.{ServingChain, ServingMove, Reads, B
 use Rattle.interleavings.specs.ServingMoves.{Writes, Ends, Runs, served_at, with_served, refusing, key_due, reply_by}
 use Rattle.interleavings.specs.ServingMoves.{look_reply, is_of_seat, opening_serving, with_move, asking, peeked}
 use Rattle.interleavings.specs.ServingMoves.{peeking, answering, served_by, served_from, served}
-use Rattle.interleavings.specs.Served.{IsServed, CallName, call_made, reply_got, ServedEntry, ComesBefore, IsOneOrder}
+use Rattle.interleavings.specs.Served.{IsServed, CallName, call_made, reply_got, ServedCall, ComesBefore, IsOneOrder}
 use Rattle.interleavings.proofs.ports.OwnPortMoves.{named, sends_same, receives_same, looks_same}
 use Rattle.interleavings.proofs.ports.OwnPortRuns.{moves_same}
 use Rattle.interleavings.proofs.ports.RenamedChains.{Same, of_chain, same_opening}
@@ -201,7 +201,7 @@ module _ (n : ℕ) (homes : List ℕ) where
       not_made = ap (λ ms. call_made (served done n homes ms) y) (front p.k) ∙ made_same (take p.k moves) y ∙ p.not_made;
     }
 
-    order_too : (h : List ServedEntry) → IsOneOrder done n homes others h → IsOneOrder own n homes moves h
+    order_too : (h : List ServedCall) → IsOneOrder done n homes others h → IsOneOrder own n homes moves h
     order_too h o = record {
       legal = o.legal;
       made = λ i e here. sym (made_same moves e.id) ∙ o.made i e here;
@@ -211,7 +211,7 @@ module _ (n : ℕ) (homes : List ℕ) where
     }
 
     -- so there is one order,
-    pub own_order : n ≤ 16 → (h : List ServedEntry) × IsOneOrder (with_own_ports homes) n homes moves h
+    pub own_order : n ≤ 16 → (h : List ServedCall) × IsOneOrder (with_own_ports homes) n homes moves h
     own_order few =
         let o = one_order n homes others few in
         (o.0, order_too o.0 o.1)

@@ -4,7 +4,7 @@ ghost use Rattle.std.specs.Prelude.{◌≡◌, ◌++◌, ◌∷◌, [], OnOk, On
 use super::clients::{answers, client, listen, says};
 use crossbeam_channel::{Receiver, Sender, unbounded};
 use io_threads::{
-    FrontEnd, FrontEndSettings, LoopHandles, Pooled, ScheduledElsewhere, ServedServer,
+    FrontEnd, FrontEndServer, FrontEndSettings, LoopHandles, Pooled, ScheduledElsewhere,
     open_front_end, open_loop_handles,
 };
 use mio::Poll;
@@ -367,13 +367,13 @@ fn only_served_server(
     listener: TcpListener,
     pools: Vec<SeatPool>,
     mark: Mark,
-) -> Option<Vec<ServedServer>> {
+) -> Option<Vec<FrontEndServer>> {
     let mut served_servers = Vec::new(alloc);
-    let served_server = ServedServer {
+    let served_server = FrontEndServer {
         listener,
         pools,
         mark,
-        output_permit: OutputPermit::loose(),
+        output_permit: OutputPermit::without_lease(),
     };
     served_servers.push(served_server).ok()?;
     Some(served_servers)

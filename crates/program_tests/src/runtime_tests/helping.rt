@@ -2,7 +2,7 @@
 
 use super::clients::{answers, client, listen};
 use io_threads::{
-    FrontEnd, FrontEndSettings, LoopHandles, ServedServer, open_front_end, open_loop_handles,
+    FrontEnd, FrontEndServer, FrontEndSettings, LoopHandles, open_front_end, open_loop_handles,
 };
 use runtime::{
     ClusterFault, Concurrency, Scheduler, ServerParts, all_links, all_parts, all_servers,
@@ -107,7 +107,7 @@ fn all_served_servers<R: Net<Listener = TcpListener, Stream = TcpStream>>(
     rt: &R,
     alloc: Global,
     servers_parts: Vec<ServerParts>,
-) -> Option<(Vec<u16>, Vec<ServedServer>)> {
+) -> Option<(Vec<u16>, Vec<FrontEndServer>)> {
     let mut ports = Vec::new(alloc);
     let mut served_servers = Vec::new(alloc);
     for parts in servers_parts {
@@ -122,15 +122,15 @@ fn all_served_servers<R: Net<Listener = TcpListener, Stream = TcpStream>>(
 fn served_server_of<R: Net<Listener = TcpListener, Stream = TcpStream>>(
     rt: &R,
     parts: ServerParts,
-) -> Option<(u16, ServedServer)> {
+) -> Option<(u16, FrontEndServer)> {
     let (port, listener) = listen(rt)?;
     let ServerParts { pools, control } = parts;
     let mark = control.failed.share().ok()?;
-    let served_server = ServedServer {
+    let served_server = FrontEndServer {
         listener,
         pools,
         mark,
-        output_permit: OutputPermit::loose(),
+        output_permit: OutputPermit::without_lease(),
     };
     Some((port, served_server))
 }

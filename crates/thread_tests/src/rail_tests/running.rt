@@ -103,12 +103,12 @@ fn goes<R: Wait + Drop>(
         Step::TurnsIfAny(turn) => turns_if_any(&mut server.worker, turn),
         Step::Weighs(weight) => Ok(server.worker.weight() == weight),
         Step::Replied(first, second) => Ok(replied(&mut server.worker, first, second)),
-        Step::Submits => submits(rt, alloc, &mut server.stands),
-        Step::SeesItsWrite => sees_its_write(rt, alloc, &mut server.stands),
+        Step::Submits => submits(rt, alloc, &mut server.thread_handles),
+        Step::SeesItsWrite => sees_its_write(rt, alloc, &mut server.thread_handles),
         Step::SeesIfAny(any) => Ok(
-            sees_if_any(rt, alloc, &mut server.stands)? == any.then_some(true),
+            sees_if_any(rt, alloc, &mut server.thread_handles)? == any.then_some(true),
         ),
-        Step::IsClosed => Ok(is_closed(rt, alloc, &mut server.stands)),
+        Step::IsClosed => Ok(is_closed(rt, alloc, &mut server.thread_handles)),
         Step::Brings(news) => Ok(brings(rt, &mut server.inlets, news)),
     }
 }
@@ -256,9 +256,9 @@ fn sends<R: Wait>(rt: &R, seat: &mut Seat, call: Call) -> bool
 pub(crate) fn submits<R: Wait>(
     rt: &R,
     alloc: Global,
-    stands: &mut Vec<ThreadHandle>,
+    thread_handles: &mut Vec<ThreadHandle>,
 ) -> Result<bool, RailFault> {
-    match stands.last_mut() {
+    match thread_handles.last_mut() {
         Some(thread_handle) => Ok(sends(rt, &mut thread_handle.seat, set_of_a(alloc)?)),
         None => Err(RailFault::NoReader),
     }
@@ -319,9 +319,9 @@ fn is_its_write(
 fn sees_its_write<R: Wait>(
     rt: &R,
     alloc: Global,
-    stands: &mut Vec<ThreadHandle>,
+    thread_handles: &mut Vec<ThreadHandle>,
 ) -> Result<bool, RailFault> {
-    let Some(thread_handle) = stands.last_mut() else {
+    let Some(thread_handle) = thread_handles.last_mut() else {
         return Err(RailFault::NoReader);
     };
     match thread_handle.seat.reply(rt) {
@@ -333,9 +333,9 @@ fn sees_its_write<R: Wait>(
 fn sees_if_any<R: Wait>(
     rt: &R,
     alloc: Global,
-    stands: &mut Vec<ThreadHandle>,
+    thread_handles: &mut Vec<ThreadHandle>,
 ) -> Result<Option<bool>, RailFault> {
-    let Some(thread_handle) = stands.last_mut() else {
+    let Some(thread_handle) = thread_handles.last_mut() else {
         return Err(RailFault::NoReader);
     };
     match thread_handle.seat.reply_if_any(rt) {
@@ -348,8 +348,12 @@ fn sees_if_any<R: Wait>(
     }
 }
 
-pub(crate) fn is_closed<R: Wait>(rt: &R, alloc: Global, stands: &mut Vec<ThreadHandle>) -> bool {
-    sees_its_write(rt, alloc, stands) == Err(RailFault::Closed)
+pub(crate) fn is_closed<R: Wait>(
+    rt: &R,
+    alloc: Global,
+    thread_handles: &mut Vec<ThreadHandle>,
+) -> bool {
+    sees_its_write(rt, alloc, thread_handles) == Err(RailFault::Closed)
 }
 
 // --- the inlet

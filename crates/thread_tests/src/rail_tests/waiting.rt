@@ -94,18 +94,18 @@ fn next_turn<R: Wait + Drop>(
 fn submits_all<R: Wait>(
     rt: &R,
     alloc: Global,
-    stands: &mut Vec<ThreadHandle>,
+    thread_handles: &mut Vec<ThreadHandle>,
 ) -> Result<bool, RailFault> {
     let mut sent = true;
     for _ in 0..CALLS {
-        sent &= submits(rt, alloc, stands)?;
+        sent &= submits(rt, alloc, thread_handles)?;
     }
     Ok(sent)
 }
 
 // Takes a reply, if one stands at the last thread handle.
-fn has_reply<R: Wait>(rt: &R, stands: &mut Vec<ThreadHandle>) -> Result<bool, RailFault> {
-    let Some(thread_handle) = stands.last_mut() else {
+fn has_reply<R: Wait>(rt: &R, thread_handles: &mut Vec<ThreadHandle>) -> Result<bool, RailFault> {
+    let Some(thread_handle) = thread_handles.last_mut() else {
         return Err(RailFault::NoReader);
     };
     match thread_handle.seat.reply_if_any(rt) {
@@ -121,9 +121,9 @@ fn has_reply<R: Wait>(rt: &R, stands: &mut Vec<ThreadHandle>) -> Result<bool, Ra
 
 // Takes a reply, for which it waits ten seconds at most. None comes from a server that is stopped, once the seat has
 // taken those that it put before.
-fn has_reply_soon<R: Wait + Clock>(rt: &R, stands: &mut Vec<ThreadHandle>) -> bool {
+fn has_reply_soon<R: Wait + Clock>(rt: &R, thread_handles: &mut Vec<ThreadHandle>) -> bool {
     for _ in 0..10_000 {
-        match has_reply(rt, stands) {
+        match has_reply(rt, thread_handles) {
             Ok(true) => return true,
             Ok(false) => thread::sleep(rt, Duration::from_millis(1)),
             Err(_) => return false,
@@ -136,7 +136,7 @@ fn has_reply_soon<R: Wait + Clock>(rt: &R, stands: &mut Vec<ThreadHandle>) -> bo
 // many these are, if the worker stood still before its last turn.
 fn takes_all_late<R: Wait + Clock>(
     rt: &R,
-    stands: &mut Vec<ThreadHandle>,
+    thread_handles: &mut Vec<ThreadHandle>,
     begun: &AtomicU64,
     taken: &AtomicU64,
 ) -> Result<Option<u64>, AllocError> {
@@ -144,7 +144,7 @@ fn takes_all_late<R: Wait + Clock>(
     let before = count_when_still(rt, taken);
     let mut replies = 0_u64;
     for _ in 0..CALLS {
-        if has_reply_soon(rt, stands) {
+        if has_reply_soon(rt, thread_handles) {
             replies = replies.wrapping_add(1);
         }
     }
@@ -165,14 +165,14 @@ fn turns_beside<R: Wait + Drop>(
 fn waits_for_room<R: Wait + Threads + Clock + Send + Sync + Drop>(
     rt: &R,
     worker: &mut Worker<R>,
-    stands: &mut Vec<ThreadHandle>,
+    thread_handles: &mut Vec<ThreadHandle>,
 ) -> Result<bool, RailFault> {
     let begun = AtomicU64::new(0);
     let taken = AtomicU64::new(0);
     let (went, replies) = thread::join(
         rt,
         || turns_beside(worker, &begun, &taken),
-        || takes_all_late(rt, stands, &begun, &taken),
+        || takes_all_late(rt, thread_handles, &begun, &taken),
     );
     if replies? == Some(taken.load(Ordering::SeqCst)) {
         went
@@ -187,8 +187,8 @@ fn replies_wait<R: Wait + Threads + Clock + Send + Sync + Drop + Copy>(
     alloc: Global,
 ) -> Result<bool, RailFault> {
     let mut server = first_of(rt, alloc, 1, 1)?;
-    let waited = match submits_all(&rt, alloc, &mut server.stands) {
-        Ok(true) => waits_for_room(&rt, &mut server.worker, &mut server.stands),
+    let waited = match submits_all(&rt, alloc, &mut server.thread_handles) {
+        Ok(true) => waits_for_room(&rt, &mut server.worker, &mut server.thread_handles),
         refused => refused,
     };
     drop(server);

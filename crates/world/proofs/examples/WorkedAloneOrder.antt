@@ -6,7 +6,7 @@ use Rattle.table.specs.declared.operations.Reply.TheVariants.{Stored}
 use Rattle.world.specs.Calls.{CallId}
 use Rattle.world.specs.Orders.{OrderedCall, IsLinearization}
 use Rattle.world.specs.WorkedSchedules.{name, said, alone_homes, alone_events, alone_order}
-use Rattle.world.proofs.examples.WorkedOrders.{under, call_there, reply_there, stands, one_ordinal}
+use Rattle.world.proofs.examples.WorkedOrders.{under, call_there, reply_there, stands, read_twice}
 use Rattle.world.proofs.order.OneOrder.{one_order}
 use Rattle.world.proofs.examples.WorkedAlone.{set, called, replied}
 
@@ -42,7 +42,7 @@ only_the_set (e ∷ f ∷ h) order =
     (call_there 3 alone_homes alone_events (e ∷ f ∷ h) order _ called 1 f refl) in
     let same : e.id ≡ f.id =
     (λ i. record { connection = (first.0 ∙ sym second.0) i; ordinal = (first.1 ∙ sym second.1) i }) in
-    let ordinal : 0 ≡ 1 = one_ordinal 3 alone_homes alone_events (e ∷ f ∷ h) order 0 1 e f refl refl same in
+    let ordinal : 0 ≡ 1 = read_twice 3 alone_homes alone_events (e ∷ f ∷ h) order 0 1 e f refl refl same in
     absurd (omega (arith, ordinal))
 
 -- and so it is the order that there is

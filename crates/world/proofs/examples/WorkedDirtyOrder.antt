@@ -13,7 +13,7 @@ use Rattle.table.specs.declared.operations.Reply.TheVariants.{Value}
 use Rattle.world.specs.Calls.{CallId}
 use Rattle.world.specs.Orders.{OrderedCall, StandsAt, IsLinearization}
 use Rattle.world.specs.WorkedSchedules.{name, said, dirty_homes, dirty_events}
-use Rattle.world.proofs.examples.WorkedOrders.{under, call_there, reply_there, one_ordinal}
+use Rattle.world.proofs.examples.WorkedOrders.{under, call_there, reply_there, read_twice}
 use Rattle.world.proofs.examples.WorkedDirtyRead.{key, set, get, called, replied}
 
 abbrev the_set : CallId
@@ -96,7 +96,7 @@ set_before_get (e ∷ f ∷ h) order i j l set_at get_at =
         absurd (omega (arith, ordinal, l))
     by_names (inl first) (inl again) =
         let same : e.id ≡ f.id = id_of _ _ _ _ (first.0 ∙ sym again.0) (first.1 ∙ sym again.1) in
-        let ordinal : 0 ≡ 1 = one_ordinal 3 dirty_homes dirty_events (e ∷ f ∷ h) order 0 1 e f refl refl same in
+        let ordinal : 0 ≡ 1 = read_twice 3 dirty_homes dirty_events (e ∷ f ∷ h) order 0 1 e f refl refl same in
         absurd (omega (arith, ordinal))
     by_names (inl first) (inr second) =
         let id : f.id ≡ the_get = id_of _ _ _ _ second.0 second.1 in

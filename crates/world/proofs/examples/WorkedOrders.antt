@@ -89,7 +89,7 @@ module _ (count : ℕ) (homes : List ℕ) (events : List Event) (h : List Ordere
       (found.0, found.1)
 
   -- two calls of the order with one name are one
-  pub one_ordinal : (i j : ℕ) (e f : OrderedCall) → slice_get h i ≡ Some e → slice_get h j ≡ Some f → e.id ≡ f.id
+  pub read_twice : (i j : ℕ) (e f : OrderedCall) → slice_get h i ≡ Some e → slice_get h j ≡ Some f → e.id ≡ f.id
       → i ≡ j
-  one_ordinal i j e f here there same = order.once i j f.id (record { entry = e; here = here; same = same })
+  read_twice i j e f here there same = order.once i j f.id (record { entry = e; here = here; same = same })
       (record { entry = f; here = there; same = refl })

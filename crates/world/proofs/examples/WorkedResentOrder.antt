@@ -14,7 +14,7 @@ use Rattle.table.specs.declared.operations.Reply.TheVariants.{Number, Value}
 use Rattle.table.specs.declared.operations.Target.TheVariants.{One}
 use Rattle.world.specs.Orders.{OrderedCall, IsLinearization}
 use Rattle.world.specs.WorkedSchedules.{said, resent_homes, resent_events, resent_twice}
-use Rattle.world.proofs.examples.WorkedOrders.{under, call_there, one_ordinal}
+use Rattle.world.proofs.examples.WorkedOrders.{under, call_there, read_twice}
 use Rattle.world.proofs.examples.WorkedResent.{key, set, incr, get, eight, eight_with, one_put, seven, found_seven}
 use Rattle.world.proofs.examples.WorkedResent.{found_eight, called}
 
@@ -43,7 +43,7 @@ incr_once h order i j e f here there first second =
     (call_there 3 resent_homes resent_events h order _ called i e here ∙ ap Some first) in
     let two = is_incr f.id.connection f.id.ordinal
     (call_there 3 resent_homes resent_events h order _ called j f there ∙ ap Some second) in
-    one_ordinal 3 resent_homes resent_events h order i j e f here there
+    read_twice 3 resent_homes resent_events h order i j e f here there
     (λ k. record { connection = (one.0 ∙ sym two.0) k; ordinal = (one.1 ∙ sym two.1) k })
 
 -- what follows the first incr, if that found this

@@ -138,9 +138,9 @@ worked_comes v w same c home old new call ss outputs served at_c home_is call_is
     ∙ call_worked v w same c home old new call served at_c home_is call_is is
 
 -- what is read twice is the same
-pub one_ordinal : (v w : World) → v ≡ w → (c : ℕ) (x y : Connection) → home_lives w (slice_get w.connections c) ≡ true
+pub read_twice : (v w : World) → v ≡ w → (c : ℕ) (x y : Connection) → home_lives w (slice_get w.connections c) ≡ true
     → x ≡ get_or v.connections c x → y ≡ get_or v.connections c y → x ≡ y
-one_ordinal v w same c x y served at_x at_y =
+read_twice v w same c x y served at_x at_y =
     let there = λ (k : Connection) (at : k ≡ get_or v.connections c k). served_at w w.connections c k served
     (at ∙ ap (λ (u : World). get_or u.connections c k) same) in
     same_Some x y (sym (there x at_x) ∙ there y at_y)

@@ -37,14 +37,14 @@ use Rattle.world.proofs.order.Spent.{IsFull, full_later}
 use Rattle.world.proofs.order.WithServers.{WasAsked, IsNew, stood, asked_way}
 
 -- the call of this ordinal of a connection
-abbrev pub at_ordinal : ℕ → ℕ → CallId
-at_ordinal c n = record { connection = c; ordinal = n }
+abbrev pub id_at : ℕ → ℕ → CallId
+id_at c n = record { connection = c; ordinal = n }
 
 -- ---- what holds after each event
 
 -- the open call of this connection was issued by its server, or that has no room
 abbrev pub IsIssuedOrFull : Traced → ℕ → Connection → Type 0
-IsIssuedOrFull t c k = In (at_ordinal c (length k.replies)) (issued_by t k.home) ⊎ IsFull t k.home
+IsIssuedOrFull t c k = In (id_at c (length k.replies)) (issued_by t k.home) ⊎ IsFull t k.home
 
 -- so is each update that is with its server
 abbrev pub AllIssued : Traced → Type 0
@@ -80,8 +80,8 @@ module _ (t u : Traced) (f : Follows t u) where
           | inl n ↦ inl (
             n.0,
             ap (λ h. slice_get (issued_by u h) n.0) was.home
-                ∙ f.later.issued old.home n.0 (at_ordinal c (length old.replies)) n.1
-                ∙ ap (λ (rs : List Reply). Some (at_ordinal c (length rs))) (sym was.replies),
+                ∙ f.later.issued old.home n.0 (id_at c (length old.replies)) n.1
+                ∙ ap (λ (rs : List Reply). Some (id_at c (length rs))) (sym was.replies),
           )
           | inr full ↦ inr
               (subst (λ h. IsFull u h) (sym was.home) (full_later t u old.home f.before f.after f.later full))
@@ -94,7 +94,7 @@ module _ (t u : Traced) (f : Follows t u) where
       → k.stage ≡ Asked
       → is_update new.working.call.op ≡ true
       → is_room_for_update (server t.world new.working.connection.home) ≡ true
-      → In (at_ordinal c (length k.replies)) (issued_by u k.home)
+      → In (id_at c (length k.replies)) (issued_by u k.home)
   entered c k new here stage is room =
       let r = new.working in
       let a = r.connection.home in
@@ -223,13 +223,13 @@ module _ (t : Traced) (l : Lawful t) (issued : AllIssued t) (x : CallId)
       let begun : begun_call t.world x ≡ Some i.0 =
       call_found t.world x k i.0 here (ap (slice_get k.calls) same ∙ i.1) in
       elim (i.2 (update i.0 begun)) [
-        | inl there ↦ inl (there.0, there.1 ∙ ap (λ n. Some (at_ordinal x.connection n)) (sym same))
+        | inl there ↦ inl (there.0, there.1 ∙ ap (λ n. Some (id_at x.connection n)) (sym same))
         | inr full ↦ inr full
       ]
   by_stage k (Replied reply) here e high low =
       let same : x.ordinal ≡ length k.replies = omega (arith, high, low) in
       let answer = l.calling.waiting x.connection k reply here e in
-      inl (answered_issued k reply here (subst (λ n. IsAnswer t (at_ordinal x.connection n) reply) (sym same) answer))
+      inl (answered_issued k reply here (subst (λ n. IsAnswer t (id_at x.connection n) reply) (sym same) answer))
 
   -- an update that was given to its server was issued by it, unless it had no id or number left
   pub given_is_issued : (g : IsGivenAt t.world x)

@@ -1,5 +1,5 @@
 use Rattle.faces.specs.Showing.{pending}
-use Rattle.faces.proofs.Posting.{unchanged_later}
+use Rattle.faces.proofs.BoardRuleLaws.{unchanged_later}
 use Rattle.faces.proofs.boards.begin.Goals as goal
 
 pub show-requires-clause-later : goal.show-requires-clause-later

@@ -1,4 +1,4 @@
-use Rattle.faces.proofs.Posting.{admits, forks, merges}
+use Rattle.faces.proofs.BoardRuleLaws.{admits, forks, merges}
 use Rattle.faces.proofs.boards.place.Goals as goal
 
 pub reader-requires : goal.reader-requires

@@ -1,7 +1,7 @@
 use Rattle.std.proofs.Common.{◌≡◌, ap}
 use Rattle.faces.specs.Shown.{Shown, acts_of}
 use Rattle.faces.specs.Showing.{pending, Shows}
-use Rattle.faces.proofs.Posting.{changed_face, changed_later, folded_by, published_as, when_ok}
+use Rattle.faces.proofs.BoardRuleLaws.{changed_face, changed_later, folded_by, published_as, when_ok}
 use Rattle.faces.proofs.boards.publish.Goals as goal
 
 pub show-requires-clause-later : goal.show-requires-clause-later

@@ -1,5 +1,5 @@
 use Rattle.faces.specs.Showing.{pending}
-use Rattle.faces.proofs.Posting.{shows}
+use Rattle.faces.proofs.BoardRuleLaws.{shows}
 use Rattle.faces.proofs.boards.show.Goals as goal
 
 pub publish_as-writer-requires : goal.publish_as-writer-requires

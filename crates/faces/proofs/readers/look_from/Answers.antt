@@ -5,7 +5,7 @@ use Rattle.faces.specs.Boards.{IsShownBy}
 use Rattle.faces.specs.Readers.{ShowsItem}
 use Rattle.faces.specs.Shown.{Shown}
 use Rattle.faces.proofs.Looks.{knows_after, found_after, seen_after, looked_after, never_looked, once_looked}
-use Rattle.faces.proofs.Posting.{enters}
+use Rattle.faces.proofs.BoardRuleLaws.{enters}
 use Rattle.faces.proofs.readers.look_from.Goals as goal
 
 pub enter_as-requires : goal.enter_as-requires

@@ -6,10 +6,10 @@ use Rattle.io_threads.proofs.pools.deal.Goals as goal
 
 pub loop-thread_handle-init : goal.loop-thread_handle-init
 loop-thread_handle-init c =
-    let same : into_iter_items c.into_iter-thread_handle-iterator.result ≡ c.args.stands.items = search rules in
+    let same : into_iter_items c.into_iter-thread_handle-iterator.result ≡ c.args.thread_handles.items = search rules in
     record {
       server = λ o are.
-          none_made o c.args.stands.items (into_iter_items c.into_iter-thread_handle-iterator.result)
+          none_made o c.args.thread_handles.items (into_iter_items c.into_iter-thread_handle-iterator.result)
           c.args.others.items
           c.new-pools.result.items same c.new-pools.ensures.items are;
       count = search rules;

@@ -8,15 +8,15 @@ use Rattle.io_threads.proofs.pools.deal.Given as goal
 -- are of; each thread handle that isn't left has its pool
 abbrev pub invariant-loop-thread_handle : goal.invariant-loop-thread_handle
 invariant-loop-thread_handle l = record {
-  server : (o : Origin) → AreOf o l.fn.stands.items l.fn.others.items []
+  server : (o : Origin) → AreOf o l.fn.thread_handles.items l.fn.others.items []
       → AreOf o (into_iter_items l.thread_handle-iterator) l.fn.others.items l.pools.items;
-  count : vec_len l.pools + length (into_iter_items l.thread_handle-iterator) ≡ vec_len l.fn.stands;
+  count : vec_len l.pools + length (into_iter_items l.thread_handle-iterator) ≡ vec_len l.fn.thread_handles;
 }
 
 -- the same of the seats that are left
 abbrev pub invariant-loop-seat : goal.invariant-loop-seat
 invariant-loop-seat l = record {
-  server : (o : Origin) → AreOf o l.fn.stands.items l.fn.others.items []
+  server : (o : Origin) → AreOf o l.fn.thread_handles.items l.fn.others.items []
       → AreOf o [] (into_iter_items l.seat-iterator) l.pools.items;
-  count : vec_len l.pools ≡ vec_len l.fn.stands;
+  count : vec_len l.pools ≡ vec_len l.fn.thread_handles;
 }

@@ -1,5 +1,5 @@
 use Rattle.std.proofs.Common.{arith}
-use Rattle.io_threads.proofs.Dealt.{opened_lead, opened_of_one, opened_pools, opened_stands, opened_worker}
+use Rattle.io_threads.proofs.Dealt.{opened_lead, opened_of_one, opened_pools, opened_handles, opened_worker}
 use Rattle.io_threads.proofs.pools.open_pools.Goals as goal
 
 pub deal-requires : goal.deal-requires
@@ -13,7 +13,7 @@ returns-in-Ok-clause-pools g c = opened_pools _ _ _ _ _ _ _ _ c.in_ok-worker.ens
 
 pub returns-in-Ok-clause-threads : goal.returns-in-Ok-clause-threads
 returns-in-Ok-clause-threads g c =
-    omega (arith, c.in-Ok.ensures.count, opened_stands _ _ _ _ _ _ _ _ c.in_ok-worker.ensures)
+    omega (arith, c.in-Ok.ensures.count, opened_handles _ _ _ _ _ _ _ _ c.in_ok-worker.ensures)
 
 pub returns-in-Ok-clause-inlets : goal.returns-in-Ok-clause-inlets
 returns-in-Ok-clause-inlets g c = opened_lead _ _ _ _ _ _ _ _ c.in_ok-worker.ensures

@@ -1,4 +1,4 @@
-use Rattle.leases.proofs.Warding.{whole_for_beat, told_for_beat}
+use Rattle.leases.proofs.Recording.{whole_for_beat, told_for_beat}
 use Rattle.leases.proofs.laws.server_records_beat_in_whole_epochs.Goals as goal
 
 pub returns-clause-own : goal.returns-clause-own

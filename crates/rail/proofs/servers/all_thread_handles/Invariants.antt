@@ -10,7 +10,7 @@ invariant-loop-port l = record {
   publisher : l.publisher ≡ l.fn.publisher;
   inbox_builder : view l.inbox_builder.pass ≡ taker l.port l.port [];
   inbox : l.inbox_builder.pass.table_id ≡ l.fn.inbox_builder.pass.table_id;
-  stands : l.stands.items ≡ thread_handles_from l.fn.publisher.published.origin l.fn.inbox_builder.pass.table_id 0
+  thread_handles : l.thread_handles.items ≡ thread_handles_from l.fn.publisher.published.origin l.fn.inbox_builder.pass.table_id 0
       l.port;
   reply_senders : l.reply_senders.items ≡ reply_senders_from l.fn.publisher.published.origin 0 l.port;
 }

@@ -56,7 +56,7 @@ returns-in-Ok-beside g c =
             goes = true;
             reply_senders = made.reply_senders i;
           });
-      stands = made.stands ∙ ap (λ (b : TableId). thread_handles_from o b 0 c.args.readers) inbox;
+      thread_handles = made.thread_handles ∙ ap (λ (b : TableId). thread_handles_from o b 0 c.args.readers) inbox;
       seats = made.seats ∙ ap (λ (b : TableId). seats_from o b c.args.readers c.args.more) inbox;
       brought_by = made.inlets ∙ ap (λ (b : TableId). inlets_from b (c.args.readers + c.args.more) c.args.inlets) inbox;
     }

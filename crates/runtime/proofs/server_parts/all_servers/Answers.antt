@@ -1,7 +1,7 @@
 use Rattle.std.proofs.Common.{◌≡◌, ◌∙◌, ap, rules}
 use Rattle.runtime.specs.Wiring.{openings}
 use Rattle.runtime.proofs.Standing.{own_more, starts_more}
-use Rattle.runtime.proofs.Wired.{control_more}
+use Rattle.runtime.proofs.Wired.{leads_more}
 use Rattle.runtime.proofs.server_parts.all_servers.Goals as goal
 
 pub loop-id-preserved : goal.loop-id-preserved
@@ -13,7 +13,7 @@ loop-id-preserved g c =
           c.in_ok-push.ensures.items;
       pools = own_more c.loop-id.servers.items c.push.new.self.items c.in_ok-server.server c.loop-id.invariant.pools
           c.in_ok-server.ensures.pools c.in_ok-push.ensures.items;
-      inlets = control_more c.loop-id.servers.items c.push.new.self.items c.in_ok-server.server
+      inlets = leads_more c.loop-id.servers.items c.push.new.self.items c.in_ok-server.server
           c.loop-id.invariant.inlets
           c.in_ok-server.ensures.inlets c.in_ok-push.ensures.items;
     }

@@ -1,5 +1,5 @@
 use Rattle.std.proofs.Common.{◌≡◌, All, vec_len}
-use Rattle.runtime.specs.Wiring.{HasOwnPools, LeadsControl, cores_of, openings, starts_of}
+use Rattle.runtime.specs.Wiring.{HasOwnPools, LeadsToOwnInbox, cores_of, openings, starts_of}
 use Rattle.runtime.proofs.server_parts.all_servers.Given as goal
 
 -- the servers that were made
@@ -8,5 +8,5 @@ invariant-loop-id g l = record {
   count : vec_len l.servers ≡ l.id;
   workers : starts_of l.servers.items ≡ openings l.id l.count;
   pools : All HasOwnPools (cores_of l.servers.items);
-  inlets : All (λ server. LeadsControl server) l.servers.items;
+  inlets : All (λ server. LeadsToOwnInbox server) l.servers.items;
 }

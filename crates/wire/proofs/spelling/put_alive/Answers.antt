@@ -9,7 +9,7 @@ pub returns : goal.returns
 returns c =
     let alive = c.args.alive.now in
     let old = c.args.out.now.items in
-    let reigning = c.extend_reserved.new.self.items in
+    let epoch_out = c.extend_reserved.new.self.items in
     let stamped = c.extend_reserved-2.new.self.items in
     let ended = c.extend_reserved-3.new.self.items in
     let timed = c.extend_reserved-4.new.self.items in
@@ -21,9 +21,9 @@ returns c =
     let term = eight_bytes alive.term in
     let gone = to_be_bytes w16 alive.gone in
     let known = to_be_bytes w16 alive.known in
-    let epoch_put = spelled_so old reigning c.to_be_bytes.result epoch c.extend_reserved.ensures.items
+    let epoch_put = spelled_so old epoch_out c.to_be_bytes.result epoch c.extend_reserved.ensures.items
     c.to_be_bytes.ensures in
-    let stamp_put = spelled_so reigning stamped c.to_be_bytes-2.result stamp c.extend_reserved-2.ensures.items
+    let stamp_put = spelled_so epoch_out stamped c.to_be_bytes-2.result stamp c.extend_reserved-2.ensures.items
     c.to_be_bytes-2.ensures in
     let end_put = spelled_so stamped ended c.to_be_bytes-3.result end c.extend_reserved-3.ensures.items
     c.to_be_bytes-3.ensures in
@@ -33,8 +33,8 @@ returns c =
     c.to_be_bytes-5.ensures in
     let known_put = spelled_so lost done c.to_be_bytes-6.result known c.extend_reserved-6.ensures.items
     c.to_be_bytes-6.ensures in
-    then_more old reigning done epoch (stamp ++ (end ++ (term ++ (gone ++ known)))) epoch_put
-    (then_more reigning stamped done stamp (end ++ (term ++ (gone ++ known))) stamp_put
+    then_more old epoch_out done epoch (stamp ++ (end ++ (term ++ (gone ++ known)))) epoch_put
+    (then_more epoch_out stamped done stamp (end ++ (term ++ (gone ++ known))) stamp_put
     (then_more stamped ended done end (term ++ (gone ++ known)) end_put
     (then_more ended timed done term (gone ++ known) term_put
     (then_more timed lost done gone known gone_put known_put))))

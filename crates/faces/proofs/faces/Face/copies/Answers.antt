@@ -1,6 +1,6 @@
 use Rattle.std.proofs.Common.{◌∙◌, ap}
 use Rattle.faces.specs.Shown.{acts_of}
-use Rattle.faces.proofs.Posting.{filled_by}
+use Rattle.faces.proofs.BoardRuleLaws.{filled_by}
 use Rattle.faces.proofs.faces.Face.copies.Goals as goal
 
 pub returns-clause-first : goal.returns-clause-first

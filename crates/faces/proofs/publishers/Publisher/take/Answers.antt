@@ -1,7 +1,7 @@
 use Rattle.std.proofs.Common.{◌≡◌, ◌∙◌, ap, sym, subst}
 use Rattle.faces.specs.Histories.{History, with_next}
 use Rattle.faces.specs.Publishers.{IsShowing}
-use Rattle.faces.proofs.Posting.{when_ok}
+use Rattle.faces.proofs.BoardRuleLaws.{when_ok}
 use Rattle.faces.proofs.Stepping.{face_next, later_next, node_next, outputs_of}
 use Rattle.faces.proofs.publishers.Publisher.take.Goals as goal
 

@@ -1,10 +1,10 @@
 use Rattle.std.proofs.Common.{ap}
-use Rattle.faces.specs.declared.boards.Knowledge.{Knowledge}
+use Rattle.faces.specs.declared.boards.BoardKnowledge.{BoardKnowledge}
 use Rattle.faces.proofs.readers.Reader.new.Goals as goal
 
 pub invariant_of-result : goal.invariant_of-result
 invariant_of-result c =
-    (ap (λ (v : Knowledge). v.knows) c.requires.server, ap (λ (v : Knowledge). v.origin) c.requires.server)
+    (ap (λ (v : BoardKnowledge). v.knows) c.requires.server, ap (λ (v : BoardKnowledge). v.origin) c.requires.server)
 
 pub returns : goal.returns
-returns c = ap (λ (v : Knowledge). record { seen = c.args.log_position; looks = v.histories }) c.requires.server
+returns c = ap (λ (v : BoardKnowledge). record { seen = c.args.log_position; looks = v.histories }) c.requires.server

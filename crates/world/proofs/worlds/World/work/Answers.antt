@@ -3,7 +3,7 @@ use Rattle.std.specs.Prelude.{slice_get}
 use Rattle.world.specs.Connections.{to_work, asked}
 use Rattle.world.specs.Worlds.{home_lives}
 use Rattle.world.specs.LivingParts.{living_part}
-use Rattle.world.proofs.failures.Losses.{one_ordinal, worked_comes, worked_lost, unworked}
+use Rattle.world.proofs.failures.Losses.{read_twice, worked_comes, worked_lost, unworked}
 use Rattle.world.proofs.worlds.World.work.Goals as goal
 
 -- the begun call goes to its server, and what that puts out goes its ways
@@ -14,7 +14,7 @@ returns-in_ok-put_all-in-Ok-clause-ok c =
     ∙ c.if-not-home_lives.false in
     let old = c.index-connection.result.now in
     let call_is : Some c.in-Some.call ≡ to_work old.stage old = sym c.in-Some.is ∙ c.in_ok-call.ensures.call in
-    let same = one_ordinal _ _ c.self.view_is c.args.c c.index_mut.result.now old served c.index_mut.ensures.value
+    let same = read_twice _ _ c.self.view_is c.args.c c.index_mut.result.now old served c.index_mut.ensures.value
     c.index-connection.ensures in
     let asked_is : c.ask.new.self ≡ asked old = c.ask.ensures ∙ ap asked same in
     c.in_ok-put_all-in-Ok.ensures.ok

@@ -14,30 +14,30 @@ use Rattle.node.specs.Faces.{face_changed, face_after_all, face_at, no_face}
 use Rattle.faces.specs.declared.faces.Face.{Face}
 use Rattle.faces.specs.declared.acts.Act.{Act}
 use Rattle.faces.specs.declared.acts.Act.TheVariants.{Set, Clear}
-use Rattle.faces.specs.declared.boards.Knowledge.{Knowledge}
+use Rattle.faces.specs.declared.boards.BoardKnowledge.{BoardKnowledge}
 use Rattle.faces.specs.Histories.{History, IsLater, shown_after}
 use Rattle.faces.specs.Shown.{Shown, applied, acts_of, shown_first}
 use Rattle.faces.specs.Boards.{newcomer, seated, IsShownBy, Fits, Keeps, Tells}
 use Rattle.faces.proofs.Beginnings.{later_same, later_then}
 
 -- this history fits each place
-abbrev pub AllFit : History → List Knowledge → Type 0
-AllFit c views = (seat : ℕ) (v : Knowledge) → get_elem? views seat ≡ some v → Fits c v
+abbrev pub AllFit : History → List BoardKnowledge → Type 0
+AllFit c views = (seat : ℕ) (v : BoardKnowledge) → get_elem? views seat ≡ some v → Fits c v
 
-fit_set : (c : History) (views : List Knowledge) (seat : ℕ) (w : Knowledge)
+fit_set : (c : History) (views : List BoardKnowledge) (seat : ℕ) (w : BoardKnowledge)
     → Fits c w
     → AllFit c views
     → AllFit c (set views seat w)
 fit_set c views seat w mine h j u e =
-    ⊎_elim (λ (x : (j ≡ seat) × (w ≡ u)). subst (λ (y : Knowledge). Fits c y) x.1 mine)
+    ⊎_elim (λ (x : (j ≡ seat) × (w ≡ u)). subst (λ (y : BoardKnowledge). Fits c y) x.1 mine)
     (λ (x : (j ≢ seat) × (get_elem? views j ≡ some u)). h j u x.1) (at_set views seat j w u e)
 
-fit_more : (c : History) (views : List Knowledge) (w : Knowledge)
+fit_more : (c : History) (views : List BoardKnowledge) (w : BoardKnowledge)
     → Fits c w
     → AllFit c views
     → AllFit c (views ++ w ∷ [])
 fit_more c views w new h j u e = ⊎_elim (λ (x : get_elem? views j ≡ some u). h j u x)
-    (λ (is : w ≡ u). subst (λ (y : Knowledge). Fits c y) is new) (at_snoc views w u j e)
+    (λ (is : w ≡ u). subst (λ (y : BoardKnowledge). Fits c y) is new) (at_snoc views w u j e)
 
 fit_none : (c : History) → AllFit c []
 fit_none c j u e = absurd (some-ne-none u (sym e))
@@ -46,12 +46,12 @@ fit_none c j u e = absurd (some-ne-none u (sym e))
 newcomer_fits : (c : History) → Fits c newcomer
 newcomer_fits c = record { server = λ k. absurd (true≢false (sym k)); seen = All-nil (λ (d : History). IsLater d c) }
 
-seated_fits : (c : History) (v : Knowledge) → v.knows ≡ true → Fits c v → Fits c (seated v.origin)
+seated_fits : (c : History) (v : BoardKnowledge) → v.knows ≡ true → Fits c v → Fits c (seated v.origin)
 seated_fits c v knows fits =
     record { server = λ k. fits.server knows; seen = All-nil (λ (d : History). IsLater d c) }
 
 -- what fits a place still does once it is later
-later_fits : (c d : History) (v : Knowledge) → IsLater c d → Fits c v → Fits d v
+later_fits : (c d : History) (v : BoardKnowledge) → IsLater c d → Fits c v → Fits d v
 later_fits c d v later fits = record {
   server = λ k. fits.server k ∙ sym later.origin;
   seen = All-weaker (λ (e : History). IsLater e c) (λ (e : History). IsLater e d)
@@ -65,11 +65,11 @@ pub admits : Admits Keeps newcomer
 admits x views h = (h.0, fit_more x.history views newcomer (newcomer_fits x.history) h.1)
 
 -- the place has seen this history, once more
-abbrev pub having_seen : Knowledge → History → Knowledge
+abbrev pub having_seen : BoardKnowledge → History → BoardKnowledge
 having_seen v c = record { knows = true; origin = c.origin; histories = v.histories ++ c ∷ [] }
 
 -- the face changes, to a later one of the same server
-pub turns : (seat : ℕ) (v : Knowledge) (x y : Face)
+pub turns : (seat : ℕ) (v : BoardKnowledge) (x y : Face)
     → IsShownBy y
     → IsLater x.history y.history
     → TurnsAt Keeps seat v x y Tells
@@ -88,15 +88,15 @@ turns seat v x y shown later views h at =
       record { shown = shown; server = (refl, refl); same = was.server; histories = refl; later = was.seen },
     )
 
-pub enters : (seat : ℕ) (v : Knowledge) (x : Face) → TurnsAt Keeps seat v x x Tells
+pub enters : (seat : ℕ) (v : BoardKnowledge) (x : Face) → TurnsAt Keeps seat v x x Tells
 enters seat v x views h at = turns seat v x x h.0 (later_same x.history) views h at
 
-pub forks : (seat : ℕ) (v : Knowledge) → v.knows ≡ true → Forks Keeps seat v v (seated v.origin)
+pub forks : (seat : ℕ) (v : BoardKnowledge) → v.knows ≡ true → Forks Keeps seat v v (seated v.origin)
 forks seat v knows x views h at =
-    subst (λ (vs : List Knowledge). Keeps x (vs ++ seated v.origin ∷ [])) (sym (set_again views seat v at))
+    subst (λ (vs : List BoardKnowledge). Keeps x (vs ++ seated v.origin ∷ [])) (sym (set_again views seat v at))
     (h.0, fit_more x.history views (seated v.origin) (seated_fits x.history v knows (h.1 seat v at)) h.1)
 
-pub merges : (seat : ℕ) (v : Knowledge) (other : ℕ) (w : Knowledge) → Merges Keeps seat v other w w newcomer
+pub merges : (seat : ℕ) (v : BoardKnowledge) (other : ℕ) (w : BoardKnowledge) → Merges Keeps seat v other w w newcomer
 merges seat v other w x views h at apart there =
     let was : get_elem? views other ≡ some w =
     ⊎_elim (λ (t : (other ≡ seat) × (w ≡ w)). absurd (apart t.0))
@@ -129,7 +129,7 @@ filled_by x acts steps n history is done =
     ∙ folded (record { face = no_face; history = history }) steps n history)
 
 -- what is pending makes the face of the same server after the inputs that it says, no fewer than before
-pub shows : (seat : ℕ) (v : Knowledge) (x y : Face) (pending : List Act)
+pub shows : (seat : ℕ) (v : BoardKnowledge) (x y : Face) (pending : List Act)
     → IsLater x.history (fold applied x pending).history
     → IsShownBy (fold applied x pending)
     → y ≡ fold applied x pending
