@@ -9,7 +9,7 @@ from live_parts.peers import Peer, free_ports
 
 CLIENTS = ["--seats", 16, "--connections", 2048]
 # What the launcher sets: a program that is named without it is measured as it is used.
-ARENAS = {"MALLOC_ARENA_MAX": "1"}
+SETTINGS = {"MALLOC_ARENA_MAX": "1", "GLIBC_TUNABLES": "glibc.malloc.hugetlb=1"}
 
 
 class Craq(Peer):
@@ -21,7 +21,7 @@ class Craq(Peer):
 
     def start_craq(self, *words, stdin=subprocess.DEVNULL):
         words = [*self.program, *map(str, words)]
-        return self.start(words, stdin=stdin, stdout=subprocess.PIPE, text=True, env={**ARENAS, **os.environ})
+        return self.start(words, stdin=stdin, stdout=subprocess.PIPE, text=True, env={**SETTINGS, **os.environ})
 
     def open(self, _folder):
         self.first = free_ports(self.servers)
