@@ -1,19 +1,9 @@
-"""What has changed since a commit: which crates, and which of these show another face to the crates above them.
-
-A crate's face is all that another crate can know of it: its definitions, and its sources without comments and without
-the bodies of functions, since callers are proved from contracts. If a crate above cites lemmas of this one, these
-too."""
-import os
-import re
+"""What has changed since a commit: which crates, and which of these show something else to the crates above them
+(`gate_parts/faces.py`)."""
 import subprocess
 import tempfile
 
 import tree
-
-# What is written of one function's proof, which no other function sees.
-OF_A_FUNCTION = re.compile(r"proofs/.*/(Answers|Invariants|Proof)\.antt")
-TOKEN = re.compile(rb'(?m)^\d+ (\d+) (\d+) (\w+) "')
-COMMENTS = (b"//", b"/*")
 
 
 def git(*words):
@@ -59,49 +49,6 @@ def crates_at(commit, folder):
         return {}
 
 
-def face(crate, with_lemmas):
-    """A crate's face, as something to compare; None if its sources can't be read."""
-    from places import functions_in
-
-    bodies = {}
-    for it in functions_in(crate):
-        if it.is_plain:
-            bodies.setdefault(it.path, []).append(it.body)
-    found, tests = [crate.said.get("deps")], tree.test_files(crate)
-    for path in sorted(os.path.relpath(it, crate.folder) for it in tree.rtlib().files_of(crate.folder)):
-        is_lemma = path.startswith("proofs/") and not OF_A_FUNCTION.fullmatch(path)
-        if path.startswith("specs/") or with_lemmas and is_lemma:
-            found.append((path, tree.read(f"{crate.folder}/{path}")))
-        elif path.endswith(".rt") and path not in tests:
-            words = words_outside(crate, path, bodies.get(path, []))
-            if words is None:
-                return None
-            found.append((path, words))
-    return found
-
-
-def words_outside(crate, path, bodies):
-    """The words of a source but for comments and what lies in these bodies; None if it can't be read."""
-    ran = subprocess.run([tree.rtlib().RATTLE, "fmt", "--tokens", path], cwd=crate.folder, capture_output=True)
-    if ran.returncode:
-        return None
-    with open(f"{crate.folder}/{path}", "rb") as it:
-        data = it.read()
-    found = []
-    for token in TOKEN.finditer(ran.stdout):
-        begin, end = int(token[1]), int(token[2])
-        is_inside = any(first <= begin and end <= last for first, last in bodies)
-        if not is_inside and not data[begin:end].startswith(COMMENTS):
-            found.append(data[begin:end])
-    return found
-
-
-def cites_lemmas(crate, known):
-    """Whether a crate above names a lemma file of this one."""
-    word = f"Rattle.{crate.name}.proofs."
-    return any(word in tree.read(file) for it in tree.above(crate, known) for file in tree.rtlib().files_of(it.folder))
-
-
 class Changes:
     """What has changed since a commit, and what that asks for."""
 
@@ -124,9 +71,10 @@ class Changes:
             return False
         if before is None:
             return True
-        with_lemmas = cites_lemmas(crate, self.known)
-        now = face(crate, with_lemmas)
-        return now is None or now != face(before, with_lemmas)
+        import faces
+
+        with_lemmas = faces.is_cited(crate, tree.above(crate, self.known))
+        return faces.shown(crate, with_lemmas) != faces.shown(before, with_lemmas)
 
     def to_test(self):
         """The crates whose tests are to run: those of what changed or sees a change, or that cover it."""

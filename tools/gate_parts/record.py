@@ -2,10 +2,10 @@
 which was refused.
 
 Edits test how strong contracts are. Their verdicts depend on what a check reads of the crate, without and with each edit,
-and of the crates below it, on the kit and on the gate's own scripts, and on nothing else: a sum over exactly these stands
-in the record. Comments are not read. A crate with another sum is tried. In each run one crate that could be taken from the
-record is tried all the same; if one of its edits is not refused then, the gate fails. Which one is drawn by the sums: one
-that costs half as much comes twice as often.
+on what the crates below it show to those above (`faces.py`), on the kit and on the gate's own scripts, and on nothing
+else: a sum over exactly these stands in the record. Comments are not read. A crate with another sum is tried. In each run
+one crate that could be taken from the record is tried all the same; if one of its edits is not refused then, the gate
+fails. Which one is drawn by the sums: one that costs half as much comes twice as often.
 
 A row is a crate's name, the kit, the sum, and how many edits the crate has. A run with `--costs` writes a row as soon as a
 crate's edits are tried, in place of the one that it had with this kit."""
@@ -13,6 +13,7 @@ import functools
 import hashlib
 import os
 
+import faces
 import kit
 import tokens
 from kit import rt, rtlib
@@ -21,14 +22,14 @@ HERE = os.path.dirname(os.path.realpath(__file__))
 FILE = f"{HERE}/edits_record.txt"
 HEAD = "# Crates whose must-fail edits a run of the gate tried and saw refused: name, kit, sum of all that they rest on, edits.\n"
 # The scripts that make the verdicts, beside the one that works with the kit.
-SCRIPTS = ("edits.py", "kept.py", "places.py", "record.py", "tokens.py", "tried.py")
+SCRIPTS = ("edits.py", "faces.py", "kept.py", "places.py", "proving.py", "record.py", "tokens.py", "tried.py")
 
 
 def sum_of(crate):
     """The sum of all that the verdicts of a crate's edits rest on."""
     edits = rt.edits_of(crate)[0]
-    sources = [sources_of(it) for it in (*crate.below(), crate)]
-    found = hashlib.sha256(repr((kit.identity(), sources, tokens.of_edits(crate, edits))).encode())
+    below = [faces.sum_of(it, faces.is_cited(it, [*crate.below(), crate])) for it in crate.below()]
+    found = hashlib.sha256(repr((kit.identity(), below, sources_of(crate), tokens.of_edits(crate, edits))).encode())
     scripts = [f"{HERE}/{it}" for it in (*SCRIPTS, f"{kit.way()}.py")]
     for file in [*edits, *scripts]:
         found.update(repr((os.path.basename(file), tokens.bytes_of(file))).encode())

@@ -300,6 +300,7 @@ def crates_in(room):
 
 
 def append(file, text):
+    os.makedirs(os.path.dirname(file), exist_ok=True)
     with open(file, "a", encoding="utf-8") as it:
         it.write(text)
 
@@ -365,9 +366,18 @@ RECORDS = {
     "a changed source of the crate does not": lambda: taken_after(
         lambda room: replaced(f"{room}/crates/high/src/lib.rt", "one + 1", "1 + one")
     ) == {"low"},
-    "a changed source below it does not": lambda: taken_after(
+    "a changed body below it does": lambda: taken_after(
         lambda room: replaced(f"{room}/crates/low/src/lib.rt", "one + 1", "1 + one")
+    ) == {"high"},
+    "a changed contract below it does not": lambda: taken_after(
+        lambda room: replaced(f"{room}/crates/low/src/lib.rt", "requires { x < 900 }", "requires { x < 800 }")
     ) == set(),
+    "a changed definition below it does not": lambda: taken_after(
+        lambda room: append(f"{room}/crates/low/specs/Lib.antt", "pub mod More\n")
+    ) == set(),
+    "a changed answer below it does": lambda: taken_after(
+        lambda room: append(f"{room}/crates/low/proofs/larger/Answers.antt", "mod More\n")
+    ) == {"high"},
     "a token more does not": lambda: taken_after(
         lambda room: append(f"{room}/crates/high/src/lib.rt", ";\n")
     ) == {"low"},

@@ -8,6 +8,7 @@ from kit import rt, rtlib
 
 # A token's line, start, end, kind and text, as `rattle fmt --tokens` has them.
 ROW = re.compile(rb"(?m)^(\d+) (\d+) (\d+) (.*)$")
+COMMENTS = b"//", b"/*"
 
 
 def of_crate(crate):
@@ -30,6 +31,21 @@ def of_edits(crate, edits):
                 with open(f"{room}/{paths[-1]}", "w", encoding="utf-8") as it:
                     it.write(text)
         return [*zip(paths, of_files(room, paths)), *faults]
+
+
+def outside(folder, path, bodies):
+    """The words of a source but for comments and what lies in these bodies (start, end); the whole file, if rattle can't
+    read it."""
+    text = bytes_of(f"{folder}/{path}")
+    ran = subprocess.run([rtlib.RATTLE, "fmt", "--tokens", path], cwd=folder, capture_output=True)
+    if ran.returncode:
+        return text
+    found = []
+    for _, start, end, _ in ROW.findall(ran.stdout):
+        begin, end = int(start), int(end)
+        if not any(first <= begin and end <= last for first, last in bodies):
+            found.append(text[begin:end])
+    return [it for it in found if not it.startswith(COMMENTS)]
 
 
 def of_files(folder, paths):

@@ -1,5 +1,5 @@
 -- Versions as they are stored.
-use Rattle.std.specs.Prelude.{ℕ, Option, Some, None, if◌then◌else◌, refl}
+use Rattle.std.specs.Prelude.{ℕ, Option, Some, None, refl}
 use Rattle.std.specs.Coded.{Coded, code_by, coded×, coded_ℕ, coded_list, coded_option}
 use Rattle.std.specs.FinMap as maps
 use Rattle.table.specs.Items.{coded_item}
@@ -7,6 +7,8 @@ use Rattle.table.specs.declared.items.Item.{Item}
 use Rattle.node.specs.declared.faces.Version.{Version}
 use Rattle.node.specs.Faces.{Versions}
 use Rattle.faces.specs.declared.shared_versions.Block.{Block}
+use Rattle.faces.specs.declared.shared_versions.Content.{Content}
+use Rattle.faces.specs.declared.shared_versions.Content.TheVariants as contents
 
 -- a version is stored as its two fields
 abbrev pub coded_version : Coded Version
@@ -18,10 +20,11 @@ coded_version =
 abbrev pub coded_versions : Coded Versions
 coded_versions = maps.code (coded_list coded_ℕ) coded_version
 
+-- the item whose parts these are, or none
+abbrev pub item_in : Content → Option Item
+item_in (contents.Item flags unique bytes) = Some (record { flags = flags; bytes = bytes; unique = unique })
+item_in contents.Nothing = None
+
 -- the version that a block holds
 abbrev pub version_of_block : Block → Version
-version_of_block b =
-    record {
-      number = b.number;
-      item = if b.has_item then Some (record { flags = b.flags; bytes = b.bytes; unique = b.unique }) else None;
-    }
+version_of_block b = record { number = b.number; item = item_in b.content }

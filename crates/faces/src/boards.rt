@@ -1,6 +1,6 @@
 //! The face that readers take, under the rule that it is the server's face after the inputs that it says, and that
 //! these begin with all that any place has seen.
-ghost use Rattle.std.specs.Prelude.{◌≡◌, [], true, fold, MatchResult, IfOk};
+ghost use Rattle.std.specs.Prelude.{◌≡◌, [], true, fold, MatchResult, IfOk, OnOk};
 ghost use Rattle.left_right.specs.Sides.{view};
 ghost use Rattle.faces.specs.Boards.{IsShownBy, seated};
 ghost use Rattle.faces.specs.Showing.{pending, Shows};
@@ -126,8 +126,8 @@ pub fn publish<R: Wait>(
     requires face { face_changed writer.desk.shown.value.face change.steps.items change.acked ≡ shown_after log_position }
     ensures { MatchResult result.1 (λ p. Shows result.0 p × (p ≡ log_position)) (λ _. Unit {0}) }
 {
-    let (writer, noted) = append(alloc, writer, change, log_position);
-    match noted {
+    let mut writer = writer;
+    match append(alloc, &mut writer, change, log_position) {
         Ok(()) => show(rt, writer),
         Err(_) => (writer, Err(AllocError)),
     }
@@ -155,28 +155,20 @@ fn show<R: Wait>(rt: &R, writer: FaceWriter) -> (FaceWriter, Result<Published, A
 // Notes what the change does, for the next publish.
 fn append(
     alloc: Global,
-    writer: FaceWriter,
+    writer: &mut FaceWriter,
     change: FaceChange,
     log_position: LogPosition,
-) -> (FaceWriter, Result<(), AllocError>)
-    requires nothing { pending writer ≡ [] }
-    ensures desk { result.0.desk ≡ writer.desk }
-    ensures acts { MatchResult result.1
-        (λ _. pending result.0 ≡ acts_of change.steps.items change.acked log_position)
-        (λ _. Unit {0}) }
+) -> Result<(), AllocError>
+    requires nothing { pending writer.old ≡ [] }
+    ensures desk { writer.new.desk ≡ writer.old.desk }
+    ensures acts { OnOk result (pending writer.new ≡ acts_of change.steps.items change.acked log_position) }
 {
-    let mut writer = writer;
     let FaceChange { steps, acked } = change;
     for step in steps {
-        let Ok(act) = Act::of(alloc, step) else {
-            return (writer, Err(AllocError));
-        };
-        if writer.append(act).is_err() {
-            return (writer, Err(AllocError));
-        }
+        let act = Act::of(alloc, step)?;
+        writer.append(act).map_err(|_| AllocError)?;
     }
-    let done = writer
+    writer
         .append(Act::Reach(acked, log_position))
-        .map_err(|_| AllocError);
-    (writer, done)
+        .map_err(|_| AllocError)
 }

@@ -1,14 +1,13 @@
 //! Versions that the copies of a face share.
-ghost use Rattle.std.specs.Prelude.{◌≡◌, is_some, IfOk, IsSome, MatchResult};
-ghost use Rattle.faces.specs.Versions.{version_of_block};
+ghost use Rattle.std.specs.Prelude.{◌≡◌, is_some, IfOk, IsSome, MatchResult, Some};
+ghost use Rattle.faces.specs.Versions.{item_in, version_of_block};
 ghost use Rattle.faces.specs.Weights.{data_in};
 
-use bytes::Bytes;
 use node::Version;
 use std::alloc::{AllocError, Global};
 use std::marker::Model;
 use std::sync::Arc;
-use table::Item;
+use table::{Item, SharedBytes};
 
 /// A key's version in a block of its own, which its copies share: so a copy of a face holds eight bytes of it.
 /// Contracts see the version.
@@ -17,14 +16,18 @@ pub struct SharedVersion {
     block: Arc<Block>,
 }
 
-// A version's parts, laid out without gaps. The data is empty if there is no item.
+// A version's parts.
 #[derive(Drop)]
 struct Block {
     number: u64,
-    unique: u64,
-    bytes: Bytes,
-    flags: u32,
-    has_item: bool,
+    content: Content,
+}
+
+// An item's flags, its unique and its data, if there is one. They lie without gaps, which an `Option` of an item has.
+#[derive(Drop)]
+enum Content {
+    Item(u32, u64, SharedBytes),
+    Nothing,
 }
 
 impl Model for SharedVersion {
@@ -59,7 +62,7 @@ impl SharedVersion {
     pub fn has_item(&self) -> bool
         ensures { result ≡ is_some self.now.item }
     {
-        self.block.has_item
+        matches!(self.block.content, Content::Item(..))
     }
 
     /// Its item, which shares the data, or none. Refused, if memory is out, only if it has one.
@@ -90,48 +93,46 @@ impl Block {
         ensures { version_of_block result ≡ version }
     {
         let Version { number, item } = version;
-        match item {
-            Some(item) => {
-                let Item {
-                    flags,
-                    bytes,
-                    unique,
-                } = item;
-                Block {
-                    number,
-                    unique,
-                    bytes,
-                    flags,
-                    has_item: true,
-                }
-            }
-            None => Block {
-                number,
-                unique: 0,
-                bytes: Bytes::new(),
-                flags: 0,
-                has_item: false,
-            },
-        }
+        let content = match item {
+            Some(item) => Content::of(item),
+            None => Content::Nothing,
+        };
+        Block { number, content }
     }
 
     fn data_len(&self) -> usize
         ensures { result ≡ data_in (version_of_block self.now).item }
     {
-        if self.has_item { self.bytes.len() } else { 0 }
+        match &self.content {
+            Content::Item(_, _, bytes) => bytes.len(),
+            Content::Nothing => 0,
+        }
     }
 
     fn item(&self) -> Result<Option<Item>, AllocError>
         ensures { MatchResult result (λ item. item ≡ (version_of_block self.now).item)
             (λ _. IsSome (version_of_block self.now).item) }
     {
-        if !self.has_item {
-            return Ok(None);
+        match &self.content {
+            Content::Item(flags, unique, bytes) => Ok(Some(Item {
+                flags: *flags,
+                bytes: bytes.clone()?,
+                unique: *unique,
+            })),
+            Content::Nothing => Ok(None),
         }
-        Ok(Some(Item {
-            flags: self.flags,
-            bytes: self.bytes.clone()?,
-            unique: self.unique,
-        }))
+    }
+}
+
+impl Content {
+    fn of(item: Item) -> Content
+        ensures { item_in result ≡ Some item }
+    {
+        let Item {
+            flags,
+            bytes,
+            unique,
+        } = item;
+        Content::Item(flags, unique, bytes)
     }
 }

@@ -1,9 +1,8 @@
 //! Loads: what is done with which frames, and how often.
 
-use bytes::Bytes;
 use node::{Body, Peer, View};
 use std::alloc::{AllocError, Global};
-use table::{Call, Key, Op, Target};
+use table::{Call, Key, Op, SharedBytes, Target};
 use thiserror::Error;
 use wire::{Frame, WireFault};
 
@@ -61,7 +60,7 @@ pub fn message(alloc: Global, size: u32) -> Result<Frame, LoadFault> {
     let Some(key) = Key::new(alloc, b"key0000001")? else {
         return Err(LoadFault::Frame);
     };
-    let op = Op::Set(7, Bytes::copy_from_slice(alloc, data.as_slice())?);
+    let op = Op::Set(7, SharedBytes::copy_from_slice(alloc, data.as_slice())?);
     let call = Call {
         target: Target::One(key),
         op,

@@ -2,10 +2,9 @@
 //!
 //! Most tests are a list of steps or rows, which one small loop goes through: so there are few functions to prove.
 
-use bytes::Bytes;
 use std::alloc::{AllocError, AllocFailed, Global};
 use std::test::Fail;
-use table::{Call, Key, Op, TableFault, Target};
+use table::{Call, Key, Op, SharedBytes, TableFault, Target};
 
 /// Why a helper of a test has no answer.
 #[derive(Clone, Copy, Debug)]
@@ -85,7 +84,7 @@ pub(crate) fn on(key: Key, op: Op) -> Call {
 
 /// A set of a key to some data.
 pub(crate) fn set(alloc: Global, name: &[u8], data: &[u8]) -> Result<Call, Fault> {
-    let bytes = Bytes::copy_from_slice(alloc, data)?;
+    let bytes = SharedBytes::copy_from_slice(alloc, data)?;
     let key = key(alloc, name)?;
     Ok(on(key, Op::Set(0, bytes)))
 }

@@ -1,10 +1,9 @@
 //! Calls of a plain table, and what one operation decides.
 
 use crate::making::{Fault, all_hold, holds, key};
-use bytes::Bytes;
 use std::alloc::Global;
 use std::test::Fail;
-use table::{Change, Item, Key, LIMIT, Op, Reply, Table, Target, decide};
+use table::{Change, Item, Key, LIMIT, Op, Reply, SharedBytes, Table, Target, decide};
 
 // Whether these bytes make a key of the same bytes, or none.
 fn is_key(alloc: Global, bytes: &[u8], wanted: bool) -> Result<bool, Fault> {
@@ -70,7 +69,7 @@ enum Ask {
     Sets(usize),
 }
 
-fn put_of(verb: Verb, flags: u32, bytes: Bytes) -> Op {
+fn put_of(verb: Verb, flags: u32, bytes: SharedBytes) -> Op {
     match verb {
         Verb::Set => Op::Set(flags, bytes),
         Verb::Add => Op::Add(flags, bytes),
@@ -80,9 +79,9 @@ fn put_of(verb: Verb, flags: u32, bytes: Bytes) -> Op {
     }
 }
 
-fn block_of_size(alloc: Global, size: usize) -> Result<Bytes, Fault> {
+fn block_of_size(alloc: Global, size: usize) -> Result<SharedBytes, Fault> {
     let data = vec![in alloc; b'x'; size]?;
-    Ok(Bytes::copy_from_slice(alloc, data.as_slice())?)
+    Ok(SharedBytes::copy_from_slice(alloc, data.as_slice())?)
 }
 
 fn op_of(alloc: Global, ask: Ask) -> Result<Op, Fault> {
@@ -91,7 +90,7 @@ fn op_of(alloc: Global, ask: Ask) -> Result<Op, Fault> {
         Ask::Delete => Ok(Op::Delete),
         Ask::Flush => Ok(Op::Flush),
         Ask::Puts(verb, flags, data) => {
-            let bytes = Bytes::copy_from_slice(alloc, data)?;
+            let bytes = SharedBytes::copy_from_slice(alloc, data)?;
             Ok(put_of(verb, flags, bytes))
         }
         Ask::Sets(size) => Ok(Op::Set(0, block_of_size(alloc, size)?)),
@@ -383,7 +382,7 @@ fn is_decided(
 
 // Whether a set of a key without an item puts this one, and a read of a key with it shows it.
 fn puts_and_shows(alloc: Global) -> Result<bool, Fault> {
-    let bytes = Bytes::copy_from_slice(alloc, b"xyz")?;
+    let bytes = SharedBytes::copy_from_slice(alloc, b"xyz")?;
     let item = Item {
         flags: 5,
         bytes,

@@ -2,10 +2,9 @@
 ghost use Rattle.std.specs.Prelude.{◌≤◌};
 
 use crate::making::{Fault, all_hold, key};
-use bytes::Bytes;
 use std::alloc::Global;
 use std::test::Fail;
-use table::{Change, Item, Key, LIMIT, Reply, Target};
+use table::{Change, Item, Key, LIMIT, Reply, SharedBytes, Target};
 use versions::{Entry, Store, StoreFault};
 
 impl From<StoreFault> for Fault {
@@ -103,7 +102,7 @@ enum Update {
 fn put_of(alloc: Global, number: u64, key: &Key) -> Result<Entry, Fault>
     requires { 1 ≤ number }
 {
-    let bytes = Bytes::copy_from_slice(alloc, &number.to_be_bytes())?;
+    let bytes = SharedBytes::copy_from_slice(alloc, &number.to_be_bytes())?;
     if bytes.len() > LIMIT {
         return Err(Fault::Refused);
     }
@@ -113,7 +112,15 @@ fn put_of(alloc: Global, number: u64, key: &Key) -> Result<Entry, Fault>
         bytes,
         unique: number,
     };
-    Ok(Entry::new(number, 3, 1, target, Reply::Stored, Change::Put(item)))
+    Ok(Entry::new(
+        alloc,
+        number,
+        3,
+        1,
+        target,
+        Reply::Stored,
+        Change::Put(item),
+    )?)
 }
 
 fn entry_of(alloc: Global, number: u64, key: &Key, update: Update) -> Result<Entry, Fault> {
@@ -124,13 +131,23 @@ fn entry_of(alloc: Global, number: u64, key: &Key, update: Update) -> Result<Ent
         Update::Put => put_of(alloc, number, key),
         Update::Delete => {
             let target = Target::One(key.clone()?);
-            Ok(Entry::new(number, 3, 1, target, Reply::Deleted, Change::Drop))
+            Ok(Entry::new(alloc, number, 3, 1, target, Reply::Deleted, Change::Drop)?)
         }
         Update::Refuse => {
             let target = Target::One(key.clone()?);
-            Ok(Entry::new(number, 3, 1, target, Reply::NotStored, Change::Keep))
+            Ok(Entry::new(alloc, number, 3, 1, target, Reply::NotStored, Change::Keep)?)
         }
-        Update::Clear => Ok(Entry::new(number, 3, 1, Target::All, Reply::Flushed, Change::Clear)),
+        Update::Clear => {
+            Ok(Entry::new(
+                alloc,
+                number,
+                3,
+                1,
+                Target::All,
+                Reply::Flushed,
+                Change::Clear,
+            )?)
+        }
     }
 }
 
@@ -313,7 +330,12 @@ fn is_open(entry: &Entry, number: u64, key: &Key) -> bool {
 // Whether a copy of an entry equals it.
 fn is_copied(entry: &Entry) -> Result<bool, Fault> {
     let copy = entry.clone()?;
-    let equal = copy == *entry;
+    let equal = copy.number() == entry.number()
+        && copy.origin() == entry.origin()
+        && copy.id() == entry.id()
+        && copy.target() == entry.target()
+        && copy.reply() == entry.reply()
+        && copy.change() == entry.change();
     drop(copy);
     Ok(equal)
 }

@@ -5,6 +5,7 @@ pub mod WorkedLooks
 pub mod AskedCalls
 pub mod MissedSet
 pub mod Answered
+pub mod SetsInFlight
 pub mod WithoutRules
 pub mod QuietPairs
 pub mod QuietRuns
@@ -12,3 +13,4 @@ pub mod QuietLoss
 pub mod CutInput
 pub mod OldReplies
 pub mod RefusedSet
+pub mod SetsInTurn

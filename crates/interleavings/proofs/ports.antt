@@ -8,4 +8,5 @@ pub mod RenamedServers
 pub mod RenamedChains
 pub mod OwnPortMoves
 pub mod OwnPortReplies
+pub mod OwnPortTurns
 pub mod OwnPortRuns

@@ -1,6 +1,6 @@
 -- The running chain: servers with their inboxes, channels, and seats with their queues.
-use Rattle.std.specs.Prelude.{ℕ, Bool, true, false, not, ◌==◌, nat_lt, List, [], ◌∷◌, slice_index_or, Option, None}
-use Rattle.std.specs.Prelude.{Some, if◌then◌else◌}
+use Rattle.std.specs.Prelude.{ℕ, Bool, true, false, not, ◌==◌, nat_lt, List, [], ◌∷◌, ◌++◌, slice_index_or, Option}
+use Rattle.std.specs.Prelude.{None, Some, if◌then◌else◌}
 use Rattle.table.specs.declared.operations.Call.{Call}
 use Rattle.table.specs.declared.operations.Reply.{Reply}
 use Rattle.node.specs.declared.messages.Peer.{Peer}
@@ -75,7 +75,16 @@ opening_chain count homes =
       seats = λ c. opening_seat (slice_index_or homes c count);
     }
 
--- ---- what waits in a list of inputs, and in a list of outputs
+-- ---- what waits at a server, in a list of inputs, and in a list of outputs
+
+-- the one there is, or none
+abbrev pub listed : {X : Type 0} → Option X → List X
+listed None = []
+listed (Some x) = x ∷ []
+
+-- the inputs whose steps a server has still to publish, the oldest first: the one that it has taken, and its inbox
+abbrev pub queue : RunningServer → List Input
+queue s = listed s.unpublished ++ s.inbox
 
 -- the messages from server i among these, in order
 abbrev pub messages_from : ℕ → List Input → List Peer

@@ -1,13 +1,14 @@
 -- Runs whose moves do something else: each definition is that of `Moves.antt` or `Orders.antt`, with what a move does
--- as an argument.
-use Rattle.std.specs.Prelude.{◌≡◌, ℕ, ◌<◌, List, [], ◌∷◌, take, map, None, Some, slice_get, IsSome}
+-- as an argument, and where it counts calls in an inbox also the port from which each seat's calls come.
+use Rattle.std.specs.Prelude.{◌≡◌, ℕ, ◌+◌, ◌<◌, nat_lt, Bool, true, false, List, [], ◌∷◌, length, take, map, None, Some}
+use Rattle.std.specs.Prelude.{slice_get, IsSome}
 use Rattle.table.specs.Histories.{IsLegal}
 use Rattle.table.specs.declared.operations.Reply.{Reply}
 use Rattle.world.specs.Calls.{CallId}
 use Rattle.world.specs.Orders.{OrderedCall, StandsAt}
-use Rattle.interleavings.specs.Chains.{Chain, opening_chain}
+use Rattle.interleavings.specs.Chains.{Chain, opening_chain, queue, calls_from}
 use Rattle.interleavings.specs.Moves.{Move}
-use Rattle.interleavings.specs.Orders.{begun_call, reply_to}
+use Rattle.interleavings.specs.Orders.{begun_call, reply_to, IsUpdate}
 
 -- what a move does
 abbrev pub Doing : Type 0
@@ -41,6 +42,35 @@ pub record IsLinearizationBy (does : Doing) (count : ℕ) (homes : List ℕ) (mo
       → (i : ℕ) × (at : StandsAt h i x) × (at.entry.reply ≡ reply)
   pub in_time : (x y : CallId) (j : ℕ)
       → PrecedesBy does count homes moves x y
+      → StandsAt h j y
+      → (i : ℕ) × (i < j) × StandsAt h i x
+
+-- the step of the call is published, if each seat's calls come from this port of its server
+abbrev pub is_published_from : (ℕ → ℕ) → Chain → CallId → Bool
+is_published_from port l x =
+    nat_lt
+    (x.ordinal + length (calls_from (port x.connection) (queue (l.servers (l.seats x.connection).home))))
+    (length (l.seats x.connection).calls)
+
+-- x is published before y: both are updates at one server of the chain, and after some first k moves the step of x is
+-- published, and that of y isn't
+pub record PublishedBeforeBy (does : Doing) (port : ℕ → ℕ) (count : ℕ) (homes : List ℕ) (moves : List Move)
+    (x y : CallId) : Type 0 where
+  pub k : ℕ
+  pub published : is_published_from port (moved_by does count homes (take k moves)) x ≡ true
+  pub not_published : is_published_from port (moved_by does count homes (take k moves)) y ≡ false
+  pub server : ℕ
+  pub of_chain : server < count
+  pub here : slice_get homes x.connection ≡ Some server
+  pub there : slice_get homes y.connection ≡ Some server
+  pub update : IsUpdate (moved_by does count homes moves) x
+  pub later_update : IsUpdate (moved_by does count homes moves) y
+
+-- the order h is in turn
+pub record IsInTurnBy (does : Doing) (port : ℕ → ℕ) (count : ℕ) (homes : List ℕ) (moves : List Move)
+    (h : List OrderedCall) : Type 0 where
+  pub in_turn : (x y : CallId) (j : ℕ)
+      → PublishedBeforeBy does port count homes moves x y
       → StandsAt h j y
       → (i : ℕ) × (i < j) × StandsAt h i x
 

@@ -1,6 +1,6 @@
 -- The moves with the ports of the code: each server numbers its own seats from 0 on, so that a seat is a server and a
 -- port.
-use Rattle.std.specs.Prelude.{ℕ, suc, not, ◌&&◌, ◌==◌, List, [], ◌∷◌, ◌++◌, take, if◌then◌else◌}
+use Rattle.std.specs.Prelude.{ℕ, suc, not, ◌&&◌, ◌==◌, List, [], ◌∷◌, ◌++◌, take, slice_index_or, if◌then◌else◌}
 use Rattle.table.specs.declared.operations.Call.{Call}
 use Rattle.table.specs.declared.operations.Reply.{Reply}
 use Rattle.node.specs.declared.messages.Input.TheVariants.{Call as Called}
@@ -16,6 +16,10 @@ seats_at (home ∷ homes) i = if home == i then suc (seats_at homes i) else seat
 -- the port of seat c at server i: how many seats before it are at the same server
 abbrev pub port_at : List ℕ → ℕ → ℕ → ℕ
 port_at homes c i = seats_at (take c homes) i
+
+-- the port of seat c at its own server
+abbrev pub own_port : ℕ → List ℕ → ℕ → ℕ
+own_port count homes c = port_at homes c (slice_index_or homes c count)
 
 -- a seat that waits for no reply sends this call from its port into its server's inbox
 abbrev pub sent_from : ℕ → Chain → ℕ → Call → Seat → Chain

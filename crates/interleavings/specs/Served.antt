@@ -1,13 +1,15 @@
 -- What clients get: the one order of their calls, and the bytes that each of them is written.
-use Rattle.std.specs.Prelude.{◌≡◌, ℕ, ◌+◌, ◌<◌, ◌≤◌, true, false, List, [], ◌∷◌, ◌++◌, length, take, map, Option, None}
-use Rattle.std.specs.Prelude.{Some, slice_get, IsSome}
+use Rattle.std.specs.Prelude.{◌≡◌, ℕ, zero, suc, ◌+◌, ◌<◌, ◌≤◌, Bool, true, false, ◌&&◌, List, [], ◌∷◌, ◌++◌, length}
+use Rattle.std.specs.Prelude.{take, map, Option, None, Some, is_some, slice_get, IsSome}
 use Rattle.table.specs.Histories.{IsLegal}
+use Rattle.table.specs.Operations.{is_update}
 use Rattle.table.specs.declared.operations.Call.{Call}
 use Rattle.table.specs.declared.operations.Reply.{Reply}
 use Rattle.proto.specs.Turns.{Outcome, Replied, Refused, is_store, calls_of}
 use Rattle.proto.specs.Sessions.{next_of}
 use Rattle.proto.specs.Streams.{turns, outcome_texts}
-use Rattle.interleavings.specs.OtherMoves.{Doing}
+use Rattle.world.specs.Calls.{CallId}
+use Rattle.interleavings.specs.OtherMoves.{Doing, is_published_from}
 use Rattle.interleavings.specs.Quiet.{goes_on}
 use Rattle.interleavings.specs.Connections.{Connection, gives_none}
 use Rattle.interleavings.specs.ServingMoves.{ServingChain, ServingMove, is_refusal, served}
@@ -130,6 +132,58 @@ pub record IsOneOrder (does : Doing) (count : ℕ) (homes : List ℕ) (moves : L
       → ComesBefore does count homes moves x y
       → StandsThere h j y
       → (i : ℕ) × (i < j) × StandsThere h i x
+
+-- ---- in turn, in the words of `OtherMoves.antt`
+
+-- how many calls the first n connections of seat c have made
+abbrev pub calls_before : ServingChain → ℕ → ℕ → ℕ
+calls_before s c zero = 0
+calls_before s c (suc n) = calls_before s c n + length (s.connections c n).calls
+
+-- the call among those of its seat, which are those of its connections, one connection after another
+abbrev pub id_at_seat : ServingChain → CallName → CallId
+id_at_seat s x = record { connection = x.seat; ordinal = calls_before s x.seat x.number + x.ordinal }
+
+-- the call was made, and its step is published, if each seat's calls come from this port of its server
+abbrev pub is_call_published : (ℕ → ℕ) → ServingChain → CallName → Bool
+is_call_published port s x = is_some (call_made s x) && is_published_from port s.chain (id_at_seat s x)
+
+-- the call is an update that its connection made
+abbrev pub IsMadeUpdate : ServingChain → CallName → Type 0
+IsMadeUpdate s x = (call : Call) × (call_made s x ≡ Some call) × (is_update call.op ≡ true)
+
+-- x is published first: x and y are updates at one server of the chain, and after some first k moves the step of x is
+-- published, and that of y isn't
+pub record PublishedFirst (does : Doing) (port : ℕ → ℕ) (count : ℕ) (homes : List ℕ) (moves : List ServingMove)
+    (x y : CallName) : Type 0 where
+  pub k : ℕ
+  pub published : is_call_published port (served does count homes (take k moves)) x ≡ true
+  pub not_published : is_call_published port (served does count homes (take k moves)) y ≡ false
+  pub server : ℕ
+  pub of_chain : server < count
+  pub here : slice_get homes x.seat ≡ Some server
+  pub there : slice_get homes y.seat ≡ Some server
+  pub update : IsMadeUpdate (served does count homes moves) x
+  pub later_update : IsMadeUpdate (served does count homes moves) y
+
+-- x is a call that the connection of y made before y
+pub record IsEarlier (x y : CallName) : Type 0 where
+  pub seat : x.seat ≡ y.seat
+  pub number : x.number ≡ y.number
+  pub earlier : x.ordinal < y.ordinal
+
+-- The order h is in turn:
+pub record IsServedInTurn (does : Doing) (port : ℕ → ℕ) (count : ℕ) (homes : List ℕ) (moves : List ServingMove)
+    (h : List ServedCall) : Type 0 where
+  -- if x is published first, before y, and y is in it, x is in it, at an earlier place;
+  pub in_turn : (x y : CallName) (j : ℕ)
+      → PublishedFirst does port count homes moves x y
+      → StandsThere h j y
+      → (i : ℕ) × (i < j) × StandsThere h i x
+  -- and so it is if x is an earlier call of the connection of y.
+  pub own : (x y : CallName) (j : ℕ) → IsEarlier x y → StandsThere h j y → (i : ℕ) × (i < j) × StandsThere h i x
+
+-- ---- if nothing is left to do
 
 -- each call that a connection made has its reply, if the server of its seat goes on
 abbrev pub NoneUnanswered : ServingChain → Type 0

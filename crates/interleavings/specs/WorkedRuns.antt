@@ -68,6 +68,23 @@ set_is_committed =
 abbrev pub cut_moves : List Move
 cut_moves = set_is_committed ++ tail_stops
 
+-- ---- One server, two clients of it. The second one's set, on a key of its own, is sent first and published last;
+-- ---- neither is answered before the other is sent.
+
+-- the second one's set
+abbrev pub other_set : Call
+other_set = set_of (codes "b") (codes "q")
+
+-- the homes of the seats
+abbrev pub flight_homes : List ℕ
+flight_homes = 0 ∷ 0 ∷ []
+
+-- the moves
+unfoldable pub flight_moves : List Move
+flight_moves =
+    Sends 1 other_set ∷ Sends 0 set ∷ Takes 0 (OfSeat 0) ∷ Publishes 0 ∷ Takes 0 (OfSeat 1) ∷ Publishes 0 ∷ Replies 0 0
+    ∷ Receives 0 ∷ Replies 0 1 ∷ Receives 1 ∷ []
+
 -- ---- Three runs in which a set is answered, and a look that begins afterwards shows nothing of it. Each needs a move
 -- ---- that lacks its rule (`WrongMoves.antt`).
 

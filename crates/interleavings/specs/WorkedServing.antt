@@ -7,6 +7,7 @@ use Rattle.interleavings.specs.Chains.{OfSeat, OfServer}
 use Rattle.interleavings.specs.Moves.{Takes, Publishes, Puts, Arrives, Replies}
 use Rattle.interleavings.specs.WorkedRuns.{key}
 use Rattle.interleavings.specs.ServingMoves.{ServingMove, Reads, Begins, Asks, Refuses, Answers, Writes, Ends, Runs}
+use Rattle.interleavings.specs.Served.{CallName}
 
 -- ---- Two servers, a client of the head. A set and a get come in two pieces, cut within the set's data block. Of the
 -- ---- set's answer three bytes are written at first.
@@ -56,3 +57,25 @@ unfoldable pub refused_moves : List ServingMove
 refused_moves =
     Reads 0 (codes "set a 0 0 1\r\np\r\nset a 0 0 1 noreply\r\nq\r\nget a\r\n") ∷ Begins 0 ∷ Refuses 0 ∷ Begins 0
     ∷ Refuses 0 ∷ Begins 0 ∷ Asks 0 ∷ (at_the_head ++ Answers 0 ∷ Writes 0 60 ∷ [])
+
+-- ---- One server, two clients of it. Of the first seat a connection sets and ends, and the next one sets again. Of the
+-- ---- second seat the client sets a key of its own; that set is made before the last one, and waits when that is
+-- ---- published.
+
+-- the first seat's server answers its call
+abbrev pub at_once : List ServingMove
+at_once = Asks 0 ∷ Runs (Takes 0 (OfSeat 0)) ∷ Runs (Publishes 0) ∷ Runs (Replies 0 0) ∷ Answers 0 ∷ []
+
+-- the moves
+unfoldable pub turn_moves : List ServingMove
+turn_moves =
+    Reads 0 (codes "set a 0 0 1\r\np\r\n") ∷ Begins 0
+    ∷ (at_once ++ Ends 0 ∷ Reads 1 (codes "set b 0 0 1\r\nq\r\n") ∷ Begins 1 ∷ Asks 1
+    ∷ Reads 0 (codes "set a 0 0 1\r\np\r\n") ∷ Begins 0 ∷ at_once)
+
+-- the set that is published first, and the other one
+abbrev pub first_set : CallName
+first_set = record { seat = 0; number = 1; ordinal = 0 }
+
+abbrev pub second_set : CallName
+second_set = record { seat = 1; number = 0; ordinal = 0 }

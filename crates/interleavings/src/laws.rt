@@ -10,24 +10,25 @@ ghost use Rattle.proto.specs.Turns.{Replied, Turn};
 ghost use Rattle.proto.specs.Streams.{outcome_texts, texts};
 ghost use Rattle.interleavings.specs.Moves.{Move, moved, done};
 ghost use Rattle.interleavings.specs.Asked.{AreAsked, IsAsked, IsSpelled};
-ghost use Rattle.interleavings.specs.Orders.{IsLinearization};
+ghost use Rattle.interleavings.specs.Orders.{IsLinearization, IsInTurn};
 ghost use Rattle.interleavings.specs.Quiet.{IsQuiet, NoneForgotten};
-ghost use Rattle.interleavings.specs.OtherMoves.{Doing, IsLinearizationBy};
-ghost use Rattle.interleavings.specs.OwnPorts.{seats_at, port_at, with_own_ports};
+ghost use Rattle.interleavings.specs.OtherMoves.{Doing, IsLinearizationBy, IsInTurnBy};
+ghost use Rattle.interleavings.specs.OwnPorts.{seats_at, port_at, own_port, with_own_ports};
 ghost use Rattle.interleavings.specs.Ports.{input_at, renamed, renamed_result};
 ghost use Rattle.interleavings.specs.Connections.{waits, may_have};
 ghost use Rattle.interleavings.specs.ServingMoves.{ServingMove, served_at, served};
 ghost use Rattle.interleavings.specs.Served.{unrefused, NoneRefused, IsServed, ServedCall, IsOneOrder};
-ghost use Rattle.interleavings.specs.Served.{NoneUnanswered, AllHaveAll};
+ghost use Rattle.interleavings.specs.Served.{IsServedInTurn, NoneUnanswered, AllHaveAll};
 ghost use Rattle.world.specs.Orders.{OrderedCall};
 
 /// Every run of moves of a chain of up to 16 servers, with servers that stop at any move, has an order of its calls in
-/// which a single table would have answered them.
+/// which a single table would have answered them; and of two updates at one server the one whose step was published
+/// first stands first in it.
 pub fn every_run_is_linearizable()
     ensures { (count : ℕ) (homes : List ℕ) (moves : List Move)
         → count ≤ 16
         → AreAsked moves
-        → (h : List OrderedCall) × IsLinearization count homes moves h }
+        → (h : List OrderedCall) × IsLinearization count homes moves h × IsInTurn count homes moves h }
 {}
 
 /// No call is forgotten: if nothing is left to do, each call of a seat whose server goes on has its reply. Fewer than
@@ -49,12 +50,13 @@ pub fn ports_are_names()
 {}
 
 /// Seats may be numbered by each server for itself: every run of moves in which a seat's calls have the port that it
-/// has among the seats of its server, has an order of its calls.
+/// has among the seats of its server, has an order of its calls, in which updates of a server stand in turn.
 pub fn seats_may_have_own_ports()
     ensures order { (count : ℕ) (homes : List ℕ) (moves : List Move)
         → count ≤ 16
         → AreAsked moves
-        → (h : List OrderedCall) × IsLinearizationBy (with_own_ports homes) count homes moves h }
+        → (h : List OrderedCall) × IsLinearizationBy (with_own_ports homes) count homes moves h
+        × IsInTurnBy (with_own_ports homes) (own_port count homes) count homes moves h }
     // A server and a port name one seat.
     ensures apart { (homes : List ℕ) (c d i : ℕ)
         → slice_get homes c ≡ Some i
@@ -69,10 +71,12 @@ pub fn seats_may_have_own_ports()
 
 /// Seats that serve connections may be numbered by each server for itself, as the code does.
 pub fn served_seats_may_have_own_ports()
-    // There is one order of the calls of all connections.
+    // There is one order of the calls of all connections, in which updates of a server stand in turn, and so do the
+    // calls of a connection.
     ensures order { (count : ℕ) (homes : List ℕ) (moves : List ServingMove)
         → count ≤ 16
-        → (h : List ServedCall) × IsOneOrder (with_own_ports homes) count homes moves h }
+        → (h : List ServedCall) × IsOneOrder (with_own_ports homes) count homes moves h
+        × IsServedInTurn (with_own_ports homes) (own_port count homes) count homes moves h }
     // Each connection makes the calls that its bytes spell, but for stores that are refused, and is written the texts
     // of its turns.
     ensures bytes { (count : ℕ) (homes : List ℕ) (moves : List ServingMove) (c n : ℕ)
@@ -105,10 +109,13 @@ pub fn clients_see_one_table()
     // these holds.
     ensures run { (count : ℕ) (homes : List ℕ) (moves : List ServingMove)
         → (ms : List Move) × AreAsked ms × ((served done count homes moves).chain ≡ moved count homes ms) }
-    // There is one order of the calls of all connections, in which a single table would have answered them.
+    // There is one order of the calls of all connections, in which a single table would have answered them. Of two
+    // updates at one server the one whose step was published first stands first in it, and of two calls of a connection
+    // the one that was made first. (A seat's number is its port here.)
     ensures order { (count : ℕ) (homes : List ℕ) (moves : List ServingMove)
         → count ≤ 16
-        → (h : List ServedCall) × IsOneOrder done count homes moves h }
+        → (h : List ServedCall) × IsOneOrder done count homes moves h
+        × IsServedInTurn done (λ c. c) count homes moves h }
     // Each connection makes the calls that its bytes spell, in turn, but for stores that are refused. It is written the
     // texts of its turns, each call's with its reply or the line of a refusal: a beginning of them, and all of them
     // once no output is left and no turn can begin.

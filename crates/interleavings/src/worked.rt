@@ -1,14 +1,14 @@
 //! Worked runs: what they come to; and runs that have no order, or forget a call, if a move lacks its rule.
-ghost use Rattle.std.specs.Prelude.{◌≡◌, ℕ, false, List, [], ◌∷◌, ◌++◌, None, Some, codes};
+ghost use Rattle.std.specs.Prelude.{◌≡◌, ℕ, false, List, [], ◌∷◌, ◌++◌, take, None, Some, codes};
 ghost use Rattle.table.specs.declared.operations.Reply.TheVariants.{Stored, Value};
 ghost use Rattle.proto.specs.Turns.{Replied, Refused};
 ghost use Rattle.node.specs.declared.messages.Body.TheVariants.{Ack};
 ghost use Rattle.world.specs.Orders.{OrderedCall};
-ghost use Rattle.world.specs.WorkedSchedules.{name};
+ghost use Rattle.world.specs.WorkedSchedules.{name, sets_exchanged};
 ghost use Rattle.interleavings.specs.Chains.{messages_to};
 ghost use Rattle.interleavings.specs.Moves.{Move, Looks, read_of, moved, done};
 ghost use Rattle.interleavings.specs.Asked.{AreAsked};
-ghost use Rattle.interleavings.specs.Orders.{begun_call, reply_to, IsLinearization};
+ghost use Rattle.interleavings.specs.Orders.{begun_call, reply_to, IsLinearization, IsInTurn};
 ghost use Rattle.interleavings.specs.Quiet.{IsQuiet};
 ghost use Rattle.interleavings.specs.OtherMoves.{moved_by, IsLinearizationBy, HasNoOrder};
 ghost use Rattle.interleavings.specs.WrongMoves.{with_older_looks, with_early_puts, with_early_notices};
@@ -17,10 +17,11 @@ ghost use Rattle.interleavings.specs.WorkedRuns.{key, set, item, set_homes, set_
 ghost use Rattle.interleavings.specs.WorkedRuns.{failover_homes, look_while_dirty, failover_moves};
 ghost use Rattle.interleavings.specs.WorkedRuns.{older_homes, before_older_look, early_homes};
 ghost use Rattle.interleavings.specs.WorkedRuns.{before_unpublished_look, told_homes, before_outlived_look};
-ghost use Rattle.interleavings.specs.WorkedRuns.{cut_moves, lossy_moves};
+ghost use Rattle.interleavings.specs.WorkedRuns.{cut_moves, flight_homes, flight_moves, lossy_moves};
 ghost use Rattle.interleavings.specs.ServingMoves.{served};
+ghost use Rattle.interleavings.specs.Served.{is_call_published, PublishedFirst};
 ghost use Rattle.interleavings.specs.WorkedServing.{talk_homes, talk_moves, last_moves, lost_moves, delete};
-ghost use Rattle.interleavings.specs.WorkedServing.{refused_moves};
+ghost use Rattle.interleavings.specs.WorkedServing.{refused_moves, turn_moves, first_set, second_set};
 
 /// A set passes down a chain of two and back, and its client has the reply.
 pub fn set_is_answered()
@@ -52,6 +53,15 @@ pub fn stopped_before_put()
     ensures asked { AreAsked cut_moves }
 {}
 
+/// Two sets on two keys, of two clients of one server; the one that is sent last is published first, and neither is
+/// answered before the other is sent. The order that has the other one first is a linearization, and isn't in turn.
+pub fn published_set_stands_first()
+    ensures linearization { IsLinearization 1 flight_homes flight_moves sets_exchanged }
+    ensures not_in_turn { IsInTurn 1 flight_homes flight_moves sets_exchanged → ⊥ }
+    // Clients can ask these calls.
+    ensures asked { AreAsked flight_moves }
+{}
+
 /// A set and a get, cut within the set's data block, are answered in turn, and their client is written both answers.
 /// The next client of the seat is written nothing of them.
 pub fn cut_input_is_answered()
@@ -78,6 +88,13 @@ pub fn refused_set_is_never_made()
     ensures calls { ((served done 2 talk_homes refused_moves).connections 0 0).calls ≡ read_of key ∷ [] }
     ensures written { ((served done 2 talk_homes refused_moves).connections 0 0).written
         ≡ codes "SERVER_ERROR out of memory storing object\r\nEND\r\n" }
+{}
+
+/// Two connections of one server each make a set, one of them after a set of another connection of its seat. The one
+/// that is made last waits as it is made, and is published first.
+pub fn set_made_last_is_published_first()
+    ensures waits { is_call_published (λ c. c) (served done 1 flight_homes (take 14 turn_moves)) first_set ≡ false }
+    ensures published { PublishedFirst done (λ c. c) 1 flight_homes turn_moves first_set second_set }
 {}
 
 /// If a look may show an older face than the one that stands, a run has no order.

@@ -115,7 +115,7 @@ pub none_made : (o : Origin) (thread_handles left : List ThreadHandle) (others :
     → AreOf o left others pools
 none_made o thread_handles left others pools same none are =
     record {
-      thread_handles = subst (All (λ (thread_handle : ThreadHandle). IsRepliedAt o thread_handle.seat)) (sym same) are.thread_handles;
+      thread_handles = subst (All (λ (h : ThreadHandle). IsRepliedAt o h.seat)) (sym same) are.thread_handles;
       seats = are.seats;
       pools = subst (All (λ (pool : Pooling). pool.seen.origin ≡ o)) (sym none) are.pools;
     }

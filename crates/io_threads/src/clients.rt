@@ -44,8 +44,8 @@ pub struct Ready {
 const PASSES: usize = 4;
 
 /// A client's connection with its socket. Contracts see what has come of the connection, the bytes that the socket gave
-/// and those that it took, and why it may go no further (`ClientState`). The type keeps that what the socket gave was fed,
-/// unless memory was refused, and that what it took is what the connection counts as written.
+/// and those that it took, and why it may go no further (`ClientState`). The type keeps that what the socket gave was
+/// fed, unless memory was refused, and that what it took is what the connection counts as written.
 #[derive(Drop)]
 pub struct Client<S: Read + Write> {
     // The fields lie in this order, and what each event looks at before the client connection: one line of the

@@ -32,13 +32,13 @@ pub(crate) struct ConnectionTable {
     id: u8,
     served_clients: ServedClients,
     // The keys of those that may go on.
-    queue: WaitQueue,
+    ready_queue: WaitQueue,
     // Of those whose calls wait for a seat. One is free only while such a call is about to be sent.
-    line: WaitQueue,
+    seat_queue: WaitQueue,
     // Of those whose calls were sent.
-    asking: WaitQueue,
+    reply_queue: WaitQueue,
     // Of those whose output the server may not put out yet.
-    held: WaitQueue,
+    lease_queue: WaitQueue,
     // Whether a call was sent since this was last asked for.
     has_sent: bool,
     // Set as soon as the server answers no more calls.
@@ -61,10 +61,10 @@ impl ConnectionTable {
         ConnectionTable {
             id,
             served_clients: ServedClients::new(alloc, pool),
-            queue: WaitQueue::new(alloc),
-            line: WaitQueue::new(alloc),
-            asking: WaitQueue::new(alloc),
-            held: WaitQueue::new(alloc),
+            ready_queue: WaitQueue::new(alloc),
+            seat_queue: WaitQueue::new(alloc),
+            reply_queue: WaitQueue::new(alloc),
+            lease_queue: WaitQueue::new(alloc),
             has_sent: false,
             mark,
             output_permit,
@@ -96,17 +96,17 @@ impl ConnectionTable {
 
     /// Whether a client may take steps.
     pub(crate) fn is_busy(&self) -> bool {
-        !self.queue.is_empty()
+        !self.ready_queue.is_empty()
     }
 
     /// Whether a reply is waited for: that to a client's call, or one that frees a seat for it.
     pub(crate) fn awaits_reply(&self) -> bool {
-        !self.asking.is_empty() || !self.line.is_empty()
+        !self.reply_queue.is_empty() || !self.seat_queue.is_empty()
     }
 
     /// Whether output of a client waits until the server may put it out.
     pub(crate) fn holds_output(&self) -> bool {
-        !self.held.is_empty()
+        !self.lease_queue.is_empty()
     }
 
     /// Whether a call was sent since this was last asked.
@@ -158,19 +158,19 @@ impl ConnectionTable {
             Some(Waits::Socket) => self.go(rt, key, piece),
             Some(Waits::Seat) => {
                 if ready.gone {
-                    self.line.leave(key);
+                    self.seat_queue.leave(key);
                     self.served_clients.close(key);
                 }
             }
             Some(Waits::Reply) => {
                 if ready.gone {
-                    self.asking.leave(key);
+                    self.reply_queue.leave(key);
                     self.served_clients.close(key);
                 }
             }
             Some(Waits::Lease) => {
                 if ready.gone {
-                    self.held.leave(key);
+                    self.lease_queue.leave(key);
                     self.served_clients.close(key);
                 }
             }
@@ -193,18 +193,18 @@ impl ConnectionTable {
     // Closes all clients, for ever.
     fn shut(&mut self) {
         self.is_shut = true;
-        self.queue.clear();
-        self.line.clear();
-        self.asking.clear();
-        self.held.clear();
+        self.ready_queue.clear();
+        self.seat_queue.clear();
+        self.reply_queue.clear();
+        self.lease_queue.clear();
         self.served_clients.close_all();
     }
 
     /// Has each client that may take steps take some. Those whose output waited may, once the server may put it out.
-    pub(crate) fn serve_queue<R: Wait + Clock>(&mut self, rt: &R, piece: &mut [u8]) {
+    pub(crate) fn serve_ready<R: Wait + Clock>(&mut self, rt: &R, piece: &mut [u8]) {
         self.serve_held(rt, piece);
-        for _ in 0..self.queue.len() {
-            let Some(key) = self.queue.next() else {
+        for _ in 0..self.ready_queue.len() {
+            let Some(key) = self.ready_queue.next() else {
                 return;
             };
             self.go(rt, key, piece);
@@ -216,16 +216,16 @@ impl ConnectionTable {
     pub(crate) fn collect<R: Wait + Clock>(&mut self, rt: &R, piece: &mut [u8]) -> bool {
         self.mind_mark();
         self.served_clients.collect(rt);
-        let mut any = self.serve_line(rt, piece);
-        for _ in 0..self.asking.len() {
-            let Some(key) = self.asking.next() else {
+        let mut any = self.serve_seat_queue(rt, piece);
+        for _ in 0..self.reply_queue.len() {
+            let Some(key) = self.reply_queue.next() else {
                 return any;
             };
             match self.served_clients.hear(rt, key) {
                 Some(false) => self.await_reply(key),
                 Some(true) => {
                     any = true;
-                    self.serve_line(rt, piece);
+                    self.serve_seat_queue(rt, piece);
                     self.go(rt, key, piece);
                 }
                 None => {
@@ -237,14 +237,14 @@ impl ConnectionTable {
         any
     }
 
-    // Has those that stand in line for a seat go on, as long as one is free. Whether there were any.
-    fn serve_line<R: Wait + Clock>(&mut self, rt: &R, piece: &mut [u8]) -> bool {
+    // Has those whose calls wait for a seat go on, as long as one is free. Whether there were any.
+    fn serve_seat_queue<R: Wait + Clock>(&mut self, rt: &R, piece: &mut [u8]) -> bool {
         let mut any = false;
-        for _ in 0..self.line.len() {
+        for _ in 0..self.seat_queue.len() {
             if !self.served_clients.has_free_seat() {
                 return any;
             }
-            let Some(key) = self.line.next() else {
+            let Some(key) = self.seat_queue.next() else {
                 return any;
             };
             any = true;
@@ -255,11 +255,11 @@ impl ConnectionTable {
 
     // Has those go on whose output waits, if the server may put it out now.
     fn serve_held<R: Wait + Clock>(&mut self, rt: &R, piece: &mut [u8]) {
-        if self.held.is_empty() || !self.output_permit.lets(rt) {
+        if self.lease_queue.is_empty() || !self.output_permit.lets(rt) {
             return;
         }
-        for _ in 0..self.held.len() {
-            let Some(key) = self.held.next() else {
+        for _ in 0..self.lease_queue.len() {
+            let Some(key) = self.lease_queue.next() else {
                 return;
             };
             self.go(rt, key, piece);
@@ -275,7 +275,7 @@ impl ConnectionTable {
         match self.served_clients.go(rt, key, piece, &self.output_permit) {
             Pause::Turn => self.enqueue(key),
             Pause::Socket => {}
-            Pause::Seat => self.stand_in_line(key),
+            Pause::Seat => self.await_seat(key),
             Pause::Reply => {
                 self.has_sent = true;
                 self.await_reply(key);
@@ -287,28 +287,28 @@ impl ConnectionTable {
 
     // A client may go on.
     fn enqueue(&mut self, key: usize) {
-        if self.queue.join(key).is_err() {
+        if self.ready_queue.join(key).is_err() {
             self.served_clients.close(key);
         }
     }
 
     // A client's call waits for a seat.
-    fn stand_in_line(&mut self, key: usize) {
-        if self.line.join(key).is_err() {
+    fn await_seat(&mut self, key: usize) {
+        if self.seat_queue.join(key).is_err() {
             self.served_clients.close(key);
         }
     }
 
     // A client's call was sent. There is room for as many as there are seats, so memory is never out here.
     fn await_reply(&mut self, key: usize) {
-        if self.asking.join(key).is_err() {
+        if self.reply_queue.join(key).is_err() {
             self.shut();
         }
     }
 
     // A client's output waits until the server may put it out.
     fn hold(&mut self, key: usize) {
-        if self.held.join(key).is_err() {
+        if self.lease_queue.join(key).is_err() {
             self.served_clients.close(key);
         }
     }

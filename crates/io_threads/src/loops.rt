@@ -4,6 +4,7 @@ use crate::clients::Ready;
 use crate::connection_tables::{ConnectionTable, ConnectionTableParts, SERVERS};
 use crate::loop_handles::{LoopHandles, OpenAt, WAKE};
 use crate::turn_schedulers::TurnScheduler;
+use crossbeam_utils::Backoff;
 use mio::{Events, Poll, Token};
 use seats::ServerSet;
 use std::alloc::{AllocError, Global};
@@ -21,6 +22,10 @@ const ROUNDS: usize = 16;
 
 /// The most turns of one visit.
 const TURNS: usize = 64;
+
+/// How often a thread looks for a reply before it sleeps: first after pauses that grow, then after it let others have
+/// its processor.
+const LOOKS: usize = 40;
 
 /// How long a thread waits at most while output waits for a lease, in milliseconds. Nobody wakes it for that.
 const HELD: u64 = 10;
@@ -150,6 +155,12 @@ impl<R: Wait + Clock + Copy + Drop, T: TurnScheduler + Drop> IoThread<R, T> {
             self.sleep();
             return;
         }
+        if self.turn_scheduler.answers_soon() {
+            self.look();
+            if !self.events.is_empty() || self.has_reply_soon() {
+                return;
+            }
+        }
         self.loop_handles.sleeps_at(self.me, open_at);
         self.due.merge(self.turn_scheduler.all_due());
         if self.turns_or_replies() || self.due != ServerSet::new() {
@@ -159,6 +170,19 @@ impl<R: Wait + Clock + Copy + Drop, T: TurnScheduler + Drop> IoThread<R, T> {
         }
         self.sleep();
         self.loop_handles.is_awake(self.me);
+    }
+
+    // Looks for turns and replies again and again, for some ten microseconds. A thread that is at the worker answers a
+    // call in less time than it takes to fall asleep and to be woken. Whether there were any.
+    fn has_reply_soon(&mut self) -> bool {
+        let backoff = Backoff::new();
+        for _ in 0..LOOKS {
+            backoff.snooze();
+            if self.turns_or_replies() || self.due != ServerSet::new() {
+                return true;
+            }
+        }
+        false
     }
 
     // Waits for what is ready, not for long if output waits for a lease.
@@ -246,7 +270,7 @@ impl<R: Wait + Clock + Copy + Drop, T: TurnScheduler + Drop> IoThread<R, T> {
     fn serve(&mut self) {
         for connection_table in self.connection_tables.iter_mut() {
             connection_table.mind_mark();
-            connection_table.serve_queue(&self.rt, self.piece.as_mut_slice());
+            connection_table.serve_ready(&self.rt, self.piece.as_mut_slice());
         }
         self.note_sent();
     }

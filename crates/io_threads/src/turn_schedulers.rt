@@ -40,6 +40,9 @@ pub trait TurnScheduler {
     /// The servers where a turn may be due.
     fn all_due(&self) -> ServerSet;
 
+    /// Whether a call has its reply within some microseconds, as a rule: before a thread could sleep and be woken.
+    fn answers_soon(&self) -> bool;
+
     /// Leaves it to these servers' own threads to take turns there.
     fn leave(&self, servers: ServerSet);
 }
@@ -57,6 +60,10 @@ impl TurnScheduler for ScheduledElsewhere {
 
     fn all_due(&self) -> ServerSet {
         ServerSet::new()
+    }
+
+    fn answers_soon(&self) -> bool {
+        false
     }
 
     fn leave(&self, _servers: ServerSet) {}

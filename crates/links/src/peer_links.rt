@@ -120,16 +120,16 @@ impl<W: Sink + Drop> Links for PeerLinks<W> {
         has_failed(self.links.as_slice(), to)
     }
 
-    fn put(&mut self, _published: &Published, to: u8, peer: &Peer) -> Result<(), RailFault>
-        requires fit { IsFit (To to peer.now) }
-        ensures ok { OnOk result (self.new.puts ≡ self.old.puts ++ (to, peer.now) ∷ []) }
+    fn put(&mut self, _published: &Published, to: u8, peer: Peer) -> Result<(), RailFault>
+        requires fit { IsFit (To to peer) }
+        ensures ok { OnOk result (self.new.puts ≡ self.old.puts ++ (to, peer) ∷ []) }
         ensures err { OnErr result (self.new.puts ≡ self.old.puts) }
         ensures failures { (j : ℕ) → failures_at self.old.links.items j ≤ failures_at self.new.links.items j }
         ensures fault { IfErr result (λ f. (f ≡ Memory) ⊎
             ((f ≡ LinkDown) × (0 < failures_at self.new.links.items to))) }
         // What was put was written to that server, and nothing to another.
         ensures written { OnOk result (written_at W.written self.new.links.items to ≡
-            written_at W.written self.old.links.items to ++ spelling (frames.Peer peer.now)) }
+            written_at W.written self.old.links.items to ++ spelling (frames.Peer peer)) }
         // If a part of it was written, the link has failed.
         ensures unput { OnErr result ((0 < failures_at self.new.links.items to) ⊎
             (written_at W.written self.new.links.items to ≡ written_at W.written self.old.links.items to)) }
@@ -139,7 +139,7 @@ impl<W: Sink + Drop> Links for PeerLinks<W> {
         ensures up { (j : ℕ) → OnOk result (failures_of self.new j ≡ failures_of self.old j) }
         ensures others { (j : ℕ) → j ≢ to → failures_of self.new j ≡ failures_of self.old j }
     {
-        let (snapshot, frame) = framed(to, peer.clone()?);
+        let (snapshot, frame) = framed(to, peer);
         let written = put_to(self.alloc, &mut self.links, to, &frame);
         drop(frame);
         written?;

@@ -26,7 +26,15 @@ impl Replica {
         let number = self.store.last() + 1;
         let newest = newest(&self.store, &call.target);
         let (reply, change) = decide(self.alloc, newest, &call.op, number)?;
-        Ok(Entry::new(number, origin, id, call.target.clone()?, reply, change))
+        Entry::new(
+            self.alloc,
+            number,
+            origin,
+            id,
+            call.target.clone()?,
+            reply,
+            change,
+        )
     }
 
     // The update is the origin's next one, and a number is left for it.

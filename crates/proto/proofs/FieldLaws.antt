@@ -2,7 +2,7 @@
 use Rattle.std.proofs.Common.{◌≡◌, ℕ, ◌+◌, ◌-◌, ◌<◌, Bool, true, false, cond, List, [], ◌∷◌, length, take, drop, Option}
 use Rattle.std.proofs.Common.{None, Some, refl, sym, ap, ◌∙◌, subst, arith, nat_lt, length-take}
 use Rattle.std.specs.Prelude.{◌==◌, ◌≤◌, min, unwrap_or}
-use Rattle.std.specs.List.{position_or_len, slice_range, list_all}
+use Rattle.std.specs.List.{position_or_len, list_all}
 use Rattle.std.proofs.lemmas.Bool.Decides.{nat_tests}
 use Rattle.std.proofs.lemmas.List.Splits.{slice_split_none, slice_split_first}
 use Rattle.std.proofs.lemmas.List.Sums.{fails_before_first}
@@ -82,28 +82,23 @@ past_of text = min (length text) (first_end text + 1)
 popped : (text : List ℕ)
     → 1 ≤ length text
     → list_all is_key (keys_in text) ≡ true
-    → Popped text (slice_range text 0 (first_end text)) (drop (past_of text) text)
+    → Popped text (take (first_end text) text) (drop (past_of text) text)
 popped [] some h = absurd (omega arith)
 popped (b ∷ bs) some h = by_place (first_space (b ∷ bs)) refl
   where
     by_place : (place : Option ℕ) → first_space (b ∷ bs) ≡ place
-        → Popped (b ∷ bs) (slice_range (b ∷ bs) 0 (unwrap_or place (length (b ∷ bs))))
+        → Popped (b ∷ bs) (take (unwrap_or place (length (b ∷ bs))) (b ∷ bs))
         (drop (min (length (b ∷ bs)) (unwrap_or place (length (b ∷ bs)) + 1)) (b ∷ bs))
     by_place (Some i) e =
         let below : i < length (b ∷ bs) = (position-Some (λ c. c == space) (b ∷ bs) i 0 e).0 in
         let same : min (length (b ∷ bs)) (i + 1) ≡ i + 1 = grind (arith, common_steps, below) in
-        let front : slice_range (b ∷ bs) 0 i ≡ take i (b ∷ bs) =
-        let from : i - 0 ≡ i = omega arith in ap (λ k. take k (b ∷ bs)) from in
-        subst (λ k. Popped (b ∷ bs) k (drop (min (length (b ∷ bs)) (i + 1)) (b ∷ bs))) (sym front)
-        (subst (λ k. Popped (b ∷ bs) (take i (b ∷ bs)) (drop k (b ∷ bs))) (sym same) (popped_at (b ∷ bs) i h e))
+        subst (λ k. Popped (b ∷ bs) (take i (b ∷ bs)) (drop k (b ∷ bs))) (sym same) (popped_at (b ∷ bs) i h e)
     by_place None e =
-        let whole : slice_range (b ∷ bs) 0 (length (b ∷ bs)) ≡ b ∷ bs =
-        let all : length (b ∷ bs) ≤ length (b ∷ bs) - 0 =
-        omega arith in take_all (length (b ∷ bs) - 0) (b ∷ bs) all in
+        let whole : take (length (b ∷ bs)) (b ∷ bs) ≡ b ∷ bs = take_all (length (b ∷ bs)) (b ∷ bs) (omega arith) in
         let same : min (length (b ∷ bs)) (length (b ∷ bs) + 1) ≡ length (b ∷ bs) = grind (arith, common_steps) in
         let none : drop (min (length (b ∷ bs)) (length (b ∷ bs) + 1)) (b ∷ bs) ≡ [] =
         ap (λ k. drop k (b ∷ bs)) same ∙ drop_all (length (b ∷ bs)) (b ∷ bs) (omega arith) in
-        subst (λ r. Popped (b ∷ bs) (slice_range (b ∷ bs) 0 (length (b ∷ bs))) r) (sym none)
+        subst (λ r. Popped (b ∷ bs) (take (length (b ∷ bs)) (b ∷ bs)) r) (sym none)
         (subst (λ k. Popped (b ∷ bs) k []) (sym whole) (popped_last (b ∷ bs) h e))
 
 -- a first key that was cut off is the first, and the text after its space has the others
@@ -111,28 +106,26 @@ pub popped_key : (text key rest : List ℕ) (at past : ℕ)
     → list_all is_key (keys_in text) ≡ true
     → at ≡ first_end text
     → past ≡ min (length text) (at + 1)
-    → key ≡ slice_range text 0 at → rest ≡ drop past text → IsKey key → Popped text key rest
+    → key ≡ take at text → rest ≡ drop past text → IsKey key → Popped text key rest
 popped_key [] key rest at past h at_is past_is key_is rest_is is =
     let some : 1 ≤ length key = leb-true 1 (length key) (and_parts _ _ (and_parts _ _ is).0).0 in
-    let none : length key ≡ length (take (at - 0) []) = ap length key_is in
-    let cut = length-take {A = ℕ} (at - 0) [] in
+    let none : length key ≡ length (take at []) = ap length key_is in
+    let cut = length-take {A = ℕ} at [] in
     absurd (omega arith)
 popped_key (b ∷ bs) key rest at past h at_is past_is key_is rest_is is =
-    let cut : key ≡ slice_range (b ∷ bs) 0 (first_end (b ∷ bs)) = key_is ∙ ap (slice_range (b ∷ bs) 0) at_is in
+    let cut : key ≡ take (first_end (b ∷ bs)) (b ∷ bs) = key_is ∙ ap (λ n. take n (b ∷ bs)) at_is in
     let left : rest ≡ drop (past_of (b ∷ bs)) (b ∷ bs) =
     rest_is ∙ ap (λ k. drop k (b ∷ bs)) (past_is ∙ ap (λ k. min (length (b ∷ bs)) (k + 1)) at_is) in
     subst (λ k. Popped (b ∷ bs) k rest) (sym cut)
-    (subst (λ r. Popped (b ∷ bs) (slice_range (b ∷ bs) 0 (first_end (b ∷ bs))) r) (sym left)
+    (subst (λ r. Popped (b ∷ bs) (take (first_end (b ∷ bs)) (b ∷ bs)) r) (sym left)
     (popped (b ∷ bs) (omega arith) h))
 
 -- if no key was cut off, there is none
-pub no_key_left : (text key : List ℕ) (at : ℕ)
+pub no_key_left : (text : List ℕ) (at : ℕ)
     → list_all is_key (keys_in text) ≡ true
     → at ≡ first_end text
-    → key ≡ slice_range text 0 at
-    → (IsKey key → ⊥)
+    → (IsKey (take at text) → ⊥)
     → keys_in text ≡ []
-no_key_left [] key at h at_is key_is none = refl
-no_key_left (b ∷ bs) key at h at_is key_is none =
-    absurd (none (subst IsKey (sym (key_is ∙ ap (slice_range (b ∷ bs) 0) at_is))
-    (popped (b ∷ bs) (omega arith) h).key_is))
+no_key_left [] at h at_is none = refl
+no_key_left (b ∷ bs) at h at_is none =
+    absurd (none (subst (λ n. IsKey (take n (b ∷ bs))) (sym at_is) (popped (b ∷ bs) (omega arith) h).key_is))

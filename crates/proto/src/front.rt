@@ -15,9 +15,8 @@ use crate::lines::{Asked, asked_at, beginning};
 use crate::skipped_blocks::SkippedBlock;
 use crate::storage::{Block, Fate, Verb};
 use crate::{Fault, Request};
-use bytes::Bytes;
 use std::alloc::{AllocError, Global};
-use table::{Key, Op};
+use table::{Key, Op, SharedBytes};
 
 /// What stands at the front of a stream.
 #[derive(Drop)]
@@ -183,7 +182,7 @@ fn finished(
         drop(key);
         return Ok(Request::Bad(Fault::DataChunk));
     }
-    match Bytes::copy_from_slice(alloc, block) {
+    match SharedBytes::copy_from_slice(alloc, block) {
         Ok(data) => Ok(Request::Store(key, op_of(verb, data), silent)),
         Err(fault) => {
             drop(key);
@@ -193,7 +192,7 @@ fn finished(
 }
 
 // The operation of a storage command on this data.
-fn op_of(verb: Verb, block: Bytes) -> Op
+fn op_of(verb: Verb, block: SharedBytes) -> Op
     requires { length block ≤ limit }
     ensures value { result ≡ op_of verb block }
     ensures update { IsKeyUpdate result }

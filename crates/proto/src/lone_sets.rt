@@ -5,9 +5,8 @@ ghost use Rattle.proto.specs.LoneSets.{IsAtFront, IsNumberBefore, IsPlainSet, en
 use crate::fields::{first_space, number_32};
 use crate::front::after;
 use crate::lines::beginning;
-use bytes::Bytes;
 use std::alloc::{AllocError, Global};
-use table::{Key, LIMIT};
+use table::{Key, LIMIT, SharedBytes};
 
 /// A `set`, and how many bytes spell it.
 #[derive(Drop)]
@@ -15,7 +14,7 @@ pub struct LoneSet {
     pub key: Key,
     pub flags: u32,
     pub silent: bool,
-    pub block: Bytes,
+    pub block: SharedBytes,
     pub end: usize,
 }
 
@@ -41,7 +40,7 @@ pub fn lone_set(alloc: Global, bytes: &[u8]) -> Result<Option<LoneSet>, AllocErr
         return Ok(None);
     };
     let end = bytes.len() - set.rest.len();
-    match Bytes::copy_from_slice(alloc, set.block) {
+    match SharedBytes::copy_from_slice(alloc, set.block) {
         Ok(block) => Ok(Some(LoneSet {
             key,
             flags: set.flags,

@@ -68,9 +68,9 @@ impl Keys {
         Ok(Some(Keys { text }))
     }
 
-    /// Takes the first key off, in time of its length, with a copy. Both share the text's bytes. A refusal changes
-    /// nothing.
-    pub fn pop(&mut self) -> Result<Option<(Key, Key)>, AllocError>
+    /// Takes the first key off, in time of its length, with a copy that shares its bytes. Its bytes are copied out of
+    /// the text. A refusal changes nothing.
+    pub fn pop(&mut self, alloc: Global) -> Result<Option<(Key, Key)>, AllocError>
         ensures ok { IfOk result
             (λ o. MatchOption o ((self.old ≡ []) × (self.new ≡ [])) (λ p. (p.0 ≡ p.1) × (self.old ≡ p.0 ∷ self.new))) }
         ensures err { OnErr result (self.new ≡ self.old) }
@@ -78,7 +78,7 @@ impl Keys {
         if self.is_empty() {
             return Ok(None);
         }
-        pop_key(&mut self.text)
+        pop_key(alloc, &mut self.text)
     }
 
     /// Whether no key is left.
@@ -101,7 +101,7 @@ fn are_keys(text: &[u8]) -> bool
     true
 }
 
-fn pop_key(text: &mut Bytes) -> Result<Option<(Key, Key)>, AllocError>
+fn pop_key(alloc: Global, text: &mut Bytes) -> Result<Option<(Key, Key)>, AllocError>
     requires keys { list_all is_key (keys_in text.old) ≡ true }
     ensures keys { list_all is_key (keys_in text.new) ≡ true }
     ensures ok { IfOk result
@@ -110,7 +110,7 @@ fn pop_key(text: &mut Bytes) -> Result<Option<(Key, Key)>, AllocError>
     ensures err { OnErr result (text.new ≡ text.old) }
 {
     let at = first_end(text.as_slice());
-    let Some(key) = Key::from_bytes(text.slice(0..at)?) else {
+    let Some(key) = Key::new(alloc, &text.as_slice()[..at])? else {
         return Ok(None);
     };
     let copy = match key.clone() {

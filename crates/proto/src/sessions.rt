@@ -124,7 +124,7 @@ impl Session {
         if self.closed {
             return Ok(Step::Close);
         }
-        if let Some((key, shown)) = self.later.pop()? {
+        if let Some((key, shown)) = self.later.pop(self.alloc)? {
             return Ok(self.look(key, shown));
         }
         match self.skipped_block {

@@ -199,7 +199,7 @@ impl Session {
         ensures err { OnErr result (self.new ≡ self.old) }
     {
         let mut keys = keys;
-        match keys.pop() {
+        match keys.pop(self.alloc) {
             Ok(Some((key, shown))) => {
                 self.consume(n);
                 self.later = keys;

@@ -3,6 +3,7 @@ pub mod Delivering
 pub mod ReplyQueues
 pub mod Putting
 pub mod Replying
+pub mod Spending
 pub mod Ports
 pub mod Turning
 pub mod Opening

@@ -210,20 +210,16 @@ put_next xs k d to peer a b c within is before now p q =
     (put_on a b c (messages_of (take k xs)) (messages_of (slice_index_or xs k d ∷ [])) p one before.failures
     now.failures)
 
-no_message : (o : Output) → ((to : ℕ) (peer : Peer) → o ≡ To to peer → ⊥) → messages_of (o ∷ []) ≡ []
-no_message (To to peer) other = absurd (other to peer refl)
-no_message (Replied port reply) other = refl
-
 -- no message more
 pub put_same : {C : Type 0} (xs : List Output) (k : ℕ) (d : Output) (a b : LinksState C)
     → k < length xs
-    → ((to : ℕ) (peer : Peer) → slice_index_or xs k d ≡ To to peer → ⊥)
-    → HasPut a b (messages_of (take k xs)) → HasPut a b (messages_of (take (k + 1) xs))
-put_same xs k d a b within other p =
+    → messages_of (slice_index_or xs k d ∷ []) ≡ []
+    → HasPut a b (messages_of (take k xs))
+    → HasPut a b (messages_of (take (k + 1) xs))
+put_same xs k d a b within none p =
     subst (HasPut a b)
     (sym (one_more xs k d within
-    ∙ (ap (λ l. messages_of (take k xs) ++ l) (no_message (slice_index_or xs k d) other)
-    ∙ append-nil (messages_of (take k xs))))) p
+    ∙ (ap (λ l. messages_of (take k xs) ++ l) none ∙ append-nil (messages_of (take k xs))))) p
 
 pub on_err : {T E : Type 0} (r : Result T E) (P : Type 0) → P → OnErr r P
 on_err (Ok x) P p = tt

@@ -8,5 +8,6 @@ pub mod Ports
 pub mod Seats
 pub mod Takes
 pub mod Turns
+pub mod Spent
 pub mod Workers
 pub mod Servers

@@ -48,11 +48,11 @@ pub fn advance<R: Wait, L: Links>(
     ensures carried { HaveCarried (L.state links.old) (L.state links.new) }
     ensures unreplied { OnErr result (reply_senders.new.items ≡ reply_senders.old.items) }
 {
-    let Ok(outputs) = publisher.take(rt, input) else {
+    let Ok(mut outputs) = publisher.take(rt, input) else {
         return Err(AllocError);
     };
     *told = publisher.published().tell();
-    if put_messages(links, publisher.published(), outputs.as_slice()).is_err() {
+    if put_messages(links, publisher.published(), &mut outputs).is_err() {
         return Err(AllocError);
     }
     put_replies(rt, reply_senders, replied, publisher.published(), outputs);

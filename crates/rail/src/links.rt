@@ -26,17 +26,17 @@ pub trait Links {
 
     /// Puts a message, after the input that made it was published. It may wait. Refused if memory is out, or because
     /// the link fails, which then has failed from now on. Nothing is put on a link that has failed.
-    fn put(&mut self, published: &Published, to: u8, peer: &Peer) -> Result<(), RailFault>
+    fn put(&mut self, published: &Published, to: u8, peer: Peer) -> Result<(), RailFault>
         // The step of the last input that was published put it out.
-        requires published { PutsOut published.now (To to peer.now) }
+        requires published { PutsOut published.now (To to peer) }
         // It may be sent, and handed in where it goes.
-        requires fit { IsFit (To to peer.now) }
+        requires fit { IsFit (To to peer) }
         requires up { (state self.old).failures to ≡ 0 }
-        ensures ok { OnOk result ((state self.new).list ≡ (state self.old).list ++ (to, peer.now) ∷ []) }
+        ensures ok { OnOk result ((state self.new).list ≡ (state self.old).list ++ (to, peer) ∷ []) }
         ensures err { OnErr result ((state self.new).list ≡ (state self.old).list) }
         // The wire to this server was given the message, and none other was given anything.
         ensures wire { OnOk result
-            ((state self.new).wire to ≡ (state self.old).wire to ++ (state self.old).spelled peer.now) }
+            ((state self.new).wire to ≡ (state self.old).wire to ++ (state self.old).spelled peer) }
         // A wire that was given a part of it is the wire of a link that has failed.
         ensures unput { OnErr result
             ((0 < (state self.new).failures to) ⊎ ((state self.new).wire to ≡ (state self.old).wire to)) }

@@ -120,9 +120,11 @@ dealt_more {A} id j before now taken x y dealt is within took own whole =
       ];
       whole = λ k below other none. elim (either k j) [
         | inl e ↦ ap (list_at (slice_set now j x)) e
-            ∙ (now_here ∙ whole (λ same. other (e ∙ same)) (sym here ∙ (ap (at_place (taken ++ y ∷ [])) (sym e) ∙ none)))
+            ∙ (now_here
+            ∙ whole (λ same. other (e ∙ same)) (sym here ∙ (ap (at_place (taken ++ y ∷ [])) (sym e) ∙ none)))
         | inr apart ↦ now_there k apart
-            ∙ dealt.whole k (omega (arith, length-append taken (y ∷ []), is, below, apart)) other (sym (there k apart) ∙ none)
+            ∙ dealt.whole k (omega (arith, length-append taken (y ∷ []), is, below, apart)) other
+            (sym (there k apart) ∙ none)
       ];
     }
 
@@ -252,6 +254,7 @@ placed {A} id servers before after rest notices taken place seated size left at 
       );
       own = at id ∙ seated.own;
       others = λ j within other none.
-          something_there rest notices (sym left ∙ seated.whole j (omega (arith, size, within)) other (sym (at j) ∙ none));
+          something_there rest notices
+          (sym left ∙ seated.whole j (omega (arith, size, within)) other (sym (at j) ∙ none));
       beyond = λ j past. at j ∙ none_beyond j taken (omega (arith, size, past));
     }

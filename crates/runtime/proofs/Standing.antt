@@ -43,11 +43,14 @@ pub begins_too : (node known : NodeState) (w : WorkerState) → BeginsAs node w 
 begins_too node known w begins is = subst (λ n. BeginsAs n w) is begins
 
 -- no server yet
-pub starts_none : {R : Type 0} (count : ℕ) (servers : List (Opened R)) → servers ≡ [] → starts_of servers ≡ openings 0 count
+pub starts_none : {R : Type 0} (count : ℕ) (servers : List (Opened R))
+    → servers ≡ []
+    → starts_of servers ≡ openings 0 count
 starts_none {R} count servers none = ap starts_of none
 
 pub own_none : {R : Type 0} (servers : List (Opened R)) → servers ≡ [] → All HasOwnPools (cores_of servers)
-own_none {R} servers none = subst (λ (ss : List (Opened R)). All HasOwnPools (cores_of ss)) (sym none) (All-nil HasOwnPools)
+own_none {R} servers none =
+    subst (λ (ss : List (Opened R)). All HasOwnPools (cores_of ss)) (sym none) (All-nil HasOwnPools)
 
 -- one server more, which begins as its node
 pub starts_more : {R : Type 0} (id count : ℕ) (servers more : List (Opened R)) (server : Opened R) (node : NodeState)
@@ -192,7 +195,8 @@ seated_from k [] (x ∷ xs) are from own = absurd (cc (are))
 seated_from k (s ∷ ss) [] are from own = absurd are
 seated_from k (s ∷ ss) (x ∷ xs) are from own = (
   All-weaker (λ (p : Pooling). p.seen.origin ≡ s.pooled.worker.published.origin)
-      (λ (p : Pooling). p.seen.origin.start.id ≡ k) (λ p same. ap (λ (o : Origin). o.start.id) same ∙ from.0) x.pools.items
+      (λ (p : Pooling). p.seen.origin.start.id ≡ k)
+      (λ p same. ap (λ (o : Origin). o.start.id) same ∙ from.0) x.pools.items
       (subst (All (λ (p : Pooling). p.seen.origin ≡ s.pooled.worker.published.origin)) (sym are.0.pools)
       (All-head HasOwnPools (core_of s) (cores_of ss) own)),
   seated_from (suc k) ss xs are.1 from.1 (All-tail HasOwnPools (core_of s) (cores_of ss) own),

@@ -93,8 +93,8 @@ all_more {R} id before now next all more links made dealt one is as_many size ha
     ∙ (map_pushed (λ (l : InProcessLinks R). inlets_in l.links.items) all made
     ∙ ap (λ ls. all_inlets_in all ++ inlets_in ls ∷ []) have) in
     subst (AreDealt (inlets_of before) (inlets_of next)) (sym rows)
-    (all_dealt_more id (inlets_of before) (inlets_of now) (inlets_of next) (all_inlets_in all) (inlets_in links) dealt one
-    (is ∙ sym (length_all all)) (length_in links ∙ (as_many ∙ (size ∙ sym (length_of before)))))
+    (all_dealt_more id (inlets_of before) (inlets_of now) (inlets_of next) (all_inlets_in all) (inlets_in links)
+    dealt one (is ∙ sym (length_all all)) (length_in links ∙ (as_many ∙ (size ∙ sym (length_of before)))))
   where
     length_all : {R : Type 0} (xs : List (InProcessLinks R)) → length (all_inlets_in xs) ≡ length xs
     length_all [] = refl

@@ -34,8 +34,8 @@ pub(crate) fn new_peer_port<R: Clock + Copy + Drop>(
     inlets: Vec<Inlet>,
     failed: &Mark,
 ) -> Result<Arc<PeerPort<Connections<R>>, Global>, ServerFault>
-    ensures host { IfOk result (λ shared_port. (host_of (arc_value shared_port)).id ≡ settings.now.numbers.id) }
-    ensures lease { IfOk result (λ shared_port. may_end (cuts_of (arc_value shared_port)) ≡ is_timed settings.now.term) }
+    ensures host { IfOk result (λ port. (host_of (arc_value port)).id ≡ settings.now.numbers.id) }
+    ensures lease { IfOk result (λ port. may_end (cuts_of (arc_value port)) ≡ is_timed settings.now.term) }
 {
     let ServerNumbers { id, servers, .. } = settings.numbers;
     let host = Identity {

@@ -280,6 +280,10 @@ impl<R: Wait + Drop> TurnScheduler for Scheduler<R> {
         due
     }
 
+    fn answers_soon(&self) -> bool {
+        true
+    }
+
     fn leave(&self, servers: ServerSet) {
         let mut left = servers;
         for _ in 0..self.run_slots.len() {

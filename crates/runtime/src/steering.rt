@@ -22,9 +22,10 @@ const WHO: &str = "the cluster";
 /// Runs a chain of servers that serve clients over TCP, until the input and the threads that serve have ended. It says
 /// `ready` when all listen. For each line `fail J` of the input server J is failed, and `gone J` printed, or
 /// `not gone J` if it can't be stopped; any other line prints `bad line`. Of a server that is refused memory the others
-/// are told at once, and so is the user, by a line on standard error. It answers the exit status: 0, or, after a line on
-/// `errors`, 1 if a port is taken or `ready` can't be written, or 3 if memory is out at the start. An answer that can't
-/// be written is told there once. `machine` is how many MiB of memory the machine has, which the line at the start tells.
+/// are told at once, and so is the user, by a line on standard error. It answers the exit status: 0, or, after a line
+/// on `errors`, 1 if a port is taken or `ready` can't be written, or 3 if memory is out at the start. An answer that
+/// can't be written is told there once. `machine` is how many MiB of memory the machine has, which the line at the
+/// start tells.
 pub fn cluster<
     R: Wait
         + Threads

@@ -221,7 +221,7 @@ impl ClientConnection {
             Ok(Some(reply)) => {
                 give_back(&mut self.standing, pool);
                 hand_on(&mut self.connection, &mut self.seen, pool, reply)?;
-                thread_handle_at(&mut self.standing, CallStanding::Idle);
+                stand_at(&mut self.standing, CallStanding::Idle);
                 Ok(true)
             }
             Err(_) => {
@@ -346,7 +346,7 @@ impl ClientConnection {
             }
             Ok(Wants::End(end)) => Ok(Some(Went::End(end))),
             Err(_) => {
-                thread_handle_at(&mut self.standing, CallStanding::Over);
+                stand_at(&mut self.standing, CallStanding::Over);
                 Err(ServeFault::Memory)
             }
         }
@@ -368,7 +368,7 @@ impl ClientConnection {
         let call = unsent(mem::replace(&mut self.standing, CallStanding::Over));
         match submitter.submit(rt, call) {
             Ok(()) => {
-                thread_handle_at(&mut self.standing, CallStanding::Sent(submitter));
+                stand_at(&mut self.standing, CallStanding::Sent(submitter));
                 Ok(Went::Reply)
             }
             Err(_) => {
@@ -388,11 +388,11 @@ fn refuse(connection: &mut Connection, standing: &mut CallStanding) -> Result<()
 {
     match connection.refuse() {
         Ok(()) => {
-            thread_handle_at(standing, CallStanding::Idle);
+            stand_at(standing, CallStanding::Idle);
             Ok(())
         }
         Err(_) => {
-            thread_handle_at(standing, CallStanding::Over);
+            stand_at(standing, CallStanding::Over);
             Err(ServeFault::Memory)
         }
     }
@@ -430,12 +430,12 @@ fn ask(
             Ok(None)
         }
         Ok(false) => {
-            thread_handle_at(standing, CallStanding::Unsent(call));
+            stand_at(standing, CallStanding::Unsent(call));
             Ok(Some(Went::Seat))
         }
         Err(fault) => {
             drop(call);
-            thread_handle_at(standing, CallStanding::Over);
+            stand_at(standing, CallStanding::Over);
             Err(fault)
         }
     }
@@ -472,7 +472,7 @@ fn stand_reading(standing: &mut CallStanding)
 }
 
 // From now on it stands so. What it stood at is dropped, whatever that was.
-fn thread_handle_at(standing: &mut CallStanding, next: CallStanding)
+fn stand_at(standing: &mut CallStanding, next: CallStanding)
     ensures { standing.new ≡ next }
 {
     drop(mem::replace(standing, next));

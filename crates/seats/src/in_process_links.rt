@@ -127,13 +127,13 @@ impl<R: Wait + Drop> Links for InProcessLinks<R> {
         has_failed(self.links.as_slice(), to)
     }
 
-    fn put(&mut self, _published: &Published, to: u8, peer: &Peer) -> Result<(), RailFault>
-        requires fit { IsFit (To to peer.now) }
+    fn put(&mut self, _published: &Published, to: u8, peer: Peer) -> Result<(), RailFault>
+        requires fit { IsFit (To to peer) }
         requires up { failures_of self.old to ≡ 0 }
-        ensures ok { OnOk result (put_on self.new ≡ put_on self.old ++ (to, peer.now) ∷ []) }
+        ensures ok { OnOk result (put_on self.new ≡ put_on self.old ++ (to, peer) ∷ []) }
         ensures err { OnErr result (put_on self.new ≡ put_on self.old) }
         ensures given { OnOk result
-            (given_to self.new to ≡ given_to self.old to ++ Took (From (id_of self.old) peer.now) ∷ []) }
+            (given_to self.new to ≡ given_to self.old to ++ Took (From (id_of self.old) peer) ∷ []) }
         ensures ungiven { OnErr result (given_to self.new to ≡ given_to self.old to) }
         ensures elsewhere { (j : ℕ) → j ≢ to → given_to self.new j ≡ given_to self.old j }
         ensures id { id_of self.new ≡ id_of self.old }
@@ -144,7 +144,6 @@ impl<R: Wait + Drop> Links for InProcessLinks<R> {
             (λ _. (j : ℕ) → has_server (reached_of self.new) j ≡ ((j == to % 32) || has_server (reached_of self.old) j))
             (λ _. reached_of self.new ≡ reached_of self.old) }
     {
-        let peer = peer.clone()?;
         bring_to(&self.rt, &mut self.links, self.id, to, peer)?;
         self.receivers.add(to);
         self.reached.add(to);

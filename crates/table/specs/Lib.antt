@@ -1,3 +1,4 @@
+pub mod SharedBytes
 pub mod Keys
 pub mod Items
 pub mod Numbers

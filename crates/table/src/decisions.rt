@@ -7,10 +7,9 @@ ghost use Rattle.table.specs.Decisions.{decision, put, grown, raised, lowered, c
 ghost use Rattle.table.specs.Numbers.{counter_of};
 
 use crate::numbers::counter;
-use crate::{Change, Item, LIMIT, Op, Reply};
-use bytes::Bytes;
+use crate::{Change, Item, LIMIT, Op, Reply, SharedBytes};
 use itoa::Buffer;
-use std::alloc::{AllocError, AllocFailed, Global};
+use std::alloc::{AllocError, Global};
 
 /// The reply to an operation at a key that has this item or none, and the change that it makes.
 /// An item that is put has the number as its unique. The operation's data is not copied, save if it is joined with
@@ -63,7 +62,7 @@ fn copy_of(item: Option<&Item>) -> Result<Option<Item>, AllocError>
     }
 }
 
-fn put(flags: u32, bytes: Bytes, number: u64) -> Change
+fn put(flags: u32, bytes: SharedBytes, number: u64) -> Change
     ensures { result ≡ put flags bytes number }
 {
     Change::Put(Item {
@@ -77,8 +76,8 @@ fn put(flags: u32, bytes: Bytes, number: u64) -> Change
 fn grown(
     alloc: Global,
     flags: u32,
-    front: &Bytes,
-    back: &Bytes,
+    front: &SharedBytes,
+    back: &SharedBytes,
     number: u64,
 ) -> Result<(Reply, Change), AllocError>
     ensures { IfOk result (λ d. (d.0, d.1) ≡ grown flags (front.now ++ back.now) number) }
@@ -92,23 +91,14 @@ fn grown(
 }
 
 // One block of both pieces, each copied once.
-fn joined(alloc: Global, front: &[u8], back: &[u8]) -> Result<Bytes, AllocError>
+fn joined(alloc: Global, front: &[u8], back: &[u8]) -> Result<SharedBytes, AllocError>
     requires within_limit { length front.now + length back.now ≤ limit }
     ensures { IfOk result (λ bytes. bytes ≡ front.now ++ back.now) }
 {
     let mut data = Vec::with_capacity(alloc, front.len() + back.len())?;
     data.extend_from_slice(front)?;
     data.extend_from_slice(back)?;
-    block(data)
-}
-
-fn block(bytes: Vec<u8>) -> Result<Bytes, AllocError>
-    ensures { IfOk result (λ block. block ≡ bytes.items) }
-{
-    match Bytes::from_vec(bytes) {
-        Ok(block) => Ok(block),
-        Err(AllocFailed { .. }) => Err(AllocError),
-    }
+    SharedBytes::from_vec(data)
 }
 
 fn raised(
@@ -147,6 +137,6 @@ fn counted(
 ) -> Result<(Reply, Change), AllocError>
     ensures { IfOk result (λ d. (d.0, d.1) ≡ counted flags value number) }
 {
-    let digits = Bytes::copy_from_slice(alloc, Buffer::new().format(value).as_bytes())?;
+    let digits = SharedBytes::copy_from_slice(alloc, Buffer::new().format(value).as_bytes())?;
     Ok((Reply::Number(value), put(flags, digits, number)))
 }

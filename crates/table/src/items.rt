@@ -1,6 +1,6 @@
 //! Items: what the cache holds at a key.
 
-use bytes::Bytes;
+use crate::SharedBytes;
 
 /// The most bytes of data that an item may hold: 1 MiB (this project's rule; memcached's default).
 pub const LIMIT: usize = 1_048_576;
@@ -11,7 +11,7 @@ pub struct Item {
     /// The client's own 32 bits, kept and given back unread (protocol.txt, "Storage commands").
     pub flags: u32,
     /// The data, at most [`LIMIT`] bytes.
-    pub bytes: Bytes,
+    pub bytes: SharedBytes,
     /// The number of the operation that put the item, which `gets` shows as its unique.
     pub unique: u64,
 }

@@ -7,8 +7,7 @@ ghost use Rattle.std.specs.Cmp.Lexicographic.{pointwise};
 ghost use Rattle.std.specs.Cmp.{partial_equiv_from_equiv};
 ghost use Rattle.table.specs.Keys.{IsKey, is_key, is_key_byte};
 
-use crate::TreeKey;
-use bytes::Bytes;
+use crate::{SharedBytes, TreeKey};
 use std::alloc::{AllocError, Global};
 use std::cmp::Ordering;
 use std::marker::Model;
@@ -42,24 +41,10 @@ impl Key {
         if !is_key(bytes) {
             return Ok(None);
         }
-        let bytes = Bytes::copy_from_slice(alloc, bytes)?;
+        let bytes = SharedBytes::copy_from_slice(alloc, bytes)?;
         Ok(Some(Key {
             tree_key: TreeKey::new(bytes),
         }))
-    }
-
-    /// The key of these bytes, or `None` exactly if they make no key.
-    /// It shares their block: it copies and allocates nothing.
-    pub fn from_bytes(bytes: Bytes) -> Option<Key>
-        ensures bytes { IfSome result (λ key. key ≡ bytes) }
-        ensures valid { IsSome result ↔ IsKey bytes }
-    {
-        if is_key(bytes.as_slice()) {
-            let tree_key = TreeKey::new(bytes);
-            Some(Key { tree_key })
-        } else {
-            None
-        }
     }
 
     // The key that stands there.

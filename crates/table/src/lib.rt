@@ -7,6 +7,7 @@ mod keys;
 mod numbers;
 mod operations;
 mod plain;
+mod shared_bytes;
 mod tree_keys;
 
 pub use decisions::decide;
@@ -15,4 +16,5 @@ pub use keys::{Key, are_key_bytes, is_key};
 pub use numbers::number;
 pub use operations::{Call, Change, Op, Reply, Target};
 pub use plain::{Table, TableFault};
+pub use shared_bytes::SharedBytes;
 pub use tree_keys::TreeKey;

@@ -1,8 +1,7 @@
 //! Operations, their replies, and what they do with an item.
 ghost use Rattle.std.specs.Prelude.{◌≡◌, ◌↔◌, IsTrue};
 
-use crate::{Item, Key, LIMIT};
-use bytes::Bytes;
+use crate::{Item, Key, LIMIT, SharedBytes};
 
 /// What an operation is on: one key, or all keys at once.
 #[derive(Clone, Debug, PartialEq, Eq, Drop)]
@@ -19,18 +18,18 @@ pub enum Op {
     /// Reads the item (protocol.txt, "Retrieval command"). It takes no number.
     Read,
     /// Puts an item with these flags and this data (protocol.txt, "Storage commands").
-    Set(u32, Bytes),
+    Set(u32, SharedBytes),
     /// Puts an item with these flags and this data, if the key has none (protocol.txt, "Storage commands").
-    Add(u32, Bytes),
+    Add(u32, SharedBytes),
     /// Puts an item with these flags and this data, if the key has one (protocol.txt, "Storage commands").
-    Replace(u32, Bytes),
+    Replace(u32, SharedBytes),
     /// Adds data at the end of the item's data (protocol.txt, "Storage commands"). The item keeps its flags.
-    Append(Bytes),
+    Append(SharedBytes),
     /// Adds data in front of the item's data (protocol.txt, "Storage commands"). The item keeps its flags.
-    Prepend(Bytes),
+    Prepend(SharedBytes),
     /// Puts an item with these flags and this data, if the key's item has this unique
     /// (protocol.txt, "Storage commands").
-    Cas(u32, Bytes, u64),
+    Cas(u32, SharedBytes, u64),
     /// Raises the item's counter by an amount, wrapping at 2^64 (protocol.txt, "Increment/Decrement").
     /// The item keeps its flags.
     Incr(u64),

@@ -6,8 +6,7 @@ ghost use Rattle.std.specs.Cmp.Lexicographic.{slice_cmp, nat_list_cmp_total, nat
 ghost use Rattle.std.specs.Cmp.Lexicographic.{pointwise};
 ghost use Rattle.table.specs.Keys.{IsKey, hash_of, hash_with, tree_key_of};
 
-use crate::Key;
-use bytes::Bytes;
+use crate::{Key, SharedBytes};
 use std::alloc::AllocError;
 use std::cmp::Ordering;
 use std::marker::Model;
@@ -22,7 +21,7 @@ const SPREAD: u64 = 11_400_714_819_323_198_485;
 #[derive(Debug, Drop)]
 pub struct TreeKey {
     hash: u64,
-    bytes: Bytes,
+    bytes: SharedBytes,
 }
 
 impl Model for TreeKey {
@@ -37,7 +36,7 @@ impl Model for TreeKey {
 }
 
 impl TreeKey {
-    pub(crate) fn new(bytes: Bytes) -> TreeKey
+    pub(crate) fn new(bytes: SharedBytes) -> TreeKey
         requires { IsKey bytes }
         ensures { result ≡ bytes }
     {

@@ -2,13 +2,12 @@
 ghost use Rattle.std.specs.Prelude.{◌≡◌, false, IfOk};
 
 use crate::ending::holds;
-use bytes::Bytes;
 use faces::{FaceFault, Publisher, Reader, Weight};
 use node::{Body, Input, Look, Node, Peer, View};
 use std::alloc::Global;
 use std::sync::Wait;
 use std::test::Fail;
-use table::{Call, Item, Key, Op, Target};
+use table::{Call, Item, Key, Op, SharedBytes, Target};
 
 // --- inputs
 
@@ -40,7 +39,7 @@ fn copied(key: &Key) -> Result<Key, FaceFault> {
 // A set of n bytes.
 fn set(alloc: Global, key: Result<Key, FaceFault>, size: usize) -> Result<Input, FaceFault> {
     let data = b"vvvvvvvvvv".as_slice().get(..size).unwrap_or_default();
-    match Bytes::copy_from_slice(alloc, data) {
+    match SharedBytes::copy_from_slice(alloc, data) {
         Ok(bytes) => on(key, Op::Set(0, bytes)),
         Err(_) => {
             drop(key);

@@ -193,7 +193,8 @@ impl<'a, R: Clock> Links for Held<'a, R> {
         self.failures > 0
     }
 
-    fn put(&mut self, _published: &Published, _to: u8, _peer: &Peer) -> Result<(), RailFault> {
+    fn put(&mut self, _published: &Published, _to: u8, peer: Peer) -> Result<(), RailFault> {
+        drop(peer);
         self.entered.store(1, Ordering::SeqCst);
         self.in_time = is_set_soon(self.clock, self.looked);
         self.failures = 1;

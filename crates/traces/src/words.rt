@@ -6,10 +6,9 @@ ghost use Rattle.traces.specs.Words.{names_below, neighbour_text, reply_text, sp
 ghost use Rattle.traces.specs.Words.{value_text, view_text};
 
 use crate::texts::Text;
-use bytes::Bytes;
 use node::{Body, Peer, SERVERS, View};
 use std::alloc::AllocError;
-use table::{Call, Change, Item, Key, Op, Reply, Target};
+use table::{Call, Change, Item, Key, Op, Reply, SharedBytes, Target};
 use versions::Entry;
 
 /// A call: its name, its key, and what it has besides, the data last.
@@ -67,7 +66,7 @@ fn put_details(text: &mut Text, op: &Op) -> Result<(), AllocError>
     }
 }
 
-fn put_data(text: &mut Text, flags: u32, bytes: &Bytes) -> Result<(), AllocError>
+fn put_data(text: &mut Text, flags: u32, bytes: &SharedBytes) -> Result<(), AllocError>
     ensures { OnOk result (text.new ≡ text.old ++ data_text flags bytes.now) }
 {
     text.labelled(b" flags ", u64::from(flags))?;

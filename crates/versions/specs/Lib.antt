@@ -3,3 +3,4 @@ pub mod Stores
 pub mod Numbers
 pub mod Records
 pub mod Held
+pub mod Parts

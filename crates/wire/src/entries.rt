@@ -33,7 +33,7 @@ pub fn forward_body_at(alloc: Global, bytes: &[u8]) -> Result<(Body, &[u8]), Rea
     };
     match owned(alloc, target) {
         Ok(target) => {
-            let entry = Entry::new(number, origin, id, target, reply, change);
+            let entry = Entry::new(alloc, number, origin, id, target, reply, change)?;
             Ok((Body::Forward(entry), rest))
         }
         Err(_) => {

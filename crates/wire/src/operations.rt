@@ -6,9 +6,8 @@ ghost use Rattle.wire.specs.Fronts.{GivesOwned, op_at, key_operation_at};
 use crate::blocks::{owned_block_at, owned_flagged_at};
 use crate::fields::{Stop, byte_at, u32_at, u64_at};
 use crate::reading::ReadFault;
-use bytes::Bytes;
 use std::alloc::Global;
-use table::Op;
+use table::{Op, SharedBytes};
 
 /// An operation on all keys, or on one.
 #[tactic(auto, unfolding(crate::specs::Fronts::op_at))]
@@ -55,7 +54,7 @@ fn key_operation_at(alloc: Global, code: u8, bytes: &[u8]) -> Result<(Op, &[u8])
 }
 
 // The operation of a code with flags and data, 1 to 3.
-fn flagged_operation(code: u8, flags: u32, block: Bytes) -> Op
+fn flagged_operation(code: u8, flags: u32, block: SharedBytes) -> Op
     ensures { result
         ≡ (if code == 1 then Set flags block else if code == 2 then Add flags block else Replace flags block) }
 {
@@ -67,7 +66,7 @@ fn flagged_operation(code: u8, flags: u32, block: Bytes) -> Op
 }
 
 // The operation of a code with data alone, 4 or 5.
-fn joining_operation(code: u8, block: Bytes) -> Op
+fn joining_operation(code: u8, block: SharedBytes) -> Op
     ensures { result ≡ (if code == 4 then Append block else Prepend block) }
 {
     match code {

@@ -13,10 +13,10 @@ use crate::frames::FORMAT;
 use crate::ranges::hold_ranges;
 use crate::sizes::size;
 use crate::{Acceptance, Alive, Beat, Frame, Introduction, Reason, Silent, WireFault};
-use bytes::{Bytes, BytesMut};
+use bytes::BytesMut;
 use node::Body;
 use std::alloc::Global;
-use table::{Change, Key, Op, Reply, Target};
+use table::{Change, Key, Op, Reply, SharedBytes, Target};
 use versions::Entry;
 
 /// The one spelling of a frame in its ranges (docs/FORMATS.md, "Peer messages"; this project's rule), from which it is
@@ -281,7 +281,7 @@ fn put_code(out: &mut BytesMut, code: u8)
 }
 
 // A code, flags and data.
-fn put_flagged(out: &mut BytesMut, code: u8, flags: u32, bytes: &Bytes)
+fn put_flagged(out: &mut BytesMut, code: u8, flags: u32, bytes: &SharedBytes)
     requires fits { length bytes.now ≤ limit }
     requires room { 9 + length bytes.now ≤ out.old.spare }
     ensures { out.new.items ≡ out.old.items ++ code ∷ (four_bytes flags ++ block_spelling bytes.now) }
@@ -292,7 +292,7 @@ fn put_flagged(out: &mut BytesMut, code: u8, flags: u32, bytes: &Bytes)
 }
 
 // A length, and the bytes.
-fn put_block(out: &mut BytesMut, bytes: &Bytes)
+fn put_block(out: &mut BytesMut, bytes: &SharedBytes)
     requires fits { length bytes.now ≤ limit }
     requires room { 4 + length bytes.now ≤ out.old.spare }
     ensures { out.new.items ≡ out.old.items ++ block_spelling bytes.now }

@@ -68,7 +68,15 @@ fn drop_of(alloc: Global, number: u64, origin: u8) -> Result<Entry, Fault> {
         return Err(Fault::Refused);
     }
     let target = Target::One(key(alloc, b"a")?);
-    Ok(Entry::new(number, origin, 1, target, Reply::Deleted, Change::Drop))
+    Ok(Entry::new(
+        alloc,
+        number,
+        origin,
+        1,
+        target,
+        Reply::Deleted,
+        Change::Drop,
+    )?)
 }
 
 fn body_of(alloc: Global, said: Said) -> Result<Body, Fault> {

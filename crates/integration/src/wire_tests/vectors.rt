@@ -1,11 +1,11 @@
 //! The seventeen vectors, both ways.
 
 use crate::making::{Fault, all_hold, holds, key, on};
-use bytes::{Bytes, BytesMut};
+use bytes::BytesMut;
 use node::{Body, Peer, View};
 use std::alloc::Global;
 use std::test::Fail;
-use table::{Call, Change, Item, Op, Reply, Target};
+use table::{Call, Change, Item, Op, Reply, SharedBytes, Target};
 use versions::Entry;
 use wire::{
     Acceptance, Alive, Beat, Frame, Frames, Introduction, Reason, Silent, encode, encode_onto,
@@ -67,7 +67,7 @@ fn frame_at(alloc: Global, place: usize) -> Result<Frame, Fault> {
         5 => Ok(says(0, Body::Forward(three_bytes_put(alloc)?))),
         6 => Ok(Frame::Gone(5)),
         7 => Ok(says(0, Body::Op(3, flush()))),
-        8 => Ok(says(0, Body::Forward(clear()))),
+        8 => Ok(says(0, Body::Forward(clear(alloc)?))),
         9 => introduced(alloc),
         10 => Ok(accepted()),
         11 => Ok(Frame::Refused(Reason::Taken)),
@@ -122,20 +122,20 @@ fn flush() -> Call {
 }
 
 // Entry 4, of server 1 and its call 2.
-fn clear() -> Entry {
-    Entry::new(4, 1, 2, Target::All, Reply::Flushed, Change::Clear)
+fn clear(alloc: Global) -> Result<Entry, Fault> {
+    Ok(Entry::new(alloc, 4, 1, 2, Target::All, Reply::Flushed, Change::Clear)?)
 }
 
 // Entry 1, of server 0 and its call 1.
 fn three_bytes_put(alloc: Global) -> Result<Entry, Fault> {
-    let bytes = Bytes::copy_from_slice(alloc, b"xyz")?;
+    let bytes = SharedBytes::copy_from_slice(alloc, b"xyz")?;
     let target = Target::One(key(alloc, b"a")?);
     let item = Item {
         flags: 5,
         bytes,
         unique: 1,
     };
-    Ok(Entry::new(1, 0, 1, target, Reply::Stored, Change::Put(item)))
+    Ok(Entry::new(alloc, 1, 0, 1, target, Reply::Stored, Change::Put(item))?)
 }
 
 // Whether the frame is written as these bytes, alone and after itself.

@@ -95,7 +95,8 @@ written_to_first =
     ∙ ap (λ one. item_with (codes "0") one) (decimal_digit 1 (omega arith))
 
 -- and the next one its own
-pub written_to_next : ((served done 2 talk_homes (talk_moves ++ last_moves)).connections 0 1).written ≡ codes "ERROR\r\n"
+pub written_to_next : ((served done 2 talk_homes (talk_moves ++ last_moves)).connections 0 1).written
+    ≡ codes "ERROR\r\n"
 written_to_next =
     ap (λ (s : ServingChain). (s.connections 0 1).written) in_two
     ∙ next_written talked.chain talked.connections next_fresh

@@ -15,8 +15,8 @@ use Rattle.interleavings.specs.Chains.{Seat, Chain, with_at, with_seat, messages
 use Rattle.interleavings.specs.Moves.{has_stopped, moved}
 use Rattle.interleavings.specs.Orders.{reply_to}
 use Rattle.interleavings.specs.Quiet.{goes_on, IsQuiet}
-use Rattle.interleavings.specs.WorkedRuns.{set_homes, set_moves, failover_homes, set_is_taken, tail_stops, failover_moves}
-use Rattle.interleavings.specs.WorkedRuns.{item, set_is_committed, cut_moves}
+use Rattle.interleavings.specs.WorkedRuns.{set_homes, set_moves, failover_homes, set_is_taken, tail_stops}
+use Rattle.interleavings.specs.WorkedRuns.{failover_moves, item, set_is_committed, cut_moves}
 use Rattle.interleavings.proofs.lists.Ordinals.{kept_at}
 use Rattle.interleavings.proofs.examples.AskedCalls.{set_asked}
 use Rattle.interleavings.proofs.examples.Answered.{second, second_served, last_is}
@@ -83,45 +83,45 @@ set_quiet = quiet_pair passed passed_two passed_first (λ on. passed_last)
 -- ---- a failover: the head is left alone
 
 second_two : second.count ≡ 2
-unfolding set_is_taken tail_stops with_at has union single is_below adds next_from predecessor most appended entered widened
-    taken_all sent_again forwarded open_replies trimmed left_open replies risen passed_on take_update promoted_to_head
-    promoted_to_tail caught_up acked_to_predecessor asks_renewed
+unfolding set_is_taken tail_stops with_at has union single is_below adds next_from predecessor most appended entered
+    widened taken_all sent_again forwarded open_replies trimmed left_open replies risen passed_on take_update
+    promoted_to_head promoted_to_tail caught_up acked_to_predecessor asks_renewed
 second_two = refl
 
 second_stops : goes_on second 1 ≡ true → ⊥
-unfolding set_is_taken tail_stops with_at has union single is_below adds next_from predecessor most appended entered widened
-    taken_all sent_again forwarded open_replies trimmed left_open replies risen passed_on take_update promoted_to_head
-    promoted_to_tail caught_up acked_to_predecessor asks_renewed
+unfolding set_is_taken tail_stops with_at has union single is_below adds next_from predecessor most appended entered
+    widened taken_all sent_again forwarded open_replies trimmed left_open replies risen passed_on take_update
+    promoted_to_head promoted_to_tail caught_up acked_to_predecessor asks_renewed
 second_stops e = (let no : false ≡ true = e in absurd cc)
 
 second_messages : (j : ℕ) → goes_on second j ≡ true → j < 2 → messages_to j (second.servers 0).outbox ≡ []
-unfolding set_is_taken tail_stops with_at has union single is_below adds next_from predecessor most appended entered widened
-    taken_all sent_again forwarded open_replies trimmed left_open replies risen passed_on take_update promoted_to_head
-    promoted_to_tail caught_up acked_to_predecessor asks_renewed
+unfolding set_is_taken tail_stops with_at has union single is_below adds next_from predecessor most appended entered
+    widened taken_all sent_again forwarded open_replies trimmed left_open replies risen passed_on take_update
+    promoted_to_head promoted_to_tail caught_up acked_to_predecessor asks_renewed
 second_messages zero e l = refl
 second_messages (suc zero) e l = absurd (second_stops e)
 second_messages (suc (suc j)) e l = absurd (omega (arith, l))
 
 second_views : (j : ℕ) → has_stopped second j ≡ true → j < 2 → has (second.servers 0).node.view j ≡ true
-unfolding set_is_taken tail_stops with_at has union single is_below adds next_from predecessor most appended entered widened
-    taken_all sent_again forwarded open_replies trimmed left_open replies risen passed_on take_update promoted_to_head
-    promoted_to_tail caught_up acked_to_predecessor asks_renewed
+unfolding set_is_taken tail_stops with_at has union single is_below adds next_from predecessor most appended entered
+    widened taken_all sent_again forwarded open_replies trimmed left_open replies risen passed_on take_update
+    promoted_to_head promoted_to_tail caught_up acked_to_predecessor asks_renewed
 second_views zero e l = (let no : false ≡ true = e in absurd cc)
 second_views (suc zero) e l = refl
 second_views (suc (suc j)) e l = absurd (omega (arith, l))
 
 second_channels : (j : ℕ) → goes_on second j ≡ true → j < 2 → second.channels 0 j ≡ []
-unfolding set_is_taken tail_stops with_at has union single is_below adds next_from predecessor most appended entered widened
-    taken_all sent_again forwarded open_replies trimmed left_open replies risen passed_on take_update promoted_to_head
-    promoted_to_tail caught_up acked_to_predecessor asks_renewed
+unfolding set_is_taken tail_stops with_at has union single is_below adds next_from predecessor most appended entered
+    widened taken_all sent_again forwarded open_replies trimmed left_open replies risen passed_on take_update
+    promoted_to_head promoted_to_tail caught_up acked_to_predecessor asks_renewed
 second_channels zero e l = refl
 second_channels (suc zero) e l = absurd (second_stops e)
 second_channels (suc (suc j)) e l = absurd (omega (arith, l))
 
 second_done : IsDone second 0
-unfolding set_is_taken tail_stops with_at has union single is_below adds next_from predecessor most appended entered widened
-    taken_all sent_again forwarded open_replies trimmed left_open replies risen passed_on take_update promoted_to_head
-    promoted_to_tail caught_up acked_to_predecessor asks_renewed
+unfolding set_is_taken tail_stops with_at has union single is_below adds next_from predecessor most appended entered
+    widened taken_all sent_again forwarded open_replies trimmed left_open replies risen passed_on take_update
+    promoted_to_head promoted_to_tail caught_up acked_to_predecessor asks_renewed
 second_done = record {
   inbox = refl;
   unpublished = refl;
@@ -162,45 +162,45 @@ cut = moved 2 set_homes cut_moves
 -- the head is left alone
 
 cut_two : cut.count ≡ 2
-unfolding set_is_committed tail_stops with_at has union single is_below adds next_from predecessor most appended entered widened
-    taken_all sent_again forwarded open_replies trimmed left_open replies risen passed_on take_update promoted_to_head
-    promoted_to_tail caught_up acked_to_predecessor asks_renewed
+unfolding set_is_committed tail_stops with_at has union single is_below adds next_from predecessor most appended entered
+    widened taken_all sent_again forwarded open_replies trimmed left_open replies risen passed_on take_update
+    promoted_to_head promoted_to_tail caught_up acked_to_predecessor asks_renewed
 cut_two = refl
 
 cut_stops : goes_on cut 1 ≡ true → ⊥
-unfolding set_is_committed tail_stops with_at has union single is_below adds next_from predecessor most appended entered widened
-    taken_all sent_again forwarded open_replies trimmed left_open replies risen passed_on take_update promoted_to_head
-    promoted_to_tail caught_up acked_to_predecessor asks_renewed
+unfolding set_is_committed tail_stops with_at has union single is_below adds next_from predecessor most appended entered
+    widened taken_all sent_again forwarded open_replies trimmed left_open replies risen passed_on take_update
+    promoted_to_head promoted_to_tail caught_up acked_to_predecessor asks_renewed
 cut_stops e = (let no : false ≡ true = e in absurd cc)
 
 cut_messages : (j : ℕ) → goes_on cut j ≡ true → j < 2 → messages_to j (cut.servers 0).outbox ≡ []
-unfolding set_is_committed tail_stops with_at has union single is_below adds next_from predecessor most appended entered widened
-    taken_all sent_again forwarded open_replies trimmed left_open replies risen passed_on take_update promoted_to_head
-    promoted_to_tail caught_up acked_to_predecessor asks_renewed
+unfolding set_is_committed tail_stops with_at has union single is_below adds next_from predecessor most appended entered
+    widened taken_all sent_again forwarded open_replies trimmed left_open replies risen passed_on take_update
+    promoted_to_head promoted_to_tail caught_up acked_to_predecessor asks_renewed
 cut_messages zero e l = refl
 cut_messages (suc zero) e l = absurd (cut_stops e)
 cut_messages (suc (suc j)) e l = absurd (omega (arith, l))
 
 cut_views : (j : ℕ) → has_stopped cut j ≡ true → j < 2 → has (cut.servers 0).node.view j ≡ true
-unfolding set_is_committed tail_stops with_at has union single is_below adds next_from predecessor most appended entered widened
-    taken_all sent_again forwarded open_replies trimmed left_open replies risen passed_on take_update promoted_to_head
-    promoted_to_tail caught_up acked_to_predecessor asks_renewed
+unfolding set_is_committed tail_stops with_at has union single is_below adds next_from predecessor most appended entered
+    widened taken_all sent_again forwarded open_replies trimmed left_open replies risen passed_on take_update
+    promoted_to_head promoted_to_tail caught_up acked_to_predecessor asks_renewed
 cut_views zero e l = (let no : false ≡ true = e in absurd cc)
 cut_views (suc zero) e l = refl
 cut_views (suc (suc j)) e l = absurd (omega (arith, l))
 
 cut_channels : (j : ℕ) → goes_on cut j ≡ true → j < 2 → cut.channels 0 j ≡ []
-unfolding set_is_committed tail_stops with_at has union single is_below adds next_from predecessor most appended entered widened
-    taken_all sent_again forwarded open_replies trimmed left_open replies risen passed_on take_update promoted_to_head
-    promoted_to_tail caught_up acked_to_predecessor asks_renewed
+unfolding set_is_committed tail_stops with_at has union single is_below adds next_from predecessor most appended entered
+    widened taken_all sent_again forwarded open_replies trimmed left_open replies risen passed_on take_update
+    promoted_to_head promoted_to_tail caught_up acked_to_predecessor asks_renewed
 cut_channels zero e l = refl
 cut_channels (suc zero) e l = absurd (cut_stops e)
 cut_channels (suc (suc j)) e l = absurd (omega (arith, l))
 
 cut_done : IsDone cut 0
-unfolding set_is_committed tail_stops with_at has union single is_below adds next_from predecessor most appended entered widened
-    taken_all sent_again forwarded open_replies trimmed left_open replies risen passed_on take_update promoted_to_head
-    promoted_to_tail caught_up acked_to_predecessor asks_renewed
+unfolding set_is_committed tail_stops with_at has union single is_below adds next_from predecessor most appended entered
+    widened taken_all sent_again forwarded open_replies trimmed left_open replies risen passed_on take_update
+    promoted_to_head promoted_to_tail caught_up acked_to_predecessor asks_renewed
 cut_done = record {
   inbox = refl;
   unpublished = refl;
@@ -211,9 +211,9 @@ cut_done = record {
 }
 
 cut_served : cut.seats ≡ served_seats 2 set_homes 0
-unfolding set_is_committed tail_stops with_at has union single is_below adds next_from predecessor most appended entered widened
-    taken_all sent_again forwarded open_replies trimmed left_open replies risen passed_on take_update promoted_to_head
-    promoted_to_tail caught_up acked_to_predecessor asks_renewed
+unfolding set_is_committed tail_stops with_at has union single is_below adds next_from predecessor most appended entered
+    widened taken_all sent_again forwarded open_replies trimmed left_open replies risen passed_on take_update
+    promoted_to_head promoted_to_tail caught_up acked_to_predecessor asks_renewed
 cut_served = refl
 
 -- nothing is left to do,
@@ -222,16 +222,16 @@ cut_quiet = quiet_pair cut cut_two cut_done (λ on. absurd (cut_stops on)) (serv
 
 -- though the tail never put its acknowledgement;
 pub cut_left : messages_to 0 (cut.servers 1).outbox ≡ record { view = 0; body = Ack 1 } ∷ []
-unfolding set_is_committed tail_stops with_at has union single is_below adds next_from predecessor most appended entered widened
-    taken_all sent_again forwarded open_replies trimmed left_open replies risen passed_on take_update promoted_to_head
-    promoted_to_tail caught_up acked_to_predecessor asks_renewed
+unfolding set_is_committed tail_stops with_at has union single is_below adds next_from predecessor most appended entered
+    widened taken_all sent_again forwarded open_replies trimmed left_open replies risen passed_on take_update
+    promoted_to_head promoted_to_tail caught_up acked_to_predecessor asks_renewed
 cut_left = refl
 
 -- the set is answered,
 pub cut_stored : reply_to cut (name 0 0) ≡ Some Stored
-unfolding set_is_committed tail_stops with_at has union single is_below adds next_from predecessor most appended entered widened
-    taken_all sent_again forwarded open_replies trimmed left_open replies risen passed_on take_update promoted_to_head
-    promoted_to_tail caught_up acked_to_predecessor asks_renewed
+unfolding set_is_committed tail_stops with_at has union single is_below adds next_from predecessor most appended entered
+    widened taken_all sent_again forwarded open_replies trimmed left_open replies risen passed_on take_update
+    promoted_to_head promoted_to_tail caught_up acked_to_predecessor asks_renewed
 cut_stored = refl
 
 -- and clients can ask it

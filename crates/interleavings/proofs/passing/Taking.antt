@@ -63,7 +63,8 @@ took_stands : (l : Chain) (w : World) (i : ℕ) (sender : Sender)
 took_stands l w i sender h free None e = stays l w i (l.servers i) h refl
 took_stands l w i sender h free (Some x) e = passes w l _ h (busy_passes l w i sender h x free e)
 
-none_of : {X : Type 0} (o : Option X) → is_some o ≡ false → o ≡ None
+-- what isn't some is none
+pub none_of : {X : Type 0} (o : Option X) → is_some o ≡ false → o ≡ None
 none_of None e = refl
 none_of (Some x) e = absurd cc
 

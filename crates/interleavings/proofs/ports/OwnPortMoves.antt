@@ -14,8 +14,8 @@ use Rattle.node.specs.Faces.{face_of, look_at}
 use Rattle.interleavings.specs.Chains.{RunningServer, Seat, Chain, with_running, with_channel, with_seat, messages_to}
 use Rattle.interleavings.specs.Chains.{without_message, Sender, OfNotices}
 use Rattle.interleavings.specs.Moves.{Move, Sends, Takes, Publishes, Puts, Arrives, Replies, Receives, Looks, Stops}
-use Rattle.interleavings.specs.Moves.{Notices, is_free, brought, sent, received, looked, taking, publishing, put, arrived}
-use Rattle.interleavings.specs.Moves.{has_stopped, done}
+use Rattle.interleavings.specs.Moves.{Notices, is_free, brought, sent, received, looked, taking, publishing, put}
+use Rattle.interleavings.specs.Moves.{arrived, has_stopped, done}
 use Rattle.interleavings.specs.OwnPorts.{port_at, sent_from, with_own_ports}
 use Rattle.interleavings.proofs.ports.RenamedChains.{Same, of_chain, seat_there, same_server, same_channel, same_seat}
 use Rattle.interleavings.proofs.ports.RenamedChains.{same_brought}

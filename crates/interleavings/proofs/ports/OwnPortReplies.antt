@@ -83,10 +83,12 @@ module _ (n : ℕ) (homes : List ℕ) (l g : Chain) (h : Same n homes l g) (i c 
       let port = port_at homes c s.home in
       let x = reply_put_from port l i c s (replies_to port (l.servers i).outbox) in
       let st = (l.servers i).stopped in
-      subst (λ k. Same n homes (cond (s.home == i && not st) x l) (done g (cond (k == i) (Replies i c) (Takes n OfNotices))))
+      subst
+      (λ k. Same n homes (cond (s.home == i && not st) x l) (done g (cond (k == i) (Replies i c) (Takes n OfNotices))))
       (h.sits c)
       (elim (cases_eq s.home i) [
-        | inl at ↦ subst (λ b. Same n homes (cond (b && not st) x l) (done g (cond b (Replies i c) (Takes n OfNotices))))
+        | inl at ↦ subst
+            (λ b. Same n homes (cond (b && not st) x l) (done g (cond b (Replies i c) (Takes n OfNotices))))
             (sym (eq-eqb s.home i at)) (replies_here at)
         | inr other ↦ subst
             (λ b. Same n homes (cond (b && not st) x l) (done g (cond b (Replies i c) (Takes n OfNotices))))

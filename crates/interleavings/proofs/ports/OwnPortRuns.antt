@@ -1,20 +1,24 @@
 -- Every run with own ports has an order of its calls: that of the run with the seats' numbers as ports.
-use Rattle.std.proofs.Common.{◌≡◌, ℕ, ◌≤◌, List, [], ◌∷◌, map, take, ap, sym, ◌∙◌, subst}
+use Rattle.std.proofs.Common.{◌≡◌, ℕ, ◌<◌, ◌≤◌, List, [], ◌∷◌, map, take, Some, arith, ap, sym, ◌∙◌, subst}
 use Rattle.std.specs.Prelude.{slice_get, slice_index_or, ◌==◌, IsSome}
 use Rattle.std.proofs.lemmas.Bool.{cond_both}
 use Rattle.std.proofs.lemmas.List.{take-map}
+use Rattle.std.proofs.lemmas.Option.{get_or_from_slice_get}
 use Rattle.world.specs.Calls.{CallId}
 use Rattle.world.specs.Orders.{OrderedCall}
 use Rattle.interleavings.specs.Asked.{IsAskedBy, AreAsked}
 use Rattle.interleavings.specs.Chains.{Seat, Chain, opening_chain, OfNotices}
 use Rattle.interleavings.specs.Moves.{Move, Sends, Takes, Publishes, Puts, Arrives, Replies, Receives, Looks, Stops}
 use Rattle.interleavings.specs.Moves.{Notices, done, moved_from, moved}
-use Rattle.interleavings.specs.Orders.{begun_call, reply_to, Precedes, IsLinearization}
-use Rattle.interleavings.specs.OtherMoves.{moved_from_by, moved_by, PrecedesBy, IsLinearizationBy}
-use Rattle.interleavings.specs.OwnPorts.{with_own_ports}
+use Rattle.interleavings.specs.Orders.{begun_call, reply_to, is_published, Precedes, PublishedBefore, IsLinearization}
+use Rattle.interleavings.specs.Orders.{IsInTurn}
+use Rattle.interleavings.specs.OtherMoves.{moved_from_by, moved_by, PrecedesBy, IsLinearizationBy, is_published_from}
+use Rattle.interleavings.specs.OtherMoves.{PublishedBeforeBy, IsInTurnBy}
+use Rattle.interleavings.specs.OwnPorts.{own_port, with_own_ports}
 use Rattle.interleavings.proofs.ports.OwnPortMoves.{named, sends_same, takes_same, publishes_same, puts_same}
 use Rattle.interleavings.proofs.ports.OwnPortMoves.{arrives_same, receives_same, looks_same, stops_same, notices_same}
 use Rattle.interleavings.proofs.ports.OwnPortReplies.{replies_same}
+use Rattle.interleavings.proofs.ports.OwnPortTurns.{published_same}
 use Rattle.interleavings.proofs.ports.RenamedChains.{Same, same_opening}
 use Rattle.interleavings.proofs.relation.Following.{linearizable}
 use Rattle.interleavings.proofs.runs.Simulating.{simulates}
@@ -101,10 +105,40 @@ module _ (n : ℕ) (homes : List ℕ) where
       in_time = λ x y j p s. o.in_time x y j (precedes_too x y p) s;
     }
 
-    -- so there is an order
+    published_there : (k : ℕ) (x : CallId) (i : ℕ)
+        → slice_get homes x.connection ≡ Some i
+        → i < n
+        → is_published (moved n homes (take k names)) x
+        ≡ is_published_from (own_port n homes) (moved_by (with_own_ports homes) n homes (take k moves)) x
+    published_there k x i here within =
+        let h = same_run (take k moves) in
+        let home : i ≡ ((moved_by (with_own_ports homes) n homes (take k moves)).seats x.connection).home =
+        sym (get_or_from_slice_get homes x.connection i n here) ∙ sym (h.sits x.connection) in
+        ap (λ ms. is_published (moved n homes ms) x) (front k)
+        ∙ published_same n homes _ _ h x (omega (arith, within, home))
+
+    published_too : (x y : CallId)
+        → PublishedBeforeBy (with_own_ports homes) (own_port n homes) n homes moves x y
+        → PublishedBefore n homes names x y
+    published_too x y p = record {
+      k = p.k;
+      published = published_there p.k x p.server p.here p.of_chain ∙ p.published;
+      not_published = published_there p.k y p.server p.there p.of_chain ∙ p.not_published;
+      one_server = p.here ∙ sym p.there;
+      update = (p.update.0, calls_same moves x ∙ p.update.1, p.update.2);
+      later_update = (p.later_update.0, calls_same moves y ∙ p.later_update.1, p.later_update.2);
+    }
+
+    in_turn_too : (h : List OrderedCall)
+        → IsInTurn n homes names h
+        → IsInTurnBy (with_own_ports homes) (own_port n homes) n homes moves h
+    in_turn_too h o = record { in_turn = λ x y j p s. o.in_turn x y j (published_too x y p) s }
+
+    -- so there is an order, in turn
     pub one_order : n ≤ 16
         → AreAsked moves
         → (h : List OrderedCall) × IsLinearizationBy (with_own_ports homes) n homes moves h
+        × IsInTurnBy (with_own_ports homes) (own_port n homes) n homes moves h
     one_order few asked =
         let o = linearizable n homes (simulates n homes few) names few (all_asked moves asked) in
-        (o.0, order_too o.0 o.1)
+        (o.0, order_too o.0 o.1, in_turn_too o.0 o.2)

@@ -1,6 +1,6 @@
 -- One running server under other ports: what it takes, publishes and has left to put is the same under these.
-use Rattle.std.proofs.Common.{◌≡◌, ℕ, Bool, true, false, cond, List, [], ◌∷◌, ◌++◌, map, Option, None, Some, refl, ap, sym}
-use Rattle.std.proofs.Common.{◌∙◌, inl, inr, eq-eqb}
+use Rattle.std.proofs.Common.{◌≡◌, ℕ, Bool, true, false, cond, List, [], ◌∷◌, ◌++◌, map, Option, None, Some, refl, ap}
+use Rattle.std.proofs.Common.{sym, ◌∙◌, inl, inr, eq-eqb}
 use Rattle.std.specs.Prelude.{◌==◌, option_map, is_some}
 use Rattle.std.proofs.lemmas.Bool.{cases_eq, ne_eqb}
 use Rattle.std.proofs.lemmas.List.{map-append}
@@ -59,7 +59,8 @@ without_message_renamed f j (Replied d reply ∷ os) =
     ap (λ ps. Replied (f d) reply ∷ ps) (without_message_renamed f j os)
 
 module _ (f : ℕ → ℕ) (apart : (p q : ℕ) → f p ≡ f q → p ≡ q) where
-  same_test : (d p : ℕ) → (f d == f p) ≡ (d == p)
+  -- names of ports are equal just where the ports are
+  pub same_test : (d p : ℕ) → (f d == f p) ≡ (d == p)
   same_test d p = elim (cases_eq d p) [
     | inl same ↦ eq-eqb (f d) (f p) (ap f same) ∙ sym (eq-eqb d p same)
     | inr other ↦ ne_eqb (f d) (f p) (λ e. other (apart d p e)) ∙ sym (ne_eqb d p other)

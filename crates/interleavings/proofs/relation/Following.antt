@@ -13,8 +13,9 @@ use Rattle.world.proofs.order.OneOrder.{one_order}
 use Rattle.interleavings.specs.Chains.{Seat, Chain, opening_chain}
 use Rattle.interleavings.specs.Moves.{Move, done, moved_from}
 use Rattle.interleavings.specs.Asked.{IsAskedBy, AreAsked}
-use Rattle.interleavings.specs.Orders.{IsLinearization}
-use Rattle.interleavings.proofs.relation.Transfer.{Follows, Seen, transfer}
+use Rattle.interleavings.specs.Orders.{IsLinearization, IsInTurn}
+use Rattle.interleavings.proofs.relation.Given.{shows_call}
+use Rattle.interleavings.proofs.relation.Transfer.{Follows, Seen, transfer, in_turn}
 use Rattle.interleavings.proofs.relation.StandsFor.{Sits, StandsFor}
 use Rattle.interleavings.proofs.relation.Opening.{opens}
 
@@ -39,6 +40,7 @@ pub sees : (l : Chain) (w : World) → StandsFor l w → Seen l w
 sees l w h = record {
   calls = λ x call e. begun_there l w (l.seats x.connection) x.ordinal call _ (h.seats x.connection) e;
   replies = λ x reply e. replied_there l w (l.seats x.connection) x.ordinal reply _ (h.seats x.connection) e;
+  shown = λ x going. shows_call l w x h going;
 }
 
 -- ---- runs
@@ -105,12 +107,12 @@ module _ (count : ℕ) (homes : List ℕ) where
       standing zero at f = h
       standing (suc k) at f = f k
 
-  -- so an order of the last schedule's calls is one of the run's
+  -- so an order of the last schedule's calls is one of the run's, and is in turn
   pub linearizable : Simulates count homes
       → (moves : List Move)
       → count ≤ 16
       → AreAsked moves
-      → (h : List OrderedCall) × IsLinearization count homes moves h
+      → (h : List OrderedCall) × IsLinearization count homes moves h × IsInTurn count homes moves h
   linearizable sim moves few asked =
       let b = behind sim moves (opening_chain count homes) [] (opens count homes) asked in
       let f : Follows count homes moves = record {
@@ -119,7 +121,7 @@ module _ (count : ℕ) (homes : List ℕ) where
         seen = λ k. sees _ _ (b.stands k);
       } in
       let o = one_order count homes (b.at (length moves)) few in
-      (o.0, transfer count homes moves f o.0 o.1)
+      (o.0, transfer count homes moves f o.0 o.1, in_turn count homes moves f few o.0 o.1)
 
   -- and there are at most four events a move
   pub follows : Simulates count homes

@@ -1,10 +1,9 @@
 -- The world that stands for a running chain: what of the chain each of its parts is.
-use Rattle.std.proofs.Common.{◌≡◌, ℕ, ◌<◌, ◌≤◌, ◌+◌, true, false, List, [], ◌∷◌, ◌++◌, length, Option, None, Some, ap, ◌∙◌}
+use Rattle.std.proofs.Common.{◌≡◌, ℕ, ◌<◌, ◌≤◌, ◌+◌, true, false, List, [], ◌++◌, length, Option, None, Some, ap, ◌∙◌}
 use Rattle.std.specs.Prelude.{slice_get, not, ◌==◌, if◌then◌else◌}
 use Rattle.table.specs.declared.operations.Call.{Call}
 use Rattle.table.specs.declared.operations.Reply.{Reply}
 use Rattle.node.specs.declared.messages.Peer.{Peer}
-use Rattle.node.specs.declared.messages.Input.{Input}
 use Rattle.node.specs.declared.messages.Input.TheVariants.{Gone}
 use Rattle.node.proofs.Lists.{In}
 use Rattle.world.specs.declared.connections.Stage.{Stage}
@@ -13,17 +12,9 @@ use Rattle.world.specs.Connections.{Connection, to_work}
 use Rattle.world.specs.Waiting.{waiting_reply}
 use Rattle.world.specs.Worlds.{World, server, link, lives, run_from}
 use Rattle.world.specs.declared.events.Event.{Event}
-use Rattle.interleavings.specs.Chains.{RunningServer, Seat, Chain, messages_from, messages_to, calls_from, replies_to}
+use Rattle.interleavings.specs.Chains.{Seat, Chain, messages_from, messages_to, calls_from, replies_to}
+pub use Rattle.interleavings.specs.Chains.{listed, queue}
 use Rattle.proto.proofs.RestedLaws.{IsRested}
-
--- the one there is, or none
-abbrev pub listed : {X : Type 0} → Option X → List X
-listed None = []
-listed (Some x) = x ∷ []
-
--- what a server has still to take a step for, the oldest first
-abbrev pub queue : RunningServer → List Input
-queue s = listed s.unpublished ++ s.inbox
 
 -- what is on its way from server i to server j, the oldest first
 abbrev pub under_way : Chain → ℕ → ℕ → List Peer

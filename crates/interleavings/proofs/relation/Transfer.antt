@@ -1,27 +1,36 @@
--- If schedules follow a run, move by move, an order of the calls of the last schedule is one of the run's calls.
-use Rattle.std.proofs.Common.{◌≡◌, ℕ, ◌≤◌, List, [], ◌∷◌, ◌++◌, length, take, Option, None, Some, refl, arith, inl, inr}
-use Rattle.std.proofs.Common.{ap, sym, ◌∙◌, subst}
+-- If schedules follow a run, move by move, an order of the calls of the last schedule is one of the run's calls, and is
+-- in turn there.
+use Rattle.std.proofs.Common.{◌≡◌, ℕ, ◌+◌, ◌<◌, ◌≤◌, true, false, List, [], ◌∷◌, ◌++◌, length, take, Option, None, Some}
+use Rattle.std.proofs.Common.{refl, arith, inl, inr, ap, sym, ◌∙◌, subst, length-append}
 use Rattle.std.specs.Prelude.{IsSome}
-use Rattle.std.proofs.lemmas.Bool.{cases_lt}
+use Rattle.std.proofs.lemmas.Bool.{cases_lt, ltb-true}
 use Rattle.std.proofs.lemmas.List.{take_all}
+use Rattle.std.proofs.lemmas.Option.{same_Some}
 use Rattle.table.specs.declared.operations.Call.{Call}
 use Rattle.table.specs.declared.operations.Reply.{Reply}
 use Rattle.world.specs.declared.events.Event.{Event}
 use Rattle.world.specs.Worlds.{World, run_of}
 use Rattle.world.specs.Calls.{CallId}
 use Rattle.world.specs.Orders.{OrderedCall}
+use Rattle.world.proofs.lists.Fronts.{found_below}
 use Rattle.world.proofs.lists.Standing.{some_of}
+use Rattle.world.proofs.moments.AllLaws.{all_moments}
 use Rattle.world.proofs.order.Since.{is_some}
 use Rattle.interleavings.specs.Chains.{Chain}
 use Rattle.interleavings.specs.Moves.{Move, moved}
-use Rattle.interleavings.specs.Orders.{begun_call, reply_to, Precedes, IsLinearization}
+use Rattle.interleavings.specs.Orders.{begun_call, reply_to, waiting_calls, is_published, IsUpdate, Precedes}
+use Rattle.interleavings.specs.Orders.{PublishedBefore, IsLinearization, IsInTurn}
+use Rattle.interleavings.proofs.relation.Given.{ShowsCall}
+use Rattle.interleavings.proofs.relation.Published.{is_stopped, was_between}
 use Rattle.world.specs.Calls as world
 use Rattle.world.specs.Orders as schedules
 
--- what a world shows of calls is what a chain shows: begun calls, and at least the replies that seats have
+-- what a world shows of calls is what a chain shows: begun calls, at least the replies that seats have, and of calls
+-- whose server goes on which are published
 pub record Seen (l : Chain) (w : World) : Type 0 where
   pub calls : (x : CallId) (call : Call) → world.begun_call w x ≡ Some call → begun_call l x ≡ Some call
   pub replies : (x : CallId) (reply : Reply) → reply_to l x ≡ Some reply → world.reply_to w x ≡ Some reply
+  pub shown : (x : CallId) → is_stopped l x ≡ false → ShowsCall l w x
 
 -- schedules that follow a run: one after each first k moves, each going on from those before it
 pub record Follows (count : ℕ) (homes : List ℕ) (moves : List Move) : Type 0 where
@@ -74,6 +83,90 @@ module _ (count : ℕ) (homes : List ℕ) (moves : List Move) (f : Follows count
         (subst (λ l. IsSome (reply_to l x)) same p.answered)
         (subst (λ l. begun_call l y ≡ None) same p.not_begun)
   ]
+
+  -- ---- in turn
+
+  abbrev schedule : List Event
+  schedule = f.at (length moves)
+
+  -- a call that was begun in a schedule that this one goes on from is begun in this one
+  begun_later : count ≤ 16
+      → (es more : List Event) (x : CallId) (call : Call)
+      → schedule ≡ es ++ more
+      → world.begun_call (run_of count homes es) x ≡ Some call
+      → world.begun_call (run_of count homes schedule) x ≡ Some call
+  begun_later few es more x call same h =
+      let m = all_moments count homes schedule few in
+      let n = length schedule in
+      let shorter : length es ≤ n = omega (arith, ap (λ xs. length xs) same, length-append es more) in
+      let past : (m.at (length es)).world ≡ run_of count homes es =
+      m.world (length es) ∙ ap (run_of count homes) (ap (take (length es)) same ∙ take_front es more) in
+      let last : (m.at n).world ≡ run_of count homes schedule =
+      m.world n ∙ ap (run_of count homes) (take_all n schedule (omega arith)) in
+      ap (λ w. world.begun_call w x) (sym last)
+      ∙ (m.goes (length es) n shorter None).later.calls x call (ap (λ w. world.begun_call w x) past ∙ h)
+
+  -- an update that was published while its server went on is one of the schedule's
+  update_there : count ≤ 16
+      → (k : ℕ) (x : CallId)
+      → k ≤ length moves
+      → is_stopped (moved count homes (take k moves)) x ≡ false
+      → is_published (moved count homes (take k moves)) x ≡ true
+      → IsUpdate (moved count homes moves) x
+      → world.IsUpdate (run_of count homes schedule) x
+  update_there few k x within going published update =
+      let l = moved count homes (take k moves) in
+      let c = found_below (l.seats x.connection).calls x.ordinal (below l published) in
+      let g = f.goes k (length moves) within in
+      let there = begun_later few (f.at k) g.0 x c.0 g.1 (((f.seen k).shown x going).begun ∙ c.1) in
+      let same : c.0 ≡ update.0 =
+      same_Some c.0 update.0 (sym (seen_last.calls x c.0 there) ∙ update.1) in
+      (c.0, there, rw same update.2)
+    where
+      below : (l : Chain) → is_published l x ≡ true → x.ordinal < length (l.seats x.connection).calls
+      below l h =
+          let n = length (l.seats x.connection).calls in
+          let less = ltb-true (x.ordinal + length (waiting_calls l x.connection)) n h in
+          omega (arith, less)
+
+  given_before : count ≤ 16
+      → (x y : CallId) (call : Call)
+      → PublishedBefore count homes moves x y
+      → world.begun_call (run_of count homes schedule) y ≡ Some call
+      → schedules.GivenBefore count homes schedule x y
+  given_before few x y call p begun =
+      let b = was_between count homes moves x y p.k p.one_server
+      (record { published = p.published; not_published = p.not_published }) in
+      let going = subst
+      (λ i. ((moved count homes (take b.k moves)).servers i).stopped ≡ false) b.one_home b.going in
+      let g = f.goes b.k (length moves) b.within in
+      let same : take (length (f.at b.k)) schedule ≡ f.at b.k =
+      ap (take (length (f.at b.k))) g.1 ∙ take_front (f.at b.k) g.0 in
+      let s = f.seen b.k in
+      let asked : call ≡ p.later_update.0 =
+      same_Some call p.later_update.0 (sym (seen_last.calls y call begun) ∙ p.later_update.1) in
+      record {
+        k = length (f.at b.k);
+        given = ap (λ es. world.is_given (run_of count homes es) x) same ∙ (s.shown x b.going).given
+            ∙ b.between.published;
+        not_given = ap (λ es. world.is_given (run_of count homes es) y) same ∙ (s.shown y going).given
+            ∙ b.between.not_published;
+        one_server = p.one_server;
+        update = update_there few b.k x b.within b.going b.between.published p.update;
+        later_update = (call, begun, rw asked p.later_update.2);
+      }
+
+  -- an order of the last schedule is in turn for the run
+  pub in_turn : count ≤ 16
+      → (h : List OrderedCall)
+      → schedules.IsLinearization count homes schedule h
+      → IsInTurn count homes moves h
+  in_turn few h lin = record {
+    in_turn = λ x y j p s.
+        let begun = subst (λ z. world.begun_call (run_of count homes schedule) z ≡ Some s.entry.call) s.same
+        (lin.begun j s.entry s.here) in
+        lin.in_turn x y j (given_before few x y s.entry.call p begun) s;
+  }
 
   -- an order of the last schedule is one of the run
   pub transfer : (h : List OrderedCall)

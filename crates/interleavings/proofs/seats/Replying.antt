@@ -127,5 +127,6 @@ module _ (l : Chain) (w : World) (i c : ℕ) (h : StandsFor l w) (going : (l.ser
 -- a reply that is put is a hand
 pub replies_reach : (l : Chain) (w : World) (i c : ℕ) → StandsFor l w → Reaches w (done l (Replies i c))
 replies_reach l w i c h =
-    cond_both (l.servers i).stopped l (reply_put l i c (l.seats c) (replies_to c (l.servers i).outbox)) (λ m. Reaches w m)
-    (λ t. ([], omega arith, h)) (λ going. by_replies l w i c h going (replies_to c (l.servers i).outbox) refl)
+    cond_both (l.servers i).stopped l (reply_put l i c (l.seats c) (replies_to c (l.servers i).outbox))
+    (λ m. Reaches w m) (λ t. ([], omega arith, h))
+    (λ going. by_replies l w i c h going (replies_to c (l.servers i).outbox) refl)

@@ -1,13 +1,14 @@
 -- A run of a chain that serves is a run of the chain, and what holds of seats and connections holds along it.
-use Rattle.std.proofs.Common.{◌≡◌, ℕ, zero, suc, ◌≤◌, List, [], ◌∷◌, ◌++◌, length, take, refl, arith, ap, sym, ◌∙◌}
-use Rattle.std.proofs.Common.{append_assoc, length-append}
+use Rattle.std.proofs.Common.{◌≡◌, ℕ, zero, suc, ◌<◌, ◌≤◌, List, [], ◌∷◌, ◌++◌, length, take, refl, arith, inl, inr, ap}
+use Rattle.std.proofs.Common.{sym, ◌∙◌, append_assoc, length-append}
+use Rattle.std.proofs.lemmas.Bool.{cases_lt}
 use Rattle.interleavings.specs.Moves.{Move, moved_from, done}
 use Rattle.interleavings.specs.Asked.{AreAsked}
 use Rattle.interleavings.specs.ServingMoves.{ServingChain, ServingMove, served_by, served_from, opening_serving}
 use Rattle.interleavings.proofs.examples.InTwoParts.{moved_from-append}
 use Rattle.interleavings.proofs.served.Connected.{connected_opening}
 use Rattle.interleavings.proofs.served.InTurn.{upto}
-use Rattle.interleavings.proofs.served.Steps.{IsInOrder, Grows, grows_same, grows_more}
+use Rattle.interleavings.proofs.served.Steps.{calls_at, replies_at, IsInOrder, Grows, grows_same, grows_more}
 use Rattle.interleavings.proofs.served.EachMove.{step}
 
 -- one part after the other
@@ -106,3 +107,23 @@ first_along (suc k) (m ∷ ms) s h =
       ap (λ xs. one.moves ++ xs) f.1
           ∙ sym (append_assoc one.moves (made_along (take k ms) (served_by done s m) one.order) f.0),
     )
+
+-- A call that isn't made at first, and is made in the end: after some first k moves it isn't made, and each call that
+-- its connection makes before it has its reply.
+pub earlier_answered : (ms : List ServingMove) (s : ServingChain) (c n p q : ℕ)
+    → IsInOrder s
+    → p < q
+    → length (calls_at s c n) ≤ q
+    → q < length (calls_at (served_from done s ms) c n)
+    → (k : ℕ) × (p < length (replies_at (served_from done s (take k ms)) c n))
+    × (length (calls_at (served_from done s (take k ms)) c n) ≤ q)
+earlier_answered [] s c n p q h less before after = absurd (omega (arith, before, after))
+earlier_answered (m ∷ ms) s c n p q h less before after =
+    elim (cases_lt q (length (calls_at (served_by done s m) c n))) [
+      | inl now ↦
+          let even = (step s m h).makes c n q before now in
+          (0, omega (arith, even, less), before)
+      | inr still ↦
+          let r = earlier_answered ms (served_by done s m) c n p q (step s m h).order less still after in
+          (suc r.0, r.1, r.2)
+    ]

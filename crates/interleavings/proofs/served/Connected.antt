@@ -1,8 +1,8 @@
 -- What is done with a connection is a run of its session: so what it asks and what it is written are its stream's turns
 -- and their texts.
-use Rattle.std.proofs.Common.{◌≡◌, ℕ, zero, suc, ◌+◌, ◌<◌, ◌≤◌, Bool, true, false, cond, List, [], ◌∷◌, ◌++◌, length, take, drop}
-use Rattle.std.proofs.Common.{Option, None, Some, refl, arith, ap, sym, ◌∙◌, inl, inr, subst, append-nil, append_assoc}
-use Rattle.std.proofs.Common.{length-append}
+use Rattle.std.proofs.Common.{◌≡◌, ℕ, zero, suc, ◌+◌, ◌<◌, ◌≤◌, Bool, true, false, cond, List, [], ◌∷◌, ◌++◌, length}
+use Rattle.std.proofs.Common.{take, drop, Option, None, Some, refl, arith, ap, sym, ◌∙◌, inl, inr, subst, append-nil}
+use Rattle.std.proofs.Common.{append_assoc, length-append}
 use Rattle.std.specs.Prelude.{not, ◌||◌, is_some, slice_get, IsSome}
 use Rattle.std.proofs.lemmas.Bool.{cases_lt, ltb-true}
 use Rattle.std.proofs.lemmas.List.{take_all}
@@ -194,7 +194,8 @@ wrote_all : (n : ℕ) (k : Connection) → length k.session.out ≤ n → wrote 
 wrote_all n k past =
     let out = k.session.out in
     ap (λ (p : List ℕ × List ℕ). record k { session = record k.session { out = p.0 }; written = k.written ++ p.1 })
-    (let d : drop n out ≡ drop (length out) out = drop_past out n past ∙ sym (drop_past out (length out) (omega arith)) in
+    (let d : drop n out ≡ drop (length out) out =
+    drop_past out n past ∙ sym (drop_past out (length out) (omega arith)) in
     let u : take n out ≡ take (length out) out = take_all n out past ∙ sym (take_all (length out) out (omega arith)) in
     rw (d, u) refl)
 

@@ -1,5 +1,5 @@
 -- Each move of a chain that serves is such a step.
-use Rattle.std.proofs.Common.{◌≡◌, ℕ, suc, ◌+◌, ◌≤◌, Bool, true, false, cond, List, [], ◌∷◌, ◌++◌, length}
+use Rattle.std.proofs.Common.{◌≡◌, ℕ, suc, ◌+◌, ◌<◌, ◌≤◌, Bool, true, false, cond, List, [], ◌∷◌, ◌++◌, length}
 use Rattle.std.proofs.Common.{Option, None, Some, refl, arith, ap, sym, inl, inr, subst, length-append}
 use Rattle.std.specs.Prelude.{◌&&◌, is_some}
 use Rattle.std.proofs.lemmas.Bool.{cases_eq, ltb-true, lt-ltb, eqb-true}
@@ -28,14 +28,16 @@ use Rattle.interleavings.specs.ServingMoves.{Writes, Ends, Runs, served_at, with
 use Rattle.interleavings.specs.ServingMoves.{key_read, key_due, look_reply, peeked, peeking, answering, is_of_seat}
 use Rattle.interleavings.specs.ServingMoves.{served_by}
 use Rattle.interleavings.proofs.lists.Ordinals.{at_same, at_other, at_self}
-use Rattle.interleavings.proofs.served.Connected.{as_list, IsConnected, connected_heard, connected_begun, connected_made}
-use Rattle.interleavings.proofs.served.Connected.{connected_answered, connected_wrote, counted, is_served}
+use Rattle.interleavings.proofs.served.Connected.{as_list, IsConnected, connected_heard, connected_begun}
+use Rattle.interleavings.proofs.served.Connected.{connected_made, connected_answered, connected_wrote, counted}
+use Rattle.interleavings.proofs.served.Connected.{is_served}
 use Rattle.interleavings.proofs.served.AskedTurns.{due_asked}
 use Rattle.interleavings.proofs.served.Forms.{due_form}
 use Rattle.interleavings.proofs.served.Refusing.{connected_refused}
 use Rattle.interleavings.proofs.served.InTurn.{InTurn, turn_asked, turn_peeked, turn_answered, turn_ended}
-use Rattle.interleavings.proofs.served.ChainMoves.{sends_seats, looks_seats, receives_seats, look_shows_value, others_same}
-use Rattle.interleavings.proofs.served.Steps.{calls_at, replies_at, IsInOrder, IsStep, stays, session_step}
+use Rattle.interleavings.proofs.served.ChainMoves.{sends_seats, looks_seats, receives_seats, look_shows_value}
+use Rattle.interleavings.proofs.served.ChainMoves.{others_same}
+use Rattle.interleavings.proofs.served.Steps.{calls_at, replies_at, IsInOrder, makes_none, IsStep, stays, session_step}
 use Rattle.interleavings.proofs.served.Steps.{seat_step}
 
 -- ---- the session alone
@@ -61,7 +63,8 @@ begins_step s c h =
 
 writes_step : (s : ServingChain) (c n : ℕ) → IsInOrder s → IsStep s (served_by done s (Writes c n))
 writes_step s c n h =
-    session_step s c (wrote n (served_at s c)) h (connected_wrote n (served_at s c) (h.connected c (s.ended c))) refl refl
+    session_step s c (wrote n (served_at s c)) h (connected_wrote n (served_at s c) (h.connected c (s.ended c))) refl
+    refl
 
 -- ---- the next connection
 
@@ -94,6 +97,7 @@ ends_step s c h = record {
     over = λ d n l. refl;
     calls = λ d n q call e. e;
   };
+  makes = makes_none s;
 }
 
 -- ---- moves of the chain
@@ -129,6 +133,7 @@ runs_step s m h = by_seat (is_of_seat m) refl
         over = λ d n l. refl;
         calls = λ d n q call g. g;
       };
+      makes = makes_none s;
     }
 
 -- ---- calls
@@ -145,6 +150,17 @@ even k call t e =
     let o = open_below k.session.asked in
     let f = t.few in
     omega (arith, n, o, f)
+
+-- so the call that is made comes after as many replies
+one_more : (k : Connection) (call : Call)
+    → length k.replies ≡ length k.calls
+    → (q : ℕ)
+    → length k.calls ≤ q
+    → q < length (k.calls ++ call ∷ [])
+    → length k.replies ≡ q
+one_more k call same q past within =
+    let n = length-append k.calls (call ∷ []) in
+    omega (arith, same, past, within, n)
 
 asks_step : (s : ServingChain) (c : ℕ) → IsInOrder s → IsStep s (served_by done s (Asks c))
 asks_step s c h = by_due (served_at s c).due refl
@@ -163,6 +179,7 @@ asks_step s c h = by_due (served_at s c).due refl
         (connected_made call (served_at s c) e t) (due_asked (served_at s c) t call e)
         (sends_seats s.chain c call free)
         (λ q other g. get_front (served_at s c).calls (call ∷ []) q other g)
+        (one_more (served_at s c) call (even (served_at s c) call t e))
         (subst (λ (rs : ℕ → List Reply). InTurn (seat.calls ++ call ∷ []) seat.got
         (with_at (calls_at s c) (s.ended c) (calls_at s c (s.ended c) ++ call ∷ [])) rs (s.ended c))
         (sym (at_self (replies_at s c) (s.ended c)))
@@ -226,6 +243,7 @@ peeks_step s c h = by_key (key_due (served_at s c).due) refl
         (shown_may (served_at s c).session.asked f.form reply f.asked f.fits (look_shows_value s.chain c key reply r))
         (connected_made (read_of key) (served_at s c) e t)) (due_asked (served_at s c) t (read_of key) e) l.1
         (λ q other g. get_front (served_at s c).calls (read_of key ∷ []) q other g)
+        (one_more (served_at s c) (read_of key) same)
         (turn_peeked seat.calls seat.got (calls_at s c) (replies_at s c) (s.ended c) (h.seats c) (read_of key) reply
         (eqb-true (length seat.calls) (length seat.got) l.0) same)
 
@@ -267,6 +285,7 @@ answers_step s c h = by_mail (s.chain.seats c).mail refl
         let k = served_at s c in
         seat_step s c (answered reply k) (Receives c) (record seat { got = seat.got ++ reply ∷ []; mail = more }) h
         (connected_answered reply k w may t) tt (receives_seats s.chain c reply more e) (λ q other g. g)
+        (λ q past within. absurd (omega (arith, past, within)))
         (subst (λ (cs : ℕ → List Call). InTurn seat.calls (seat.got ++ reply ∷ []) cs
         (with_at (replies_at s c) (s.ended c) (replies_at s c (s.ended c) ++ reply ∷ [])) (s.ended c))
         (sym (at_self (calls_at s c) (s.ended c)))

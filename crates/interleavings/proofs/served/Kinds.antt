@@ -1,6 +1,6 @@
 -- The reply that stands first in a seat's queue is one that the call which waits for it can have.
-use Rattle.std.proofs.Common.{◌≡◌, ℕ, zero, suc, ◌+◌, ◌<◌, ◌≤◌, Bool, true, false, cond, List, [], ◌∷◌, ◌++◌, length, map}
-use Rattle.std.proofs.Common.{Option, None, Some, refl, arith, ap, sym, ◌∙◌}
+use Rattle.std.proofs.Common.{◌≡◌, ℕ, zero, suc, ◌+◌, ◌<◌, ◌≤◌, Bool, true, false, cond, List, [], ◌∷◌, ◌++◌, length}
+use Rattle.std.proofs.Common.{map, Option, None, Some, refl, arith, ap, sym, ◌∙◌}
 use Rattle.std.specs.Prelude.{not, slice_get}
 use Rattle.std.specs.Option.{option_map}
 use Rattle.std.proofs.lemmas.Bool.{ltb-true}
@@ -37,7 +37,8 @@ use Rattle.interleavings.proofs.served.Forms.{IsWaiting, waiting}
 use Rattle.interleavings.proofs.served.InTurn.{start, start_next}
 use Rattle.interleavings.proofs.served.ChainMoves.{receives_seats}
 use Rattle.interleavings.proofs.served.Steps.{calls_at, IsInOrder}
-use Rattle.interleavings.proofs.served.Along.{opening_order, made_along, order_along, chain_along, asked_along, both_asked}
+use Rattle.interleavings.proofs.served.Along.{opening_order, made_along, order_along, chain_along, asked_along}
+use Rattle.interleavings.proofs.served.Along.{both_asked}
 use Rattle.interleavings.proofs.served.Names.{begun_there}
 
 -- ---- a table's replies

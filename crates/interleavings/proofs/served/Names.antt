@@ -1,5 +1,5 @@
 -- A call of a connection is one of its seat, with an ordinal after those of the connections before.
-use Rattle.std.proofs.Common.{◌≡◌, ℕ, suc, ◌+◌, ◌<◌, List, length, Some, arith, ap}
+use Rattle.std.proofs.Common.{◌≡◌, ℕ, zero, suc, ◌+◌, ◌<◌, List, length, Some, refl, arith, ap}
 use Rattle.std.proofs.Common.{sym, ◌∙◌, inl, inr}
 use Rattle.std.specs.Prelude.{slice_get}
 use Rattle.std.proofs.lemmas.Bool.{cases_lt}
@@ -9,8 +9,8 @@ use Rattle.table.specs.declared.operations.Reply.{Reply}
 use Rattle.world.specs.Calls.{CallId}
 use Rattle.interleavings.specs.Orders.{begun_call, reply_to}
 use Rattle.interleavings.specs.ServingMoves.{ServingChain}
-use Rattle.interleavings.specs.Served.{CallName, call_made, reply_got}
-use Rattle.interleavings.proofs.served.InTurn.{upto, upto_same, start, found_there, owner, owner_is}
+use Rattle.interleavings.specs.Served.{CallName, call_made, reply_got, calls_before, id_at_seat}
+use Rattle.interleavings.proofs.served.InTurn.{upto, upto_same, start, start_next, found_there, owner, owner_is}
 use Rattle.interleavings.proofs.served.InTurn.{owner_found}
 use Rattle.interleavings.proofs.served.Steps.{calls_at, replies_at, IsInOrder, Grows}
 
@@ -92,6 +92,17 @@ module _ (s : ServingChain) (h : IsInOrder s) where
         sym (found_there cs m n q o.below o.inside) ∙ ap (slice_get (upto cs m)) o.ordinal ∙ at,
         ap (λ (p : ℕ). record { connection = c; ordinal = p }) o.ordinal,
       )
+
+-- The calls of the first connections, counted in `Served.antt`, are those that a seat has there.
+same_count : (s : ServingChain) (c n : ℕ) → calls_before s c n ≡ start (calls_at s c) n
+unfolding upto
+same_count s c zero = refl
+same_count s c (suc n) =
+    ap (λ k. k + length (calls_at s c n)) (same_count s c n) ∙ sym (start_next (calls_at s c) n)
+
+-- So the call's id is the one that `Served.antt` gives it.
+pub same_id : (s : ServingChain) (x : CallName) → id_at_seat s x ≡ ordinal_of s x
+same_id s x = ap (λ k. record { connection = x.seat; ordinal = k + x.ordinal }) (same_count s x.seat x.number)
 
 -- What was made has the same id from then on.
 pub same_ordinal : (s t : ServingChain) (x : CallName) (call : Call)

@@ -1,33 +1,39 @@
 -- An order of the seats' calls, each by the name of its connection, is one of all connections' calls.
-use Rattle.std.proofs.Common.{◌≡◌, ℕ, ◌^◌, ◌<◌, ◌≤◌, List, [], ◌∷◌, length, take, map, Option, None, Some, true, refl}
-use Rattle.std.proofs.Common.{arith, ap, sym, ◌∙◌, subst}
+use Rattle.std.proofs.Common.{◌≡◌, ℕ, ◌^◌, ◌+◌, ◌<◌, ◌≤◌, List, [], ◌∷◌, length, take, map, Option, None, Some, true}
+use Rattle.std.proofs.Common.{false, refl, arith, inl, inr, ap, sym, ◌∙◌, subst}
 use Rattle.std.specs.Prelude.{slice_get, IsSome}
 use Rattle.std.specs.Option.{option_map}
-use Rattle.std.proofs.lemmas.Option.{same_Some, slice_get-map}
+use Rattle.std.proofs.lemmas.Bool.{cases_lt, le-ltb, and_parts}
+use Rattle.std.proofs.lemmas.Option.{same_Some, slice_get-map, slice_get_within, slice_get_past}
 use Rattle.table.specs.Histories.{IsLegal}
 use Rattle.table.specs.declared.operations.Call.{Call}
 use Rattle.table.specs.declared.operations.Reply.{Reply}
+use Rattle.world.specs.Calls.{CallId}
 use Rattle.world.specs.Orders.{OrderedCall, StandsAt}
-use Rattle.world.proofs.lists.Standing.{some_of}
+use Rattle.world.proofs.lists.Fronts.{found_below}
+use Rattle.world.proofs.lists.Standing.{get_within, some_of}
 use Rattle.world.proofs.order.Since.{is_some}
+use Rattle.interleavings.specs.Chains.{Chain}
 use Rattle.interleavings.specs.Moves.{Move, moved, done}
-use Rattle.interleavings.specs.Orders.{begun_call, reply_to, Precedes, IsLinearization}
+use Rattle.interleavings.specs.Orders.{begun_call, reply_to, waiting_calls, is_published, IsUpdate, Precedes}
+use Rattle.interleavings.specs.Orders.{IsLinearization, IsInTurn}
 use Rattle.interleavings.specs.Asked.{AreAsked}
 use Rattle.interleavings.specs.Quiet.{goes_on, IsQuiet}
 use Rattle.interleavings.specs.ServingMoves.{ServingChain, ServingMove, served, opening_serving}
 use Rattle.interleavings.specs.Served.{IsServed, CallName, call_made, reply_got, ServedCall, StandsThere, ComesBefore}
-use Rattle.interleavings.specs.Served.{IsOneOrder, NoneUnanswered, AllHaveAll}
+use Rattle.interleavings.specs.Served.{IsOneOrder, is_call_published, IsMadeUpdate, PublishedFirst, IsServedInTurn}
+use Rattle.interleavings.specs.Served.{IsEarlier, NoneUnanswered, AllHaveAll}
 use Rattle.interleavings.proofs.relation.Following.{linearizable}
 use Rattle.interleavings.proofs.relation.Transfer.{take_front}
 use Rattle.interleavings.proofs.runs.Simulating.{simulates}
 use Rattle.interleavings.proofs.quiet.Answering.{none_forgotten}
 use Rattle.interleavings.proofs.served.Connected.{is_served, has_all}
-use Rattle.interleavings.proofs.served.Steps.{IsInOrder, Grows}
-use Rattle.interleavings.proofs.served.Along.{opening_order, made_along, order_along, chain_along, short_along, asked_along}
-use Rattle.interleavings.proofs.served.Along.{grows_from, first_along}
+use Rattle.interleavings.proofs.served.Steps.{calls_at, replies_at, IsInOrder, Grows}
+use Rattle.interleavings.proofs.served.Along.{opening_order, made_along, order_along, chain_along, short_along}
+use Rattle.interleavings.proofs.served.Along.{asked_along, grows_from, first_along, earlier_answered}
 use Rattle.interleavings.proofs.served.Names.{ordinal_of, name_of, begun_there, same_reply, named_there}
 use Rattle.interleavings.proofs.served.Names.{made_if_answered}
-use Rattle.interleavings.proofs.served.Names.{made_there, same_ordinal}
+use Rattle.interleavings.proofs.served.Names.{made_there, same_id, same_ordinal}
 
 -- a call of an order, by the name that its connection gives it
 abbrev named : ServingChain → OrderedCall → ServedCall
@@ -148,6 +154,25 @@ module _ (count : ℕ) (homes : List ℕ) (moves : List ServingMove) where
         let a = lin.answered (ordinal_of last x) reply r in
         (a.0, named_so a.0 x m.0 m.1 a.1, a.2)
 
+    -- what wasn't made then has no call of its seat then
+    not_begun : (y : CallName) (j k : ℕ)
+        → call_made (front k) y ≡ None
+        → (e : IsEntry j y)
+        → begun_call (front k).chain e.entry.id ≡ None
+    not_begun y j k not_made e =
+        not_some (begun_call (front k).chain e.entry.id) (λ call begun. not_there call begun)
+      where
+        not_there : (call : Call) → begun_call (front k).chain e.entry.id ≡ Some call → ⊥
+        not_there call begun =
+            let z = name_of (front k) e.entry.id in
+            let m = made_there (front k) (front_ordered k) e.entry.id call begun in
+            let now = (front_grows k).calls z.seat z.number z.ordinal call m.0 in
+            let same = same_ordinal (front k) last z call (front_ordered k) (front_grows k) m.0 ∙ m.1 in
+            let is : y ≡ z =
+            sym e.its_name ∙ ap (name_of last) (sym same) ∙ named_there last ordered z call now in
+            let no : None ≡ Some call = sym not_made ∙ ap (call_made (front k)) is ∙ m.0 in
+            absurd cc
+
     precedes : (x y : CallName) (j k : ℕ) (reply : Reply)
         → reply_got (front k) x ≡ Some reply
         → call_made (front k) y ≡ None
@@ -162,21 +187,8 @@ module _ (count : ℕ) (homes : List ℕ) (moves : List ServingMove) where
         record {
           k = f.0;
           answered = is_some _ reply (ap (λ l. reply_to l (ordinal_of last x)) f.1 ∙ r);
-          not_begun =
-              ap (λ l. begun_call l e.entry.id) f.1
-              ∙ not_some (begun_call (front k).chain e.entry.id) (λ call begun. not_there call begun);
+          not_begun = ap (λ l. begun_call l e.entry.id) f.1 ∙ not_begun y j k not_made e;
         }
-      where
-        not_there : (call : Call) → begun_call (front k).chain e.entry.id ≡ Some call → ⊥
-        not_there call begun =
-            let z = name_of (front k) e.entry.id in
-            let m = made_there (front k) (front_ordered k) e.entry.id call begun in
-            let now = (front_grows k).calls z.seat z.number z.ordinal call m.0 in
-            let same = same_ordinal (front k) last z call (front_ordered k) (front_grows k) m.0 ∙ m.1 in
-            let is : y ≡ z =
-            sym e.its_name ∙ ap (name_of last) (sym same) ∙ named_there last ordered z call now in
-            let no : None ≡ Some call = sym not_made ∙ ap (call_made (front k)) is ∙ m.0 in
-            absurd cc
 
     in_time_there : (x y : CallName) (j : ℕ)
         → ComesBefore done count homes moves x y
@@ -189,6 +201,72 @@ module _ (count : ℕ) (homes : List ℕ) (moves : List ServingMove) where
         let t = lin.in_time (ordinal_of last x) e.entry.id j (precedes x y j p.k r.0 r.1 p.not_made e)
         (record { entry = e.entry; here = e.here; same = refl }) in
         (t.0, t.1, named_so t.0 x m.0 ((front_grows p.k).calls x.seat x.number x.ordinal m.0 m.1) t.2)
+
+    -- ---- in turn
+
+    -- a call that was made then is published then, by its connection's name, if its seat's call is
+    same_published : (x : CallName) (k : ℕ)
+        → IsSome (call_made (front k) x)
+        → is_call_published (λ c. c) (front k) x ≡ is_published (front k).chain (ordinal_of last x)
+    same_published x k made =
+        let m = some_of (call_made (front k) x) made in
+        rw made (ap (is_published (front k).chain)
+        (same_id (front k) x ∙ sym (same_ordinal (front k) last x m.0 (front_ordered k) (front_grows k) m.1)))
+
+    -- what isn't begun isn't published
+    not_before_begun : (l : Chain) (x : CallId) → begun_call l x ≡ None → is_published l x ≡ false
+    not_before_begun l x none = elim (cases_lt x.ordinal (length (l.seats x.connection).calls)) [
+      | inl less ↦
+          let there = found_below (l.seats x.connection).calls x.ordinal less in
+          absurd (let no : None ≡ Some there.0 = sym none ∙ there.1 in cc)
+      | inr past ↦
+          le-ltb (x.ordinal + length (waiting_calls l x.connection)) (length (l.seats x.connection).calls)
+          (omega (arith, past))
+    ]
+
+    not_published : (y : CallName) (j k : ℕ)
+        → is_call_published (λ c. c) (front k) y ≡ false
+        → IsEntry j y
+        → is_published (front k).chain (ordinal_of last y) ≡ false
+    not_published y j k none e = by (call_made (front k) y) refl
+      where
+        by : (o : Option Call)
+            → call_made (front k) y ≡ o
+            → is_published (front k).chain (ordinal_of last y) ≡ false
+        by None same =
+            ap (is_published (front k).chain) (ordinal_is j y e)
+            ∙ not_before_begun (front k).chain e.entry.id (not_begun y j k same e)
+        by (Some call) same = sym (same_published y k (is_some _ call same)) ∙ none
+
+    update_there : (x : CallName)
+        → IsMadeUpdate last x
+        → IsUpdate (moved count homes run) (ordinal_of last x)
+    update_there x u = (
+      u.0,
+      ap (λ l. begun_call l (ordinal_of last x)) (sym same_chain) ∙ begun_there last ordered x u.0 u.1,
+      u.2,
+    )
+
+    in_turn_there : IsInTurn count homes run h
+        → (x y : CallName) (j : ℕ)
+        → PublishedFirst done (λ c. c) count homes moves x y
+        → StandsThere order j y
+        → (i : ℕ) × (i < j) × StandsThere order i x
+    in_turn_there turn x y j p s =
+        let e = stands_there j y s in
+        let f = front_chain p.k in
+        let made = (and_parts (Rattle.std.specs.Prelude.is_some (call_made (front p.k) x)) _ p.published).0 in
+        let t = turn.in_turn (ordinal_of last x) (ordinal_of last y) j
+        (record {
+          k = f.0;
+          published = ap (λ l. is_published l (ordinal_of last x)) f.1 ∙ sym (same_published x p.k made) ∙ p.published;
+          not_published = ap (λ l. is_published l (ordinal_of last y)) f.1 ∙ not_published y j p.k p.not_published e;
+          one_server = p.here ∙ sym p.there;
+          update = update_there x p.update;
+          later_update = update_there y p.later_update;
+        })
+        (record { entry = e.entry; here = e.here; same = sym (ordinal_is j y e) }) in
+        (t.0, t.1, named_so t.0 x p.update.0 p.update.1 t.2)
 
     -- so it is an order of all connections' calls
     pub is_one_order : IsOneOrder done count homes moves (map (named (served done count homes moves)) h)
@@ -207,12 +285,46 @@ module _ (count : ℕ) (homes : List ℕ) (moves : List ServingMove) where
       in_time = in_time_there;
     }
 
-  -- so there is one,
-  pub one_order : count ≤ 16 → (h : List ServedCall) × IsOneOrder done count homes moves h
+  -- an earlier call of a connection comes before
+  own_before : (x y : CallName) (call : Call)
+      → IsEarlier x y
+      → call_made last y ≡ Some call
+      → ComesBefore done count homes moves x y
+  own_before x y call own made =
+      let a = earlier_answered moves (opening_serving count homes) y.seat y.number x.ordinal y.ordinal
+      (opening_order count homes) own.earlier (omega arith) (slice_get_within (calls_at last y.seat y.number) y.ordinal
+      call made) in
+      record {
+        k = a.0;
+        answered = subst (λ (z : ℕ). IsSome (slice_get ((front a.0).connections z x.number).replies x.ordinal))
+            (sym own.seat)
+            (subst (λ (z : ℕ). IsSome (slice_get ((front a.0).connections y.seat z).replies x.ordinal))
+            (sym own.number) (get_within (replies_at (front a.0) y.seat y.number) x.ordinal a.1));
+        not_made = slice_get_past (calls_at (front a.0) y.seat y.number) y.ordinal a.2;
+      }
+
+  -- so it stands before
+  own_in_turn : (h : List ServedCall)
+      → IsOneOrder done count homes moves h
+      → (x y : CallName) (j : ℕ)
+      → IsEarlier x y
+      → StandsThere h j y
+      → (i : ℕ) × (i < j) × StandsThere h i x
+  own_in_turn h o x y j own s =
+      o.in_time x y j
+      (own_before x y s.entry.call own
+      (subst (λ z. call_made last z ≡ Some s.entry.call) s.named (o.made j s.entry s.here))) s
+
+  -- so there is one, in turn,
+  pub one_order : count ≤ 16
+      → (h : List ServedCall) × IsOneOrder done count homes moves h
+      × IsServedInTurn done (λ c. c) count homes moves h
   one_order few =
       let o = linearizable count homes (simulates count homes few) run few
       (asked_along moves (opening_serving count homes) (opening_order count homes)) in
-      (map (named last) o.0, is_one_order o.0 o.1)
+      let h = map (named last) o.0 in
+      let one = is_one_order o.0 o.1 in
+      (h, one, record { in_turn = in_turn_there o.0 o.1 o.2; own = own_in_turn h one })
 
   -- and no call is unanswered in a quiet chain
   pub none_unanswered : count ≤ 16

@@ -1,10 +1,11 @@
 -- A chain that serves, whose servers number their own seats, and the one with the seats' numbers as ports, which serves
 -- the same connections.
-use Rattle.std.proofs.Common.{◌≡◌, ℕ, ◌≤◌, Bool, true, false, cond, List, [], ◌∷◌, map, take, Option, None, Some, refl, ap}
-use Rattle.std.proofs.Common.{sym, ◌∙◌, subst}
-use Rattle.std.specs.Prelude.{◌&&◌, not, slice_get, slice_index_or, ◌==◌, IsSome}
+use Rattle.std.proofs.Common.{◌≡◌, ℕ, ◌<◌, ◌≤◌, Bool, true, false, cond, List, [], ◌∷◌, map, take, Option, None, Some}
+use Rattle.std.proofs.Common.{refl, arith, ap, sym, ◌∙◌, subst}
+use Rattle.std.specs.Prelude.{◌&&◌, not, is_some, slice_get, slice_index_or, ◌==◌, IsSome}
 use Rattle.std.proofs.lemmas.Bool.{and_parts, cond_both, not-true}
 use Rattle.std.proofs.lemmas.List.{take-map}
+use Rattle.std.proofs.lemmas.Option.{get_or_from_slice_get}
 use Rattle.table.specs.declared.operations.Call.{Call}
 use Rattle.table.specs.declared.operations.Reply.{Reply}
 use Rattle.node.specs.Faces.{face_of, look_at}
@@ -12,15 +13,17 @@ use Rattle.proto.specs.Turns.{is_store}
 use Rattle.interleavings.specs.Chains.{RunningServer, Seat, Chain, OfNotices}
 use Rattle.interleavings.specs.Moves.{Move, Sends, Takes, Publishes, Puts, Arrives, Replies, Receives, Looks, Stops}
 use Rattle.interleavings.specs.Moves.{Notices, is_free, done}
-use Rattle.interleavings.specs.OwnPorts.{with_own_ports}
+use Rattle.interleavings.specs.OwnPorts.{own_port, with_own_ports}
 use Rattle.interleavings.specs.Connections.{Connection, made, answered, refused, waits, may_have}
 use Rattle.interleavings.specs.ServingMoves.{ServingChain, ServingMove, Reads, Begins, Asks, Peeks, Refuses, Answers}
 use Rattle.interleavings.specs.ServingMoves.{Writes, Ends, Runs, served_at, with_served, refusing, key_due, reply_by}
 use Rattle.interleavings.specs.ServingMoves.{look_reply, is_of_seat, opening_serving, with_move, asking, peeked}
 use Rattle.interleavings.specs.ServingMoves.{peeking, answering, served_by, served_from, served}
 use Rattle.interleavings.specs.Served.{IsServed, CallName, call_made, reply_got, ServedCall, ComesBefore, IsOneOrder}
+use Rattle.interleavings.specs.Served.{id_at_seat, is_call_published, PublishedFirst, IsServedInTurn}
 use Rattle.interleavings.proofs.ports.OwnPortMoves.{named, sends_same, receives_same, looks_same}
 use Rattle.interleavings.proofs.ports.OwnPortRuns.{moves_same}
+use Rattle.interleavings.proofs.ports.OwnPortTurns.{published_same}
 use Rattle.interleavings.proofs.ports.RenamedChains.{Same, of_chain, same_opening}
 use Rattle.interleavings.proofs.served.OneOrder.{each_is_served, one_order}
 
@@ -53,8 +56,8 @@ module _ (n : ℕ) (homes : List ℕ) where
   seats_alike (Puts i j) = refl
   seats_alike (Arrives i j) = refl
   seats_alike (Replies i c) =
-      cond_both (slice_index_or homes c n == i) (Replies i c) (Takes n OfNotices) (λ m. is_of_seat m ≡ false) (λ t. refl)
-      (λ f. refl)
+      cond_both (slice_index_or homes c n == i) (Replies i c) (Takes n OfNotices) (λ m. is_of_seat m ≡ false)
+      (λ t. refl) (λ f. refl)
   seats_alike (Receives c) = refl
   seats_alike (Looks c key) = refl
   seats_alike (Stops i) = refl
@@ -167,11 +170,14 @@ module _ (n : ℕ) (homes : List ℕ) where
           ∙ ap (λ f. record { chain = u.chain; ended = u.ended; connections = f }) (sym h.connections)
 
   -- after a run
+  alike : (ms : List ServingMove) → SameServing (served own n homes ms) (served done n homes (map as_other ms))
+  alike ms =
+      same_from ms (opening_serving n homes) (opening_serving n homes)
+      (record { chains = same_opening n homes; ended = refl; connections = refl })
+
   same_served : (ms : List ServingMove)
       → (served done n homes (map as_other ms)).connections ≡ (served own n homes ms).connections
-  same_served ms =
-      (same_from ms (opening_serving n homes) (opening_serving n homes)
-      (record { chains = same_opening n homes; ended = refl; connections = refl })).connections
+  same_served ms = (alike ms).connections
 
   made_same : (ms : List ServingMove) (x : CallName)
       → call_made (served done n homes (map as_other ms)) x ≡ call_made (served own n homes ms) x
@@ -184,6 +190,22 @@ module _ (n : ℕ) (homes : List ℕ) where
   got_same ms x =
       ap (λ (f : ℕ → ℕ → Connection).
       slice_get (f x.seat x.number).replies x.ordinal) (same_served ms)
+
+  -- which calls of connections are published is the same too
+  published_alike : (ms : List ServingMove) (x : CallName) (i : ℕ)
+      → slice_get homes x.seat ≡ Some i
+      → i < n
+      → is_call_published (λ c. c) (served done n homes (map as_other ms)) x
+      ≡ is_call_published (own_port n homes) (served own n homes ms) x
+  published_alike ms x i here within =
+      let s = served own n homes ms in
+      let u = served done n homes (map as_other ms) in
+      let h = (alike ms).chains in
+      let home : i ≡ (s.chain.seats x.seat).home =
+      sym (get_or_from_slice_get homes x.seat i n here) ∙ sym (h.sits x.seat) in
+      ap (λ (f : ℕ → ℕ → Connection). is_call_published (λ c. c) (record u { connections = f }) x) (same_served ms)
+      ∙ ap (λ b. is_some (call_made s x) && b)
+      (published_same n homes s.chain u.chain h (id_at_seat s x) (omega (arith, within, home)))
 
   module _ (moves : List ServingMove) where
     abbrev others : List ServingMove
@@ -198,7 +220,8 @@ module _ (n : ℕ) (homes : List ℕ) where
       answered = subst (λ o. IsSome o)
           (sym (got_same (take p.k moves) x) ∙ ap (λ ms. reply_got (served done n homes ms) x) (sym (front p.k)))
           p.answered;
-      not_made = ap (λ ms. call_made (served done n homes ms) y) (front p.k) ∙ made_same (take p.k moves) y ∙ p.not_made;
+      not_made = ap (λ ms. call_made (served done n homes ms) y) (front p.k) ∙ made_same (take p.k moves) y
+          ∙ p.not_made;
     }
 
     order_too : (h : List ServedCall) → IsOneOrder done n homes others h → IsOneOrder own n homes moves h
@@ -210,11 +233,40 @@ module _ (n : ℕ) (homes : List ℕ) where
       in_time = λ x y j p s. o.in_time x y j (before_too x y p) s;
     }
 
-    -- so there is one order,
-    pub own_order : n ≤ 16 → (h : List ServedCall) × IsOneOrder (with_own_ports homes) n homes moves h
+    published_then : (k : ℕ) (x : CallName) (i : ℕ)
+        → slice_get homes x.seat ≡ Some i
+        → i < n
+        → is_call_published (λ c. c) (served done n homes (take k others)) x
+        ≡ is_call_published (own_port n homes) (served own n homes (take k moves)) x
+    published_then k x i here within =
+        ap (λ ms. is_call_published (λ c. c) (served done n homes ms) x) (front k)
+        ∙ published_alike (take k moves) x i here within
+
+    first_too : (x y : CallName)
+        → PublishedFirst own (own_port n homes) n homes moves x y
+        → PublishedFirst done (λ c. c) n homes others x y
+    first_too x y p = record {
+      k = p.k;
+      published = published_then p.k x p.server p.here p.of_chain ∙ p.published;
+      not_published = published_then p.k y p.server p.there p.of_chain ∙ p.not_published;
+      server = p.server;
+      of_chain = p.of_chain;
+      here = p.here;
+      there = p.there;
+      update = (p.update.0, made_same moves x ∙ p.update.1, p.update.2);
+      later_update = (p.later_update.0, made_same moves y ∙ p.later_update.1, p.later_update.2);
+    }
+
+    -- so there is one order, in turn,
+    pub own_order : n ≤ 16
+        → (h : List ServedCall) × IsOneOrder (with_own_ports homes) n homes moves h
+        × IsServedInTurn (with_own_ports homes) (own_port n homes) n homes moves h
     own_order few =
-        let o = one_order n homes others few in
-        (o.0, order_too o.0 o.1)
+        let o = one_order n homes others few in (
+          o.0,
+          order_too o.0 o.1,
+          record { in_turn = λ x y j p s. o.2.in_turn x y j (first_too x y p) s; own = o.2.own },
+        )
 
     -- and each connection got what its bytes ask for
     pub own_served : (c k : ℕ) → IsServed ((served (with_own_ports homes) n homes moves).connections c k)

@@ -57,6 +57,15 @@ grows_more s t u g h = record {
   calls = λ c n q call e. h.calls c n q call (g.calls c n q call e);
 }
 
+-- A connection makes a call only if each that it made before has its reply: so its ordinal is how many these are.
+abbrev pub Makes : ServingChain → ServingChain → Type 0
+Makes s t =
+    (c n q : ℕ) → length (calls_at s c n) ≤ q → q < length (calls_at t c n) → length (replies_at s c n) ≡ q
+
+-- no call is made
+pub makes_none : (s : ServingChain) → Makes s s
+makes_none s c n q l k = absurd (omega (arith, l, k))
+
 -- a move, as moves of the running chain, and what it keeps
 pub record IsStep (s t : ServingChain) : Type 0 where
   pub moves : List Move
@@ -65,6 +74,7 @@ pub record IsStep (s t : ServingChain) : Type 0 where
   pub asked : AreAsked moves
   pub order : IsInOrder t
   pub grows : Grows s t
+  pub makes : Makes s t
 
 -- nothing changes
 pub stays : (s : ServingChain) → IsInOrder s → IsStep s s
@@ -75,6 +85,7 @@ stays s h = record {
   asked = tt;
   order = h;
   grows = grows_same s;
+  makes = makes_none s;
 }
 
 -- ---- one connection changes
@@ -120,9 +131,18 @@ module _ (s : ServingChain) (c : ℕ) (k : Connection) where
     over = for_each (λ d n m. n < s.ended d → m.calls ≡ calls_at s d n) s c k (λ d n less. refl)
         (λ less. absurd (omega (arith, less)));
     calls = for_each
-        (λ d n m. (q : ℕ) (call : Call) → slice_get (calls_at s d n) q ≡ Some call → slice_get m.calls q ≡ Some call) s c
-        k (λ d n q call e. e) more;
+        (λ d n m. (q : ℕ) (call : Call) → slice_get (calls_at s d n) q ≡ Some call → slice_get m.calls q ≡ Some call) s
+        c k (λ d n q call e. e) more;
   }
+
+  -- it makes a call only after as many replies
+  makes_changed : (l : Chain)
+      → ((q : ℕ) → length (served_at s c).calls ≤ q → q < length k.calls → length (served_at s c).replies ≡ q)
+      → Makes s (changed l)
+  makes_changed l =
+      for_each
+      (λ d n m. (q : ℕ) → length (calls_at s d n) ≤ q → q < length m.calls → length (replies_at s d n) ≡ q) s c k
+      (makes_none s)
 
   -- the seats but for this one stay as they were
   in_order : (l : Chain) (calls : List Call) (got : List Reply)
@@ -138,8 +158,8 @@ module _ (s : ServingChain) (c : ℕ) (k : Connection) where
     connected = for_each (λ d n m. IsConnected m) s c k h.connected one;
     seats = λ d. elim (cases_eq d c) [
       | inl same ↦ subst
-          (λ i. InTurn (l.seats i).calls (l.seats i).got (calls_at (changed l) i) (replies_at (changed l) i) (s.ended i))
-          (sym same)
+          (λ i. InTurn (l.seats i).calls (l.seats i).got (calls_at (changed l) i) (replies_at (changed l) i)
+          (s.ended i)) (sym same)
           (subst
           (λ (f : ℕ → Connection). InTurn (l.seats c).calls (l.seats c).got (λ n. (f n).calls) (λ n. (f n).replies)
           (s.ended c)) (sym (at_same s.connections c (with_at (s.connections c) (s.ended c) k)))
@@ -174,6 +194,8 @@ module _ (s : ServingChain) (c : ℕ) (k : Connection) where
         (rw (same_calls, same_replies, at_self (calls_at s c) (s.ended c), at_self (replies_at s c) (s.ended c))
         (h.seats c));
     grows = grows_changed s.chain (λ q call e. ap (λ cs. slice_get cs q) same_calls ∙ e);
+    makes = makes_changed s.chain
+        (λ q past within. let n = ap (λ cs. length cs) same_calls in absurd (omega (arith, n, past, within)));
   }
 
   -- a move of the chain by the seat: it has these calls and replies from now on
@@ -183,20 +205,23 @@ module _ (s : ServingChain) (c : ℕ) (k : Connection) where
       → IsAskedBy m
       → (done s.chain m).seats ≡ with_at s.chain.seats c seat
       → ((q : ℕ) (call : Call) → slice_get (served_at s c).calls q ≡ Some call → slice_get k.calls q ≡ Some call)
+      → ((q : ℕ) → length (served_at s c).calls ≤ q → q < length k.calls → length (served_at s c).replies ≡ q)
       → InTurn seat.calls seat.got (with_at (calls_at s c) (s.ended c) k.calls)
       (with_at (replies_at s c) (s.ended c) k.replies) (s.ended c)
       → IsStep s (changed (done s.chain m))
-  seat_step m seat h one asked seats more turn = record {
+  seat_step m seat h one asked seats more even turn = record {
     moves = m ∷ [];
     chain = refl;
     short = omega arith;
     asked = (asked, tt);
     order = in_order (done s.chain m) seat.calls seat.got h one
         (λ d o. record {
-          calls = ap (λ (f : ℕ → Seat). (f d).calls) seats ∙ ap (λ (x : Seat). x.calls) (at_other s.chain.seats c seat d o);
+          calls = ap (λ (f : ℕ → Seat). (f d).calls) seats
+              ∙ ap (λ (x : Seat). x.calls) (at_other s.chain.seats c seat d o);
           got = ap (λ (f : ℕ → Seat). (f d).got) seats ∙ ap (λ (x : Seat). x.got) (at_other s.chain.seats c seat d o);
         })
         (ap (λ (f : ℕ → Seat). (f c).calls) seats ∙ ap (λ (x : Seat). x.calls) (at_same s.chain.seats c seat))
         (ap (λ (f : ℕ → Seat). (f c).got) seats ∙ ap (λ (x : Seat). x.got) (at_same s.chain.seats c seat)) turn;
     grows = grows_changed (done s.chain m) more;
+    makes = makes_changed (done s.chain m) even;
   }

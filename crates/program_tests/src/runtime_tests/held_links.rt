@@ -75,11 +75,10 @@ impl<R: Wait + Drop> Links for Barrier<R> {
         false
     }
 
-    fn put(&mut self, _published: &Published, to: u8, peer: &Peer) -> Result<(), RailFault> {
-        let kept = Kept {
-            peer: peer.clone()?,
-        };
-        match note(&mut self.put, to, peer) {
+    fn put(&mut self, _published: &Published, to: u8, peer: Peer) -> Result<(), RailFault> {
+        let noted = note(&mut self.put, to, &peer);
+        let kept = Kept { peer };
+        match noted {
             Ok(()) => {
                 keep(&self.rt, &self.kept, kept);
                 Ok(())

@@ -2,7 +2,6 @@
 ghost use Rattle.std.specs.Prelude.{◌≡◌, ◌≤◌, true, IfOk};
 ghost use Rattle.node.specs.Nodes.{is_idle};
 
-use bytes::Bytes;
 use faces::FaceFault;
 use node::{Body, Look, Node, Peer, View};
 use rail::{
@@ -11,7 +10,7 @@ use rail::{
 };
 use std::alloc::Global;
 use std::sync::Wait;
-use table::{Call, Item, Key, Op, Reply, Target};
+use table::{Call, Item, Key, Op, Reply, SharedBytes, Target};
 
 /// What the worker, the last thread handle or the last inlet of a server does, and how that goes.
 #[derive(Clone, Copy)]
@@ -181,7 +180,8 @@ impl Links for Down {
         self.failures > 0
     }
 
-    fn put(&mut self, _published: &Published, _to: u8, _peer: &Peer) -> Result<(), RailFault> {
+    fn put(&mut self, _published: &Published, _to: u8, peer: Peer) -> Result<(), RailFault> {
+        drop(peer);
         self.failures = 1;
         Err(RailFault::LinkDown)
     }
@@ -223,7 +223,7 @@ pub(crate) fn key(alloc: Global, bytes: &[u8]) -> Result<Key, RailFault> {
 
 fn set_of_a(alloc: Global) -> Result<Call, RailFault> {
     let key = key(alloc, b"a")?;
-    match Bytes::copy_from_slice(alloc, b"v") {
+    match SharedBytes::copy_from_slice(alloc, b"v") {
         Ok(bytes) => Ok(Call {
             target: Target::One(key),
             op: Op::Set(0, bytes),

@@ -5,7 +5,7 @@ use Rattle.faces.proofs.boards.append.Given as goal
 
 abbrev pub invariant-loop-step : goal.invariant-loop-step
 invariant-loop-step l = record {
-  desk : l.writer.desk ≡ l.fn.writer.desk;
+  desk : l.writer.desk ≡ l.initial.writer.desk;
   acts : drop l.writer.behind l.writer.log.items ++ map act_of (into_iter_items l.step-iterator)
       ≡ map act_of l.fn.change.steps.items;
 }

@@ -17,10 +17,3 @@ loop-first-preserved c =
     _ _ c.in-Some.first.now c.in-Some-pop_front.ensures.items c.in-Some.ensures.lookup c.if-first-acked.false
     c.take_away_at.ensures c.loop-first.invariant.queued c.loop-first.invariant.between in
     record { queued = kept.0; between = kept.1 }
-
-pub loop-first-preserved-in-Some-pop_front : goal.loop-first-preserved-in-Some-pop_front
-loop-first-preserved-in-Some-pop_front c =
-    let kept = first_taken c.args.acked c.args.versions.now c.loop-first.versions _ _
-    _ _ c.in-Some.first.now c.in-Some-pop_front.ensures.items c.in-Some.ensures.lookup c.if-first-acked.false
-    c.take_away_at.ensures c.loop-first.invariant.queued c.loop-first.invariant.between in
-    record { queued = kept.0; between = kept.1 }

@@ -1,7 +1,8 @@
 use Rattle.std.proofs.Common.{◌≡◌, sym, subst, ℕ, length, [], ◌∷◌, ◌++◌}
 use Rattle.std.specs.Vec.Iter.{into_iter_items}
 use Rattle.node.specs.Replies.{AreRepliesBelow}
-use Rattle.rail.proofs.Replying.{length_replied, below_rest, replied_none, replied_on, among_rest, one_on}
+use Rattle.rail.proofs.Replying.{length_replied, below_rest, replied_none, replied_on, one_on}
+use Rattle.rail.proofs.Spending.{put_out_rest}
 use Rattle.rail.proofs.outputs.put_replies.Goals as goal
 
 pub loop-output-init : goal.loop-output-init
@@ -11,9 +12,10 @@ loop-output-init g c =
     ([], sym same, c.requires.reply_senders, replied_none c.args.published.now 0 c.args.reply_senders.now.items)
 
 pub put_if_reply-requires-clause-step : goal.put_if_reply-requires-clause-step
-put_if_reply-requires-clause-step g c = let all =
-    c.loop-output.invariant in rw (← c.requires.step)
-    (among_rest c.in-Some.output c.args.outputs.items all.0 _ _ all.1 c.in-Some.ensures.steps.0)
+put_if_reply-requires-clause-step g c =
+    let all = c.loop-output.invariant in
+    put_out_rest c.args.published.now c.in-Some.output c.args.outputs.items all.0 _ _ all.1 c.in-Some.ensures.steps.0
+    c.requires.step
 
 pub put_if_reply-requires-clause-port : goal.put_if_reply-requires-clause-port
 put_if_reply-requires-clause-port g c =

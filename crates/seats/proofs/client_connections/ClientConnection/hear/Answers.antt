@@ -52,7 +52,7 @@ invariant_of-self-in-Ok-Some g c =
     let s = c.self.inside in
     let found = rw c.in-Ok-Some.field-0-is at c.in-Ok-Some.ensures in
     subst (λ (x : CallStanding). IsClientConnection c.hand_on.new.connection x s.first c.hand_on.new.seen)
-    (sym c.thread_handle_at.ensures)
+    (sym c.stand_at.ensures)
     (hear_client_connection s.connection c.hand_on.new.connection s.standing s.first s.seen c.args.pool.now.seen
     c.take_reply.new.self.seen c.hand_on.new.seen c.in-Sent.submitter c.take_reply.new.submitter c.in-Ok-Some.reply
     c.self.invariant c.in-Sent.is
