@@ -44,7 +44,6 @@ class Beside:
         METER.wall["tools", "tests"] = time.monotonic() - began
         return self.status == 0
 
-    def told(self):
-        """What it wrote, and a line if it failed."""
-        what = "was not run" if self.status is None else f"ended with status {self.status}"
-        return self.text + (f"gate: FAILED: {' '.join(self.words)} {what}\n" if self.status else "")
+    def failure(self):
+        """A line if it failed."""
+        return [f"gate: FAILED: {' '.join(self.words)} ended with status {self.status}"] if self.status else []
