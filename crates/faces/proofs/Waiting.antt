@@ -13,8 +13,7 @@ use Rattle.std.proofs.lemmas.Map.Views.{tells_apart}
 use Rattle.std.specs.Cmp.{eq_by_cmp_equiv}
 use Rattle.std.proofs.lemmas.Bool.{le-leb, lt-leb}
 use Rattle.table.specs.Keys.{key_cmp}
-use Rattle.table.specs.declared.items.Item.{Item}
-use Rattle.node.specs.declared.faces.Version.{Version}
+use Rattle.table.specs.Items.{Item, Version}
 use Rattle.node.specs.Faces.{Versions, is_removed}
 use Rattle.node.specs.declared.faces.Tombstone.{Tombstone}
 use Rattle.node.specs.Faces.{IsRising, Waits, IsQueued}

@@ -19,7 +19,7 @@ use Rattle.std.proofs.lemmas.Map.Lookups.{exact_bytes}
 use Rattle.std.proofs.lemmas.Map.Views.{tells_apart}
 use Rattle.table.specs.Keys.{key_cmp, tree_key_cmp}
 use Rattle.table.proofs.TreeKeyLaws.{placed_at, get_tree_key, tree_key_put, tree_key_removed}
-use Rattle.node.specs.declared.faces.Version.{Version}
+use Rattle.table.specs.Items.{Version}
 use Rattle.node.specs.Faces.{Versions}
 use Rattle.faces.specs.Tombstones.{map_of}
 use Rattle.faces.specs.Weights.{bytes_with, bytes_in}

@@ -2,7 +2,7 @@
 use Rattle.std.specs.Prelude.{◌≡◌, ◌⊎◌, ℕ, List, [], ◌∷◌, ◌++◌, Option, None, Some}
 use Rattle.left_right.specs.declared.reader.Reader.{Reader as Place}
 use Rattle.left_right.specs.Sides.{view}
-use Rattle.table.specs.declared.items.Item.{Item}
+use Rattle.table.specs.Items.{Item}
 use Rattle.node.specs.Faces.{FaceState, look_at}
 use Rattle.node.specs.declared.looks.Look.TheVariants.{Clean}
 use Rattle.faces.specs.declared.faces.Face.{Face}

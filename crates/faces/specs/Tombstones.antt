@@ -1,7 +1,7 @@
 -- What goes from a face if a number is acknowledged.
 use Rattle.std.specs.Prelude.{ℕ, List, not, if◌then◌else◌}
 use Rattle.std.specs.FinMap as maps
-use Rattle.node.specs.declared.faces.Version.{Version}
+use Rattle.table.specs.Items.{Version}
 use Rattle.node.specs.Faces.{Versions, is_removed}
 
 -- the versions of a tree of entries

@@ -1,15 +1,9 @@
 -- How much a face holds.
-use Rattle.std.specs.Prelude.{ℕ, ◌+◌, List, [], ◌∷◌, length, Option, Some, None}
+use Rattle.std.specs.Prelude.{ℕ, ◌+◌, List, [], ◌∷◌, length}
 use Rattle.std.specs.FinMap as maps
-use Rattle.table.specs.declared.items.Item.{Item}
-use Rattle.node.specs.declared.faces.Version.{Version}
+use Rattle.table.specs.Items.{Version, data_in}
 use Rattle.node.specs.Faces.{Versions}
 use Rattle.faces.specs.declared.weights.Weight.{Weight}
-
--- the bytes of an item's data
-abbrev pub data_in : Option Item → ℕ
-data_in None = 0
-data_in (Some item) = length item.bytes
 
 -- the bytes of a key and of its version's data
 abbrev pub bytes_with : List ℕ → Version → ℕ

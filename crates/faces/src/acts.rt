@@ -3,16 +3,15 @@ ghost use Rattle.std.specs.Prelude.{◌≡◌, ◌++◌, map, IfOk, OnOk};
 ghost use Rattle.faces.specs.Shown.{act_of, acts_of};
 
 use crate::log_positions::LogPosition;
-use crate::shared_versions::SharedVersion;
 use node::{FaceChange, FaceStep};
 use std::alloc::{AllocError, Global};
-use table::Key;
+use table::{Key, Version};
 
 /// One change of a face. Both copies take in the same act, and share its version.
 #[derive(Drop)]
 pub enum Act {
     /// The key has this version from now on.
-    Set(Key, SharedVersion),
+    Set(Key, Version),
     /// Every key has the version of this number without item from now on.
     Clear(u64),
     /// The acknowledged number is this one, and the face is the server's after these inputs.
@@ -20,16 +19,13 @@ pub enum Act {
 }
 
 impl Act {
-    /// What a step of a change does. A version gets its block here.
-    pub fn of(alloc: Global, step: FaceStep) -> Result<Act, AllocError>
-        ensures { IfOk result (λ act. act ≡ act_of step) }
+    /// What a step of a change does.
+    pub fn of(step: FaceStep) -> Act
+        ensures { result ≡ act_of step }
     {
         match step {
-            FaceStep::Set(key, version) => {
-                let version = SharedVersion::new(alloc, version)?;
-                Ok(Act::Set(key, version))
-            }
-            FaceStep::Clear(number) => Ok(Act::Clear(number)),
+            FaceStep::Set(key, version) => Act::Set(key, version),
+            FaceStep::Clear(number) => Act::Clear(number),
         }
     }
 }
@@ -44,17 +40,17 @@ pub fn acts_of(
 {
     let FaceChange { steps, acked } = change;
     let mut acts = Vec::new(alloc);
-    put_steps(alloc, steps, &mut acts)?;
+    put_steps(steps, &mut acts)?;
     acts.push(Act::Reach(acked, log_position))?;
     Ok(acts)
 }
 
 // The acts of these steps, after those so far.
-fn put_steps(alloc: Global, steps: Vec<FaceStep>, acts: &mut Vec<Act>) -> Result<(), AllocError>
+fn put_steps(steps: Vec<FaceStep>, acts: &mut Vec<Act>) -> Result<(), AllocError>
     ensures { OnOk result (acts.new.items ≡ acts.old.items ++ map act_of steps.items) }
 {
     for step in steps {
-        acts.push(Act::of(alloc, step)?)?;
+        acts.push(Act::of(step))?;
     }
     Ok(())
 }

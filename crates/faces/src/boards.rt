@@ -116,7 +116,6 @@ pub fn place(writer: &mut FaceWriter) -> Result<FacePlace, AllocError>
 /// Shows the change of an input. It waits for those that still read the face before the last one.
 pub fn publish<R: Wait>(
     rt: &R,
-    alloc: Global,
     writer: FaceWriter,
     change: FaceChange,
     log_position: LogPosition,
@@ -127,7 +126,7 @@ pub fn publish<R: Wait>(
     ensures { MatchResult result.1 (λ p. Shows result.0 p × (p ≡ log_position)) (λ _. Unit {0}) }
 {
     let mut writer = writer;
-    match append(alloc, &mut writer, change, log_position) {
+    match append(&mut writer, change, log_position) {
         Ok(()) => show(rt, writer),
         Err(_) => (writer, Err(AllocError)),
     }
@@ -154,7 +153,6 @@ fn show<R: Wait>(rt: &R, writer: FaceWriter) -> (FaceWriter, Result<Published, A
 
 // Notes what the change does, for the next publish.
 fn append(
-    alloc: Global,
     writer: &mut FaceWriter,
     change: FaceChange,
     log_position: LogPosition,
@@ -165,8 +163,7 @@ fn append(
 {
     let FaceChange { steps, acked } = change;
     for step in steps {
-        let act = Act::of(alloc, step)?;
-        writer.append(act).map_err(|_| AllocError)?;
+        writer.append(Act::of(step)).map_err(|_| AllocError)?;
     }
     writer
         .append(Act::Reach(acked, log_position))

@@ -11,7 +11,6 @@ mod logs;
 mod published;
 mod publishers;
 mod readers;
-mod shared_versions;
 mod tombstones;
 mod version_trees;
 mod weights;

@@ -24,7 +24,6 @@ use std::sync::Wait;
 /// that it took, and whether it goes on (`Publishing`). While it goes on, its node is the server after them, and what
 /// is shown is the face of that server. It isn't `Drop`: end it by `end`.
 pub struct Publisher {
-    alloc: Global,
     node: Node,
     log: Log,
     // None once an input was refused.
@@ -78,7 +77,6 @@ impl Publisher {
             return Err(FaceFault::Memory);
         };
         Ok(Publisher {
-            alloc,
             node,
             log,
             writer: Some(writer),
@@ -145,7 +143,7 @@ impl Publisher {
             writer.take(rt);
             return Err(FaceFault::Memory);
         };
-        let (writer, shown) = publish(rt, self.alloc, writer, change, log_position);
+        let (writer, shown) = publish(rt, writer, change, log_position);
         let Ok(published) = shown else {
             drop(outputs);
             writer.take(rt);
@@ -161,7 +159,6 @@ impl Publisher {
     /// Takes the face away: readers then get Closed. It waits for those that still look.
     pub fn end<R: Wait>(self, rt: &R) {
         let Publisher {
-            alloc: _alloc,
             node,
             log,
             writer,

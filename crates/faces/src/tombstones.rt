@@ -5,12 +5,11 @@ ghost use Rattle.std.specs.FinMap as maps;
 ghost use Rattle.node.specs.Faces.{IsQueued, IsRising, is_removed};
 ghost use Rattle.faces.specs.Tombstones.{taken_at, without_removed};
 
-use crate::shared_versions::SharedVersion;
 use crate::version_trees::VersionTree;
 use node::Tombstone;
 use std::alloc::AllocError;
 use std::collections::VecDeque;
-use table::Key;
+use table::{Key, Version};
 
 /// Sets a key's version. Refused if memory is out, or if the version has no item and its number is below one that waits
 /// (the numbers of a log rise); then no version changes.
@@ -18,7 +17,7 @@ pub fn set(
     versions: &mut VersionTree,
     tombstones: &mut VecDeque<Tombstone>,
     key: &Key,
-    version: &SharedVersion,
+    version: &Version,
 ) -> Result<(), AllocError>
     requires queued { IsQueued versions.old tombstones.old.items }
     ensures ok { OnOk result

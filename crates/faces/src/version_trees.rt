@@ -5,21 +5,20 @@ ghost use Rattle.std.specs.Option.{option_copied};
 ghost use Rattle.faces.specs.Weights.{bytes_with, weight_of};
 
 use crate::Weight;
-use crate::shared_versions::SharedVersion;
 use std::alloc::{AllocError, Global};
 use std::collections::BTreeMap;
 use std::marker::Model;
-use table::{Key, TreeKey};
+use table::{Key, TreeKey, Version};
 use versions::DeferredFree;
 
 /// The versions of keys. Contracts see them as a map by key.
 #[derive(Drop)]
 pub struct VersionTree {
-    tree: BTreeMap<TreeKey, SharedVersion>,
+    tree: BTreeMap<TreeKey, Version>,
     // Of all keys and of their versions' data.
     bytes: u64,
     // What clears took away.
-    deferred_free: DeferredFree<SharedVersion>,
+    deferred_free: DeferredFree<Version>,
 }
 
 impl Model for VersionTree {
@@ -52,7 +51,7 @@ impl VersionTree {
     }
 
     /// The version of a key, if there is one. Time is logarithmic in the number of keys.
-    pub fn get(&self, key: &Key) -> Option<&SharedVersion>
+    pub fn get(&self, key: &Key) -> Option<&Version>
         ensures { option_copied result ≡ maps.get self.now key.now }
     {
         self.tree.get(key.tree_key())
@@ -60,14 +59,14 @@ impl VersionTree {
 
     /// Sets a key's version. Refused if memory is out, or if keys and data would be 2^64 bytes. Time is logarithmic in
     /// the number of keys.
-    pub fn set(&mut self, key: &Key, version: &SharedVersion) -> Result<(), AllocError>
+    pub fn set(&mut self, key: &Key, version: &Version) -> Result<(), AllocError>
         ensures ok { OnOk result (self.new ≡ maps.insert self.old key.now version.now) }
         ensures err { OnErr result (self.new ≡ self.old) }
     {
         let Some(bytes) = more(self.bytes, key, version) else {
             return Err(AllocError);
         };
-        let before = self.tree.insert(key.to_tree_key()?, version.again()?)?;
+        let before = self.tree.insert(key.to_tree_key()?, version.clone()?)?;
         self.bytes = match before {
             Some(before) => less(bytes, key, &before),
             None => bytes,
@@ -111,7 +110,7 @@ impl VersionTree {
 }
 
 // These bytes, with those of a key and of its version's data. None if they are 2^64 and more.
-fn more(bytes: u64, key: &Key, version: &SharedVersion) -> Option<u64>
+fn more(bytes: u64, key: &Key, version: &Version) -> Option<u64>
     ensures { IfSome result (λ sum. sum ≡ bytes + bytes_with key.now version.now) }
 {
     bytes
@@ -120,7 +119,7 @@ fn more(bytes: u64, key: &Key, version: &SharedVersion) -> Option<u64>
 }
 
 // These bytes, without those of a key and of its version's data.
-fn less(bytes: u64, key: &Key, version: &SharedVersion) -> u64
+fn less(bytes: u64, key: &Key, version: &Version) -> u64
     requires { bytes_with key.now version.now ≤ bytes }
     ensures { result + bytes_with key.now version.now ≡ bytes }
 {

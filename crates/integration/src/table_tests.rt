@@ -217,15 +217,15 @@ fn is_answer(reply: &Reply, wanted: Answer) -> bool {
         Answer::TooLarge => matches!(reply, Reply::TooLarge),
         Answer::Nothing => matches!(reply, Reply::Value(None)),
         Answer::Item(flags, data, unique) => match reply {
-            Reply::Value(Some(item)) => item.flags == flags
-                && item.bytes.as_slice() == data
-                && item.unique == unique,
+            Reply::Value(Some(item)) => item.flags() == flags
+                && item.bytes().as_slice() == data
+                && item.unique() == unique,
             _ => false,
         },
         Answer::Large(size, unique) => match reply {
-            Reply::Value(Some(item)) => item.flags == 0
-                && item.bytes.len() == size
-                && item.unique == unique,
+            Reply::Value(Some(item)) => item.flags() == 0
+                && item.bytes().len() == size
+                && item.unique() == unique,
             _ => false,
         },
     }
@@ -383,11 +383,7 @@ fn is_decided(
 // Whether a set of a key without an item puts this one, and a read of a key with it shows it.
 fn puts_and_shows(alloc: Global) -> Result<bool, Fault> {
     let bytes = SharedBytes::copy_from_slice(alloc, b"xyz")?;
-    let item = Item {
-        flags: 5,
-        bytes,
-        unique: 7,
-    };
+    let item = Item::new(alloc, 5, bytes, 7)?;
     let set = Ask::Puts(Verb::Set, 5, b"xyz");
     let shown = Answer::Item(5, b"xyz", 7);
     Ok(

@@ -107,11 +107,7 @@ fn put_of(alloc: Global, number: u64, key: &Key) -> Result<Entry, Fault>
         return Err(Fault::Refused);
     }
     let target = Target::One(key.clone()?);
-    let item = Item {
-        flags: 7,
-        bytes,
-        unique: number,
-    };
+    let item = Item::new(alloc, 7, bytes, number)?;
     Ok(Entry::new(
         alloc,
         number,
@@ -154,9 +150,9 @@ fn entry_of(alloc: Global, number: u64, key: &Key, update: Update) -> Result<Ent
 // Whether an item is the one that was put at this number, or there is none.
 fn is_item(item: Option<&Item>, number: Option<u64>) -> bool {
     match (item, number) {
-        (Some(item), Some(number)) => item.flags == 7
-            && item.unique == number
-            && item.bytes.as_slice() == number.to_be_bytes().as_slice(),
+        (Some(item), Some(number)) => item.flags() == 7
+            && item.unique() == number
+            && item.bytes().as_slice() == number.to_be_bytes().as_slice(),
         (None, None) => true,
         (Some(_), None) | (None, Some(_)) => false,
     }

@@ -1,6 +1,6 @@
 -- Worked runs: their moves, and what they come to.
 use Rattle.std.specs.Prelude.{ℕ, List, [], ◌∷◌, ◌++◌, Option, codes}
-use Rattle.table.specs.declared.items.Item.{Item}
+use Rattle.table.specs.Items.{Item}
 use Rattle.table.specs.declared.operations.Call.{Call}
 use Rattle.node.specs.declared.messages.Input.{Input}
 use Rattle.node.specs.declared.messages.Output.{Output}

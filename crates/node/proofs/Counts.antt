@@ -8,7 +8,7 @@ use Rattle.std.proofs.lemmas.List.Sums.{sum_by-append, sum_by-cons}
 use Rattle.table.specs.Operations.{is_value}
 use Rattle.table.specs.declared.operations.Reply.{Reply}
 use Rattle.table.specs.declared.operations.Reply.TheVariants.{Value}
-use Rattle.table.specs.declared.items.Item.{Item}
+use Rattle.table.specs.Items.{Item}
 use Rattle.versions.specs.Entries.{LogEntry}
 use Rattle.node.specs.declared.servers.OpenUpdate.{OpenUpdate}
 use Rattle.node.specs.declared.servers.OpenRead.{OpenRead}

@@ -6,11 +6,10 @@ use Rattle.std.proofs.lemmas.Bool.{leb-true, ltb-true, and_parts}
 use Rattle.std.proofs.lemmas.Nat.{mod_below, pow_pos}
 use Rattle.std.proofs.lemmas.Option.{same_Some}
 use Rattle.std.proofs.lemmas.Fmt.{length-decimal-le}
-use Rattle.table.specs.Items.{limit}
+use Rattle.table.specs.Items.{limit, Item}
 use Rattle.table.specs.Numbers.{counter_of, number_of}
 use Rattle.table.specs.Operations.{Fits, is_flush, is_update, is_value, is_all}
 use Rattle.table.specs.Decisions.{Decision, decision, put, grown, counted, raised, lowered}
-use Rattle.table.specs.declared.items.Item.{Item}
 use Rattle.table.specs.declared.operations.Op.{Op}
 use Rattle.table.specs.declared.operations.Op.TheVariants.{Read, Set, Add, Replace, Append, Prepend, Cas, Incr, Decr}
 use Rattle.table.specs.declared.operations.Op.TheVariants.{Delete, Flush}

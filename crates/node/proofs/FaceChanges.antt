@@ -8,12 +8,11 @@ use Rattle.std.proofs.lemmas.Map.Lookups.{exact_bytes}
 use Rattle.std.proofs.lemmas.Bool.{le-leb, leb-true}
 use Rattle.std.proofs.lemmas.List.{take-append-drop}
 use Rattle.table.specs.Plain.{item_at}
-use Rattle.table.specs.declared.items.Item.{Item}
+use Rattle.table.specs.Items.{Item, Version}
 use Rattle.table.specs.declared.operations.Change.{Change}
 use Rattle.table.specs.declared.operations.Change.TheVariants.{Keep, Put, Drop, Clear}
 use Rattle.versions.specs.Entries.{LogEntry, PutsOwn, is_clear, item_put}
 use Rattle.versions.specs.Stores.{IsLog, last_number, sets, entries_after, items_after, dropped_to}
-use Rattle.node.specs.declared.faces.Version.{Version}
 use Rattle.node.specs.declared.messages.Input.{Input}
 use Rattle.node.specs.Servers.{ServerState}
 use Rattle.node.specs.Steps.{taken_in, least_open, trimmed, step}

@@ -13,14 +13,13 @@ use Rattle.std.proofs.lemmas.Bool.{le-leb, lt-leb, leb-true, and_right}
 use Rattle.std.proofs.lemmas.List.{take_all}
 use Rattle.table.specs.Keys.{key_cmp}
 use Rattle.table.specs.Plain.{Items, item_at, changed}
-use Rattle.table.specs.declared.items.Item.{Item}
+use Rattle.table.specs.Items.{Item, Version}
 use Rattle.table.specs.declared.operations.Target.{Target}
 use Rattle.table.specs.declared.operations.Target.TheVariants.{One, All}
 use Rattle.table.specs.declared.operations.Change.{Change}
 use Rattle.table.specs.declared.operations.Change.TheVariants.{Keep, Put, Drop, Clear}
 use Rattle.versions.specs.Entries.{LogEntry, is_clear, item_put}
 use Rattle.versions.specs.Stores.{IsLog, last_number, value_at, touches, sets, items_after}
-use Rattle.node.specs.declared.faces.Version.{Version}
 use Rattle.node.specs.declared.faces.FaceStep.{FaceStep}
 use Rattle.node.specs.declared.looks.Look.{Look}
 use Rattle.node.specs.declared.looks.Look.TheVariants.{Clean, Dirty}

@@ -9,7 +9,7 @@ use Rattle.std.specs.Option.{option_map}
 use Rattle.std.proofs.lemmas.Map.Lookups.{exact_bytes}
 use Rattle.table.specs.Keys.{key_cmp}
 use Rattle.table.specs.Plain.{Items, item_at}
-use Rattle.table.specs.declared.items.Item.{Item}
+use Rattle.table.specs.Items.{Item}
 use Rattle.versions.specs.Stores.{StoreState, items_put, entries_after}
 use Rattle.node.specs.declared.faces.FaceStep.{FaceStep}
 use Rattle.node.specs.declared.faces.FaceStep.TheVariants.{Set, Clear}

@@ -6,14 +6,13 @@ use Rattle.std.specs.Borrow.{Bor}
 use Rattle.std.specs.FinMap as maps
 use Rattle.table.specs.Keys.{key_cmp}
 use Rattle.table.specs.Plain.{Items}
-use Rattle.table.specs.declared.items.Item.{Item}
+use Rattle.table.specs.Items.{Item, Version}
 use Rattle.table.specs.declared.operations.Target.{Target}
 use Rattle.table.specs.declared.operations.Target.TheVariants.{One, All}
 use Rattle.table.specs.declared.operations.Change.{Change}
 use Rattle.table.specs.declared.operations.Change.TheVariants.{Keep, Put, Drop, Clear}
 use Rattle.versions.specs.Entries.{LogEntry}
 use Rattle.versions.specs.Stores.{last_number, entries_after, value_at, is_clean}
-use Rattle.node.specs.declared.faces.Version.{Version}
 use Rattle.node.specs.declared.faces.Tombstone.{Tombstone}
 use Rattle.node.specs.declared.faces.FaceStep.{FaceStep}
 use Rattle.node.specs.declared.faces.FaceStep.TheVariants.{Set, Clear as ClearAll}

@@ -2,7 +2,7 @@
 use Rattle.std.specs.Prelude.{◌≡◌, ◌≢◌, ℕ, ◌≤◌, ◌<◌, true, false, List, [], ◌∷◌, length, Some}
 use Rattle.table.specs.Operations.{Fits, Suits, is_update}
 use Rattle.table.specs.Plain.{item_at}
-use Rattle.table.specs.declared.items.Item.{Item}
+use Rattle.table.specs.Items.{Item}
 use Rattle.table.specs.declared.operations.Call.{Call}
 use Rattle.versions.specs.Entries.{IsEntry}
 use Rattle.versions.specs.Stores.{IsStore, last_number}

@@ -3,7 +3,7 @@ use Rattle.std.specs.Prelude.{ℕ, ◌+◌, ◌-◌, max, Bool, not, ◌&&◌, �
 use Rattle.std.specs.Prelude.{find, slice_set, Option, Some, None, if◌then◌else◌}
 use Rattle.table.specs.Operations.{is_update}
 use Rattle.table.specs.Decisions.{decision}
-use Rattle.table.specs.declared.items.Item.{Item}
+use Rattle.table.specs.Items.{Item}
 use Rattle.table.specs.declared.operations.Call.{Call}
 use Rattle.table.specs.declared.operations.Reply.{Reply}
 use Rattle.table.specs.declared.operations.Target.{Target}

@@ -7,18 +7,9 @@ ghost use Rattle.node.specs.Faces as faces;
 
 use crate::nodes::Node;
 use crate::servers::Replica;
-use std::alloc::AllocError;
-use table::{Change, Item, Key, Target};
+use std::alloc::{AllocError, Global};
+use table::{Change, Item, Key, Target, Version};
 use versions::Entry;
-
-/// A key's newest version (this project's rule).
-#[derive(Clone, Debug, PartialEq, Eq, Drop)]
-pub struct Version {
-    /// The number of the entry that made it.
-    pub number: u64,
-    /// The item, or none if the key was dropped.
-    pub item: Option<Item>,
-}
 
 /// A key whose version of this number has no item. It waits in a queue, in the order of the numbers, until this number
 /// is acknowledged: then the version is taken away, unless the key has a later one (this project's rule).
@@ -31,7 +22,7 @@ pub struct Tombstone {
 }
 
 /// One change of a face (this project's rule).
-#[derive(Clone, Debug, PartialEq, Eq, Drop)]
+#[derive(Clone, Debug, Drop)]
 pub enum FaceStep {
     /// The key has this version from now on.
     Set(Key, Version),
@@ -52,9 +43,7 @@ pub struct FaceChange {
 fn base_step(key: Key, item: Item) -> FaceStep
     ensures { result ≡ faces.base_step (key, item) }
 {
-    let number = item.unique;
-    let item = Some(item);
-    FaceStep::Set(key, Version { number, item })
+    FaceStep::Set(key, Version::of_item(item))
 }
 
 // The same for each, after the steps so far.
@@ -68,20 +57,20 @@ fn put_base(items: Vec<(Key, Item)>, steps: &mut Vec<FaceStep>) -> Result<(), Al
 }
 
 // The change that sets this version of the key.
-fn set_step(key: &Key, number: u64, item: Option<Item>) -> Result<FaceStep, AllocError>
-    ensures { IfOk result (λ step. step ≡ FaceStep.Set key.now (record { number = number; item = item })) }
+fn set_step(key: &Key, version: Version) -> Result<FaceStep, AllocError>
+    ensures { IfOk result (λ step. step ≡ FaceStep.Set key.now version) }
 {
     match key.clone() {
-        Ok(key) => Ok(FaceStep::Set(key, Version { number, item })),
+        Ok(key) => Ok(FaceStep::Set(key, version)),
         Err(e) => {
-            drop(item);
+            drop(version);
             Err(e)
         }
     }
 }
 
 // The version that an entry makes of its key, or of every key, if it makes one.
-fn step_of(entry: &Entry) -> Result<Option<FaceStep>, AllocError>
+fn step_of(alloc: Global, entry: &Entry) -> Result<Option<FaceStep>, AllocError>
     ensures { IfOk result (λ step. step ≡ faces.face_step entry.now.number entry.now.target entry.now.change) }
 {
     let number = entry.number();
@@ -90,9 +79,12 @@ fn step_of(entry: &Entry) -> Result<Option<FaceStep>, AllocError>
     match (target, change) {
         (_, Change::Clear) => Ok(Some(FaceStep::Clear(number))),
         (Target::One(key), Change::Put(item)) => {
-            Ok(Some(set_step(key, number, Some(item.clone()?))?))
+            Ok(Some(set_step(key, Version::of_item(item.clone()?))?))
         }
-        (Target::One(key), Change::Drop) => Ok(Some(set_step(key, number, None)?)),
+        (Target::One(key), Change::Drop) => {
+            let version = Version::without_item(alloc, number)?;
+            Ok(Some(set_step(key, version)?))
+        }
         (Target::One(_), Change::Keep) | (Target::All, _) => Ok(None),
     }
 }
@@ -103,7 +95,8 @@ fn put_step(entry: &Entry, steps: &mut Vec<FaceStep>) -> Result<(), AllocError>
         (steps.new.items ≡ steps.old.items
         ++ cons_option (faces.face_step entry.now.number entry.now.target entry.now.change) []) }
 {
-    if let Some(step) = step_of(entry)? {
+    let alloc = *steps.allocator();
+    if let Some(step) = step_of(alloc, entry)? {
         steps.push(step)?;
     }
     Ok(())

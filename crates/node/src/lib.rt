@@ -17,7 +17,7 @@ mod standings;
 mod steps;
 mod views;
 
-pub use faces::{FaceChange, FaceStep, Tombstone, Version};
+pub use faces::{FaceChange, FaceStep, Tombstone};
 pub use laws::{
     joins_keep_servers_sound, looks_show_the_newest, neighbors_are_nearest, open_calls_are_ordered,
     own_ports_alone, replies_close_calls, rules_keep_servers_sound, runs_are_lawful, runs_go_on,

@@ -127,7 +127,7 @@ fn write_value(out: &mut BytesMut, look: &Look, item: &Item) -> Result<(), Alloc
     ensures err { OnErr result (out.new.items ≡ out.old.items) }
 {
     let key = look.key.bytes();
-    let data = item.bytes.as_slice();
+    let data = item.bytes().as_slice();
     out.reserve(VALUE_LINE + key.len() + data.len() + VALUE_END)?;
     put_value_line(out, key, look.unique, item);
     out.extend_reserved(data);
@@ -144,9 +144,9 @@ fn put_value_line(out: &mut BytesMut, key: &[u8], unique: bool, item: &Item)
 {
     out.extend_reserved(b"VALUE ");
     out.extend_reserved(key);
-    put_number(out, u64::from(item.flags));
-    put_number(out, item.bytes.len() as u64);
-    put_unique(out, unique, item.unique);
+    put_number(out, u64::from(item.flags()));
+    put_number(out, item.bytes().len() as u64);
+    put_unique(out, unique, item.unique());
     out.extend_reserved(b"\r\n");
 }
 

@@ -6,7 +6,7 @@ use Rattle.table.specs.declared.operations.Target.{Target}
 use Rattle.table.specs.declared.operations.Call.{Call}
 use Rattle.table.specs.declared.operations.Reply.{Reply}
 use Rattle.table.specs.declared.operations.Reply.TheVariants.{Value}
-use Rattle.table.specs.declared.items.Item.{Item}
+use Rattle.table.specs.Items.{Item}
 use Rattle.proto.specs.Turns.{Outcome, Refused, Replied}
 use Rattle.faces.specs.Histories.{History, IsLater, Origin}
 use Rattle.serving.specs.Connections.{Connected, HasOutcome, IsLooked}

@@ -1,6 +1,6 @@
 -- How a look beside a running server, or the server, replies to a call.
 use Rattle.std.specs.Prelude.{◌≡◌, ℕ, suc, List, [], ◌∷◌, ◌++◌, length, Option, Some, None}
-use Rattle.table.specs.declared.items.Item.{Item}
+use Rattle.table.specs.Items.{Item}
 use Rattle.table.specs.declared.operations.Call.{Call}
 use Rattle.table.specs.declared.operations.Target.TheVariants.{One}
 use Rattle.table.specs.declared.operations.Op.TheVariants.{Read}

@@ -1,6 +1,6 @@
 //! Looks at a server's face that answer a call.
 ghost use Rattle.std.specs.Prelude.{◌≡◌, ◌++◌, ◌∷◌, [], Option, IfSome, OnSome};
-ghost use Rattle.table.specs.declared.items.Item.{Item};
+ghost use Rattle.table.specs.Items.{Item};
 ghost use Rattle.table.specs.declared.operations.Reply.TheVariants.{Value};
 ghost use Rattle.faces.specs.Histories.{IsLater};
 ghost use Rattle.faces.specs.Readers.{HasLookedAtMostOnce};

@@ -60,7 +60,7 @@ impl Model for SeatPool {
 impl SeatPool {
     ghost use Rattle.std.specs.Prelude.{◌≡◌, ◌↔◌, ◌<◌, ◌++◌, ◌∷◌, [], None, Option, length};
     ghost use Rattle.std.specs.Prelude.{IfOk, IfSome, IsTrue, MatchOption, OnErr, OnOk, OnSome};
-    ghost use Rattle.table.specs.declared.items.Item.{Item};
+    ghost use Rattle.table.specs.Items.{Item};
     ghost use Rattle.table.specs.declared.operations.Reply.TheVariants.{Value};
     ghost use Rattle.faces.specs.Histories.{IsLater};
     ghost use Rattle.faces.specs.Readers.{HasLookedAtMostOnce};

@@ -1,8 +1,7 @@
 -- A code for what calls came to, as a field that only contracts see needs it.
 use Rattle.std.specs.Prelude.{◌≡◌, ℕ, ◌==◌, Option, None, Some, List, cond, refl}
 use Rattle.std.specs.Coded.{Coded, code_by, coded×, coded_ℕ, coded_list, coded_option}
-use Rattle.table.specs.Items.{coded_item}
-use Rattle.table.specs.declared.items.Item.{Item}
+use Rattle.table.specs.Items.{coded_item, Item}
 use Rattle.table.specs.declared.operations.Reply.{Reply}
 use Rattle.table.specs.declared.operations.Reply.TheVariants.{Stored, NotStored, Exists, NotFound, Deleted, Number}
 use Rattle.table.specs.declared.operations.Reply.TheVariants.{Value, TooLarge, NotNumber, Flushed}

@@ -1,9 +1,8 @@
 -- What one operation answers and does: one line a case.
 use Rattle.std.specs.Prelude.{ℕ, ◌+◌, ◌-◌, ◌^◌, ◌%◌, ◌==◌, nat_le, List, ◌++◌, length, Option, None, Some, decimal}
 use Rattle.std.specs.Prelude.{if◌then◌else◌}
-use Rattle.table.specs.Items.{limit}
+use Rattle.table.specs.Items.{limit, Item}
 use Rattle.table.specs.Numbers.{counter_of}
-use Rattle.table.specs.declared.items.Item.{Item}
 use Rattle.table.specs.declared.operations.Op.{Op}
 use Rattle.table.specs.declared.operations.Op.TheVariants.{Read, Set, Add, Replace, Append, Prepend, Cas, Incr, Decr}
 use Rattle.table.specs.declared.operations.Op.TheVariants.{Delete, Flush}

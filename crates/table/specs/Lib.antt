@@ -1,6 +1,7 @@
 pub mod SharedBytes
 pub mod Keys
 pub mod Items
+pub mod ItemBlocks
 pub mod Numbers
 pub mod Operations
 pub mod Decisions

@@ -4,10 +4,9 @@ use Rattle.std.specs.Prelude.{ℕ, ◌+◌, List, Option, None, refl, if◌then�
 use Rattle.std.specs.FinMap as map
 use Rattle.std.specs.Coded.{Coded, code_by, coded×, coded_ℕ, coded_list}
 use Rattle.table.specs.Keys.{key_cmp}
-use Rattle.table.specs.Items.{coded_item}
+use Rattle.table.specs.Items.{coded_item, Item}
 use Rattle.table.specs.Operations.{is_update}
 use Rattle.table.specs.Decisions.{decision}
-use Rattle.table.specs.declared.items.Item.{Item}
 use Rattle.table.specs.declared.operations.Op.{Op}
 use Rattle.table.specs.declared.operations.Reply.{Reply}
 use Rattle.table.specs.declared.operations.Change.{Change}

@@ -2,6 +2,7 @@
 ghost use Rattle.std.specs.Prelude.{◌≡◌, ◌≤◌, ◌++◌, ◌+◌, ◌<◌, length, IfOk};
 ghost use Rattle.std.specs.Option.{option_copied};
 ghost use Rattle.table.specs.Items.{limit};
+ghost use Rattle.table.specs.declared.operations.Reply.TheVariants.{Stored};
 ghost use Rattle.table.specs.Operations.{Fits};
 ghost use Rattle.table.specs.Decisions.{decision, put, grown, raised, lowered, counted};
 ghost use Rattle.table.specs.Numbers.{counter_of};
@@ -28,17 +29,15 @@ pub fn decide(
         (Op::Read, item) => Ok((Reply::Value(copy_of(item)?), Change::Keep)),
         (Op::Set(flags, data), _)
         | (Op::Add(flags, data), None)
-        | (Op::Replace(flags, data), Some(_)) => {
-            Ok((Reply::Stored, put(*flags, data.clone()?, number)))
-        }
+        | (Op::Replace(flags, data), Some(_)) => { stored(alloc, *flags, data.clone()?, number) }
         (Op::Add(..), Some(_)) | (Op::Replace(..) | Op::Append(_) | Op::Prepend(_), None) => {
             Ok((Reply::NotStored, Change::Keep))
         }
-        (Op::Append(data), Some(old)) => grown(alloc, old.flags, &old.bytes, data, number),
-        (Op::Prepend(data), Some(old)) => grown(alloc, old.flags, data, &old.bytes, number),
+        (Op::Append(data), Some(old)) => grown(alloc, old.flags(), old.bytes(), data, number),
+        (Op::Prepend(data), Some(old)) => grown(alloc, old.flags(), data, old.bytes(), number),
         (Op::Cas(flags, data, unique), Some(old)) => {
-            if old.unique == *unique {
-                Ok((Reply::Stored, put(*flags, data.clone()?, number)))
+            if old.unique() == *unique {
+                stored(alloc, *flags, data.clone()?, number)
             } else {
                 Ok((Reply::Exists, Change::Keep))
             }
@@ -62,14 +61,23 @@ fn copy_of(item: Option<&Item>) -> Result<Option<Item>, AllocError>
     }
 }
 
-fn put(flags: u32, bytes: SharedBytes, number: u64) -> Change
-    ensures { result ≡ put flags bytes number }
+// An item is put.
+fn stored(
+    alloc: Global,
+    flags: u32,
+    bytes: SharedBytes,
+    number: u64,
+) -> Result<(Reply, Change), AllocError>
+    ensures reply { IfOk result (λ d. d.0 ≡ Stored) }
+    ensures change { IfOk result (λ d. d.1 ≡ put flags bytes number) }
 {
-    Change::Put(Item {
-        flags,
-        bytes,
-        unique: number,
-    })
+    Ok((Reply::Stored, put(alloc, flags, bytes, number)?))
+}
+
+fn put(alloc: Global, flags: u32, bytes: SharedBytes, number: u64) -> Result<Change, AllocError>
+    ensures { IfOk result (λ change. change ≡ put flags bytes number) }
+{
+    Ok(Change::Put(Item::new(alloc, flags, bytes, number)?))
 }
 
 // An item of these two pieces of data, one after the other, if it isn't too large.
@@ -87,7 +95,7 @@ fn grown(
         return Ok((Reply::TooLarge, Change::Keep));
     }
     let data = joined(alloc, front.as_slice(), back.as_slice())?;
-    Ok((Reply::Stored, put(flags, data, number)))
+    stored(alloc, flags, data, number)
 }
 
 // One block of both pieces, each copied once.
@@ -109,8 +117,8 @@ fn raised(
 ) -> Result<(Reply, Change), AllocError>
     ensures { IfOk result (λ d. (d.0, d.1) ≡ raised old.now.flags (counter_of old.now.bytes) amount number) }
 {
-    match counter(old.bytes.as_slice()) {
-        Some(value) => counted(alloc, old.flags, value.wrapping_add(amount), number),
+    match counter(old.bytes().as_slice()) {
+        Some(value) => counted(alloc, old.flags(), value.wrapping_add(amount), number),
         None => Ok((Reply::NotNumber, Change::Keep)),
     }
 }
@@ -123,8 +131,8 @@ fn lowered(
 ) -> Result<(Reply, Change), AllocError>
     ensures { IfOk result (λ d. (d.0, d.1) ≡ lowered old.now.flags (counter_of old.now.bytes) amount number) }
 {
-    match counter(old.bytes.as_slice()) {
-        Some(value) => counted(alloc, old.flags, value.saturating_sub(amount), number),
+    match counter(old.bytes().as_slice()) {
+        Some(value) => counted(alloc, old.flags(), value.saturating_sub(amount), number),
         None => Ok((Reply::NotNumber, Change::Keep)),
     }
 }
@@ -138,5 +146,5 @@ fn counted(
     ensures { IfOk result (λ d. (d.0, d.1) ≡ counted flags value number) }
 {
     let digits = SharedBytes::copy_from_slice(alloc, Buffer::new().format(value).as_bytes())?;
-    Ok((Reply::Number(value), put(flags, digits, number)))
+    Ok((Reply::Number(value), put(alloc, flags, digits, number)?))
 }

@@ -1,4 +1,4 @@
-//! Keys, items and operations of a cache, and the plain table that gives every operation its meaning.
+//! Keys, items, versions and operations of a cache, and the plain table that gives every operation its meaning.
 #![tactic(auto)]
 
 mod decisions;
@@ -9,6 +9,7 @@ mod operations;
 mod plain;
 mod shared_bytes;
 mod tree_keys;
+mod versions;
 
 pub use decisions::decide;
 pub use items::{Item, LIMIT};
@@ -18,3 +19,4 @@ pub use operations::{Call, Change, Op, Reply, Target};
 pub use plain::{Table, TableFault};
 pub use shared_bytes::SharedBytes;
 pub use tree_keys::TreeKey;
+pub use versions::Version;

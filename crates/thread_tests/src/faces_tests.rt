@@ -183,8 +183,8 @@ enum Shown {
 fn shown_by(look: &Look<Item>) -> Shown {
     match look {
         Look::Clean(Some(item)) => {
-            if item.bytes.as_slice() == b"v".as_slice() {
-                Shown::Item(item.unique)
+            if item.bytes().as_slice() == b"v".as_slice() {
+                Shown::Item(item.unique())
             } else {
                 Shown::Other
             }

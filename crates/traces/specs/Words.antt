@@ -1,6 +1,6 @@
 -- The words of a trace for calls, replies, entries, messages and views (docs/FORMATS.md, "Trace").
 use Rattle.std.specs.Prelude.{ℕ, nat_eq, List, [], ◌++◌, Option, None, Some, flat_map, decimal, if◌then◌else◌, codes}
-use Rattle.table.specs.declared.items.Item.{Item}
+use Rattle.table.specs.Items.{Item}
 use Rattle.table.specs.declared.operations.Target.{Target}
 use Rattle.table.specs.declared.operations.Target.TheVariants.{One, All}
 use Rattle.table.specs.declared.operations.Op.{Op}

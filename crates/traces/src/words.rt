@@ -76,8 +76,8 @@ fn put_data(text: &mut Text, flags: u32, bytes: &SharedBytes) -> Result<(), Allo
 fn put_item(text: &mut Text, item: &Item) -> Result<(), AllocError>
     ensures { OnOk result (text.new ≡ text.old ++ item_text item.now) }
 {
-    text.labelled(b" unique ", item.unique)?;
-    put_data(text, item.flags, &item.bytes)
+    text.labelled(b" unique ", item.unique())?;
+    put_data(text, item.flags(), item.bytes())
 }
 
 /// A reply.
@@ -118,7 +118,7 @@ pub fn put_value(text: &mut Text, reply: &Reply) -> Result<(), AllocError>
 {
     match reply {
         Reply::Number(number) => text.number(*number),
-        Reply::Value(Some(item)) => text.escaped(item.bytes.as_slice()),
+        Reply::Value(Some(item)) => text.escaped(item.bytes().as_slice()),
         other => text.put(status_of(other)),
     }
 }

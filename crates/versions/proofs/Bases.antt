@@ -16,12 +16,12 @@ use Rattle.std.proofs.lemmas.Map.Lookups.{exact_bytes}
 use Rattle.table.specs.Keys.{key_cmp, tree_key_cmp}
 use Rattle.table.proofs.TreeKeyLaws.{tree_key_total, tree_key_tie, same_tie}
 use Rattle.table.specs.Plain.{Items, item_at, changed}
-use Rattle.table.specs.declared.items.Item.{Item}
+use Rattle.table.specs.Items.{Item}
 use Rattle.table.specs.declared.operations.Target.{Target}
 use Rattle.table.specs.declared.operations.Change.{Change}
 use Rattle.versions.specs.Entries.{set_key}
 use Rattle.versions.specs.Stores.{is_key_of, sets, items_put}
-use Rattle.versions.specs.declared.records.Record.{Record}
+use Rattle.versions.specs.Records.{Record}
 use Rattle.versions.specs.Records.{record_at, item_in, numbers_in, with_item, base_of, put_of, puts_of, item_after}
 use Rattle.versions.proofs.Logs.{item-changed}
 
@@ -129,8 +129,9 @@ numbers_stay es fs k w is h q =
 -- ---- all items are taken away
 
 module _ {F : Type 0} (T : F → List ℕ → Record → Bool → Record → F → Type 0)
-    (called : (f : F) (k : List ℕ) (v : Record) (b : Bool) (w : Record) (g : F) → T f k v b w g → (w.item ≡ None)
-    × (w.numbers ≡ v.numbers) × (b ≡ false → v.numbers ≡ [])) where
+    (called : (f : F) (k : List ℕ) (v : Record) (b : Bool) (w : Record) (g : F)
+    → T f k v b w g
+    → (b ≡ true → w.item ≡ None) × (b ≡ true → w.numbers ≡ v.numbers) × (b ≡ false → v.numbers ≡ [])) where
   no_item : (b : Bool) (w : Record) (o : Option Record)
       → w.item ≡ None
       → item_in o ≡ None
@@ -167,16 +168,16 @@ module _ {F : Type 0} (T : F → List ℕ → Record → Bool → Record → F �
       (λ t. lookup-none (is_at (tree_key_cmp q)) es (none_past_head (eq_by_cmp_equiv tree_key_total) q e es d t)) h)
     where
       cleared_step : (b : Bool) (w : Record) (e : List ℕ × Record) (es rest : List (List ℕ × Record)) (q : List ℕ)
-          → w.item ≡ None
-          → w.numbers ≡ e.1.numbers
+          → (b ≡ true → w.item ≡ None)
+          → (b ≡ true → w.numbers ≡ e.1.numbers)
           → (b ≡ false → e.1.numbers ≡ [])
           → (is_at (tree_key_cmp q) e.0 ≡ true → record_at es q ≡ None)
           → (item_in (record_at rest q) ≡ None) × (numbers_in (record_at rest q) ≡ numbers_in (record_at es q))
           → (item_in (record_at (cond b ((e.0, w) ∷ rest) rest) q) ≡ None)
           × (numbers_in (record_at (cond b ((e.0, w) ∷ rest) rest) q) ≡ numbers_in (record_at (e ∷ es) q))
       cleared_step true w e es rest q item same gone none h = (
-        no_item (is_at (tree_key_cmp q) e.0) w (record_at rest q) item h.0,
-        same_numbers (is_at (tree_key_cmp q) e.0) w e.1 (record_at rest q) (record_at es q) same h.1,
+        no_item (is_at (tree_key_cmp q) e.0) w (record_at rest q) (item refl) h.0,
+        same_numbers (is_at (tree_key_cmp q) e.0) w e.1 (record_at rest q) (record_at es q) (same refl) h.1,
       )
       cleared_step false w e es rest q item same gone none h =
           (h.0, no_numbers (is_at (tree_key_cmp q) e.0) e.1 (record_at rest q) (record_at es q) (gone refl) none h.1)

@@ -5,13 +5,13 @@ use Rattle.std.proofs.Common.{length-drop, add-one}
 use Rattle.std.specs.List.{list_any}
 use Rattle.std.proofs.lemmas.List.{length-take-le, take_all}
 use Rattle.table.specs.Plain.{Items, item_at, changed}
-use Rattle.table.specs.declared.items.Item.{Item}
+use Rattle.table.specs.Items.{Item}
 use Rattle.versions.specs.Entries.{LogEntry, IsEntry}
 use Rattle.versions.specs.Stores.{IsLog, items_after, touches}
 use Rattle.versions.specs.Numbers.{numbers_of, last_of, last_up_to, is_above, IsWithin, IsRising}
 use Rattle.versions.specs.Records.{record_at, item_in, numbers_in, base_of, item_from, is_set, is_cleared, IsIndex}
 use Rattle.versions.specs.Records.{IsHeld}
-use Rattle.versions.specs.declared.records.Record.{Record}
+use Rattle.versions.specs.Records.{Record}
 use Rattle.versions.proofs.Lists.{last_up_to-taken, last-within, numbers-rise, numbers_of-append, any-above, any-or}
 use Rattle.versions.proofs.Logs.{item-after_log, log-take, log-drop, log-push, item_from-take}
 use Rattle.versions.proofs.Bases.{item-base_of}

@@ -1,8 +1,7 @@
 -- Entries of a server's log, and the ranges that each keeps (this project's rule).
 use Rattle.std.specs.Prelude.{◌≡◌, ℕ, ◌≤◌, ◌<◌, length, Bool, true, false, List, Option, None, Some}
-use Rattle.table.specs.Items.{limit}
+use Rattle.table.specs.Items.{limit, Item}
 use Rattle.table.specs.Operations.{is_all, is_value}
-use Rattle.table.specs.declared.items.Item.{Item}
 use Rattle.table.specs.declared.operations.Target.{Target}
 use Rattle.table.specs.declared.operations.Target.TheVariants.{One}
 use Rattle.table.specs.declared.operations.Reply.{Reply}

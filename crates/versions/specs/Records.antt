@@ -1,7 +1,8 @@
 -- Serves the fields of the code; no public contract needs it. How they stand for what a store holds: a record for each
 -- key, and the numbers of the clears.
 use Rattle.std.specs.Prelude.{◌≡◌, ℕ, ◌+◌, ◌-◌, length, Bool, cond, nat_lt, List, [], ◌∷◌, ◌++◌, Option, None, Some}
-use Rattle.std.specs.Prelude.{if◌then◌else◌}
+use Rattle.std.specs.Prelude.{if◌then◌else◌, refl}
+use Rattle.std.specs.Coded.{Coded, code_by, coded×, coded_ℕ, coded_list, coded_option}
 use Rattle.std.specs.FinMap as map
 use Rattle.std.specs.Map.{lookup}
 use Rattle.std.specs.List.{slice_get}
@@ -9,13 +10,22 @@ use Rattle.std.specs.Option.{option_and_then}
 use Rattle.std.specs.BTreeMap.{is_at}
 use Rattle.table.specs.Keys.{tree_key_cmp}
 use Rattle.table.specs.Plain.{Items}
-use Rattle.table.specs.declared.items.Item.{Item}
+use Rattle.table.specs.Items.{Item, coded_item}
 use Rattle.table.specs.declared.operations.Target.{Target}
 use Rattle.table.specs.declared.operations.Change.{Change}
 use Rattle.versions.specs.Entries.{LogEntry, item_put, is_clear}
 use Rattle.versions.specs.Numbers.{numbers_of}
 use Rattle.versions.specs.Stores.{IsStore, sets}
-use Rattle.versions.specs.declared.records.Record.{Record}
+
+-- A key's record: its item in the base, or none; and the numbers of the entries above the floor that set it.
+pub record Record : Type 0 where
+  pub item : Option Item
+  pub numbers : List ℕ
+
+-- a record is stored as its two fields
+abbrev pub coded_record : Coded Record
+coded_record = code_by (Option Item × List ℕ) (coded× (coded_option coded_item) (coded_list coded_ℕ))
+    (λ r. (r.item, r.numbers)) (λ p. record { item = p.0; numbers = p.1 }) (λ _. refl)
 
 -- the record of a key, or none
 abbrev pub record_at : List (List ℕ × Record) → List ℕ → Option Record

@@ -6,9 +6,8 @@ use Rattle.std.specs.FinMap as map
 use Rattle.std.specs.Coded.{Coded, coded_ℕ, coded_list}
 use Rattle.std.specs.BTreeMap.{is_at}
 use Rattle.table.specs.Keys.{key_cmp}
-use Rattle.table.specs.Items.{coded_item}
+use Rattle.table.specs.Items.{coded_item, Item}
 use Rattle.table.specs.Plain.{Items, item_at, changed}
-use Rattle.table.specs.declared.items.Item.{Item}
 use Rattle.table.specs.declared.operations.Target.{Target}
 use Rattle.table.specs.declared.operations.Change.{Change}
 use Rattle.versions.specs.Entries.{LogEntry, IsEntry, is_clear, set_key}

@@ -8,8 +8,8 @@ ghost use Rattle.versions.specs.Records.{IsIndex, base_of, record_at, base_item,
 ghost use Rattle.versions.specs.Records.{item_after, is_set, is_cleared};
 
 use crate::numbers::Numbers;
-use crate::records::{self, Record};
-use crate::{DeferredFree, Entry};
+use crate::packed_records::Record;
+use crate::{DeferredFree, Entry, records};
 use std::alloc::{AllocError, Global};
 use std::collections::{BTreeMap, VecDeque};
 use table::{Change, Target, TreeKey};

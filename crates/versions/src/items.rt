@@ -1,10 +1,11 @@
 //! The items of the base, one by one.
 ghost use Rattle.std.specs.Prelude.{◌≡◌, ◌++◌, OnOk, IfOk};
 ghost use Rattle.std.specs.FinMap as map;
+ghost use Rattle.std.specs.Option.{option_copied};
 ghost use Rattle.versions.specs.Records.{base_of, put_of};
 ghost use Rattle.versions.specs.Stores.{items_put};
 
-use crate::records::Record;
+use crate::packed_records::Record;
 use std::alloc::{AllocError, Global};
 use std::collections::BTreeMap;
 use table::{Item, Key, TreeKey};
@@ -18,7 +19,7 @@ pub(crate) fn items_of(
 {
     let mut found = Vec::new(alloc);
     for (tree_key, record) in records.iter() {
-        add(tree_key, &record.item, &mut found)?;
+        add(tree_key, record.item(), &mut found)?;
     }
     Ok(found)
 }
@@ -26,10 +27,10 @@ pub(crate) fn items_of(
 // Adds a key with its item, if it has one.
 fn add(
     tree_key: &TreeKey,
-    item: &Option<Item>,
+    item: Option<&Item>,
     found: &mut Vec<(Key, Item)>,
 ) -> Result<(), AllocError>
-    ensures { OnOk result (found.new.items ≡ found.old.items ++ put_of tree_key.now item.now) }
+    ensures { OnOk result (found.new.items ≡ found.old.items ++ put_of tree_key.now (option_copied item.entry)) }
 {
     if let Some(item) = item {
         found.push((tree_key.key()?, item.clone()?))?;

@@ -8,6 +8,7 @@ mod items;
 mod laws;
 mod lookups;
 mod numbers;
+mod packed_records;
 mod queues;
 mod records;
 mod stores;

@@ -5,17 +5,10 @@ ghost use Rattle.versions.specs.Records.{record_at, base_item, key_numbers, Same
 ghost use Rattle.versions.specs.Records.{HasNumbers};
 
 use crate::DeferredFree;
-use crate::numbers::Numbers;
+use crate::packed_records::Record;
 use std::alloc::{AllocError, Global};
 use std::collections::BTreeMap;
 use table::{Item, Key, TreeKey};
-
-/// The item that a key has in the base, or none, and the numbers of the entries above the floor that put or drop it.
-#[derive(Drop)]
-pub(crate) struct Record {
-    pub(crate) item: Option<Item>,
-    pub(crate) numbers: Numbers,
-}
 
 /// The record of a key, if there is one.
 pub(crate) fn record_of<'a>(records: &'a BTreeMap<TreeKey, Record>, key: &Key) -> Option<&'a Record>
@@ -39,17 +32,9 @@ pub(crate) fn note(
     ensures err { OnErr result (SameNumbers records.old.entries records.new.entries) }
 {
     match records.get_mut(key.tree_key()) {
-        Some(record) => record.numbers.push(number),
+        Some(record) => record.note(number),
         None => {
-            let mut numbers = Numbers::new(alloc);
-            numbers.push(number)?;
-            records.insert(
-                key.to_tree_key()?,
-                Record {
-                    item: None,
-                    numbers,
-                },
-            )?;
+            records.insert(key.to_tree_key()?, Record::of_number(alloc, number))?;
             Ok(())
         }
     }
@@ -65,9 +50,7 @@ pub(crate) fn settle(records: &mut BTreeMap<TreeKey, Record>, key: &Key, item: O
     let Some(record) = records.get_mut(key.tree_key()) else {
         return;
     };
-    record.item = item;
-    record.numbers.drop_first();
-    if record.item.is_none() && record.numbers.is_empty() {
+    if !record.settle(item) {
         records.remove(key.tree_key());
     }
 }
@@ -87,15 +70,5 @@ pub(crate) fn clear(
         deferred_free.take(records);
         return;
     }
-    records.retain(|_, record| take_item(record));
-}
-
-// Takes the item out, and tells whether the record is still needed.
-fn take_item(held: &mut Record) -> bool
-    ensures item { held.new.item ≡ None }
-    ensures numbers { held.new.numbers ≡ held.old.numbers }
-    ensures needed { result ≡ false → held.new.numbers ≡ [] }
-{
-    held.item = None;
-    !held.numbers.is_empty()
+    records.retain(|_, record| record.take_item());
 }

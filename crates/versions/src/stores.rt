@@ -12,8 +12,9 @@ use crate::changes::{note, settle_first};
 use crate::items::items_of;
 use crate::lookups::{is_above, item_from};
 use crate::numbers::Numbers;
+use crate::packed_records::Record;
 use crate::queues::give_back;
-use crate::records::{Record, record_of};
+use crate::records::record_of;
 use crate::{DeferredFree, Entry};
 use std::alloc::{AllocError, Global};
 use std::collections::vec_deque::Iter;
@@ -170,9 +171,9 @@ impl Store {
         ensures { option_copied result ≡ value_at self.now key.now (last_number self.now) }
     {
         let record = record_of(&self.records, key)?;
-        let set = record.numbers.last();
+        let set = record.last();
         item_from(
-            record.item.as_ref(),
+            record.item(),
             &self.entries,
             self.floor,
             set,
@@ -189,9 +190,9 @@ impl Store {
         ensures { option_copied result ≡ value_at self.now key.now n }
     {
         let record = record_of(&self.records, key)?;
-        let set = record.numbers.last_up_to(n);
+        let set = record.last_up_to(n);
         item_from(
-            record.item.as_ref(),
+            record.item(),
             &self.entries,
             self.floor,
             set,
@@ -241,16 +242,10 @@ impl Store {
         let Some(record) = record_of(&self.records, key) else {
             return Some(None);
         };
-        let newest = record.numbers.last();
+        let newest = record.last();
         if is_above(self.acked, newest) {
             return None;
         }
-        Some(item_from(
-            record.item.as_ref(),
-            &self.entries,
-            self.floor,
-            newest,
-            cleared,
-        ))
+        Some(item_from(record.item(), &self.entries, self.floor, newest, cleared))
     }
 }

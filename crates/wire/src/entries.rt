@@ -121,11 +121,7 @@ fn key_change_at(
         0 => Ok((Change::Keep, bytes)),
         1 => {
             let (flags, bytes, rest) = owned_flagged_at(alloc, bytes)?;
-            let item = Item {
-                flags,
-                bytes,
-                unique: number,
-            };
+            let item = Item::new(alloc, flags, bytes, number)?;
             Ok((Change::Put(item), rest))
         }
         2 => Ok((Change::Drop, bytes)),

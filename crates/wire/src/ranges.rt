@@ -124,7 +124,7 @@ fn hold_change(change: &Change)
     ensures { HasChangeWidth change.now }
 {
     if let Change::Put(item) = change {
-        hold_flags(item.flags);
+        hold_flags(item.flags());
     }
 }
 

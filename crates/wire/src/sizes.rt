@@ -94,7 +94,7 @@ fn change_size(entry: &Entry) -> usize
     ensures bound { result ≤ 9 + limit }
 {
     match entry.change() {
-        Change::Put(item) => 9 + item.bytes.len(),
+        Change::Put(item) => 9 + item.bytes().len(),
         Change::Keep | Change::Drop | Change::Clear => 1,
     }
 }

@@ -337,7 +337,7 @@ fn put_change(out: &mut BytesMut, entry: &Entry)
 {
     match entry.change() {
         Change::Keep => put_code(out, 0),
-        Change::Put(item) => put_flagged(out, 1, item.flags, &item.bytes),
+        Change::Put(item) => put_flagged(out, 1, item.flags(), item.bytes()),
         Change::Drop => put_code(out, 2),
         Change::Clear => put_code(out, 3),
     }

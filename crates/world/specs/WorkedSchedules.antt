@@ -1,6 +1,6 @@
 -- Worked schedules: their events, what they show, and wrong orders of their calls.
 use Rattle.std.specs.Prelude.{ℕ, false, true, List, [], ◌∷◌, ◌++◌, map, Some, None, codes}
-use Rattle.table.specs.declared.items.Item.{Item}
+use Rattle.table.specs.Items.{Item}
 use Rattle.table.specs.declared.operations.Call.{Call}
 use Rattle.table.specs.declared.operations.Op.TheVariants.{Read, Set, Incr}
 use Rattle.table.specs.declared.operations.Reply.{Reply}

@@ -124,14 +124,14 @@ fn is_dirty(node: &Node, a: &Key) -> bool {
 }
 
 fn has_unique(node: &Node, a: &Key, unique: u64) -> bool {
-    matches!(node.peek(a), Look::Clean(Some(item)) if item.unique == unique)
+    matches!(node.peek(a), Look::Clean(Some(item)) if item.unique() == unique)
 }
 
 fn all_show_item(nodes: &[Node], a: &Key) -> bool {
     for node in nodes {
         let shown = matches!(
             node.peek(a),
-            Look::Clean(Some(item)) if item.bytes.as_slice() == b"p".as_slice()
+            Look::Clean(Some(item)) if item.bytes().as_slice() == b"p".as_slice()
         );
         if !shown || !node.is_idle() {
             return false;

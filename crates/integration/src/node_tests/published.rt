@@ -2,11 +2,11 @@
 
 use super::inputs::{Ask, Given, Said, input_of};
 use crate::making::{Fault, all_hold, key};
-use node::{FaceChange, FaceStep, Input, Look, Node, Version};
+use node::{FaceChange, FaceStep, Input, Look, Node};
 use std::alloc::Global;
 use std::collections::BTreeMap;
 use std::test::Fail;
-use table::{Item, Key};
+use table::{Item, Key, Version};
 
 // What readers beside a node see: each key's newest version, the last clear, and the acknowledged number.
 #[derive(Drop)]
@@ -35,16 +35,25 @@ fn replay(face: &mut Published, change: FaceChange) -> Result<(), Fault> {
     for step in steps {
         take(face, step)?;
     }
-    face.versions.retain(|_, version| version.item.is_some() || version.number > acked);
+    face.versions.retain(|_, version| version.has_item() || version.number() > acked);
     face.acked = acked;
     Ok(())
 }
 
-fn look<'a>(face: &'a Published, key: &Key) -> Look<&'a Item> {
+fn look(face: &Published, key: &Key) -> Result<Look<Item>, Fault> {
     match face.versions.get(key) {
-        Some(version) if version.number <= face.acked => Look::Clean(version.item.as_ref()),
-        None if face.cleared <= face.acked => Look::Clean(None),
-        _ => Look::Dirty,
+        Some(version) if version.number() <= face.acked => Ok(Look::Clean(version.item()?)),
+        None if face.cleared <= face.acked => Ok(Look::Clean(None)),
+        _ => Ok(Look::Dirty),
+    }
+}
+
+// Whether two looks show the same.
+fn are_same(shown: &Look<Item>, other: &Look<&Item>) -> bool {
+    match (shown, other) {
+        (Look::Clean(Some(item)), Look::Clean(Some(other))) => item == *other,
+        (Look::Clean(None), Look::Clean(None)) | (Look::Dirty, Look::Dirty) => true,
+        _ => false,
     }
 }
 
@@ -57,14 +66,16 @@ enum Shown {
 }
 
 // Whether readers beside a node see of a key what the node shows, and that is this.
-fn is_shown(node: &Node, face: &Published, key: &Key, wanted: Shown) -> bool {
-    let shown = look(face, key);
+fn is_shown(node: &Node, face: &Published, key: &Key, wanted: Shown) -> Result<bool, Fault> {
+    let shown = look(face, key)?;
     let right = match wanted {
         Shown::Item => matches!(&shown, Look::Clean(Some(_))),
         Shown::Nothing => matches!(&shown, Look::Clean(None)),
         Shown::Dirty => matches!(&shown, Look::Dirty),
     };
-    right && shown == node.peek(key)
+    let same = are_same(&shown, &node.peek(key));
+    drop(shown);
+    Ok(right && same)
 }
 
 // What a node takes, and what is shown of the keys `a` and `b` then.
@@ -94,7 +105,7 @@ fn goes(
     let change = changed(node, input)?;
     replay(face, change)?;
     match keys {
-        [first, second] => Ok(is_shown(node, face, first, a) && is_shown(node, face, second, b)),
+        [first, second] => Ok(is_shown(node, face, first, a)? && is_shown(node, face, second, b)?),
         _ => Err(Fault::Refused),
     }
 }

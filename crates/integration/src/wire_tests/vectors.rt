@@ -130,11 +130,7 @@ fn clear(alloc: Global) -> Result<Entry, Fault> {
 fn three_bytes_put(alloc: Global) -> Result<Entry, Fault> {
     let bytes = SharedBytes::copy_from_slice(alloc, b"xyz")?;
     let target = Target::One(key(alloc, b"a")?);
-    let item = Item {
-        flags: 5,
-        bytes,
-        unique: 1,
-    };
+    let item = Item::new(alloc, 5, bytes, 1)?;
     Ok(Entry::new(alloc, 1, 0, 1, target, Reply::Stored, Change::Put(item))?)
 }
 
@@ -200,7 +196,7 @@ fn is_three_bytes_put(entry: &Entry) -> bool {
 }
 
 fn is_xyz(item: &Item) -> bool {
-    item.flags == 5 && item.unique == 1 && item.bytes.as_slice() == b"xyz".as_slice()
+    item.flags() == 5 && item.unique() == 1 && item.bytes().as_slice() == b"xyz".as_slice()
 }
 
 fn is_clear(entry: &Entry) -> bool {

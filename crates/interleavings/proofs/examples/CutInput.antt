@@ -5,7 +5,7 @@ use Rattle.std.proofs.lemmas.Fmt.{decimal_digit}
 use Rattle.std.specs.Cmp.Lexicographic.{nat_list_cmp_total}
 use Rattle.std.specs.FinMap.{empty, insert, get-insert}
 use Rattle.table.specs.Plain.{item_at}
-use Rattle.table.specs.declared.items.Item.{Item}
+use Rattle.table.specs.Items.{Item}
 use Rattle.table.specs.declared.operations.Reply.TheVariants.{Stored, Value}
 use Rattle.node.specs.Numbering.{left_open, replies, risen, appended, passed_on, take_update, entered}
 use Rattle.node.specs.Reading.{answered as answered_there}

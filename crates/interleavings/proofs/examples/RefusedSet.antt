@@ -4,7 +4,7 @@ use Rattle.std.specs.Prelude.{codes}
 use Rattle.std.specs.FinMap.{empty, get-empty}
 use Rattle.table.specs.Keys.{key_cmp}
 use Rattle.table.specs.Plain.{item_at}
-use Rattle.table.specs.declared.items.Item.{Item}
+use Rattle.table.specs.Items.{Item}
 use Rattle.table.specs.declared.operations.Reply.TheVariants.{Value}
 use Rattle.node.specs.Numbering.{left_open, replies, risen, appended, passed_on, take_update, entered}
 use Rattle.node.specs.Reading.{answered as answered_there}

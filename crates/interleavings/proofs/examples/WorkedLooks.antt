@@ -3,7 +3,7 @@ use Rattle.std.proofs.Common.{◌≡◌, ℕ, ◌<◌, ◌≤◌, false, cond, [
 use Rattle.std.specs.Prelude.{not}
 use Rattle.std.specs.FinMap.{get-empty}
 use Rattle.table.specs.Keys.{key_cmp}
-use Rattle.table.specs.declared.items.Item.{Item}
+use Rattle.table.specs.Items.{Item}
 use Rattle.table.specs.declared.operations.Reply.TheVariants.{Value}
 use Rattle.node.specs.Faces.{face_of, look_at}
 use Rattle.node.specs.Servers.{ServerState, opening}

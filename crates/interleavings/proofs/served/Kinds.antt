@@ -10,7 +10,7 @@ use Rattle.table.specs.Histories.{IsLegalFrom}
 use Rattle.table.specs.Operations.{Fits, is_update, is_value}
 use Rattle.table.specs.Plain.{PlainTable, apply, item_of}
 use Rattle.table.specs.Plain as plain
-use Rattle.table.specs.declared.items.Item.{Item}
+use Rattle.table.specs.Items.{Item}
 use Rattle.table.specs.declared.operations.Call.{Call}
 use Rattle.table.specs.declared.operations.Op.{Op}
 use Rattle.table.specs.declared.operations.Op.TheVariants.{Read, Set, Add, Replace, Append, Prepend, Cas, Incr, Decr}

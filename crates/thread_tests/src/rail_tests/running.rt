@@ -267,7 +267,7 @@ pub(crate) fn submits<R: Wait>(
 fn is_v(look: &Look<Item>) -> bool {
     match look {
         Look::Clean(Some(item)) => {
-            item.flags == 0 && item.bytes.as_slice() == b"v".as_slice() && item.unique == 1
+            item.flags() == 0 && item.bytes().as_slice() == b"v".as_slice() && item.unique() == 1
         }
         Look::Clean(None) | Look::Dirty => false,
     }

@@ -6,7 +6,7 @@ use Rattle.std.specs.FinMap.{empty, get-insert}
 use Rattle.std.specs.Cmp.Lexicographic.{nat_list_cmp_total}
 use Rattle.std.proofs.lemmas.Option.{same_Some}
 use Rattle.table.specs.Histories.{IsLegal}
-use Rattle.table.specs.declared.items.Item.{Item}
+use Rattle.table.specs.Items.{Item}
 use Rattle.table.specs.declared.operations.Call.{Call}
 use Rattle.table.specs.declared.operations.Reply.{Reply}
 use Rattle.table.specs.declared.operations.Reply.TheVariants.{Value}

@@ -4,7 +4,7 @@ use Rattle.std.specs.Prelude.{codes}
 use Rattle.std.specs.FinMap.{empty, get-empty}
 use Rattle.table.specs.Keys.{key_cmp}
 use Rattle.table.specs.Plain.{item_at}
-use Rattle.table.specs.declared.items.Item.{Item}
+use Rattle.table.specs.Items.{Item}
 use Rattle.table.specs.declared.operations.Call.{Call}
 use Rattle.table.specs.declared.operations.Reply.TheVariants.{Value}
 use Rattle.table.specs.declared.operations.Op.TheVariants.{Read, Set}

@@ -7,7 +7,7 @@ use Rattle.std.specs.FinMap.{empty, insert, get-insert}
 use Rattle.std.specs.Cmp.Lexicographic.{nat_list_cmp_total}
 use Rattle.table.specs.Plain.{Items, item_at}
 use Rattle.table.specs.Decisions.{decision}
-use Rattle.table.specs.declared.items.Item.{Item}
+use Rattle.table.specs.Items.{Item}
 use Rattle.table.specs.declared.operations.Call.{Call}
 use Rattle.table.specs.declared.operations.Reply.TheVariants.{Stored, Number, Value}
 use Rattle.table.specs.declared.operations.Op.TheVariants.{Read, Set, Incr}

@@ -7,7 +7,7 @@ use Rattle.std.proofs.lemmas.Option.{same_Some}
 use Rattle.table.specs.Plain.{item_at, changed}
 use Rattle.table.specs.Decisions.{decision}
 use Rattle.table.specs.Histories.{IsLegal, IsLegalFrom}
-use Rattle.table.specs.declared.items.Item.{Item}
+use Rattle.table.specs.Items.{Item}
 use Rattle.table.specs.declared.operations.Call.{Call}
 use Rattle.table.specs.declared.operations.Op.TheVariants.{Read, Set, Incr}
 use Rattle.table.specs.declared.operations.Reply.TheVariants.{Number, Value}

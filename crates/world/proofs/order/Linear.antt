@@ -7,7 +7,7 @@ use Rattle.std.proofs.lemmas.Option.{same_Some}
 use Rattle.table.specs.Operations.{is_update}
 use Rattle.table.specs.Decisions.{decision}
 use Rattle.table.specs.Plain.{Items, PlainTable, apply, changed, item_at, item_of, opening as opening_table}
-use Rattle.table.specs.declared.items.Item.{Item}
+use Rattle.table.specs.Items.{Item}
 use Rattle.table.specs.declared.operations.Call.{Call}
 use Rattle.table.specs.declared.operations.Op.{Op}
 use Rattle.table.specs.declared.operations.Op.TheVariants.{Read as ReadOp, Set, Add, Replace, Append, Prepend, Cas}

@@ -2,7 +2,7 @@
 -- reads that were answered.
 use Rattle.std.proofs.Common.{ℕ, List, [], ◌∷◌, ◌++◌, length, replicate, Option, Some, None}
 use Rattle.std.specs.Prelude.{slice_get, slice_index_or, slice_set}
-use Rattle.table.specs.declared.items.Item.{Item}
+use Rattle.table.specs.Items.{Item}
 use Rattle.versions.specs.Entries.{LogEntry}
 use Rattle.versions.specs.Stores.{last_number, value_at}
 use Rattle.node.specs.declared.messages.Peer.{Peer}

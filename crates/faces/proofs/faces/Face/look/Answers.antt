@@ -3,9 +3,8 @@ use Rattle.std.proofs.Common.{Option, Some, None, IsSome, refl, ap, sym, subst, 
 use Rattle.std.proofs.lemmas.Bool.{le-leb, lt-leb}
 use Rattle.std.proofs.lemmas.Result.{MatchResult-from_err}
 use Rattle.std.specs.FinMap as maps
-use Rattle.table.specs.declared.items.Item.{Item}
+use Rattle.table.specs.Items.{Item, Version}
 use Rattle.node.specs.Faces.{FaceState, look_at_version}
-use Rattle.node.specs.declared.faces.Version.{Version}
 use Rattle.node.specs.declared.looks.Look.TheVariants.{Clean, Dirty}
 use Rattle.faces.specs.Readers.{ShowsItem}
 use Rattle.faces.proofs.faces.Face.look.Goals as goal

@@ -19,13 +19,13 @@ invariant_of-self-2 c =
           w.less-self-inside.ensures)
       | in-None w ↦ rw w.self-is (less_none k o _ c.in-Some.bytes w.in-None.is refl)
     ] in
-    count_set c.self.inside.tree.entries c.insert.new.self.entries c.in_ok-to_tree_key.field-0 k c.in_ok-again.field-0
+    count_set c.self.inside.tree.entries c.insert.new.self.entries c.in_ok-to_tree_key.field-0 k c.in_ok-clone.field-0
     c.args.version.now o c.self.inside.bytes c.in-Some.bytes c.match-before.self c.in_ok-to_tree_key.ensures
-    c.in_ok-again.ensures c.in_ok-before.ensures.updates.0 c.in_ok-before.ensures.old c.self.invariant
+    c.in_ok-clone.ensures.cases c.in_ok-before.ensures.updates.0 c.in_ok-before.ensures.old c.self.invariant
     c.in-Some.ensures less
 
 pub returns-clause-ok : goal.returns-clause-ok
 returns-clause-ok c = rw (← c.self.view_is)
     (map_set c.self.inside.tree.entries c.insert.new.self.entries c.in_ok-to_tree_key.field-0 c.args.key.now
-    c.in_ok-again.field-0 c.args.version.now c.in_ok-to_tree_key.ensures c.in_ok-again.ensures
+    c.in_ok-clone.field-0 c.args.version.now c.in_ok-to_tree_key.ensures c.in_ok-clone.ensures.cases
     c.in_ok-before.ensures.updates.0)

@@ -30,7 +30,7 @@ returns c =
     let above : c.self.inside.floor ≤ c.args.n = rw (← c.self.view_is) at c.requires.above in
     let known : c.args.n ≤ c.self.inside.floor + length c.self.inside.entries.items =
     rw (← c.self.view_is) at c.requires.known in
-    rw (c.item_from.ensures, c.as_ref.ensures.value, c.last_up_to-set.ensures, c.last_up_to.ensures, ← c.self.view_is)
+    rw (c.item_from.ensures, c.item.ensures, c.last_up_to-set.ensures, c.last_up_to.ensures, ← c.self.view_is)
     (at-held _ _ _ _ _ _ _ c.self.invariant above known c.args.key.now c.in_ok-record.record.now
     c.in_ok-record.ensures.value)
 

@@ -52,5 +52,5 @@ returns-clause-clean c =
 -- the item that the last numbers give is the key's newest
 pub returns-clause-newest : goal.returns-clause-newest
 returns-clause-newest c =
-    rw (c.item_from.ensures, c.as_ref.ensures.value, c.last-newest.ensures, c.last-cleared.ensures, ← c.self.view_is)
+    rw (c.item_from.ensures, c.item.ensures, c.last-newest.ensures, c.last-cleared.ensures, ← c.self.view_is)
     (newest-held _ _ _ _ _ _ c.self.invariant c.args.key.now c.in-Some.record.now c.in-Some.ensures.value)

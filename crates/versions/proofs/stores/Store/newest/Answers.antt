@@ -11,7 +11,7 @@ item_from-requires c =
 
 -- the item that the last numbers give is the key's newest
 pub returns : goal.returns
-returns c = rw (c.item_from.ensures, c.as_ref.ensures.value, c.last-set.ensures, c.last.ensures, ← c.self.view_is)
+returns c = rw (c.item_from.ensures, c.item.ensures, c.last-set.ensures, c.last.ensures, ← c.self.view_is)
     (newest-held _ _ _ _ _ _ c.self.invariant c.args.key.now c.in_ok-record.record.now c.in_ok-record.ensures.value)
 
 -- a key without record has no item
