@@ -1,5 +1,5 @@
 -- What a response tells of a server, and of who speaks.
-use Rattle.std.proofs.Common.{◌≡◌, ap, refl, subst, Result, Ok, Err, OnOk}
+use Rattle.std.proofs.Common.{◌≡◌, ap, subst, Result, Ok, Err, OnOk}
 use Rattle.leases.specs.declared.orders.Order.{Order}
 use Rattle.leases.specs.declared.orders.Report.{Report}
 use Rattle.leases.specs.declared.orders.Answer.{Answer}

@@ -1,6 +1,5 @@
 -- What contracts see of one who speaks at a server's peer port.
 use Rattle.std.specs.Prelude.{ℕ, List}
-use Rattle.node.specs.Views.{union}
 use Rattle.wire.specs.declared.frames.Frame.{Frame}
 use Rattle.wire.specs.declared.frames.Frame.TheVariants.{Hello, Peer, Gone, Introduction, Accepted, Refused, Noted}
 use Rattle.wire.specs.declared.frames.Frame.TheVariants.{Reign, Beat, Alive, Silent}

@@ -8,3 +8,4 @@ mod leased_links;
 mod processes;
 mod running;
 mod visits;
+mod waiting_frames;

@@ -41,4 +41,4 @@ pub use schedulers::Scheduler;
 pub use server_parts::{Opened, ServerParts, all_links, all_parts, all_servers};
 pub use servers::{server, warn_of};
 pub use steering::cluster;
-pub use working::{Rest, Surroundings, work};
+pub use working::{Rest, Surroundings, WritesOut, work};

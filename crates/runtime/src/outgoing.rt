@@ -52,7 +52,7 @@ impl<
                 )?;
                 (Some(told(rt, shared_port, j, sink)?), Some(start))
             };
-            links.push(PeerLink::new(sink))?;
+            links.push(PeerLink::new(alloc, sink))?;
             starts.push(start)?;
         }
         Ok(Outgoing { links, starts })

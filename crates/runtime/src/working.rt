@@ -1,8 +1,10 @@
 //! The thread of a worker that nobody helps.
 
+use ends::Sink;
 use io_threads::LoopHandles;
+use links::PeerLinks;
 use rail::{Links, RailFault, Turn, Worker};
-use seats::{Gauge, Mark};
+use seats::{Gauge, InProcessLinks, Mark};
 use std::alloc::Global;
 use std::sync::{Arc, Wait};
 
@@ -32,9 +34,30 @@ pub enum Rest {
     Ended,
 }
 
-/// Takes the worker's turns until it rests, and answers why. After each turn the gauge is told what the server holds,
-/// and the threads are woken whose clients have replies. At the end the server answers no more calls.
-pub fn work<R: Wait + Drop, L: Links>(
+/// How many turns a worker takes at most before those who have replies are woken, and what was put is written.
+const STREAK: u32 = 32;
+
+/// Links that may keep what was put until it is written.
+pub trait WritesOut {
+    /// Writes what was put and isn't written yet. It may wait.
+    fn write_out(&mut self);
+}
+
+impl<W: Sink + Drop> WritesOut for PeerLinks<W> {
+    fn write_out(&mut self) {
+        self.flush();
+    }
+}
+
+impl<R: Wait + Drop> WritesOut for InProcessLinks<R> {
+    // What was put is with its receiver.
+    fn write_out(&mut self) {}
+}
+
+/// Takes the worker's turns until it rests, and answers why. After each turn the gauge is told what the server holds.
+/// The threads are woken whose clients have replies, and what was put is written, before the worker waits for a
+/// message, and else after 32 turns. At the end the server answers no more calls.
+pub fn work<R: Wait + Drop, L: Links + WritesOut>(
     rt: &R,
     worker: Worker<R>,
     links: &mut L,
@@ -48,24 +71,55 @@ pub fn work<R: Wait + Drop, L: Links>(
     rest
 }
 
-fn take_turns<R: Wait + Drop, L: Links>(
+fn take_turns<R: Wait + Drop, L: Links + WritesOut>(
     rt: &R,
     worker: &mut Worker<R>,
     links: &mut L,
     around: &Surroundings,
 ) -> Rest {
+    let mut streak = 0u32;
     for _ in rt.forever() {
-        let turn = worker.turn(links);
+        let turn = next_turn(worker, links, around, &mut streak);
         around.gauge.note(worker.weight());
-        around.loop_handles.wake(around.id, worker.take_replied());
         if around.ended.is_set() {
             return Rest::Ended;
         }
         match turn {
             Ok(Turn::Went) => {}
-            Ok(Turn::Stopped) | Err(RailFault::Memory) => return Rest::Stopped,
+            Ok(Turn::Stopped) | Err(RailFault::Memory) => {
+                links.write_out();
+                return Rest::Stopped;
+            }
             Ok(Turn::End) | Err(_) => return Rest::Told,
         }
     }
     unreachable!()
+}
+
+// The next turn. It waits if no message stands there, but not before all that came of the last turns was handed out.
+fn next_turn<R: Wait + Drop, L: Links + WritesOut>(
+    worker: &mut Worker<R>,
+    links: &mut L,
+    around: &Surroundings,
+    streak: &mut u32,
+) -> Result<Turn, RailFault> {
+    if *streak < STREAK {
+        if let Some(turn) = worker.turn_if_any(links)? {
+            *streak += 1;
+            return Ok(turn);
+        }
+    }
+    *streak = 0;
+    hand_out(worker, links, around);
+    worker.turn(links)
+}
+
+// Wakes those who have replies, and writes what was put: in this order, as a write may wait for another server.
+fn hand_out<R: Wait + Drop, L: WritesOut>(
+    worker: &mut Worker<R>,
+    links: &mut L,
+    around: &Surroundings,
+) {
+    around.loop_handles.wake(around.id, worker.take_replied());
+    links.write_out();
 }

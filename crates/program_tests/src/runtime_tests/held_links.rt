@@ -10,7 +10,7 @@ use io_threads::{
 use mio::Poll;
 use node::Peer;
 use rail::{Inlet, Links, Published, RailFault, Worker};
-use runtime::{Concurrency, Opened, Rest, Surroundings, all_links, all_servers, work};
+use runtime::{Concurrency, Opened, Rest, Surroundings, WritesOut, all_links, all_servers, work};
 use seats::{Allowance, Gauge, InProcessLinks, Mark, OutputPermit, SeatPool};
 use std::alloc::{AllocError, Global};
 use std::io::Write;
@@ -89,6 +89,10 @@ impl<R: Wait + Drop> Links for Barrier<R> {
             }
         }
     }
+}
+
+impl<R: Wait + Drop> WritesOut for Barrier<R> {
+    fn write_out(&mut self) {}
 }
 
 // Notes what was put.
@@ -259,7 +263,10 @@ fn start_head<R: Wait + Threads + Copy + Drop + Send + 'static>(
 }
 
 // Starts the last of these servers, whose id this is. With it come its seats, and the mark that its clients look at.
-fn start_last<R: Wait + Threads + Copy + Drop + Send + 'static, L: Links + Drop + Send + 'static>(
+fn start_last<
+    R: Wait + Threads + Copy + Drop + Send + 'static,
+    L: Links + WritesOut + Drop + Send + 'static,
+>(
     rt: R,
     alloc: Global,
     id: u8,
@@ -304,12 +311,10 @@ fn surroundings(
 }
 
 // Starts the thread of a worker, unless there was no memory for what it shares.
-fn start_worker<R: Wait + Threads + Copy + Drop + Send + 'static, L: Links + Drop + Send + 'static>(
-    rt: R,
-    worker: Worker<R>,
-    links: L,
-    around: Option<Surroundings>,
-) -> Option<JoinHandle<Rest>> {
+fn start_worker<
+    R: Wait + Threads + Copy + Drop + Send + 'static,
+    L: Links + WritesOut + Drop + Send + 'static,
+>(rt: R, worker: Worker<R>, links: L, around: Option<Surroundings>) -> Option<JoinHandle<Rest>> {
     let Some(around) = around else {
         drop(worker);
         drop(links);
