@@ -86,10 +86,7 @@ fn take_turns<R: Wait + Drop, L: Links + WritesOut>(
         }
         match turn {
             Ok(Turn::Went) => {}
-            Ok(Turn::Stopped) | Err(RailFault::Memory) => {
-                links.write_out();
-                return Rest::Stopped;
-            }
+            Ok(Turn::Stopped) | Err(RailFault::Memory) => return Rest::Stopped,
             Ok(Turn::End) | Err(_) => return Rest::Told,
         }
     }
