@@ -7,7 +7,8 @@ from functools import partial
 
 from live_parts.peers import Peer, free_ports
 
-CLIENTS = ["--seats", 16, "--connections", 2048]
+# With 64 seats each of four threads has 16: as many as a connection may have updates in flight.
+CLIENTS = ["--seats", 64, "--connections", 2048]
 # What the launcher sets: a program that is named without it is measured as it is used.
 SETTINGS = {"MALLOC_ARENA_MAX": "1", "GLIBC_TUNABLES": "glibc.malloc.hugetlb=1"}
 

@@ -16,7 +16,7 @@ abbrev pub port_rule : Rule
 port_rule = required_rule (codes "port") (Signed (pos 1) (pos 65520))
 
 abbrev pub seats_rule : Rule
-seats_rule = number_or_rule (codes "seats") (Signed (pos 1) (pos 16)) (codes "16")
+seats_rule = number_or_rule (codes "seats") (Signed (pos 1) (pos 64)) (codes "64")
 
 abbrev pub threads_rule : Rule
 threads_rule = number_rule (codes "threads") (Signed (pos 1) (pos 16))
@@ -55,7 +55,7 @@ pub record NamesNumbers (found : Option (Text × List Row)) (numbers : ClusterNu
   pub named : found ≡ Some (codes "cluster", rows)
   pub servers : GivesNumber 1 16 (codes "servers") rows numbers.servers
   pub port : GivesNumber 1 65520 (codes "port") rows numbers.port
-  pub seats : GivesNumber 1 16 (codes "seats") rows numbers.seats
+  pub seats : GivesNumber 1 64 (codes "seats") rows numbers.seats
   pub threads : GivesNumberIfAny 1 16 (codes "threads") rows numbers.threads
   pub connections : GivesNumber 1 65536 (codes "connections") rows numbers.connections
   pub serves : GivesNumber 0 1000000 (codes "serves") rows numbers.serves

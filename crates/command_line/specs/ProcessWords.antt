@@ -70,7 +70,7 @@ pub record NamesServer (found : Option (Text × List Row)) (numbers : ServerNumb
   pub servers : GivesNumber 1 16 (codes "servers") rows numbers.servers
   pub port : GivesNumber 1 65520 (codes "port") rows numbers.port
   pub peer_port : GivesNumber 1 65520 (codes "peer-port") rows numbers.peer_port
-  pub seats : GivesNumber 1 16 (codes "seats") rows numbers.seats
+  pub seats : GivesNumber 1 64 (codes "seats") rows numbers.seats
   pub threads : GivesNumberIfAny 1 16 (codes "threads") rows numbers.threads
   pub connections : GivesNumber 1 65536 (codes "connections") rows numbers.connections
   pub memory : GivesNumberIfAny 1 1048576 (codes "memory") rows numbers.memory

@@ -7,7 +7,7 @@ pub struct ClusterNumbers {
     pub servers: u8,
     /// The port of server 0; server i listens on the i-th after it.
     pub port: u16,
-    /// How many calls each server works on at a time: 1 to 16.
+    /// How many calls each server works on at a time: 1 to 64.
     pub seats: u8,
     /// How many threads serve the connections of all servers: 1 to 16; None: as many as processors, at most 4.
     pub threads: Option<u32>,

@@ -24,7 +24,7 @@ pub fn numbers_given<'a>(matches: &ArgMatches<'a>) -> Option<ClusterNumbers>
     let given = given_to(matches, "cluster")?;
     let servers = small_number(given, "servers", 1, 16)?;
     let port = port_number(given, "port", 65520)?;
-    let seats = small_number(given, "seats", 1, 16)?;
+    let seats = small_number(given, "seats", 1, 64)?;
     let threads = number_if_any(given, "threads", 1, 16)?;
     let connections = middle_number(given, "connections", 1, 65_536)?;
     let serves = large_number(given, "serves", 1_000_000)?;
@@ -87,8 +87,8 @@ fn seats_option<'a>(alloc: Global) -> Arg<'a>
     ensures { HasRule seats_rule result }
 {
     let help = "How many calls each server works on at a time";
-    let numbers = value_parser!(u8).range(1..=16);
-    number_option(alloc, "seats", "S", help, numbers).default_value("16")
+    let numbers = value_parser!(u8).range(1..=64);
+    number_option(alloc, "seats", "S", help, numbers).default_value("64")
 }
 
 fn threads_option<'a>(alloc: Global) -> Arg<'a>

@@ -30,7 +30,7 @@ pub fn server_numbers<'a>(matches: &ArgMatches<'a>) -> Option<ServerNumbers>
     let servers = small_number(given, "servers", 1, 16)?;
     let port = port_number(given, "port", 65520)?;
     let peer_port = port_number(given, "peer-port", 65520)?;
-    let seats = small_number(given, "seats", 1, 16)?;
+    let seats = small_number(given, "seats", 1, 64)?;
     let threads = number_if_any(given, "threads", 1, 16)?;
     let connections = middle_number(given, "connections", 1, 65_536)?;
     let memory = number_if_any(given, "memory", 1, 1_048_576)?;

@@ -11,7 +11,7 @@ pub struct ServerNumbers {
     pub port: u16,
     /// The port of server 0 for other servers and the master, likewise.
     pub peer_port: u16,
-    /// How many calls it works on at a time: 1 to 16.
+    /// How many calls it works on at a time: 1 to 64.
     pub seats: u8,
     /// How many threads serve its connections: 1 to 16; None: as many as processors, at most 4.
     pub threads: Option<u32>,

@@ -163,7 +163,7 @@ fn words_give_the_numbers_of_a_chain(rt: HostRuntime) -> Result<(), Fail> {
     let numbers = ClusterNumbers {
         servers: 3,
         port: 4000,
-        seats: 16,
+        seats: 64,
         threads: Some(2),
         connections: 1024,
         serves: 9,
@@ -209,7 +209,7 @@ fn words_tell_a_server(rt: HostRuntime) -> Result<(), Fail> {
         servers: 3,
         port: 4000,
         peer_port: 5000,
-        seats: 16,
+        seats: 64,
         threads: None,
         connections: 9,
         memory: None,

@@ -16,13 +16,26 @@ pub fn pooled<R: Wait + Drop>(
     memory: Option<u32>,
     mark: &Mark,
 ) -> Option<Pooled<R>> {
+    pooled_with(rt, alloc, servers, threads, threads, memory, mark)
+}
+
+/// The same, with as many seats as this.
+pub fn pooled_with<R: Wait + Drop>(
+    rt: R,
+    alloc: Global,
+    servers: u8,
+    seats: usize,
+    threads: usize,
+    memory: Option<u32>,
+    mark: &Mark,
+) -> Option<Pooled<R>> {
     let gauge = Gauge::new(alloc, Allowance::new(memory, 1)).ok()?;
     let node = Node::new(alloc, 0, servers).ok()?;
-    if threads == 0 || threads > 16 || !node.is_idle() {
+    if threads == 0 || threads > seats || seats > 16 || !node.is_idle() {
         drop(node);
         return None;
     }
-    let pooled = open_pools(rt, alloc, node, threads, threads, 1, mark, &gauge).ok()?;
+    let pooled = open_pools(rt, alloc, node, seats, threads, 1, 0, mark, &gauge).ok()?;
     gauge.note(pooled.worker.weight());
     Some(pooled)
 }

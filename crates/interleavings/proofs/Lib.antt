@@ -9,3 +9,4 @@ pub mod quiet
 pub mod examples
 pub mod ports
 pub mod served
+pub mod rows

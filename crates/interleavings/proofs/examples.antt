@@ -14,3 +14,6 @@ pub mod CutInput
 pub mod OldReplies
 pub mod RefusedSet
 pub mod SetsInTurn
+pub mod SetsOfOneClient
+pub mod PipelinedSets
+pub mod OvertakenSet

@@ -5,3 +5,4 @@ pub mod Published
 pub mod Given
 pub mod Transfer
 pub mod Following
+pub mod Replied

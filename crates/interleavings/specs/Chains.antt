@@ -26,7 +26,7 @@ pub record Seat : Type 0 where
   pub home : ℕ
   pub calls : List Call
   pub got : List Reply
-  pub mail : List Reply
+  pub queued : List Reply
 
 -- A running chain: how many servers it has; the servers, by their numbers; the channel from each to each with its
 -- messages, the oldest first; and the seats, which are numbered over the whole chain.
@@ -63,7 +63,7 @@ opening_running count i =
 
 -- a seat that has begun nothing
 abbrev pub opening_seat : ℕ → Seat
-opening_seat home = record { home = home; calls = []; got = []; mail = [] }
+opening_seat home = record { home = home; calls = []; got = []; queued = [] }
 
 -- a chain of `count` servers, with a seat at each of these homes; any other seat is at no server of it
 abbrev pub opening_chain : ℕ → List ℕ → Chain

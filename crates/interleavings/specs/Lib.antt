@@ -11,4 +11,6 @@ pub mod OwnPorts
 pub mod Connections
 pub mod ServingMoves
 pub mod Served
+pub mod Rows
 pub mod WorkedServing
+pub mod WorkedRows

@@ -59,7 +59,7 @@ sent l c call s =
 -- a seat takes the first of these replies, which stand in its queue
 abbrev pub received : Chain → ℕ → Seat → List Reply → Chain
 received l c s [] = l
-received l c s (reply ∷ more) = with_seat l c (record s { got = s.got ++ reply ∷ []; mail = more })
+received l c s (reply ∷ more) = with_seat l c (record s { got = s.got ++ reply ∷ []; queued = more })
 
 -- a read of a key
 abbrev pub read_of : List ℕ → Call
@@ -117,7 +117,7 @@ abbrev pub reply_put : Chain → ℕ → ℕ → Seat → List Reply → Chain
 reply_put l i c s [] = l
 reply_put l i c s (reply ∷ more) =
     with_seat (with_running l i (record (l.servers i) { outbox = without_reply c (l.servers i).outbox })) c
-    (record s { mail = s.mail ++ reply ∷ [] })
+    (record s { queued = s.queued ++ reply ∷ [] })
 
 -- server j is of the chain, and has stopped
 abbrev pub has_stopped : Chain → ℕ → Bool
@@ -134,7 +134,7 @@ done l (Puts i j) = if (l.servers i).stopped then l else put l i j (messages_to 
 done l (Arrives i j) = arrived l i j (l.channels i j)
 done l (Replies i c) =
     if (l.servers i).stopped then l else reply_put l i c (l.seats c) (replies_to c (l.servers i).outbox)
-done l (Receives c) = received l c (l.seats c) (l.seats c).mail
+done l (Receives c) = received l c (l.seats c) (l.seats c).queued
 done l (Looks c key) = looking l c key (l.seats c)
 done l (Stops i) = with_running l i (record (l.servers i) { stopped = true })
 done l (Notices i j) = if has_stopped l j then brought l i (Gone j) else l

@@ -32,7 +32,7 @@ abbrev pub reply_put_from : ℕ → Chain → ℕ → ℕ → Seat → List Repl
 reply_put_from port l i c s [] = l
 reply_put_from port l i c s (reply ∷ more) =
     with_seat (with_running l i (record (l.servers i) { outbox = without_reply port (l.servers i).outbox })) c
-    (record s { mail = s.mail ++ reply ∷ [] })
+    (record s { queued = s.queued ++ reply ∷ [] })
 
 -- server i puts the first reply that it has left for this port, which is that of seat c, if c is one of its seats
 abbrev pub replying_from : ℕ → Chain → ℕ → ℕ → Seat → Chain

@@ -16,7 +16,7 @@ pub record IsQuiet (l : Chain) : Type 0 where
   -- Each server that goes on has taken all that its inbox held,
   pub inboxes : (i : ℕ) → goes_on l i ≡ true → (l.servers i).inbox ≡ []
   -- has published the step of each input that it took,
-  pub none_unpublished : (i : ℕ) → goes_on l i ≡ true → (l.servers i).unpublished ≡ None
+  pub all_published : (i : ℕ) → goes_on l i ≡ true → (l.servers i).unpublished ≡ None
   -- has put each message for a server that goes on,
   pub messages : (i j : ℕ) → goes_on l i ≡ true → goes_on l j ≡ true → messages_to j (l.servers i).outbox ≡ []
   -- and each reply,
@@ -26,7 +26,7 @@ pub record IsQuiet (l : Chain) : Type 0 where
   -- Nothing is on a channel between two of them.
   pub channels : (i j : ℕ) → goes_on l i ≡ true → goes_on l j ≡ true → l.channels i j ≡ []
   -- Each seat at one of them has taken all replies of its queue.
-  pub queues : (c : ℕ) → goes_on l (l.seats c).home ≡ true → (l.seats c).mail ≡ []
+  pub queues : (c : ℕ) → goes_on l (l.seats c).home ≡ true → (l.seats c).queued ≡ []
 
 -- each call of a seat whose server goes on has its reply
 abbrev pub NoneForgotten : Chain → Type 0

@@ -160,7 +160,7 @@ module _ (does : Doing) where
   served_by s (Asks c) = asking s c (served_at s c).due
   served_by s (Peeks c) = peeking s c (key_due (served_at s c).due)
   served_by s (Refuses c) = refusing s c (served_at s c).due
-  served_by s (Answers c) = answering s c (s.chain.seats c).mail
+  served_by s (Answers c) = answering s c (s.chain.seats c).queued
   served_by s (Writes c n) = with_served s c (wrote n (served_at s c))
   served_by s (Ends c) = record s { ended = with_at s.ended c (suc (s.ended c)) }
   served_by s (Runs m) = if is_of_seat m then s else record s { chain = does s.chain m }

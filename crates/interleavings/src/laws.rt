@@ -1,13 +1,13 @@
 //! Laws: whatever order the threads' moves come in, there is one order of calls, no call is forgotten, and clients are
 //! written what their bytes ask for; and ports are names.
-ghost use Rattle.std.specs.Prelude.{◌≡◌, ℕ, ◌^◌, ◌≤◌, ◌<◌, List, ◌∷◌, length, map, Some, slice_get, true};
+ghost use Rattle.std.specs.Prelude.{◌≡◌, ℕ, ◌^◌, ◌≤◌, ◌<◌, List, ◌∷◌, ◌++◌, length, map, Some, slice_get, true, IsSome};
 ghost use Rattle.table.specs.declared.operations.Call.{Call};
 ghost use Rattle.table.specs.declared.operations.Reply.{Reply};
 ghost use Rattle.node.specs.Servers.{ServerState};
 ghost use Rattle.node.specs.Steps.{step};
 ghost use Rattle.node.specs.declared.messages.Input.{Input};
 ghost use Rattle.proto.specs.Turns.{Replied, Turn};
-ghost use Rattle.proto.specs.Streams.{outcome_texts, texts};
+ghost use Rattle.proto.specs.Streams.{outcome_texts, texts, turns};
 ghost use Rattle.interleavings.specs.Moves.{Move, moved, done};
 ghost use Rattle.interleavings.specs.Asked.{AreAsked, IsAsked, IsSpelled};
 ghost use Rattle.interleavings.specs.Orders.{IsLinearization, IsInTurn};
@@ -18,7 +18,10 @@ ghost use Rattle.interleavings.specs.Ports.{input_at, renamed, renamed_result};
 ghost use Rattle.interleavings.specs.Connections.{waits, may_have};
 ghost use Rattle.interleavings.specs.ServingMoves.{ServingMove, served_at, served};
 ghost use Rattle.interleavings.specs.Served.{unrefused, NoneRefused, IsServed, ServedCall, IsOneOrder};
-ghost use Rattle.interleavings.specs.Served.{IsServedInTurn, NoneUnanswered, AllHaveAll};
+ghost use Rattle.interleavings.specs.Served.{IsServedInTurn, NoneUnanswered, AllHaveAll, CallName, reply_got};
+ghost use Rattle.interleavings.specs.Served.{is_call_published};
+ghost use Rattle.interleavings.specs.Rows.{PartName, AreWhole, IsRow, IsPublishedInTurn};
+ghost use Rattle.interleavings.specs.Rows.{IsRowServed, IsRowInTurn};
 ghost use Rattle.world.specs.Orders.{OrderedCall};
 
 /// Every run of moves of a chain of up to 16 servers, with servers that stop at any move, has an order of its calls in
@@ -125,7 +128,7 @@ pub fn clients_see_one_table()
     // read: so the connection can take it.
     ensures kinds { (count : ℕ) (homes : List ℕ) (moves : List ServingMove) (c : ℕ) (reply : Reply) (more : List Reply)
         → count ≤ 16
-        → ((served done count homes moves).chain.seats c).mail ≡ reply ∷ more
+        → ((served done count homes moves).chain.seats c).queued ≡ reply ∷ more
         → waits (served_at (served done count homes moves) c) ≡ true
         → may_have (served_at (served done count homes moves) c).session.asked reply ≡ true }
     // If nothing is left to do in the chain, each call that was made at a server that goes on has its reply;
@@ -140,4 +143,43 @@ pub fn clients_see_one_table()
         → length moves < 2 ^ 62
         → IsQuiet (served done count homes moves).chain
         → AllHaveAll (served done count homes moves) }
+{}
+
+/// A call that has its reply is published: so where a law asks that an update is published, an answered one is.
+pub fn answered_calls_are_published()
+    ensures calls { (count : ℕ) (homes : List ℕ) (moves : List ServingMove) (x : CallName)
+        → count ≤ 16
+        → IsSome (reply_got (served done count homes moves) x)
+        → is_call_published (λ c. c) (served done count homes moves) x ≡ true }
+    // So it is if the servers number their own seats.
+    ensures own_ports { (count : ℕ) (homes : List ℕ) (moves : List ServingMove) (x : CallName) (i : ℕ)
+        → count ≤ 16
+        → slice_get homes x.seat ≡ Some i
+        → i < count
+        → IsSome (reply_got (served (with_own_ports homes) count homes moves) x)
+        → is_call_published (own_port count homes) (served (with_own_ports homes) count homes moves) x ≡ true }
+{}
+
+/// From bytes of clients to bytes of clients, if a client has several updates in flight: it is a row of connections, of
+/// which each has one open call at most. This holds for every row of a run, whatever moves of the running chain do.
+pub fn pipelining_clients_see_one_table()
+    // What the parts read, joined, spells their calls, one part after another: these are made in turn, but for stores
+    // that are refused. What is written to them, joined, is a beginning of the texts of all turns, each call's with its
+    // reply or the line of a refusal, and all of them once at each part nothing is left to write.
+    ensures bytes { (does : Doing) (count : ℕ) (homes : List ℕ) (moves : List ServingMove) (row : List PartName)
+        → IsRow does count homes moves row
+        → IsRowServed (served does count homes moves) row }
+    // If the updates of a row are published in turn, its calls stand in turn in the one order of all connections' calls
+    // that `clients_see_one_table` gives, or `served_seats_may_have_own_ports`.
+    ensures order { (does : Doing) (port : ℕ → ℕ) (count : ℕ) (homes : List ℕ) (moves : List ServingMove)
+        (row : List PartName) (h : List ServedCall)
+        → IsRow does count homes moves row
+        → IsPublishedInTurn does port count homes moves row
+        → IsOneOrder does count homes moves h
+        → IsServedInTurn does port count homes moves h
+        → IsRowInTurn port (served does count homes moves) row h }
+    // Whole requests leave the turns of what follows them.
+    ensures turns { (bytes more : List ℕ)
+        → AreWhole bytes
+        → turns (bytes ++ more) ≡ turns bytes ++ turns more }
 {}

@@ -5,7 +5,8 @@ mod laws;
 pub mod worked;
 
 pub use laws::{
-    asked_calls_are_spelled, clients_see_one_table, every_run_is_linearizable,
-    no_call_is_forgotten, ports_are_names, seats_may_have_own_ports,
-    served_seats_may_have_own_ports, without_refusals_all_is_replied,
+    answered_calls_are_published, asked_calls_are_spelled, clients_see_one_table,
+    every_run_is_linearizable, no_call_is_forgotten, pipelining_clients_see_one_table,
+    ports_are_names, seats_may_have_own_ports, served_seats_may_have_own_ports,
+    without_refusals_all_is_replied,
 };

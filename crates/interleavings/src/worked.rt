@@ -1,5 +1,5 @@
 //! Worked runs: what they come to; and runs that have no order, or forget a call, if a move lacks its rule.
-ghost use Rattle.std.specs.Prelude.{◌≡◌, ℕ, false, List, [], ◌∷◌, ◌++◌, take, None, Some, codes};
+ghost use Rattle.std.specs.Prelude.{◌≡◌, ℕ, ◌<◌, false, List, [], ◌∷◌, ◌++◌, take, None, Some, codes};
 ghost use Rattle.table.specs.declared.operations.Reply.TheVariants.{Stored, Value};
 ghost use Rattle.proto.specs.Turns.{Replied, Refused};
 ghost use Rattle.node.specs.declared.messages.Body.TheVariants.{Ack};
@@ -13,13 +13,19 @@ ghost use Rattle.interleavings.specs.Quiet.{IsQuiet};
 ghost use Rattle.interleavings.specs.OtherMoves.{moved_by, IsLinearizationBy, HasNoOrder};
 ghost use Rattle.interleavings.specs.WrongMoves.{with_older_looks, with_early_puts, with_early_notices};
 ghost use Rattle.interleavings.specs.WrongMoves.{with_lossy_channels};
-ghost use Rattle.interleavings.specs.WorkedRuns.{key, set, item, set_homes, set_moves, left_to_do};
+ghost use Rattle.interleavings.specs.WorkedRuns.{key, set, other_set, item, set_homes, set_moves};
+ghost use Rattle.interleavings.specs.WorkedRuns.{left_to_do};
 ghost use Rattle.interleavings.specs.WorkedRuns.{failover_homes, look_while_dirty, failover_moves};
 ghost use Rattle.interleavings.specs.WorkedRuns.{older_homes, before_older_look, early_homes};
 ghost use Rattle.interleavings.specs.WorkedRuns.{before_unpublished_look, told_homes, before_outlived_look};
 ghost use Rattle.interleavings.specs.WorkedRuns.{cut_moves, flight_homes, flight_moves, lossy_moves};
 ghost use Rattle.interleavings.specs.ServingMoves.{served};
-ghost use Rattle.interleavings.specs.Served.{is_call_published, PublishedFirst};
+ghost use Rattle.interleavings.specs.Served.{is_call_published, PublishedFirst, ServedCall, StandsThere, IsOneOrder};
+ghost use Rattle.interleavings.specs.Served.{IsServedInTurn};
+ghost use Rattle.interleavings.specs.Rows.{IsRow, IsPublishedInTurn, IsRowInTurn, row_read};
+ghost use Rattle.interleavings.specs.Rows.{row_calls, row_replies, row_written};
+ghost use Rattle.interleavings.specs.WorkedRows.{first_bytes, second_bytes, two_parts, pipelined_moves};
+ghost use Rattle.interleavings.specs.WorkedRows.{first_call, second_call, overtaken_moves};
 ghost use Rattle.interleavings.specs.WorkedServing.{talk_homes, talk_moves, last_moves, lost_moves, delete};
 ghost use Rattle.interleavings.specs.WorkedServing.{refused_moves, turn_moves, first_set, second_set};
 
@@ -74,7 +80,7 @@ pub fn cut_input_is_answered()
 /// A connection ends while its call has no reply. The reply stays in the seat's queue: the seat's next connection isn't
 /// written it, and makes no call.
 pub fn next_connection_gets_no_old_reply()
-    ensures kept { ((served done 2 talk_homes lost_moves).chain.seats 0).mail ≡ Stored ∷ [] }
+    ensures kept { ((served done 2 talk_homes lost_moves).chain.seats 0).queued ≡ Stored ∷ [] }
     ensures due { ((served done 2 talk_homes lost_moves).connections 0 1).due ≡ Some delete }
     ensures calls { ((served done 2 talk_homes lost_moves).connections 0 1).calls ≡ [] }
     ensures written { ((served done 2 talk_homes lost_moves).connections 0 1).written ≡ [] }
@@ -95,6 +101,36 @@ pub fn refused_set_is_never_made()
 pub fn set_made_last_is_published_first()
     ensures waits { is_call_published (λ c. c) (served done 1 flight_homes (take 14 turn_moves)) first_set ≡ false }
     ensures published { PublishedFirst done (λ c. c) 1 flight_homes turn_moves first_set second_set }
+{}
+
+/// A client has two sets in flight: they are a row of two connections. The second one's reply comes first, and both
+/// lines are written in turn.
+pub fn two_sets_are_in_flight()
+    ensures read { row_read (served done 1 flight_homes pipelined_moves) two_parts ≡ first_bytes ++ second_bytes }
+    // After six moves both are made, and none has its reply.
+    ensures in_flight { row_calls (served done 1 flight_homes (take 6 pipelined_moves)) two_parts
+        ≡ set ∷ other_set ∷ [] }
+    ensures no_reply { row_replies (served done 1 flight_homes (take 6 pipelined_moves)) two_parts ≡ [] }
+    ensures row { IsRow done 1 flight_homes pipelined_moves two_parts }
+    ensures published { IsPublishedInTurn done (λ c. c) 1 flight_homes pipelined_moves two_parts }
+    // So the first set stands before the second one in each order that the laws give.
+    ensures order { (h : List ServedCall)
+        → IsOneOrder done 1 flight_homes pipelined_moves h
+        → IsServedInTurn done (λ c. c) 1 flight_homes pipelined_moves h
+        → (i : ℕ) × (j : ℕ) × (i < j) × StandsThere h i first_call × StandsThere h j second_call }
+    ensures written { row_written (served done 1 flight_homes pipelined_moves) two_parts
+        ≡ codes "STORED\r\nSTORED\r\n" }
+{}
+
+/// A client has two sets in flight, and the second one is published first. They are a row too, but no order of all
+/// calls has its calls in turn.
+pub fn overtaken_set_is_out_of_turn()
+    ensures row { IsRow done 1 flight_homes overtaken_moves two_parts }
+    ensures out_of_turn { (h : List ServedCall)
+        → IsOneOrder done 1 flight_homes overtaken_moves h
+        → IsServedInTurn done (λ c. c) 1 flight_homes overtaken_moves h
+        → IsRowInTurn (λ c. c) (served done 1 flight_homes overtaken_moves) two_parts h
+        → ⊥ }
 {}
 
 /// If a look may show an older face than the one that stands, a run has no order.
@@ -122,7 +158,7 @@ pub fn lossy_channel_forgets_a_call()
     ensures second { left_to_do (moved_by with_lossy_channels 2 set_homes lossy_moves) 1 ≡ ([], None, []) }
     ensures down { (moved_by with_lossy_channels 2 set_homes lossy_moves).channels 0 1 ≡ [] }
     ensures back { (moved_by with_lossy_channels 2 set_homes lossy_moves).channels 1 0 ≡ [] }
-    ensures mail { ((moved_by with_lossy_channels 2 set_homes lossy_moves).seats 0).mail ≡ [] }
+    ensures queued { ((moved_by with_lossy_channels 2 set_homes lossy_moves).seats 0).queued ≡ [] }
     ensures head_goes_on { ((moved_by with_lossy_channels 2 set_homes lossy_moves).servers 0).stopped ≡ false }
     ensures tail_goes_on { ((moved_by with_lossy_channels 2 set_homes lossy_moves).servers 1).stopped ≡ false }
 {}

@@ -1,18 +1,19 @@
 -- The thread handles and the seats of a server that was opened.
 use Rattle.std.proofs.Common.{◌≡◌, ◌∙◌, ◌∷◌, ◌++◌, ◌+◌, ℕ, zero, suc, List, [], All, length, refl, ap, set, subst}
-use Rattle.std.proofs.Common.{sym}
+use Rattle.std.proofs.Common.{append-nil, append_assoc, arith, get_or, sym}
 use Rattle.std.proofs.lemmas.List.Elements.{All-nil, All-append, All-cons, All-head, All-set, All-tail, All-weaker}
 use Rattle.atomic_table.specs.Seated.{TableId}
 use Rattle.node.specs.Nodes.{NodeState}
 use Rattle.faces.specs.Histories.{Origin}
 use Rattle.rail.specs.declared.thread_handles.ThreadHandle.{ThreadHandle}
+use Rattle.rail.specs.CallSenders.{CallSenderState, call_sender_at}
 use Rattle.rail.specs.Inlets.{InletState, LeadTo, inlet_at, inlets_from}
 use Rattle.rail.specs.Seats.{SeatState}
 use Rattle.rail.specs.Servers.{IsOpened, seat_at, seats_from, thread_handle_at, thread_handles_from}
 use Rattle.rail.specs.Workers.{WorkerState}
 use Rattle.seats.specs.Replies.{HasAllReplies}
 use Rattle.seats.specs.SeatPools.{Pooling}
-use Rattle.io_threads.specs.Pools.{AreAllAt, AreOf, BeginsAs, IsRepliedAt}
+use Rattle.io_threads.specs.Pools.{AreAllAt, AreOf, BeginsAs, IsRepliedAt, handles_senders, pools_senders, senders_from}
 
 -- all are of this server, and sent nothing
 all_at : (o : Origin) (b : TableId) (k n : ℕ)
@@ -23,10 +24,15 @@ all_at o b k (suc n) =
     (thread_handles_from o b (k + 1) n) (refl, refl)
     (all_at o b (k + 1) n)
 
-all_seats_at : (o : Origin) (b : TableId) (k n : ℕ) → All (IsRepliedAt o) (seats_from o b k n)
-all_seats_at o b k zero = All-nil (IsRepliedAt o)
-all_seats_at o b k (suc n) =
-    All-cons (IsRepliedAt o) (seat_at o b k) (seats_from o b (k + 1) n) (refl, refl) (all_seats_at o b (k + 1) n)
+all_seats_at : (o : Origin) (k n : ℕ) → All (IsRepliedAt o) (seats_from o k n)
+all_seats_at o k zero = All-nil (IsRepliedAt o)
+all_seats_at o k (suc n) =
+    All-cons (IsRepliedAt o) (seat_at o k) (seats_from o (k + 1) n) (refl, refl) (all_seats_at o (k + 1) n)
+
+all_senders : (o : Origin) (b : TableId) (k n : ℕ)
+    → handles_senders (thread_handles_from o b k n) ≡ senders_from o b k n
+all_senders o b k zero = refl
+all_senders o b k (suc n) = ap (λ (ss : List CallSenderState). call_sender_at o b k ∷ ss) (all_senders o b (k + 1) n)
 
 length_from : (o : Origin) (b : TableId) (k n : ℕ) → length (thread_handles_from o b k n) ≡ n
 length_from o b k zero = refl
@@ -46,7 +52,7 @@ module _ (node : NodeState) (readers more inlets : ℕ) (w : WorkerState) (besid
             (sym opened.thread_handles)
             (all_at opened.origin opened.inbox 0 readers);
         seats = subst (All (IsRepliedAt opened.origin)) (sym opened.seats)
-            (all_seats_at opened.origin opened.inbox readers more);
+            (all_seats_at opened.origin readers more);
         pools = All-nil (λ (pool : Pooling). pool.seen.origin ≡ opened.origin);
       } in
       subst (λ (o : Origin). AreOf o beside others []) (sym same) are
@@ -63,6 +69,16 @@ module _ (node : NodeState) (readers more inlets : ℕ) (w : WorkerState) (besid
   -- there is a thread handle for each reader
   pub opened_handles : length beside ≡ readers
   opened_handles = ap length opened.thread_handles ∙ length_from opened.origin opened.inbox 0 readers
+
+  -- the pools that were made of them have the senders of their thread handles
+  pub opened_senders : (pools : List Pooling) → pools_senders pools ≡ handles_senders beside
+      → pools_senders pools ≡ senders_from w.published.origin w.inbox 0 readers
+  opened_senders pools same =
+      let origin : opened.origin ≡ w.published.origin =
+      sym (ap (λ (v : WorkerState). v.published.origin) opened.worker) in
+      let inbox : opened.inbox ≡ w.inbox = sym (ap (λ (v : WorkerState). v.inbox) opened.worker) in
+      same ∙ (ap handles_senders opened.thread_handles ∙ (all_senders opened.origin opened.inbox 0 readers
+      ∙ (λ i. senders_from (origin i) (inbox i) 0 readers)))
 
   -- its worker begins as the node
   pub opened_worker : BeginsAs node w
@@ -87,8 +103,8 @@ pub opened_lead : (node : NodeState) (readers more inlets : ℕ) (w : WorkerStat
 opened_lead node readers more inlets w beside others brought opened =
     let at : opened.inbox ≡ w.inbox = sym (ap (λ (v : WorkerState). v.inbox) opened.worker) in
     subst (LeadTo w.inbox) (sym opened.brought_by)
-    (subst (λ (b : TableId). LeadTo b (inlets_from opened.inbox (readers + more) inlets)) at
-    (all_lead opened.inbox (readers + more) inlets))
+    (subst (λ (b : TableId). LeadTo b (inlets_from opened.inbox readers inlets)) at
+    (all_lead opened.inbox readers inlets))
 
 -- one more pool of this server
 pub one_more : (o : Origin) (pools after : List Pooling) (pool : Pooling)
@@ -99,6 +115,18 @@ one_more o pools after pool all new same =
     (All-append (λ (p : Pooling). p.seen.origin ≡ o) pools (pool ∷ []) all
     (All-cons (λ (p : Pooling). p.seen.origin ≡ o) pool [] new (All-nil (λ (p : Pooling). p.seen.origin ≡ o))))
 
+-- and its sender
+pub one_sender_more : (pools after : List Pooling) (pool : Pooling) (sender : CallSenderState)
+    → pool.sender ≡ sender
+    → after ≡ pools ++ pool ∷ []
+    → pools_senders after ≡ pools_senders pools ++ sender ∷ []
+one_sender_more pools after pool sender same e =
+    ap pools_senders e ∙ (by pools ∙ ap (λ (x : CallSenderState). pools_senders pools ++ x ∷ []) same)
+  where
+    by : (ps : List Pooling) → pools_senders (ps ++ pool ∷ []) ≡ pools_senders ps ++ pool.sender ∷ []
+    by [] = refl
+    by (p ∷ ps) = ap (λ (ss : List CallSenderState). p.sender ∷ ss) (by ps)
+
 -- one pool has changed
 pub one_changed : (o : Origin) (pools after : List Pooling) (place : ℕ) (pool : Pooling)
     → All (λ (p : Pooling). p.seen.origin ≡ o) pools → pool.seen.origin ≡ o → after ≡ set pools place pool
@@ -106,6 +134,17 @@ pub one_changed : (o : Origin) (pools after : List Pooling) (place : ℕ) (pool 
 one_changed o pools after place pool all new same =
     subst (All (λ (p : Pooling). p.seen.origin ≡ o)) (sym same)
     (All-set (λ (p : Pooling). p.seen.origin ≡ o) pools place pool new all)
+
+-- but for its sender
+pub senders_same : (pools : List Pooling) (place : ℕ) (before pool : Pooling)
+    → before ≡ get_or pools place before
+    → pool.sender ≡ before.sender
+    → pools_senders (set pools place pool) ≡ pools_senders pools
+senders_same [] place before pool at same = refl
+senders_same (p ∷ pools) zero before pool at same =
+    ap (λ (x : CallSenderState). x ∷ pools_senders pools) (same ∙ ap (λ (q : Pooling). q.sender) at)
+senders_same (p ∷ pools) (suc place) before pool at same =
+    ap (λ (ss : List CallSenderState). p.sender ∷ ss) (senders_same pools place before pool at same)
 
 -- no pool was made yet
 pub none_made : (o : Origin) (thread_handles left : List ThreadHandle) (others : List SeatState) (pools : List Pooling)
@@ -199,3 +238,22 @@ module _ (o : Origin) (seat : SeatState) (rest : List SeatState) (pools : List P
         pools = All-weaker (λ (pool : Pooling). pool.seen.origin ≡ seat.origin)
             (λ (pool : Pooling). pool.seen.origin ≡ o) (λ pool same. same ∙ next_seat.0) after given;
       }
+
+-- one thread handle has become a pool, with its sender
+pub next_sender : (thread_handle : ThreadHandle) (rest : List ThreadHandle) (pools after : List Pooling)
+    (left all : List ThreadHandle)
+    → left ≡ thread_handle ∷ rest
+    → pools_senders after ≡ pools_senders pools ++ thread_handle.call_sender ∷ []
+    → pools_senders pools ++ handles_senders left ≡ handles_senders all
+    → pools_senders after ++ handles_senders rest ≡ handles_senders all
+next_sender thread_handle rest pools after left all next made are =
+    ap (λ (ss : List CallSenderState). ss ++ handles_senders rest) made
+    ∙ (append_assoc (pools_senders pools) (thread_handle.call_sender ∷ []) (handles_senders rest)
+    ∙ (ap (λ (l : List ThreadHandle). pools_senders pools ++ handles_senders l) (sym next) ∙ are))
+
+-- each thread handle has
+pub none_left : (pools : List Pooling) (left all : List ThreadHandle) → length left ≡ 0
+    → pools_senders pools ++ handles_senders left ≡ handles_senders all
+    → pools_senders pools ≡ handles_senders all
+none_left pools [] all none are = sym (append-nil (pools_senders pools)) ∙ are
+none_left pools (thread_handle ∷ left) all none are = absurd (omega (arith, none))

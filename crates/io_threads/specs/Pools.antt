@@ -1,8 +1,10 @@
 -- Thread handles and seats that are dealt out to threads.
-use Rattle.std.specs.Prelude.{◌≡◌, true, List, [], All}
+use Rattle.std.specs.Prelude.{◌≡◌, ℕ, zero, suc, ◌+◌, true, List, [], ◌∷◌, All, map}
+use Rattle.atomic_table.specs.Seated.{TableId}
 use Rattle.node.specs.Nodes.{NodeState}
 use Rattle.faces.specs.Histories.{Origin}
 use Rattle.rail.specs.declared.thread_handles.ThreadHandle.{ThreadHandle}
+use Rattle.rail.specs.CallSenders.{CallSenderState, call_sender_at}
 use Rattle.rail.specs.Seats.{SeatState}
 use Rattle.rail.specs.Workers.{WorkerState}
 use Rattle.seats.specs.Replies.{HasAllReplies}
@@ -15,6 +17,18 @@ IsRepliedAt origin seat = (seat.origin ≡ origin) × HasAllReplies seat
 -- these pools of seats are all of this server
 abbrev pub AreAllAt : Origin → List Pooling → Type 0
 AreAllAt origin pools = All (λ pool. pool.seen.origin ≡ origin) pools
+
+-- the senders of these pools, and of these thread handles
+abbrev pub pools_senders : List Pooling → List CallSenderState
+pools_senders pools = map (λ pool. pool.sender) pools
+
+abbrev pub handles_senders : List ThreadHandle → List CallSenderState
+handles_senders thread_handles = map (λ thread_handle. thread_handle.call_sender) thread_handles
+
+-- n senders of a server that sent nothing, which send to this inbox, numbered from k on
+abbrev pub senders_from : Origin → TableId → ℕ → ℕ → List CallSenderState
+senders_from o b k zero = []
+senders_from o b k (suc n) = call_sender_at o b k ∷ senders_from o b (k + 1) n
 
 -- These thread handles, these seats, and these pools of seats, are all of this server, and no call waits at any of the
 -- seats.

@@ -21,7 +21,7 @@ pub enum Pause {
     Socket,
     /// Its call is to be sent as soon as a seat is free.
     Seat,
-    /// Its call was sent.
+    /// Its call was sent, perhaps with updates after it.
     Reply,
     /// Output is due, and the server may not put it out now.
     Lease,
@@ -93,8 +93,8 @@ impl<S: Read + Write> Client<S> {
     ghost use Rattle.faces.specs.Histories.{IsLater};
     ghost use Rattle.serving.specs.Connections.{IsBegun};
     ghost use Rattle.seats.specs.SeatPools.{HasSameReader};
-    ghost use Rattle.seats.specs.ClientConnections.{IsFurther, begun};
-    ghost use Rattle.seats.specs.declared.client_connections.CallStanding.TheVariants.{Idle, Reading, Over as Spent};
+    ghost use Rattle.seats.specs.ClientConnections.{HasHeard, IsFurther, begun};
+    ghost use Rattle.seats.specs.declared.client_connections.CallStanding.TheVariants.{Reading, Over as Spent};
     ghost use Rattle.io_threads.specs.Clients.{HasPassed, HasPaused};
 
     /// A client that has said nothing. It allocates nothing.
@@ -305,8 +305,8 @@ impl<S: Read + Write> Client<S> {
         }
     }
 
-    /// Takes the reply to the call that was sent, if it has come, and says whether it did. Some(false) if not; None if
-    /// it never will, or memory is out. Nothing is read or written.
+    /// Takes the replies to the calls that were sent, as many as have come, that to the oldest call first, and says
+    /// whether there was one. Some(false) if not; None if none ever will, or memory is out. Nothing is read or written.
     pub fn hear<R: Wait>(&mut self, rt: &R, pool: &mut SeatPool) -> Option<bool>
         requires known { IsLater self.old.client_connection.seen pool.old.seen }
         ensures known { IsLater self.new.client_connection.seen pool.new.seen }
@@ -315,7 +315,7 @@ impl<S: Read + Write> Client<S> {
         ensures first { self.new.client_connection.first ≡ self.old.client_connection.first }
         ensures further { IsFurther self.old.client_connection.connected self.new.client_connection.connected }
         ensures heard { IfSome result
-            (λ heard. MatchBool heard (self.new.client_connection.standing ≡ Idle)
+            (λ heard. MatchBool heard (HasHeard self.new.client_connection)
             (self.new.client_connection ≡ self.old.client_connection)) }
         ensures over { IfNone result (self.new.client_connection.standing ≡ Spent) }
     {

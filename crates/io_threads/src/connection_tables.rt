@@ -11,7 +11,7 @@ use std::sync::Wait;
 use std::time::Clock;
 
 /// How many servers a process has at most; tokens hold a client's key times this, and the server's id.
-pub(crate) const SERVERS: usize = 16;
+pub(crate) const SERVERS: usize = node::SERVERS as usize;
 
 /// What a connection table is made of. Unlike the table itself it may be sent to another thread.
 #[derive(Drop)]

@@ -14,7 +14,7 @@ use std::sync::{Arc, Mutex};
 pub(crate) const WAKE: usize = usize::MAX;
 
 /// The most ports of a server.
-const PORTS: usize = 16;
+const PORTS: usize = 64;
 
 /// A connection on its way to the thread that serves it.
 #[derive(Drop)]

@@ -20,12 +20,15 @@ const EVENTS: usize = 256;
 /// How often a thread takes turns and replies before it looks at its sockets again.
 const ROUNDS: usize = 16;
 
-/// The most turns of one visit.
-const TURNS: usize = 64;
+/// The most turns of one visit. After it the thread goes on with the next server and with its own replies, and others
+/// take turns here: with more, those who wait for a reply all wait for the last turn.
+const TURNS: usize = 8;
 
-/// How often a thread looks for a reply before it sleeps: first after pauses that grow, then after it let others have
-/// its processor.
-const LOOKS: usize = 40;
+/// How often a thread looks for a reply, after pauses that grow, before it looks at its sockets.
+const FIRST_LOOKS: usize = 7;
+
+/// How often it looks after that before it sleeps, each time after it let others have its processor.
+const LOOKS: usize = 33;
 
 /// How long a thread waits at most while output waits for a lease, in milliseconds. Nobody wakes it for that.
 const HELD: u64 = 10;
@@ -155,11 +158,8 @@ impl<R: Wait + Clock + Copy + Drop, T: TurnScheduler + Drop> IoThread<R, T> {
             self.sleep();
             return;
         }
-        if self.turn_scheduler.answers_soon() {
-            self.look();
-            if !self.events.is_empty() || self.has_reply_soon() {
-                return;
-            }
+        if self.turn_scheduler.answers_soon() && self.has_reply_soon() {
+            return;
         }
         self.loop_handles.sleeps_at(self.me, open_at);
         self.due.merge(self.turn_scheduler.all_due());
@@ -173,10 +173,20 @@ impl<R: Wait + Clock + Copy + Drop, T: TurnScheduler + Drop> IoThread<R, T> {
     }
 
     // Looks for turns and replies again and again, for some ten microseconds. A thread that is at the worker answers a
-    // call in less time than it takes to fall asleep and to be woken. Whether there were any.
+    // call in less time than it takes to fall asleep and to be woken. After the first looks, which take least, it looks
+    // at its sockets too. Whether there were any.
     fn has_reply_soon(&mut self) -> bool {
         let backoff = Backoff::new();
-        for _ in 0..LOOKS {
+        if self.has_reply_within(&backoff, FIRST_LOOKS) {
+            return true;
+        }
+        self.look();
+        !self.events.is_empty() || self.has_reply_within(&backoff, LOOKS)
+    }
+
+    // Looks that often for turns and replies. Whether there were any.
+    fn has_reply_within(&mut self, backoff: &Backoff, looks: usize) -> bool {
+        for _ in 0..looks {
             backoff.snooze();
             if self.turns_or_replies() || self.due != ServerSet::new() {
                 return true;

@@ -1,12 +1,12 @@
 //! Opens a server whose seats are dealt out to serving threads.
-ghost use Rattle.std.specs.Prelude.{◌≡◌, ◌≤◌, ◌+◌, [], true, vec_len, All, IfOk, OnOk};
+ghost use Rattle.std.specs.Prelude.{◌≡◌, ◌≤◌, ◌+◌, [], ◌∷◌, ◌++◌, true, vec_len, All, IfOk, OnOk};
 ghost use Rattle.node.specs.Nodes.{is_idle};
 ghost use Rattle.faces.specs.Histories.{Origin};
 ghost use Rattle.rail.specs.Inlets.{LeadTo};
 ghost use Rattle.seats.specs.Replies.{HasAllReplies};
 ghost use Rattle.seats.specs.SeatPools.{with_free};
 ghost use Rattle.seats.specs.Submitters.{unused};
-ghost use Rattle.io_threads.specs.Pools.{AreAllAt, AreOf, BeginsAs};
+ghost use Rattle.io_threads.specs.Pools.{AreAllAt, AreOf, BeginsAs, handles_senders, pools_senders, senders_from};
 
 use node::Node;
 use rail::{Inlet, RailFault, Room, Seat, Server, ThreadHandle, Worker, open};
@@ -27,9 +27,10 @@ pub struct Pooled<R: Wait + Drop> {
 
 /// Opens a server that begins as this node, with this many seats, which are dealt out to the threads in turn: that of
 /// port 0 to the first thread, that of port 1 to the second, and so on. All are seats of the worker's server. Each
-/// thread has one reader, and the face has room for no more. The inlets lead to the worker's inbox. The mark is set as
-/// soon as the server answers no more calls, and the gauge tells whether its items may take more memory. Refused if
-/// memory is out, or no reader could be made.
+/// thread has one reader, and the face has room for no more. Each has one sender for the calls of its seats, to the
+/// worker's inbox, where the inlets lead too. This many updates of a connection may be sent ahead of the first one's
+/// reply. The mark is set as soon as the server answers no more calls, and the gauge tells whether its items may take
+/// more memory. Refused if memory is out, or no reader could be made.
 pub fn open_pools<R: Wait + Drop>(
     rt: R,
     alloc: Global,
@@ -37,16 +38,19 @@ pub fn open_pools<R: Wait + Drop>(
     seats: usize,
     threads: usize,
     inlets: usize,
+    most_ahead: usize,
     mark: &Mark,
     gauge: &Gauge,
 ) -> Result<Pooled<R>, RailFault>
     requires threads { (1 ≤ threads) × (threads ≤ seats) }
-    requires seats { seats ≤ 16 }
+    requires seats { (threads ≤ 16) × (seats ≤ 64) }
     requires inlets { (1 ≤ inlets) × (inlets ≤ 16) }
     requires idle { is_idle node ≡ true }
     ensures worker { IfOk result (λ pooled. BeginsAs node pooled.worker) }
     ensures pools { IfOk result (λ pooled. AreAllAt pooled.worker.published.origin pooled.pools.items) }
     ensures threads { IfOk result (λ pooled. vec_len pooled.pools ≡ threads) }
+    ensures senders { IfOk result (λ pooled. pools_senders pooled.pools.items ≡
+        senders_from pooled.worker.published.origin pooled.worker.inbox 0 threads) }
     ensures inlets { IfOk result (λ pooled. LeadTo pooled.worker.inbox pooled.inlets.items) }
 {
     let Server {
@@ -61,9 +65,9 @@ pub fn open_pools<R: Wait + Drop>(
         threads,
         seats - threads,
         inlets,
-        Room::of_chain(inlets),
+        Room::of_chain(inlets, seats),
     )?;
-    match deal(alloc, thread_handles, others, mark, gauge) {
+    match deal(alloc, thread_handles, others, most_ahead, mark, gauge) {
         Ok(pools) => Ok(Pooled {
             worker,
             pools,
@@ -83,6 +87,7 @@ fn deal(
     alloc: Global,
     thread_handles: Vec<ThreadHandle>,
     others: Vec<Seat>,
+    most_ahead: usize,
     mark: &Mark,
     gauge: &Gauge,
 ) -> Result<Vec<SeatPool>, AllocError>
@@ -90,10 +95,11 @@ fn deal(
     ensures server { IfOk result
         (λ pools. (o : Origin) → AreOf o thread_handles.items others.items [] → AreAllAt o pools.items) }
     ensures count { IfOk result (λ pools. vec_len pools ≡ vec_len thread_handles) }
+    ensures senders { IfOk result (λ pools. pools_senders pools.items ≡ handles_senders thread_handles.items) }
 {
     let mut pools = Vec::new(alloc);
     for thread_handle in thread_handles {
-        add_pool(alloc, &mut pools, thread_handle, mark, gauge)?;
+        add_pool(alloc, &mut pools, thread_handle, most_ahead, mark, gauge)?;
     }
     let mut next = 0usize;
     for seat in others {
@@ -110,11 +116,12 @@ fn place_after(place: usize, count: usize) -> usize {
 }
 
 // One more pool, of this thread handle.
-#[tactic(auto, using(crate::proofs::Dealt::one_more))]
+#[tactic(auto, using(crate::proofs::Dealt::one_more, crate::proofs::Dealt::one_sender_more))]
 fn add_pool(
     alloc: Global,
     pools: &mut Vec<SeatPool>,
     thread_handle: ThreadHandle,
+    most_ahead: usize,
     mark: &Mark,
     gauge: &Gauge,
 ) -> Result<(), AllocError>
@@ -122,8 +129,10 @@ fn add_pool(
     requires replied { HasAllReplies thread_handle.seat }
     ensures server { All (λ pool. pool.seen.origin ≡ thread_handle.seat.origin) pools.new.items }
     ensures count { OnOk result (vec_len pools.new ≡ vec_len pools.old + 1) }
+    ensures senders { OnOk result
+        (pools_senders pools.new.items ≡ pools_senders pools.old.items ++ thread_handle.call_sender ∷ []) }
 {
-    let pool = pool_of(alloc, thread_handle, mark, gauge)?;
+    let pool = pool_of(alloc, thread_handle, most_ahead, mark, gauge)?;
     pools.push(pool)?;
     Ok(())
 }
@@ -135,6 +144,7 @@ fn give(pools: &mut Vec<SeatPool>, place: usize, seat: Seat) -> Result<(), Alloc
     requires replied { HasAllReplies seat }
     ensures server { All (λ pool. pool.seen.origin ≡ seat.origin) pools.new.items }
     ensures count { vec_len pools.new ≡ vec_len pools.old }
+    ensures senders { pools_senders pools.new.items ≡ pools_senders pools.old.items }
 {
     match pools.get_mut(place) {
         Some(pool) => pool.add(seat),
@@ -145,20 +155,31 @@ fn give(pools: &mut Vec<SeatPool>, place: usize, seat: Seat) -> Result<(), Alloc
     }
 }
 
-// A pool with this thread handle's reader and seat.
+// A pool with this thread handle's reader, sender and seat.
 fn pool_of(
     alloc: Global,
     thread_handle: ThreadHandle,
+    most_ahead: usize,
     mark: &Mark,
     gauge: &Gauge,
 ) -> Result<SeatPool, AllocError>
     requires { HasAllReplies thread_handle.seat }
-    ensures { IfOk result (λ pool. pool.seen.origin ≡ thread_handle.seat.origin) }
+    ensures server { IfOk result (λ pool. pool.seen.origin ≡ thread_handle.seat.origin) }
+    ensures sender { IfOk result (λ pool. pool.sender ≡ thread_handle.call_sender) }
 {
-    let ThreadHandle { reader, seat } = thread_handle;
+    let ThreadHandle {
+        reader,
+        seat,
+        call_sender,
+    } = thread_handle;
     match share(mark, gauge) {
-        Ok((mark, gauge)) => with_seat(SeatPool::new(alloc, reader, mark, gauge), seat),
+        Ok((mark, gauge)) => {
+            let mut pool = SeatPool::new(alloc, reader, call_sender, mark, gauge);
+            pool.let_ahead(most_ahead);
+            with_seat(pool, seat)
+        }
         Err(error) => {
+            drop(call_sender);
             drop(seat);
             drop(reader);
             Err(error)

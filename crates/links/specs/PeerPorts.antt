@@ -9,8 +9,8 @@ abbrev pub host_of : {C : Type 0} → PeerPort C → Identity
 host_of shared_port = shared_port.host
 
 -- what ends its connections
-abbrev pub cuts_of : {C : Type 0} → PeerPort C → C
-cuts_of shared_port = shared_port.cuts
+abbrev pub link_control_of : {C : Type 0} → PeerPort C → C
+link_control_of shared_port = shared_port.link_control
 
 -- A view calls a server gone: it names this server, and only servers of its chain.
 pub record IsCalledGone (host : Identity) (view : ℕ) : Type 0 where

@@ -18,5 +18,5 @@ pub use greeter_inlets::GreeterInlets;
 pub use orders::{Response, alive_of, order_of};
 pub use peer_connections::PeerConnection;
 pub use peer_links::{PeerLink, PeerLinks};
-pub use peer_ports::{Cuts, PeerPort};
+pub use peer_ports::{LinkControl, PeerPort};
 pub use speakers::Speaker;

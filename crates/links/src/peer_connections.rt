@@ -11,7 +11,7 @@ ghost use Rattle.wire.specs.Spellings.{spelling};
 
 use crate::ghost_lists::GhostList;
 use crate::orders::Response;
-use crate::peer_ports::{Cuts, PeerPort};
+use crate::peer_ports::{LinkControl, PeerPort};
 use crate::speakers::Speaker;
 use ends::{Failures, Sink};
 use node::View;
@@ -53,7 +53,7 @@ impl<C, W> Model for PeerConnection<C, W> {
     } };
 }
 
-impl<C: Cuts + Drop, W: Sink + Drop> PeerConnection<C, W> {
+impl<C: LinkControl + Drop, W: Sink + Drop> PeerConnection<C, W> {
     /// One who was accepted as this speaker, and is answered there.
     pub fn new(
         alloc: Global,
@@ -79,7 +79,7 @@ impl<C: Cuts + Drop, W: Sink + Drop> PeerConnection<C, W> {
     }
 }
 
-impl<C: Cuts + Drop, W: Sink + Drop> Taker for PeerConnection<C, W> {
+impl<C: LinkControl + Drop, W: Sink + Drop> Taker for PeerConnection<C, W> {
     ghost use Rattle.std.specs.Prelude.{◌≡◌, ◌⊎◌};
     ghost use Rattle.links.specs.Speakers.{Hears, IsAnswerBegun, IsAnswered};
 
@@ -140,7 +140,7 @@ impl<C: Cuts + Drop, W: Sink + Drop> Taker for PeerConnection<C, W> {
 
 // Does what a frame asks for, and answers it. If a notice names the server itself, the server is ended after the
 // answer.
-fn attend<R: Wait, C: Cuts, W: Sink>(
+fn attend<R: Wait, C: LinkControl, W: Sink>(
     rt: &R,
     alloc: Global,
     shared_port: &PeerPort<C>,
@@ -175,7 +175,7 @@ fn view_in(frame: &Frame) -> View
 }
 
 // Does what a frame asks for (`Speaker::hear`), unless it calls the server itself gone, which ends the server then.
-fn hear<R: Wait, C: Cuts>(
+fn hear<R: Wait, C: LinkControl>(
     rt: &R,
     shared_port: &PeerPort<C>,
     view: &mut View,
@@ -199,7 +199,12 @@ fn hear<R: Wait, C: Cuts>(
 
 // Learns whom a message calls gone, beside those of earlier messages. If the server itself is among them it is ended.
 // It tells whether it isn't.
-fn learn<R: Wait, C: Cuts>(rt: &R, shared_port: &PeerPort<C>, before: &mut View, view: View) -> bool
+fn learn<R: Wait, C: LinkControl>(
+    rt: &R,
+    shared_port: &PeerPort<C>,
+    before: &mut View,
+    view: View,
+) -> bool
     ensures ended { result ≡ false → IsCalledGone (host_of shared_port.now) view }
     ensures named { before.new ≡ union before.old view }
 {
@@ -213,7 +218,7 @@ fn learn<R: Wait, C: Cuts>(rt: &R, shared_port: &PeerPort<C>, before: &mut View,
 }
 
 // Ends the server if a notice that was brought names it.
-fn end_if_named<R: Wait, C: Cuts>(rt: &R, shared_port: &PeerPort<C>, response: Response) {
+fn end_if_named<R: Wait, C: LinkControl>(rt: &R, shared_port: &PeerPort<C>, response: Response) {
     if let Response::Noted(j) = response {
         if j == shared_port.host().id {
             shared_port.end(rt);

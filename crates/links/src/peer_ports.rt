@@ -3,7 +3,7 @@ ghost use Rattle.std.specs.Prelude.{◌≡◌, None, Some, true, false, OnOk, If
 ghost use Rattle.node.specs.Views.{adds, is_below};
 ghost use Rattle.leases.specs.Holding.{answer_to};
 ghost use Rattle.links.specs.Greetings.{HasInlet, IsAdmitted, IsRefused, refusal};
-ghost use Rattle.links.specs.PeerPorts.{IsCalledGone, cuts_of, host_of};
+ghost use Rattle.links.specs.PeerPorts.{IsCalledGone, link_control_of, host_of};
 ghost use Rattle.links.specs.Orders.{IsAnswer, NamesServer};
 ghost use Rattle.links.specs.Speakers.{Greets};
 
@@ -19,7 +19,7 @@ use std::sync::{Mutex, Wait};
 use wire::{Acceptance, Introduction, Reason};
 
 /// What ends connections, reads the clock, and publishes when the lease ends.
-pub trait Cuts {
+pub trait LinkControl {
     /// Server `j` was called gone. The connection to it is ended: a write that waits there fails, and so do all later
     /// ones. So a machine that is silent and takes no bytes can't hold up a server that was told of its failure. If it
     /// is this server itself, it answers no call any more, and all its connections to other servers are ended. It may
@@ -44,10 +44,10 @@ pub struct PeerPort<C> {
     admission: Mutex<PeerAdmission>,
     // Brings what masters tell.
     notices: Mutex<Inlet>,
-    cuts: C,
+    link_control: C,
 }
 
-impl<C: Cuts> PeerPort<C> {
+impl<C: LinkControl> PeerPort<C> {
     /// The peer port of a server, before anyone has greeted: with the inlets of the other servers, the inlet of all
     /// masters, and a lease of this term, or one that always holds.
     pub fn new(
@@ -55,24 +55,24 @@ impl<C: Cuts> PeerPort<C> {
         greeter_inlets: GreeterInlets,
         notices: Inlet,
         term: Option<Term>,
-        cuts: C,
+        link_control: C,
     ) -> PeerPort<C>
         ensures host { host_of result ≡ host }
-        ensures cuts { cuts_of result ≡ cuts }
+        ensures link_control { link_control_of result ≡ link_control }
     {
         PeerPort {
             host,
             admission: Mutex::new(PeerAdmission::new(greeter_inlets, term)),
             notices: Mutex::new(notices),
-            cuts,
+            link_control,
         }
     }
 
     /// What ends connections, and reads the clock.
-    pub fn cuts(&self) -> &C
-        ensures { result.now ≡ cuts_of self.now }
+    pub fn link_control(&self) -> &C
+        ensures { result.now ≡ link_control_of self.now }
     {
-        &self.cuts
+        &self.link_control
     }
 
     /// What the server tells of itself.
@@ -118,7 +118,7 @@ impl<C: Cuts> PeerPort<C> {
         }
         for j in 0..SERVERS {
             if view.has(j) {
-                self.cuts.cut(rt, j);
+                self.link_control.cut(rt, j);
             }
         }
         if self.host.id < SERVERS && view.has(self.host.id) {
@@ -138,7 +138,7 @@ impl<C: Cuts> PeerPort<C> {
         let (answer, is_news) = self.heed(rt, order, now);
         if let Answer::Notes(j) = answer {
             if is_news {
-                self.cuts.cut(rt, j);
+                self.link_control.cut(rt, j);
             }
         }
         answer
@@ -152,7 +152,7 @@ impl<C: Cuts> PeerPort<C> {
 
     /// Ends the server, since it was called gone.
     pub(crate) fn end<R: Wait>(&self, rt: &R) {
-        self.cuts.end();
+        self.link_control.end();
         self.stop(rt);
     }
 
@@ -164,7 +164,7 @@ impl<C: Cuts> PeerPort<C> {
     {
         let mut admission = self.admission.lock(rt);
         let heeded = heed_at(&mut admission, order, now);
-        self.cuts.renewed(admission.lease());
+        self.link_control.renewed(admission.lease());
         heeded
     }
 

@@ -10,7 +10,7 @@ ghost use Rattle.links.specs.Speakers.{Hears, NamesOneOf, Notes};
 
 use crate::notices::Notices;
 use crate::orders::{Response, alive_of, order_of};
-use crate::peer_ports::{Cuts, PeerPort};
+use crate::peer_ports::{LinkControl, PeerPort};
 use leases::{Answer, Order};
 use node::{Peer, SERVERS, View};
 use peers::TakeFault;
@@ -72,7 +72,7 @@ impl Speaker {
     /// another notice is. Any other frame is refused, and so is one that can't be brought, and an order if the clock
     /// can't be read; then nothing was brought. Before a notice is brought, the connection to the server that has
     /// failed is ended. It may wait, also for other masters.
-    pub fn hear<R: Wait, C: Cuts>(
+    pub fn hear<R: Wait, C: LinkControl>(
         &mut self,
         rt: &R,
         shared_port: &PeerPort<C>,
@@ -91,7 +91,7 @@ impl Speaker {
 
 // Does what a frame asks for.
 #[tactic(auto, using(crate::proofs::Telling::any_frame))]
-fn hear<R: Wait, C: Cuts>(
+fn hear<R: Wait, C: LinkControl>(
     rt: &R,
     shared_port: &PeerPort<C>,
     who: &mut Who,
@@ -140,7 +140,7 @@ fn bring<R: Wait>(rt: &R, who: &mut Who, peer: Peer) -> Result<Response, TakeFau
 }
 
 // Brings a notice that server `j` has failed, if a master speaks. The link to that server is cut first.
-fn tell<R: Wait, C: Cuts>(
+fn tell<R: Wait, C: LinkControl>(
     rt: &R,
     shared_port: &PeerPort<C>,
     who: &mut Who,
@@ -165,7 +165,7 @@ fn tell<R: Wait, C: Cuts>(
 }
 
 // A master of this epoch greets, if a master speaks.
-fn greet<R: Wait, C: Cuts>(
+fn greet<R: Wait, C: LinkControl>(
     rt: &R,
     shared_port: &PeerPort<C>,
     who: &Who,
@@ -182,7 +182,7 @@ fn greet<R: Wait, C: Cuts>(
 }
 
 // A beat came, if a master speaks.
-fn prolong<R: Wait, C: Cuts>(
+fn prolong<R: Wait, C: LinkControl>(
     rt: &R,
     shared_port: &PeerPort<C>,
     who: &Who,
@@ -200,7 +200,7 @@ fn prolong<R: Wait, C: Cuts>(
 }
 
 // A notice of silence came, if a master speaks.
-fn silence<R: Wait, C: Cuts>(
+fn silence<R: Wait, C: LinkControl>(
     rt: &R,
     shared_port: &PeerPort<C>,
     who: &mut Who,
@@ -220,7 +220,7 @@ fn silence<R: Wait, C: Cuts>(
 
 // The same of a master that has told of these. If the notice is taken, it is brought; else the server tells how it is.
 #[tactic(auto, using(crate::proofs::Telling::tells_how))]
-fn silence_by<R: Wait, C: Cuts>(
+fn silence_by<R: Wait, C: LinkControl>(
     rt: &R,
     shared_port: &PeerPort<C>,
     told: &mut Notices,
@@ -248,7 +248,7 @@ fn silence_by<R: Wait, C: Cuts>(
 
 // How the server is, once its lease has heard an order that is no notice.
 #[tactic(auto, using(crate::proofs::Telling::tells_how))]
-fn report<R: Wait, C: Cuts>(
+fn report<R: Wait, C: LinkControl>(
     rt: &R,
     shared_port: &PeerPort<C>,
     order: Order,
@@ -264,7 +264,7 @@ fn report<R: Wait, C: Cuts>(
 }
 
 // What the server does with an order. The clock is read now that the order is here.
-fn heed<R: Wait, C: Cuts>(
+fn heed<R: Wait, C: LinkControl>(
     rt: &R,
     shared_port: &PeerPort<C>,
     order: Order,
@@ -272,7 +272,7 @@ fn heed<R: Wait, C: Cuts>(
     requires server { NamesServer order }
     ensures { IfOk result (λ answer. IsAnswer order answer) }
 {
-    match shared_port.cuts().now() {
+    match shared_port.link_control().now() {
         Some(now) => Ok(shared_port.hear(rt, order, now)),
         None => Err(TakeFault),
     }

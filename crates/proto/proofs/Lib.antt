@@ -1,3 +1,4 @@
+pub mod AheadLaws
 pub mod EndLaws
 pub mod FieldLaws
 pub mod First

@@ -23,7 +23,7 @@ cond_turns true rs = refl
 cond_turns false rs = refl
 
 -- what stands at the front stays there: its turns come first
-turns_more : (bytes more : List ℕ) (found : Request × ℕ)
+pub turns_more : (bytes more : List ℕ) (found : Request × ℕ)
     → front bytes ≡ Some found
     → turns (bytes ++ more) ≡ turns_of found.0 ++ cond (is_last found.0) [] (turns (drop found.1 bytes ++ more))
 turns_more bytes more found e =

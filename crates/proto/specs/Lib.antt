@@ -9,3 +9,4 @@ pub mod Turns
 pub mod Sessions
 pub mod Streams
 pub mod Runs
+pub mod Ahead

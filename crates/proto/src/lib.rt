@@ -1,6 +1,7 @@
 //! Requests from bytes, and replies to bytes: the subset of memcached's text protocol that a cache speaks.
 #![tactic(auto)]
 
+mod ahead;
 mod commands;
 mod faults;
 mod fields;
@@ -19,6 +20,7 @@ mod turns;
 mod words;
 mod writes;
 
+pub use ahead::Update;
 pub use faults::ProtoFault;
 pub use laws::{found_is_spelled, one_request_at_a_front, spelled_is_found, whole_stays_whole};
 pub use requests::{Fault, Keys, Request};

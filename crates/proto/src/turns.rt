@@ -105,7 +105,7 @@ impl Session {
     }
 
     // The plain `set` that stands whole at the front, if no line was read there before.
-    fn set_at_front(&self) -> Result<Option<LoneSet>, AllocError>
+    pub(crate) fn set_at_front(&self) -> Result<Option<LoneSet>, AllocError>
         ensures { IfOk result (λ found. IfSome found (λ set. IsAtFront set self.now.unread)) }
     {
         if self.pending.is_some() {
@@ -260,7 +260,7 @@ impl Session {
     }
 
     // Takes the bytes of a request off the front.
-    fn consume(&mut self, n: usize)
+    pub(crate) fn consume(&mut self, n: usize)
         requires { n ≤ length self.old.unread }
         ensures { self.new ≡ record self.old { unread = drop n self.old.unread } }
     {
@@ -279,7 +279,8 @@ fn forget(pending: &mut Option<Pending>)
     }
 }
 
-fn update_form(silent: bool) -> Form
+// The form of an update's answer.
+pub(crate) fn update_form(silent: bool) -> Form
     ensures form { result ≡ form_of silent }
     ensures update { shows result ≡ false }
 {

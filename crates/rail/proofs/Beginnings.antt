@@ -1,6 +1,6 @@
 -- What was taken from a queue is a beginning of what was put there.
 use Rattle.std.proofs.Common.{◌≡◌, ℕ, Bool, true, false, true≢false, if◌then◌else◌, ◌==◌, List, [], ◌∷◌, ◌++◌, sym}
-use Rattle.std.proofs.Common.{refl, ap, ◌∙◌, ◌⊎◌, ⊎_elim}
+use Rattle.std.proofs.Common.{refl, ap, ◌∙◌, ⊎_elim}
 use mathlib.Core.Option.{some}
 use lib.ListN.{get_elem?}
 use Rattle.rail.specs.declared.inbox_messages.InboxMessage.{InboxMessage}

@@ -13,7 +13,7 @@ use Rattle.rail.specs.declared.inbox.InboxKnowledge.{InboxKnowledge}
 use Rattle.rail.specs.declared.inbox_messages.InboxMessage.TheVariants.{Took, Stop, End}
 use Rattle.node.specs.Replies.{AreCallsBelow}
 use Rattle.rail.specs.InboxMessages.{IsBelow, AreBelow}
-use Rattle.rail.specs.Inbox.{sender, taker, of, Fits, Delivers}
+use Rattle.rail.specs.Inbox.{nobody, sender, taker, of, Fits, Delivers}
 use Rattle.node.specs.declared.messages.Input.{Input}
 use Rattle.node.specs.declared.messages.Input.TheVariants.{Call as Called, From, Gone}
 
@@ -249,4 +249,39 @@ makes pass made ports own more got up owned items views h at =
             λ g. absurd (true≢false (sym g)),
           ))
           (at_new vs (sender made own []) u j e);
+    }
+
+-- one more port
+pub adds_port : (pass made ports : ℕ) (got : List Envelope)
+    → Forks Delivers pass (taker made ports got) (taker made (ports + 1) got) nobody
+adds_port pass made ports got items views h at =
+    let mine = (h.each pass (taker made ports got) at).1 refl in
+    let more = ports + 1 in
+    let vs : List InboxKnowledge = set views pass (taker made more got) in
+    let rise : h.ports ≤ more = omega (arith, mine.2) in
+    let old : All (Fits h.reader h.seat h.sent h.got more) vs =
+    all_set (Fits h.reader h.seat h.sent h.got more) views pass (taker made more got) (
+      (λ s. absurd (true≢false (sym s))),
+      λ _. (mine.0, mine.1, refl, mine.3),
+    )
+    (λ j u apart e.
+    let o = h.each j u e in (
+      (λ s. let m = o.0 s in (m.0, m.1, omega (arith, m.2, rise))),
+      λ g. absurd (apart ((o.1 g).0 ∙ sym mine.0)),
+    )) in record {
+      reader = h.reader;
+      seat = h.seat;
+      sent = h.sent;
+      got = h.got;
+      ports = more;
+      order = h.order;
+      below = are_more h.ports more items rise h.below;
+      each = λ j u e.
+          ⊎_elim (λ (t : (get_elem? vs j ≡ some u) × (j < length vs)). old j u t.0)
+          (λ (t : (nobody ≡ u) × (j ≡ length vs)). subst
+          (λ (y : InboxKnowledge). Fits h.reader h.seat h.sent h.got more j y) t.0 (
+            (λ s. absurd (true≢false (sym s))),
+            λ g. absurd (true≢false (sym g)),
+          ))
+          (at_new vs nobody u j e);
     }

@@ -11,3 +11,5 @@ pub mod PortBits
 pub mod Refusing
 pub mod Staying
 pub mod Beginnings
+pub mod Stepping
+pub mod Sent

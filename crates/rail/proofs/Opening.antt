@@ -11,11 +11,13 @@ use Rattle.node.proofs.PortLaws.{idle-none_open}
 use Rattle.faces.specs.Histories.{Origin}
 use Rattle.faces.specs.Readers.{yet_to_look}
 use Rattle.rail.specs.declared.thread_handles.ThreadHandle.{ThreadHandle}
+use Rattle.rail.specs.CallSenders.{call_sender_at}
 use Rattle.rail.specs.Inlets.{InletState, inlet_at, inlets_from}
 use Rattle.rail.specs.NotedReplies.{ReplySenderState, reply_sender_at}
 use Rattle.rail.specs.Seats.{SeatState}
 use Rattle.rail.specs.Turns.{AreReplySenders}
-use Rattle.rail.specs.Servers.{history_at, reply_senders_from, seat_at, seats_from, thread_handle_at, thread_handles_from}
+use Rattle.rail.specs.Servers.{history_at, reply_senders_from, seat_at, seats_from, thread_handle_at}
+use Rattle.rail.specs.Servers.{thread_handles_from}
 
 pub more_reply_senders : (o : Origin) (k n m : ℕ) → m ≡ k + n
     → reply_senders_from o k (n + 1) ≡ reply_senders_from o k n ++ reply_sender_at o m ∷ []
@@ -28,20 +30,21 @@ more_reply_senders o k (suc n) m is =
 pub more_thread_handles : (o : Origin) (b : TableId) (k n m : ℕ)
     → m ≡ k + n
     → thread_handles_from o b k (n + 1) ≡ thread_handles_from o b k n ++ thread_handle_at o b m ∷ []
-more_thread_handles o b k zero m is = ap (λ (j : ℕ). thread_handle_at o b j ∷ []) (let e : k ≡ m = omega (arith, is) in e)
+more_thread_handles o b k zero m is = ap (λ (j : ℕ). thread_handle_at o b j ∷ []) (let e : k ≡ m = omega
+    (arith, is) in e)
 more_thread_handles o b k (suc n) m is =
     let e : suc n + 1 ≡ suc (n + 1) = omega arith in
     ap (thread_handles_from o b k) e ∙ ap (λ (ps : List ThreadHandle). thread_handle_at o b k ∷ ps)
     (more_thread_handles o b (k + 1) n m (omega (arith, is)))
 
-pub seats_more : (o : Origin) (b : TableId) (k n m : ℕ)
+pub seats_more : (o : Origin) (k n m : ℕ)
     → m ≡ k + n
-    → seats_from o b k (n + 1) ≡ seats_from o b k n ++ seat_at o b m ∷ []
-seats_more o b k zero m is = ap (λ (j : ℕ). seat_at o b j ∷ []) (let e : k ≡ m = omega (arith, is) in e)
-seats_more o b k (suc n) m is =
+    → seats_from o k (n + 1) ≡ seats_from o k n ++ seat_at o m ∷ []
+seats_more o k zero m is = ap (λ (j : ℕ). seat_at o j ∷ []) (let e : k ≡ m = omega (arith, is) in e)
+seats_more o k (suc n) m is =
     let e : suc n + 1 ≡ suc (n + 1) = omega arith in
-    ap (seats_from o b k) e ∙ ap (λ (ss : List SeatState). seat_at o b k ∷ ss)
-    (seats_more o b (k + 1) n m (omega (arith, is)))
+    ap (seats_from o k) e ∙ ap (λ (ss : List SeatState). seat_at o k ∷ ss)
+    (seats_more o (k + 1) n m (omega (arith, is)))
 
 pub inlets_more : (b : TableId) (k n m : ℕ)
     → m ≡ k + n
@@ -72,14 +75,18 @@ length_opened o k (suc n) = ap suc (length_opened o (k + 1) n)
 pub idle_below : (n : NodeState) (ports : ℕ) → is_idle n ≡ true → AreOpenBelow ports n.server
 idle_below n ports idle = λ port reads above. idle-none_open n port reads idle
 
--- a reader that hasn't looked and a seat before any call make that thread handle
+-- a reader that hasn't looked, a seat before any call and a sender that sent nothing make that thread handle
 pub is_thread_handle_at : (o : Origin) (b : TableId) (k : ℕ) (s : ThreadHandle)
     → s.reader ≡ yet_to_look (history_at o)
-    → s.seat ≡ seat_at o b k
+    → s.seat ≡ seat_at o k
+    → s.call_sender ≡ call_sender_at o b k
     → s ≡ thread_handle_at o b k
-is_thread_handle_at o b k s reader seat = λ i. record {
+is_thread_handle_at o b k s reader seat call_sender = λ i. record {
   reader = reader i;
   seat = seat i;
+  call_sender = call_sender i;
   together = is_prop→PathP (λ j. (seat j).origin ≡ (reader j).seen.origin)
       (λ j. hlevel (codes, coded_items, book_coded)) s.together refl i;
+  sends = is_prop→PathP (λ j. (call_sender j).origin ≡ (reader j).seen.origin)
+      (λ j. hlevel (codes, coded_items, book_coded)) s.sends refl i;
 }

@@ -1,6 +1,6 @@
 -- Outputs whose messages are taken out, one after another.
 use Rattle.std.proofs.Common.{◌≡◌, inl, inr, ℕ, ◌+◌, ◌<◌, ◌≤◌, ◌==◌, zero, suc, if◌then◌else◌, List, [], ◌∷◌, ◌++◌}
-use Rattle.std.proofs.Common.{length, map, slice_index_or, slice_set, refl, ap, sym, ◌∙◌, subst, arith}
+use Rattle.std.proofs.Common.{length, map, slice_index_or, slice_set, refl, ap, ◌∙◌, subst, arith}
 use Rattle.node.specs.declared.messages.Output.{Output}
 use Rattle.node.specs.declared.messages.Output.TheVariants.{To, Reply as Replied}
 use Rattle.node.specs.Replies.{AreRepliesBelow}

@@ -1,5 +1,5 @@
 -- A worker stays that of its server, whatever a turn of it does.
-use Rattle.std.proofs.Common.{◌≡◌, ◌⊎◌, inl, inr, ap, Option, Some, None, Ok, Err}
+use Rattle.std.proofs.Common.{◌≡◌, inl, inr, ap, Option, Some, None, Ok, Err}
 use Rattle.std.specs.declared.result.Result.{Result}
 use Rattle.faces.specs.Histories.{History}
 use Rattle.rail.specs.declared.inbox_messages.Envelope.{Envelope}
@@ -26,7 +26,8 @@ module _ {C : Type 0} (w w' : WorkerState) (l l' : LinksState C) where
   message_server m (Err NoReader) did = absurd did
 
   -- in a turn
-  pub turn_server : (result : Result Turn RailFault) → IsTurn w w' l l' result → w'.published.origin ≡ w.published.origin
+  pub turn_server : (result : Result Turn RailFault) → IsTurn w w' l l' result
+      → w'.published.origin ≡ w.published.origin
   turn_server (Ok turn) took = message_server took.message (Ok turn) took.did
   turn_server (Err Memory) took = message_server took.message (Err Memory) took.did
   turn_server (Err Closed) closed = ap (λ (c : History). c.origin) closed.stopped.stopped.published

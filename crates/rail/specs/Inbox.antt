@@ -16,12 +16,16 @@ sender from ports put = record { sends = true; from = from; ports = ports; put =
 abbrev pub taker : ℕ → ℕ → List Envelope → InboxKnowledge
 taker made ports got = record { sends = false; from = 0; ports = ports; put = []; gets = true; made = made; got = got }
 
+-- a pass of neither
+abbrev pub nobody : InboxKnowledge
+nobody = record { sends = false; from = 0; ports = 0; put = []; gets = false; made = 0; got = [] }
+
 -- A sender's pass knows one inbox message more, or the inbox message was handed back.
 abbrev pub HasSent : InboxKnowledge → InboxKnowledge → InboxMessage → Result (Unit {0}) InboxMessage → Type 0
 HasSent v v' inbox_message r =
     MatchResult r (λ _. v'.put ≡ v.put ++ inbox_message ∷ []) (λ back. (back ≡ inbox_message) × (v' ≡ v))
 
--- The receiver's pass knows one message more, and a call's port is below the number of seats.
+-- The receiver's pass knows one message more, and a call's port is below the number of ports.
 abbrev pub HasGot : InboxKnowledge → InboxKnowledge → Envelope → Type 0
 HasGot v v' m = (v' ≡ taker v.made v.ports (v.got ++ m ∷ [])) × IsBelow v.ports m.inbox_message
 

@@ -5,6 +5,7 @@ pub mod NotedReplies
 pub mod Links
 pub mod ReplyMessages
 pub mod Ports
+pub mod CallSenders
 pub mod Seats
 pub mod Takes
 pub mod Turns

@@ -1,41 +1,48 @@
 -- Seats.
-use Rattle.std.specs.Prelude.{ℕ, List, [], ◌∷◌, ◌++◌}
-use Rattle.atomic_table.specs.Seated.{TableId}
+use Rattle.std.specs.Prelude.{◌≡◌, ℕ, ◌==◌, if◌then◌else◌, List, [], ◌∷◌, ◌++◌, map}
 use Rattle.faces.specs.Histories.{Origin, History}
+use Rattle.node.specs.declared.messages.Input.{Input}
+use Rattle.node.specs.declared.messages.Input.TheVariants.{Call as Called, From, Gone}
 use Rattle.rail.specs.declared.inbox_messages.InboxMessage.{InboxMessage}
-use Rattle.rail.specs.declared.inbox_messages.InboxMessage.TheVariants.{Took}
-use Rattle.rail.specs.declared.inbox.InboxKnowledge.{InboxKnowledge}
+use Rattle.rail.specs.declared.inbox_messages.InboxMessage.TheVariants.{Took, Stop, End}
 use Rattle.rail.specs.declared.reply_channels.ReplyKnowledge.{ReplyKnowledge}
+use Rattle.rail.specs.CallSenders.{CallSenderState, SentCall}
 use Rattle.rail.specs.NotedReplies.{NotedReply}
-use Rattle.node.specs.declared.messages.Input.TheVariants.{Call as Called}
 use Rattle.table.specs.declared.operations.Call.{Call}
 use Rattle.table.specs.declared.operations.Reply.{Reply}
 
--- a seat: its server, the inbox to which it sends and its number among the senders there (`InletState`), its port, what
--- it sent, and the replies that it took
+-- a seat: its server, its port, the calls that were sent at it, in order, and the replies that it took
 pub record SeatState : Type 0 where
   pub origin : Origin
-  pub inbox : TableId
-  pub number : ℕ
   pub port : ℕ
-  pub sent : List InboxMessage
+  pub calls : List SentCall
   pub got : List NotedReply
 
--- what a seat shows of its inbox, and of the passes of its replies and of its calls
-abbrev pub seat_of : TableId → ReplyKnowledge → InboxKnowledge → SeatState
-seat_of inbox replies calls = record {
-  origin = replies.origin;
-  inbox = inbox;
-  number = calls.from;
-  port = replies.port;
-  sent = calls.put;
-  got = replies.list;
-}
+-- what a seat shows of its calls, and of the pass of its replies
+abbrev pub seat_of : List SentCall → ReplyKnowledge → SeatState
+seat_of calls replies = record { origin = replies.origin; port = replies.port; calls = calls; got = replies.list }
 
--- a seat that sent one call more
-abbrev pub with_call : SeatState → Call → SeatState
-with_call s call = record s { sent = s.sent ++ Took (Called s.port call) ∷ [] }
+-- a seat at which this sender sent one call more
+abbrev pub with_sent : SeatState → CallSenderState → Call → SeatState
+with_sent s sender call = record s { calls = s.calls ++ (record { sender = sender; call = call }) ∷ [] }
 
 -- a seat that took one reply more, with this note
 abbrev pub with_reply : SeatState → Reply → History → SeatState
 with_reply s reply told = record s { got = s.got ++ (record { port = s.port; reply = reply; told = told }) ∷ [] }
+
+-- these calls, after that of the input, if it is one from port p
+abbrev pub with_called : ℕ → Input → List Call → List Call
+with_called p (Called port call) calls = if p == port then call ∷ calls else calls
+with_called p (From i peer) calls = calls
+with_called p (Gone j) calls = calls
+
+-- the calls from port p among these inbox messages, in order
+abbrev pub calls_of : ℕ → List InboxMessage → List Call
+calls_of p [] = []
+calls_of p (Took input ∷ es) = with_called p input (calls_of p es)
+calls_of p (Stop ∷ es) = calls_of p es
+calls_of p (End ∷ es) = calls_of p es
+
+-- what the sender sent from the seat's port is what was sent at the seat
+abbrev pub IsInStep : CallSenderState → SeatState → Type 0
+IsInStep sender seat = calls_of seat.port sender.sent ≡ map (λ (sent : SentCall). sent.call) seat.calls

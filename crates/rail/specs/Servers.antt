@@ -5,6 +5,7 @@ use Rattle.node.specs.Nodes.{NodeState}
 use Rattle.faces.specs.Histories.{Origin, History}
 use Rattle.faces.specs.Readers.{yet_to_look}
 use Rattle.rail.specs.declared.thread_handles.ThreadHandle.{ThreadHandle}
+use Rattle.rail.specs.CallSenders.{call_sender_at}
 use Rattle.rail.specs.Inlets.{InletState, inlets_from}
 use Rattle.rail.specs.NotedReplies.{ReplySenderState, reply_sender_at}
 use Rattle.rail.specs.Seats.{SeatState}
@@ -19,18 +20,26 @@ abbrev pub reply_senders_from : Origin → ℕ → ℕ → List ReplySenderState
 reply_senders_from o k zero = []
 reply_senders_from o k (suc n) = reply_sender_at o k ∷ reply_senders_from o (k + 1) n
 
--- the seat of port k before any call, which sends to this inbox as number k
-abbrev pub seat_at : Origin → TableId → ℕ → SeatState
-seat_at o b k = record { origin = o; inbox = b; number = k; port = k; sent = []; got = [] }
+-- the seat of port k before any call
+abbrev pub seat_at : Origin → ℕ → SeatState
+seat_at o k = record { origin = o; port = k; calls = []; got = [] }
 
 -- the seats of n ports, from port k on
-abbrev pub seats_from : Origin → TableId → ℕ → ℕ → List SeatState
-seats_from o b k zero = []
-seats_from o b k (suc n) = seat_at o b k ∷ seats_from o b (k + 1) n
+abbrev pub seats_from : Origin → ℕ → ℕ → List SeatState
+seats_from o k zero = []
+seats_from o k (suc n) = seat_at o k ∷ seats_from o (k + 1) n
 
--- a reader that has seen no input and hasn't looked, and the seat of port k before any call
+-- a reader that has seen no input and hasn't looked, the seat of port k before any call, and a sender of calls that
+-- sent nothing, which sends to this inbox as number k
 abbrev pub thread_handle_at : Origin → TableId → ℕ → ThreadHandle
-thread_handle_at o b k = record { reader = yet_to_look (history_at o); seat = seat_at o b k; together = refl }
+thread_handle_at o b k =
+    record {
+      reader = yet_to_look (history_at o);
+      seat = seat_at o k;
+      call_sender = call_sender_at o b k;
+      together = refl;
+      sends = refl;
+    }
 
 -- the thread handles of n ports, from port k on
 abbrev pub thread_handles_from : Origin → TableId → ℕ → ℕ → List ThreadHandle
@@ -38,8 +47,8 @@ thread_handles_from o b k zero = []
 thread_handles_from o b k (suc n) = thread_handle_at o b k ∷ thread_handles_from o b (k + 1) n
 
 -- A worker, thread handles, more seats and inlets of one running server, which begins as this node, before any input.
--- The seats have the ports after those of the thread handles. All of them send to the worker's inbox, each by its port
--- as its number, and the numbers of the inlets follow.
+-- The seats have the ports after those of the thread handles. The senders of the thread handles send to the worker's
+-- inbox, each by its port as its number, and the numbers of the inlets follow.
 pub record IsOpened (node : NodeState) (readers more inlets : ℕ) (w : WorkerState) (beside : List ThreadHandle)
     (others : List SeatState) (brought : List InletState) : Type 0 where
   pub origin : Origin
@@ -53,5 +62,5 @@ pub record IsOpened (node : NodeState) (readers more inlets : ℕ) (w : WorkerSt
     reply_senders = reply_senders_from origin 0 (readers + more);
   }
   pub thread_handles : beside ≡ thread_handles_from origin inbox 0 readers
-  pub seats : others ≡ seats_from origin inbox readers more
-  pub brought_by : brought ≡ inlets_from inbox (readers + more) inlets
+  pub seats : others ≡ seats_from origin readers more
+  pub brought_by : brought ≡ inlets_from inbox readers inlets

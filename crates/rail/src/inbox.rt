@@ -4,7 +4,7 @@ ghost use Rattle.std.specs.Prelude.{◌≡◌, [], ◌∷◌, ◌++◌, IfOk, If
 ghost use Rattle.crossbeam_channel.specs.Claims.{view, IsSeatAt};
 ghost use Rattle.crossbeam_channel.specs.Ends.{sends_on, receives_on, ruled_capacity};
 ghost use Rattle.rail.specs.InboxMessages.{IsBelow};
-ghost use Rattle.rail.specs.Inbox.{Delivers, HasGot, HasSent, sender, taker};
+ghost use Rattle.rail.specs.Inbox.{Delivers, HasGot, HasSent, nobody, sender, taker};
 ghost use Rattle.rail.specs.Takes.{IsTake, IsTry};
 
 use crate::RailFault;
@@ -40,13 +40,22 @@ impl Protocol<Envelope, InboxKnowledge> for InboxRule {
     ghost first = { taker 0 0 [] };
 }
 
-/// One more sender of calls, at one more port.
-pub struct AddsSeat;
+/// One more port, from which no call was sent yet. The other pass is nobody's.
+pub struct AddsPort;
 
-impl Split<InboxKnowledge> for AddsSeat {
-    ghost left = { λ v. taker (v.made + 1) (v.ports + 1) v.got };
+impl Split<InboxKnowledge> for AddsPort {
+    ghost left = { λ v. taker v.made (v.ports + 1) v.got };
 
-    ghost right = { λ v. sender v.made (v.ports + 1) [] };
+    ghost right = { λ v. nobody };
+}
+
+/// One more sender of calls, from each port so far.
+pub struct AddsCaller;
+
+impl Split<InboxKnowledge> for AddsCaller {
+    ghost left = { λ v. taker (v.made + 1) v.ports v.got };
+
+    ghost right = { λ v. sender v.made v.ports [] };
 }
 
 /// One more sender, of no calls.
@@ -88,10 +97,11 @@ pub type InboxReceiver = RuledReceiver<Envelope, InboxKnowledge, InboxRule>;
 #[derive(Drop)]
 pub struct Slot {
     from: u64,
+    ports: usize,
     to: InboxSender,
     pub pass: Pass<Envelope, InboxKnowledge>,
     ghost seated: { IsSeatAt (sends_on to) pass },
-    ghost sends: { view pass ≡ sender from (view pass).ports (view pass).put },
+    ghost sends: { view pass ≡ sender from ports (view pass).put },
 }
 
 /// The receiver of the inbox, with its pass.
@@ -109,10 +119,11 @@ pub struct InboxBuilder {
     to: InboxSender,
     inbox: InboxReceiver,
     made: u64,
+    ports: usize,
     pub pass: Pass<Envelope, InboxKnowledge>,
     ghost same: { receives_on inbox ≡ sends_on to },
     ghost seated: { IsSeatAt (sends_on to) pass },
-    ghost gets: { view pass ≡ taker made (view pass).ports [] },
+    ghost gets: { view pass ≡ taker made ports [] },
 }
 
 impl InboxBuilder {
@@ -129,25 +140,42 @@ impl InboxBuilder {
             to,
             inbox,
             made: 0,
+            ports: 0,
             pass,
         })
     }
 
-    /// One more sender of calls, whose ports are one more.
-    pub fn seat(&mut self) -> Result<Slot, AllocError>
+    /// One more port. The senders so far may not use it.
+    pub fn add_port(&mut self)
+        requires { (view self.old.pass).ports < 2 ^ 63 }
+        ensures made { view self.new.pass ≡ taker (view self.old.pass).made ((view self.old.pass).ports + 1) [] }
+        ensures same { self.new.pass.table_id ≡ self.old.pass.table_id }
+    {
+        let pass = self.to.another::<AddsPort>(&mut self.pass);
+        drop(pass);
+        self.ports += 1;
+    }
+
+    /// One more sender of calls, from each port so far.
+    pub fn caller(&mut self) -> Result<Slot, AllocError>
         requires { (view self.old.pass).made < 2 ^ 63 }
         ensures slot { IfOk result
-            (λ s. view s.pass ≡ sender (view self.old.pass).made ((view self.old.pass).ports + 1) []) }
+            (λ s. view s.pass ≡ sender (view self.old.pass).made (view self.old.pass).ports []) }
         ensures made { IfOk result
-            (λ _. view self.new.pass ≡ taker ((view self.old.pass).made + 1) ((view self.old.pass).ports + 1) []) }
+            (λ _. view self.new.pass ≡ taker ((view self.old.pass).made + 1) (view self.old.pass).ports []) }
         ensures inbox { IfOk result (λ s. s.pass.table_id ≡ self.old.pass.table_id) }
         ensures same { self.new.pass.table_id ≡ self.old.pass.table_id }
     {
         let to = self.to.try_clone()?;
         let from = self.made;
-        let pass = self.to.another::<AddsSeat>(&mut self.pass);
+        let pass = self.to.another::<AddsCaller>(&mut self.pass);
         self.made = from + 1;
-        Ok(Slot { from, to, pass })
+        Ok(Slot {
+            from,
+            ports: self.ports,
+            to,
+            pass,
+        })
     }
 
     /// One more sender, which sends no calls.
@@ -163,7 +191,12 @@ impl InboxBuilder {
         let from = self.made;
         let pass = self.to.another::<AddsInlet>(&mut self.pass);
         self.made = from + 1;
-        Ok(Slot { from, to, pass })
+        Ok(Slot {
+            from,
+            ports: 0,
+            to,
+            pass,
+        })
     }
 
     /// The receiver. No more senders are made.
@@ -177,6 +210,13 @@ impl InboxBuilder {
 }
 
 impl Slot {
+    /// The ports of its calls are below this number.
+    pub fn ports(&self) -> usize
+        ensures { result ≡ (view self.now.pass).ports }
+    {
+        self.ports
+    }
+
     /// At `Ok` the inbox message is added to what this sender sent. At `Err` it is handed back. It may wait.
     pub fn send<R: Wait>(&mut self, rt: &R, inbox_message: InboxMessage) -> Result<(), InboxMessage>
         requires { IsBelow (view self.old.pass).ports inbox_message }

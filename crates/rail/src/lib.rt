@@ -1,6 +1,8 @@
 //! The threads of one server: a worker that owns the node, and those who ask it, read beside it and carry its messages.
 #![tactic(auto)]
 
+mod call_notes;
+mod call_senders;
 mod faults;
 mod inbox;
 mod inbox_messages;
@@ -19,11 +21,12 @@ mod servers;
 mod thread_handles;
 mod workers;
 
+pub use call_senders::CallSender;
 pub use faces::{Published, Reader, Told, Weight};
 pub use faults::RailFault;
 pub use inbox_messages::{Envelope, FitInput, InboxMessage};
 pub use inlets::Inlet;
-pub use laws::{replies_begin_those_put, taken_begins_sent};
+pub use laws::{calls_keep_step, replies_begin_those_put, taken_begins_sent};
 pub use links::Links;
 pub use port_sets::PortSet;
 pub use rooms::Room;

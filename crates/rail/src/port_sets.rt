@@ -2,7 +2,7 @@
 ghost use Rattle.std.specs.Prelude.{◌≡◌, ◌↔◌, ◌%◌, ◌==◌, ◌||◌, ℕ, false, IsTrue};
 ghost use Rattle.rail.specs.Ports.{has_port};
 
-/// A set of ports of one server, which has 16 ports at most. Ports that lie 64 apart are one to it: with more than 64
+/// A set of ports of one server, which has 64 ports at most. Ports that lie 64 apart are one to it: with more than 64
 /// it may have a port that wasn't added, but never lacks one that was.
 #[derive(Clone, Copy, Debug, PartialEq, Eq)]
 pub struct PortSet {

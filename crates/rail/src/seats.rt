@@ -1,12 +1,15 @@
-//! Seats, which submit calls to a worker and wait for their replies.
-ghost use Rattle.std.specs.Prelude.{◌≡◌, ◌<◌, MatchOption, MatchResult, IfOk, IfErr, IfSome};
+//! Seats, at which calls are sent to a worker, and which wait for their replies.
+ghost use Rattle.std.specs.Prelude.{◌≡◌, [], MatchOption, MatchResult, IfOk, IfErr, IfSome};
 ghost use Rattle.crossbeam_channel.specs.Claims.{view};
 ghost use Rattle.node.specs.Lawful.{IsCall};
+ghost use Rattle.node.specs.declared.messages.Input.TheVariants.{Call as Called};
 ghost use Rattle.node.specs.declared.messages.Output.TheVariants.{Reply as Replied};
 ghost use Rattle.faces.specs.Outputs.{PutsOut};
-ghost use Rattle.rail.specs.Seats.{seat_of, with_reply, with_call};
+ghost use Rattle.rail.specs.Seats.{seat_of, with_reply};
+ghost use Rattle.rail.specs.declared.inbox_messages.InboxMessage.TheVariants.{Took};
 
 use crate::RailFault;
+use crate::call_notes::CallNote;
 use crate::inbox::Slot;
 use crate::inbox_messages::{FitInput, InboxMessage};
 use crate::reply_channels::ReplyReceiver;
@@ -16,17 +19,18 @@ use std::marker::Model;
 use std::sync::Wait;
 use table::{Call, Reply};
 
-/// A seat at a server: it submits calls, and takes their replies. Contracts see whose seat it is, to which inbox it
-/// sends and as which number, what it sent, and the replies that it took (`SeatState`).
+/// A seat at a server: a `CallSender` sends its calls, and it takes their replies. Contracts see whose seat it is, the
+/// calls that were sent at it, and the replies that it took (`SeatState`).
 #[derive(Drop)]
 pub struct Seat {
     port: usize,
-    slot: Slot,
+    // What was sent, which contracts alone see. There is room for all of it from the first: a note has no bytes.
+    calls: Vec<CallNote>,
     reply_receiver: ReplyReceiver,
 }
 
 impl Model for Seat {
-    ghost use Rattle.std.specs.Prelude.{◌≡◌, ◌<◌};
+    ghost use Rattle.std.specs.Prelude.{◌≡◌};
     ghost use Rattle.std.specs.Coded.{codes};
     ghost use Rattle.atomic_table.specs.Seated.{table_id_coded};
     ghost use Rattle.logbook.specs.Pages.{book_coded};
@@ -38,35 +42,53 @@ impl Model for Seat {
 
     ghost coded = { Prim.hlevel (codes, coded_items, book_coded, table_id_coded) };
 
-    ghost view = { λ s. seat_of s.slot.pass.table_id (claims.view s.reply_receiver.pass) (claims.view s.slot.pass) };
+    ghost view = { λ s. seat_of s.calls.items (claims.view s.reply_receiver.pass) };
 
-    ghost invariant = { λ s. (s.port ≡ (claims.view s.reply_receiver.pass).port)
-        × (s.port < (claims.view s.slot.pass).ports) };
+    ghost invariant = { λ s. s.port ≡ (claims.view s.reply_receiver.pass).port };
 }
 
 impl Seat {
-    pub(crate) fn new(port: usize, slot: Slot, reply_receiver: ReplyReceiver) -> Seat
-        requires reply_receiver { port ≡ (view reply_receiver.pass).port }
-        requires slot { port < (view slot.pass).ports }
-        ensures { result ≡
-            record (seat_of slot.pass.table_id (view reply_receiver.pass) (view slot.pass)) { port = port } }
+    ghost use Rattle.std.specs.Prelude.{◌≡◌, ◌∷◌, ◌++◌, []};
+
+    pub(crate) fn new(port: usize, calls: Vec<CallNote>, reply_receiver: ReplyReceiver) -> Seat
+        requires port { port ≡ (view reply_receiver.pass).port }
+        requires calls { calls.items ≡ [] }
+        ensures { result ≡ seat_of [] (view reply_receiver.pass) }
     {
         Seat {
             port,
-            slot,
+            calls,
             reply_receiver,
         }
     }
 
-    /// Sends a call to the server. The call is handed back if the worker is gone. May wait.
-    pub fn submit<R: Wait>(&mut self, rt: &R, call: Call) -> Result<(), Call>
+    // Sends a call, of which this is the note. The call is handed back if the worker is gone, or the sender doesn't
+    // have the seat's port, or there is no room for the note, of which there are as many as there ever are calls.
+    pub(crate) fn send<R: Wait>(
+        &mut self,
+        rt: &R,
+        slot: &mut Slot,
+        call_note: CallNote,
+        call: Call,
+    ) -> Result<(), Call>
         requires { IsCall call }
-        ensures { MatchResult result (λ _. self.new ≡ with_call self.old call)
+        ensures seat { MatchResult result (λ _. self.new ≡ record self.old { calls = self.old.calls ++ call_note ∷ [] })
             (λ back. (back ≡ call) × (self.new ≡ self.old)) }
+        ensures sent { MatchResult result
+            (λ _. (view slot.new.pass).put ≡ (view slot.old.pass).put ++ Took (Called self.old.port call) ∷ [])
+            (λ _. view slot.new.pass ≡ view slot.old.pass) }
+        ensures number { (view slot.new.pass).from ≡ (view slot.old.pass).from }
+        ensures inbox { slot.new.pass.table_id ≡ slot.old.pass.table_id }
     {
+        if self.port >= slot.ports() || self.calls.len() >= self.calls.capacity() {
+            return Err(call);
+        }
         let inbox_message = InboxMessage::Took(FitInput::new(Input::Call(self.port, call)));
-        match self.slot.send(rt, inbox_message) {
-            Ok(()) => Ok(()),
+        match slot.send(rt, inbox_message) {
+            Ok(()) => {
+                self.calls.push_reserved(call_note);
+                Ok(())
+            }
             Err(InboxMessage::Took(back)) => match back.into_input() {
                 Input::Call(_, call) => Err(call),
                 _ => unreachable!(),

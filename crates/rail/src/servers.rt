@@ -4,6 +4,7 @@ ghost use Rattle.crossbeam_channel.specs.Claims.{view};
 ghost use Rattle.faces.specs.Readers.{yet_to_look};
 ghost use Rattle.node.specs.Nodes.{is_idle};
 ghost use Rattle.node.specs.Lawful.{IsLawful};
+ghost use Rattle.rail.specs.CallSenders.{call_sender_at};
 ghost use Rattle.rail.specs.Inbox.{taker};
 ghost use Rattle.rail.specs.Inlets.{inlet_at, inlets_from};
 ghost use Rattle.rail.specs.NotedReplies.{reply_sender_at};
@@ -18,9 +19,11 @@ ghost use Rattle.rail.specs.Servers.{
 };
 
 use crate::RailFault;
+use crate::call_notes::CallNote;
+use crate::call_senders::CallSender;
 use crate::inbox::InboxBuilder;
 use crate::inlets::Inlet;
-use crate::limits::REPLIES;
+use crate::limits::{CALLS, REPLIES};
 use crate::reply_channels::{ReplySender, open as open_queue};
 use crate::rooms::Room;
 use crate::seats::Seat;
@@ -41,10 +44,10 @@ pub struct Server<R: Wait + Drop> {
     pub inlets: Vec<Inlet>,
 }
 
-/// Opens a server that begins as this node: a worker, a reader and a seat for each of n threads, at ports 0, 1 and so
-/// on, further seats at the ports after those, and inlets. Its node may hold items already. Its inbox has this room.
-/// Refused with NoReader if its publisher could make no reader, and otherwise with Memory. Each publish takes time
-/// linear in the readers, and not in the seats.
+/// Opens a server that begins as this node: a worker, a reader, a seat and a sender of calls for each of n threads, at
+/// ports 0, 1 and so on, further seats at the ports after those, and inlets. Each sender may send the calls of each
+/// seat. Its node may hold items already. Its inbox has this room. Refused with NoReader if its publisher could make no
+/// reader, and otherwise with Memory. Each publish takes time linear in the readers, and not in the seats.
 pub fn open<R: Wait + Drop>(
     rt: R,
     alloc: Global,
@@ -55,7 +58,7 @@ pub fn open<R: Wait + Drop>(
     room: Room,
 ) -> Result<Server<R>, RailFault>
     requires readers { 1 ≤ readers }
-    requires seats { readers + more ≤ 16 }
+    requires seats { (readers ≤ 16) × (readers + more ≤ 64) }
     requires inlets { (1 ≤ inlets) × (inlets ≤ 16) }
     requires idle { is_idle node ≡ true }
     ensures { MatchResult result
@@ -111,7 +114,7 @@ fn beside(
     inlets: usize,
 ) -> Result<(Vec<ThreadHandle>, Vec<Seat>, Vec<ReplySender>, Vec<Inlet>), RailFault>
     requires inbox_builder { view inbox_builder.old.pass ≡ taker 0 0 [] }
-    requires few { (readers + more ≤ 16) × (inlets ≤ 16) }
+    requires few { (readers ≤ 16) × (readers + more ≤ 64) × (inlets ≤ 16) }
     requires first { publisher.old.published.inputs ≡ [] }
     ensures publisher { publisher.new ≡ publisher.old }
     ensures inbox_builder { IfOk result
@@ -120,13 +123,13 @@ fn beside(
     ensures thread_handles { IfOk result
         (λ r. r.0.items ≡ thread_handles_from publisher.old.published.origin inbox_builder.old.pass.table_id 0
         readers) }
-    ensures seats { IfOk result
-        (λ r. r.1.items ≡ seats_from publisher.old.published.origin inbox_builder.old.pass.table_id readers more) }
+    ensures seats { IfOk result (λ r. r.1.items ≡ seats_from publisher.old.published.origin readers more) }
     ensures reply_senders { IfOk result (λ r. r.2.items ≡ reply_senders_from publisher.old.published.origin 0
         (readers + more)) }
-    ensures inlets { IfOk result (λ r. r.3.items ≡ inlets_from inbox_builder.old.pass.table_id (readers + more) inlets) }
+    ensures inlets { IfOk result (λ r. r.3.items ≡ inlets_from inbox_builder.old.pass.table_id readers inlets) }
     ensures fault { IfErr result (λ fault. (fault ≡ RailFault.Memory) ⊎ (fault ≡ RailFault.NoReader)) }
 {
+    add_ports(inbox_builder, readers + more);
     let (thread_handles, mut reply_senders) = all_thread_handles(
         alloc,
         publisher,
@@ -136,13 +139,24 @@ fn beside(
     let seats = more_seats(
         alloc,
         publisher.published(),
-        inbox_builder,
         &mut reply_senders,
         readers,
         more,
     )?;
     let inlets = all_inlets(alloc, inbox_builder, inlets)?;
     Ok((thread_handles, seats, reply_senders, inlets))
+}
+
+// An inbox without senders gets n ports.
+fn add_ports(inbox_builder: &mut InboxBuilder, count: usize)
+    requires inbox_builder { view inbox_builder.old.pass ≡ taker 0 0 [] }
+    requires few { count ≤ 64 }
+    ensures inbox_builder { view inbox_builder.new.pass ≡ taker 0 count [] }
+    ensures inbox { inbox_builder.new.pass.table_id ≡ inbox_builder.old.pass.table_id }
+{
+    for _ in 0..count {
+        inbox_builder.add_port();
+    }
 }
 
 // The thread handles of the first n ports, and their reply senders.
@@ -152,11 +166,12 @@ fn all_thread_handles(
     inbox_builder: &mut InboxBuilder,
     readers: usize,
 ) -> Result<(Vec<ThreadHandle>, Vec<ReplySender>), RailFault>
-    requires inbox_builder { view inbox_builder.old.pass ≡ taker 0 0 [] }
+    requires inbox_builder { view inbox_builder.old.pass ≡ taker 0 (view inbox_builder.old.pass).ports [] }
     requires few { readers ≤ 16 }
     requires first { publisher.old.published.inputs ≡ [] }
     ensures publisher { publisher.new ≡ publisher.old }
-    ensures inbox_builder { IfOk result (λ _. view inbox_builder.new.pass ≡ taker readers readers []) }
+    ensures inbox_builder { IfOk result
+        (λ _. view inbox_builder.new.pass ≡ taker readers (view inbox_builder.old.pass).ports []) }
     ensures inbox { OnOk result (inbox_builder.new.pass.table_id ≡ inbox_builder.old.pass.table_id) }
     ensures thread_handles { IfOk result
         (λ r. r.0.items ≡ thread_handles_from publisher.old.published.origin inbox_builder.old.pass.table_id 0
@@ -186,11 +201,12 @@ fn one_thread_handle(
     inbox_builder: &mut InboxBuilder,
     port: usize,
 ) -> Result<(ThreadHandle, ReplySender), RailFault>
-    requires inbox_builder { view inbox_builder.old.pass ≡ taker port port [] }
-    requires few { port < 16 }
+    requires inbox_builder { view inbox_builder.old.pass ≡ taker port (view inbox_builder.old.pass).ports [] }
+    requires few { port < 64 }
     requires first { publisher.old.published.inputs ≡ [] }
     ensures publisher { publisher.new ≡ publisher.old }
-    ensures inbox_builder { IfOk result (λ _. view inbox_builder.new.pass ≡ taker (port + 1) (port + 1) []) }
+    ensures inbox_builder { IfOk result
+        (λ _. view inbox_builder.new.pass ≡ taker (port + 1) (view inbox_builder.old.pass).ports []) }
     ensures inbox { OnOk result (inbox_builder.new.pass.table_id ≡ inbox_builder.old.pass.table_id) }
     ensures thread_handle { IfOk result (λ r. r.0 ≡ thread_handle_at publisher.old.published.origin
         inbox_builder.old.pass.table_id port) }
@@ -222,60 +238,82 @@ fn thread_handle_of(
     inbox_builder: &mut InboxBuilder,
     port: usize,
 ) -> Result<(ThreadHandle, ReplySender), AllocError>
-    requires inbox_builder { view inbox_builder.old.pass ≡ taker port port [] }
-    requires few { port < 16 }
+    requires inbox_builder { view inbox_builder.old.pass ≡ taker port (view inbox_builder.old.pass).ports [] }
+    requires few { port < 64 }
     requires reader { reader ≡ yet_to_look published.now }
     requires first { published.now.inputs ≡ [] }
-    ensures inbox_builder { IfOk result (λ _. view inbox_builder.new.pass ≡ taker (port + 1) (port + 1) []) }
+    ensures inbox_builder { IfOk result
+        (λ _. view inbox_builder.new.pass ≡ taker (port + 1) (view inbox_builder.old.pass).ports []) }
     ensures inbox { OnOk result (inbox_builder.new.pass.table_id ≡ inbox_builder.old.pass.table_id) }
-    ensures thread_handle { IfOk result (λ r. r.0 ≡ thread_handle_at published.now.origin inbox_builder.old.pass.table_id port) }
+    ensures thread_handle { IfOk result
+        (λ r. r.0 ≡ thread_handle_at published.now.origin inbox_builder.old.pass.table_id port) }
     ensures reply_sender { IfOk result (λ r. r.1 ≡ reply_sender_at published.now.origin port) }
 {
-    let (seat, reply_sender) = one_seat(alloc, published, inbox_builder, port)?;
-    Ok((ThreadHandle { reader, seat }, reply_sender))
+    let (seat, reply_sender) = one_seat(alloc, published, port)?;
+    let call_sender = one_call_sender(published, inbox_builder)?;
+    let thread_handle = ThreadHandle {
+        reader,
+        seat,
+        call_sender,
+    };
+    Ok((thread_handle, reply_sender))
+}
+
+// One more sender of calls.
+fn one_call_sender(
+    published: &Published,
+    inbox_builder: &mut InboxBuilder,
+) -> Result<CallSender, AllocError>
+    requires { (view inbox_builder.old.pass).made < 2 ^ 63 }
+    ensures inbox_builder { IfOk result (λ _. view inbox_builder.new.pass ≡
+        taker ((view inbox_builder.old.pass).made + 1) (view inbox_builder.old.pass).ports []) }
+    ensures inbox { OnOk result (inbox_builder.new.pass.table_id ≡ inbox_builder.old.pass.table_id) }
+    ensures call_sender { IfOk result (λ call_sender. call_sender ≡
+        call_sender_at published.now.origin inbox_builder.old.pass.table_id (view inbox_builder.old.pass).made) }
+{
+    let slot = inbox_builder.caller()?;
+    Ok(CallSender::new(published, slot))
 }
 
 // The seat of a port, and its reply sender.
 fn one_seat(
     alloc: Global,
     published: &Published,
-    inbox_builder: &mut InboxBuilder,
     port: usize,
 ) -> Result<(Seat, ReplySender), AllocError>
-    requires inbox_builder { view inbox_builder.old.pass ≡ taker port port [] }
-    requires few { port < 16 }
-    ensures inbox_builder { IfOk result (λ _. view inbox_builder.new.pass ≡ taker (port + 1) (port + 1) []) }
-    ensures inbox { OnOk result (inbox_builder.new.pass.table_id ≡ inbox_builder.old.pass.table_id) }
-    ensures seat { IfOk result (λ r. r.0 ≡ seat_at published.now.origin inbox_builder.old.pass.table_id port) }
+    ensures seat { IfOk result (λ r. r.0 ≡ seat_at published.now.origin port) }
     ensures reply_sender { IfOk result (λ r. r.1 ≡ reply_sender_at published.now.origin port) }
 {
+    let calls = no_calls(alloc, CALLS)?;
     let (reply_sender, reply_receiver) = open_queue(alloc, REPLIES, published, port)?;
-    let seat = Seat::new(port, inbox_builder.seat()?, reply_receiver);
-    Ok((seat, reply_sender))
+    Ok((Seat::new(port, calls, reply_receiver), reply_sender))
+}
+
+// Room for the notes of as many calls as this, which have no bytes.
+fn no_calls(alloc: Global, room: usize) -> Result<Vec<CallNote>, AllocError>
+    ensures { IfOk result (λ calls. calls.items ≡ []) }
+{
+    let calls = Vec::with_capacity(alloc, room)?;
+    Ok(calls)
 }
 
 // Further seats, from port `first` on. Their reply senders come after those so far.
 fn more_seats(
     alloc: Global,
     published: &Published,
-    inbox_builder: &mut InboxBuilder,
     reply_senders: &mut Vec<ReplySender>,
     first: usize,
     count: usize,
 ) -> Result<Vec<Seat>, AllocError>
-    requires inbox_builder { view inbox_builder.old.pass ≡ taker first first [] }
-    requires few { first + count ≤ 16 }
+    requires few { first + count ≤ 64 }
     requires reply_senders { reply_senders.old.items ≡ reply_senders_from published.now.origin 0 first }
-    ensures inbox_builder { IfOk result (λ _. view inbox_builder.new.pass ≡ taker (first + count) (first + count) []) }
-    ensures inbox { OnOk result (inbox_builder.new.pass.table_id ≡ inbox_builder.old.pass.table_id) }
-    ensures seats { IfOk result
-        (λ seats. seats.items ≡ seats_from published.now.origin inbox_builder.old.pass.table_id first count) }
+    ensures seats { IfOk result (λ seats. seats.items ≡ seats_from published.now.origin first count) }
     ensures reply_senders { IfOk result (λ _. reply_senders.new.items ≡ reply_senders_from published.now.origin 0
         (first + count)) }
 {
     let mut seats = Vec::new(alloc);
     for k in 0..count {
-        let (seat, reply_sender) = one_seat(alloc, published, inbox_builder, first + k)?;
+        let (seat, reply_sender) = one_seat(alloc, published, first + k)?;
         seats.push(seat)?;
         reply_senders.push(reply_sender)?;
     }

@@ -185,11 +185,11 @@ senders_next k more left rest (Some links) are split some is =
     subst (λ i. AreFrom i (senders rest)) after (subst (λ xs. AreFrom k (senders xs)) split are).1
 
 -- the seats of each server's parts are of the server of its place
-seated_from : {R : Type 0} (k : ℕ) (servers : List (Opened R)) (servers_parts : List ServerParts)
-    → ArePartsOf servers servers_parts
+seated_from : {R : Type 0} (k : ℕ) (servers : List (Opened R)) (all_server_parts : List ServerParts)
+    → ArePartsOf servers all_server_parts
     → AreFrom k (worker_ids servers)
     → All HasOwnPools (cores_of servers)
-    → AreSeatedFrom k servers_parts
+    → AreSeatedFrom k all_server_parts
 seated_from k [] [] are from own = tt
 seated_from k [] (x ∷ xs) are from own = absurd (cc (are))
 seated_from k (s ∷ ss) [] are from own = absurd are
@@ -203,14 +203,14 @@ seated_from k (s ∷ ss) (x ∷ xs) are from own = (
 )
 
 -- so it is in a whole chain, once its links were made
-pub seated : {R : Type 0} (n : ℕ) (first servers : List (Opened R)) (servers_parts : List ServerParts)
+pub seated : {R : Type 0} (n : ℕ) (first servers : List (Opened R)) (all_server_parts : List ServerParts)
     → starts_of first ≡ openings n n
     → All HasOwnPools (cores_of first)
     → cores_of servers ≡ cores_of first
-    → ArePartsOf servers servers_parts
-    → AreSeatedFrom 0 servers_parts
-seated n first servers servers_parts begun own same are =
-    seated_from 0 servers servers_parts are
+    → ArePartsOf servers all_server_parts
+    → AreSeatedFrom 0 all_server_parts
+seated n first servers all_server_parts begun own same are =
+    seated_from 0 servers all_server_parts are
     (chain_from n servers (ap (λ cs. map (λ (c : Core). c.worker.published.origin.start) cs) same ∙ begun))
     (subst (All HasOwnPools) (sym same) own)
 

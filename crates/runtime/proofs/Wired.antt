@@ -125,43 +125,43 @@ senders_more {R} id all more made are is pushed =
 
 -- of all servers but those that are left these are the parts
 abbrev pub ArePartsSoFar : {R : Type 0} → List (Opened R) → List (Opened R) → List ServerParts → Type 0
-ArePartsSoFar {R} all rest servers_parts =
-    (done : List (Opened R)) × (all ≡ done ++ rest) × ArePartsOf done servers_parts
+ArePartsSoFar {R} all rest all_server_parts =
+    (done : List (Opened R)) × (all ≡ done ++ rest) × ArePartsOf done all_server_parts
 
-pub parts_none : {R : Type 0} (all rest : List (Opened R)) (servers_parts : List ServerParts) → rest ≡ all
-    → servers_parts ≡ []
-    → ArePartsSoFar all rest servers_parts
-parts_none all rest servers_parts same none = ([], sym same, none)
+pub parts_none : {R : Type 0} (all rest : List (Opened R)) (all_server_parts : List ServerParts) → rest ≡ all
+    → all_server_parts ≡ []
+    → ArePartsSoFar all rest all_server_parts
+parts_none all rest all_server_parts same none = ([], sym same, none)
 
-parts_pushed : {R : Type 0} (done : List (Opened R)) (server : Opened R) (servers_parts : List ServerParts)
+parts_pushed : {R : Type 0} (done : List (Opened R)) (server : Opened R) (all_server_parts : List ServerParts)
     (parts : ServerParts)
-    → ArePartsOf done servers_parts
+    → ArePartsOf done all_server_parts
     → IsPartsOf server parts
-    → ArePartsOf (done ++ server ∷ []) (servers_parts ++ parts ∷ [])
+    → ArePartsOf (done ++ server ∷ []) (all_server_parts ++ parts ∷ [])
 parts_pushed [] server [] parts are is = (is, refl)
 parts_pushed [] server (x ∷ xs) parts are is = absurd (cc (are))
 parts_pushed (s ∷ ss) server [] parts are is = absurd are
 parts_pushed (s ∷ ss) server (x ∷ xs) parts are is = (are.0, parts_pushed ss server xs parts are.1 is)
 
 pub parts_more : {R : Type 0} (all left rest : List (Opened R)) (server : Opened R)
-    (servers_parts more : List ServerParts)
+    (all_server_parts more : List ServerParts)
     (parts : ServerParts)
-    → ArePartsSoFar all left servers_parts
+    → ArePartsSoFar all left all_server_parts
     → left ≡ server ∷ rest
     → IsPartsOf server parts
-    → more ≡ servers_parts ++ parts ∷ []
+    → more ≡ all_server_parts ++ parts ∷ []
     → ArePartsSoFar all rest more
-parts_more all left rest server servers_parts more parts so_far next is pushed = (
+parts_more all left rest server all_server_parts more parts so_far next is pushed = (
   so_far.0 ++ server ∷ [],
   so_far.1 ∙ (ap (λ l. so_far.0 ++ l) next ∙ sym (append_assoc so_far.0 (server ∷ []) rest)),
   subst (ArePartsOf (so_far.0 ++ server ∷ [])) (sym pushed)
-      (parts_pushed so_far.0 server servers_parts parts so_far.2 is),
+      (parts_pushed so_far.0 server all_server_parts parts so_far.2 is),
 )
 
-pub parts_all : {R : Type 0} (all rest : List (Opened R)) (servers_parts : List ServerParts)
-    → ArePartsSoFar all rest servers_parts
+pub parts_all : {R : Type 0} (all rest : List (Opened R)) (all_server_parts : List ServerParts)
+    → ArePartsSoFar all rest all_server_parts
     → length rest ≡ 0
-    → ArePartsOf all servers_parts
-parts_all all [] servers_parts so_far none =
-    subst (λ xs. ArePartsOf xs servers_parts) (sym (so_far.1 ∙ append-nil so_far.0)) so_far.2
-parts_all all (x ∷ xs) servers_parts so_far none = absurd (omega (arith, none))
+    → ArePartsOf all all_server_parts
+parts_all all [] all_server_parts so_far none =
+    subst (λ xs. ArePartsOf xs all_server_parts) (sym (so_far.1 ∙ append-nil so_far.0)) so_far.2
+parts_all all (x ∷ xs) all_server_parts so_far none = absurd (omega (arith, none))

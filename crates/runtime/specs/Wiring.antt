@@ -139,23 +139,23 @@ pub record IsPartsOf {R : Type 0} (server : Opened R) (parts : ServerParts) : Ty
 
 -- the same of each of these servers
 abbrev pub ArePartsOf : {R : Type 0} → List (Opened R) → List ServerParts → Type 0
-ArePartsOf [] servers_parts = servers_parts ≡ []
+ArePartsOf [] all_server_parts = all_server_parts ≡ []
 ArePartsOf (server ∷ servers) [] = ⊥
-ArePartsOf (server ∷ servers) (parts ∷ servers_parts) = IsPartsOf server parts × ArePartsOf servers servers_parts
+ArePartsOf (server ∷ servers) (parts ∷ all_server_parts) = IsPartsOf server parts × ArePartsOf servers all_server_parts
 
 -- The seats of each of these are of the server of its place; the first one is server k.
 abbrev pub AreSeatedFrom : ℕ → List ServerParts → Type 0
 AreSeatedFrom k [] = Unit {0}
-AreSeatedFrom k (parts ∷ servers_parts) =
-    All (λ pool. pool.seen.origin.start.id ≡ k) parts.pools.items × AreSeatedFrom (suc k) servers_parts
+AreSeatedFrom k (parts ∷ all_server_parts) =
+    All (λ pool. pool.seen.origin.start.id ≡ k) parts.pools.items × AreSeatedFrom (suc k) all_server_parts
 
 -- what the program's own threads see of each server
 abbrev pub controls_of : List ServerParts → List ServerControl
-controls_of servers_parts = map (λ parts. parts.control) servers_parts
+controls_of all_server_parts = map (λ parts. parts.control) all_server_parts
 
 -- the seats of each server, by threads
 abbrev pub pools_of : List ServerParts → List (List Pooling)
-pools_of servers_parts = map (λ parts. parts.pools.items) servers_parts
+pools_of all_server_parts = map (λ parts. parts.pools.items) all_server_parts
 
 -- the seats of each server that a front end serves, by threads
 abbrev pub pools_in : List FrontEndServer → List (List Pooling)

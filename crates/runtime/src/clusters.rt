@@ -39,7 +39,7 @@ pub(crate) struct Cluster<R: Wait + Drop> {
 #[derive(Drop)]
 struct Chain<R: Wait + Drop> {
     scheduler: Arc<Scheduler<R>, Global>,
-    servers_parts: Vec<ServerParts>,
+    all_server_parts: Vec<ServerParts>,
     loop_handles: Arc<LoopHandles, Global>,
     polls: Vec<Poll>,
 }
@@ -63,7 +63,7 @@ impl<R: Wait + Copy + Drop + Send + 'static> Cluster<R> {
         let listeners = all_listeners(&rt, alloc, numbers)?;
         let Chain {
             scheduler,
-            servers_parts,
+            all_server_parts,
             loop_handles,
             polls,
         } = open_chain(
@@ -74,7 +74,7 @@ impl<R: Wait + Copy + Drop + Send + 'static> Cluster<R> {
             Allowance::new(numbers.memory, count),
         )?;
         let workers = start_attendants(rt, alloc, &scheduler, count)?;
-        let (controls, served_servers) = all_served_servers(alloc, listeners, servers_parts)?;
+        let (controls, served_servers) = all_served_servers(alloc, listeners, all_server_parts)?;
         let settings = FrontEndSettings {
             connections: u64::from(numbers.connections),
             serves: numbers.serves.saturating_mul(u64::from(numbers.seats)),
@@ -138,17 +138,17 @@ fn open_chain<R: Wait + Copy + Drop + Net>(
 ) -> Result<Chain<R>, ClusterFault>
     requires chain { (1 ≤ count) × (count ≤ 16) }
     ensures scheduler { IfOk result (λ chain. ids (arc_value chain.scheduler) ≡ numbers count) }
-    ensures count { IfOk result (λ chain. vec_len chain.servers_parts ≡ count) }
-    ensures servers_parts { IfOk result (λ chain. AreSeatedFrom 0 chain.servers_parts.items) }
+    ensures count { IfOk result (λ chain. vec_len chain.all_server_parts ≡ count) }
+    ensures all_server_parts { IfOk result (λ chain. AreSeatedFrom 0 chain.all_server_parts.items) }
 {
     let mut servers = all_servers(rt, alloc, count, concurrency, allowance)?;
     let links = all_links(rt, alloc, count, &mut servers)?;
     let (loop_handles, polls) = open_loop_handles(&rt, alloc, concurrency.threads)?;
     let loop_handles = Arc::new(alloc, loop_handles)?;
-    let (scheduler, servers_parts) = all_parts(alloc, &loop_handles, servers, links)?;
+    let (scheduler, all_server_parts) = all_parts(alloc, &loop_handles, servers, links)?;
     Ok(Chain {
         scheduler: Arc::new(alloc, scheduler)?,
-        servers_parts,
+        all_server_parts,
         loop_handles,
         polls,
     })
@@ -158,15 +158,15 @@ fn open_chain<R: Wait + Copy + Drop + Net>(
 fn all_served_servers(
     alloc: Global,
     listeners: Vec<TcpListener>,
-    servers_parts: Vec<ServerParts>,
+    all_server_parts: Vec<ServerParts>,
 ) -> Result<(Vec<ServerControl>, Vec<FrontEndServer>), ClusterFault>
-    ensures controls { IfOk result (λ all. all.0.items ≡ controls_of servers_parts.items) }
-    ensures pools { IfOk result (λ all. pools_in all.1.items ≡ pools_of servers_parts.items) }
+    ensures controls { IfOk result (λ all. all.0.items ≡ controls_of all_server_parts.items) }
+    ensures pools { IfOk result (λ all. pools_in all.1.items ≡ pools_of all_server_parts.items) }
 {
     let mut controls = Vec::new(alloc);
     let mut served_servers = Vec::new(alloc);
     let mut listeners = listeners.into_iter();
-    for parts in servers_parts {
+    for parts in all_server_parts {
         let Some(listener) = listeners.next() else {
             return Err(ClusterFault::Run);
         };

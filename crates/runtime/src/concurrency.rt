@@ -5,7 +5,7 @@ use io_threads::usual_threads;
 use std::thread::Threads;
 
 /// How many threads serve connections, and how many seats each server has, which are dealt out to these threads. The
-/// type keeps that both are 1 to 16, and that each thread has a seat.
+/// type keeps that the threads are 1 to 16, the seats at most 64, and that each thread has a seat.
 #[derive(Clone, Copy, Debug, PartialEq, Eq)]
 pub struct Concurrency {
     /// How many threads serve.
@@ -14,20 +14,21 @@ pub struct Concurrency {
     pub seats: usize,
     pub ghost some: { 1 ≤ threads },
     pub ghost dealt: { threads ≤ seats },
-    pub ghost fits: { seats ≤ 16 },
+    pub ghost few: { threads ≤ 16 },
+    pub ghost fits: { seats ≤ 64 },
 }
 
 impl Concurrency {
     /// This many threads, or as many as usual; and this many seats, but one for each thread at least.
     pub fn new<R: Threads>(rt: &R, threads: Option<u32>, seats: u8) -> Concurrency
         ensures threads { IfSome threads (λ wanted. (1 ≤ wanted) → (wanted ≤ 16) → result.threads ≡ wanted) }
-        ensures seats { (seats ≤ 16) → (result.threads ≤ seats) → result.seats ≡ seats }
+        ensures seats { (seats ≤ 64) → (result.threads ≤ seats) → result.seats ≡ seats }
     {
         let threads = match threads {
             Some(threads) => one_to_sixteen(threads),
             None => usual_threads(rt),
         };
-        let seats = one_to_sixteen(u32::from(seats));
+        let seats = usize::from(seats.min(64));
         if seats < threads {
             return Concurrency {
                 threads,

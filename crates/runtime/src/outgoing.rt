@@ -1,10 +1,10 @@
 //! The connections that a server opens to the others of its chain.
 ghost use Rattle.std.specs.Prelude.{◌≡◌, IfOk};
-ghost use Rattle.links.specs.PeerPorts.{cuts_of};
+ghost use Rattle.links.specs.PeerPorts.{link_control_of};
 ghost use Rattle.runtime.specs.Held.{may_end};
 
-use crate::cuts::Connections;
 use crate::leased_sinks::LeasedSink;
+use crate::peer_streams::PeerStreams;
 use crate::reported_sinks::ReportedSink;
 use crate::server_faults::ServerFault;
 use links::{PeerLink, PeerPort};
@@ -35,7 +35,7 @@ impl<
         rt: R,
         alloc: Global,
         settings: &ServerSettings,
-        shared_port: &PeerPort<Connections<R>>,
+        shared_port: &PeerPort<PeerStreams<R>>,
     ) -> Result<Outgoing<R>, ServerFault> {
         let mut links = Vec::new(alloc);
         let mut starts = Vec::new(alloc);
@@ -83,13 +83,13 @@ fn channel_to<R: Clock + Net<Listener = TcpListener, Stream = TcpStream>>(
 // other server is called gone.
 fn told<R: Wait + Clock + Eprint + Copy + Drop>(
     rt: R,
-    shared_port: &PeerPort<Connections<R>>,
+    shared_port: &PeerPort<PeerStreams<R>>,
     j: u8,
     sink: PeerSink,
 ) -> Result<LinkSink<R>, ServerFault>
-    ensures { IfOk result (λ link. link.output_permit ≡ may_end (cuts_of shared_port.now)) }
+    ensures { IfOk result (λ link. link.output_permit ≡ may_end (link_control_of shared_port.now)) }
 {
-    let connections = shared_port.cuts();
+    let connections = shared_port.link_control();
     let Ok(stream) = sink.inner.try_clone() else {
         drop(sink);
         return Err(ServerFault::Memory);

@@ -1,12 +1,12 @@
 //! The peer port of a server: a thread that accepts connections, and one for each of them.
 
 use crate::arrivals::Arrivals;
-use crate::cuts::Connections;
 use crate::greeters::Greeter;
 use crate::link_lines::{tell_from, tell_master, tell_old};
+use crate::peer_streams::PeerStreams;
+use crate::pending_connections::{Greeting, PendingConnections, read_greeting};
 use crate::refusals::Refusals;
 use crate::reported_connections::{Name, ReportedConnection, why_ended};
-use crate::ungreeted_connections::{Greeting, UngreetedConnections, read_greeting};
 use ends::{TrackedReader, TrackedWriter};
 use links::{PeerConnection, PeerPort, Speaker};
 use masters::keep_alive;
@@ -27,10 +27,10 @@ const PAUSE: u64 = 50;
 struct PeerListener<R> {
     id: u8,
     alloc: Global,
-    shared_port: Arc<PeerPort<Connections<R>>, Global>,
+    shared_port: Arc<PeerPort<PeerStreams<R>>, Global>,
     arrivals: Arc<Arrivals, Global>,
-    ungreeted_connections: UngreetedConnections,
-    masters: UngreetedConnections,
+    pending_connections: PendingConnections,
+    masters: PendingConnections,
     greeter: Greeter,
 }
 
@@ -42,7 +42,7 @@ pub(crate) fn open_peer_listener<
     rt: R,
     alloc: Global,
     listener: TcpListener,
-    shared_port: &Arc<PeerPort<Connections<R>>, Global>,
+    shared_port: &Arc<PeerPort<PeerStreams<R>>, Global>,
     arrivals: &Arc<Arrivals, Global>,
 ) -> Result<JoinHandle<()>, AllocError> {
     let id = shared_port.host().id;
@@ -53,8 +53,8 @@ pub(crate) fn open_peer_listener<
         alloc,
         shared_port,
         arrivals,
-        ungreeted_connections: UngreetedConnections::new(alloc),
-        masters: UngreetedConnections::new(alloc),
+        pending_connections: PendingConnections::new(alloc),
+        masters: PendingConnections::new(alloc),
         greeter: Greeter::new(id),
     };
     start_accepting(rt, Arc::new(alloc, shared_parts)?, listener)
@@ -67,7 +67,7 @@ trait Shared {
 
     fn alloc(&self) -> Global;
 
-    fn ungreeted_connections(&self) -> &UngreetedConnections;
+    fn pending_connections(&self) -> &PendingConnections;
 
     // Waits for a greeting and answers it. Who is accepted is served as long as it keeps the rules.
     fn attend<R: Wait + Clock + Eprint>(
@@ -129,7 +129,7 @@ fn receive<
     let stream = Arc::new(shared_parts.alloc(), stream)?;
     let shared = Arc::try_clone(shared_parts)?;
     shared_parts
-        .ungreeted_connections()
+        .pending_connections()
         .admit(&rt, number, &stream)?;
     match thread::spawn(&rt, move || shared.attend(&rt, number, &stream)) {
         Ok(thread) => {
@@ -137,7 +137,7 @@ fn receive<
             Ok(())
         }
         Err(refused) => {
-            shared_parts.ungreeted_connections().release(&rt, number);
+            shared_parts.pending_connections().release(&rt, number);
             drop(refused);
             Err(AllocError)
         }
@@ -153,8 +153,8 @@ impl<C: Clock + Drop> Shared for PeerListener<C> {
         self.alloc
     }
 
-    fn ungreeted_connections(&self) -> &UngreetedConnections {
-        &self.ungreeted_connections
+    fn pending_connections(&self) -> &PendingConnections {
+        &self.pending_connections
     }
 
     fn attend<R: Wait + Clock + Eprint>(
@@ -164,7 +164,7 @@ impl<C: Clock + Drop> Shared for PeerListener<C> {
         stream: &Arc<TcpStream, Global>,
     ) {
         let greeting = read_greeting(rt, self.alloc, stream);
-        if !self.ungreeted_connections.release(rt, number) {
+        if !self.pending_connections.release(rt, number) {
             drop(greeting);
             return;
         }
@@ -261,7 +261,7 @@ impl<C: Clock + Drop> PeerListener<C> {
         match name {
             Name::Server(from) => {
                 let is_early = self.arrivals.lost(rt, from, reason);
-                if !is_early && !self.shared_port.cuts().is_gone(from) {
+                if !is_early && !self.shared_port.link_control().is_gone(from) {
                     tell_from(rt, self.id, from, reason);
                 }
             }

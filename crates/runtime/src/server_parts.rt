@@ -98,7 +98,9 @@ pub(crate) fn open_server<R: Wait + Copy + Drop>(
     };
     let Concurrency { threads, seats } = concurrency;
     let inlets = usize::from(count);
-    let Ok(pooled) = open_pools(rt, alloc, node, seats, threads, inlets, &failed, &gauge) else {
+    let Ok(pooled) = open_pools(
+        rt, alloc, node, seats, threads, inlets, AHEAD, &failed, &gauge,
+    ) else {
         return Err(ClusterFault::Memory);
     };
     Ok(Opened {
@@ -107,6 +109,9 @@ pub(crate) fn open_server<R: Wait + Copy + Drop>(
         gauge,
     })
 }
+
+/// How many updates of a connection are sent ahead of the first one's reply.
+const AHEAD: usize = 15;
 
 // The mark of a server, and its gauge.
 fn mark_and_gauge(alloc: Global, allowance: Allowance) -> Result<(Mark, Gauge), AllocError> {
@@ -199,17 +204,17 @@ pub fn all_parts<R: Wait + Drop>(
     requires links { senders links.items ≡ numbers (vec_len links) }
     ensures count { IfOk result (λ all. vec_len all.1 ≡ vec_len servers) }
     ensures scheduler { IfOk result (λ all. ids all.0 ≡ numbers (vec_len servers)) }
-    ensures servers_parts { IfOk result (λ all. ArePartsOf servers.items all.1.items) }
+    ensures all_server_parts { IfOk result (λ all. ArePartsOf servers.items all.1.items) }
 {
     let mut scheduler = Scheduler::new(alloc, Arc::try_clone(loop_handles)?);
-    let mut servers_parts = Vec::new(alloc);
+    let mut all_server_parts = Vec::new(alloc);
     let mut left = links.into_iter();
     for server in servers {
         let own = left.next();
-        let parts = add_linked(alloc, &mut scheduler, servers_parts.len(), server, own)?;
-        servers_parts.push(parts)?;
+        let parts = add_linked(alloc, &mut scheduler, all_server_parts.len(), server, own)?;
+        all_server_parts.push(parts)?;
     }
-    Ok((scheduler, servers_parts))
+    Ok((scheduler, all_server_parts))
 }
 
 // Adds a server with its links to the scheduler, at this place. It gives what the server has beside its worker. Refused

@@ -8,11 +8,11 @@ ghost use Rattle.runtime.specs.Wiring.{HasOwnPools, LeadsToOwnInbox, core_of};
 use crate::banners::tell_server;
 use crate::concurrency::Concurrency;
 use crate::file_limits::warn_of_files;
-use crate::meetings::{connected, new_peer_port};
 use crate::outgoing::LinkSink;
+use crate::peer_setup::{connected, new_peer_port};
 use crate::server_faults::{ServerFault, tell};
 use crate::server_parts::{Opened, idle_node, open_server};
-use crate::working::{Rest, Surroundings, work};
+use crate::worker_threads::{Rest, WorkerContext, work};
 use command_line::{FAILED, GONE, MEMORY};
 use ends::{Sink, write_all};
 use io_threads::{
@@ -140,13 +140,13 @@ impl<R: Wait + Clock + Eprint + Copy + Drop + Send + 'static> Running<R> {
         Ok(Running {
             worker,
             links,
-            ended: shared_port.cuts().ended().share()?,
+            ended: shared_port.link_control().ended().share()?,
             serving: ServingParts {
                 listener: clients,
                 pools,
                 concurrency,
                 connections,
-                output_permit: shared_port.cuts().output_permit()?,
+                output_permit: shared_port.link_control().output_permit()?,
             },
             failed,
             gauge,
@@ -168,16 +168,16 @@ impl<R: Wait + Clock + Eprint + Copy + Drop + Send + 'static> Running<R> {
         } = self;
         match serve_clients(rt, alloc, serving, &failed, output) {
             Ok(loop_handles) => {
-                let around = Surroundings {
+                let context = WorkerContext {
                     id: HERE,
                     loop_handles,
                     gauge,
                     failed,
                     ended,
                 };
-                let rest = work(&rt, worker, &mut links, &around);
+                let rest = work(&rt, worker, &mut links, &context);
                 drop(links);
-                drop(around);
+                drop(context);
                 fault_of(rest)
             }
             Err(fault) => {

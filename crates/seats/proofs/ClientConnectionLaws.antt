@@ -1,6 +1,9 @@
 -- How a connection at a server's seats goes on.
-use Rattle.std.proofs.Common.{◌≡◌, ◌∙◌, Bool, [], ◌∷◌, ◌++◌, Option, Some, None, inl, inr, refl, ap, sym, subst}
-use Rattle.std.proofs.Common.{append_assoc, append-nil, Result, Ok, Err, IfOk, OnErr, MatchOption}
+use Rattle.std.proofs.Common.{◌≡◌, ◌⊎◌, ◌∙◌, Bool, true, false, [], ◌∷◌, ◌++◌, Option, Some, None, inl, inr, refl, ap}
+use Rattle.std.proofs.Common.{sym, subst}
+use Rattle.std.proofs.Common.{ℕ, append_assoc, append-nil, All, List, Result, Ok, Err, IfOk, MatchBool, OnErr}
+use Rattle.std.proofs.Common.{MatchOption}
+use Rattle.std.proofs.lemmas.List.Elements.{All-nil, All-cons, All-head, All-tail}
 use Rattle.table.specs.declared.operations.Op.{Op}
 use Rattle.table.specs.declared.operations.Target.{Target}
 use Rattle.table.specs.declared.operations.Call.{Call}
@@ -13,13 +16,17 @@ use Rattle.serving.specs.Connections.{Connected, HasOutcome, IsLooked}
 use Rattle.serving.specs.Serving.{AreAnswered, CameTo}
 use Rattle.serving.specs.Wanted.{IsAsking}
 use Rattle.serving.specs.declared.endings.ServeFault.{ServeFault}
-use Rattle.serving.proofs.Served.{Stands, has_idle, stands_answered}
+use Rattle.serving.proofs.Served.{Stands, has_left, stands_answered}
+use Rattle.rail.specs.CallSenders.{CallSenderState, SentCall, with_call}
 use Rattle.seats.specs.Submitters.{Submitting, IsAnswered}
 use Rattle.seats.specs.Replies.{ShowsClean}
 use Rattle.seats.specs.ClientConnections.{HoldsStore, IsFurther, IsPeeked, IsReplied, IsClientConnection, StandsAt}
-use Rattle.seats.specs.ClientConnections.{ClientConnectionState}
+use Rattle.seats.specs.ClientConnections.{AreOpenAt, ClientConnectionState, HasSentAhead, HoldsAt, IsOpenAt}
+use Rattle.seats.specs.ClientConnections.{next_ahead, next_standing}
+use Rattle.seats.specs.ClientConnections.{AreSentBy, HasSentInTurn, HasSentOn, IsSameBut, seats_open}
+use Rattle.seats.specs.SeatPools.{HasSentNothing, IsAt, Pooling, with_sent_call}
 use Rattle.seats.specs.declared.client_connections.CallStanding.{CallStanding}
-use Rattle.seats.specs.declared.client_connections.CallStanding.TheVariants.{Idle, Over, Sent, Unsent}
+use Rattle.seats.specs.declared.client_connections.CallStanding.TheVariants.{Idle, Over, Reading, Sent, Unsent}
 use Rattle.seats.specs.declared.client_connections.Went.{Went}
 use Rattle.seats.specs.declared.client_connections.Went.TheVariants.{Seat}
 use Rattle.seats.proofs.Seated.{later_same, later_then, submitted_then}
@@ -109,13 +116,14 @@ answered_same first seen c d calls outcomes a =
     (subst (λ rs. AreAnswered IsReplied first c.calls rs seen) (sym outcomes) a)
 
 -- the call that waits came to something
-pub answered_next : (first before after : History) (c d : Connected) (call : Call) (outcome : Outcome)
-    → c.waiting ≡ call ∷ [] → HasOutcome outcome c d → CameTo IsReplied before call outcome after
+pub answered_next : (first before after : History) (c d : Connected) (call : Call) (later : List Call)
+    (outcome : Outcome)
+    → c.waiting ≡ call ∷ later → HasOutcome outcome c d → CameTo IsReplied before call outcome after
     → AreAnswered IsReplied first c.calls c.outcomes before
     → AreAnswered IsReplied first d.calls d.outcomes after
-answered_next first before after c d call outcome waits has by a =
+answered_next first before after c d call later outcome waits has by a =
     let stands : Stands IsReplied first [] d ([] ++ c.written) after =
-    stands_answered IsReplied first [] c d call outcome ([] ++ c.written) before after waits has by
+    stands_answered IsReplied first [] c d call later outcome ([] ++ c.written) before after waits has by
     (record { calls = a; written = refl }) in
     stands.calls
 
@@ -132,17 +140,18 @@ peeked_later seen before after call reply later p =
     })
 
 -- the server's reply that came after all that was seen
-pub submitted_later : (seen before after : History) (s t : Submitting) (call : Call) (reply : Reply)
+pub submitted_later : (seen before after : History) (s t : Submitting) (sent : SentCall) (reply : Reply)
     → IsLater seen before
-    → s.waiting ≡ Some call
+    → s.waiting ≡ Some sent
     → IsAnswered before after s t reply
-    → IsReplied seen call reply after
-submitted_later seen before after s t call reply later waits a =
+    → IsReplied seen sent.call reply after
+submitted_later seen before after s t sent reply later waits a =
     inr (
       s.seat,
       t.seat,
-      submitted_then seen before after s.seat t.seat call reply later
-          (answers_to before after s t call reply waits a),
+      sent.sender,
+      submitted_then seen before after s.seat t.seat sent reply later
+          (answers_to before after s t sent reply waits a),
     )
 
 -- it was asked what it wants, seen as a client connection's
@@ -178,6 +187,15 @@ peeked_came seen before after then c d call reply known later (item, is, shown) 
   has,
 )
 
+-- no seat is of another server
+all_of_none : (ahead : List Submitting) (o : Origin) → ahead ≡ [] → All (IsAt o) ahead
+all_of_none ahead o none = subst (All (IsAt o)) (sym none) (All-nil (IsAt o))
+
+-- of an idle one none was sent ahead
+pub none_if_idle : (standing : CallStanding) (ahead : List Submitting) (c : Connected) (o : Origin)
+    → StandsAt standing ahead c o → standing ≡ Idle → ahead ≡ []
+none_if_idle standing ahead c o stands e = (subst (λ x. StandsAt x ahead c o) e stands).1
+
 -- A call was asked for: it came to something at once, or it waits for a seat, or there was a fault.
 module _ (r : Result (Option Went) ServeFault) (c d e : Connected) (next : CallStanding) (first seen then : History)
     (target : Target) (op : Op) (looked : IsLooked c d) (asking : IsAsking target op d)
@@ -202,9 +220,10 @@ module _ (r : Result (Option Went) ServeFault) (c d e : Connected) (next : CallS
       by (Ok (Some went)) a b = subst (λ x. IsFurther c x) (sym a.2) (further_looked c d looked)
       by (Err fault) a b = further_then c d e (further_looked c d looked) (further_failed d e e.failed b.2)
 
-  pub asked_client_connection : AreAnswered IsReplied first c.calls c.outcomes seen
-      → IsClientConnection e next first then
-  asked_client_connection is = by r ok err
+  pub asked_client_connection : (ahead : List Submitting) → ahead ≡ []
+      → AreAnswered IsReplied first c.calls c.outcomes seen
+      → IsClientConnection e next ahead first then
+  asked_client_connection ahead none is = by r ok err
     where
       before : AreAnswered IsReplied first d.calls d.outcomes seen
       before = answered_same first seen c d looked.calls looked.outcomes is
@@ -214,60 +233,333 @@ module _ (r : Result (Option Went) ServeFault) (c d e : Connected) (next : CallS
           ((outcome : Outcome) × CameTo IsReplied seen call outcome then × HasOutcome outcome d e × (next ≡ Idle))
           (λ went. (went ≡ Seat) × (next ≡ Unsent call) × (e ≡ d) × (then ≡ seen)))
           → OnErr s ((next ≡ Over) × (then ≡ seen) × (e ≡ record d { failed = e.failed }))
-          → IsClientConnection e next first then
+          → IsClientConnection e next ahead first then
       by (Ok None) a b =
           record {
-            answered = answered_next first seen then d e call a.0 asking.waiting a.2 a.1 before;
-            stands = subst (λ s. StandsAt s e then.origin) (sym a.3) (has_idle d e call a.0 asking.waiting a.2);
+            answered = answered_next first seen then d e call [] a.0 asking.waiting a.2 a.1 before;
+            stands = subst (λ s. StandsAt s ahead e then.origin) (sym a.3)
+                (has_left d e call [] a.0 asking.waiting a.2, none);
           }
       by (Ok (Some went)) a b =
           record {
             answered = subst (λ x. AreAnswered IsReplied first e.calls e.outcomes x) (sym a.3)
                 (answered_same first seen d e (ap (λ x. x.calls) a.2) (ap (λ x. x.outcomes) a.2) before);
-            stands = subst (λ s. StandsAt s e then.origin) (sym a.1)
-                (ap (λ x. x.waiting) a.2 ∙ asking.waiting, (asking.fits, asking.suits));
+            stands = subst (λ s. StandsAt s ahead e then.origin) (sym a.1)
+                (ap (λ x. x.waiting) a.2 ∙ asking.waiting, (asking.fits, asking.suits), none);
           }
       by (Err fault) a b =
           record {
             answered = subst (λ x. AreAnswered IsReplied first e.calls e.outcomes x) (sym b.1)
                 (answered_same first seen d e (ap (λ x. x.calls) b.2) (ap (λ x. x.outcomes) b.2) before);
-            stands = subst (λ s. StandsAt s e then.origin) (sym b.0) tt;
+            stands = subst (λ s. StandsAt s ahead e then.origin) (sym b.0) (all_of_none ahead then.origin none);
           }
 
 -- and then no call waits
-pub refused_client_connection : (c d : Connected) (standing next : CallStanding) (first seen : History)
-    → IsClientConnection c standing first seen
+pub refused_client_connection : (c d : Connected) (standing next : CallStanding) (ahead : List Submitting)
+    (first seen : History)
+    → IsClientConnection c standing ahead first seen
     → HoldsStore standing
     → HasOutcome Refused c d
     → next ≡ Idle
-    → IsClientConnection d next first seen
-refused_client_connection c d standing next first seen is (asked, e, stores) has idle =
-    let waits = (subst (λ x. StandsAt x c seen.origin) e is.stands).0 in
+    → IsClientConnection d next ahead first seen
+refused_client_connection c d standing next ahead first seen is (asked, e, stores) has idle =
+    let stood = subst (λ x. StandsAt x ahead c seen.origin) e is.stands in
     record {
-      answered = answered_next first seen seen c d asked Refused waits has (stores, refl) is.answered;
-      stands = subst (λ s. StandsAt s d seen.origin) (sym idle) (has_idle c d asked Refused waits has);
+      answered = answered_next first seen seen c d asked [] Refused stood.0 has (stores, refl) is.answered;
+      stands = subst (λ s. StandsAt s ahead d seen.origin) (sym idle)
+          (has_left c d asked [] Refused stood.0 has, stood.2);
     }
 
--- the call that was sent, and its seat
-sent_call : (standing : CallStanding) (s : Submitting) (c : Connected) (o : Origin) → standing ≡ Sent s
-    → StandsAt standing c o
-    → (call : Call) × (c.waiting ≡ call ∷ []) × (s.waiting ≡ Some call) × (s.seat.origin ≡ o)
-sent_call standing s c o e stands = subst (λ x. StandsAt x c o) e stands
+-- the call that waited for a seat is open at this one
+pub sent_client_connection : (c : Connected) (standing next : CallStanding) (ahead : List Submitting)
+    (first seen : History) (s : Submitting)
+    (sent : SentCall)
+    → IsClientConnection c standing ahead first seen
+    → standing ≡ Unsent sent.call
+    → next ≡ Sent s
+    → s.waiting ≡ Some sent
+    → s.seat.origin ≡ seen.origin
+    → IsClientConnection c next ahead first seen
+sent_client_connection c standing next ahead first seen s sent is unsent e opened at =
+    let stood = subst (λ x. StandsAt x ahead c seen.origin) unsent is.stands in
+    record {
+      answered = is.answered;
+      stands = subst (λ x. StandsAt x ahead c seen.origin) (sym e)
+          (subst (λ a. AreOpenAt seen.origin (s ∷ a) c.waiting) (sym stood.2)
+          (subst (AreOpenAt seen.origin (s ∷ [])) (sym stood.0)
+          (record { sent = sent; is = refl; opened = opened; here = at }, tt)));
+    }
+
+-- one more call is open
+open_more : (o : Origin) (ss : List Submitting) (calls : List Call) (s : Submitting) (call : Call)
+    → AreOpenAt o ss calls → IsOpenAt o s call → AreOpenAt o (ss ++ s ∷ []) (calls ++ call ∷ [])
+open_more o [] [] s call all one = (one, tt)
+open_more o [] (c ∷ calls) s call all one = absurd all
+open_more o (t ∷ ss) [] s call all one = absurd all
+open_more o (t ∷ ss) (c ∷ calls) s call all one = (all.0, open_more o ss calls s call all.1 one)
+
+-- all of them are of this server
+open_here : (o : Origin) (ss : List Submitting) (calls : List Call) → AreOpenAt o ss calls → All (IsAt o) ss
+open_here o [] calls all = All-nil (IsAt o)
+open_here o (s ∷ ss) [] all = absurd all
+open_here o (s ∷ ss) (call ∷ calls) all = All-cons (IsAt o) s ss all.0.here (open_here o ss calls all.1)
+
+-- wherever it stands, its seats are of its server
+pub seats_here : (standing : CallStanding) (ahead : List Submitting) (c : Connected) (o : Origin)
+    → StandsAt standing ahead c o → HoldsAt o standing × All (IsAt o) ahead
+seats_here Idle ahead c o stands = (tt, all_of_none ahead o stands.1)
+seats_here Reading ahead c o stands = (tt, all_of_none ahead o stands.1)
+seats_here (Unsent call) ahead c o stands = (tt, all_of_none ahead o stands.2)
+seats_here (Sent s) ahead c o stands =
+    let all = open_here o (s ∷ ahead) c.waiting stands in
+    (All-head (IsAt o) s ahead all, All-tail (IsAt o) s ahead all)
+seats_here Over ahead c o stands = (tt, stands)
+
+-- it goes no further
+pub over_client_connection : (c d : Connected) (standing : CallStanding) (ahead : List Submitting)
+    (first seen : History)
+    → IsClientConnection c standing ahead first seen
+    → d.calls ≡ c.calls → d.outcomes ≡ c.outcomes
+    → IsClientConnection d Over ahead first seen
+over_client_connection c d standing ahead first seen is calls outcomes =
+    record {
+      answered = answered_same first seen c d calls outcomes is.answered;
+      stands = (seats_here standing ahead c seen.origin is.stands).1;
+    }
+
+-- one more update was sent ahead
+pub ahead_client_connection : (c d : Connected) (standing : CallStanding) (ahead longer : List Submitting)
+    (first seen : History) (p q : Pooling) (s : Submitting)
+    → IsClientConnection c standing ahead first seen
+    → standing ≡ Sent s
+    → p.seen.origin ≡ seen.origin
+    → HasSentAhead p q c d ahead longer
+    → IsClientConnection d standing longer first seen
+ahead_client_connection c d standing ahead longer first seen p q s is e same has =
+    let stood = subst (λ x. StandsAt x ahead c seen.origin) e is.stands in
+    let opened = subst (λ x. IsOpenAt x has.s has.call) same has.opened in
+    record {
+      answered = answered_same first seen c d (ap (λ x. x.calls) has.waits) (ap (λ x. x.outcomes) has.waits)
+          is.answered;
+      stands = subst (λ x. StandsAt x longer d seen.origin) (sym e)
+          (subst (λ a. AreOpenAt seen.origin (s ∷ a) d.waiting) (sym has.seats)
+          (subst (AreOpenAt seen.origin (s ∷ (ahead ++ has.s ∷ []))) (sym (ap (λ x. x.waiting) has.waits))
+          (open_more seen.origin (s ∷ ahead) c.waiting has.s has.call stood opened)));
+    }
+
+-- none was, and memory may have been refused
+pub failed_client_connection : (c d : Connected) (b : Bool) (standing : CallStanding) (ahead longer : List Submitting)
+    (first seen : History) (s : Submitting)
+    → IsClientConnection c standing ahead first seen
+    → standing ≡ Sent s
+    → d ≡ record c { failed = b }
+    → longer ≡ ahead
+    → IsClientConnection d standing longer first seen
+failed_client_connection c d b standing ahead longer first seen s is e same seats =
+    let stood = subst (λ x. StandsAt x ahead c seen.origin) e is.stands in
+    record {
+      answered = answered_same first seen c d (ap (λ x. x.calls) same) (ap (λ x. x.outcomes) same) is.answered;
+      stands = subst (λ x. StandsAt x longer d seen.origin) (sym e)
+          (subst (λ a. AreOpenAt seen.origin (s ∷ a) d.waiting) (sym seats)
+          (subst (AreOpenAt seen.origin (s ∷ ahead)) (sym (ap (λ x. x.waiting) same)) stood));
+    }
+
+-- one more was sent ahead, or none
+pub maybe_ahead : (b : Bool) (c d : Connected) (standing : CallStanding) (ahead longer : List Submitting)
+    (first seen : History) (p q : Pooling) (s : Submitting)
+    → IsClientConnection c standing ahead first seen
+    → standing ≡ Sent s
+    → p.seen.origin ≡ seen.origin
+    → MatchBool b (HasSentAhead p q c d ahead longer)
+    ((d ≡ record c { failed = d.failed }) × (longer ≡ ahead) × HasSentNothing p q)
+    → IsClientConnection d standing longer first seen
+maybe_ahead true c d standing ahead longer first seen p q s is e same has =
+    ahead_client_connection c d standing ahead longer first seen p q s is e same has
+maybe_ahead false c d standing ahead longer first seen p q s is e same has =
+    failed_client_connection c d d.failed standing ahead longer first seen s is e has.0 has.1
+
+-- it stands at the next call that was sent
+next_stands : (o : Origin) (ahead : List Submitting) (d : Connected) (later : List Call) → d.waiting ≡ later
+    → AreOpenAt o ahead later
+    → StandsAt (next_standing ahead) (next_ahead ahead) d o
+next_stands o [] d [] waits all = (waits, refl)
+next_stands o [] d (call ∷ later) waits all = absurd all
+next_stands o (s ∷ ss) d later waits all = subst (AreOpenAt o (s ∷ ss)) (sym waits) all
 
 -- and has it
-pub hear_client_connection : (c d : Connected) (standing : CallStanding) (first seen p q now : History)
+pub hear_client_connection : (c d : Connected) (standing : CallStanding) (ahead : List Submitting)
+    (first seen p q now : History)
     (s t : Submitting) (reply : Reply)
-    → IsClientConnection c standing first seen
+    → IsClientConnection c standing ahead first seen
     → standing ≡ Sent s
     → IsLater seen p
     → IsAnswered p q s t reply
     → HasOutcome (Replied reply) c d
     → now ≡ q
-    → IsClientConnection d Idle first now
-hear_client_connection c d standing first seen p q now s t reply is e known a has same =
-    let w = sent_call standing s c seen.origin e is.stands in
-    subst (λ x. IsClientConnection d Idle first x) (sym same) (record {
-      answered = answered_next first seen q c d w.0 (Replied reply) w.1 has
-          (submitted_later seen p q s t w.0 reply known w.2 a) is.answered;
-      stands = has_idle c d w.0 (Replied reply) w.1 has;
+    → IsClientConnection d (next_standing ahead) (next_ahead ahead) first now
+hear_client_connection c d standing ahead first seen p q now s t reply is e known a has same =
+    subst (λ x. IsClientConnection d (next_standing ahead) (next_ahead ahead) first x) (sym same)
+    (by c.waiting refl (subst (λ x. StandsAt x ahead c seen.origin) e is.stands))
+  where
+    by : (waiting : List Call) → c.waiting ≡ waiting → AreOpenAt seen.origin (s ∷ ahead) waiting
+        → IsClientConnection d (next_standing ahead) (next_ahead ahead) first q
+    by [] waits all = absurd all
+    by (call ∷ later) waits all =
+        let at : seen.origin ≡ q.origin = sym (a.submitted.later.origin ∙ known.origin) in
+        record {
+          answered = answered_next first seen q c d call later (Replied reply) waits has
+              (subst (λ x. IsReplied seen x reply q) all.0.is
+              (submitted_later seen p q s t all.0.sent reply known all.0.opened a)) is.answered;
+          stands = subst (λ o. StandsAt (next_standing ahead) (next_ahead ahead) d o) at
+              (next_stands seen.origin ahead d later (has_left c d call later (Replied reply) waits has) all.1);
+        }
+
+-- where it stands next, a call was sent, or none waits
+pub next_heard : (standing : CallStanding) (ahead : List Submitting) → standing ≡ next_standing ahead
+    → (standing ≡ Idle) ⊎ ((s : Submitting) × (standing ≡ Sent s))
+next_heard standing [] e = inl e
+next_heard standing (s ∷ ss) e = inr (s, e)
+
+-- nothing was sent
+pub unsent : (t : ClientConnectionState) (p q : Pooling) → HasSentNothing p q → HasSentInTurn t p q
+unsent t p q same =
+    record {
+      more = [];
+      sent = same;
+      open_at = inr (seats_open t.standing t.ahead, sym (append-nil (seats_open t.standing t.ahead)));
+    }
+
+-- nothing was sent, and then what is open now
+pub sent_then : (t : ClientConnectionState) (p q r : Pooling) → HasSentNothing p q → HasSentInTurn t q r
+    → HasSentInTurn t p r
+sent_then t p q r same then =
+    record {
+      more = then.more;
+      sent = subst (λ (x : CallSenderState). AreSentBy x then.more r.sender) same then.sent;
+      open_at = then.open_at;
+    }
+
+-- the call was sent at this seat, and none was sent ahead
+pub sent_one : (t : ClientConnectionState) (p q r : Pooling) (s u : Submitting) (call : Call) → HasSentNothing p q
+    → t.standing ≡ Sent u
+    → t.ahead ≡ []
+    → u ≡ record s { waiting = Some (record { sender = q.sender; call = call }) }
+    → r ≡ with_sent_call q s.seat.port call
+    → HasSentInTurn t p r
+sent_one t p q r s u call same e none waits sent =
+    sent_then t p q r same
+    (record {
+      more = u ∷ [];
+      sent = (
+        call,
+        ap (λ (x : Submitting). x.waiting) waits,
+        ap (λ (x : Pooling). x.sender) sent
+            ∙ ap (λ (port : ℕ). with_call q.sender port call) (sym (ap (λ (x : Submitting). x.seat.port) waits)),
+      );
+      open_at = inr ([], ap (λ x. seats_open x t.ahead) e ∙ ap (λ (a : List Submitting). u ∷ a) none);
     })
+
+-- the same, one list after the other
+sent_both : (x y z : CallSenderState) (ss ts : List Submitting) → AreSentBy x ss y → AreSentBy y ts z
+    → AreSentBy x (ss ++ ts) z
+sent_both x y z [] ts a b = subst (λ (w : CallSenderState). AreSentBy w ts z) a b
+sent_both x y z (s ∷ ss) ts a b = (a.0, a.1, sent_both (with_call x s.seat.port a.0) y z ss ts a.2 b)
+
+-- it stands at a sent call, so it goes on
+not_over : (standing : CallStanding) (s : Submitting) → standing ≡ Sent s → standing ≡ Over → ⊥
+not_over standing s e over = let both : Sent s ≡ Over = sym e ∙ over in absurd cc
+
+-- what is open was sent in turn, and then more was
+pub sent_on : (t u : ClientConnectionState) (p q r : Pooling) (s : Submitting) → t.standing ≡ Sent s
+    → HasSentInTurn t p q
+    → HasSentOn t u q r
+    → HasSentInTurn u p r
+sent_on t u p q r s e first then =
+    record {
+      more = first.more ++ then.more;
+      sent = sent_both p.sender q.sender r.sender first.more then.more first.sent then.sent;
+      open_at = by first.open_at then.open_at;
+    }
+  where
+    by : (t.standing ≡ Over) ⊎ ((before : List Submitting) × (seats_open t.standing t.ahead ≡ before ++ first.more))
+        → (u.standing ≡ Over) ⊎ (seats_open u.standing u.ahead ≡ seats_open t.standing t.ahead ++ then.more)
+        → (u.standing ≡ Over)
+        ⊎ ((before : List Submitting) × (seats_open u.standing u.ahead ≡ before ++ (first.more ++ then.more)))
+    by (inl over) now = absurd (not_over t.standing s e over)
+    by (inr was) (inl over) = inl over
+    by (inr was) (inr now) =
+        inr (
+          was.0,
+          now ∙ (ap (λ (xs : List Submitting). xs ++ then.more) was.1
+              ∙ append_assoc was.0 first.more then.more),
+        )
+
+-- nothing more was
+pub on_same : (t : ClientConnectionState) (p : Pooling) → HasSentOn t t p p
+on_same t p =
+    record {
+      more = [];
+      sent = refl;
+      open_at = inr (sym (append-nil (seats_open t.standing t.ahead)));
+    }
+
+-- more was, and then more
+pub on_then : (t u v : ClientConnectionState) (p q r : Pooling) (s : Submitting) → u.standing ≡ Sent s
+    → HasSentOn t u p q
+    → HasSentOn u v q r
+    → HasSentOn t v p r
+on_then t u v p q r s e first then =
+    record {
+      more = first.more ++ then.more;
+      sent = sent_both p.sender q.sender r.sender first.more then.more first.sent then.sent;
+      open_at = by first.open_at then.open_at;
+    }
+  where
+    by : (u.standing ≡ Over) ⊎ (seats_open u.standing u.ahead ≡ seats_open t.standing t.ahead ++ first.more)
+        → (v.standing ≡ Over) ⊎ (seats_open v.standing v.ahead ≡ seats_open u.standing u.ahead ++ then.more)
+        → (v.standing ≡ Over)
+        ⊎ (seats_open v.standing v.ahead ≡ seats_open t.standing t.ahead ++ (first.more ++ then.more))
+    by (inl over) now = absurd (not_over u.standing s e over)
+    by (inr was) (inl over) = inl over
+    by (inr was) (inr now) =
+        inr (now ∙ (ap (λ (xs : List Submitting). xs ++ then.more) was
+        ∙ append_assoc (seats_open t.standing t.ahead) first.more then.more))
+
+-- one more update was sent ahead, or none
+pub on_ahead : (b : Bool) (t u : ClientConnectionState) (c d : Connected) (ahead longer : List Submitting)
+    (p q : Pooling) (s : Submitting)
+    → t.standing ≡ Sent s → u.standing ≡ t.standing → t.ahead ≡ ahead → u.ahead ≡ longer
+    → MatchBool b (HasSentAhead p q c d ahead longer)
+    ((d ≡ record c { failed = d.failed }) × (longer ≡ ahead) × HasSentNothing p q)
+    → HasSentOn t u p q
+on_ahead true t u c d ahead longer p q s e same was is has =
+    record {
+      more = has.s ∷ [];
+      sent = (has.call, has.waiting, has.sent);
+      open_at = inr (ap (λ x. seats_open x u.ahead) (same ∙ e)
+          ∙ (ap (λ (a : List Submitting). s ∷ a)
+          (is ∙ (has.seats ∙ ap (λ (a : List Submitting). a ++ has.s ∷ []) (sym was)))
+          ∙ ap (λ x. seats_open x t.ahead ++ has.s ∷ []) (sym e)));
+    }
+on_ahead false t u c d ahead longer p q s e same was is has =
+    record {
+      more = [];
+      sent = has.2;
+      open_at = inr (ap (λ x. seats_open x u.ahead) same
+          ∙ (ap (λ (a : List Submitting). seats_open t.standing a) (is ∙ (has.1 ∙ sym was))
+          ∙ sym (append-nil (seats_open t.standing t.ahead))));
+    }
+
+-- no further call is made
+pub on_over : (t u : ClientConnectionState) (p q : Pooling) → u.standing ≡ Over → HasSentNothing p q → HasSentOn t u p q
+on_over t u p q over same = record { more = []; sent = same; open_at = inl over }
+
+-- nothing came of it, twice
+pub same_then : (t u v : ClientConnectionState) → IsSameBut t u → IsSameBut u v → IsSameBut t v
+same_then t u v a b =
+    record {
+      connected = b.connected
+          ∙ ap (λ (c : Connected). record c { waiting = v.connected.waiting; failed = v.connected.failed }) a.connected;
+      first = b.first ∙ a.first;
+      seen = b.seen ∙ a.seen;
+    }

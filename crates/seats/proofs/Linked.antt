@@ -16,7 +16,7 @@ last_of to i peer [] = refl
 last_of to i peer (e ∷ []) = refl
 last_of to i peer (e ∷ (f ∷ es)) = last_of to i peer (f ∷ es)
 
-pub without : (e : InboxMessage) (es : List InboxMessage) → without_last (es ++ e ∷ []) ≡ es
+pub without : {A : Type 0} (e : A) (es : List A) → without_last (es ++ e ∷ []) ≡ es
 without e [] = refl
 without e (f ∷ []) = refl
 without e (f ∷ (h ∷ es)) = ap (λ w. f ∷ w) (without e (h ∷ es))

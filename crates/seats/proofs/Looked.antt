@@ -72,6 +72,18 @@ looked_on_as c d e p q r a same looks =
       once = subst (λ ls. HasLookedAtMostOnce a.between.looks ls) (sym looks) a.once;
     }
 
+-- the same if no more calls came to anything
+pub looked_on_still : (c d e : Connected) (p q r : Pooling) → HasLookedOn c d p q → e.calls ≡ d.calls
+    → e.outcomes ≡ d.outcomes
+    → r.looks ≡ q.looks
+    → HasLookedOn c e p r
+looked_on_still c d e p q r a calls outcomes looks =
+    record {
+      between = a.between;
+      looked = looked_then c d e p a.between a.between a.looked (looked_same d e a.between calls outcomes);
+      once = subst (λ ls. HasLookedAtMostOnce a.between.looks ls) (sym looks) a.once;
+    }
+
 -- and it went so far
 pub gone_then : (went : Went) (c d e : Connected) (p q r : Pooling) → HasLooked c d p q
     → HasGoneByLooks went d e q r

@@ -1,59 +1,76 @@
 -- Calls at a seat, one stage after another.
 use Rattle.std.proofs.Common.{◌≡◌, ◌∙◌, ◌∷◌, ◌++◌, [], List, Bool, true, false, not, if◌then◌else◌, Option, Some, None}
-use Rattle.std.proofs.Common.{IsSome, length, ℕ, suc, refl, ap, sym, subst}
+use Rattle.std.proofs.Common.{IsSome, length, suc, refl, ap, sym, subst}
 use Rattle.table.specs.Operations.{is_update, is_value}
 use Rattle.table.specs.declared.operations.Call.{Call}
 use Rattle.table.specs.declared.operations.Reply.{Reply}
-use Rattle.node.specs.declared.messages.Input.TheVariants.{Call as Called}
 use Rattle.node.specs.declared.messages.Output.TheVariants.{Reply as Replied}
 use Rattle.faces.specs.Histories.{History, IsLater}
 use Rattle.faces.specs.Outputs.{PutsOut}
-use Rattle.rail.specs.declared.inbox_messages.InboxMessage.{InboxMessage}
-use Rattle.rail.specs.declared.inbox_messages.InboxMessage.TheVariants.{Took}
-use Rattle.rail.specs.NotedReplies.{NotedReply}
-use Rattle.rail.specs.Seats.{SeatState, with_call, with_reply}
+use Rattle.rail.specs.CallSenders.{CallSenderState, SentCall}
+use Rattle.rail.specs.Seats.{SeatState, with_reply, with_sent}
 use Rattle.seats.specs.InProcessLinks.{without_last}
-use Rattle.seats.specs.Replies.{HasAllReplies, IsSubmitted, call_of, calls_in, counted}
-use Rattle.seats.specs.Submitters.{Submitting, IsAnswered, IsLastCall, IsOpen, IsReplyAt, all_sent, last_call}
+use Rattle.seats.specs.Replies.{HasAllReplies, IsSubmitted}
+use Rattle.seats.specs.Submitters.{Submitting, IsAnswered, IsLastCall, IsOpen, IsReplyAt, all_sent, last_sent}
 use Rattle.seats.specs.Submitters.{open_at, stage_of, submitting, unused}
 use Rattle.seats.specs.declared.submitters.SubmittedKind.{SubmittedKind}
 use Rattle.seats.specs.declared.submitters.SubmittedKind.TheVariants.{Free, Read, Update, Lost}
 use Rattle.seats.proofs.Linked.{without}
 
--- the call of the last inbox message
-last_sent : (e : InboxMessage) (es : List InboxMessage) → last_call (es ++ e ∷ []) ≡ call_of e
-last_sent e [] = refl
-last_sent e (f ∷ []) = refl
-last_sent e (f ∷ (h ∷ es)) = last_sent e (h ∷ es)
+-- the last call
+last_of : (e : SentCall) (es : List SentCall) → last_sent (es ++ e ∷ []) ≡ Some e
+last_of e [] = refl
+last_of e (f ∷ []) = refl
+last_of e (f ∷ (h ∷ es)) = last_of e (h ∷ es)
 
 -- a seat with this open call
-abbrev opened : SeatState → List InboxMessage → Option Call → Submitting
-opened seat es call = record { seat = record seat { sent = es }; waiting = call; lost = false }
+abbrev opened : SeatState → List SentCall → Option SentCall → Submitting
+opened seat es sent = record { seat = record seat { calls = es }; waiting = sent; lost = false }
 
--- a seat whose last inbox message is this call
-pub opened_at : (seat : SeatState) (es : List InboxMessage) (call : Call)
-    → seat.sent ≡ es ++ Took (Called seat.port call) ∷ []
-    → open_at seat ≡ record { seat = record seat { sent = es }; waiting = Some call; lost = false }
-opened_at seat es call sent =
-    let before : without_last seat.sent ≡ es = ap without_last sent ∙ without (Took (Called seat.port call)) es in
-    let last : last_call seat.sent ≡ Some call = ap last_call sent ∙ last_sent (Took (Called seat.port call)) es in
-    ap (λ bs. opened seat bs (last_call seat.sent)) before ∙ ap (λ o. opened seat es o) last
+-- a seat at which this call was sent last
+pub opened_at : (seat : SeatState) (es : List SentCall) (sent : SentCall)
+    → seat.calls ≡ es ++ sent ∷ []
+    → open_at seat ≡ record { seat = record seat { calls = es }; waiting = Some sent; lost = false }
+opened_at seat es sent calls =
+    let before : without_last seat.calls ≡ es = ap without_last calls ∙ without sent es in
+    let last : last_sent seat.calls ≡ Some sent = ap last_sent calls ∙ last_of sent es in
+    ap (λ bs. opened seat bs (last_sent seat.calls)) before ∙ ap (λ o. opened seat es o) last
 
 -- a call that is open isn't none
 not_none : {P : Type 0} (seat : SeatState) (u : Bool) → IsLastCall seat u → (open_at seat).waiting ≡ None → P
 not_none seat u l e =
-    let is : (open_at seat).waiting ≡ Some l.call = ap (λ s. s.waiting) (opened_at seat l.before l.call l.sent) in
-    let no : Some l.call ≡ None = sym is ∙ e in
+    let is : (open_at seat).waiting ≡ Some l.sent = ap (λ s. s.waiting) (opened_at seat l.before l.sent l.calls) in
+    let no : Some l.sent ≡ None = sym is ∙ e in
     absurd (cc)
 
-opens_as : (seat : SeatState) (call : Call) (u : Bool) → is_update call.op ≡ u → HasAllReplies seat
-    → IsOpen (if u then Update else Read) (with_call seat call)
-opens_as seat call true e all = record { before = seat.sent; call = call; sent = refl; kind = e; replied = all }
-opens_as seat call false e all = record { before = seat.sent; call = call; sent = refl; kind = e; replied = all }
+opens_as : (seat : SeatState) (sender : CallSenderState) (call : Call) (u : Bool) → is_update call.op ≡ u
+    → seat.origin ≡ sender.origin
+    → HasAllReplies seat
+    → IsOpen (if u then Update else Read) (with_sent seat sender call)
+opens_as seat sender call true e server all =
+    record {
+      before = seat.calls;
+      sent = record { sender = sender; call = call };
+      calls = refl;
+      kind = e;
+      server = sym server;
+      replied = all;
+    }
+opens_as seat sender call false e server all =
+    record {
+      before = seat.calls;
+      sent = record { sender = sender; call = call };
+      calls = refl;
+      kind = e;
+      server = sym server;
+      replied = all;
+    }
 
 -- a call that was sent is open
-pub opens : (seat : SeatState) (call : Call) → HasAllReplies seat → IsOpen (stage_of call) (with_call seat call)
-opens seat call all = opens_as seat call (is_update call.op) refl all
+pub opens : (seat : SeatState) (sender : CallSenderState) (call : Call) → seat.origin ≡ sender.origin
+    → HasAllReplies seat
+    → IsOpen (stage_of call) (with_sent seat sender call)
+opens seat sender call server all = opens_as seat sender call (is_update call.op) refl server all
 
 -- a seat at which none is open has all replies
 replied_free : (stage : SubmittedKind) (seat : SeatState) → IsOpen stage seat → (submitting stage seat).waiting ≡ None
@@ -64,43 +81,34 @@ replied_free Read seat is free unlost = not_none seat false is free
 replied_free Update seat is free unlost = not_none seat true is free
 replied_free Lost seat is free unlost = absurd (unlost refl)
 
-counted_more : (o : Option Call) (n : ℕ) → counted o (suc n) ≡ suc (counted o n)
-counted_more None n = refl
-counted_more (Some call) n = refl
-
--- one call more
-calls_more : (es : List InboxMessage) (port : ℕ) (call : Call)
-    → calls_in (es ++ Took (Called port call) ∷ []) ≡ suc (calls_in es)
-calls_more [] port call = refl
-calls_more (e ∷ es) port call =
-    ap (counted (call_of e)) (calls_more es port call) ∙ counted_more (call_of e) (calls_in es)
-
-more_noted_replies : (got : List NotedReply) (noted_reply : NotedReply)
-    → length (got ++ noted_reply ∷ []) ≡ suc (length got)
-more_noted_replies [] noted_reply = refl
-more_noted_replies (x ∷ got) noted_reply = ap suc (more_noted_replies got noted_reply)
+-- one more
+one_longer : {A : Type 0} (xs : List A) (x : A) → length (xs ++ x ∷ []) ≡ suc (length xs)
+one_longer [] x = refl
+one_longer (y ∷ xs) x = ap suc (one_longer xs x)
 
 -- and so has one that took the reply to its open call
 replied_last : (seat : SeatState) (reply : Reply) (told : History) (u : Bool) → IsLastCall seat u
     → HasAllReplies (with_reply seat reply told)
 replied_last seat reply told u l =
-    ap calls_in l.sent ∙ (calls_more l.before seat.port l.call
-    ∙ (ap suc l.replied ∙ sym (more_noted_replies seat.got (record { port = seat.port; reply = reply; told = told }))))
+    ap (λ (es : List SentCall). length es) l.calls ∙ (one_longer l.before l.sent
+    ∙ (ap suc l.replied ∙ sym (one_longer seat.got (record { port = seat.port; reply = reply; told = told }))))
 
 at_stage : (seat : SeatState) (u : Bool) → submitting (if u then Update else Read) seat ≡ open_at seat
 at_stage seat true = refl
 at_stage seat false = refl
 
 -- and shows so
-pub sent_now : (stage : SubmittedKind) (seat : SeatState) (call : Call) → IsOpen stage seat
+pub sent_now : (stage : SubmittedKind) (seat : SeatState) (sender : CallSenderState) (call : Call) → IsOpen stage seat
     → (submitting stage seat).waiting ≡ None
     → (submitting stage seat).lost ≡ false
-    → submitting (stage_of call) (with_call seat call) ≡ record (submitting stage seat) { waiting = Some call }
-sent_now Free seat call is free unlost =
-    at_stage (with_call seat call) (is_update call.op) ∙ opened_at (with_call seat call) seat.sent call refl
-sent_now Read seat call is free unlost = not_none seat false is free
-sent_now Update seat call is free unlost = not_none seat true is free
-sent_now Lost seat call is free unlost = let no : true ≡ false = unlost in cc
+    → submitting (stage_of call) (with_sent seat sender call)
+    ≡ record (submitting stage seat) { waiting = Some (record { sender = sender; call = call }) }
+sent_now Free seat sender call is free unlost =
+    at_stage (with_sent seat sender call) (is_update call.op)
+    ∙ opened_at (with_sent seat sender call) seat.calls (record { sender = sender; call = call }) refl
+sent_now Read seat sender call is free unlost = not_none seat false is free
+sent_now Update seat sender call is free unlost = not_none seat true is free
+sent_now Lost seat sender call is free unlost = let no : true ≡ false = unlost in cc
 
 -- it is lost, and no call was open
 pub lost_now : (stage : SubmittedKind) (seat : SeatState) → IsOpen stage seat → (submitting stage seat).waiting ≡ None
@@ -112,10 +120,10 @@ lost_now Lost seat is free = refl
 
 -- all that was sent
 pub sent_at : (stage : SubmittedKind) (seat : SeatState) → IsOpen stage seat
-    → all_sent (submitting stage seat) ≡ seat.sent
+    → all_sent (submitting stage seat) ≡ seat.calls
 sent_at Free seat is = refl
-sent_at Read seat is = ap all_sent (opened_at seat is.before is.call is.sent) ∙ sym is.sent
-sent_at Update seat is = ap all_sent (opened_at seat is.before is.call is.sent) ∙ sym is.sent
+sent_at Read seat is = ap all_sent (opened_at seat is.before is.sent is.calls) ∙ sym is.calls
+sent_at Update seat is = ap all_sent (opened_at seat is.before is.sent is.calls) ∙ sym is.calls
 sent_at Lost seat is = refl
 
 -- the open call has its reply
@@ -125,19 +133,21 @@ module _ (before after told : History) (seat : SeatState) (reply : Reply) (later
       → IsAnswered before after (open_at seat) (unused (with_reply seat reply told)) reply
   answered_last u l kind =
       subst (λ s. IsAnswered before after s (unused (with_reply seat reply told)) reply)
-      (sym (opened_at seat l.before l.call l.sent))
+      (sym (opened_at seat l.before l.sent l.calls))
       (record {
-        call = l.call;
+        sent = l.sent;
         waits = refl;
         submitted = record {
           replied = l.replied;
+          server = l.server;
           told = told;
           later = later;
           learned = learned;
           put_out = put_out;
-          sent = ap (λ (es : List InboxMessage).
-              record seat { sent = es; got = seat.got ++ record { port = seat.port; reply = reply; told = told } ∷ [] })
-              l.sent;
+          exchange = ap (λ (es : List SentCall). record seat {
+            calls = es;
+            got = seat.got ++ record { port = seat.port; reply = reply; told = told } ∷ [];
+          }) l.calls;
         };
         kind = kind ∙ ap not (sym l.kind);
         free = refl;
@@ -156,28 +166,28 @@ module _ (before after told : History) (seat : SeatState) (reply : Reply) (later
   answered Lost is kind = let no : false ≡ true = kind in cc
 
 -- The call that was open has its reply.
-abbrev call_or : Call → Option Call → Call
-call_or d None = d
-call_or d (Some c) = c
+abbrev sent_or : SentCall → Option SentCall → SentCall
+sent_or d None = d
+sent_or d (Some c) = c
 
-pub same_call : (before after : History) (s t : Submitting) (call : Call) (reply : Reply) → s.waiting ≡ Some call
+pub same_call : (before after : History) (s t : Submitting) (sent : SentCall) (reply : Reply) → s.waiting ≡ Some sent
     → (a : IsAnswered before after s t reply)
-    → a.call ≡ call
-same_call before after s t call reply waits a =
-    let same : Some a.call ≡ Some call = sym a.waits ∙ waits in
-    ap (λ o. call_or call o) same
+    → a.sent ≡ sent
+same_call before after s t sent reply waits a =
+    let same : Some a.sent ≡ Some sent = sym a.waits ∙ waits in
+    ap (λ o. sent_or sent o) same
 
-pub answers_to : (before after : History) (s t : Submitting) (call : Call) (reply : Reply) → s.waiting ≡ Some call
+pub answers_to : (before after : History) (s t : Submitting) (sent : SentCall) (reply : Reply) → s.waiting ≡ Some sent
     → IsAnswered before after s t reply
-    → IsSubmitted before after s.seat t.seat call reply
-answers_to before after s t call reply waits a =
-    subst (λ c. IsSubmitted before after s.seat t.seat c reply) (same_call before after s t call reply waits a)
+    → IsSubmitted before after s.seat t.seat sent reply
+answers_to before after s t sent reply waits a =
+    subst (λ c. IsSubmitted before after s.seat t.seat c reply) (same_call before after s t sent reply waits a)
     a.submitted
 
 -- a call that was sent waits
 waits_last : (seat : SeatState) (u : Bool) → IsLastCall seat u → IsSome (open_at seat).waiting
 waits_last seat u l =
-    subst (λ (s : Submitting). IsSome s.waiting) (sym (opened_at seat l.before l.call l.sent)) refl
+    subst (λ (s : Submitting). IsSome s.waiting) (sym (opened_at seat l.before l.sent l.calls)) refl
 
 -- a read waits
 pub read_waits : (stage : SubmittedKind) (seat : SeatState) (s : Submitting) → stage ≡ Read → IsOpen stage seat
@@ -196,40 +206,65 @@ update_waits stage seat s e is view =
     (waits_last seat true (subst (λ x. IsOpen x seat) e is))
 
 -- a call was sent at a seat with this value
-pub submit_sent : (stage next : SubmittedKind) (seat last : SeatState) (s : Submitting) (call : Call)
-    → submitting stage seat ≡ s
+pub submit_sent : (stage next : SubmittedKind) (seat last : SeatState) (s : Submitting) (sender : CallSenderState)
+    (call : Call) → submitting stage seat ≡ s
     → IsOpen stage seat
     → s.waiting ≡ None
     → (stage ≡ Lost → ⊥)
     → next ≡ stage_of call
-    → last ≡ with_call seat call
-    → submitting next last ≡ record s { waiting = Some call }
-submit_sent stage next seat last s call view is free unlost e f =
+    → last ≡ with_sent seat sender call
+    → submitting next last ≡ record s { waiting = Some (record { sender = sender; call = call }) }
+submit_sent stage next seat last s sender call view is free unlost e f =
     ap (λ x. submitting x last) e ∙ (ap (λ l. submitting (stage_of call) l) f
-    ∙ (sent_at_stage stage seat call is (ap (λ (t : Submitting). t.waiting) view ∙ free) unlost
-    ∙ ap (λ (t : Submitting). record t { waiting = Some call }) view))
+    ∙ (sent_at_stage stage seat is (ap (λ (t : Submitting). t.waiting) view ∙ free) unlost
+    ∙ ap (λ (t : Submitting). record t { waiting = Some (record { sender = sender; call = call }) }) view))
   where
-    sent_at_stage : (stage : SubmittedKind) (seat : SeatState) (call : Call) → IsOpen stage seat
+    sent_at_stage : (stage : SubmittedKind) (seat : SeatState) → IsOpen stage seat
         → (submitting stage seat).waiting ≡ None
         → (stage ≡ Lost → ⊥)
-        → submitting (stage_of call) (with_call seat call) ≡ record (submitting stage seat) { waiting = Some call }
-    sent_at_stage Free seat call is free unlost = sent_now Free seat call is free refl
-    sent_at_stage Read seat call is free unlost = not_none seat false is free
-    sent_at_stage Update seat call is free unlost = not_none seat true is free
-    sent_at_stage Lost seat call is free unlost = absurd (unlost refl)
+        → submitting (stage_of call) (with_sent seat sender call)
+        ≡ record (submitting stage seat) { waiting = Some (record { sender = sender; call = call }) }
+    sent_at_stage Free seat is free unlost = sent_now Free seat sender call is free refl
+    sent_at_stage Read seat is free unlost = not_none seat false is free
+    sent_at_stage Update seat is free unlost = not_none seat true is free
+    sent_at_stage Lost seat is free unlost = absurd (unlost refl)
 
-pub submit_opens : (stage next : SubmittedKind) (seat last : SeatState) (s : Submitting) (call : Call)
-    → submitting stage seat ≡ s
+pub submit_opens : (stage next : SubmittedKind) (seat last : SeatState) (s : Submitting) (sender : CallSenderState)
+    (call : Call) → submitting stage seat ≡ s
     → IsOpen stage seat
     → s.waiting ≡ None
+    → seat.origin ≡ sender.origin
     → (stage ≡ Lost → ⊥)
     → next ≡ stage_of call
-    → last ≡ with_call seat call
+    → last ≡ with_sent seat sender call
     → IsOpen next last
-submit_opens stage next seat last s call view is free unlost e f =
+submit_opens stage next seat last s sender call view is free server unlost e f =
     subst (λ x. IsOpen x last) (sym e)
     (subst (λ l. IsOpen (stage_of call) l) (sym f)
-    (opens seat call (replied_free stage seat is (ap (λ (t : Submitting). t.waiting) view ∙ free) unlost)))
+    (opens seat sender call server
+    (replied_free stage seat is (ap (λ (t : Submitting). t.waiting) view ∙ free) unlost)))
+
+-- whose seat it is, at any stage
+pub submit_origin : (stage : SubmittedKind) (seat : SeatState) (s : Submitting) → submitting stage seat ≡ s
+    → seat.origin ≡ s.seat.origin
+submit_origin stage seat s view = by stage ∙ ap (λ (t : Submitting). t.seat.origin) view
+  where
+    by : (stage : SubmittedKind) → seat.origin ≡ (submitting stage seat).seat.origin
+    by Free = refl
+    by Read = refl
+    by Update = refl
+    by Lost = refl
+
+-- and its port
+pub submit_port : (stage : SubmittedKind) (seat : SeatState) (s : Submitting) → submitting stage seat ≡ s
+    → seat.port ≡ s.seat.port
+submit_port stage seat s view = by stage ∙ ap (λ (t : Submitting). t.seat.port) view
+  where
+    by : (stage : SubmittedKind) → seat.port ≡ (submitting stage seat).seat.port
+    by Free = refl
+    by Read = refl
+    by Update = refl
+    by Lost = refl
 
 -- a call wasn't sent
 pub submit_lost : (stage : SubmittedKind) (seat last : SeatState) (s : Submitting) → submitting stage seat ≡ s
@@ -263,17 +298,17 @@ take_answered before after told stage next seat last s reply given view is e f s
 -- nothing more was sent
 pub take_unsent : (stage next : SubmittedKind) (seat last : SeatState) (s : Submitting) → submitting stage seat ≡ s
     → IsOpen stage seat
-    → all_sent (submitting next last) ≡ last.sent
-    → last.sent ≡ seat.sent
+    → all_sent (submitting next last) ≡ last.calls
+    → last.calls ≡ seat.calls
     → all_sent (submitting next last) ≡ all_sent s
 take_unsent stage next seat last s view is shown same =
     shown ∙ (same ∙ (sym (sent_at stage seat is) ∙ ap all_sent view))
 
 -- a seat at which none is open shows what it sent
-pub free_sent : (next : SubmittedKind) (seat : SeatState) → next ≡ Free → all_sent (submitting next seat) ≡ seat.sent
+pub free_sent : (next : SubmittedKind) (seat : SeatState) → next ≡ Free → all_sent (submitting next seat) ≡ seat.calls
 free_sent next seat e = ap (λ x. all_sent (submitting x seat)) e
 
-pub lost_sent : (next : SubmittedKind) (seat : SeatState) → next ≡ Lost → all_sent (submitting next seat) ≡ seat.sent
+pub lost_sent : (next : SubmittedKind) (seat : SeatState) → next ≡ Lost → all_sent (submitting next seat) ≡ seat.calls
 lost_sent next seat e = ap (λ x. all_sent (submitting x seat)) e
 
 -- it took the reply to its open call

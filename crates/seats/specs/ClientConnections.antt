@@ -1,5 +1,5 @@
 -- Connections at a server's seats: what has come of one, and what it waits for.
-use Rattle.std.specs.Prelude.{◌≡◌, ◌⊎◌, ℕ, true, List, [], ◌∷◌, ◌++◌, Option, Some}
+use Rattle.std.specs.Prelude.{◌≡◌, ◌⊎◌, ℕ, true, List, [], ◌∷◌, ◌++◌, All, Option, Some}
 use Rattle.table.specs.Items.{Item}
 use Rattle.table.specs.declared.operations.Call.{Call}
 use Rattle.table.specs.declared.operations.Reply.{Reply}
@@ -8,6 +8,7 @@ use Rattle.node.specs.Lawful.{IsCall}
 use Rattle.proto.specs.Turns.{Outcome, Refused, Replied, is_store}
 use Rattle.faces.specs.Histories.{History, IsLater, Origin}
 use Rattle.faces.specs.Readers.{HasLookedAtMostOnce}
+use Rattle.rail.specs.CallSenders.{CallSenderState, SentCall, with_call}
 use Rattle.rail.specs.Seats.{SeatState}
 use Rattle.serving.specs.declared.connections.Wants.TheVariants.{Read, Write, End as Ends}
 use Rattle.serving.specs.Connections.{Connected, unused}
@@ -19,20 +20,21 @@ use Rattle.seats.specs.declared.client_connections.Went.{Went}
 use Rattle.seats.specs.declared.client_connections.Went.TheVariants.{Input, Write as Writes, Seat, Reply as Waits, More}
 use Rattle.seats.specs.declared.client_connections.Went.TheVariants.{End}
 use Rattle.seats.specs.Replies.{IsSubmitted, ShowsClean, ShowsReply}
-use Rattle.seats.specs.SeatPools.{IsFreeAt, Pooling}
+use Rattle.seats.specs.SeatPools.{IsAt, IsFreeAt, Pooling}
 use Rattle.seats.specs.Submitters.{Submitting}
 
--- What has come of a connection; where it stands; and what its reader had seen at first, and when its last call had its
--- reply.
+-- What has come of a connection; where it stands; the seats of the calls that were sent after the one at which it
+-- stands; and what its reader had seen at first, and when its last call had its reply.
 pub record ClientConnectionState : Type 0 where
   pub connected : Connected
   pub standing : CallStanding
+  pub ahead : List Submitting
   pub first : History
   pub seen : History
 
 -- at first
 abbrev pub begun : History → ClientConnectionState
-begun seen = record { connected = unused; standing = Idle; first = seen; seen = seen }
+begun seen = record { connected = unused; standing = Idle; ahead = []; first = seen; seen = seen }
 
 -- with a piece of input more
 abbrev pub fed : ClientConnectionState → List ℕ → ClientConnectionState
@@ -45,11 +47,12 @@ pub record IsPeeked (before after : History) (call : Call) (reply : Reply) : Typ
   pub shown : ShowsClean after call item
   pub reply_is : reply ≡ Value item
 
--- A look is the reply, or it is the server's, at some seat.
+-- A look is the reply, or it is the server's, at some seat, to the call that some sender sent from there.
 abbrev pub IsReplied : History → Call → Reply → History → Type 0
 IsReplied before call reply after =
     IsPeeked before after call reply
-    ⊎ ((seat : SeatState) × (then : SeatState) × IsSubmitted before after seat then call reply)
+    ⊎ ((seat : SeatState) × (then : SeatState) × (sender : CallSenderState)
+    × IsSubmitted before after seat then (record { sender = sender; call = call }) reply)
 
 -- What was looked at for this call, which came to this at once: for a reply the face that stood, once, and that shows
 -- the reply; and nothing for a refusal.
@@ -68,15 +71,85 @@ AreLookedFor (call ∷ calls) (Replied reply ∷ outcomes) [] = ⊥
 AreLookedFor (call ∷ calls) (Replied reply ∷ outcomes) (look ∷ looks) =
     ShowsReply look call reply × AreLookedFor calls outcomes looks
 
--- Its connection waits for no call, and may want input; or for this one, which waits for a seat, or is open at this
--- seat of its server.
-abbrev pub StandsAt : CallStanding → Connected → Origin → Type 0
-StandsAt Idle c origin = c.waiting ≡ []
-StandsAt Reading c origin = IsWanted Read c
-StandsAt (Unsent call) c origin = (c.waiting ≡ call ∷ []) × IsCall call
-StandsAt (Sent s) c origin =
-    (call : Call) × (c.waiting ≡ call ∷ []) × (s.waiting ≡ Some call) × (s.seat.origin ≡ origin)
-StandsAt Over c origin = Unit {0}
+-- This call is open at this seat of this server.
+pub record IsOpenAt (origin : Origin) (s : Submitting) (call : Call) : Type 0 where
+  pub sent : SentCall
+  pub is : sent.call ≡ call
+  pub opened : s.waiting ≡ Some sent
+  pub here : s.seat.origin ≡ origin
+
+-- these calls are open, in turn, each at one of these seats of this server
+abbrev pub AreOpenAt : Origin → List Submitting → List Call → Type 0
+AreOpenAt origin [] [] = Unit {0}
+AreOpenAt origin [] (call ∷ calls) = ⊥
+AreOpenAt origin (s ∷ ss) [] = ⊥
+AreOpenAt origin (s ∷ ss) (call ∷ calls) = IsOpenAt origin s call × AreOpenAt origin ss calls
+
+-- Its connection waits for no call, and may want input; or for this one, which waits for a seat; or for one or more,
+-- the first of which is open at this seat of its server, and the later ones at those. All of these are seats of its
+-- server.
+abbrev pub StandsAt : CallStanding → List Submitting → Connected → Origin → Type 0
+StandsAt Idle ahead c origin = (c.waiting ≡ []) × (ahead ≡ [])
+StandsAt Reading ahead c origin = IsWanted Read c × (ahead ≡ [])
+StandsAt (Unsent call) ahead c origin = (c.waiting ≡ call ∷ []) × IsCall call × (ahead ≡ [])
+StandsAt (Sent s) ahead c origin = AreOpenAt origin (s ∷ ahead) c.waiting
+StandsAt Over ahead c origin = All (IsAt origin) ahead
+
+-- where it stands once the call at which it stood has its reply: at the next one
+abbrev pub next_standing : List Submitting → CallStanding
+next_standing [] = Idle
+next_standing (s ∷ ss) = Sent s
+
+-- and the seats of those after that
+abbrev pub next_ahead : List Submitting → List Submitting
+next_ahead [] = []
+next_ahead (s ∷ ss) = ss
+
+-- it waits for no call, or for one that was sent
+abbrev pub HasHeard : ClientConnectionState → Type 0
+HasHeard t = (t.standing ≡ Idle) ⊎ ((s : Submitting) × (t.standing ≡ Sent s))
+
+-- One more call is open: an update that was taken ahead of its turn, and that the pool's sender sent from the port of
+-- one more seat of this server.
+pub record HasSentAhead (p q : Pooling) (c d : Connected) (ahead longer : List Submitting) : Type 0 where
+  pub call : Call
+  pub s : Submitting
+  pub waits : d ≡ record c { waiting = c.waiting ++ call ∷ [] }
+  pub seats : longer ≡ ahead ++ s ∷ []
+  pub opened : IsOpenAt p.seen.origin s call
+  pub waiting : s.waiting ≡ Some (record { sender = p.sender; call = call })
+  pub sent : q.sender ≡ with_call p.sender s.seat.port call
+
+-- the seats of the calls that were sent and have no reply, the oldest first
+abbrev pub seats_open : CallStanding → List Submitting → List Submitting
+seats_open Idle ahead = []
+seats_open Reading ahead = []
+seats_open (Unsent call) ahead = []
+seats_open (Sent s) ahead = s ∷ ahead
+seats_open Over ahead = []
+
+-- This sender sent the open calls of these seats, in turn, each from its seat's port, and nothing else: then it was
+-- that.
+abbrev pub AreSentBy : CallSenderState → List Submitting → CallSenderState → Type 0
+AreSentBy sender [] then = then ≡ sender
+AreSentBy sender (s ∷ ss) then =
+    (call : Call) × (s.waiting ≡ Some (record { sender = sender; call = call }))
+    × AreSentBy (with_call sender s.seat.port call) ss then
+
+-- What the pool's sender sent are the last ones of the calls that are open now, in turn, unless no further call is
+-- made.
+pub record HasSentInTurn (t : ClientConnectionState) (p q : Pooling) : Type 0 where
+  pub more : List Submitting
+  pub sent : AreSentBy p.sender more q.sender
+  pub open_at : (t.standing ≡ Over)
+      ⊎ ((before : List Submitting) × (seats_open t.standing t.ahead ≡ before ++ more))
+
+-- What the pool's sender sent are the calls that are open beside those before, in turn, unless no further call is made.
+pub record HasSentOn (t u : ClientConnectionState) (p q : Pooling) : Type 0 where
+  pub more : List Submitting
+  pub sent : AreSentBy p.sender more q.sender
+  pub open_at : (u.standing ≡ Over)
+      ⊎ (seats_open u.standing u.ahead ≡ seats_open t.standing t.ahead ++ more)
 
 -- More calls have their replies or were refused, and more output is due.
 pub record IsFurther (c d : Connected) : Type 0 where
@@ -146,7 +219,23 @@ HoldsFree origin (Unsent call) = Unit {0}
 HoldsFree origin (Sent s) = IsFreeAt origin s
 HoldsFree origin Over = Unit {0}
 
+-- the seat that it has, if any, is one of this server
+abbrev pub HoldsAt : Origin → CallStanding → Type 0
+HoldsAt origin Idle = Unit {0}
+HoldsAt origin Reading = Unit {0}
+HoldsAt origin (Unsent call) = Unit {0}
+HoldsAt origin (Sent s) = IsAt origin s
+HoldsAt origin Over = Unit {0}
+
+-- Nothing came of it, and nothing was seen: more calls may wait.
+pub record IsSameBut (t u : ClientConnectionState) : Type 0 where
+  pub connected : u.connected ≡
+      record t.connected { waiting = u.connected.waiting; failed = u.connected.failed }
+  pub first : u.first ≡ t.first
+  pub seen : u.seen ≡ t.seen
+
 -- what holds of a client connection
-pub record IsClientConnection (c : Connected) (standing : CallStanding) (first seen : History) : Type 0 where
+pub record IsClientConnection (c : Connected) (standing : CallStanding) (ahead : List Submitting)
+    (first seen : History) : Type 0 where
   pub answered : AreAnswered IsReplied first c.calls c.outcomes seen
-  pub stands : StandsAt standing c seen.origin
+  pub stands : StandsAt standing ahead c seen.origin

@@ -42,7 +42,7 @@ sent_at (es ∷ rest) zero = es
 sent_at (es ∷ rest) (suc j) = sent_at rest j
 
 -- these inbox messages without the last one
-abbrev pub without_last : List InboxMessage → List InboxMessage
+abbrev pub without_last : {A : Type 0} → List A → List A
 without_last [] = []
 without_last (e ∷ []) = []
 without_last (e ∷ (f ∷ es)) = e ∷ without_last (f ∷ es)

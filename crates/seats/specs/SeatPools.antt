@@ -2,21 +2,25 @@
 use Rattle.std.specs.Prelude.{◌≡◌, ◌≤◌, ◌<◌, ◌+◌, ℕ, suc, List, [], ◌∷◌, ◌++◌, None, All, length}
 use Rattle.faces.specs.Histories.{History, Origin}
 use Rattle.faces.specs.Readers.{Looking}
+use Rattle.table.specs.declared.operations.Call.{Call}
+use Rattle.rail.specs.CallSenders.{CallSenderState, with_call}
 use Rattle.seats.specs.Submitters.{Submitting}
 
--- What a pool's reader has seen or was told of, and each history whose face stood when it looked; its seats at which no
--- call is open, the next one last; those for whose replies nobody waits any more; and how many it has, with those that
--- were taken out.
+-- What a pool's reader has seen or was told of, and each history whose face stood when it looked; the sender of its
+-- calls; its seats at which no call is open, the next one last; those for whose replies nobody waits any more; and how
+-- many it has, with those that were taken out.
 pub record Pooling : Type 0 where
   pub seen : History
   pub looks : List History
+  pub sender : CallSenderState
   pub free : List Submitting
   pub left : List Submitting
   pub seats : ℕ
 
 -- a pool without seats
-abbrev pub without_seats : Looking → Pooling
-without_seats reader = record { seen = reader.seen; looks = reader.looks; free = []; left = []; seats = 0 }
+abbrev pub without_seats : Looking → CallSenderState → Pooling
+without_seats reader sender =
+    record { seen = reader.seen; looks = reader.looks; sender = sender; free = []; left = []; seats = 0 }
 
 -- it has one seat more, which is free
 abbrev pub with_free : Pooling → Submitting → Pooling
@@ -29,6 +33,10 @@ put_back p s = record p { free = p.free ++ s ∷ [] }
 -- a seat that was out has an open call, for whose reply nobody waits any more
 abbrev pub put_left : Pooling → Submitting → Pooling
 put_left p s = record p { left = p.left ++ s ∷ [] }
+
+-- its sender sent one call more, from this port
+abbrev pub with_sent_call : Pooling → ℕ → Call → Pooling
+with_sent_call p port call = record p { sender = with_call p.sender port call }
 
 -- how many of its seats are here
 abbrev pub here : Pooling → ℕ
@@ -49,6 +57,10 @@ pub record HasAllSeats (before after : Pooling) : Type 0 where
 abbrev pub HasSameReader : Pooling → Pooling → Type 0
 HasSameReader p q = (q.seen ≡ p.seen) × (q.looks ≡ p.looks)
 
+-- its sender has sent nothing more
+abbrev pub HasSentNothing : Pooling → Pooling → Type 0
+HasSentNothing p q = q.sender ≡ p.sender
+
 -- the seats are those that it had
 abbrev pub HasSameSeats : Pooling → Pooling → Type 0
 HasSameSeats p q = (q.free ≡ p.free) × (q.left ≡ p.left) × (q.seats ≡ p.seats)
@@ -61,9 +73,12 @@ IsAt origin s = s.seat.origin ≡ origin
 abbrev pub IsFreeAt : Origin → Submitting → Type 0
 IsFreeAt origin s = (s.seat.origin ≡ origin) × (s.waiting ≡ None)
 
--- What a pool of n seats holds: those that are free, and those that were left, are of this server, and no more than
--- it has. There is room for each seat among either.
-pub record IsPool (origin : Origin) (seats : ℕ) (free left : List Submitting) (room space : ℕ) : Type 0 where
+-- What a pool of n seats holds: its sender, those that are free, and those that were left, are of this server, and the
+-- seats no more than it has. There is room for each seat among either.
+pub record IsPool (origin : Origin) (sender : CallSenderState) (seats : ℕ) (free left : List Submitting)
+    (room space : ℕ)
+    : Type 0 where
+  pub sends : sender.origin ≡ origin
   pub are_free : All (IsFreeAt origin) free
   pub are_left : All (IsAt origin) left
   pub count : length free + length left ≤ seats

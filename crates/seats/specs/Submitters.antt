@@ -4,57 +4,56 @@ use Rattle.std.specs.Prelude.{Option, Some, None}
 use Rattle.table.specs.Operations.{is_update, is_value}
 use Rattle.table.specs.declared.operations.Call.{Call}
 use Rattle.table.specs.declared.operations.Reply.{Reply}
-use Rattle.node.specs.declared.messages.Input.TheVariants.{Call as Called}
 use Rattle.faces.specs.Histories.{History}
-use Rattle.rail.specs.declared.inbox_messages.InboxMessage.{InboxMessage}
-use Rattle.rail.specs.declared.inbox_messages.InboxMessage.TheVariants.{Took}
-use Rattle.rail.specs.Seats.{SeatState, with_call}
+use Rattle.rail.specs.CallSenders.{SentCall}
+use Rattle.rail.specs.Seats.{SeatState}
 use Rattle.seats.specs.InProcessLinks.{without_last}
-use Rattle.seats.specs.Replies.{HasAllReplies, IsSubmitted, call_of, calls_in}
+use Rattle.seats.specs.Replies.{HasAllReplies, IsSubmitted}
 use Rattle.seats.specs.declared.submitters.SubmittedKind.{SubmittedKind}
 use Rattle.seats.specs.declared.submitters.SubmittedKind.TheVariants.{Free, Read, Update, Lost}
 
--- A seat as it was before its open call was sent; that call, whose reply it hasn't taken; and whether it is lost, so
--- that nothing is sent or answered any more.
+-- A seat as it was before its open call was sent; that call, whose reply it hasn't taken, with its sender as it was
+-- then; and whether it is lost, so that nothing is sent or answered any more.
 pub record Submitting : Type 0 where
   pub seat : SeatState
-  pub waiting : Option Call
+  pub waiting : Option SentCall
   pub lost : Bool
 
 -- a seat at which no call is open
 abbrev pub unused : SeatState → Submitting
 unused seat = record { seat = seat; waiting = None; lost = false }
 
--- a seat with its open call
-abbrev pub with_open : SeatState → Option Call → SeatState
-with_open seat None = seat
-with_open seat (Some call) = with_call seat call
+-- these calls, and the open one
+abbrev pub with_open : List SentCall → Option SentCall → List SentCall
+with_open calls None = calls
+with_open calls (Some sent) = calls ++ sent ∷ []
 
--- all that it sent, with the open call
-abbrev pub all_sent : Submitting → List InboxMessage
-all_sent s = (with_open s.seat s.waiting).sent
+-- all calls that were sent at it, with the open one
+abbrev pub all_sent : Submitting → List SentCall
+all_sent s = with_open s.seat.calls s.waiting
 
--- The reply to the open call was taken: the call was sent, once, by a seat that had a reply to each call before; and
--- one reply was taken, which the server had put out for this seat; the reader has seen all that the server had
--- published by then. It is an item, or none, exactly if the call is a read. No call is open then.
+-- The reply to the open call was taken: a sender of its server had sent the call, once, from the port of a seat that
+-- had a reply to each call before; and one reply was taken, which the server had put out for this seat; the reader has
+-- seen all that the server had published by then. It is an item, or none, exactly if the call is a read. No call is
+-- open then.
 pub record IsAnswered (before after : History) (s t : Submitting) (reply : Reply) : Type 0 where
-  pub call : Call
-  pub waits : s.waiting ≡ Some call
-  pub submitted : IsSubmitted before after s.seat t.seat call reply
-  pub kind : is_value reply ≡ not (is_update call.op)
+  pub sent : SentCall
+  pub waits : s.waiting ≡ Some sent
+  pub submitted : IsSubmitted before after s.seat t.seat sent reply
+  pub kind : is_value reply ≡ not (is_update sent.call.op)
   pub free : t.waiting ≡ None
   pub lost : (s.lost ≡ false) × (t.lost ≡ false)
 
--- the call of the last inbox message
-abbrev pub last_call : List InboxMessage → Option Call
-last_call [] = None
-last_call (e ∷ []) = call_of e
-last_call (e ∷ (f ∷ es)) = last_call (f ∷ es)
+-- the last call that was sent
+abbrev pub last_sent : List SentCall → Option SentCall
+last_sent [] = None
+last_sent (e ∷ []) = Some e
+last_sent (e ∷ (f ∷ es)) = last_sent (f ∷ es)
 
--- a seat whose last inbox message is the open call
+-- a seat at which the last call is open
 abbrev pub open_at : SeatState → Submitting
 open_at seat =
-    record { seat = record seat { sent = without_last seat.sent }; waiting = last_call seat.sent; lost = false }
+    record { seat = record seat { calls = without_last seat.calls }; waiting = last_sent seat.calls; lost = false }
 
 -- what a seat shows at a stage
 abbrev pub submitting : SubmittedKind → SeatState → Submitting
@@ -63,15 +62,16 @@ submitting Read seat = open_at seat
 submitting Update seat = open_at seat
 submitting Lost seat = record { seat = seat; waiting = None; lost = true }
 
--- The last inbox message is a call, which is an update, or not. Each call before it has its reply.
+-- The last call is an update, or not, and was sent by a sender of this server. Each call before it has its reply.
 pub record IsLastCall (seat : SeatState) (updates : Bool) : Type 0 where
-  pub before : List InboxMessage
-  pub call : Call
-  pub sent : seat.sent ≡ before ++ Took (Called seat.port call) ∷ []
-  pub kind : is_update call.op ≡ updates
-  pub replied : calls_in before ≡ length seat.got
+  pub before : List SentCall
+  pub sent : SentCall
+  pub calls : seat.calls ≡ before ++ sent ∷ []
+  pub kind : is_update sent.call.op ≡ updates
+  pub server : sent.sender.origin ≡ seat.origin
+  pub replied : length before ≡ length seat.got
 
--- a call that is open is the last inbox message that was sent, and each other one has its reply
+-- a call that is open is the last one that was sent, and each other one has its reply
 abbrev pub IsOpen : SubmittedKind → SeatState → Type 0
 IsOpen Free seat = HasAllReplies seat
 IsOpen Read seat = IsLastCall seat false

@@ -1,6 +1,7 @@
 //! A connection at a server's seats, without a thread: each of its calls is refused or answered by a look at once, or
-//! sent at a seat, whose reply is taken later.
-ghost use Rattle.std.specs.Prelude.{◌≡◌, IfOk, MatchOption, OnErr, OnOk};
+//! sent at a seat, whose reply is taken later. Updates that follow one another may be sent before the first has its
+//! reply.
+ghost use Rattle.std.specs.Prelude.{◌≡◌, IfOk, Some, MatchOption, OnErr, OnOk};
 ghost use Rattle.table.specs.declared.operations.Call.{Call};
 ghost use Rattle.proto.specs.Turns.{Outcome, Refused};
 ghost use Rattle.faces.specs.Histories.{IsLater};
@@ -10,15 +11,24 @@ ghost use Rattle.serving.specs.Serving.{CameTo};
 ghost use Rattle.serving.specs.Wanted.{IsAsking};
 ghost use Rattle.seats.specs.declared.client_connections.CallStanding.TheVariants.{Idle, Over, Reading, Unsent};
 ghost use Rattle.seats.specs.declared.client_connections.Went.TheVariants.{Seat};
-ghost use Rattle.seats.specs.SeatPools.{HasSameReader};
-ghost use Rattle.seats.specs.ClientConnections.{HasLookedFor, HoldsFree, IsReplied};
+ghost use Rattle.seats.specs.SeatPools.{HasSameReader, HasSentNothing};
+ghost use Rattle.seats.specs.ClientConnections.{
+  HasLookedFor,
+  HoldsAt,
+  HoldsFree,
+  IsReplied,
+  next_ahead,
+  next_standing,
+};
 
+use crate::ahead::{leave_all, open_ahead};
 use crate::outcomes::{hand_on, is_refused, settle};
 use crate::seat_pools::SeatPool;
 use crate::submitters::Submitter;
 use rail::Told;
 use serving::{Connection, End, ServeFault, Wants};
 use std::alloc::{AllocError, Global};
+use std::collections::VecDeque;
 use std::marker::Model;
 use std::mem;
 use std::sync::Wait;
@@ -33,7 +43,7 @@ pub enum Went {
     Write,
     /// Its call waits for a free seat.
     Seat,
-    /// Its call was sent, and its reply isn't here yet.
+    /// Its call was sent, perhaps with updates after it, and the reply isn't here yet.
     Reply,
     /// It made as many calls as it may in one go, and can go on.
     More,
@@ -50,7 +60,7 @@ pub enum CallStanding {
     Reading,
     /// This call waits for a seat.
     Unsent(Call),
-    /// The call that waits is open at this seat.
+    /// The call that waits, the longest if others do too, is open at this seat.
     Sent(Submitter),
     /// A call got no reply, or memory was refused: no further call is made.
     Over,
@@ -60,8 +70,9 @@ pub enum CallStanding {
 pub const MOST_CALLS: usize = 32;
 
 /// A connection at a server's seats: it is fed with input, makes the calls of that, one after another, and says what it
-/// waits for. Contracts see the connection, where it stands, and what its reader had seen at first and when its last
-/// call had its reply (`ClientConnectionState`).
+/// waits for. While an update is open, the updates that come next may be sent too, each at a seat of its own; they are
+/// sent and answered in turn. Contracts see the connection, where it stands, the seats of the updates that were sent
+/// ahead, and what its reader had seen at first and when its last call had its reply (`ClientConnectionState`).
 #[derive(Drop)]
 pub struct ClientConnection {
     // The fields lie in this order: what a call by a look touches lies close together.
@@ -69,6 +80,8 @@ pub struct ClientConnection {
     seen: Told,
     connection: Connection,
     standing: CallStanding,
+    // The seats of the calls that were sent after the one at which it stands, in turn.
+    ahead: VecDeque<Submitter>,
 }
 
 impl Model for ClientConnection {
@@ -86,11 +99,12 @@ impl Model for ClientConnection {
     ghost view = { λ t. record {
       connected = t.connection;
       standing = t.standing;
+      ahead = t.ahead.items;
       first = t.first;
       seen = t.seen;
     } };
 
-    ghost invariant = { λ t. IsClientConnection t.connection t.standing t.first t.seen };
+    ghost invariant = { λ t. IsClientConnection t.connection t.standing t.ahead.items t.first t.seen };
 }
 
 impl ClientConnection {
@@ -100,16 +114,18 @@ impl ClientConnection {
     ghost use Rattle.faces.specs.Histories.{IsLater};
     ghost use Rattle.serving.specs.Connections.{IsBegun};
     ghost use Rattle.serving.specs.Serving.{AreAnswered};
-    ghost use Rattle.seats.specs.SeatPools.{HasSameReader};
+    ghost use Rattle.seats.specs.SeatPools.{HasSameReader, HasSentNothing};
     ghost use Rattle.seats.specs.ClientConnections.{
       HasGone,
       HasGoneByLooks,
       HasLooked,
       HasLookedOn,
+      HasSentInTurn,
+      HasSentOn,
       HoldsStore,
       IsFurther,
     };
-    ghost use Rattle.seats.specs.ClientConnections.{IsReplied, LeavesCall, StandsAt, begun, fed};
+    ghost use Rattle.seats.specs.ClientConnections.{HasHeard, IsReplied, IsSameBut, LeavesCall, StandsAt, begun, fed};
     ghost use Rattle.seats.specs.declared.client_connections.CallStanding.TheVariants.{Idle, Reading, Over};
 
     /// A client's connection of which nothing was read. It allocates nothing.
@@ -119,6 +135,7 @@ impl ClientConnection {
         ClientConnection {
             connection: Connection::new(alloc),
             standing: CallStanding::Idle,
+            ahead: VecDeque::new(alloc),
             first: pool.tell(),
             seen: pool.tell(),
         }
@@ -132,7 +149,7 @@ impl ClientConnection {
         ensures begun { (more : List ℕ) → IsBegun self.now.connected (self.now.connected.read ++ more) }
         ensures answered { AreAnswered IsReplied self.now.first self.now.connected.calls self.now.connected.outcomes
             self.now.seen }
-        ensures stands { StandsAt self.now.standing self.now.connected self.now.seen.origin }
+        ensures stands { StandsAt self.now.standing self.now.ahead self.now.connected self.now.seen.origin }
     {
         self.connection.so_far();
     }
@@ -169,7 +186,8 @@ impl ClientConnection {
     /// Goes on as far as it can: it makes the calls of what was read, one after another, each by a look at once, or at
     /// a free seat of the pool, until it waits for something. A call that stores is refused while the pool has no room,
     /// and isn't made then. A call gets no reply if the server is marked or gone. After a fault no further call is
-    /// made, and it answers a fault from then on; what is due may still be written.
+    /// made, and it answers a fault from then on; what is due may still be written. If it waits for the reply to an
+    /// update, the updates that come next are sent too, each at a free seat, as many as the pool lets be in flight.
     pub fn go<R: Wait>(&mut self, rt: &R, pool: &mut SeatPool) -> Result<Went, ServeFault>
         requires known { IsLater self.old.seen pool.old.seen }
         ensures known { IsLater self.new.seen pool.new.seen }
@@ -177,6 +195,34 @@ impl ClientConnection {
         ensures first { self.new.first ≡ self.old.first }
         ensures further { IsFurther self.old.connected self.new.connected }
         ensures went { IfOk result (λ went. HasGone went self.new) }
+        ensures sent { HasSentInTurn self.new pool.old pool.new }
+        // No reply of a look was kept, and no look is forgotten: each reply to its calls is of a look of its own, at
+        // the face that stood. Beside these at most one look was made, for the call that it leaves waiting, or at which
+        // a fault came.
+        ensures looked { MatchResult result
+            (λ went. HasGoneByLooks went self.old.connected self.new.connected pool.old pool.new)
+            (λ _. HasLookedOn self.old.connected self.new.connected pool.old pool.new) }
+        ensures over { OnErr result (self.new.standing ≡ Over) }
+        ensures spent { self.old.standing ≡ Over → IsErr result × (self.new ≡ self.old) × (pool.new ≡ pool.old) }
+    {
+        match self.go_alone(rt, pool)? {
+            Went::Reply => {
+                self.go_ahead(rt, pool)?;
+                Ok(Went::Reply)
+            }
+            went => Ok(went),
+        }
+    }
+
+    // The same, but nothing is sent ahead.
+    fn go_alone<R: Wait>(&mut self, rt: &R, pool: &mut SeatPool) -> Result<Went, ServeFault>
+        requires known { IsLater self.old.seen pool.old.seen }
+        ensures known { IsLater self.new.seen pool.new.seen }
+        ensures later { IsLater pool.old.seen pool.new.seen }
+        ensures first { self.new.first ≡ self.old.first }
+        ensures further { IsFurther self.old.connected self.new.connected }
+        ensures went { IfOk result (λ went. HasGone went self.new) }
+        ensures sent { HasSentInTurn self.new pool.old pool.new }
         // No reply of a look was kept, and no look is forgotten: each reply to its calls is of a look of its own, at
         // the face that stood. Beside these at most one look was made, for the call that it leaves waiting, or at which
         // a fault came.
@@ -201,8 +247,8 @@ impl ClientConnection {
         }
     }
 
-    /// Takes the reply to the call that was sent, if it has come, and says whether it did: no call waits then, and its
-    /// seat is free.
+    /// Takes the replies to the calls that were sent, as many as have come, that to the oldest call first, and says
+    /// whether there was one: its seat is free then.
     pub fn hear<R: Wait>(&mut self, rt: &R, pool: &mut SeatPool) -> Result<bool, ServeFault>
         requires known { IsLater self.old.seen pool.old.seen }
         ensures known { IsLater self.new.seen pool.new.seen }
@@ -210,7 +256,30 @@ impl ClientConnection {
         ensures first { self.new.first ≡ self.old.first }
         ensures further { IsFurther self.old.connected self.new.connected }
         ensures looks { pool.new.looks ≡ pool.old.looks }
-        ensures heard { IfOk result (λ heard. MatchBool heard (self.new.standing ≡ Idle) (self.new ≡ self.old)) }
+        ensures unsent { HasSentNothing pool.old pool.new }
+        ensures heard { IfOk result (λ heard. MatchBool heard (HasHeard self.new) (self.new ≡ self.old)) }
+        ensures over { OnErr result (self.new.standing ≡ Over) }
+    {
+        let mut any = false;
+        for _ in 0..=self.ahead.len() {
+            if !self.hear_one(rt, pool)? {
+                return Ok(any);
+            }
+            any = true;
+        }
+        Ok(any)
+    }
+
+    // Takes the reply to the oldest call that was sent, if it has come, and says whether it did.
+    fn hear_one<R: Wait>(&mut self, rt: &R, pool: &mut SeatPool) -> Result<bool, ServeFault>
+        requires known { IsLater self.old.seen pool.old.seen }
+        ensures known { IsLater self.new.seen pool.new.seen }
+        ensures later { IsLater pool.old.seen pool.new.seen }
+        ensures first { self.new.first ≡ self.old.first }
+        ensures further { IsFurther self.old.connected self.new.connected }
+        ensures looks { pool.new.looks ≡ pool.old.looks }
+        ensures unsent { HasSentNothing pool.old pool.new }
+        ensures heard { IfOk result (λ heard. MatchBool heard (HasHeard self.new) (self.new ≡ self.old)) }
         ensures over { OnErr result (self.new.standing ≡ Over) }
     {
         let CallStanding::Sent(submitter) = &mut self.standing else {
@@ -221,7 +290,7 @@ impl ClientConnection {
             Ok(Some(reply)) => {
                 give_back(&mut self.standing, pool);
                 hand_on(&mut self.connection, &mut self.seen, pool, reply)?;
-                stand_at(&mut self.standing, CallStanding::Idle);
+                stand_at(&mut self.standing, next_standing(&mut self.ahead));
                 Ok(true)
             }
             Err(_) => {
@@ -251,26 +320,24 @@ impl ClientConnection {
         self.connection.written(n);
     }
 
-    /// Ends it. Its seat, if it has one, goes back to the pool, which takes the reply that nobody waits for any more.
+    /// Ends it. Its seats, if it has any, go back to the pool, which takes the replies that nobody waits for any more.
     pub fn leave(self, pool: &mut SeatPool)
         requires known { IsLater self.seen pool.old.seen }
-        ensures { HasSameReader pool.old pool.new }
+        ensures reader { HasSameReader pool.old pool.new }
+        ensures unsent { HasSentNothing pool.old pool.new }
     {
         let ClientConnection {
             connection,
             standing,
+            ahead,
             first,
             seen,
         } = self;
         drop(connection);
         drop(first);
         drop(seen);
-        match standing {
-            CallStanding::Sent(submitter) => {
-                pool.leave(submitter);
-            }
-            other => drop(other),
-        }
+        leave_one(standing, pool);
+        leave_all(ahead, pool);
     }
 
     // Makes calls while no call waits.
@@ -282,6 +349,7 @@ impl ClientConnection {
         ensures first { self.new.first ≡ self.old.first }
         ensures further { IsFurther self.old.connected self.new.connected }
         ensures went { IfOk result (λ went. HasGone went self.new) }
+        ensures sent { HasSentInTurn self.new pool.old pool.new }
         ensures looked { MatchResult result
             (λ went. HasGoneByLooks went self.old.connected self.new.connected pool.old pool.new)
             (λ _. HasLookedOn self.old.connected self.new.connected pool.old pool.new) }
@@ -306,6 +374,7 @@ impl ClientConnection {
         ensures first { self.new.first ≡ self.old.first }
         ensures further { IsFurther self.old.connected self.new.connected }
         ensures went { IfOk result (λ went. HasGone went self.new) }
+        ensures sent { HasSentInTurn self.new pool.old pool.new }
         ensures looked { MatchResult result
             (λ went. HasGoneByLooks went self.old.connected self.new.connected pool.old pool.new)
             (λ _. HasLookedOn self.old.connected self.new.connected pool.old pool.new) }
@@ -325,6 +394,7 @@ impl ClientConnection {
         ensures further { IsFurther self.old.connected self.new.connected }
         ensures went { IfOk result
             (λ found. MatchOption found (self.new.standing ≡ Idle) (λ went. HasGone went self.new)) }
+        ensures unsent { HasSentNothing pool.old pool.new }
         ensures looked { MatchResult result
             (λ found. MatchOption found (HasLooked self.old.connected self.new.connected pool.old pool.new)
             (λ went. HasGoneByLooks went self.old.connected self.new.connected pool.old pool.new))
@@ -358,6 +428,7 @@ impl ClientConnection {
         requires known { IsLater self.old.seen pool.old.seen }
         ensures same { self.new ≡ record self.old { standing = self.new.standing } }
         ensures pool { HasSameReader pool.old pool.new }
+        ensures sent { HasSentInTurn self.new pool.old pool.new }
         ensures waits { IfOk result (λ went. LeavesCall went) }
         ensures went { IfOk result (λ went. HasGone went self.new) }
         ensures over { OnErr result (self.new.standing ≡ Over) }
@@ -366,7 +437,7 @@ impl ClientConnection {
             return Ok(Went::Seat);
         };
         let call = unsent(mem::replace(&mut self.standing, CallStanding::Over));
-        match submitter.submit(rt, call) {
+        match pool.submit(rt, &mut submitter, call) {
             Ok(()) => {
                 stand_at(&mut self.standing, CallStanding::Sent(submitter));
                 Ok(Went::Reply)
@@ -374,6 +445,44 @@ impl ClientConnection {
             Err(_) => {
                 pool.put(submitter);
                 Err(ServeFault::Call)
+            }
+        }
+    }
+
+    // Sends the updates that come next, as long as there are some, and free seats, and no more are sent ahead than may
+    // be.
+    fn go_ahead<R: Wait>(&mut self, rt: &R, pool: &mut SeatPool) -> Result<(), ServeFault>
+        requires sent { HasGone Went.Reply self.old }
+        requires known { IsLater self.old.seen pool.old.seen }
+        ensures same { IsSameBut self.old self.new }
+        ensures pool { HasSameReader pool.old pool.new }
+        ensures on { HasSentOn self.old self.new pool.old pool.new }
+        ensures sent { OnOk result (HasGone Went.Reply self.new) }
+        ensures over { OnErr result (self.new.standing ≡ Over) }
+    {
+        for _ in self.ahead.len()..pool.most_ahead() {
+            if !self.send_ahead(rt, pool)? {
+                return Ok(());
+            }
+        }
+        Ok(())
+    }
+
+    // Sends the update that comes next, if one does, and there is a free seat. Whether it did.
+    fn send_ahead<R: Wait>(&mut self, rt: &R, pool: &mut SeatPool) -> Result<bool, ServeFault>
+        requires sent { HasGone Went.Reply self.old }
+        requires known { IsLater self.old.seen pool.old.seen }
+        ensures same { IsSameBut self.old self.new }
+        ensures pool { HasSameReader pool.old pool.new }
+        ensures on { HasSentOn self.old self.new pool.old pool.new }
+        ensures sent { OnOk result (HasGone Went.Reply self.new) }
+        ensures over { OnErr result (self.new.standing ≡ Over) }
+    {
+        match open_ahead(rt, pool, &mut self.connection, &mut self.ahead) {
+            Ok(sent) => Ok(sent),
+            Err(fault) => {
+                leave_one(mem::replace(&mut self.standing, CallStanding::Over), pool);
+                Err(fault)
             }
         }
     }
@@ -421,6 +530,7 @@ fn ask(
         HasLookedFor call outcome pool.old pool.new)
         (λ went. (went ≡ Seat) × (connection.new ≡ connection.old))) }
     ensures once { HasLookedAtMostOnce pool.old.looks pool.new.looks }
+    ensures unsent { HasSentNothing pool.old pool.new }
     ensures err { OnErr result ((standing.new ≡ Over) × (seen.new ≡ seen.old) ×
         (connection.new ≡ record connection.old { failed = connection.new.failed })) }
 {
@@ -483,9 +593,35 @@ fn give_back(standing: &mut CallStanding, pool: &mut SeatPool)
     requires { HoldsFree pool.old.seen.origin standing.old }
     ensures standing { standing.new ≡ Over }
     ensures pool { HasSameReader pool.old pool.new }
+    ensures unsent { HasSentNothing pool.old pool.new }
 {
     match mem::replace(standing, CallStanding::Over) {
         CallStanding::Sent(submitter) => pool.put(submitter),
+        other => drop(other),
+    }
+}
+
+// Where it stands next, once the call at which it stood has its reply.
+fn next_standing(ahead: &mut VecDeque<Submitter>) -> CallStanding
+    ensures standing { result ≡ next_standing ahead.old.items }
+    ensures ahead { ahead.new.items ≡ next_ahead ahead.old.items }
+{
+    match ahead.pop_front() {
+        Some(submitter) => CallStanding::Sent(submitter),
+        None => CallStanding::Idle,
+    }
+}
+
+// Gives its seat, if it has one, to the pool, which takes the reply that nobody waits for any more.
+fn leave_one(standing: CallStanding, pool: &mut SeatPool)
+    requires { HoldsAt pool.old.seen.origin standing }
+    ensures reader { HasSameReader pool.old pool.new }
+    ensures unsent { HasSentNothing pool.old pool.new }
+{
+    match standing {
+        CallStanding::Sent(submitter) => {
+            pool.leave(submitter);
+        }
         other => drop(other),
     }
 }

@@ -3,6 +3,7 @@
 //! may hold back what it puts out.
 #![tactic(auto)]
 
+mod ahead;
 mod client_connections;
 mod gauges;
 mod in_process_links;

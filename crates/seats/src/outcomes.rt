@@ -7,6 +7,7 @@ ghost use Rattle.serving.specs.Connections.{HasOutcome, MayHave};
 ghost use Rattle.serving.specs.Serving.{CameTo};
 ghost use Rattle.serving.specs.Wanted.{IsAsking};
 ghost use Rattle.seats.specs.ClientConnections.{HasLookedFor, IsReplied};
+ghost use Rattle.seats.specs.SeatPools.{HasSentNothing};
 
 use crate::seat_pools::SeatPool;
 use rail::Told;
@@ -43,6 +44,7 @@ pub(crate) fn settle(
         HasLookedFor call.now outcome pool.old pool.new) }
     // Whatever the answer: no look is forgotten, and at most one is made.
     ensures once { HasLookedAtMostOnce pool.old.looks pool.new.looks }
+    ensures unsent { HasSentNothing pool.old pool.new }
     ensures err { OnErr result ((seen.new ≡ seen.old) ×
         (connection.new ≡ record connection.old { failed = connection.new.failed })) }
 {

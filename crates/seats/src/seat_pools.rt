@@ -6,7 +6,7 @@ use crate::gauges::Gauge;
 use crate::marks::Mark;
 use crate::peeks::peek;
 use crate::submitters::Submitter;
-use rail::{Reader, Seat, Told};
+use rail::{CallSender, Reader, Seat, Told};
 use serving::CallFault;
 use std::alloc::{AllocError, Global};
 use std::collections::VecDeque;
@@ -14,16 +14,20 @@ use std::marker::Model;
 use std::sync::Wait;
 use table::{Call, Reply};
 
-/// What one thread has at one server: a reader, and seats that its connections take in turn. Contracts see what the
-/// reader has seen or was told of, at which faces it has looked, the seats that are here, and how many it has
-/// (`Pooling`). No seat is lost: one that isn't here was taken out.
+/// What one thread has at one server: a reader, a sender of calls, and seats that its connections take in turn. All
+/// calls of its seats go by its one sender, so the server takes them in the order in which they were sent. Contracts
+/// see what the reader has seen or was told of, at which faces it has looked, the sender with all that it sent, the
+/// seats that are here, and how many it has (`Pooling`). No seat is lost: one that isn't here was taken out.
 #[derive(Drop)]
 pub struct SeatPool {
     reader: Reader,
+    call_sender: CallSender,
     // Set as soon as the server fails.
     mark: Mark,
     // Whether the server's items may take more memory.
     gauge: Gauge,
+    // How many updates of a connection may be sent ahead of the first one's reply.
+    most_ahead: usize,
     // How many seats it has, with those that were taken out.
     seats: usize,
     // Seats at which no call is open. There is room for all.
@@ -48,35 +52,48 @@ impl Model for SeatPool {
     ghost view = { λ p. record {
       seen = p.reader.seen;
       looks = p.reader.looks;
+      sender = p.call_sender;
       free = p.free.items;
       left = p.left.items;
       seats = p.seats;
     } };
 
     ghost invariant = { λ p.
-        IsPool p.reader.seen.origin p.seats p.free.items p.left.items (vec_capacity p.free) (deque_capacity p.left) };
+        IsPool p.reader.seen.origin p.call_sender p.seats p.free.items p.left.items (vec_capacity p.free)
+        (deque_capacity p.left) };
 }
 
 impl SeatPool {
     ghost use Rattle.std.specs.Prelude.{◌≡◌, ◌↔◌, ◌<◌, ◌++◌, ◌∷◌, [], None, Option, length};
-    ghost use Rattle.std.specs.Prelude.{IfOk, IfSome, IsTrue, MatchOption, OnErr, OnOk, OnSome};
+    ghost use Rattle.std.specs.Prelude.{IfOk, IfSome, IsErr, IsTrue, MatchOption, OnErr, OnOk, OnSome, Some, true};
+    ghost use Rattle.node.specs.Lawful.{IsCall};
     ghost use Rattle.table.specs.Items.{Item};
     ghost use Rattle.table.specs.declared.operations.Reply.TheVariants.{Value};
     ghost use Rattle.faces.specs.Histories.{IsLater};
     ghost use Rattle.faces.specs.Readers.{HasLookedAtMostOnce};
     ghost use Rattle.seats.specs.Replies.{HasAllReplies, ShowsClean};
-    ghost use Rattle.seats.specs.SeatPools.{HasAllSeats, HasSameReader, HasSameSeats, IsAt, IsFreeAt, IsOneOut, here};
-    ghost use Rattle.seats.specs.SeatPools.{put_back, put_left, with_free, without_seats};
+    ghost use Rattle.seats.specs.SeatPools.{HasAllSeats, HasSameReader, HasSameSeats, HasSentNothing, IsAt, IsFreeAt};
+    ghost use Rattle.seats.specs.SeatPools.{IsOneOut, here, put_back, put_left, with_free, with_sent_call};
+    ghost use Rattle.seats.specs.SeatPools.{without_seats};
     ghost use Rattle.seats.specs.Submitters.{IsAnswered, unused};
 
-    /// A pool without seats, at the reader's server, which has this mark and this gauge.
-    pub fn new(alloc: Global, reader: Reader, mark: Mark, gauge: Gauge) -> SeatPool
-        ensures { result ≡ without_seats reader }
+    /// A pool without seats, at the reader's server, which has this sender, this mark and this gauge.
+    pub fn new(
+        alloc: Global,
+        reader: Reader,
+        call_sender: CallSender,
+        mark: Mark,
+        gauge: Gauge,
+    ) -> SeatPool
+        requires { call_sender.origin ≡ reader.seen.origin }
+        ensures { result ≡ without_seats reader call_sender }
     {
         SeatPool {
             reader,
+            call_sender,
             mark,
             gauge,
+            most_ahead: 0,
             seats: 0,
             free: Vec::new(alloc),
             left: VecDeque::new(alloc),
@@ -92,6 +109,7 @@ impl SeatPool {
         ensures refused { OnErr result (self.new ≡ self.old) }
         // Whatever the answer.
         ensures reader { HasSameReader self.old self.new }
+        ensures unsent { HasSentNothing self.old self.new }
     {
         let Some(seats) = self.seats.checked_add(1) else {
             drop(seat);
@@ -108,6 +126,18 @@ impl SeatPool {
                 Err(error)
             }
         }
+    }
+
+    /// Lets this many updates of each connection be sent while the first one waits for its reply. At first none is.
+    pub fn let_ahead(&mut self, most: usize)
+        ensures { self.new ≡ self.old }
+    {
+        self.most_ahead = most;
+    }
+
+    /// How many updates of a connection may be sent ahead of the first one's reply.
+    pub(crate) fn most_ahead(&self) -> usize {
+        self.most_ahead
     }
 
     /// Whether a call that stores may be sent. If not, it is to be refused.
@@ -131,6 +161,7 @@ impl SeatPool {
         // Whatever the answer: no look is forgotten, and at most one is made.
         ensures once { HasLookedAtMostOnce self.old.looks self.new.looks }
         ensures seats { HasSameSeats self.old self.new }
+        ensures unsent { HasSentNothing self.old self.new }
     {
         let found = peek(&mut self.reader, call);
         if self.mark.is_set() {
@@ -152,6 +183,7 @@ impl SeatPool {
         ensures later { IsLater self.old.seen self.new.seen }
         ensures looks { self.new.looks ≡ self.old.looks }
         ensures seats { HasAllSeats self.old self.new }
+        ensures unsent { HasSentNothing self.old self.new }
     {
         for _ in 0..self.left.len() {
             self.collect_one(rt);
@@ -163,6 +195,7 @@ impl SeatPool {
         ensures later { IsLater self.old.seen self.new.seen }
         ensures looks { self.new.looks ≡ self.old.looks }
         ensures seats { HasAllSeats self.old self.new }
+        ensures unsent { HasSentNothing self.old self.new }
     {
         if let Some(mut seat) = self.left.pop_front() {
             drop(seat.take(rt, &mut self.reader));
@@ -177,6 +210,7 @@ impl SeatPool {
     /// Takes a free seat out, if there is one.
     pub(crate) fn take_free(&mut self) -> Option<Submitter>
         ensures reader { HasSameReader self.old self.new }
+        ensures unsent { HasSentNothing self.old self.new }
         ensures taken { MatchOption result ((self.new ≡ self.old) × (self.old.free ≡ []))
             (λ seat. self.old ≡ put_back self.new seat) }
         ensures free { IfSome result (IsFreeAt self.old.seen.origin) }
@@ -189,6 +223,7 @@ impl SeatPool {
     pub(crate) fn put(&mut self, free: Submitter)
         requires { IsFreeAt self.old.seen.origin free }
         ensures reader { HasSameReader self.old self.new }
+        ensures unsent { HasSentNothing self.old self.new }
         ensures back { IsOneOut self.old → self.new ≡ put_back self.old free }
         ensures other { here self.old ≡ self.old.seats → self.new ≡ self.old }
     {
@@ -204,6 +239,7 @@ impl SeatPool {
     pub(crate) fn leave(&mut self, left: Submitter)
         requires { IsAt self.old.seen.origin left }
         ensures reader { HasSameReader self.old self.new }
+        ensures unsent { HasSentNothing self.old self.new }
         ensures back { IsOneOut self.old → self.new ≡ put_left self.old left }
         ensures other { here self.old ≡ self.old.seats → self.new ≡ self.old }
     {
@@ -212,6 +248,25 @@ impl SeatPool {
         } else {
             drop(left);
         }
+    }
+
+    /// Sends a call at a seat that was taken out, as `Submitter::submit` says. It is then the last one that the pool's
+    /// sender sent.
+    pub(crate) fn submit<R: Wait>(
+        &mut self,
+        rt: &R,
+        submitter: &mut Submitter,
+        call: Call,
+    ) -> Result<(), CallFault>
+        requires call { IsCall call }
+        requires free { IsFreeAt self.old.seen.origin submitter.old }
+        ensures sent { OnOk result (self.new ≡ with_sent_call self.old submitter.old.seat.port call) }
+        ensures waits { OnOk result (submitter.new ≡
+            record submitter.old { waiting = Some (record { sender = self.old.sender; call = call }) }) }
+        ensures err { OnErr result ((submitter.new ≡ record submitter.old { lost = true }) × (self.new ≡ self.old)) }
+        ensures spent { submitter.old.lost ≡ true → IsErr result }
+    {
+        submitter.submit(rt, &mut self.call_sender, call)
     }
 
     /// The reply to the open call of a seat that was taken out, as `Submitter::take` says.
@@ -225,6 +280,7 @@ impl SeatPool {
         ensures later { IsLater self.old.seen self.new.seen }
         ensures looks { self.new.looks ≡ self.old.looks }
         ensures seats { HasSameSeats self.old self.new }
+        ensures unsent { HasSentNothing self.old self.new }
         ensures taken { IfOk result (λ found. MatchOption found
             ((submitter.new ≡ submitter.old) × (self.new ≡ self.old))
             (λ reply. IsAnswered self.old.seen self.new.seen submitter.old submitter.new reply)) }

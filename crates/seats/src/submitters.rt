@@ -3,7 +3,7 @@ ghost use Rattle.std.specs.Prelude.{◌≡◌, IfOk, OnOk, MatchResult};
 ghost use Rattle.faces.specs.Histories.{IsLater};
 ghost use Rattle.seats.specs.Submitters.{IsReplyAt, is_reply_at, stage_of};
 
-use rail::{Reader, Seat, Told};
+use rail::{CallSender, Reader, Seat, Told};
 use serving::CallFault;
 use std::marker::Model;
 use std::sync::Wait;
@@ -22,9 +22,9 @@ pub enum SubmittedKind {
     Lost,
 }
 
-/// A seat with at most one open call: `submit` sends it, and `take` takes its reply once that stands there. Contracts
-/// see the seat with the calls that have their replies, the open call, and whether it is lost (`Submitting`). Once it
-/// is lost, nothing is sent or answered any more.
+/// A seat with at most one open call: `submit` has it sent, and `take` takes its reply once that stands there.
+/// Contracts see the seat with the calls that have their replies, the open call with its sender, and whether it is lost
+/// (`Submitting`). Once it is lost, nothing is sent or answered any more.
 #[derive(Drop)]
 pub struct Submitter {
     seat: Seat,
@@ -52,6 +52,7 @@ impl Submitter {
     ghost use Rattle.std.specs.Prelude.{OnOk, OnErr, IfOk, IsErr, MatchBool, MatchOption};
     ghost use Rattle.node.specs.Lawful.{IsCall};
     ghost use Rattle.faces.specs.Histories.{IsLater};
+    ghost use Rattle.rail.specs.CallSenders.{with_call};
     ghost use Rattle.seats.specs.Replies.{HasAllReplies};
     ghost use Rattle.seats.specs.Submitters.{IsAnswered, all_sent, unused};
 
@@ -78,13 +79,22 @@ impl Submitter {
         }
     }
 
-    /// Sends a call, which is open from then on. Refused if the worker is gone, or it is lost: nothing was sent then,
-    /// and every later call is refused too. It may wait, if the server's queue is full.
-    pub fn submit<R: Wait>(&mut self, rt: &R, call: Call) -> Result<(), CallFault>
+    /// Has this sender of its server send a call, which is open from then on. Refused if the worker is gone, or it is
+    /// lost: nothing was sent then, and every later call is refused too. It may wait, if the server's queue is full.
+    pub fn submit<R: Wait>(
+        &mut self,
+        rt: &R,
+        call_sender: &mut CallSender,
+        call: Call,
+    ) -> Result<(), CallFault>
         requires call { IsCall call }
         requires free { self.old.waiting ≡ None }
-        ensures sent { OnOk result (self.new ≡ record self.old { waiting = Some call }) }
+        requires server { self.old.seat.origin ≡ call_sender.old.origin }
+        ensures sent { OnOk result (self.new ≡
+            record self.old { waiting = Some (record { sender = call_sender.old; call = call }) }) }
+        ensures sender { OnOk result (call_sender.new ≡ with_call call_sender.old self.old.seat.port call) }
         ensures err { OnErr result (self.new ≡ record self.old { lost = true }) }
+        ensures unsent { OnErr result (call_sender.new ≡ call_sender.old) }
         ensures spent { self.old.lost ≡ true → IsErr result }
     {
         if let SubmittedKind::Lost = self.stage {
@@ -92,7 +102,7 @@ impl Submitter {
             return Err(CallFault);
         }
         let stage = stage_of(&call);
-        match self.seat.submit(rt, call) {
+        match call_sender.submit(rt, &mut self.seat, call) {
             Ok(()) => {
                 self.stage = stage;
                 Ok(())

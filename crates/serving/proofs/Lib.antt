@@ -1,4 +1,5 @@
 pub mod Walks
+pub mod GoingAhead
 pub mod Reaching
 pub mod Stepping
 pub mod Served

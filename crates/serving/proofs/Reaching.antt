@@ -31,12 +31,12 @@ module _ (read : List ℕ) (given : List Turn) (outcomes : List Outcome) (writte
   count = calls_have_outcomes (run_of read given outcomes written held) is
 
   -- the calls that were given are the first ones
-  all_calls : calls_of (turns read) ≡ calls_of given ++ calls_of (to_come held)
+  pub all_calls : calls_of (turns read) ≡ calls_of given ++ calls_of (to_come held)
   all_calls =
       ap calls_of (sym (any_cutting (run_of read given outcomes written held) is)) ∙ calls_of_more given (to_come held)
 
   -- those with a reply
-  calls_are : take (length outcomes) (calls_of (turns read)) ≡ take (length outcomes) (calls_of given)
+  pub calls_are : take (length outcomes) (calls_of (turns read)) ≡ take (length outcomes) (calls_of given)
   calls_are =
       ap (λ cs. take (length outcomes) cs) all_calls
       ∙ take-append-le (length outcomes) (calls_of given) (calls_of (to_come held)) (omega (arith, count))
@@ -48,7 +48,7 @@ module _ (read : List ℕ) (given : List Turn) (outcomes : List Outcome) (writte
       ap (λ cs. drop (length outcomes) cs) all_calls
       ∙ drop-append-le (length outcomes) (calls_of given) (calls_of (to_come held)) (omega (arith, count))
 
-  rest_count : length (drop (length outcomes) (calls_of given)) ≡ open_calls held.asked
+  pub rest_count : length (drop (length outcomes) (calls_of given)) ≡ open_calls held.asked
   rest_count = omega (arith, count, length-drop (length outcomes) (calls_of given))
 
   pub waiting_are : take (open_calls held.asked) (drop (length outcomes) (calls_of (turns read)))
@@ -104,12 +104,13 @@ reached_fed read piece outcomes written held left r none unclosed e =
     (Acts (run_of read r.given outcomes written held) (Feed piece) r.is_run tt)
     (fed_asked held piece unclosed ∙ idle_asked read outcomes written held r none))
 
-pub seen_fed : (read piece : List ℕ) (outcomes : List Outcome) (written : List ℕ) (held left : Held) (ended failed : Bool)
+pub seen_fed : (read piece : List ℕ) (outcomes : List Outcome) (written : List ℕ) (held left : Held)
+    (ended failed : Bool)
     → IsReached read outcomes written held
     → take (open_calls held.asked) (drop (length outcomes) (calls_of (turns read))) ≡ []
     → held.closed ≡ false → left ≡ fed held piece
-    → reached (read ++ piece) outcomes written left ended failed
-    ≡ record (reached read outcomes written held ended failed) { read = read ++ piece }
+    → reached (read ++ piece) outcomes written left [] ended failed
+    ≡ record (reached read outcomes written held [] ended failed) { read = read ++ piece }
 seen_fed read piece outcomes written held left ended failed r none unclosed e =
     let is = Acts (run_of read r.given outcomes written held) (Feed piece) r.is_run tt in
     let idle : (fed held piece).asked ≡ None =
@@ -120,7 +121,7 @@ seen_fed read piece outcomes written held left ended failed r none unclosed e =
     ∙ sym none in
     let out = fed_out held piece unclosed in
     let closed = fed_closed held piece unclosed in
-    ap (λ h. reached (read ++ piece) outcomes written h ended failed) e
+    ap (λ h. reached (read ++ piece) outcomes written h [] ended failed) e
     ∙ (λ i. record {
       read = read ++ piece;
       calls = calls i;
@@ -134,7 +135,7 @@ seen_fed read piece outcomes written held left ended failed r none unclosed e =
     })
 
 -- a reply is had only by an open call
-some_form : (asked : Option Form) (reply : Reply) → CanAnswer asked reply → (form : Form) × (asked ≡ Some form)
+pub some_form : (asked : Option Form) (reply : Reply) → CanAnswer asked reply → (form : Form) × (asked ≡ Some form)
 some_form None reply can = absurd can
 some_form (Some form) reply can = (form, refl)
 
@@ -178,7 +179,7 @@ can_refuse (call ∷ later) None is may = absurd is
 can_refuse (call ∷ later) (Some form) is may = is ∙ ap not (store_is_update call.op may)
 
 -- a refusal is had only by an open call
-some_refused : (asked : Option Form) → CanRefuse asked → (form : Form) × (asked ≡ Some form)
+pub some_refused : (asked : Option Form) → CanRefuse asked → (form : Form) × (asked ≡ Some form)
 some_refused None can = absurd can
 some_refused (Some form) can = (form, refl)
 
@@ -192,8 +193,8 @@ seen_outcome : (read : List ℕ) (outcomes : List Outcome) (outcome : Outcome) (
     → (r : IsReached read outcomes written held) → held.asked ≡ Some form
     → IsRun (run_of read r.given (outcomes ++ outcome ∷ []) written after) → after.asked ≡ None
     → after.out ≡ held.out ++ outcome_text form outcome → after.closed ≡ held.closed
-    → HasOutcome outcome (reached read outcomes written held ended failed)
-    (reached read (outcomes ++ outcome ∷ []) written after ended failed)
+    → HasOutcome outcome (reached read outcomes written held [] ended failed)
+    (reached read (outcomes ++ outcome ∷ []) written after [] ended failed)
 seen_outcome read outcomes outcome written held after ended failed form r asked is idle out closed =
     let more = outcomes ++ outcome ∷ [] in
     let one : open_calls held.asked ≡ 1 = ap open_calls asked in
@@ -240,12 +241,12 @@ reached_answered read outcomes reply written held left r can e =
 pub seen_answered : (read : List ℕ) (outcomes : List Outcome) (reply : Reply) (written : List ℕ) (held left : Held)
     (ended failed : Bool)
     → IsReached read outcomes written held → CanAnswer held.asked reply → left ≡ answered_by held.asked held reply
-    → HasOutcome (Replied reply) (reached read outcomes written held ended failed)
-    (reached read (outcomes ++ Replied reply ∷ []) written left ended failed)
+    → HasOutcome (Replied reply) (reached read outcomes written held [] ended failed)
+    (reached read (outcomes ++ Replied reply ∷ []) written left [] ended failed)
 seen_answered read outcomes reply written held left ended failed r can e =
     let form = some_form held.asked reply can in
-    subst (λ h. HasOutcome (Replied reply) (reached read outcomes written held ended failed)
-    (reached read (outcomes ++ Replied reply ∷ []) written h ended failed)) (sym e)
+    subst (λ h. HasOutcome (Replied reply) (reached read outcomes written held [] ended failed)
+    (reached read (outcomes ++ Replied reply ∷ []) written h [] ended failed)) (sym e)
     (seen_outcome read outcomes (Replied reply) written held (answered_by held.asked held reply) ended failed form.0 r
     form.1 (Acts (run_of read r.given outcomes written held) (Answer reply) r.is_run can) (answer_idle held reply)
     (answer_writes held form.0 reply form.1) (answered_closed held.asked held reply))
@@ -262,12 +263,12 @@ reached_refused read outcomes written held left r can e =
 pub seen_refused : (read : List ℕ) (outcomes : List Outcome) (written : List ℕ) (held left : Held)
     (ended failed : Bool)
     → IsReached read outcomes written held → CanRefuse held.asked → left ≡ refused_by held.asked held
-    → HasOutcome Refused (reached read outcomes written held ended failed)
-    (reached read (outcomes ++ Refused ∷ []) written left ended failed)
+    → HasOutcome Refused (reached read outcomes written held [] ended failed)
+    (reached read (outcomes ++ Refused ∷ []) written left [] ended failed)
 seen_refused read outcomes written held left ended failed r can e =
     let form = some_refused held.asked can in
-    subst (λ h. HasOutcome Refused (reached read outcomes written held ended failed)
-    (reached read (outcomes ++ Refused ∷ []) written h ended failed)) (sym e)
+    subst (λ h. HasOutcome Refused (reached read outcomes written held [] ended failed)
+    (reached read (outcomes ++ Refused ∷ []) written h [] ended failed)) (sym e)
     (seen_outcome read outcomes Refused written held (refused_by held.asked held) ended failed form.0 r form.1
     (Acts (run_of read r.given outcomes written held) Refuse r.is_run can) (refusal_idle held)
     (refusal_writes held form.0 form.1) (refused_closed held.asked held))
@@ -286,7 +287,7 @@ reached_written read outcomes written held n r within =
 -- whatever bytes may follow
 pub begun : (read : List ℕ) (outcomes : List Outcome) (written : List ℕ) (held : Held) (ended failed : Bool)
     → IsReached read outcomes written held → (more : List ℕ)
-    → IsBegun (reached read outcomes written held ended failed) (read ++ more)
+    → IsBegun (reached read outcomes written held [] ended failed) (read ++ more)
 begun read outcomes written held ended failed r more =
     let n : length outcomes + open_calls held.asked ≡ length (calls_of r.given) =
     count read r.given outcomes written held r.is_run in
@@ -306,12 +307,14 @@ begun read outcomes written held ended failed r more =
       rest = fewer.0;
       answered = ap length first ∙ length-take-le (length outcomes) (calls_of r.given) (omega (arith, n));
       calls = first ∙ sym enough;
-      waiting = waits ∙ sym (ap (λ cs. take (length cs) (drop (length outcomes) (calls_of (turns (read ++ more))))) waits
+      waiting = waits ∙ sym (ap (λ cs. take (length cs) (drop (length outcomes) (calls_of (turns
+          (read ++ more))))) waits
           ∙ (ap (λ cs. take (length (drop (length outcomes) (calls_of r.given))) cs) same
           ∙ take_at (drop (length outcomes) (calls_of r.given)) (calls_of (to_come after))
           (length (drop (length outcomes) (calls_of r.given))) refl));
       output = ap (λ bytes. bytes ++ fewer.0) (output_is_texts (run_of read r.given outcomes written held) r.is_run)
           ∙ (sym fewer.1
           ∙ (ap (λ os. outcome_texts (r.given ++ to_come after) os) (append-nil outcomes)
-          ∙ ap (λ ts. outcome_texts ts outcomes) (any_cutting (run_of (read ++ more) r.given outcomes written after) is)));
+          ∙ ap (λ ts. outcome_texts ts outcomes) (any_cutting (run_of
+          (read ++ more) r.given outcomes written after) is)));
     }

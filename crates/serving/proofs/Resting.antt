@@ -8,14 +8,16 @@ use Rattle.serving.specs.Connections.{IsResting}
 
 -- of none is it known
 pub resting_none : (read : List ℕ) (outcomes : List Outcome) (written : List ℕ) (held : Held)
-    → IsResting false read outcomes written held
-resting_none read outcomes written held = λ e. absurd (let no : false ≡ true = e in cc)
+    (ahead : List Bool)
+    → IsResting false read outcomes written held ahead
+resting_none read outcomes written held ahead = λ e. absurd (let no : false ≡ true = e in cc)
 
 -- it goes on to rest once output was taken away
-pub resting_written : (rests : Bool) (read : List ℕ) (outcomes : List Outcome) (written : List ℕ) (held : Held) (n : ℕ)
-    → IsResting rests read outcomes written held
-    → IsResting rests read outcomes (written ++ take n held.out) (taken_from held n)
-resting_written rests read outcomes written held n r = λ e ended failed.
+pub resting_written : (rests : Bool) (read : List ℕ) (outcomes : List Outcome) (written : List ℕ) (held : Held)
+    (ahead : List Bool) (n : ℕ)
+    → IsResting rests read outcomes written held ahead
+    → IsResting rests read outcomes (written ++ take n held.out) (taken_from held n) ahead
+resting_written rests read outcomes written held ahead n r = λ e ended failed.
     let a = r e ended failed in
     record {
       waiting = a.waiting;

@@ -16,10 +16,11 @@ abbrev others : List Call → List Call
 others [] = []
 others (c ∷ cs) = cs
 
--- once the one call that waits has come to something none waits
-pub has_idle : (c d : Connected) (call : Call) (outcome : Outcome) → c.waiting ≡ call ∷ [] → HasOutcome outcome c d
-    → d.waiting ≡ []
-has_idle c d call outcome waits has = ap (λ x. x.waiting) has.4 ∙ ap others (sym has.3 ∙ waits)
+-- once the call that waits longest has come to something the others wait
+pub has_left : (c d : Connected) (call : Call) (later : List Call) (outcome : Outcome) → c.waiting ≡ call ∷ later
+    → HasOutcome outcome c d
+    → d.waiting ≡ later
+has_left c d call later outcome waits has = ap (λ x. x.waiting) has.4 ∙ ap others (sym has.3 ∙ waits)
 
 module _ {V : Type 0} (answers : V → Call → Reply → V → Type 0) where
   -- one more call came to this
@@ -39,10 +40,12 @@ module _ {V : Type 0} (answers : V → Call → Reply → V → Type 0) where
       pub written : sent ≡ base ++ c.written
 
     -- a call came to this
-    pub stands_answered : (c d : Connected) (call : Call) (outcome : Outcome) (sent : List ℕ) (before now : V)
-        → c.waiting ≡ call ∷ [] → HasOutcome outcome c d → CameTo answers before call outcome now → Stands c sent before
+    pub stands_answered : (c d : Connected) (call : Call) (later : List Call) (outcome : Outcome) (sent : List ℕ)
+        (before now : V)
+        → c.waiting ≡ call ∷ later → HasOutcome outcome c d → CameTo answers before call outcome now
+        → Stands c sent before
         → Stands d sent now
-    stands_answered c d call outcome sent before now waits has by s =
+    stands_answered c d call later outcome sent before now waits has by s =
         let same : has.0 ≡ call = ap (λ cs. first_or call cs) (sym has.3 ∙ waits) in
         subst (λ x. Stands x sent now) (sym has.4) (record {
           calls = answered_more first before now c.calls c.outcomes has.0 outcome s.calls

@@ -45,10 +45,10 @@ some_text Expiry = omega arith
 pub record Stepped (step : Step) (read : List ℕ) (outcomes : List Outcome) (written : List ℕ) (held left : Held)
     (ended failed : Bool) : Type 0 where
   pub is : IsReached read outcomes written left
-  pub looked : IsLooked (reached read outcomes written held ended failed)
-      (reached read outcomes written left ended failed)
-  pub stepped : HasStepped step (reached read outcomes written held ended failed)
-      (reached read outcomes written left ended failed)
+  pub looked : IsLooked (reached read outcomes written held [] ended failed)
+      (reached read outcomes written left [] ended failed)
+  pub stepped : HasStepped step (reached read outcomes written held [] ended failed)
+      (reached read outcomes written left [] ended failed)
 
 module _ (read : List ℕ) (outcomes : List Outcome) (written : List ℕ) (held : Held) (ended failed : Bool)
     (r : IsReached read outcomes written held)
@@ -73,7 +73,8 @@ module _ (read : List ℕ) (outcomes : List Outcome) (written : List ℕ) (held 
 
   -- what is due
   looks : (lines : List ℕ) → left.out ≡ held.out ++ lines
-      → IsLooked (reached read outcomes written held ended failed) (reached read outcomes written left ended failed)
+      → IsLooked (reached read outcomes written held [] ended failed)
+      (reached read outcomes written left [] ended failed)
   looks lines out =
       record {
         lines = lines;
@@ -87,7 +88,7 @@ module _ (read : List ℕ) (outcomes : List Outcome) (written : List ℕ) (held 
 
   -- no turn is left
   answered : (shut : Bool) → (next_of held).0 ≡ None → left.closed ≡ shut
-      → IsAnswered shut (reached read outcomes written left ended failed)
+      → IsAnswered shut (reached read outcomes written left [] ended failed)
   answered shut is_none closed =
       let run = run_of read r.given outcomes written held in
       let all : r.given ≡ turns read = gives_all run r.is_run is_none in

@@ -1,13 +1,16 @@
 -- Connections: what has come of a client's connection, as those who drive it see it.
-use Rattle.std.specs.Prelude.{◌≡◌, ℕ, Bool, true, false, not, List, [], ◌∷◌, ◌++◌, length, take, drop, Option, None}
-use Rattle.table.specs.Operations.{is_update, is_value}
+use Rattle.std.specs.Prelude.{◌≡◌, ℕ, suc, Bool, true, false, not, List, [], ◌∷◌, ◌++◌, length, take, drop, Option}
+use Rattle.std.specs.Prelude.{None, Some}
+use Rattle.table.specs.Operations.{Fits, Suits, is_update, is_value}
 use Rattle.table.specs.declared.operations.Call.{Call}
 use Rattle.table.specs.declared.operations.Reply.{Reply}
 use Rattle.proto.specs.declared.texts.Form.{Form}
-use Rattle.proto.specs.Turns.{Turn, Outcome, calls_of, is_store}
-use Rattle.proto.specs.Sessions.{Held, IsFormOf}
+use Rattle.proto.specs.Turns.{Turn, Outcome, calls_of, form_of, is_store}
+use Rattle.proto.specs.Sessions.{Held, CanRefuse, IsFormOf}
 use Rattle.proto.specs.Streams.{ends, outcome_texts, turns}
 use Rattle.proto.specs.Runs.{IsRun, open_calls}
+use Rattle.proto.specs.Ahead.{AreAhead, IsBetween, IsTakenAhead}
+use Rattle.proto.specs.declared.ahead.Update.{Update}
 
 -- What has come of a connection: the bytes that were read; the calls that have their replies or were refused, and
 -- what each came to, in order; the calls that wait; the output that is due, and what was written before it; whether the
@@ -88,14 +91,20 @@ HasOutcome outcome c d =
       due = c.due ++ text;
     })
 
--- what a session comes to, with the bytes that were read, what its calls came to and what was written
-abbrev pub reached : List ℕ → List Outcome → List ℕ → Held → Bool → Bool → Connected
-reached read outcomes written held ended failed =
+-- how many calls are open, with the updates that were taken ahead
+abbrev pub calls_open : List Bool → Option Form → ℕ
+calls_open [] asked = open_calls asked
+calls_open (silent ∷ later) asked = suc (calls_open later asked)
+
+-- what a session comes to, with the bytes that were read, what its calls came to, what was written, and, for each
+-- update that was taken ahead, whether it is silent
+abbrev pub reached : List ℕ → List Outcome → List ℕ → Held → List Bool → Bool → Bool → Connected
+reached read outcomes written held ahead ended failed =
     record {
       read = read;
       calls = take (length outcomes) (calls_of (turns read));
       outcomes = outcomes;
-      waiting = take (open_calls held.asked) (drop (length outcomes) (calls_of (turns read)));
+      waiting = take (calls_open ahead held.asked) (drop (length outcomes) (calls_of (turns read)));
       due = held.out;
       written = written;
       closed = held.closed;
@@ -114,7 +123,48 @@ pub record IsReached (read : List ℕ) (outcomes : List Outcome) (written : List
   pub is_run : IsRun (record { stream = read; given = given; outcomes = outcomes; taken = written; held = held })
   pub asked : IsAsked (take (open_calls held.asked) (drop (length outcomes) (calls_of (turns read)))) held.asked
 
+-- if updates were taken ahead, an update is open, and the session is between two requests
+abbrev pub MayBeAhead : List Bool → Held → Type 0
+MayBeAhead [] held = Unit {0}
+MayBeAhead (silent ∷ later) held = CanRefuse held.asked × IsBetween held
+
+-- An update was taken ahead, as the last of these.
+pub record WentAhead (call : Call) (held left : Held) (ahead longer : List Bool) : Type 0 where
+  pub update : Update
+  pub call_is : call ≡ update.call
+  pub taken : IsTakenAhead update held left
+  pub longer_is : longer ≡ ahead ++ update.silent ∷ []
+
+-- the turn of the first of these has come: its call is open
+abbrev pub resumed : Held → List Bool → Held × List Bool
+resumed held [] = (held, [])
+resumed held (silent ∷ later) = (record held { asked = Some (form_of silent) }, later)
+
+-- The same, but for the updates that were taken ahead: their bytes, which are the next ones of the run, have left the
+-- session.
+pub record IsReachedAhead (read : List ℕ) (outcomes : List Outcome) (written : List ℕ) (held : Held)
+    (ahead : List Bool) : Type 0 where
+  pub bytes : List ℕ
+  pub reached : IsReached read outcomes written (record held { unread = bytes ++ held.unread })
+  pub taken : AreAhead ahead bytes
+  pub may_be : MayBeAhead ahead held
+
 -- if it is known to rest, all that was read is answered, whether or not the input has ended
-abbrev pub IsResting : Bool → List ℕ → List Outcome → List ℕ → Held → Type 0
-IsResting rests read outcomes written held =
-    rests ≡ true → (ended failed : Bool) → IsAnswered false (reached read outcomes written held ended failed)
+abbrev pub IsResting : Bool → List ℕ → List Outcome → List ℕ → Held → List Bool → Type 0
+IsResting rests read outcomes written held ahead =
+    rests ≡ true
+    → (ended failed : Bool)
+    → IsAnswered false (reached read outcomes written held ahead ended failed)
+
+-- the call that waits longest is an update
+abbrev pub WaitsForUpdate : List Call → Type 0
+WaitsForUpdate [] = ⊥
+WaitsForUpdate (call ∷ later) = is_update call.op ≡ true
+
+-- One more update waits, after those that waited, of which the first is an update too: it was taken ahead of its turn.
+pub record IsAskedAhead (call : Call) (c d : Connected) : Type 0 where
+  pub after : WaitsForUpdate c.waiting
+  pub is : d ≡ record c { waiting = c.waiting ++ call ∷ [] }
+  pub fits : Fits call.op
+  pub suits : Suits call.target call.op
+  pub update : is_update call.op ≡ true

@@ -1,14 +1,16 @@
 //! A connection without a thread: a client's side of the protocol, driven by what it wants next.
-ghost use Rattle.std.specs.Prelude.{◌≡◌, ◌∷◌, [], length};
+ghost use Rattle.std.specs.Prelude.{◌≡◌, ◌∷◌, [], length, None, IfOk, MatchOption, OnErr};
 ghost use Rattle.table.specs.declared.operations.Reply.{Reply};
+ghost use Rattle.serving.specs.Connections.{WentAhead, resumed};
 
 use crate::endings::End;
 use crate::outcomes::Outcomes;
 use ends::Passed;
-use proto::{Session, Step};
+use proto::{Session, Step, Update};
 use std::alloc::{AllocError, Global};
+use std::collections::VecDeque;
 use std::marker::Model;
-use table::{Op, Reply, Target};
+use table::{Call, Op, Reply, Target};
 
 /// What a connection wants next.
 #[derive(Debug, Drop)]
@@ -37,6 +39,8 @@ pub struct Connection {
     read: Passed,
     outcomes: Outcomes,
     written: Passed,
+    // For each update that was taken ahead of its turn, the oldest first, whether it is silent.
+    ahead: VecDeque<bool>,
     ended: bool,
     failed: bool,
     // Whether all that was read is known to be answered, so that the session isn't asked again before more is read.
@@ -44,21 +48,21 @@ pub struct Connection {
 }
 
 impl Model for Connection {
-    ghost use Rattle.serving.specs.Connections.{Connected, IsReached, IsResting, reached};
+    ghost use Rattle.serving.specs.Connections.{Connected, IsReachedAhead, IsResting, reached};
 
     ghost Value = { Connected };
 
-    ghost view = { λ c. reached c.read c.outcomes.all c.written c.session c.ended c.failed };
+    ghost view = { λ c. reached c.read c.outcomes.all c.written c.session c.ahead.items c.ended c.failed };
 
-    ghost invariant = { λ c. IsReached c.read c.outcomes.all c.written c.session
-        × IsResting c.rests c.read c.outcomes.all c.written c.session };
+    ghost invariant = { λ c. IsReachedAhead c.read c.outcomes.all c.written c.session c.ahead.items
+        × IsResting c.rests c.read c.outcomes.all c.written c.session c.ahead.items };
 }
 
 impl Connection {
     ghost use Rattle.std.specs.Prelude.{◌≡◌, ◌≤◌, ◌++◌, ℕ, List, [], false, true, take, drop, length};
-    ghost use Rattle.std.specs.Prelude.{IsOk, IsErr, IfOk, IsTrue, OnOk, OnErr, MatchResult};
+    ghost use Rattle.std.specs.Prelude.{IsOk, IsErr, IfOk, IsTrue, OnOk, OnErr, MatchOption, MatchResult};
     ghost use Rattle.serving.specs.Connections.{unused, IsAnswered, IsBegun, IsLooked, HasOutcome, MayHave};
-    ghost use Rattle.serving.specs.Connections.{MayRefuse};
+    ghost use Rattle.serving.specs.Connections.{MayRefuse, IsAskedAhead};
     ghost use Rattle.serving.specs.Wanted.{IsWanted, HasStepped};
     ghost use Rattle.serving.specs.Serving.{is_closed};
     ghost use Rattle.proto.specs.Turns.{Refused, Replied};
@@ -72,6 +76,7 @@ impl Connection {
             read: Passed::new(),
             outcomes: Outcomes::new(),
             written: Passed::new(),
+            ahead: VecDeque::new(alloc),
             ended: false,
             failed: false,
             rests: false,
@@ -155,6 +160,33 @@ impl Connection {
         }
     }
 
+    /// The next call while others wait, if the first of them is an update, and it is one that has come whole: it waits
+    /// too from now on, after them. None if not, or if 64 KiB of output is due: nothing changes then. An error if memory
+    /// is out.
+    pub fn ahead(&mut self) -> Result<Option<Call>, AllocError>
+        ensures ok { IfOk result (λ found. MatchOption found (self.new ≡ self.old)
+            (λ call. IsAskedAhead call self.old self.new)) }
+        ensures err { OnErr result (self.new ≡ record self.old { failed = true }) }
+        ensures spent { self.old.failed ≡ true → IsErr result }
+    {
+        if self.failed {
+            return Err(AllocError);
+        }
+        if !self.session.awaits_update() || self.output().len() >= OUTPUT {
+            return Ok(None);
+        }
+        match take_ahead(&mut self.session, &mut self.ahead) {
+            Ok(found) => {
+                self.rests = false;
+                Ok(found)
+            }
+            Err(_) => {
+                self.failed = true;
+                Err(AllocError)
+            }
+        }
+    }
+
     /// Answers the call that waits longest, by an item, or none, exactly if it is a read. Its text is due then. An
     /// error if memory is out; the call still waits then.
     pub fn answer(&mut self, reply: &Reply) -> Result<(), AllocError>
@@ -166,6 +198,7 @@ impl Connection {
         match self.session.answer(reply) {
             Ok(()) => {
                 self.outcomes = self.outcomes.then(reply);
+                resume(&mut self.session, &mut self.ahead);
                 Ok(())
             }
             Err(_) => {
@@ -186,6 +219,7 @@ impl Connection {
         match self.session.refuse() {
             Ok(()) => {
                 self.outcomes = self.outcomes.then_refused();
+                resume(&mut self.session, &mut self.ahead);
                 Ok(())
             }
             Err(_) => {
@@ -265,5 +299,33 @@ impl Connection {
             return Wants::Read;
         }
         Wants::End(end)
+    }
+}
+
+// Takes the update ahead that stands whole at the front of what is unread, if one does.
+fn take_ahead(session: &mut Session, ahead: &mut VecDeque<bool>) -> Result<Option<Call>, AllocError>
+    ensures ok { IfOk result (λ found. MatchOption found
+        ((session.new ≡ session.old) × (ahead.new.items ≡ ahead.old.items))
+        (λ call. WentAhead call session.old session.new ahead.old.items ahead.new.items)) }
+    ensures err { OnErr result ((session.new ≡ session.old) × (ahead.new.items ≡ ahead.old.items)) }
+{
+    ahead.reserve(1)?;
+    match session.ahead()? {
+        Some(Update { call, silent }) => {
+            ahead.push_back_reserved(silent);
+            Ok(Some(call))
+        }
+        None => Ok(None),
+    }
+}
+
+// The turn of the oldest update that was taken ahead has come, if there is one.
+fn resume(session: &mut Session, ahead: &mut VecDeque<bool>)
+    requires idle { session.old.asked ≡ None }
+    ensures session { session.new ≡ (resumed session.old ahead.old.items).0 }
+    ensures ahead { ahead.new.items ≡ (resumed session.old ahead.old.items).1 }
+{
+    if let Some(silent) = ahead.pop_front() {
+        session.resume(silent);
     }
 }

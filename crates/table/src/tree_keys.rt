@@ -59,6 +59,14 @@ impl TreeKey {
         Ok(Key::at(self.copy()?))
     }
 
+    // How the bytes compare.
+    #[inline(never)]
+    fn cmp_bytes(&self, other: &TreeKey) -> Ordering
+        ensures { result ≡ slice_cmp nat_cmp self.now other.now }
+    {
+        self.bytes().cmp(other.bytes())
+    }
+
     // A copy, which shares the bytes.
     pub(crate) fn copy(&self) -> Result<TreeKey, AllocError>
         ensures { IfOk result (λ tree_key. tree_key ≡ self.now) }
@@ -122,10 +130,12 @@ impl Ord for TreeKey {
 
     ghost matches_eq = { λ a b. texts_ties (tree_key_of a) (tree_key_of b) };
 
-    #[inline]
+    // A search calls it some twenty times, and the bytes are compared once: so they are compared elsewhere, and this
+    // is compiled into the search.
+    #[inline(always)]
     fn cmp(&self, other: &TreeKey) -> Ordering {
         match self.hash.cmp(&other.hash) {
-            Ordering::Equal => self.bytes().cmp(other.bytes()),
+            Ordering::Equal => self.cmp_bytes(other),
             order => order,
         }
     }

@@ -27,7 +27,7 @@ use std::marker::Model;
 pub const MOST_HOMES: usize = 64;
 
 /// The most servers of a scene.
-pub const MOST_SERVERS: usize = 16;
+pub const MOST_SERVERS: usize = node::SERVERS as usize;
 
 /// A world that events change, one after another. An event that runs out of memory spoils it for good.
 #[derive(Drop)]

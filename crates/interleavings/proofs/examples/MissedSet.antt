@@ -25,7 +25,7 @@ use Rattle.interleavings.proofs.examples.WorkedLooks.{looked_seat}
 
 -- a seat of this home that has begun the set, with these replies, and these in its queue
 abbrev pub set_seat : ℕ → List Reply → List Reply → Seat
-set_seat home got mail = record { home = home; calls = set ∷ []; got = got; mail = mail }
+set_seat home got queued = record { home = home; calls = set ∷ []; got = got; queued = queued }
 
 -- the seats after a set of the first one: it was begun, then its reply stood in the queue, and then it was taken
 abbrev pub served_seats : ℕ → List ℕ → ℕ → ℕ → Seat

@@ -15,7 +15,7 @@ abbrev lost : ServingChain
 lost = served done 2 talk_homes lost_moves
 
 -- it stands there,
-pub reply_kept : (lost.chain.seats 0).mail ≡ Stored ∷ []
+pub reply_kept : (lost.chain.seats 0).queued ≡ Stored ∷ []
 unfolding lost_moves with_at line_limit has union single is_below adds next_from predecessor most appended entered
     trimmed left_open replies risen passed_on take_update
 reply_kept = refl

@@ -70,5 +70,5 @@ lossy_seats = refl
 -- nothing is left to do
 pub lossy_quiet : IsQuiet lossy
 lossy_quiet = quiet_pair lossy lossy_two lossy_first (λ on. lossy_last)
-    (λ c. ap (λ (ss : ℕ → Seat). (ss c).mail) lossy_seats
-    ∙ kept_at (λ (s : Seat). s.mail) (opening_chain 2 set_homes).seats 0 (set_seat 0 [] []) refl c)
+    (λ c. ap (λ (ss : ℕ → Seat). (ss c).queued) lossy_seats
+    ∙ kept_at (λ (s : Seat). s.queued) (opening_chain 2 set_homes).seats 0 (set_seat 0 [] []) refl c)

@@ -41,16 +41,16 @@ pub quiet_pair : (l : Chain)
     → l.count ≡ 2
     → IsDone l 0
     → (goes_on l 1 ≡ true → IsDone l 1)
-    → ((c : ℕ) → (l.seats c).mail ≡ [])
+    → ((c : ℕ) → (l.seats c).queued ≡ [])
     → IsQuiet l
-quiet_pair l two first last mail = record {
+quiet_pair l two first last queued = record {
   inboxes = λ i on. (is_done i on).inbox;
-  none_unpublished = λ i on. (is_done i on).unpublished;
+  all_published = λ i on. (is_done i on).unpublished;
   messages = λ i j on there. (is_done i on).messages j there;
   replies = λ i c on. (is_done i on).replies c;
   views = λ i j on over. (is_done i on).views j over;
   channels = λ i j on there. (is_done i on).channels j there;
-  queues = λ c on. mail c;
+  queues = λ c on. queued c;
 }
   where
     is_done : (i : ℕ) → goes_on l i ≡ true → IsDone l i
@@ -58,9 +58,9 @@ quiet_pair l two first last mail = record {
         by_two (λ k. goes_on l k ≡ true → IsDone l k) i (on_below l i two on) (λ e. first) last on
 
 -- seats that were served have empty queues
-pub served_quiet : (l : Chain) (homes : List ℕ) → l.seats ≡ served_seats 2 homes 0 → (c : ℕ) → (l.seats c).mail ≡ []
-served_quiet l homes served c = ap (λ (ss : ℕ → Seat). (ss c).mail) served ∙ elim (cases_eq c 0) [
-  | inl same ↦ subst (λ k. (served_seats 2 homes 0 k).mail ≡ []) (sym same)
-      (ap (λ (s : Seat). s.mail) (served_first 2 homes 0))
-  | inr other ↦ ap (λ (s : Seat). s.mail) (served_other 2 homes 0 c other)
+pub served_quiet : (l : Chain) (homes : List ℕ) → l.seats ≡ served_seats 2 homes 0 → (c : ℕ) → (l.seats c).queued ≡ []
+served_quiet l homes served c = ap (λ (ss : ℕ → Seat). (ss c).queued) served ∙ elim (cases_eq c 0) [
+  | inl same ↦ subst (λ k. (served_seats 2 homes 0 k).queued ≡ []) (sym same)
+      (ap (λ (s : Seat). s.queued) (served_first 2 homes 0))
+  | inr other ↦ ap (λ (s : Seat). s.queued) (served_other 2 homes 0 c other)
 ]

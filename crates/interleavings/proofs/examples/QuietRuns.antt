@@ -141,17 +141,17 @@ failover_quiet =
     let shown = looked_seat 0 (Some item) in
     let l : Chain = with_seat second 1 shown in
     let q = second_quiet in
-    let mail : (c : ℕ) → (l.seats c).mail ≡ [] = λ c.
-    kept_at (λ (s : Seat). s.mail) second.seats 1 shown (sym (served_quiet second failover_homes second_served 1)) c
+    let queued : (c : ℕ) → (l.seats c).queued ≡ [] = λ c.
+    kept_at (λ (s : Seat). s.queued) second.seats 1 shown (sym (served_quiet second failover_homes second_served 1)) c
     ∙ served_quiet second failover_homes second_served c in
     subst IsQuiet (sym last_is) (record {
       inboxes = q.inboxes;
-      none_unpublished = q.none_unpublished;
+      all_published = q.all_published;
       messages = q.messages;
       replies = q.replies;
       views = q.views;
       channels = q.channels;
-      queues = λ c on. mail c;
+      queues = λ c on. queued c;
     })
 
 -- ---- the tail stops before it has put what it published

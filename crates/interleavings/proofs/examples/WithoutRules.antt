@@ -144,7 +144,7 @@ unfolding lossy_moves with_at has union single is_below adds next_from predecess
 lossy_back = refl
 
 -- or in the seat's queue,
-pub lossy_mail : (lossy.seats 0).mail ≡ []
+pub lossy_mail : (lossy.seats 0).queued ≡ []
 unfolding lossy_moves with_at has union single is_below adds next_from predecessor most appended entered trimmed
     passed_on take_update
 lossy_mail = refl

@@ -18,7 +18,7 @@ use Rattle.interleavings.specs.WrongMoves.{with_older_looks, looking_back}
 -- the seat of this home after a look that showed this
 abbrev pub looked_seat : ℕ → Option Item → Seat
 looked_seat home found =
-    record { home = home; calls = read_of key ∷ []; got = Value found ∷ []; mail = [] }
+    record { home = home; calls = read_of key ∷ []; got = Value found ∷ []; queued = [] }
 
 -- the face with which a server opens shows nothing
 pub opening_shows : (i n : ℕ) → i < n → n ≤ 16 → look_at (face_of (opening i n)) key ≡ Clean None

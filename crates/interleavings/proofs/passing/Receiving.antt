@@ -13,9 +13,9 @@ use Rattle.interleavings.proofs.lists.Ordinals.{at_other, at_same}
 use Rattle.interleavings.proofs.passing.Passes.{passes}
 
 got_more : (l m : Chain) (w : World) (o : Option Connection) (s : Seat) (reply : Reply) (more : List Reply)
-    → s.mail ≡ reply ∷ more
+    → s.queued ≡ reply ∷ more
     → Sits l w o s
-    → Sits m w o (record s { got = s.got ++ reply ∷ []; mail = more })
+    → Sits m w o (record s { got = s.got ++ reply ∷ []; queued = more })
 got_more l m w None s reply more first g = absurd (let no : reply ∷ more ≡ [] = sym first ∙ g.none.1 in cc)
 got_more l m w (Some k) s reply more first g = record {
   home = g.home;
@@ -30,11 +30,11 @@ got_more l m w (Some k) s reply more first g = record {
 received_stands : (l : Chain) (w : World) (c : ℕ)
     → StandsFor l w
     → (rs : List Reply)
-    → (l.seats c).mail ≡ rs
+    → (l.seats c).queued ≡ rs
     → StandsFor (received l c (l.seats c) rs) w
 received_stands l w c h [] first = h
 received_stands l w c h (reply ∷ more) first =
-    let s : Seat = record (l.seats c) { got = (l.seats c).got ++ reply ∷ []; mail = more } in
+    let s : Seat = record (l.seats c) { got = (l.seats c).got ++ reply ∷ []; queued = more } in
     passes w l (with_seat l c s) h (record {
       count = refl;
       stopped = λ k. refl;
@@ -56,4 +56,4 @@ received_stands l w c h (reply ∷ more) first =
 
 -- a reply is taken: no event
 pub receives_stands : (l : Chain) (w : World) (c : ℕ) → StandsFor l w → StandsFor (done l (Receives c)) w
-receives_stands l w c h = received_stands l w c h (l.seats c).mail refl
+receives_stands l w c h = received_stands l w c h (l.seats c).queued refl

@@ -72,13 +72,13 @@ module _ (n : ℕ) (homes : List ℕ) (l g : Chain) (h : Same n homes l g) where
       → Same n homes (received l c (l.seats c) rs) (received g c (l.seats c) rs)
   received_same c [] = h
   received_same c (reply ∷ more) =
-      same_seat n homes l g h c (record (l.seats c) { got = (l.seats c).got ++ reply ∷ []; mail = more }) refl
+      same_seat n homes l g h c (record (l.seats c) { got = (l.seats c).got ++ reply ∷ []; queued = more }) refl
 
   pub receives_same : (c : ℕ) → Same n homes (with_own_ports homes l (Receives c)) (done g (Receives c))
   receives_same c =
       subst (λ (ss : ℕ → Seat).
-      Same n homes (received l c (l.seats c) (l.seats c).mail) (received g c (ss c) (ss c).mail))
-      (sym h.seats) (received_same c (l.seats c).mail)
+      Same n homes (received l c (l.seats c) (l.seats c).queued) (received g c (ss c) (ss c).queued))
+      (sym h.seats) (received_same c (l.seats c).queued)
 
   looked_same : (c : ℕ) (key : List ℕ) (look : Look Item)
       → Same n homes (looked l c (l.seats c) key look) (looked g c (l.seats c) key look)

@@ -34,7 +34,7 @@ module _ (n : ℕ) (homes : List ℕ) (l g : Chain) (h : Same n homes l g) (i c 
       (ap (λ d. without_reply d (map (output_to f) os)) (sym is)
       ∙ without_reply_renamed f (seat_apart homes i) port os))
       (h.stopped i) (λ over. over))
-      c (record (l.seats c) { mail = (l.seats c).mail ++ reply ∷ [] }) refl
+      c (record (l.seats c) { queued = (l.seats c).queued ++ reply ∷ [] }) refl
 
   -- a reply to a seat of this server
   replies_here : (l.seats c).home ≡ i

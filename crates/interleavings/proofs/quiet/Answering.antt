@@ -26,7 +26,7 @@ by_seat : (l : Chain) (w : World) (p : ℕ) (s : Seat) (o : Option Connection)
     → StandsFor l w
     → Sits l w o s
     → (l.servers s.home).stopped ≡ false
-    → s.mail ≡ []
+    → s.queued ≡ []
     → (IsSome (option_and_then (λ (k : Connection). slice_get k.calls p) o)
     → home_lives w o ≡ true
     → IsSome (option_and_then (λ (k : Connection). slice_get k.replies p) o))

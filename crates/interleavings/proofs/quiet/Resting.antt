@@ -57,7 +57,7 @@ module _ (l : Chain) (w : World) (h : StandsFor l w) (q : IsQuiet l)
       (not_from_false _ (going i a))
 
   nothing_queued : (i : ℕ) → lives w i ≡ true → queue (l.servers i) ≡ []
-  nothing_queued i a = ap (λ t. listed t ++ (l.servers i).inbox) (q.none_unpublished i (on i a)) ∙ q.inboxes i (on i a)
+  nothing_queued i a = ap (λ t. listed t ++ (l.servers i).inbox) (q.all_published i (on i a)) ∙ q.inboxes i (on i a)
 
   -- nothing is on a link between living servers
   nothing_linked : (i j : ℕ) → lives w i ≡ true → lives w j ≡ true → link w i j ≡ []

@@ -33,7 +33,7 @@ replied_there : (l : Chain) (w : World) (s : Seat) (p : ℕ) (reply : Reply) (o 
     → slice_get s.got p ≡ Some reply
     → Rattle.std.specs.Option.option_and_then (λ (k : Connection). slice_get k.replies p) o ≡ Some reply
 replied_there l w s p reply None h e = absurd (let no = rw h.none.0 at e in cc)
-replied_there l w s p reply (Some k) h e = rw h.replies (get_front s.got s.mail p reply e)
+replied_there l w s p reply (Some k) h e = rw h.replies (get_front s.got s.queued p reply e)
 
 -- a world that stands for a chain shows its begun calls, and at least the replies that its seats have
 pub sees : (l : Chain) (w : World) → StandsFor l w → Seen l w

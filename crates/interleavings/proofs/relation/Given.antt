@@ -22,7 +22,7 @@ one_begun k e =
     ap (λ o. length (listed o)) f.1
 
 -- a call that was begun was given, or waits
-given_or_waits : (k : Connection) (stage : Stage)
+pub given_or_waits : (k : Connection) (stage : Stage)
     → Tallies stage (length k.calls) (length k.replies)
     → length k.calls ≡ (length k.replies + given_calls stage) + length (listed (to_work stage k))
 given_or_waits k Idle e = omega (arith, e)

@@ -143,7 +143,7 @@ module _ (l : Chain) (c : ℕ) where
   received_keeps : (d : ℕ) (rs : List Reply) → KeepsSeat l (received l d (l.seats d) rs) c
   received_keeps d [] = keeps_all l c
   received_keeps d (reply ∷ more) =
-      let s : Seat = record (l.seats d) { got = (l.seats d).got ++ reply ∷ []; mail = more } in
+      let s : Seat = record (l.seats d) { got = (l.seats d).got ++ reply ∷ []; queued = more } in
       keeps l (with_seat l d s) c (kept_at (λ (t : Seat). t.home) l.seats d s refl c)
       (kept_at (λ (t : Seat). t.calls) l.seats d s refl c) (λ k. refl)
 
@@ -213,7 +213,7 @@ module _ (l : Chain) (c : ℕ) where
   reply_keeps i d [] = keeps_all l c
   reply_keeps i d (reply ∷ more) =
       let s : RunningServer = record (l.servers i) { outbox = without_reply d (l.servers i).outbox } in
-      let t : Seat = record (l.seats d) { mail = (l.seats d).mail ++ reply ∷ [] } in
+      let t : Seat = record (l.seats d) { queued = (l.seats d).queued ++ reply ∷ [] } in
       keeps l (reply_put l i d (l.seats d) (reply ∷ more)) c (kept_at (λ (u : Seat). u.home) l.seats d t refl c)
       (kept_at (λ (u : Seat). u.calls) l.seats d t refl c)
       (kept_at (λ u. calls_from c (queue u)) l.servers i s refl)
@@ -235,7 +235,7 @@ module _ (l : Chain) (c : ℕ) where
   each_keeps (Replies i d) =
       cond_both (l.servers i).stopped l (reply_put l i d (l.seats d) (replies_to d (l.servers i).outbox))
       (λ m. KeepsSeat l m c) (λ over. keeps_all l c) (λ going. reply_keeps i d (replies_to d (l.servers i).outbox))
-  each_keeps (Receives d) = received_keeps d (l.seats d).mail
+  each_keeps (Receives d) = received_keeps d (l.seats d).queued
   each_keeps (Looks d key) =
       let s = l.seats d in
       let stopped = (l.servers s.home).stopped in

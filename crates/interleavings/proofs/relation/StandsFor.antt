@@ -42,7 +42,7 @@ Tallies (Replied reply) calls replies = calls ≡ replies + 1
 -- but for one that was sent to a server that had stopped
 pub record IsSeat (w : World) (k : Connection) (s : Seat) : Type 0 where
   pub home : k.home ≡ s.home
-  pub replies : k.replies ≡ s.got ++ s.mail
+  pub replies : k.replies ≡ s.got ++ s.queued
   pub unheard : List Call
   pub calls : s.calls ≡ k.calls ++ unheard
   pub heard : lives w k.home ≡ true → unheard ≡ []
@@ -52,7 +52,7 @@ pub record IsSeat (w : World) (k : Connection) (s : Seat) : Type 0 where
 -- a seat without a connection is at no server, and has nothing
 pub record IsAway (l : Chain) (s : Seat) : Type 0 where
   pub stopped : (l.servers s.home).stopped ≡ true
-  pub none : (s.got ≡ []) × (s.mail ≡ [])
+  pub none : (s.got ≡ []) × (s.queued ≡ [])
 
 -- what a connection, or none, says of a seat
 abbrev pub Sits : Chain → World → Option Connection → Seat → Type 0

@@ -129,15 +129,15 @@ module _ (l : Chain) (w : World) (c : ℕ) (key : List ℕ) (item : Option Item)
     got = (l.seats c).got ++ Value item ∷ [];
   }
 
-  no_mail : (l.seats c).mail ≡ []
+  no_mail : (l.seats c).queued ≡ []
   no_mail =
       let same : length (l.seats c).calls ≡ length (l.seats c).got = eqb-true _ _ free in
       let heard : length (l.seats c).calls ≡ length k.calls = ap length (all_heard w k (l.seats c) g alive) in
-      let got : length k.replies ≡ length (l.seats c).got + length (l.seats c).mail =
-      ap length g.replies ∙ length-append (l.seats c).got (l.seats c).mail in
-      let sum : length (l.seats c).got ≡ length (l.seats c).got + length (l.seats c).mail =
+      let got : length k.replies ≡ length (l.seats c).got + length (l.seats c).queued =
+      ap length g.replies ∙ length-append (l.seats c).got (l.seats c).queued in
+      let sum : length (l.seats c).got ≡ length (l.seats c).got + length (l.seats c).queued =
       omega (arith, same, heard, got, tally) in
-      nothing_more (l.seats c).mail (length (l.seats c).got) sum
+      nothing_more (l.seats c).queued (length (l.seats c).got) sum
 
   sits : IsSeat (happens t (Hand c)) last new
   sits = record {

@@ -90,10 +90,10 @@ module _ (l : Chain) (w : World) (i c : ℕ) (h : StandsFor l w) (going : (l.ser
       → ((x : ℕ) → lives v x ≡ lives w x)
       → k.stage ≡ Replied reply
       → IsSeat w k s
-      → IsSeat v (handed (Replied reply) k) (record s { mail = s.mail ++ reply ∷ [] })
+      → IsSeat v (handed (Replied reply) k) (record s { queued = s.queued ++ reply ∷ [] })
   sits reply k s v same stage g = record {
     home = g.home;
-    replies = ap (λ rs. rs ++ reply ∷ []) g.replies ∙ append_assoc s.got s.mail (reply ∷ []);
+    replies = ap (λ rs. rs ++ reply ∷ []) g.replies ∙ append_assoc s.got s.queued (reply ∷ []);
     unheard = g.unheard;
     calls = g.calls;
     heard = λ living. g.heard (sym (same k.home) ∙ living);
@@ -120,7 +120,7 @@ module _ (l : Chain) (w : World) (i c : ℕ) (h : StandsFor l w) (going : (l.ser
         Hand c ∷ [],
         omega arith,
         one_seat l w v c i k (handed (Replied reply) k) without
-            (record (l.seats c) { mail = (l.seats c).mail ++ reply ∷ [] }) h f.0.here f.0.home f.0.home r
+            (record (l.seats c) { queued = (l.seats c).queued ++ reply ∷ [] }) h f.0.here f.0.home f.0.home r
             (waits reply more k first f.1 f.0.here f.0.stage) (sits reply k (l.seats c) v r.lives f.0.stage seat),
       )
 

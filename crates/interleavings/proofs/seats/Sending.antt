@@ -33,15 +33,15 @@ use Rattle.interleavings.proofs.passing.Passes.{passes}
 
 -- ---- a free seat
 
-idle_by : (stage : Stage) (calls replies got mail : ℕ)
+idle_by : (stage : Stage) (calls replies got queued : ℕ)
     → Tallies stage calls replies
-    → replies ≡ got + mail
+    → replies ≡ got + queued
     → calls ≡ got
     → stage ≡ Idle
-idle_by Idle calls replies got mail t r f = refl
-idle_by Begun calls replies got mail t r f = absurd (omega (arith, t, r, f))
-idle_by Asked calls replies got mail t r f = absurd (omega (arith, t, r, f))
-idle_by (Replied reply) calls replies got mail t r f = absurd (omega (arith, t, r, f))
+idle_by Idle calls replies got queued t r f = refl
+idle_by Begun calls replies got queued t r f = absurd (omega (arith, t, r, f))
+idle_by Asked calls replies got queued t r f = absurd (omega (arith, t, r, f))
+idle_by (Replied reply) calls replies got queued t r f = absurd (omega (arith, t, r, f))
 
 -- what it has heard is all that was sent
 pub all_heard : (w : World) (k : Connection) (s : Seat) → IsSeat w k s → lives w k.home ≡ true → s.calls ≡ k.calls
@@ -55,8 +55,8 @@ pub idle : (w : World) (k : Connection) (s : Seat)
     → k.stage ≡ Idle
 idle w k s g living free =
     let same : length s.calls ≡ length s.got = eqb-true _ _ free in
-    idle_by k.stage (length k.calls) (length k.replies) (length s.got) (length s.mail) g.tallies
-    (ap length g.replies ∙ length-append s.got s.mail) (ap length (sym (all_heard w k s g living)) ∙ same)
+    idle_by k.stage (length k.calls) (length k.replies) (length s.got) (length s.queued) g.tallies
+    (ap length g.replies ∙ length-append s.got s.queued) (ap length (sym (all_heard w k s g living)) ∙ same)
 
 -- ---- a piece and a begin
 

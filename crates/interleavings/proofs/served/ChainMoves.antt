@@ -69,9 +69,9 @@ look_shows_value l c key reply h =
 
 -- after a reply was taken
 pub receives_seats : (l : Chain) (c : ℕ) (reply : Reply) (more : List Reply)
-    → (l.seats c).mail ≡ reply ∷ more
+    → (l.seats c).queued ≡ reply ∷ more
     → (done l (Receives c)).seats
-    ≡ with_at l.seats c (record (l.seats c) { got = (l.seats c).got ++ reply ∷ []; mail = more })
+    ≡ with_at l.seats c (record (l.seats c) { got = (l.seats c).got ++ reply ∷ []; queued = more })
 receives_seats l c reply more e = rw e refl
 
 -- two chains have the same calls and replies at a seat
@@ -96,7 +96,7 @@ mailed_same : (l : Chain) (i c d : ℕ) (b : Bool) (rs : List Reply)
 mailed_same l i c d true rs = same_calls l d
 mailed_same l i c d false [] = same_calls l d
 mailed_same l i c d false (r ∷ rs) =
-    let s = record (l.seats c) { mail = (l.seats c).mail ++ r ∷ [] } in
+    let s = record (l.seats c) { queued = (l.seats c).queued ++ r ∷ [] } in
     record {
       calls = kept_at (λ (k : Seat). k.calls) l.seats c s refl d;
       got = kept_at (λ (k : Seat). k.got) l.seats c s refl d;

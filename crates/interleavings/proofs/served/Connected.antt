@@ -215,7 +215,7 @@ some_within (x ∷ xs) (suc p) h = some_within xs p (omega (arith, h))
 -- ---- what it comes to
 
 -- the texts stop at the first call without an outcome
-texts_stop : (ts us : List Turn) (os : List Outcome)
+pub texts_stop : (ts us : List Turn) (os : List Outcome)
     → length os < length (calls_of ts)
     → outcome_texts (ts ++ us) os ≡ outcome_texts ts os
 texts_stop [] us os h = absurd (omega (arith, h))

@@ -143,7 +143,7 @@ open_below None = omega arith
 open_below (Some form) = omega arith
 
 -- if a call is to be made, all others have their replies
-even : (k : Connection) (call : Call) → IsConnected k → k.due ≡ Some call → length k.replies ≡ length k.calls
+pub even : (k : Connection) (call : Call) → IsConnected k → k.due ≡ Some call → length k.replies ≡ length k.calls
 even k call t e =
     let n : length k.replies + open_calls k.session.asked ≡ length k.calls + 1 =
     subst (λ d. length k.replies + open_calls k.session.asked ≡ length k.calls + length (as_list d)) e (counted k t) in
@@ -207,12 +207,13 @@ key_is (One k) (Decr amount) key e = absurd (let no : None ≡ Some key = e in c
 key_is (One k) Delete key e = absurd (let no : None ≡ Some key = e in cc)
 key_is (One k) Flush key e = absurd (let no : None ≡ Some key = e in cc)
 
-due_read : (due : Option Call) (key : List ℕ) → key_due due ≡ Some key → due ≡ Some (read_of key)
+-- so it is if that call is due
+pub due_read : (due : Option Call) (key : List ℕ) → key_due due ≡ Some key → due ≡ Some (read_of key)
 due_read None key e = absurd (let no : None ≡ Some key = e in cc)
 due_read (Some call) key e = ap (λ x. Some x) (key_is call.target call.op key e)
 
 -- an item, or none, can be the answer to a read
-shown_may : (asked : Option Form) (form : Form) (reply : Reply)
+pub shown_may : (asked : Option Form) (form : Form) (reply : Reply)
     → asked ≡ Some form
     → shows form ≡ true
     → is_value reply ≡ true
@@ -268,13 +269,13 @@ refuses_step s c h = by_due (served_at s c).due refl
     by_due (Some call) e = by_store call (is_store call.op) e refl
 
 answers_step : (s : ServingChain) (c : ℕ) → IsInOrder s → IsStep s (served_by done s (Answers c))
-answers_step s c h = by_mail (s.chain.seats c).mail refl
+answers_step s c h = by_mail (s.chain.seats c).queued refl
   where
     t : IsConnected (served_at s c)
     t = h.connected c (s.ended c)
 
     by_guard : (reply : Reply) (more : List Reply) (a b : Bool)
-        → (s.chain.seats c).mail ≡ reply ∷ more
+        → (s.chain.seats c).queued ≡ reply ∷ more
         → waits (served_at s c) ≡ a
         → may_have (served_at s c).session.asked reply ≡ b
         → IsStep s (cond (a && b) (with_move done s (Receives c) c (answered reply (served_at s c))) s)
@@ -283,7 +284,7 @@ answers_step s c h = by_mail (s.chain.seats c).mail refl
     by_guard reply more true true e w may =
         let seat = s.chain.seats c in
         let k = served_at s c in
-        seat_step s c (answered reply k) (Receives c) (record seat { got = seat.got ++ reply ∷ []; mail = more }) h
+        seat_step s c (answered reply k) (Receives c) (record seat { got = seat.got ++ reply ∷ []; queued = more }) h
         (connected_answered reply k w may t) tt (receives_seats s.chain c reply more e) (λ q other g. g)
         (λ q past within. absurd (omega (arith, past, within)))
         (subst (λ (cs : ℕ → List Call). InTurn seat.calls (seat.got ++ reply ∷ []) cs
@@ -292,7 +293,7 @@ answers_step s c h = by_mail (s.chain.seats c).mail refl
         (turn_answered seat.calls seat.got (calls_at s c) (replies_at s c) (s.ended c) (h.seats c) reply
         (ltb-true (length k.replies) (length k.calls) w) (is_served k t).one_open))
 
-    by_mail : (mail : List Reply) → (s.chain.seats c).mail ≡ mail → IsStep s (answering done s c mail)
+    by_mail : (queued : List Reply) → (s.chain.seats c).queued ≡ queued → IsStep s (answering done s c queued)
     by_mail [] e = stays s h
     by_mail (reply ∷ more) e =
         by_guard reply more (waits (served_at s c)) (may_have (served_at s c).session.asked reply) e refl refl

@@ -111,7 +111,7 @@ module _ (count : ℕ) (homes : List ℕ) (moves : List ServingMove) (few : coun
   abbrev ordinal : CallId
   ordinal = record { connection = c; ordinal = start (calls_at last c) (last.ended c) + length k.replies }
 
-  module _ (mail : (last.chain.seats c).mail ≡ reply ∷ more) (wait : waits k ≡ true) where
+  module _ (queued : (last.chain.seats c).queued ≡ reply ∷ more) (wait : waits k ≡ true) where
     less : length k.replies < length k.calls
     less = ltb-true (length k.replies) (length k.calls) wait
 
@@ -128,11 +128,11 @@ module _ (count : ℕ) (homes : List ℕ) (moves : List ServingMove) (few : coun
         omega (arith, o, a, f, less)
 
     seats_then : (done last.chain (Receives c)).seats c
-        ≡ record (last.chain.seats c) { got = (last.chain.seats c).got ++ reply ∷ []; mail = more }
+        ≡ record (last.chain.seats c) { got = (last.chain.seats c).got ++ reply ∷ []; queued = more }
     seats_then =
-        ap (λ (f : ℕ → Seat). f c) (receives_seats last.chain c reply more mail)
+        ap (λ (f : ℕ → Seat). f c) (receives_seats last.chain c reply more queued)
         ∙ at_same last.chain.seats c
-        (record (last.chain.seats c) { got = (last.chain.seats c).got ++ reply ∷ []; mail = more })
+        (record (last.chain.seats c) { got = (last.chain.seats c).got ++ reply ∷ []; queued = more })
 
     replied : reply_to (moved count homes run) ordinal ≡ Some reply
     replied =

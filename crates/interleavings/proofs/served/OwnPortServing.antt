@@ -38,7 +38,7 @@ module _ (n : ℕ) (homes : List ℕ) where
   own = with_own_ports homes
 
   -- a move of the one, as a move of the other
-  abbrev as_other : ServingMove → ServingMove
+  abbrev pub as_other : ServingMove → ServingMove
   as_other (Runs m) = Runs (named n homes m)
   as_other m = m
 
@@ -123,7 +123,8 @@ module _ (n : ℕ) (homes : List ℕ) where
         (record { chains = h; ended = refl; connections = refl })
         (record { chains = h; ended = refl; connections = refl })
 
-    answers_alike : (c : ℕ) (mail : List Reply) → SameServing (answering own s c mail) (answering done other c mail)
+    answers_alike : (c : ℕ) (queued : List Reply)
+        → SameServing (answering own s c queued) (answering done other c queued)
     answers_alike c [] = record { chains = h; ended = refl; connections = refl }
     answers_alike c (reply ∷ more) =
         let k = answered reply (served_at s c) in
@@ -149,8 +150,8 @@ module _ (n : ℕ) (homes : List ℕ) where
     move_alike (Refuses c) = refuses_alike c (served_at s c).due
     move_alike (Answers c) =
         subst (λ (ss : ℕ → Seat).
-        SameServing (answering own s c (s.chain.seats c).mail) (answering done other c (ss c).mail)) (sym h.seats)
-        (answers_alike c (s.chain.seats c).mail)
+        SameServing (answering own s c (s.chain.seats c).queued) (answering done other c (ss c).queued)) (sym h.seats)
+        (answers_alike c (s.chain.seats c).queued)
     move_alike (Writes c k) = record { chains = h; ended = refl; connections = refl }
     move_alike (Ends c) = record { chains = h; ended = refl; connections = refl }
     move_alike (Runs m) = runs_alike m
@@ -185,14 +186,15 @@ module _ (n : ℕ) (homes : List ℕ) where
       ap (λ (f : ℕ → ℕ → Connection).
       slice_get (f x.seat x.number).calls x.ordinal) (same_served ms)
 
-  got_same : (ms : List ServingMove) (x : CallName)
+  -- the replies are the same
+  pub got_same : (ms : List ServingMove) (x : CallName)
       → reply_got (served done n homes (map as_other ms)) x ≡ reply_got (served own n homes ms) x
   got_same ms x =
       ap (λ (f : ℕ → ℕ → Connection).
       slice_get (f x.seat x.number).replies x.ordinal) (same_served ms)
 
   -- which calls of connections are published is the same too
-  published_alike : (ms : List ServingMove) (x : CallName) (i : ℕ)
+  pub published_alike : (ms : List ServingMove) (x : CallName) (i : ℕ)
       → slice_get homes x.seat ≡ Some i
       → i < n
       → is_call_published (λ c. c) (served done n homes (map as_other ms)) x

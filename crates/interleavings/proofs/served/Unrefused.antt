@@ -68,9 +68,9 @@ module _ (does : Doing) where
   peeks_replied s c None all = all
   peeks_replied s c (Some key) all = peeked_replied s c key (look_reply s.chain c key) all
 
-  answers_replied : (s : ServingChain) (c : ℕ) (mail : List Reply)
+  answers_replied : (s : ServingChain) (c : ℕ) (queued : List Reply)
       → AreReplied s
-      → AreReplied (answering does s c mail)
+      → AreReplied (answering does s c queued)
   answers_replied s c [] all = all
   answers_replied s c (reply ∷ more) all =
       let k = served_at s c in
@@ -88,7 +88,7 @@ module _ (does : Doing) where
   move_replied s (Asks c) e all = asks_replied s c (served_at s c).due all
   move_replied s (Peeks c) e all = peeks_replied s c (key_due (served_at s c).due) all
   move_replied s (Refuses c) e all = absurd (let no : true ≡ false = e in cc)
-  move_replied s (Answers c) e all = answers_replied s c (s.chain.seats c).mail all
+  move_replied s (Answers c) e all = answers_replied s c (s.chain.seats c).queued all
   move_replied s (Writes c n) e all = changed s c (wrote n (served_at s c)) all (all c (s.ended c))
   move_replied s (Ends c) e all = all
   move_replied s (Runs m) e all = either AreReplied (is_of_seat m) s (record s { chain = does s.chain m }) all all

@@ -10,7 +10,7 @@ use io_threads::{
 use mio::Poll;
 use node::Peer;
 use rail::{Inlet, Links, Published, RailFault, Worker};
-use runtime::{Concurrency, Opened, Rest, Surroundings, WritesOut, all_links, all_servers, work};
+use runtime::{Concurrency, Opened, Rest, WorkerContext, WritesOut, all_links, all_servers, work};
 use seats::{Allowance, Gauge, InProcessLinks, Mark, OutputPermit, SeatPool};
 use std::alloc::{AllocError, Global};
 use std::io::Write;
@@ -288,20 +288,20 @@ fn start_last<
         pools,
         inlets,
     } = pooled;
-    let around = surroundings(alloc, id, &failed, gauge, loop_handles);
+    let around = context(alloc, id, &failed, gauge, loop_handles);
     let thread = start_worker(rt, worker, links, around)?;
     Some((Started { thread, inlets }, pools, failed))
 }
 
 // What the worker of server `id` shares with others.
-fn surroundings(
+fn context(
     alloc: Global,
     id: u8,
     failed: &Mark,
     gauge: Gauge,
     loop_handles: &Arc<LoopHandles, Global>,
-) -> Option<Surroundings> {
-    Some(Surroundings {
+) -> Option<WorkerContext> {
+    Some(WorkerContext {
         id,
         loop_handles: Arc::try_clone(loop_handles).ok()?,
         gauge,
@@ -314,7 +314,7 @@ fn surroundings(
 fn start_worker<
     R: Wait + Threads + Copy + Drop + Send + 'static,
     L: Links + WritesOut + Drop + Send + 'static,
->(rt: R, worker: Worker<R>, links: L, around: Option<Surroundings>) -> Option<JoinHandle<Rest>> {
+>(rt: R, worker: Worker<R>, links: L, around: Option<WorkerContext>) -> Option<JoinHandle<Rest>> {
     let Some(around) = around else {
         drop(worker);
         drop(links);

@@ -60,9 +60,9 @@ fn helped_chain<
 >(rt: R, alloc: Global) -> Option<HelpedChain> {
     let (loop_handles, polls) = open_loop_handles(&rt, alloc, 1).ok()?;
     let loop_handles = Arc::new(alloc, loop_handles).ok()?;
-    let (scheduler, servers_parts) = three_parts(rt, alloc, &loop_handles)?;
+    let (scheduler, all_server_parts) = three_parts(rt, alloc, &loop_handles)?;
     let scheduler = Arc::new(alloc, scheduler).ok()?;
-    let (ports, served_servers) = all_served_servers(&rt, alloc, servers_parts)?;
+    let (ports, served_servers) = all_served_servers(&rt, alloc, all_server_parts)?;
     let settings = FrontEndSettings {
         connections: 1,
         serves: 1,
@@ -106,11 +106,11 @@ fn scheduler_of_three<R: Wait + Copy + Drop>(
 fn all_served_servers<R: Net<Listener = TcpListener, Stream = TcpStream>>(
     rt: &R,
     alloc: Global,
-    servers_parts: Vec<ServerParts>,
+    all_server_parts: Vec<ServerParts>,
 ) -> Option<(Vec<u16>, Vec<FrontEndServer>)> {
     let mut ports = Vec::new(alloc);
     let mut served_servers = Vec::new(alloc);
-    for parts in servers_parts {
+    for parts in all_server_parts {
         let (port, served_server) = served_server_of(rt, parts)?;
         ports.push(port).ok()?;
         served_servers.push(served_server).ok()?;

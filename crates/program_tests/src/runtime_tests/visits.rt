@@ -39,9 +39,9 @@ fn all_pass<R: Wait + Threads + Net + Copy + Drop>(
 ) -> Option<bool> {
     let (loop_handles, polls) = open_loop_handles(&rt, alloc, 1).ok()?;
     let loop_handles = Arc::new(alloc, loop_handles).ok()?;
-    let (scheduler, mut servers_parts) = three_parts(rt, alloc, &loop_handles)?;
-    let passed = each_passes(&rt, alloc, &scheduler, &mut servers_parts, most);
-    drop(servers_parts);
+    let (scheduler, mut all_server_parts) = three_parts(rt, alloc, &loop_handles)?;
+    let passed = each_passes(&rt, alloc, &scheduler, &mut all_server_parts, most);
+    drop(all_server_parts);
     drop(scheduler);
     drop(polls);
     Some(passed)
@@ -51,12 +51,12 @@ fn each_passes<R: Wait + Drop>(
     rt: &R,
     alloc: Global,
     scheduler: &Scheduler<R>,
-    servers_parts: &mut Vec<ServerParts>,
+    all_server_parts: &mut Vec<ServerParts>,
     most: usize,
 ) -> bool {
     for id in 0..3u8 {
-        if !sets_at(rt, alloc, scheduler, servers_parts, id, most)
-            || !all_show(rt, alloc, servers_parts)
+        if !sets_at(rt, alloc, scheduler, all_server_parts, id, most)
+            || !all_show(rt, alloc, all_server_parts)
         {
             return false;
         }
@@ -68,35 +68,40 @@ fn sets_at<R: Wait + Drop>(
     rt: &R,
     alloc: Global,
     scheduler: &Scheduler<R>,
-    servers_parts: &mut Vec<ServerParts>,
+    all_server_parts: &mut Vec<ServerParts>,
     id: u8,
     most: usize,
 ) -> bool {
-    match pool_of(servers_parts, id) {
+    match pool_of(all_server_parts, id) {
         Some(pool) => sets(rt, alloc, scheduler, pool, id, most),
         None => false,
     }
 }
 
-fn all_show<R: Wait>(rt: &R, alloc: Global, servers_parts: &mut Vec<ServerParts>) -> bool {
+fn all_show<R: Wait>(rt: &R, alloc: Global, all_server_parts: &mut Vec<ServerParts>) -> bool {
     for id in 0..3u8 {
-        if !shows_at(rt, alloc, servers_parts, id) {
+        if !shows_at(rt, alloc, all_server_parts, id) {
             return false;
         }
     }
     true
 }
 
-fn shows_at<R: Wait>(rt: &R, alloc: Global, servers_parts: &mut Vec<ServerParts>, id: u8) -> bool {
-    match pool_of(servers_parts, id) {
+fn shows_at<R: Wait>(
+    rt: &R,
+    alloc: Global,
+    all_server_parts: &mut Vec<ServerParts>,
+    id: u8,
+) -> bool {
+    match pool_of(all_server_parts, id) {
         Some(pool) => shows(rt, alloc, pool),
         None => false,
     }
 }
 
 // The seats of the first thread at a server.
-fn pool_of(servers_parts: &mut Vec<ServerParts>, id: u8) -> Option<&mut SeatPool> {
-    servers_parts.get_mut(usize::from(id))?.pools.get_mut(0)
+fn pool_of(all_server_parts: &mut Vec<ServerParts>, id: u8) -> Option<&mut SeatPool> {
+    all_server_parts.get_mut(usize::from(id))?.pools.get_mut(0)
 }
 
 // Whether a set at a server is answered once no turn is due any more.

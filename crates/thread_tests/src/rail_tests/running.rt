@@ -5,8 +5,8 @@ ghost use Rattle.node.specs.Nodes.{is_idle};
 use faces::FaceFault;
 use node::{Body, Look, Node, Peer, View};
 use rail::{
-    Inlet, Links, Published, RailFault, Reader, Room, Seat, Server, ThreadHandle, Told, Turn,
-    Weight, Worker, open,
+    CallSender, Inlet, Links, Published, RailFault, Reader, Room, Seat, Server, ThreadHandle, Told,
+    Turn, Weight, Worker, open,
 };
 use std::alloc::Global;
 use std::sync::Wait;
@@ -56,7 +56,7 @@ pub(crate) fn all_go<R: Wait + Drop + Copy>(
 ) -> Result<bool, RailFault>
     requires { (1 ≤ readers) × (readers ≤ 16) }
 {
-    all_go_with(rt, alloc, count, readers, Room::of_chain(16), steps)
+    all_go_with(rt, alloc, count, readers, Room::of_chain(16, 16), steps)
 }
 
 /// The same, with this room in the server's inbox.
@@ -139,7 +139,7 @@ pub(crate) fn first_of<R: Wait + Drop + Copy>(
 ) -> Result<Server<R>, RailFault>
     requires { (1 ≤ readers) × (readers ≤ 16) }
 {
-    first_with(rt, alloc, count, readers, Room::of_chain(16))
+    first_with(rt, alloc, count, readers, Room::of_chain(16, 16))
 }
 
 /// The same, with this room in its inbox.
@@ -235,12 +235,14 @@ fn set_of_a(alloc: Global) -> Result<Call, RailFault> {
     }
 }
 
-// Whether a seat submits a call, which has to be one that may be asked.
-fn sends<R: Wait>(rt: &R, seat: &mut Seat, call: Call) -> bool
-    ensures { seat.new.origin ≡ seat.old.origin }
+// Whether a sender sends a call of this seat, which has to be one that may be asked.
+fn sends<R: Wait>(rt: &R, call_sender: &mut CallSender, seat: &mut Seat, call: Call) -> bool
+    requires { seat.old.origin ≡ call_sender.old.origin }
+    ensures seat { seat.new.origin ≡ seat.old.origin }
+    ensures sender { call_sender.new.origin ≡ call_sender.old.origin }
 {
     if call.op.fits() && call.op.suits(&call.target) {
-        match seat.submit(rt, call) {
+        match call_sender.submit(rt, seat, call) {
             Ok(()) => true,
             Err(back) => {
                 drop(back);
@@ -259,7 +261,15 @@ pub(crate) fn submits<R: Wait>(
     thread_handles: &mut Vec<ThreadHandle>,
 ) -> Result<bool, RailFault> {
     match thread_handles.last_mut() {
-        Some(thread_handle) => Ok(sends(rt, &mut thread_handle.seat, set_of_a(alloc)?)),
+        Some(thread_handle) => {
+            let call = set_of_a(alloc)?;
+            Ok(sends(
+                rt,
+                &mut thread_handle.call_sender,
+                &mut thread_handle.seat,
+                call,
+            ))
+        }
         None => Err(RailFault::NoReader),
     }
 }

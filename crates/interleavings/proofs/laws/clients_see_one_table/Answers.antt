@@ -18,5 +18,5 @@ pub returns-clause-all : goal.returns-clause-all
 returns-clause-all c count homes moves few short quiet = all_have_all count homes moves few short quiet
 
 pub returns-clause-kinds : goal.returns-clause-kinds
-returns-clause-kinds c count homes moves a reply more few mail wait =
-    first_fits count homes moves few a reply more mail wait
+returns-clause-kinds c count homes moves a reply more few queued wait =
+    first_fits count homes moves few a reply more queued wait

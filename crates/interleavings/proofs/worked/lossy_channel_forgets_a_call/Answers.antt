@@ -21,8 +21,8 @@ returns-clause-down c = lossy_down
 pub returns-clause-back : goal.returns-clause-back
 returns-clause-back c = lossy_back
 
-pub returns-clause-mail : goal.returns-clause-mail
-returns-clause-mail c = lossy_mail
+pub returns-clause-queued : goal.returns-clause-queued
+returns-clause-queued c = lossy_mail
 
 pub returns-clause-head_goes_on : goal.returns-clause-head_goes_on
 returns-clause-head_goes_on c = lossy_head

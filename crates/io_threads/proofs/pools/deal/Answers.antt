@@ -1,7 +1,8 @@
-use Rattle.std.proofs.Common.{◌≡◌, ◌∷◌, [], arith, rules}
+use Rattle.std.proofs.Common.{◌≡◌, ◌∙◌, ◌∷◌, ◌++◌, arith, rules}
 use Rattle.std.specs.Vec.Iter.{into_iter_items}
-use Rattle.io_threads.proofs.Dealt.{all_made, as_left, as_more, may_be_given, may_be_made, none_made, seat_replied}
-use Rattle.io_threads.proofs.Dealt.{stand_replied, was_given, was_made}
+use Rattle.io_threads.specs.Pools.{handles_senders, pools_senders}
+use Rattle.io_threads.proofs.Dealt.{all_made, as_left, as_more, may_be_given, may_be_made, next_sender, none_left}
+use Rattle.io_threads.proofs.Dealt.{none_made, seat_replied, stand_replied, was_given, was_made}
 use Rattle.io_threads.proofs.pools.deal.Goals as goal
 
 pub loop-thread_handle-init : goal.loop-thread_handle-init
@@ -13,6 +14,7 @@ loop-thread_handle-init c =
           c.args.others.items
           c.new-pools.result.items same c.new-pools.ensures.items are;
       count = search rules;
+      senders = λ i. pools_senders (c.new-pools.ensures.items i) ++ handles_senders (same i);
     }
 
 pub add_pool-requires : goal.add_pool-requires
@@ -39,6 +41,9 @@ loop-thread_handle-preserved c =
           c.loop-thread_handle.pools.items
           c.in-Some.ensures.steps.0 (c.loop-thread_handle.invariant.server o given)) _ c.add_pool.ensures.server;
       count = search rules;
+      senders = next_sender c.in-Some.thread_handle (into_iter_items c.next.new.self) c.loop-thread_handle.pools.items _
+          (into_iter_items c.loop-thread_handle.thread_handle-iterator) c.args.thread_handles.items
+          c.in-Some.ensures.steps.0 c.in_ok-add_pool.ensures.senders c.loop-thread_handle.invariant.senders;
     }
 
 pub loop-seat-init : goal.loop-seat-init
@@ -50,6 +55,9 @@ loop-seat-init c =
           (into_iter_items c.into_iter-seat-iterator.result) c.loop-thread_handle.pools.items
           (c.loop-thread_handle.invariant.server o given) same;
       count = omega (arith, c.in-None.ensures.steps.0, c.loop-thread_handle.invariant.count);
+      senders = none_left c.loop-thread_handle.pools.items
+          (into_iter_items c.loop-thread_handle.thread_handle-iterator) c.args.thread_handles.items
+          (omega (arith, c.in-None.ensures.steps.0)) c.loop-thread_handle.invariant.senders;
     }
 
 pub give-requires : goal.give-requires
@@ -74,6 +82,7 @@ loop-seat-preserved c =
           (c.in-Some-seat.seat ∷ into_iter_items c.next-in-loop-seat.new.self) c.loop-seat.pools.items
           c.in-Some-seat.ensures.steps.0 (c.loop-seat.invariant.server o given)) _ c.give.ensures.server;
       count = search rules;
+      senders = c.give.ensures.senders ∙ c.loop-seat.invariant.senders;
     }
 
 pub returns-clause-server : goal.returns-clause-server

@@ -1,5 +1,7 @@
-use Rattle.std.proofs.Common.{◌≡◌, ◌∙◌, sym, ap, ◌++◌, ◌∷◌, [], arith, rules}
+use Rattle.std.proofs.Common.{◌≡◌, ◌∙◌, ◌+◌, sym, ap, ◌++◌, ◌∷◌, [], arith, rules}
 use Rattle.faces.specs.Publishers.{Publishing}
+use Rattle.rail.specs.declared.inbox.InboxKnowledge.{InboxKnowledge}
+use Rattle.rail.specs.Inbox.{taker}
 use Rattle.rail.specs.NotedReplies.{reply_sender_at}
 use Rattle.rail.specs.Servers.{thread_handle_at}
 use Rattle.rail.proofs.Opening.{more_reply_senders, more_thread_handles}
@@ -20,7 +22,8 @@ loop-port-preserved c =
     search rules in
     record {
       publisher = c.one_thread_handle.ensures.publisher ∙ at.publisher;
-      inbox_builder = c.in_ok-thread_handle.ensures.inbox_builder;
+      inbox_builder = c.in_ok-thread_handle.ensures.inbox_builder
+          ∙ ap (λ (v : InboxKnowledge). taker (k + 1) v.ports []) at.inbox_builder;
       inbox = c.in_ok-thread_handle.ensures.inbox ∙ at.inbox;
       thread_handles =
           c.in_ok-push.ensures.items ∙ ((λ i. at.thread_handles i ++ thread_handle i ∷ [])

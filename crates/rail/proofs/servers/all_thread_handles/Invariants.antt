@@ -8,9 +8,10 @@ use Rattle.rail.proofs.servers.all_thread_handles.Given as goal
 abbrev pub invariant-loop-port : goal.invariant-loop-port
 invariant-loop-port l = record {
   publisher : l.publisher ≡ l.fn.publisher;
-  inbox_builder : view l.inbox_builder.pass ≡ taker l.port l.port [];
+  inbox_builder : view l.inbox_builder.pass ≡ taker l.port (view l.fn.inbox_builder.pass).ports [];
   inbox : l.inbox_builder.pass.table_id ≡ l.fn.inbox_builder.pass.table_id;
-  thread_handles : l.thread_handles.items ≡ thread_handles_from l.fn.publisher.published.origin l.fn.inbox_builder.pass.table_id 0
+  thread_handles : l.thread_handles.items ≡ thread_handles_from l.fn.publisher.published.origin
+      l.fn.inbox_builder.pass.table_id 0
       l.port;
   reply_senders : l.reply_senders.items ≡ reply_senders_from l.fn.publisher.published.origin 0 l.port;
 }

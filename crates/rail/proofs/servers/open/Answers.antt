@@ -7,7 +7,7 @@ use Rattle.faces.specs.Publishers.{Publishing}
 use Rattle.rail.specs.declared.inbox.InboxKnowledge.{InboxKnowledge}
 use Rattle.rail.specs.Inlets.{inlets_from}
 use Rattle.rail.specs.NotedReplies.{ReplySenderState}
-use Rattle.rail.specs.Servers.{seats_from, thread_handles_from}
+use Rattle.rail.specs.Servers.{thread_handles_from}
 use Rattle.rail.specs.Turns.{AreReplySenders}
 use Rattle.rail.proofs.Opening.{are_opened, length_opened, idle_below}
 use Rattle.rail.proofs.servers.«open».Goals as goal
@@ -57,6 +57,6 @@ returns-in-Ok-beside g c =
             reply_senders = made.reply_senders i;
           });
       thread_handles = made.thread_handles ∙ ap (λ (b : TableId). thread_handles_from o b 0 c.args.readers) inbox;
-      seats = made.seats ∙ ap (λ (b : TableId). seats_from o b c.args.readers c.args.more) inbox;
-      brought_by = made.inlets ∙ ap (λ (b : TableId). inlets_from b (c.args.readers + c.args.more) c.args.inlets) inbox;
+      seats = made.seats;
+      brought_by = made.inlets ∙ ap (λ (b : TableId). inlets_from b c.args.readers c.args.inlets) inbox;
     }

@@ -11,11 +11,11 @@ loop-parts-preserved c =
     ++ c.loose_served_server.result ∷ [] =
     search rules in
     record {
-      controls = taken_more (λ (s : ServerParts). s.control) (controls_of c.args.servers_parts.items)
+      controls = taken_more (λ (s : ServerParts). s.control) (controls_of c.args.all_server_parts.items)
           c.loop-parts.controls.items
           c.push.new.self.items (into_iter_items c.loop-parts.parts-iterator) (into_iter_items c.next.new.self)
           c.in-Some.parts c.loop-parts.invariant.controls c.in-Some.ensures.steps.0 c.in_ok-push.ensures.items;
-      pools = taken_more (λ (s : ServerParts). s.pools.items) (pools_of c.args.servers_parts.items)
+      pools = taken_more (λ (s : ServerParts). s.pools.items) (pools_of c.args.all_server_parts.items)
           (pools_in c.loop-parts.served_servers.items)
           (pools_in c.push-in-loop-parts.new.self.items) (into_iter_items c.loop-parts.parts-iterator)
           (into_iter_items c.next.new.self) c.in-Some.parts c.loop-parts.invariant.pools c.in-Some.ensures.steps.0
@@ -27,12 +27,12 @@ loop-parts-preserved c =
 pub returns-clause-controls : goal.returns-clause-controls
 returns-clause-controls c =
     let none : length (into_iter_items c.loop-parts.parts-iterator) ≡ 0 = omega (arith, c.in-None.ensures.steps.0) in
-    taken_all (λ (s : ServerParts). s.control) (controls_of c.args.servers_parts.items) c.loop-parts.controls.items
+    taken_all (λ (s : ServerParts). s.control) (controls_of c.args.all_server_parts.items) c.loop-parts.controls.items
     (into_iter_items c.loop-parts.parts-iterator) c.loop-parts.invariant.controls none
 
 pub returns-clause-pools : goal.returns-clause-pools
 returns-clause-pools c =
     let none : length (into_iter_items c.loop-parts.parts-iterator) ≡ 0 = omega (arith, c.in-None.ensures.steps.0) in
-    taken_all (λ (s : ServerParts). s.pools.items) (pools_of c.args.servers_parts.items)
+    taken_all (λ (s : ServerParts). s.pools.items) (pools_of c.args.all_server_parts.items)
     (pools_in c.loop-parts.served_servers.items)
     (into_iter_items c.loop-parts.parts-iterator) c.loop-parts.invariant.pools none

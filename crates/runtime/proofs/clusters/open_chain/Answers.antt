@@ -14,9 +14,9 @@ all_parts-requires g c =
       links = c.in_ok-links.ensures.senders ∙ ap numbers (sym c.in_ok-links.ensures.count);
     }
 
-pub returns-clause-servers_parts : goal.returns-clause-servers_parts
-returns-clause-servers_parts g c =
+pub returns-clause-all_server_parts : goal.returns-clause-all_server_parts
+returns-clause-all_server_parts g c =
     seated c.args.count c.in_ok-servers.servers.items c.all_links.new.servers.items
-    c.in_ok-scheduler.servers_parts.items
+    c.in_ok-scheduler.all_server_parts.items
     c.in_ok-servers.ensures.workers c.in_ok-servers.ensures.pools c.all_links.ensures.cores
-    c.in_ok-scheduler.ensures.servers_parts
+    c.in_ok-scheduler.ensures.all_server_parts

@@ -10,9 +10,9 @@ use Rattle.runtime.proofs.server_parts.all_parts.Given as goal
 -- the servers after them
 abbrev pub invariant-loop-server : goal.invariant-loop-server
 invariant-loop-server g l = record {
-  count : vec_len l.servers_parts + length (into_iter_items l.server-iterator) ≡ vec_len l.fn.servers;
-  scheduler : ids l.scheduler ≡ numbers (vec_len l.servers_parts);
-  workers : AreFrom (vec_len l.servers_parts) (worker_ids (into_iter_items l.server-iterator));
-  links : AreFrom (vec_len l.servers_parts) (senders (into_iter_items l.left));
-  servers_parts : ArePartsSoFar l.fn.servers.items (into_iter_items l.server-iterator) l.servers_parts.items;
+  count : vec_len l.all_server_parts + length (into_iter_items l.server-iterator) ≡ vec_len l.fn.servers;
+  scheduler : ids l.scheduler ≡ numbers (vec_len l.all_server_parts);
+  workers : AreFrom (vec_len l.all_server_parts) (worker_ids (into_iter_items l.server-iterator));
+  links : AreFrom (vec_len l.all_server_parts) (senders (into_iter_items l.left));
+  all_server_parts : ArePartsSoFar l.fn.servers.items (into_iter_items l.server-iterator) l.all_server_parts.items;
 }

@@ -1,10 +1,9 @@
 use Rattle.std.proofs.Common.{arith, []}
-use Rattle.crossbeam_channel.specs.Claims.{view}
 use Rattle.rail.proofs.Delivering.{makes}
 use Rattle.rail.proofs.inbox.InboxBuilder.inlet.Goals as goal
 
 pub another-pass-requires-clause-rule : goal.another-pass-requires-clause-rule
 another-pass-requires-clause-rule c =
-    let ports = (view c.args.self.now.pass).ports in
+    let ports = c.args.self.now.ports in
     rw (c.args.self.now.gets)
     (makes c.args.self.now.pass.id c.args.self.now.made ports 0 ports [] (omega arith) (omega arith))

@@ -1,39 +1,36 @@
-use Rattle.std.proofs.Common.{◌∙◌, ap, refl, sym}
-use Rattle.seats.specs.ClientConnections.{ClientConnectionState}
-use Rattle.seats.proofs.Looked.{gone_sent, looked_on, looked_same}
-use Rattle.seats.proofs.ClientConnectionLaws.{further_as, further_same}
+use Rattle.std.proofs.Common.{ap, rules}
+use Rattle.std.proofs.lemmas.Result.{MatchResult-from_err}
+use Rattle.seats.proofs.Looked.{looked_on_still}
+use Rattle.seats.proofs.ClientConnectionLaws.{sent_on}
 use Rattle.seats.proofs.client_connections.ClientConnection.go.Goals as goal
 
-pub returns-in-Reading-clause-further : goal.returns-in-Reading-clause-further
-returns-in-Reading-clause-further g c = further_same _
+pub returns-in_err-go_ahead-in-Reply-clause-looked : goal.returns-in_err-go_ahead-in-Reply-clause-looked
+returns-in_err-go_ahead-in-Reply-clause-looked g c =
+    let went = rw c.in-Reply.is at c.in_ok-went.ensures.looked in
+    let same = c.in_err-go_ahead-in-Reply.ensures.same.connected in
+    MatchResult-from_err c.from_residual-in_err-go_ahead-in-Reply.result _ _ (search rules)
+    (λ e. looked_on_still c.args.self.now.connected c.go_alone.new.self.connected c.go_ahead.new.self.connected
+    c.args.pool.now c.go_alone.new.pool c.go_ahead.new.pool went (ap (λ x. x.calls) same) (ap (λ x. x.outcomes) same)
+    c.in_err-go_ahead-in-Reply.ensures.pool.1)
 
-pub returns-else-is_refused-clause-further : goal.returns-else-is_refused-clause-further
-returns-else-is_refused-clause-further g c =
-    further_as _ _ (ap (λ (t : ClientConnectionState). t.connected) c.send.ensures.same)
+pub returns-in_ok-go_ahead-in-Reply-clause-looked : goal.returns-in_ok-go_ahead-in-Reply-clause-looked
+returns-in_ok-go_ahead-in-Reply-clause-looked g c =
+    let went = rw c.in-Reply.is at c.in_ok-went.ensures.looked in
+    let same = c.in_ok-go_ahead-in-Reply.ensures.same.connected in
+    looked_on_still c.args.self.now.connected c.go_alone.new.self.connected c.go_ahead.new.self.connected
+    c.args.pool.now c.go_alone.new.pool c.go_ahead.new.pool went (ap (λ x. x.calls) same) (ap (λ x. x.outcomes) same)
+    c.in_ok-go_ahead-in-Reply.ensures.pool.1
 
-pub returns-in-Sent-clause-further : goal.returns-in-Sent-clause-further
-returns-in-Sent-clause-further g c = further_same _
+pub returns-in_err-go_ahead-in-Reply-clause-sent : goal.returns-in_err-go_ahead-in-Reply-clause-sent
+returns-in_err-go_ahead-in-Reply-clause-sent g c =
+    let went = rw c.in-Reply.is at c.in_ok-went.ensures.went in
+    sent_on c.go_alone.new.self c.go_ahead.new.self c.args.pool.now c.go_alone.new.pool c.go_ahead.new.pool went.0
+    went.1
+    c.go_alone.ensures.sent c.go_ahead.ensures.on
 
-pub returns-in-Sent-clause-went : goal.returns-in-Sent-clause-went
-returns-in-Sent-clause-went g c =
-    (c.in-Sent.field-0, ap (λ (t : ClientConnectionState). t.standing) (sym c.self.view_is) ∙ c.in-Sent.is)
-
-pub returns-in-Over-clause-further : goal.returns-in-Over-clause-further
-returns-in-Over-clause-further g c = further_same _
-
-pub returns-in-Reading-clause-looked : goal.returns-in-Reading-clause-looked
-returns-in-Reading-clause-looked g c = looked_same _ _ _ refl refl
-
-pub returns-else-is_refused-clause-looked : goal.returns-else-is_refused-clause-looked
-returns-else-is_refused-clause-looked g c =
-    let t = c.args.self.now in
-    let p = c.args.pool.now in
-    gone_sent c.send.result t.connected t.connected c.send.new.self.connected p p c.send.new.pool c.send.ensures.waits
-    (looked_on t.connected t.connected p p (looked_same t.connected t.connected p refl refl))
-    (ap (λ (x : ClientConnectionState). x.connected) c.send.ensures.same) c.send.ensures.pool.1
-
-pub returns-in-Sent-clause-looked : goal.returns-in-Sent-clause-looked
-returns-in-Sent-clause-looked g c = looked_on _ _ _ _ (looked_same _ _ _ refl refl)
-
-pub returns-in-Over-clause-looked : goal.returns-in-Over-clause-looked
-returns-in-Over-clause-looked g c = looked_on _ _ _ _ (looked_same _ _ _ refl refl)
+pub returns-in_ok-go_ahead-in-Reply-clause-sent : goal.returns-in_ok-go_ahead-in-Reply-clause-sent
+returns-in_ok-go_ahead-in-Reply-clause-sent g c =
+    let went = rw c.in-Reply.is at c.in_ok-went.ensures.went in
+    sent_on c.go_alone.new.self c.go_ahead.new.self c.args.pool.now c.go_alone.new.pool c.go_ahead.new.pool went.0
+    went.1
+    c.go_alone.ensures.sent c.go_ahead.ensures.on

@@ -3,7 +3,7 @@ use Rattle.std.proofs.lemmas.Result.{MatchResult-from_err}
 use Rattle.seats.specs.ClientConnections.{ClientConnectionState}
 use Rattle.seats.proofs.Looked.{gone_sent, gone_then, looked_on_then, looked_same, looked_then}
 use Rattle.seats.proofs.Seated.{later_same, later_then}
-use Rattle.seats.proofs.ClientConnectionLaws.{further_as, further_same, further_then}
+use Rattle.seats.proofs.ClientConnectionLaws.{further_as, further_same, further_then, sent_then, unsent}
 use Rattle.seats.proofs.client_connections.ClientConnection.go_on.Goals as goal
 
 pub loop-init : goal.loop-init
@@ -14,6 +14,7 @@ loop-init g c =
       later = later_same _;
       first = refl;
       further = further_same _;
+      unsent = refl;
       looked = looked_same _ _ _ refl refl;
     }
 
@@ -26,6 +27,7 @@ loop-preserved g c =
       later = later_then _ _ _ c.loop.invariant.later c.step.ensures.later;
       first = c.step.ensures.first ∙ c.loop.invariant.first;
       further = further_then _ _ _ c.loop.invariant.further c.step.ensures.further;
+      unsent = c.step.ensures.unsent ∙ c.loop.invariant.unsent;
       looked = looked_then _ _ _ _ _ _ c.loop.invariant.looked found.looked;
     }
 
@@ -55,6 +57,13 @@ returns-in-Some g c =
       first = c.step.ensures.first ∙ c.loop.invariant.first;
       further = further_then _ _ _ c.loop.invariant.further c.step.ensures.further;
       went = found.went;
+      sent = unsent c.step.new.self c.args.pool.now c.step.new.pool
+          (c.step.ensures.unsent ∙ c.loop.invariant.unsent);
       looked = gone_then c.in-Some.went _ _ _ _ _ _ c.loop.invariant.looked found.looked;
       over = tt;
     }
+
+pub returns-in-Some-Seat-clause-sent : goal.returns-in-Some-Seat-clause-sent
+returns-in-Some-Seat-clause-sent g c =
+    sent_then c.send.new.self c.args.pool.now c.step.new.pool c.send.new.pool
+    (c.step.ensures.unsent ∙ c.loop.invariant.unsent) c.send.ensures.sent

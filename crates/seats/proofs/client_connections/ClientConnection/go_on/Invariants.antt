@@ -1,6 +1,7 @@
 use Rattle.std.proofs.Common.{◌≡◌}
 use Rattle.faces.specs.Histories.{IsLater}
 use Rattle.seats.specs.ClientConnections.{HasLooked, IsFurther}
+use Rattle.seats.specs.SeatPools.{HasSentNothing}
 use Rattle.seats.specs.declared.client_connections.CallStanding.TheVariants.{Idle}
 use Rattle.seats.proofs.client_connections.ClientConnection.go_on.Given as goal
 
@@ -12,5 +13,6 @@ invariant-loop g l =
       later : IsLater l.fn.pool.seen l.pool.seen;
       first : l.self.first ≡ l.fn.self.first;
       further : IsFurther l.fn.self.connected l.self.connected;
+      unsent : HasSentNothing l.fn.pool l.pool;
       looked : HasLooked l.fn.self.connected l.self.connected l.fn.pool l.pool;
     }

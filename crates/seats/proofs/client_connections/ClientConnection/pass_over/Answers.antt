@@ -22,7 +22,8 @@ returns-in_err-refuse-clause-looked g c =
 pub invariant_of-self-2 : goal.invariant_of-self-2
 invariant_of-self-2 g c =
     let s = c.self.inside in
-    refused_client_connection s.connection c.refuse.new.connection s.standing c.refuse.new.standing s.first s.seen
+    refused_client_connection s.connection c.refuse.new.connection s.standing c.refuse.new.standing s.ahead.items
+    s.first s.seen
     c.self.invariant
     (subst (λ (t : ClientConnectionState). HoldsStore t.standing) (sym c.self.view_is) c.requires.store)
     c.in_ok-refuse.ensures.ok.0

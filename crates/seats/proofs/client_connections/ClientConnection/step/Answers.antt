@@ -1,7 +1,8 @@
-use Rattle.std.proofs.Common.{ap}
+use Rattle.std.proofs.Common.{◌∙◌, ap}
 use Rattle.seats.specs.ClientConnections.{ClientConnectionState}
 use Rattle.seats.proofs.Looked.{asked_looked, asked_same, looked_on}
 use Rattle.seats.proofs.ClientConnectionLaws.{as_shown, asked_further, asked_client_connection, further_view}
+use Rattle.seats.proofs.ClientConnectionLaws.{none_if_idle}
 use Rattle.seats.proofs.client_connections.ClientConnection.step.Goals as goal
 
 pub invariant_of-self : goal.invariant_of-self
@@ -11,7 +12,9 @@ invariant_of-self c =
     asked_client_connection c.ask.result s.connection c.next.new.self c.ask.new.connection c.ask.new.standing s.first
     s.seen
     c.ask.new.seen c.in-Ok-Call.target c.in-Ok-Call.op c.next.ensures.looked found.wanted.0 c.ask.ensures.ok
-    c.ask.ensures.err c.self.invariant.answered
+    c.ask.ensures.err s.ahead.items
+    (none_if_idle s.standing s.ahead.items s.connection s.seen.origin c.self.invariant.stands
+    (ap (λ (t : ClientConnectionState). t.standing) c.self.view_is ∙ c.requires.idle)) c.self.invariant.answered
 
 pub returns-in-Ok-Call-clause-further : goal.returns-in-Ok-Call-clause-further
 returns-in-Ok-Call-clause-further c =

@@ -11,6 +11,7 @@ invariant_of-self c =
     let pushed = c.push_reserved.ensures.items
     ∙ ap (λ (xs : List Submitting). xs ++ c.new.result ∷ []) c.make_room.ensures.free in
     record {
+      sends = c.self.invariant.sends;
       are_free = All-same (IsFreeAt s.reader.seen.origin) c.push_reserved.new.self.items
           (s.free.items ++ c.new.result ∷ []) pushed
           (All-push (IsFreeAt s.reader.seen.origin) s.free.items c.new.result c.self.invariant.are_free

@@ -1,4 +1,4 @@
-use Rattle.std.proofs.Common.{◌≡◌, ◌+◌, arith, length, refl}
+use Rattle.std.proofs.Common.{◌≡◌, ◌∙◌, ◌+◌, arith, length, refl, sym}
 use Rattle.seats.specs.SeatPools.{IsAt, IsFreeAt}
 use Rattle.seats.proofs.Pooled.{all_later, all_pushed, all_without, one_freed}
 use Rattle.seats.proofs.seat_pools.SeatPool.collect_one.Goals as goal
@@ -8,6 +8,7 @@ invariant_of-self g c =
     let s = c.self.inside in
     let now = c.take.new.reader.seen in
     record {
+      sends = c.self.invariant.sends ∙ sym c.take.ensures.later.origin;
       are_free = all_pushed (IsFreeAt now.origin) s.free.items c.push_reserved.new.self.items c.take.new.self
           c.push_reserved.ensures.items
           (all_later IsFreeAt s.reader.seen now s.free.items c.take.ensures.later c.self.invariant.are_free)
@@ -25,6 +26,7 @@ invariant_of-self-else-is_free g c =
     let s = c.self.inside in
     let now = c.take.new.reader.seen in
     record {
+      sends = c.self.invariant.sends ∙ sym c.take.ensures.later.origin;
       are_free = all_later IsFreeAt s.reader.seen now s.free.items c.take.ensures.later c.self.invariant.are_free;
       are_left = all_pushed (IsAt now.origin) c.pop_front.new.self.items c.push_back_reserved.new.self.items
           c.take.new.self c.push_back_reserved.ensures.items

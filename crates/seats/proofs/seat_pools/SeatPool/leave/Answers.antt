@@ -7,6 +7,7 @@ pub invariant_of-self : goal.invariant_of-self
 invariant_of-self c =
     let s = c.self.inside in
     record {
+      sends = c.self.invariant.sends;
       are_free = c.self.invariant.are_free;
       are_left = all_pushed (IsAt s.reader.seen.origin) s.left.items c.push_back_reserved.new.self.items c.args.left
           c.push_back_reserved.ensures.items c.self.invariant.are_left

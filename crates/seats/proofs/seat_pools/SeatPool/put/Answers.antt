@@ -7,6 +7,7 @@ pub invariant_of-self : goal.invariant_of-self
 invariant_of-self c =
     let s = c.self.inside in
     record {
+      sends = c.self.invariant.sends;
       are_free = all_pushed (IsFreeAt s.reader.seen.origin) s.free.items c.push_reserved.new.self.items c.args.free
           c.push_reserved.ensures.items c.self.invariant.are_free
           (at_reader IsFreeAt s.reader.seen c.args.self.now.seen c.args.free

@@ -17,19 +17,19 @@ returns-in_ok-reply-in-Ok-Some-clause-sent g c =
     let found = rw c.in-Ok-Some.field-0-is at c.in-Ok-Some.ensures in
     take_unsent c.self.inside.stage c.hear.new.stage c.self.inside.seat c.reply_if_any.new.self _ c.self.view_is
     c.self.invariant (free_sent _ _ c.in_ok-reply-in-Ok-Some.ensures.stage)
-    (ap (λ (s : SeatState). s.sent) found.got)
+    (ap (λ (s : SeatState). s.calls) found.got)
 
 pub returns-in_err-reply-in-Ok-Some-clause-sent : goal.returns-in_err-reply-in-Ok-Some-clause-sent
 returns-in_err-reply-in-Ok-Some-clause-sent g c =
     let found = rw c.in-Ok-Some.field-0-is at c.in-Ok-Some.ensures in
     take_unsent c.self.inside.stage c.hear.new.stage c.self.inside.seat c.reply_if_any.new.self _ c.self.view_is
     c.self.invariant (lost_sent _ _ c.in_err-reply-in-Ok-Some.ensures.stage)
-    (ap (λ (s : SeatState). s.sent) found.got)
+    (ap (λ (s : SeatState). s.calls) found.got)
 
 pub returns-in-Err-clause-sent : goal.returns-in-Err-clause-sent
 returns-in-Err-clause-sent g c =
     take_unsent c.self.inside.stage Lost c.self.inside.seat c.reply_if_any.new.self _ c.self.view_is c.self.invariant
-    refl (ap (λ (s : SeatState). s.sent) c.in-Err.ensures.got)
+    refl (ap (λ (s : SeatState). s.calls) c.in-Err.ensures.got)
 
 pub invariant_of-self-in-Ok-Some : goal.invariant_of-self-in-Ok-Some
 invariant_of-self-in-Ok-Some g c =

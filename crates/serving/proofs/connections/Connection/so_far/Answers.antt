@@ -1,6 +1,6 @@
 use Rattle.std.proofs.Common.{◌++◌, subst}
 use Rattle.serving.specs.Connections.{IsBegun}
-use Rattle.serving.proofs.Reaching.{begun}
+use Rattle.serving.proofs.GoingAhead.{begun_ahead}
 use Rattle.serving.proofs.connections.Connection.so_far.Goals as goal
 
 pub returns : goal.returns
@@ -8,5 +8,6 @@ returns c =
     let s = c.self.inside in
     record {
       begun = λ more. subst (λ v. IsBegun v (v.read ++ more)) c.self.view_is
-          (begun s.read s.outcomes.all s.written s.session s.ended s.failed c.self.invariant.0 more);
+          (begun_ahead s.read s.outcomes.all s.written s.session s.ahead.items s.ended s.failed c.self.invariant.0
+          more);
     }

@@ -1,0 +1,8 @@
+-- Rows of connections: what a client with several updates in flight is written, and the order of its calls.
+pub mod WholeBytes
+pub mod Fates
+pub mod Parts
+pub mod RowEnds
+pub mod Going
+pub mod RowOrder
+pub mod Answered

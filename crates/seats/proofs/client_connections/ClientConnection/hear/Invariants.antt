@@ -1,0 +1,17 @@
+use Rattle.std.proofs.Common.{◌≡◌, MatchBool}
+use Rattle.faces.specs.Histories.{IsLater}
+use Rattle.seats.specs.ClientConnections.{HasHeard, IsFurther}
+use Rattle.seats.specs.SeatPools.{HasSentNothing}
+use Rattle.seats.proofs.client_connections.ClientConnection.hear.Given as goal
+
+abbrev pub invariant-loop : goal.invariant-loop
+invariant-loop g l =
+    record {
+      known : IsLater l.self.seen l.pool.seen;
+      later : IsLater l.fn.pool.seen l.pool.seen;
+      first : l.self.first ≡ l.fn.self.first;
+      further : IsFurther l.fn.self.connected l.self.connected;
+      looks : l.pool.looks ≡ l.fn.pool.looks;
+      unsent : HasSentNothing l.fn.pool l.pool;
+      heard : MatchBool l.any (HasHeard l.self) (l.self ≡ l.fn.self);
+    }
