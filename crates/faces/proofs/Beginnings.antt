@@ -19,12 +19,12 @@ prefix_trans xs ys zs p q = (p.0 ++ q.0, sym (append_assoc xs p.0 q.0) ∙ (ap (
 
 -- a history is no earlier than itself
 pub later_same : (c : History) → IsLater c c
-later_same c = record { origin = refl; inputs = prefix_self c.inputs }
+later_same c = record { instance = refl; inputs = prefix_self c.inputs }
 
 -- what is later than a later history is later
 pub later_then : (first second third : History) → IsLater first second → IsLater second third → IsLater first third
 later_then first second third p q =
-    record { origin = q.origin ∙ p.origin; inputs = prefix_trans _ _ _ p.inputs q.inputs }
+    record { instance = q.instance ∙ p.instance; inputs = prefix_trans _ _ _ p.inputs q.inputs }
 
 -- of two beginnings of one list the shorter begins the longer
 pub prefix_shorter : {A : Type 0} (xs ys zs : List A)
@@ -76,7 +76,7 @@ pub later_by : (book : Book) (xs ys : List HistoryItem)
     → IsPrefix xs ys
     → IsLater (history_of book xs) (history_of book ys)
 later_by book xs ys b p = record {
-  origin = ap (λ s. record { book = book; start = s }) (ap start_of (sym p.1) ∙ same_start xs p.0 b);
+  instance = ap (λ s. record { book = book; start = s }) (ap start_of (sym p.1) ∙ same_start xs p.0 b);
   inputs = (inputs_of p.0, sym (inputs_of-append xs p.0) ∙ ap inputs_of p.1);
 }
 
@@ -85,7 +85,7 @@ pub with_entry : (book : Book) (xs : List HistoryItem) (input : Input)
     → IsBegun xs
     → history_of book (xs ++ Took input ∷ []) ≡ with_next (history_of book xs) input
 with_entry book xs input b = λ i. record {
-  origin = record { book = book; start = same_start xs (Took input ∷ []) b i };
+  instance = record { book = book; start = same_start xs (Took input ∷ []) b i };
   inputs = inputs_of-append xs (Took input ∷ []) i;
 }
 

@@ -46,14 +46,14 @@ fit_none c j u e = absurd (some-ne-none u (sym e))
 newcomer_fits : (c : History) → Fits c newcomer
 newcomer_fits c = record { server = λ k. absurd (true≢false (sym k)); seen = All-nil (λ (d : History). IsLater d c) }
 
-seated_fits : (c : History) (v : BoardKnowledge) → v.knows ≡ true → Fits c v → Fits c (seated v.origin)
+seated_fits : (c : History) (v : BoardKnowledge) → v.knows ≡ true → Fits c v → Fits c (seated v.instance)
 seated_fits c v knows fits =
     record { server = λ k. fits.server knows; seen = All-nil (λ (d : History). IsLater d c) }
 
 -- what fits a place still does once it is later
 later_fits : (c d : History) (v : BoardKnowledge) → IsLater c d → Fits c v → Fits d v
 later_fits c d v later fits = record {
-  server = λ k. fits.server k ∙ sym later.origin;
+  server = λ k. fits.server k ∙ sym later.instance;
   seen = All-weaker (λ (e : History). IsLater e c) (λ (e : History). IsLater e d)
       (λ (e : History) (before : IsLater e c). later_then e c d before later) v.histories fits.seen;
 }
@@ -66,7 +66,7 @@ admits x views h = (h.0, fit_more x.history views newcomer (newcomer_fits x.hist
 
 -- the place has seen this history, once more
 abbrev pub having_seen : BoardKnowledge → History → BoardKnowledge
-having_seen v c = record { knows = true; origin = c.origin; histories = v.histories ++ c ∷ [] }
+having_seen v c = record { knows = true; instance = c.instance; histories = v.histories ++ c ∷ [] }
 
 -- the face changes, to a later one of the same server
 pub turns : (seat : ℕ) (v : BoardKnowledge) (x y : Face)
@@ -91,10 +91,10 @@ turns seat v x y shown later views h at =
 pub enters : (seat : ℕ) (v : BoardKnowledge) (x : Face) → TurnsAt Keeps seat v x x Tells
 enters seat v x views h at = turns seat v x x h.0 (later_same x.history) views h at
 
-pub forks : (seat : ℕ) (v : BoardKnowledge) → v.knows ≡ true → Forks Keeps seat v v (seated v.origin)
+pub forks : (seat : ℕ) (v : BoardKnowledge) → v.knows ≡ true → Forks Keeps seat v v (seated v.instance)
 forks seat v knows x views h at =
-    subst (λ (vs : List BoardKnowledge). Keeps x (vs ++ seated v.origin ∷ [])) (sym (set_again views seat v at))
-    (h.0, fit_more x.history views (seated v.origin) (seated_fits x.history v knows (h.1 seat v at)) h.1)
+    subst (λ (vs : List BoardKnowledge). Keeps x (vs ++ seated v.instance ∷ [])) (sym (set_again views seat v at))
+    (h.0, fit_more x.history views (seated v.instance) (seated_fits x.history v knows (h.1 seat v at)) h.1)
 
 pub merges : (seat : ℕ) (v : BoardKnowledge) (other : ℕ) (w : BoardKnowledge) → Merges Keeps seat v other w w newcomer
 merges seat v other w x views h at apart there =

@@ -12,13 +12,13 @@ use Rattle.faces.specs.Readers.{HasLookedAtMostOnce}
 -- it knows whose face it saw
 pub knows_after : (w u : BoardKnowledge) (stood before after : History)
     → u ≡ w
-    → Knows w stood.origin
-    → stood.origin ≡ before.origin
+    → Knows w stood.instance
+    → stood.instance ≡ before.instance
     → IsLater before after
-    → Knows u after.origin
+    → Knows u after.instance
 knows_after w u stood before after left knows same later = (
   ap (λ (v : BoardKnowledge). v.knows) left ∙ knows.0,
-  ap (λ (v : BoardKnowledge). v.origin) left ∙ (knows.1 ∙ (same ∙ sym later.origin)),
+  ap (λ (v : BoardKnowledge). v.instance) left ∙ (knows.1 ∙ (same ∙ sym later.instance)),
 )
 
 -- the answer is the look at the face that stood

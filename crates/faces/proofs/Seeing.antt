@@ -31,7 +31,7 @@ shorter_begins : (c d stands : History)
     → length c.inputs ≤ length d.inputs
     → IsLater c d
 shorter_begins c d stands p q le = record {
-  origin = sym q.origin ∙ p.origin;
+  instance = sym q.instance ∙ p.instance;
   inputs = prefix_shorter c.inputs d.inputs stands.inputs p.inputs q.inputs le;
 }
 

@@ -21,13 +21,14 @@ outputs_next s (j ∷ []) i = refl
 outputs_next s (j ∷ (k ∷ ks)) i = outputs_next (step s j).state (k ∷ ks) i
 
 pub server_next : (c : History) (i : Input) → server_after (with_next c i) ≡ (step (server_after c) i).state
-server_next c i = after_next c.origin.start c.inputs i
+server_next c i = after_next c.instance.start c.inputs i
 
 -- a history with one input more is later
 pub later_next : (c d f : History) (i : Input) → d ≡ c → f ≡ with_next c i → IsLater d f
 later_next c d f i same next =
     subst (λ (x : History). IsLater d x) (sym next)
-    (subst (λ (x : History). IsLater x (with_next c i)) (sym same) (record { origin = refl; inputs = (i ∷ [], refl) }))
+    (subst (λ (x : History). IsLater x (with_next c i)) (sym same)
+    (record { instance = refl; inputs = (i ∷ [], refl) }))
 
 pub face_next : (c f : History) (n : NodeState) (i : Input) (shown : FaceState) (steps : List FaceStep) (acked : ℕ)
     → n ≡ running (server_after c)
@@ -54,8 +55,8 @@ pub outputs_of : (c p : History) (n : NodeState) (i : Input) (outputs : List Out
     → n ≡ running (server_after c)
     → p ≡ with_next c i
     → outputs ≡ (step n.server i).outputs
-    → outputs ≡ last_outputs p.origin.start p.inputs
+    → outputs ≡ last_outputs p.instance.start p.inputs
 outputs_of c p n i outputs node next out =
     out ∙ (ap (λ (m : NodeState). (step m.server i).outputs) node
-    ∙ (sym (outputs_next c.origin.start c.inputs i)
-    ∙ sym (ap (λ (x : History). last_outputs x.origin.start x.inputs) next)))
+    ∙ (sym (outputs_next c.instance.start c.inputs i)
+    ∙ sym (ap (λ (x : History). last_outputs x.instance.start x.inputs) next)))

@@ -4,20 +4,20 @@ use mathlib.Core.Option.{some}
 use lib.ListN.{get_elem?}
 use Rattle.faces.specs.declared.faces.Face.{Face}
 use Rattle.faces.specs.declared.boards.BoardKnowledge.{BoardKnowledge}
-use Rattle.faces.specs.Histories.{Origin, History, IsLater, nowhere, shown_after}
+use Rattle.faces.specs.Histories.{Instance, History, IsLater, nowhere, shown_after}
 use Rattle.faces.specs.Shown.{Shown}
 
 -- a place that knows nothing
 abbrev pub newcomer : BoardKnowledge
-newcomer = record { knows = false; origin = nowhere; histories = [] }
+newcomer = record { knows = false; instance = nowhere; histories = [] }
 
 -- a place that knows whose face stands, and hasn't seen it
-abbrev pub seated : Origin → BoardKnowledge
-seated origin = record { knows = true; origin = origin; histories = [] }
+abbrev pub seated : Instance → BoardKnowledge
+seated instance = record { knows = true; instance = instance; histories = [] }
 
 -- it knows whose face stands
-abbrev pub Knows : BoardKnowledge → Origin → Type 0
-Knows v origin = (v.knows ≡ true) × (v.origin ≡ origin)
+abbrev pub Knows : BoardKnowledge → Instance → Type 0
+Knows v instance = (v.knows ≡ true) × (v.instance ≡ instance)
 
 -- what stands is the server's face after the inputs that it says
 abbrev pub IsShownBy : Shown → Type 0
@@ -25,7 +25,7 @@ IsShownBy x = x.face ≡ shown_after x.history
 
 -- This history is one of the server that a place knows, if any, and begins with all that the place has seen.
 pub record Fits (c : History) (v : BoardKnowledge) : Type 0 where
-  pub server : v.knows ≡ true → v.origin ≡ c.origin
+  pub server : v.knows ≡ true → v.instance ≡ c.instance
   pub seen : All (λ d. IsLater d c) v.histories
 
 -- and what stands begins with all that any place has seen
@@ -37,7 +37,7 @@ Keeps x views = IsShownBy x × ((seat : ℕ) (v : BoardKnowledge) → get_elem? 
 -- and begin with all that it had seen.
 pub record Tells (v : BoardKnowledge) (x y : Face) (w : BoardKnowledge) : Type 0 where
   pub shown : IsShownBy y
-  pub server : Knows w y.history.origin
-  pub same : v.knows ≡ true → v.origin ≡ y.history.origin
+  pub server : Knows w y.history.instance
+  pub same : v.knows ≡ true → v.instance ≡ y.history.instance
   pub histories : w.histories ≡ v.histories ++ y.history ∷ []
   pub later : All (λ d. IsLater d y.history) v.histories

@@ -19,4 +19,4 @@ IsAmong o (x ∷ xs) = (x ≡ o) ⊎ IsAmong o xs
 
 -- the step of the history's last input put this out
 abbrev pub PutsOut : History → Output → Type 0
-PutsOut c o = IsAmong o (last_outputs c.origin.start c.inputs)
+PutsOut c o = IsAmong o (last_outputs c.instance.start c.inputs)

@@ -17,7 +17,7 @@ pub record Publishing : Type 0 where
 
 -- the node is the server after what was published, and the log is this server's
 abbrev pub IsCurrent : NodeState → Log → History → Type 0
-IsCurrent node log published = (node ≡ running (server_after published)) × (published.origin.book ≡ log.head.book)
+IsCurrent node log published = (node ≡ running (server_after published)) × (published.instance.book ≡ log.head.book)
 
 module _ {P A S : Type 0} {g : Ghosts Face Act S} where
   -- while there is a writer: the node is the server after what was published, and the writer shows the face of that

@@ -7,7 +7,7 @@ use Rattle.node.specs.Faces.{FaceState, look_at}
 use Rattle.node.specs.declared.looks.Look.TheVariants.{Clean}
 use Rattle.faces.specs.declared.faces.Face.{Face}
 use Rattle.faces.specs.declared.boards.BoardKnowledge.{BoardKnowledge}
-use Rattle.faces.specs.Histories.{History, Origin}
+use Rattle.faces.specs.Histories.{History, Instance}
 use Rattle.faces.specs.Boards.{Knows}
 
 -- What a reader has seen or was told of; and each history whose face stood when it looked, in order. Only a look at
@@ -30,9 +30,9 @@ ShowsItem face key = (item : Item) × (look_at face key ≡ Clean (Some item))
 
 module _ {P A : Type 0} where
   -- there is a place, at this server's board
-  abbrev pub IsPlaceOf : Option (Place Face BoardKnowledge P A) → Origin → Type 0
-  IsPlaceOf None origin = ⊥
-  IsPlaceOf (Some place) origin = Knows (view place.place) origin
+  abbrev pub IsPlaceOf : Option (Place Face BoardKnowledge P A) → Instance → Type 0
+  IsPlaceOf None instance = ⊥
+  IsPlaceOf (Some place) instance = Knows (view place.place) instance
 
   -- the histories whose faces stood when it looked
   abbrev pub looks_of : Option (Place Face BoardKnowledge P A) → List History

@@ -19,4 +19,4 @@ module _ {P A S : Type 0} {g : Ghosts Face Act S} where
     pub history : w.desk.shown.value.history ≡ c
     pub face : w.desk.shown.value.face ≡ shown_after c
     pub nothing : pending w ≡ []
-    pub knows : Knows (view w.desk.place) c.origin
+    pub knows : Knows (view w.desk.place) c.instance

@@ -23,17 +23,17 @@ use std::marker::Model;
 use std::sync::Wait;
 
 /// Which running server it is, and what it began with. No value of it is made.
-pub struct HistoryOrigin {
+pub struct HistoryInstance {
     unused: u8,
 }
 
-impl Model for HistoryOrigin {
+impl Model for HistoryInstance {
     ghost use Rattle.std.specs.Coded.{codes};
     ghost use Rattle.logbook.specs.Pages.{book_coded};
     ghost use Rattle.versions.specs.Stores.{coded_items};
-    ghost use Rattle.faces.specs.Histories.{Origin, nowhere};
+    ghost use Rattle.faces.specs.Histories.{Instance, nowhere};
 
-    ghost Value = { Origin };
+    ghost Value = { Instance };
 
     ghost coded = { Prim.hlevel (codes, coded_items, book_coded) };
 
@@ -44,7 +44,7 @@ impl Model for HistoryOrigin {
 /// whose face stood then. The writer's place has seen what it showed. No value of it is made.
 pub struct BoardKnowledge {
     pub knows: bool,
-    pub origin: HistoryOrigin,
+    pub instance: HistoryInstance,
     pub histories: LinkedList<LogPosition>,
 }
 
@@ -76,7 +76,7 @@ impl Split<BoardKnowledge> for ReaderLearns {
 
     ghost left = { λ v. v };
 
-    ghost right = { λ v. seated v.origin };
+    ghost right = { λ v. seated v.instance };
 }
 
 impl Join<BoardKnowledge> for ReaderLearns {
@@ -103,7 +103,7 @@ pub fn begin<R: Wait>(rt: &R, writer: FaceWriter) -> (FaceWriter, Result<Publish
 /// A place for one more reader, which knows the server that the writer knows.
 pub fn place(writer: &mut FaceWriter) -> Result<FacePlace, AllocError>
     requires knows { (view writer.old.desk.place).knows ≡ true }
-    ensures place { IfOk result (λ place. view place.place ≡ seated (view writer.old.desk.place).origin) }
+    ensures place { IfOk result (λ place. view place.place ≡ seated (view writer.old.desk.place).instance) }
     ensures kept { (writer.new.desk.shown ≡ writer.old.desk.shown)
         × (pending writer.new ≡ pending writer.old)
         × (view writer.new.desk.place ≡ view writer.old.desk.place) }

@@ -15,7 +15,7 @@ mod tombstones;
 mod version_trees;
 mod weights;
 
-pub use boards::HistoryOrigin;
+pub use boards::HistoryInstance;
 pub use faults::FaceFault;
 pub use laws::seen_begins_published;
 pub use log_positions::LogPosition;

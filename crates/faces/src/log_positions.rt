@@ -37,8 +37,8 @@ impl Model for LogPosition {
 impl LogPosition {
     /// A log for a server, and its beginning with no input.
     pub(crate) fn open(node: &Node) -> (Log, LogPosition)
-        ensures start { (result.1.inputs ≡ []) × (result.1.origin.start ≡ node.now.server) }
-        ensures log { result.1.origin.book ≡ result.0.head.book }
+        ensures start { (result.1.inputs ≡ []) × (result.1.instance.start ≡ node.now.server) }
+        ensures log { result.1.instance.book ≡ result.0.head.book }
     {
         let (log, seen) = Log::open(node);
         (log, LogPosition { count: 0, seen })
@@ -56,7 +56,7 @@ impl LogPosition {
 
     /// The beginning that is longer by this input, which is added to the log. It isn't if the log is longer already.
     pub(crate) fn next(&self, log: &Log, input: &Input) -> Option<LogPosition>
-        requires log { self.now.origin.book ≡ log.now.head.book }
+        requires log { self.now.instance.book ≡ log.now.head.book }
         ensures { IfSome result (λ log_position. log_position ≡ with_next self.now input.now) }
     {
         if self.count >= MOST {
@@ -74,7 +74,7 @@ impl LogPosition {
 
     /// Whether this one has all the inputs of the other, of the same server.
     pub(crate) fn has_all_of(&self, other: &LogPosition) -> bool
-        requires server { other.now.origin.book ≡ self.now.origin.book }
+        requires server { other.now.instance.book ≡ self.now.instance.book }
         ensures { MatchBool result (IsLater other.now self.now) (IsLater self.now other.now) }
     {
         let mut both = self.seen.again();

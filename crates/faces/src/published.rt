@@ -113,7 +113,7 @@ impl Told {
     /// Whether it tells of all the inputs that the other one tells of. Of two histories of one server, one begins with
     /// the other.
     pub fn has_all_of(&self, other: &Told) -> bool
-        requires server { other.now.origin ≡ self.now.origin }
+        requires server { other.now.instance ≡ self.now.instance }
         ensures { MatchBool result (IsLater other.now self.now) (IsLater self.now other.now) }
     {
         self.log_position.has_all_of(&other.log_position)

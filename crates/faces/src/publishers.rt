@@ -58,7 +58,7 @@ impl Publisher {
     ) -> Result<Publisher, FaceFault>
         requires readers { (0 < readers) × (readers < 2 ^ 32) }
         requires running { node.stopped ≡ false }
-        ensures start { IfOk result (λ publisher. publisher.published.origin.start ≡ node.server) }
+        ensures start { IfOk result (λ publisher. publisher.published.instance.start ≡ node.server) }
         ensures inputs { IfOk result (λ publisher. publisher.published.inputs ≡ []) }
         ensures going { IfOk result (λ publisher. publisher.goes ≡ true) }
         ensures memory { IfErr result (λ fault. fault ≡ FaceFault.Memory) }
@@ -122,7 +122,7 @@ impl Publisher {
         ensures goes { OnOk result ((self.old.goes ≡ true) × (self.new.goes ≡ true)) }
         ensures published { OnOk result (self.new.published ≡ with_next self.old.published input) }
         ensures outputs { IfOk result
-            (λ outputs. outputs.items ≡ last_outputs self.new.published.origin.start self.new.published.inputs) }
+            (λ outputs. outputs.items ≡ last_outputs self.new.published.instance.start self.new.published.inputs) }
         // Each message may be sent, and handed in where it goes.
         ensures fit { IfOk result (λ outputs. AreFit outputs.items) }
         ensures stops { OnErr result (self.new.goes ≡ false) }
@@ -182,7 +182,7 @@ fn first_writer(
 ) -> Result<FaceWriter, FaceFault>
     requires readers { (0 < readers) × (readers < 2 ^ 32) }
     requires first { log_position.now.inputs ≡ [] }
-    requires start { log_position.now.origin.start ≡ node.now.server }
+    requires start { log_position.now.instance.start ≡ node.now.server }
     ensures nothing { IfOk result (λ writer. pending writer ≡ []) }
     ensures face { IfOk result (λ writer. IsShownBy writer.desk.shown.value) }
     ensures history { IfOk result (λ writer. writer.desk.shown.value.history ≡ log_position.now) }

@@ -36,13 +36,13 @@ impl Model for Reader {
 
     ghost view = { λ r. record { seen = r.log_position; looks = looks_of r.place } };
 
-    ghost invariant = { λ r. IsPlaceOf r.place r.log_position.origin };
+    ghost invariant = { λ r. IsPlaceOf r.place r.log_position.instance };
 }
 
 impl Reader {
     /// A reader that has seen nothing, or what it is told of here.
     pub(crate) fn new(place: FacePlace, log_position: LogPosition) -> Reader
-        requires server { view place.place ≡ seated log_position.origin }
+        requires server { view place.place ≡ seated log_position.instance }
         ensures { result ≡ yet_to_look log_position }
     {
         Reader {
@@ -86,7 +86,7 @@ impl Reader {
 
     /// From now on it sees no less than what was told of. It doesn't look.
     pub fn learn(&mut self, told: Told)
-        requires server { told.origin ≡ self.old.seen.origin }
+        requires server { told.instance ≡ self.old.seen.instance }
         ensures later { IsLater self.old.seen self.new.seen }
         ensures told { IsLater told self.new.seen }
         ensures looks { self.new.looks ≡ self.old.looks }
@@ -104,8 +104,8 @@ fn look_from(
     log_position: &mut LogPosition,
     key: &Key,
 ) -> (FacePlace, Result<Look<Item>, FaceFault>)
-    requires server { Knows (view place.place) log_position.old.origin }
-    ensures server { Knows (view result.0.place) log_position.new.origin }
+    requires server { Knows (view place.place) log_position.old.instance }
+    ensures server { Knows (view result.0.place) log_position.new.instance }
     ensures found { IfOk result.1 (λ look. look ≡ look_at (shown_after log_position.new) key.now) }
     ensures looked { OnOk result.1
         ((view result.0.place).histories ≡ (view place.place).histories ++ log_position.new ∷ []) }
@@ -128,7 +128,7 @@ fn look_from(
 
 // A look at this face, unless more was seen already.
 fn see(log_position: &mut LogPosition, face: &Face, key: &Key) -> Result<Look<Item>, FaceFault>
-    requires server { face.now.history.origin ≡ log_position.old.origin }
+    requires server { face.now.history.instance ≡ log_position.old.instance }
     ensures found { IfOk result (λ look. (look ≡ look_at face.now.face key.now) × (log_position.new ≡ face.now.history)) }
     ensures later { IsLater log_position.old log_position.new }
     ensures unchanged { OnErr result (log_position.new ≡ log_position.old) }

@@ -1,5 +1,5 @@
 -- Lists of inputs and of outputs, and functions that were changed at one place.
-pub mod Ordinals
+pub mod ChangedFunctions
 pub mod Joined
 pub mod Removed
 pub mod FirstOf

@@ -1,7 +1,7 @@
 //! Opens a server whose seats are dealt out to serving threads.
 ghost use Rattle.std.specs.Prelude.{◌≡◌, ◌≤◌, ◌+◌, [], ◌∷◌, ◌++◌, true, vec_len, All, IfOk, OnOk};
 ghost use Rattle.node.specs.Nodes.{is_idle};
-ghost use Rattle.faces.specs.Histories.{Origin};
+ghost use Rattle.faces.specs.Histories.{Instance};
 ghost use Rattle.rail.specs.Inlets.{LeadTo};
 ghost use Rattle.seats.specs.Replies.{HasAllReplies};
 ghost use Rattle.seats.specs.SeatPools.{with_free};
@@ -47,10 +47,10 @@ pub fn open_pools<R: Wait + Drop>(
     requires inlets { (1 ≤ inlets) × (inlets ≤ 16) }
     requires idle { is_idle node ≡ true }
     ensures worker { IfOk result (λ pooled. BeginsAs node pooled.worker) }
-    ensures pools { IfOk result (λ pooled. AreAllAt pooled.worker.published.origin pooled.pools.items) }
+    ensures pools { IfOk result (λ pooled. AreAllAt pooled.worker.published.instance pooled.pools.items) }
     ensures threads { IfOk result (λ pooled. vec_len pooled.pools ≡ threads) }
     ensures senders { IfOk result (λ pooled. pools_senders pooled.pools.items ≡
-        senders_from pooled.worker.published.origin pooled.worker.inbox 0 threads) }
+        senders_from pooled.worker.published.instance pooled.worker.inbox 0 threads) }
     ensures inlets { IfOk result (λ pooled. LeadTo pooled.worker.inbox pooled.inlets.items) }
 {
     let Server {
@@ -91,9 +91,9 @@ fn deal(
     mark: &Mark,
     gauge: &Gauge,
 ) -> Result<Vec<SeatPool>, AllocError>
-    requires server { (o : Origin) × AreOf o thread_handles.items others.items [] }
+    requires server { (o : Instance) × AreOf o thread_handles.items others.items [] }
     ensures server { IfOk result
-        (λ pools. (o : Origin) → AreOf o thread_handles.items others.items [] → AreAllAt o pools.items) }
+        (λ pools. (o : Instance) → AreOf o thread_handles.items others.items [] → AreAllAt o pools.items) }
     ensures count { IfOk result (λ pools. vec_len pools ≡ vec_len thread_handles) }
     ensures senders { IfOk result (λ pools. pools_senders pools.items ≡ handles_senders thread_handles.items) }
 {
@@ -125,9 +125,9 @@ fn add_pool(
     mark: &Mark,
     gauge: &Gauge,
 ) -> Result<(), AllocError>
-    requires server { All (λ pool. pool.seen.origin ≡ thread_handle.seat.origin) pools.old.items }
+    requires server { All (λ pool. pool.seen.instance ≡ thread_handle.seat.instance) pools.old.items }
     requires replied { HasAllReplies thread_handle.seat }
-    ensures server { All (λ pool. pool.seen.origin ≡ thread_handle.seat.origin) pools.new.items }
+    ensures server { All (λ pool. pool.seen.instance ≡ thread_handle.seat.instance) pools.new.items }
     ensures count { OnOk result (vec_len pools.new ≡ vec_len pools.old + 1) }
     ensures senders { OnOk result
         (pools_senders pools.new.items ≡ pools_senders pools.old.items ++ thread_handle.call_sender ∷ []) }
@@ -140,9 +140,9 @@ fn add_pool(
 // Gives a seat to the pool at this place, if there is one.
 #[tactic(auto, using(crate::proofs::Dealt::one_changed))]
 fn give(pools: &mut Vec<SeatPool>, place: usize, seat: Seat) -> Result<(), AllocError>
-    requires server { All (λ pool. pool.seen.origin ≡ seat.origin) pools.old.items }
+    requires server { All (λ pool. pool.seen.instance ≡ seat.instance) pools.old.items }
     requires replied { HasAllReplies seat }
-    ensures server { All (λ pool. pool.seen.origin ≡ seat.origin) pools.new.items }
+    ensures server { All (λ pool. pool.seen.instance ≡ seat.instance) pools.new.items }
     ensures count { vec_len pools.new ≡ vec_len pools.old }
     ensures senders { pools_senders pools.new.items ≡ pools_senders pools.old.items }
 {
@@ -164,7 +164,7 @@ fn pool_of(
     gauge: &Gauge,
 ) -> Result<SeatPool, AllocError>
     requires { HasAllReplies thread_handle.seat }
-    ensures server { IfOk result (λ pool. pool.seen.origin ≡ thread_handle.seat.origin) }
+    ensures server { IfOk result (λ pool. pool.seen.instance ≡ thread_handle.seat.instance) }
     ensures sender { IfOk result (λ pool. pool.sender ≡ thread_handle.call_sender) }
 {
     let ThreadHandle {
@@ -201,7 +201,7 @@ fn share(mark: &Mark, gauge: &Gauge) -> Result<(Mark, Gauge), AllocError> {
 
 // A pool with one seat more.
 fn with_seat(pool: SeatPool, seat: Seat) -> Result<SeatPool, AllocError>
-    requires server { seat.origin ≡ pool.seen.origin }
+    requires server { seat.instance ≡ pool.seen.instance }
     requires replied { HasAllReplies seat }
     ensures { IfOk result (λ grown. grown ≡ with_free pool (unused seat)) }
 {

@@ -180,7 +180,7 @@ impl<W: Sink + Drop> Links for PeerLinks<W> {
     ghost state = { λ s. record {
       list = s.puts;
       failures = failures_at s.links.items;
-      wire = given_at W.written s.links.items;
+      carried = given_at W.written s.links.items;
       spelled = λ peer. spelling (frames.Peer peer);
     } };
 

@@ -2,16 +2,16 @@
 #![tactic(auto)]
 
 mod faults;
-mod histories;
 mod identities;
 mod putting;
 mod receiving;
+mod taken_frames;
 mod takers;
 
 pub use faults::LinkFault;
-pub use histories::Taken;
 pub use identities::Identity;
 pub use putting::{put_all, put_frame};
 pub use receiving::serve_peer;
+pub use taken_frames::TakenFrames;
 pub use takers::{TakeFault, Taker};
 pub use wire::PeerEnd;

@@ -1,4 +1,4 @@
--- What is put to each server, and what its wire carries.
+-- What is put to each server, and what the link to it carries.
 use Rattle.std.proofs.Common.{◌≡◌, ◌≢◌, ◌⊎◌, inl, inr, ⊎_elim, ℕ, ◌<◌, ◌≤◌, ◌==◌, zero, suc, Bool, true, false}
 use Rattle.std.proofs.Common.{if◌then◌else◌, List, [], ◌∷◌, ◌++◌, refl, ap, sym, ◌∙◌, subst, append_assoc, append-nil}
 use Rattle.std.proofs.Common.{arith}
@@ -50,13 +50,13 @@ all_spelled-append spelled (p ∷ ps) qs =
     ap (λ l. spelled p ++ l) (all_spelled-append spelled ps qs)
     ∙ sym (append_assoc (spelled p) (all_spelled spelled ps) (all_spelled spelled qs))
 
--- nothing was put, and no wire was given anything
+-- nothing was put, and no link carried anything
 pub carried_none : {C : Type 0} (l : LinksState C) → HaveCarried l l
 carried_none l = record {
   put = [];
   list = sym (append-nil l.list);
   failures = λ j. omega arith;
-  wire = λ j up. sym (append-nil (l.wire j));
+  carried = λ j up. sym (append-nil (l.carried j));
   spelled = refl;
 }
 
@@ -66,62 +66,67 @@ carried_on a b c h k = record {
   put = h.put ++ k.put;
   list = k.list ∙ (ap (λ w. w ++ k.put) h.list ∙ append_assoc a.list h.put k.put);
   failures = λ j. omega (arith, h.failures j, k.failures j);
-  wire = λ j up.
+  carried = λ j up.
       let ps = messages_to j h.put in
       let qs = messages_to j k.put in
       let before : b.failures j ≡ 0 = omega (arith, k.failures j, up) in
-      k.wire j up
-      ∙ (ap (λ s. b.wire j ++ all_spelled s qs) h.spelled
-      ∙ (ap (λ w. w ++ all_spelled a.spelled qs) (h.wire j before)
-      ∙ (append_assoc (a.wire j) (all_spelled a.spelled ps) (all_spelled a.spelled qs)
-      ∙ ap (λ w. a.wire j ++ w)
+      k.carried j up
+      ∙ (ap (λ s. b.carried j ++ all_spelled s qs) h.spelled
+      ∙ (ap (λ w. w ++ all_spelled a.spelled qs) (h.carried j before)
+      ∙ (append_assoc (a.carried j) (all_spelled a.spelled ps) (all_spelled a.spelled qs)
+      ∙ ap (λ w. a.carried j ++ w)
       (sym (ap (all_spelled a.spelled) (messages_to-append j h.put k.put) ∙ all_spelled-append a.spelled ps qs)))));
   spelled = k.spelled ∙ h.spelled;
 }
 
 module _ {C : Type 0} (l l' : LinksState C) (to : ℕ) (peer : Peer)
     (rise : (j : ℕ) → l.failures j ≤ l'.failures j)
-    (elsewhere : (j : ℕ) → j ≢ to → l'.wire j ≡ l.wire j)
+    (elsewhere : (j : ℕ) → j ≢ to → l'.carried j ≡ l.carried j)
     (words : l'.spelled ≡ l.spelled)
   where
-    wire_of : l'.wire to ≡ l.wire to ++ l.spelled peer
-        → (j : ℕ) → l'.wire j ≡ l.wire j ++ all_spelled l.spelled (messages_to j ((to, peer) ∷ []))
-    wire_of given j =
+    carried_to : l'.carried to ≡ l.carried to ++ l.spelled peer
+        → (j : ℕ) → l'.carried j ≡ l.carried j ++ all_spelled l.spelled (messages_to j ((to, peer) ∷ []))
+    carried_to given j =
         ⊎_elim
         (λ (e : j ≡ to). subst
-        (λ k. l'.wire k ≡ l.wire k ++ all_spelled l.spelled (messages_to k ((to, peer) ∷ []))) (sym e)
-        (given ∙ sym (ap (λ ps. l.wire to ++ all_spelled l.spelled ps) (to_same to peer)
-        ∙ ap (λ w. l.wire to ++ w) (append-nil (l.spelled peer)))))
+        (λ k. l'.carried k ≡ l.carried k ++ all_spelled l.spelled (messages_to k ((to, peer) ∷ []))) (sym e)
+        (given ∙ sym (ap (λ ps. l.carried to ++ all_spelled l.spelled ps) (to_same to peer)
+        ∙ ap (λ w. l.carried to ++ w) (append-nil (l.spelled peer)))))
         (λ (n : j ≢ to). elsewhere j n
-        ∙ sym (ap (λ ps. l.wire j ++ all_spelled l.spelled ps) (to_other j to peer n) ∙ append-nil (l.wire j)))
+        ∙ sym (ap (λ ps. l.carried j ++ all_spelled l.spelled ps) (to_other j to peer n) ∙ append-nil (l.carried j)))
         (is_it j to)
 
     -- a message was put
-    pub carried_one : l'.list ≡ l.list ++ (to, peer) ∷ [] → l'.wire to ≡ l.wire to ++ l.spelled peer → HaveCarried l l'
+    pub carried_one : l'.list ≡ l.list ++ (to, peer) ∷ []
+        → l'.carried to ≡ l.carried to ++ l.spelled peer
+        → HaveCarried l l'
     carried_one list given = record {
       put = (to, peer) ∷ [];
       list = list;
       failures = rise;
-      wire = λ j up. wire_of given j;
+      carried = λ j up. carried_to given j;
       spelled = words;
     }
 
-    unwired : (0 < l'.failures to) ⊎ (l'.wire to ≡ l.wire to) → (j : ℕ) → l'.failures j ≡ 0 → l'.wire j ≡ l.wire j
-    unwired unput j up =
+    not_carried : (0 < l'.failures to) ⊎ (l'.carried to ≡ l.carried to)
+        → (j : ℕ)
+        → l'.failures j ≡ 0
+        → l'.carried j ≡ l.carried j
+    not_carried unput j up =
         ⊎_elim
         (λ (e : j ≡ to). ⊎_elim
         (λ (failed : 0 < l'.failures to). let none : l'.failures to ≡ 0 =
         subst (λ k. l'.failures k ≡ 0) e up in absurd (omega (arith, none, failed)))
-        (λ (kept : l'.wire to ≡ l.wire to). subst (λ k. l'.wire k ≡ l.wire k) (sym e) kept) unput)
+        (λ (kept : l'.carried to ≡ l.carried to). subst (λ k. l'.carried k ≡ l.carried k) (sym e) kept) unput)
         (λ (n : j ≢ to). elsewhere j n)
         (is_it j to)
 
     -- a message was refused
-    pub carried_refused : l'.list ≡ l.list → (0 < l'.failures to) ⊎ (l'.wire to ≡ l.wire to) → HaveCarried l l'
+    pub carried_refused : l'.list ≡ l.list → (0 < l'.failures to) ⊎ (l'.carried to ≡ l.carried to) → HaveCarried l l'
     carried_refused list unput = record {
       put = [];
       list = list ∙ sym (append-nil l.list);
       failures = rise;
-      wire = λ j up. unwired unput j up ∙ sym (append-nil (l.wire j));
+      carried = λ j up. not_carried unput j up ∙ sym (append-nil (l.carried j));
       spelled = words;
     }

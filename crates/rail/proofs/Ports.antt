@@ -35,5 +35,5 @@ pub replies_next : (c : History) (i : Input) (n : ℕ)
     → AreCallsBelow n (i ∷ [])
     → AreRepliesBelow n (outputs_after (with_next c i))
 replies_next c i n fit valid h waits calls =
-    subst (AreRepliesBelow n) (sym (outputs_next c.origin.start c.inputs i))
+    subst (AreRepliesBelow n) (sym (outputs_next c.instance.start c.inputs i))
     (replies_below-step (server_after c) i n h fit valid waits calls)

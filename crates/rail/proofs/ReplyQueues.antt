@@ -43,10 +43,10 @@ all_snoc a [] x h e = (e, tt)
 all_snoc a (y ∷ ys) x h e = (h.0, all_snoc a ys x h.1 e)
 
 pub address_in : (a b : Address) (put put' : List NotedReply) → putter a put ≡ putter b put' → a ≡ b
-address_in a b put put' e = λ i. record { origin = (e i).origin; port = (e i).port }
+address_in a b put put' e = λ i. record { instance = (e i).instance; port = (e i).port }
 
 pub address_out : (a b : Address) (put put' : List NotedReply) → taker a put ≡ taker b put' → a ≡ b
-address_out a b put put' e = λ i. record { origin = (e i).origin; port = (e i).port }
+address_out a b put put' e = λ i. record { instance = (e i).instance; port = (e i).port }
 
 pub begins : IsReplyQueue [] (unknowing ∷ [])
 begins = inl (refl, refl)
@@ -140,14 +140,14 @@ in_use x items views pass v part at h =
 
 pub gets : (pass : ℕ) (a : Address) (got : List NotedReply)
     → Pops IsReplyQueue pass (taker a got)
-    (λ x w. (w ≡ taker a (got ++ x ∷ [])) × (x.told.origin ≡ a.origin) × (x.port ≡ a.port))
+    (λ x w. (w ≡ taker a (got ++ x ∷ [])) × (x.told.instance ≡ a.instance) × (x.port ≡ a.port))
 gets pass a got x items views h at =
     let p = in_use x items views pass (taker a got) refl at h in
     let mine = got_at pass a got x items views at p in
     let same : a ≡ p.address = address_out a p.address got p.taken mine.0 in (
       taker a (got ++ x ∷ []),
       inr (get_on pass a got x items views p mine.0 mine.1),
-      (refl, ap (λ (b : Address). b.origin) (p.all.0 ∙ sym same), ap (λ (b : Address). b.port) (p.all.0 ∙ sym same)),
+      (refl, ap (λ (b : Address). b.instance) (p.all.0 ∙ sym same), ap (λ (b : Address). b.port) (p.all.0 ∙ sym same)),
     )
 
 both : (a : Address) (pass : ℕ) (v : ReplyKnowledge)

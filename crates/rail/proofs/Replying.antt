@@ -6,7 +6,7 @@ use Rattle.node.specs.declared.messages.Peer.{Peer}
 use Rattle.node.specs.declared.messages.Output.{Output}
 use Rattle.node.specs.declared.messages.Output.TheVariants.{To, Reply as Replied}
 use Rattle.table.specs.declared.operations.Reply.{Reply}
-use Rattle.faces.specs.Histories.{Origin, History}
+use Rattle.faces.specs.Histories.{Instance, History}
 use Rattle.rail.specs.NotedReplies.{NotedReply, ReplySenderState}
 use Rattle.faces.specs.Outputs.{IsAmong}
 use Rattle.node.specs.Replies.{AreRepliesBelow}
@@ -14,18 +14,18 @@ use Rattle.rail.specs.Turns.{noted_replies_to, HasPutReplies, AreClosed, AreRepl
 use Rattle.rail.proofs.Carrying.{same, other}
 use Rattle.rail.proofs.Putting.{left_more, left_append}
 
-pub address_at : (o : Origin) (k p n : ℕ) (ps : List ReplySenderState) (d : ReplySenderState)
+pub address_at : (o : Instance) (k p n : ℕ) (ps : List ReplySenderState) (d : ReplySenderState)
     → p < length ps
     → n ≡ k + p
     → AreReplySenders o k ps
-    → (slice_index_or ps p d).address ≡ record { origin = o; port = n }
+    → (slice_index_or ps p d).address ≡ record { instance = o; port = n }
 address_at o k p n [] d within is h = absurd (omega (arith, within))
 address_at o k zero n (x ∷ xs) d within is h =
-    h.0 ∙ ap (λ m. record { origin = o; port = m }) (let e : k ≡ n = omega (arith, is) in e)
+    h.0 ∙ ap (λ m. record { instance = o; port = m }) (let e : k ≡ n = omega (arith, is) in e)
 address_at o k (suc p) n (x ∷ xs) d within is h =
     address_at o (k + 1) p n xs d (omega (arith, within)) (omega (arith, is)) h.1
 
-pub are_set : (o : Origin) (k p : ℕ) (ps : List ReplySenderState) (d q : ReplySenderState)
+pub are_set : (o : Instance) (k p : ℕ) (ps : List ReplySenderState) (d q : ReplySenderState)
     → p < length ps
     → q.address ≡ (slice_index_or ps p d).address
     → AreReplySenders o k ps
@@ -149,7 +149,7 @@ closed_next k ps q within shut before =
     subst (λ (n : ℕ). AreClosed (take n (slice_set ps k q))) more (closed_suc k ps q within shut before)
 
 -- what is replied leaves the reply senders where they are
-pub are_replied : (o : Origin) (c : History) (k : ℕ) (ps qs : List ReplySenderState) (xs : List Output)
+pub are_replied : (o : Instance) (c : History) (k : ℕ) (ps qs : List ReplySenderState) (xs : List Output)
     → HasReplied c k ps qs xs
     → AreReplySenders o k ps
     → AreReplySenders o k qs

@@ -6,7 +6,7 @@ use Rattle.node.specs.declared.messages.Input.{Input}
 use Rattle.node.specs.declared.messages.Output.{Output}
 use Rattle.node.specs.Lawful.{IsInput, HoldsEntry, IsLawful}
 use Rattle.node.specs.Replies.{AreCallsBelow, AreRepliesBelow, AreOpenBelow}
-use Rattle.faces.specs.Histories.{History, Origin, server_after, with_next}
+use Rattle.faces.specs.Histories.{History, Instance, server_after, with_next}
 use Rattle.faces.specs.Publishers.{Publishing}
 use Rattle.rail.specs.NotedReplies.{ReplySenderState}
 use Rattle.rail.specs.Links.{LinksState}
@@ -26,16 +26,16 @@ err_by (Err e) P is p = p
 
 -- a worker whose server is stopped
 pub stopped_worker : (now : Option Publishing) (told' : History) (reply_senders reply_senders' : List ReplySenderState)
-    (ports : ℕ) (o : Origin)
+    (ports : ℕ) (o : Instance)
     → now ≡ None
-    → told'.origin ≡ o
+    → told'.instance ≡ o
     → HasReplied told' 0 reply_senders reply_senders' []
     → AreReplySenders o 0 reply_senders
     → length reply_senders ≡ ports
     → AreClosed reply_senders'
     → IsWorker now told' reply_senders' ports
 stopped_worker now told' reply_senders reply_senders' ports o none same closed placed as_many shut = record {
-  placed = subst (λ (p : Origin). AreReplySenders p 0 reply_senders') (sym same)
+  placed = subst (λ (p : Instance). AreReplySenders p 0 reply_senders') (sym same)
       (are_replied o told' 0 reply_senders reply_senders' [] closed placed);
   as_many = length_replied told' 0 reply_senders reply_senders' [] closed ∙ as_many;
   closed = λ _. shut;
@@ -51,14 +51,14 @@ pub going_worker : (now : Option Publishing) (c p : Publishing) (told told' : Hi
     → p.published ≡ with_next c.published i
     → told' ≡ p.published
     → HasReplied p.published 0 reply_senders reply_senders' outputs
-    → AreReplySenders told.origin 0 reply_senders
+    → AreReplySenders told.instance 0 reply_senders
     → length reply_senders ≡ ports
     → IsInput i → HoldsEntry i → AreCallsBelow (length reply_senders) (i ∷ []) → IsWorker now told' reply_senders' ports
 going_worker now c p told told' i reply_senders reply_senders' ports outputs is going goes next at replied placed
     as_many fit valid
     calls =
-    let same : told'.origin ≡ told.origin =
-    ap (λ (x : History). x.origin) (at ∙ next) ∙ ap (λ (x : History). x.origin) going.0 in
+    let same : told'.instance ≡ told.instance =
+    ap (λ (x : History). x.instance) (at ∙ next) ∙ ap (λ (x : History). x.instance) going.0 in
     let below : AreCallsBelow ports (i ∷ []) = subst (λ (n : ℕ). AreCallsBelow n (i ∷ [])) as_many calls in
     let lawful : IsLawful (server_after p.published) =
     subst (λ (x : History). IsLawful (server_after x)) (sym next) (lawful_next c.published i fit valid going.1) in
@@ -66,21 +66,21 @@ going_worker now c p told told' i reply_senders reply_senders' ports outputs is 
     subst (λ (x : History). AreOpenBelow ports (server_after x)) (sym next)
     (open_next c.published i ports fit valid going.1 going.2 below) in
     record {
-      placed = subst (λ (q : Origin). AreReplySenders q 0 reply_senders') (sym same)
-          (are_replied told.origin p.published 0 reply_senders reply_senders' outputs replied placed);
+      placed = subst (λ (q : Instance). AreReplySenders q 0 reply_senders') (sym same)
+          (are_replied told.instance p.published 0 reply_senders reply_senders' outputs replied placed);
       as_many = length_replied p.published 0 reply_senders reply_senders' outputs replied ∙ as_many;
       closed = λ none. absurd (cc (is, none));
       going = subst (λ (n : Option Publishing). IsGoing n told' ports) (sym is) (sym at, lawful, waits, goes);
     }
 
--- a refused input leaves the server's origin
-pub cut_origin : {C : Type 0} (l l' : LinksState C) (c c' : History) (i : Input)
+-- a refused input leaves the server's instance
+pub cut_instance : {C : Type 0} (l l' : LinksState C) (c c' : History) (i : Input)
     → IsCut l l' c c' i
-    → c'.origin ≡ c.origin
-cut_origin l l' c c' i cut =
-    ⊎_elim (λ (same : (c' ≡ c) × (l' ≡ l)). ap (λ (x : History). x.origin) same.0)
-    (λ (grown : (c' ≡ with_next c i) × HasPutFirst l l' (outputs_after (with_next c i))). ap (λ (x : History). x.origin)
-    grown.0)
+    → c'.instance ≡ c.instance
+cut_instance l l' c c' i cut =
+    ⊎_elim (λ (same : (c' ≡ c) × (l' ≡ l)). ap (λ (x : History). x.instance) same.0)
+    (λ (grown : (c' ≡ with_next c i) × HasPutFirst l l' (outputs_after (with_next c i))).
+    ap (λ (x : History). x.instance) grown.0)
     cut
 
 -- an input was given to a server that goes on

@@ -1,7 +1,7 @@
 -- Replies on their way.
 use Rattle.std.specs.Prelude.{ℕ, Bool, true, false, List, []}
 use Rattle.table.specs.declared.operations.Reply.{Reply}
-use Rattle.faces.specs.Histories.{Origin, History}
+use Rattle.faces.specs.Histories.{Instance, History}
 
 -- a reply at a port, and what the server had published by then
 pub record NotedReply : Type 0 where
@@ -11,7 +11,7 @@ pub record NotedReply : Type 0 where
 
 -- whose replies, and at which port
 pub record Address : Type 0 where
-  pub origin : Origin
+  pub instance : Instance
   pub port : ℕ
 
 -- the worker's end of a seat's replies: whose they are, what was put, whether one was handed back, and whether the
@@ -23,5 +23,5 @@ pub record ReplySenderState : Type 0 where
   pub held : Bool
 
 -- the reply sender of port k before any reply
-abbrev pub reply_sender_at : Origin → ℕ → ReplySenderState
-reply_sender_at o k = record { address = record { origin = o; port = k }; put = []; gone = false; held = true }
+abbrev pub reply_sender_at : Instance → ℕ → ReplySenderState
+reply_sender_at o k = record { address = record { instance = o; port = k }; put = []; gone = false; held = true }

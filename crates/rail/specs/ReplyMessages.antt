@@ -8,22 +8,22 @@ use Rattle.rail.specs.declared.reply_channels.ReplyKnowledge.{ReplyKnowledge}
 
 -- the address of a reply
 abbrev pub address_of : NotedReply → Address
-address_of m = record { origin = m.told.origin; port = m.port }
+address_of m = record { instance = m.told.instance; port = m.port }
 
 -- a pass that knows nothing yet
 abbrev pub unknowing : ReplyKnowledge
-unknowing = record { whole = true; puts = false; origin = nowhere; port = 0; list = [] }
+unknowing = record { whole = true; puts = false; instance = nowhere; port = 0; list = [] }
 
 -- the sender's, with what it put, and the seat's, with what it took
 abbrev pub putter : Address → List NotedReply → ReplyKnowledge
-putter a list = record { whole = false; puts = true; origin = a.origin; port = a.port; list = list }
+putter a list = record { whole = false; puts = true; instance = a.instance; port = a.port; list = list }
 
 abbrev pub taker : Address → List NotedReply → ReplyKnowledge
-taker a list = record { whole = false; puts = false; origin = a.origin; port = a.port; list = list }
+taker a list = record { whole = false; puts = false; instance = a.instance; port = a.port; list = list }
 
 -- whose replies a pass knows
 abbrev pub address_in : ReplyKnowledge → Address
-address_in v = record { origin = v.origin; port = v.port }
+address_in v = record { instance = v.instance; port = v.port }
 
 -- A pass is the sender's, or the seat's.
 abbrev pub IsPutter : ReplyKnowledge → Type 0
@@ -34,7 +34,7 @@ IsTaker v = v ≡ taker (address_in v) v.list
 
 -- A seat's pass knows one reply more, which is of its server and for its port.
 abbrev pub HasGot : ReplyKnowledge → ReplyKnowledge → NotedReply → Type 0
-HasGot v v' m = (v' ≡ record v { list = v.list ++ m ∷ [] }) × (m.told.origin ≡ v.origin) × (m.port ≡ v.port)
+HasGot v v' m = (v' ≡ record v { list = v.list ++ m ∷ [] }) × (m.told.instance ≡ v.instance) × (m.port ≡ v.port)
 
 -- what a worker's end shows of its pass
 abbrev pub reply_sender_of : ReplyKnowledge → Bool → Bool → ReplySenderState

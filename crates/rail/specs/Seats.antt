@@ -1,6 +1,6 @@
 -- Seats.
 use Rattle.std.specs.Prelude.{◌≡◌, ℕ, ◌==◌, if◌then◌else◌, List, [], ◌∷◌, ◌++◌, map}
-use Rattle.faces.specs.Histories.{Origin, History}
+use Rattle.faces.specs.Histories.{Instance, History}
 use Rattle.node.specs.declared.messages.Input.{Input}
 use Rattle.node.specs.declared.messages.Input.TheVariants.{Call as Called, From, Gone}
 use Rattle.rail.specs.declared.inbox_messages.InboxMessage.{InboxMessage}
@@ -13,14 +13,14 @@ use Rattle.table.specs.declared.operations.Reply.{Reply}
 
 -- a seat: its server, its port, the calls that were sent at it, in order, and the replies that it took
 pub record SeatState : Type 0 where
-  pub origin : Origin
+  pub instance : Instance
   pub port : ℕ
   pub calls : List SentCall
   pub got : List NotedReply
 
 -- what a seat shows of its calls, and of the pass of its replies
 abbrev pub seat_of : List SentCall → ReplyKnowledge → SeatState
-seat_of calls replies = record { origin = replies.origin; port = replies.port; calls = calls; got = replies.list }
+seat_of calls replies = record { instance = replies.instance; port = replies.port; calls = calls; got = replies.list }
 
 -- a seat at which this sender sent one call more
 abbrev pub with_sent : SeatState → CallSenderState → Call → SeatState

@@ -4,7 +4,7 @@ use Rattle.node.specs.declared.messages.Peer.{Peer}
 use Rattle.node.specs.declared.messages.Output.{Output}
 use Rattle.node.specs.declared.messages.Output.TheVariants.{To, Reply as Replied}
 use Rattle.node.specs.declared.messages.Input.{Input}
-use Rattle.faces.specs.Histories.{Origin, History, with_next}
+use Rattle.faces.specs.Histories.{Instance, History, with_next}
 use Rattle.faces.specs.Outputs.{last_outputs}
 use Rattle.rail.specs.NotedReplies.{NotedReply, ReplySenderState}
 use Rattle.rail.specs.Links.{LinksState, messages_to}
@@ -46,7 +46,7 @@ module _ {C : Type 0} (l l' : LinksState C) where
 
 -- what the last step of a history put out
 abbrev pub outputs_after : History → List Output
-outputs_after c = last_outputs c.origin.start c.inputs
+outputs_after c = last_outputs c.instance.start c.inputs
 
 -- An input was refused: nothing was published or put; or the published history grew by it, and then some of the first
 -- messages of its step were put.
@@ -69,9 +69,9 @@ AreClosed [] = Unit {0}
 AreClosed (p ∷ ps) = (p.held ≡ false) × AreClosed ps
 
 -- each reply sender is this server's, at the port of its place
-abbrev pub AreReplySenders : Origin → ℕ → List ReplySenderState → Type 0
+abbrev pub AreReplySenders : Instance → ℕ → List ReplySenderState → Type 0
 AreReplySenders o k [] = Unit {0}
-AreReplySenders o k (p ∷ ps) = (p.address ≡ record { origin = o; port = k }) × AreReplySenders o (k + 1) ps
+AreReplySenders o k (p ∷ ps) = (p.address ≡ record { instance = o; port = k }) × AreReplySenders o (k + 1) ps
 
 -- What was put for each seat goes on with the replies among these to its port, save those that its queue handed back.
 abbrev pub HasReplied : History → ℕ → List ReplySenderState → List ReplySenderState → List Output → Type 0

@@ -42,7 +42,7 @@ IsGoing (Some publisher) published ports =
 pub record IsWorker (publisher : Option Publishing) (published : History) (reply_senders : List ReplySenderState)
     (ports : ℕ)
     : Type 0 where
-  pub placed : AreReplySenders published.origin 0 reply_senders
+  pub placed : AreReplySenders published.instance 0 reply_senders
   pub as_many : length reply_senders ≡ ports
   pub closed : publisher ≡ None → AreClosed reply_senders
   pub going : IsGoing publisher published ports

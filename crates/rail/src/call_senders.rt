@@ -6,7 +6,7 @@ ghost use Rattle.rail.specs.CallSenders.{call_sender_of, with_call};
 ghost use Rattle.rail.specs.Seats.{with_sent};
 
 use crate::call_notes::CallNote;
-use crate::inbox::Slot;
+use crate::inbox::SenderWithPass;
 use crate::seats::Seat;
 use faces::Published;
 use std::marker::Model;
@@ -21,7 +21,7 @@ use table::Call;
 pub struct CallSender {
     // Whose it is, which contracts alone see.
     server: Snapshot<Published>,
-    slot: Slot,
+    inbox_sender: SenderWithPass,
 }
 
 impl Model for CallSender {
@@ -36,16 +36,17 @@ impl Model for CallSender {
 
     ghost coded = { Prim.hlevel (codes, coded_items, book_coded, table_id_coded) };
 
-    ghost view = { λ s. call_sender_of s.server.value.origin s.slot.pass.table_id (claims.view s.slot.pass) };
+    ghost view = { λ s. call_sender_of s.server.value.instance s.inbox_sender.pass.table_id
+        (claims.view s.inbox_sender.pass) };
 }
 
 impl CallSender {
-    pub(crate) fn new(published: &Published, slot: Slot) -> CallSender
-        ensures { result ≡ call_sender_of published.now.origin slot.pass.table_id (view slot.pass) }
+    pub(crate) fn new(published: &Published, inbox_sender: SenderWithPass) -> CallSender
+        ensures { result ≡ call_sender_of published.now.instance inbox_sender.pass.table_id (view inbox_sender.pass) }
     {
         CallSender {
             server: Snapshot::of(published),
-            slot,
+            inbox_sender,
         }
     }
 
@@ -53,13 +54,13 @@ impl CallSender {
     /// the seat's port, or 2^62 calls were sent at the seat. It may wait.
     pub fn submit<R: Wait>(&mut self, rt: &R, seat: &mut Seat, call: Call) -> Result<(), Call>
         requires call { IsCall call }
-        requires server { seat.old.origin ≡ self.old.origin }
+        requires server { seat.old.instance ≡ self.old.instance }
         ensures sender { MatchResult result (λ _. self.new ≡ with_call self.old seat.old.port call)
             (λ back. (back ≡ call) × (self.new ≡ self.old)) }
         ensures seat { MatchResult result (λ _. seat.new ≡ with_sent seat.old self.old call)
             (λ _. seat.new ≡ seat.old) }
     {
         let call_note = CallNote::new(self, &call);
-        seat.send(rt, &mut self.slot, call_note, call)
+        seat.send(rt, &mut self.inbox_sender, call_note, call)
     }
 }

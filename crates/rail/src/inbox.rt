@@ -95,7 +95,7 @@ pub type InboxReceiver = RuledReceiver<Envelope, InboxKnowledge, InboxRule>;
 
 /// One sender of the inbox, with its pass.
 #[derive(Drop)]
-pub struct Slot {
+pub struct SenderWithPass {
     from: u64,
     ports: usize,
     to: InboxSender,
@@ -157,9 +157,9 @@ impl InboxBuilder {
     }
 
     /// One more sender of calls, from each port so far.
-    pub fn caller(&mut self) -> Result<Slot, AllocError>
+    pub fn caller(&mut self) -> Result<SenderWithPass, AllocError>
         requires { (view self.old.pass).made < 2 ^ 63 }
-        ensures slot { IfOk result
+        ensures inbox_sender { IfOk result
             (λ s. view s.pass ≡ sender (view self.old.pass).made (view self.old.pass).ports []) }
         ensures made { IfOk result
             (λ _. view self.new.pass ≡ taker ((view self.old.pass).made + 1) (view self.old.pass).ports []) }
@@ -170,7 +170,7 @@ impl InboxBuilder {
         let from = self.made;
         let pass = self.to.another::<AddsCaller>(&mut self.pass);
         self.made = from + 1;
-        Ok(Slot {
+        Ok(SenderWithPass {
             from,
             ports: self.ports,
             to,
@@ -179,9 +179,9 @@ impl InboxBuilder {
     }
 
     /// One more sender, which sends no calls.
-    pub fn inlet(&mut self) -> Result<Slot, AllocError>
+    pub fn inlet(&mut self) -> Result<SenderWithPass, AllocError>
         requires { (view self.old.pass).made < 2 ^ 63 }
-        ensures slot { IfOk result (λ s. view s.pass ≡ sender (view self.old.pass).made 0 []) }
+        ensures inbox_sender { IfOk result (λ s. view s.pass ≡ sender (view self.old.pass).made 0 []) }
         ensures made { IfOk result
             (λ _. view self.new.pass ≡ taker ((view self.old.pass).made + 1) (view self.old.pass).ports []) }
         ensures inbox { IfOk result (λ s. s.pass.table_id ≡ self.old.pass.table_id) }
@@ -191,7 +191,7 @@ impl InboxBuilder {
         let from = self.made;
         let pass = self.to.another::<AddsInlet>(&mut self.pass);
         self.made = from + 1;
-        Ok(Slot {
+        Ok(SenderWithPass {
             from,
             ports: 0,
             to,
@@ -209,7 +209,7 @@ impl InboxBuilder {
     }
 }
 
-impl Slot {
+impl SenderWithPass {
     /// The ports of its calls are below this number.
     pub fn ports(&self) -> usize
         ensures { result ≡ (view self.now.pass).ports }

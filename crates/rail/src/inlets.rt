@@ -8,7 +8,7 @@ ghost use Rattle.rail.specs.Inlets.{inlet_of, with_inbox_message};
 ghost use Rattle.rail.specs.declared.inbox_messages.InboxMessage.TheVariants.{Took, Stop, End};
 
 use crate::RailFault;
-use crate::inbox::Slot;
+use crate::inbox::SenderWithPass;
 use crate::inbox_messages::{FitInput, InboxMessage};
 use node::{Input, Peer};
 use std::marker::Model;
@@ -18,7 +18,7 @@ use std::sync::Wait;
 /// there, and what it sent (`InletState`).
 #[derive(Drop)]
 pub struct Inlet {
-    slot: Slot,
+    inbox_sender: SenderWithPass,
 }
 
 impl Model for Inlet {
@@ -32,17 +32,17 @@ impl Model for Inlet {
 
     ghost coded = { Prim.hlevel (codes, table_id_coded) };
 
-    ghost view = { λ i. inlet_of i.slot.pass.table_id (claims.view i.slot.pass) };
+    ghost view = { λ i. inlet_of i.inbox_sender.pass.table_id (claims.view i.inbox_sender.pass) };
 
-    ghost invariant = { λ i. (claims.view i.slot.pass).ports ≡ 0 };
+    ghost invariant = { λ i. (claims.view i.inbox_sender.pass).ports ≡ 0 };
 }
 
 impl Inlet {
-    pub(crate) fn new(slot: Slot) -> Inlet
-        requires { (view slot.pass).ports ≡ 0 }
-        ensures { result ≡ inlet_of slot.pass.table_id (view slot.pass) }
+    pub(crate) fn new(inbox_sender: SenderWithPass) -> Inlet
+        requires { (view inbox_sender.pass).ports ≡ 0 }
+        ensures { result ≡ inlet_of inbox_sender.pass.table_id (view inbox_sender.pass) }
     {
-        Inlet { slot }
+        Inlet { inbox_sender }
     }
 
     /// Brings a message from server `i`. Refused with Closed if the worker is gone. It may wait, as may the others.
@@ -89,7 +89,7 @@ impl Inlet {
         ensures err { OnErr result (self.new ≡ self.old) }
         ensures fault { IfErr result (λ fault. fault ≡ RailFault.Closed) }
     {
-        match self.slot.send(rt, inbox_message) {
+        match self.inbox_sender.send(rt, inbox_message) {
             Ok(()) => Ok(()),
             Err(inbox_message) => {
                 drop(inbox_message);

@@ -30,7 +30,7 @@ pub fn advance<R: Wait, L: Links>(
 ) -> Result<(), AllocError>
     requires input { IsInput input × HoldsEntry input }
     requires told { told.old ≡ publisher.old.published }
-    requires reply_senders { AreReplySenders publisher.old.published.origin 0 reply_senders.old.items }
+    requires reply_senders { AreReplySenders publisher.old.published.instance 0 reply_senders.old.items }
     requires calls { AreCallsBelow (length reply_senders.old.items) (input ∷ []) }
     requires lawful { IsLawful (server_after publisher.old.published) }
     requires open { AreOpenBelow (length reply_senders.old.items) (server_after publisher.old.published) }

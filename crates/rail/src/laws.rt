@@ -8,7 +8,7 @@ ghost use Rattle.rail.specs.declared.inbox_messages.Envelope.{Envelope};
 ghost use Rattle.rail.specs.declared.inbox.InboxKnowledge.{InboxKnowledge};
 ghost use Rattle.rail.specs.declared.reply_channels.ReplyKnowledge.{ReplyKnowledge};
 ghost use Rattle.atomic_table.specs.Seated.{TableId};
-ghost use Rattle.faces.specs.Histories.{History, Origin};
+ghost use Rattle.faces.specs.Histories.{History, Instance};
 ghost use Rattle.table.specs.declared.operations.Call.{Call};
 ghost use Rattle.table.specs.declared.operations.Reply.{Reply};
 ghost use Rattle.rail.specs.CallSenders.{CallSenderState, call_sender_at, with_call};
@@ -49,7 +49,7 @@ pub fn replies_begin_those_put()
 /// What a sender sent from a seat's port is what was sent at that seat, call for call: so it is at first, and each
 /// `submit` keeps it, of the seat whose call it sends and of each seat at another port. So does each reply.
 pub fn calls_keep_step()
-    ensures first { (o : Origin) (b : TableId) (k port : ℕ) → IsInStep (call_sender_at o b k) (seat_at o port) }
+    ensures first { (o : Instance) (b : TableId) (k port : ℕ) → IsInStep (call_sender_at o b k) (seat_at o port) }
     ensures own { (sender : CallSenderState) (seat : SeatState) (call : Call) → IsInStep sender seat
         → IsInStep (with_call sender seat.port call) (with_sent seat sender call) }
     ensures others { (sender : CallSenderState) (seat : SeatState) (port : ℕ) (call : Call) → port ≢ seat.port

@@ -9,15 +9,15 @@ use crate::RailFault;
 use faces::Published;
 use node::Peer;
 
-/// Where a worker puts its messages. What was put, how often each link failed, and what each wire was given contracts
+/// Where a worker puts its messages. What was put, how often each link failed, and what each link carried contracts
 /// alone see.
 pub trait Links {
     ghost use Rattle.rail.specs.Links.{LinksState};
 
-    // What a wire carries: bytes, or inbox messages.
+    // What a link carries: bytes, or inbox messages.
     ghost Carried: { Type 0 };
 
-    // What was put, how often each link failed, and what each wire was given.
+    // What was put, how often each link failed, and what each link carried.
     ghost state: { Self → LinksState Self.Carried };
 
     /// Whether the link to a server has failed.
@@ -34,13 +34,13 @@ pub trait Links {
         requires up { (state self.old).failures to ≡ 0 }
         ensures ok { OnOk result ((state self.new).list ≡ (state self.old).list ++ (to, peer) ∷ []) }
         ensures err { OnErr result ((state self.new).list ≡ (state self.old).list) }
-        // The wire to this server was given the message, and none other was given anything.
-        ensures wire { OnOk result
-            ((state self.new).wire to ≡ (state self.old).wire to ++ (state self.old).spelled peer) }
-        // A wire that was given a part of it is the wire of a link that has failed.
+        // The link to this server carries the message, and no other carries anything more.
+        ensures carried { OnOk result
+            ((state self.new).carried to ≡ (state self.old).carried to ++ (state self.old).spelled peer) }
+        // A link that carries a part of it has failed.
         ensures unput { OnErr result
-            ((0 < (state self.new).failures to) ⊎ ((state self.new).wire to ≡ (state self.old).wire to)) }
-        ensures elsewhere { (j : ℕ) → j ≢ to → (state self.new).wire j ≡ (state self.old).wire j }
+            ((0 < (state self.new).failures to) ⊎ ((state self.new).carried to ≡ (state self.old).carried to)) }
+        ensures elsewhere { (j : ℕ) → j ≢ to → (state self.new).carried j ≡ (state self.old).carried j }
         ensures spelled { (state self.new).spelled ≡ (state self.old).spelled }
         ensures failures { (j : ℕ) → (state self.old).failures j ≤ (state self.new).failures j }
         ensures fault { IfErr result

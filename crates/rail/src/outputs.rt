@@ -28,7 +28,7 @@ pub fn put_messages<L: Links>(
     published: &Published,
     outputs: &mut Vec<Output>,
 ) -> Result<(), RailFault>
-    requires step { outputs.old.items ≡ last_outputs published.now.origin.start published.now.inputs }
+    requires step { outputs.old.items ≡ last_outputs published.now.instance.start published.now.inputs }
     requires fit { AreFit outputs.old.items }
     ensures ok { OnOk result (HasPut (L.state links.old) (L.state links.new) (messages_of outputs.old.items)) }
     // Some of the first ones were put.
@@ -107,8 +107,8 @@ pub fn put_replies<R: Wait>(
 )
     requires step { ArePutOut published.now outputs.items }
     requires ports { AreRepliesBelow (length reply_senders.old.items) outputs.items }
-    requires reply_senders { AreReplySenders published.now.origin 0 reply_senders.old.items }
-    ensures reply_senders { AreReplySenders published.now.origin 0 reply_senders.new.items }
+    requires reply_senders { AreReplySenders published.now.instance 0 reply_senders.old.items }
+    ensures reply_senders { AreReplySenders published.now.instance 0 reply_senders.new.items }
     ensures put { HasReplied published.now 0 reply_senders.old.items reply_senders.new.items outputs.items }
 {
     for output in outputs {
@@ -126,8 +126,8 @@ fn put_if_reply<R: Wait>(
 )
     requires step { ArePutOut published.now (output ∷ []) }
     requires port { AreRepliesBelow (length reply_senders.old.items) (output ∷ []) }
-    requires reply_senders { AreReplySenders published.now.origin 0 reply_senders.old.items }
-    ensures reply_senders { AreReplySenders published.now.origin 0 reply_senders.new.items }
+    requires reply_senders { AreReplySenders published.now.instance 0 reply_senders.old.items }
+    ensures reply_senders { AreReplySenders published.now.instance 0 reply_senders.new.items }
     ensures put { HasReplied published.now 0 reply_senders.old.items reply_senders.new.items (output ∷ []) }
 {
     match output {
@@ -149,8 +149,8 @@ fn put_reply<R: Wait>(
 )
     requires step { PutsOut published.now (Replied port reply) }
     requires port { port < length reply_senders.old.items }
-    requires reply_senders { AreReplySenders published.now.origin 0 reply_senders.old.items }
-    ensures reply_senders { AreReplySenders published.now.origin 0 reply_senders.new.items }
+    requires reply_senders { AreReplySenders published.now.instance 0 reply_senders.old.items }
+    ensures reply_senders { AreReplySenders published.now.instance 0 reply_senders.new.items }
     ensures put { HasReplied published.now 0 reply_senders.old.items reply_senders.new.items (Replied port reply ∷ []) }
 {
     let reply_message = ReplyMessage::new(port, reply, published.tell());

@@ -13,7 +13,7 @@ use crate::reply_messages::ReplyMessage;
 use atomic_table::Split;
 use crossbeam_channel::protocol::{Lesson, Outcome, Protocol};
 use crossbeam_channel::{Pass, RuledReceiver, RuledSender, TryRecvError, bounded_with};
-use faces::{HistoryOrigin, Published};
+use faces::{HistoryInstance, Published};
 use std::alloc::{AllocError, Global};
 use std::collections::LinkedList;
 use std::marker::{Brand, Model, PhantomData};
@@ -24,7 +24,7 @@ use std::thread;
 pub struct ReplyKnowledge {
     pub whole: bool,
     pub puts: bool,
-    pub origin: HistoryOrigin,
+    pub instance: HistoryInstance,
     pub port: u64,
     pub list: LinkedList<ReplyMessage>,
 }
@@ -48,7 +48,7 @@ pub trait Addressed {
 impl Addressed for Brand {
     ghost use Rattle.faces.specs.Histories.{nowhere};
 
-    ghost address = { record { origin = nowhere; port = 0 } };
+    ghost address = { record { instance = nowhere; port = 0 } };
 }
 
 /// The queue gets its address.
@@ -77,7 +77,7 @@ impl Lesson<ReplyMessage, ReplyKnowledge> for Puts {
 pub struct Gets;
 
 impl Outcome<ReplyMessage, ReplyKnowledge> for Gets {
-    ghost then = { λ v x w. (w ≡ record v { list = v.list ++ x ∷ [] }) × (x.told.origin ≡ v.origin)
+    ghost then = { λ v x w. (w ≡ record v { list = v.list ++ x ∷ [] }) × (x.told.instance ≡ v.instance)
         × (x.port ≡ v.port) };
 }
 
@@ -138,7 +138,7 @@ fn address<W: Addressed>(
 ) -> Pass<ReplyMessage, ReplyKnowledge>
     requires seat { IsSeatAt (sends_on to.now) pass.old }
     requires first { view pass.old ≡ unknowing }
-    requires address { W.address ≡ record { origin = published.now.origin; port = port } }
+    requires address { W.address ≡ record { instance = published.now.instance; port = port } }
     ensures seat { IsSeatAt (sends_on to.now) pass.new × IsSeatAt (sends_on to.now) result }
     ensures named { (view pass.new ≡ putter W.address []) × (view result ≡ taker W.address []) }
 {
@@ -155,9 +155,9 @@ pub fn open(
     port: usize,
 ) -> Result<(ReplySender, ReplyReceiver), AllocError>
     requires { 0 < room }
-    ensures reply_sender { IfOk result (λ r. r.0 ≡ reply_sender_at published.now.origin port) }
+    ensures reply_sender { IfOk result (λ r. r.0 ≡ reply_sender_at published.now.instance port) }
     ensures reply_receiver { IfOk result
-        (λ r. view r.1.pass ≡ taker (record { origin = published.now.origin; port = port }) []) }
+        (λ r. view r.1.pass ≡ taker (record { instance = published.now.instance; port = port }) []) }
 {
     let (to, from, mut putting) = bounded_with::<ReplyMessage, ReplyKnowledge, ReplyRule, Global>(
         alloc, room,

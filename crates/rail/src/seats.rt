@@ -10,7 +10,7 @@ ghost use Rattle.rail.specs.declared.inbox_messages.InboxMessage.TheVariants.{To
 
 use crate::RailFault;
 use crate::call_notes::CallNote;
-use crate::inbox::Slot;
+use crate::inbox::SenderWithPass;
 use crate::inbox_messages::{FitInput, InboxMessage};
 use crate::reply_channels::ReplyReceiver;
 use faces::Told;
@@ -67,7 +67,7 @@ impl Seat {
     pub(crate) fn send<R: Wait>(
         &mut self,
         rt: &R,
-        slot: &mut Slot,
+        inbox_sender: &mut SenderWithPass,
         call_note: CallNote,
         call: Call,
     ) -> Result<(), Call>
@@ -75,16 +75,17 @@ impl Seat {
         ensures seat { MatchResult result (λ _. self.new ≡ record self.old { calls = self.old.calls ++ call_note ∷ [] })
             (λ back. (back ≡ call) × (self.new ≡ self.old)) }
         ensures sent { MatchResult result
-            (λ _. (view slot.new.pass).put ≡ (view slot.old.pass).put ++ Took (Called self.old.port call) ∷ [])
-            (λ _. view slot.new.pass ≡ view slot.old.pass) }
-        ensures number { (view slot.new.pass).from ≡ (view slot.old.pass).from }
-        ensures inbox { slot.new.pass.table_id ≡ slot.old.pass.table_id }
+            (λ _. (view inbox_sender.new.pass).put
+            ≡ (view inbox_sender.old.pass).put ++ Took (Called self.old.port call) ∷ [])
+            (λ _. view inbox_sender.new.pass ≡ view inbox_sender.old.pass) }
+        ensures number { (view inbox_sender.new.pass).from ≡ (view inbox_sender.old.pass).from }
+        ensures inbox { inbox_sender.new.pass.table_id ≡ inbox_sender.old.pass.table_id }
     {
-        if self.port >= slot.ports() || self.calls.len() >= self.calls.capacity() {
+        if self.port >= inbox_sender.ports() || self.calls.len() >= self.calls.capacity() {
             return Err(call);
         }
         let inbox_message = InboxMessage::Took(FitInput::new(Input::Call(self.port, call)));
-        match slot.send(rt, inbox_message) {
+        match inbox_sender.send(rt, inbox_message) {
             Ok(()) => {
                 self.calls.push_reserved(call_note);
                 Ok(())
@@ -101,7 +102,7 @@ impl Seat {
     /// gone or stopped. It may wait.
     pub fn reply<R: Wait>(&mut self, rt: &R) -> Result<(Reply, Told), RailFault>
         ensures got { MatchResult result (λ r. self.new ≡ with_reply self.old r.0 r.1) (λ _. self.new ≡ self.old) }
-        ensures server { IfOk result (λ r. r.1.origin ≡ self.old.origin) }
+        ensures server { IfOk result (λ r. r.1.instance ≡ self.old.instance) }
         // The step of the last input that the note tells of put the reply out, for this seat.
         ensures put_out { IfOk result (λ r. PutsOut r.1 (Replied self.old.port r.0)) }
         ensures fault { IfErr result (λ fault. fault ≡ RailFault.Closed) }
@@ -115,7 +116,7 @@ impl Seat {
         ensures got { MatchResult result
             (λ found. MatchOption found (self.new ≡ self.old) (λ r. self.new ≡ with_reply self.old r.0 r.1))
             (λ _. self.new ≡ self.old) }
-        ensures server { IfOk result (λ found. IfSome found (λ r. r.1.origin ≡ self.old.origin)) }
+        ensures server { IfOk result (λ found. IfSome found (λ r. r.1.instance ≡ self.old.instance)) }
         // The step of the last input that the note tells of put the reply out, for this seat.
         ensures put_out { IfOk result (λ found. IfSome found (λ r. PutsOut r.1 (Replied self.old.port r.0))) }
         ensures fault { IfErr result (λ fault. fault ≡ RailFault.Closed) }

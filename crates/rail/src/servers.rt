@@ -121,10 +121,10 @@ fn beside(
         (λ _. ((view inbox_builder.new.pass).ports ≡ readers + more) × ((view inbox_builder.new.pass).got ≡ [])) }
     ensures inbox { OnOk result (inbox_builder.new.pass.table_id ≡ inbox_builder.old.pass.table_id) }
     ensures thread_handles { IfOk result
-        (λ r. r.0.items ≡ thread_handles_from publisher.old.published.origin inbox_builder.old.pass.table_id 0
+        (λ r. r.0.items ≡ thread_handles_from publisher.old.published.instance inbox_builder.old.pass.table_id 0
         readers) }
-    ensures seats { IfOk result (λ r. r.1.items ≡ seats_from publisher.old.published.origin readers more) }
-    ensures reply_senders { IfOk result (λ r. r.2.items ≡ reply_senders_from publisher.old.published.origin 0
+    ensures seats { IfOk result (λ r. r.1.items ≡ seats_from publisher.old.published.instance readers more) }
+    ensures reply_senders { IfOk result (λ r. r.2.items ≡ reply_senders_from publisher.old.published.instance 0
         (readers + more)) }
     ensures inlets { IfOk result (λ r. r.3.items ≡ inlets_from inbox_builder.old.pass.table_id readers inlets) }
     ensures fault { IfErr result (λ fault. (fault ≡ RailFault.Memory) ⊎ (fault ≡ RailFault.NoReader)) }
@@ -174,9 +174,10 @@ fn all_thread_handles(
         (λ _. view inbox_builder.new.pass ≡ taker readers (view inbox_builder.old.pass).ports []) }
     ensures inbox { OnOk result (inbox_builder.new.pass.table_id ≡ inbox_builder.old.pass.table_id) }
     ensures thread_handles { IfOk result
-        (λ r. r.0.items ≡ thread_handles_from publisher.old.published.origin inbox_builder.old.pass.table_id 0
+        (λ r. r.0.items ≡ thread_handles_from publisher.old.published.instance inbox_builder.old.pass.table_id 0
         readers) }
-    ensures reply_senders { IfOk result (λ r. r.1.items ≡ reply_senders_from publisher.old.published.origin 0 readers) }
+    ensures reply_senders { IfOk result
+        (λ r. r.1.items ≡ reply_senders_from publisher.old.published.instance 0 readers) }
     ensures fault { IfErr result (λ fault. (fault ≡ RailFault.Memory) ⊎ (fault ≡ RailFault.NoReader)) }
 {
     let mut thread_handles = Vec::new(alloc);
@@ -208,9 +209,9 @@ fn one_thread_handle(
     ensures inbox_builder { IfOk result
         (λ _. view inbox_builder.new.pass ≡ taker (port + 1) (view inbox_builder.old.pass).ports []) }
     ensures inbox { OnOk result (inbox_builder.new.pass.table_id ≡ inbox_builder.old.pass.table_id) }
-    ensures thread_handle { IfOk result (λ r. r.0 ≡ thread_handle_at publisher.old.published.origin
+    ensures thread_handle { IfOk result (λ r. r.0 ≡ thread_handle_at publisher.old.published.instance
         inbox_builder.old.pass.table_id port) }
-    ensures reply_sender { IfOk result (λ r. r.1 ≡ reply_sender_at publisher.old.published.origin port) }
+    ensures reply_sender { IfOk result (λ r. r.1 ≡ reply_sender_at publisher.old.published.instance port) }
     ensures fault { IfErr result (λ fault. (fault ≡ RailFault.Memory) ⊎ (fault ≡ RailFault.NoReader)) }
 {
     let reader = one_reader(publisher)?;
@@ -246,8 +247,8 @@ fn thread_handle_of(
         (λ _. view inbox_builder.new.pass ≡ taker (port + 1) (view inbox_builder.old.pass).ports []) }
     ensures inbox { OnOk result (inbox_builder.new.pass.table_id ≡ inbox_builder.old.pass.table_id) }
     ensures thread_handle { IfOk result
-        (λ r. r.0 ≡ thread_handle_at published.now.origin inbox_builder.old.pass.table_id port) }
-    ensures reply_sender { IfOk result (λ r. r.1 ≡ reply_sender_at published.now.origin port) }
+        (λ r. r.0 ≡ thread_handle_at published.now.instance inbox_builder.old.pass.table_id port) }
+    ensures reply_sender { IfOk result (λ r. r.1 ≡ reply_sender_at published.now.instance port) }
 {
     let (seat, reply_sender) = one_seat(alloc, published, port)?;
     let call_sender = one_call_sender(published, inbox_builder)?;
@@ -269,10 +270,10 @@ fn one_call_sender(
         taker ((view inbox_builder.old.pass).made + 1) (view inbox_builder.old.pass).ports []) }
     ensures inbox { OnOk result (inbox_builder.new.pass.table_id ≡ inbox_builder.old.pass.table_id) }
     ensures call_sender { IfOk result (λ call_sender. call_sender ≡
-        call_sender_at published.now.origin inbox_builder.old.pass.table_id (view inbox_builder.old.pass).made) }
+        call_sender_at published.now.instance inbox_builder.old.pass.table_id (view inbox_builder.old.pass).made) }
 {
-    let slot = inbox_builder.caller()?;
-    Ok(CallSender::new(published, slot))
+    let inbox_sender = inbox_builder.caller()?;
+    Ok(CallSender::new(published, inbox_sender))
 }
 
 // The seat of a port, and its reply sender.
@@ -281,8 +282,8 @@ fn one_seat(
     published: &Published,
     port: usize,
 ) -> Result<(Seat, ReplySender), AllocError>
-    ensures seat { IfOk result (λ r. r.0 ≡ seat_at published.now.origin port) }
-    ensures reply_sender { IfOk result (λ r. r.1 ≡ reply_sender_at published.now.origin port) }
+    ensures seat { IfOk result (λ r. r.0 ≡ seat_at published.now.instance port) }
+    ensures reply_sender { IfOk result (λ r. r.1 ≡ reply_sender_at published.now.instance port) }
 {
     let calls = no_calls(alloc, CALLS)?;
     let (reply_sender, reply_receiver) = open_queue(alloc, REPLIES, published, port)?;
@@ -306,9 +307,9 @@ fn more_seats(
     count: usize,
 ) -> Result<Vec<Seat>, AllocError>
     requires few { first + count ≤ 64 }
-    requires reply_senders { reply_senders.old.items ≡ reply_senders_from published.now.origin 0 first }
-    ensures seats { IfOk result (λ seats. seats.items ≡ seats_from published.now.origin first count) }
-    ensures reply_senders { IfOk result (λ _. reply_senders.new.items ≡ reply_senders_from published.now.origin 0
+    requires reply_senders { reply_senders.old.items ≡ reply_senders_from published.now.instance 0 first }
+    ensures seats { IfOk result (λ seats. seats.items ≡ seats_from published.now.instance first count) }
+    ensures reply_senders { IfOk result (λ _. reply_senders.new.items ≡ reply_senders_from published.now.instance 0
         (first + count)) }
 {
     let mut seats = Vec::new(alloc);
@@ -354,6 +355,6 @@ fn one_inlet(inbox_builder: &mut InboxBuilder) -> Result<Inlet, AllocError>
     ensures inlet { IfOk result (λ inlet. inlet ≡ inlet_at inbox_builder.old.pass.table_id
         (view inbox_builder.old.pass).made) }
 {
-    let slot = inbox_builder.inlet()?;
-    Ok(Inlet::new(slot))
+    let inbox_sender = inbox_builder.inlet()?;
+    Ok(Inlet::new(inbox_sender))
 }

@@ -14,6 +14,6 @@ pub struct ThreadHandle {
     pub reader: Reader,
     pub seat: Seat,
     pub call_sender: CallSender,
-    pub ghost together: { seat.origin ≡ reader.seen.origin } by { Prim.hlevel (codes, coded_items, book_coded) },
-    pub ghost sends: { call_sender.origin ≡ reader.seen.origin } by { Prim.hlevel (codes, coded_items, book_coded) },
+    pub ghost together: { seat.instance ≡ reader.seen.instance } by { Prim.hlevel (codes, coded_items, book_coded) },
+    pub ghost sends: { call_sender.instance ≡ reader.seen.instance } by { Prim.hlevel (codes, coded_items, book_coded) },
 }

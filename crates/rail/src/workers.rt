@@ -99,7 +99,7 @@ impl<R: Wait + Drop> Worker<R> {
         requires first { (view inbox.pass).got ≡ [] }
         requires ports { (view inbox.pass).ports ≡ length reply_senders.items }
         requires going { publisher.goes ≡ true }
-        requires reply_senders { AreReplySenders publisher.published.origin 0 reply_senders.items }
+        requires reply_senders { AreReplySenders publisher.published.instance 0 reply_senders.items }
         requires lawful { IsLawful (server_after publisher.published) }
         requires open { AreOpenBelow (length reply_senders.items) (server_after publisher.published) }
         ensures { result ≡ record {
@@ -150,9 +150,9 @@ impl<R: Wait + Drop> Worker<R> {
     pub fn turn<L: Links>(&mut self, links: &mut L) -> Result<Turn, RailFault>
         ensures turn { IsTurn self.old self.new (L.state links.old) (L.state links.new) result }
         // It stays the worker of its server, and takes from one inbox.
-        ensures server { self.new.published.origin ≡ self.old.published.origin }
+        ensures server { self.new.published.instance ≡ self.old.published.instance }
         ensures inbox { self.new.inbox ≡ self.old.inbox }
-        // What was put is what the wires were given.
+        // What was put is what the links carried.
         ensures carried { HaveCarried (L.state links.old) (L.state links.new) }
         ensures fault { IfErr result (λ fault. (fault ≡ RailFault.Memory) ⊎ (fault ≡ RailFault.Closed)) }
         ensures closed { IsErrOf result RailFault.Closed ↔ (self.new.taken ≡ self.old.taken) }
@@ -167,9 +167,9 @@ impl<R: Wait + Drop> Worker<R> {
     pub fn turn_if_any<L: Links>(&mut self, links: &mut L) -> Result<Option<Turn>, RailFault>
         ensures turn { MayBeTurn self.old self.new (L.state links.old) (L.state links.new) result }
         // It stays the worker of its server, and takes from one inbox.
-        ensures server { self.new.published.origin ≡ self.old.published.origin }
+        ensures server { self.new.published.instance ≡ self.old.published.instance }
         ensures inbox { self.new.inbox ≡ self.old.inbox }
-        // What was put is what the wires were given.
+        // What was put is what the links carried.
         ensures carried { HaveCarried (L.state links.old) (L.state links.new) }
         ensures fault { IfErr result (λ fault. (fault ≡ RailFault.Memory) ⊎ (fault ≡ RailFault.Closed)) }
         ensures closed { IsErrOf result RailFault.Closed → self.new.taken ≡ self.old.taken }

@@ -5,7 +5,7 @@ use Rattle.std.proofs.Common.{append-nil, append_assoc, refl, ap, sym, subst, ar
 use Rattle.std.proofs.lemmas.List.Elements.{All-head, All-nil, All-push, All-tail, All-weaker}
 use Rattle.node.specs.Nodes.{NodeState, fresh}
 use Rattle.node.specs.Servers.{ServerState, opening}
-use Rattle.faces.specs.Histories.{Origin}
+use Rattle.faces.specs.Histories.{Instance}
 use Rattle.rail.specs.Workers.{WorkerState}
 use Rattle.seats.specs.SeatPools.{Pooling}
 use Rattle.seats.specs.declared.in_process_links.InProcessLinks.{InProcessLinks}
@@ -60,17 +60,17 @@ pub starts_more : {R : Type 0} (id count : ℕ) (servers more : List (Opened R))
     → more ≡ servers ++ server ∷ []
     → starts_of more ≡ openings (id + 1) count
 starts_more {R} id count servers more server node are is begins pushed =
-    let one : server.pooled.worker.published.origin.start ≡ opening id count =
+    let one : server.pooled.worker.published.instance.start ≡ opening id count =
     begins.start ∙ ap (λ (n : NodeState). n.server) is in
     ap starts_of pushed
     ∙ (starts_pushed servers server
-    ∙ (ap (λ ss. ss ++ server.pooled.worker.published.origin.start ∷ []) are
+    ∙ (ap (λ ss. ss ++ server.pooled.worker.published.instance.start ∷ []) are
     ∙ (ap (λ s. openings id count ++ s ∷ []) one ∙ sym (openings_next id count))))
   where
     starts_pushed : {R : Type 0} (xs : List (Opened R)) (x : Opened R)
-        → starts_of (xs ++ x ∷ []) ≡ starts_of xs ++ x.pooled.worker.published.origin.start ∷ []
+        → starts_of (xs ++ x ∷ []) ≡ starts_of xs ++ x.pooled.worker.published.instance.start ∷ []
     starts_pushed [] x = refl
-    starts_pushed (y ∷ ys) x = ap (λ zs. y.pooled.worker.published.origin.start ∷ zs) (starts_pushed ys x)
+    starts_pushed (y ∷ ys) x = ap (λ zs. y.pooled.worker.published.instance.start ∷ zs) (starts_pushed ys x)
 
     openings_next : (n count : ℕ) → openings (n + 1) count ≡ openings n count ++ opening n count ∷ []
     openings_next n count = let more : n + 1 ≡ suc n = omega arith in ap (λ k. openings k count) more
@@ -94,7 +94,7 @@ AreFrom k (n ∷ ns) = (n ≡ k) × AreFrom (suc k) ns
 
 -- the servers of these workers
 abbrev pub worker_ids : {R : Type 0} → List (Opened R) → List ℕ
-worker_ids servers = map (λ server. server.pooled.worker.published.origin.start.id) servers
+worker_ids servers = map (λ server. server.pooled.worker.published.instance.start.id) servers
 
 from_pushed : (k : ℕ) (ns : List ℕ) (n : ℕ) → AreFrom k ns → n ≡ k + length ns → AreFrom k (ns ++ n ∷ [])
 from_pushed k [] n are is = (omega (arith, is), tt)
@@ -117,7 +117,7 @@ ids_of_openings (suc n) count =
 ids_of_starts : {R : Type 0} (servers : List (Opened R))
     → map (λ (s : ServerState). s.id) (starts_of servers) ≡ worker_ids servers
 ids_of_starts [] = refl
-ids_of_starts (s ∷ ss) = ap (λ ns. s.pooled.worker.published.origin.start.id ∷ ns) (ids_of_starts ss)
+ids_of_starts (s ∷ ss) = ap (λ ns. s.pooled.worker.published.instance.start.id ∷ ns) (ids_of_starts ss)
 
 -- the workers of a whole chain are those of servers 0, 1 and so on
 chain_from : {R : Type 0} (n : ℕ) (servers : List (Opened R)) → starts_of servers ≡ openings n n
@@ -140,7 +140,7 @@ pub worker_here : {R : Type 0} (k place : ℕ) (left rest : List (Opened R)) (se
     → AreFrom k (worker_ids left)
     → left ≡ server ∷ rest
     → place ≡ k
-    → server.pooled.worker.published.origin.start.id ≡ place
+    → server.pooled.worker.published.instance.start.id ≡ place
 worker_here k place left rest server are next at =
     (subst (λ xs. AreFrom k (worker_ids xs)) next are).0 ∙ sym at
 
@@ -194,10 +194,10 @@ seated_from k [] [] are from own = tt
 seated_from k [] (x ∷ xs) are from own = absurd (cc (are))
 seated_from k (s ∷ ss) [] are from own = absurd are
 seated_from k (s ∷ ss) (x ∷ xs) are from own = (
-  All-weaker (λ (p : Pooling). p.seen.origin ≡ s.pooled.worker.published.origin)
-      (λ (p : Pooling). p.seen.origin.start.id ≡ k)
-      (λ p same. ap (λ (o : Origin). o.start.id) same ∙ from.0) x.pools.items
-      (subst (All (λ (p : Pooling). p.seen.origin ≡ s.pooled.worker.published.origin)) (sym are.0.pools)
+  All-weaker (λ (p : Pooling). p.seen.instance ≡ s.pooled.worker.published.instance)
+      (λ (p : Pooling). p.seen.instance.start.id ≡ k)
+      (λ p same. ap (λ (o : Instance). o.start.id) same ∙ from.0) x.pools.items
+      (subst (All (λ (p : Pooling). p.seen.instance ≡ s.pooled.worker.published.instance)) (sym are.0.pools)
       (All-head HasOwnPools (core_of s) (cores_of ss) own)),
   seated_from (suc k) ss xs are.1 from.1 (All-tail HasOwnPools (core_of s) (cores_of ss) own),
 )
@@ -211,7 +211,7 @@ pub seated : {R : Type 0} (n : ℕ) (first servers : List (Opened R)) (all_serve
     → AreSeatedFrom 0 all_server_parts
 seated n first servers all_server_parts begun own same are =
     seated_from 0 servers all_server_parts are
-    (chain_from n servers (ap (λ cs. map (λ (c : Core). c.worker.published.origin.start) cs) same ∙ begun))
+    (chain_from n servers (ap (λ cs. map (λ (c : Core). c.worker.published.instance.start) cs) same ∙ begun))
     (subst (All HasOwnPools) (sym same) own)
 
 -- what was made of those that were taken, in order, and what will be made of those that are left: one more was taken

@@ -89,7 +89,7 @@ cores_of servers = map (λ server. core_of server) servers
 
 -- how the server of each worker began
 abbrev pub starts_of : {R : Type 0} → List (Opened R) → List ServerState
-starts_of servers = map (λ core. core.worker.published.origin.start) (cores_of servers)
+starts_of servers = map (λ core. core.worker.published.instance.start) (cores_of servers)
 
 -- servers 0, 1 and so on, this many, of a chain of `count`, before any input
 abbrev pub openings : ℕ → ℕ → List ServerState
@@ -98,7 +98,7 @@ openings (suc n) count = openings n count ++ opening n count ∷ []
 
 -- the seats of each thread are all of the worker's server
 abbrev pub HasOwnPools : Core → Type 0
-HasOwnPools core = AreAllAt core.worker.published.origin core.pools
+HasOwnPools core = AreAllAt core.worker.published.instance core.pools
 
 -- Server `id` took an inlet of each other server, the last one that was left, and none of its own. A server of which
 -- none was taken has none left.
@@ -147,7 +147,7 @@ ArePartsOf (server ∷ servers) (parts ∷ all_server_parts) = IsPartsOf server 
 abbrev pub AreSeatedFrom : ℕ → List ServerParts → Type 0
 AreSeatedFrom k [] = Unit {0}
 AreSeatedFrom k (parts ∷ all_server_parts) =
-    All (λ pool. pool.seen.origin.start.id ≡ k) parts.pools.items × AreSeatedFrom (suc k) all_server_parts
+    All (λ pool. pool.seen.instance.start.id ≡ k) parts.pools.items × AreSeatedFrom (suc k) all_server_parts
 
 -- what the program's own threads see of each server
 abbrev pub controls_of : List ServerParts → List ServerControl

@@ -28,7 +28,7 @@ impl Model for Ended {
 impl Ended {
     /// The note of server `id`, whose worker this is and has stopped.
     pub(crate) fn of<R: Wait + Drop>(id: u8, _worker: &Worker<R>) -> Ended
-        requires server { _worker.now.published.origin.start.id ≡ id }
+        requires server { _worker.now.published.instance.start.id ≡ id }
         requires stopped { _worker.now.goes ≡ false }
         ensures { result ≡ id }
     {

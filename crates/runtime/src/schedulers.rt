@@ -148,7 +148,7 @@ impl<R: Wait + Drop> Scheduler<R> {
         ending: Ending,
         gauge: Gauge,
     ) -> Result<(), AllocError>
-        requires worker { worker.published.origin.start.id ≡ id }
+        requires worker { worker.published.instance.start.id ≡ id }
         requires links { links.id ≡ id }
         ensures { OnOk result (ids self.new ≡ ids self.old ++ id ∷ []) }
     {

@@ -226,7 +226,7 @@ fn add_linked<R: Wait + Drop>(
     server: Opened<R>,
     links: Option<InProcessLinks<R>>,
 ) -> Result<ServerParts, ClusterFault>
-    requires worker { server.pooled.worker.published.origin.start.id ≡ place }
+    requires worker { server.pooled.worker.published.instance.start.id ≡ place }
     requires links { IfSome links (λ links. links.id ≡ place) }
     ensures links { OnOk result (IsSome links) }
     ensures scheduler { OnOk result (ids scheduler.new ≡ ids scheduler.old ++ place ∷ []) }
@@ -249,7 +249,7 @@ fn add_server<R: Wait + Drop>(
     server: Opened<R>,
     links: InProcessLinks<R>,
 ) -> Result<ServerParts, ClusterFault>
-    requires worker { server.pooled.worker.published.origin.start.id ≡ place }
+    requires worker { server.pooled.worker.published.instance.start.id ≡ place }
     requires links { links.id ≡ place }
     ensures scheduler { OnOk result (ids scheduler.new ≡ ids scheduler.old ++ place ∷ []) }
     ensures parts { IfOk result (λ parts. IsPartsOf server parts) }
@@ -294,7 +294,7 @@ fn add_worker<R: Wait + Drop>(
     links: InProcessLinks<R>,
     gauge: Gauge,
 ) -> Result<Ending, ClusterFault>
-    requires worker { worker.published.origin.start.id ≡ place }
+    requires worker { worker.published.instance.start.id ≡ place }
     requires links { links.id ≡ place }
     ensures { OnOk result (ids scheduler.new ≡ ids scheduler.old ++ place ∷ []) }
 {

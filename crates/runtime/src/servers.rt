@@ -114,9 +114,9 @@ impl<R: Wait + Clock + Eprint + Copy + Drop + Send + 'static> Running<R> {
     where
         R: Threads + Net<Listener = TcpListener, Stream = TcpStream> + Sync,
         ensures server { IfOk result
-            (λ running. running.worker.published.origin.start.id ≡ settings.now.numbers.id) }
+            (λ running. running.worker.published.instance.start.id ≡ settings.now.numbers.id) }
         ensures pools { IfOk result
-            (λ running. AreAllAt running.worker.published.origin running.serving.pools.items) }
+            (λ running. AreAllAt running.worker.published.instance running.serving.pools.items) }
         ensures lease { IfOk result (λ running. running.serving.output_permit ≡ is_timed settings.now.term) }
     {
         let Ports { clients, peers } = Ports::open(&rt, settings)?;

@@ -12,7 +12,7 @@ pub(crate) struct WorkerWithLinks<R: Wait + Drop> {
     id: u8,
     worker: Worker<R>,
     links: InProcessLinks<R>,
-    ghost own: { worker.published.origin.start.id ≡ id },
+    ghost own: { worker.published.instance.start.id ≡ id },
     ghost sender: { links.id ≡ id },
 }
 
@@ -39,7 +39,7 @@ impl<R: Wait + Drop> WorkerWithLinks<R> {
 
     /// The worker of server `id`, and that server's links.
     pub(crate) fn new(id: u8, worker: Worker<R>, links: InProcessLinks<R>) -> WorkerWithLinks<R>
-        requires worker { worker.published.origin.start.id ≡ id }
+        requires worker { worker.published.instance.start.id ≡ id }
         requires links { links.id ≡ id }
     {
         WorkerWithLinks { id, worker, links }

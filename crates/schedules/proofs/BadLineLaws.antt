@@ -8,13 +8,13 @@ use Rattle.std.proofs.lemmas.Option.{same_Some}
 use Rattle.std.proofs.lemmas.List.Elements.{filter-append}
 use Rattle.world.specs.declared.events.Event.{Event}
 use Rattle.schedules.specs.declared.event_lines.EventLine.{EventLine}
-use Rattle.schedules.specs.Cuts.{is_passed_over, lines, counted_from}
+use Rattle.schedules.specs.Splits.{is_passed_over, lines, counted_from}
 use Rattle.schedules.specs.HeadLines.{servers_line, homes_line}
 use Rattle.schedules.specs.EventLines.{event_line, events_in, events_line}
 use Rattle.schedules.specs.Schedules.{ScheduleShown, ◌>>=◌, first_says, events_of, schedule_of_lines, schedule_of}
 use Rattle.schedules.specs.SpelledSchedules.{counted_lines, AreLines, IsServersLine, IsHomesLine, AreEventLines}
 use Rattle.schedules.specs.SpelledSchedules.{AreAsStated, IsFirstBad}
-use Rattle.schedules.proofs.CutLaws.{lines_spelled}
+use Rattle.schedules.proofs.SplitLaws.{lines_spelled}
 use Rattle.schedules.proofs.EventLineLaws.{event_read, event_spelled}
 use Rattle.schedules.proofs.HeadLineLaws.{servers_read, servers_spelled, homes_read, homes_spelled}
 use Rattle.schedules.proofs.ScheduleLaws.{wide}

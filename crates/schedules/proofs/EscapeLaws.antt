@@ -8,7 +8,7 @@ use Rattle.std.specs.List.{list_all}
 use Rattle.std.proofs.lemmas.Bool.{cases_lt, cases_Bool, and_parts, leb-true, ltb-true, eqb-true, le-leb, lt-leb}
 use Rattle.std.proofs.lemmas.Bool.{lt-ltb, le-ltb, ne_eqb}
 use Rattle.std.proofs.lemmas.Option.{same_Some}
-use Rattle.schedules.specs.Cuts.{lf, cr}
+use Rattle.schedules.specs.Splits.{lf, cr}
 use Rattle.schedules.specs.Escapes.{backslash, is_printable, escape, hexadecimal, hex_digit, hex_byte, escaped_byte}
 use Rattle.schedules.specs.Escapes.{front_byte, unescape_upto, unescape, one_byte, SpellsByte, SpellsBytes}
 

@@ -10,7 +10,7 @@ use Rattle.world.specs.declared.events.Event.{Event}
 use Rattle.world.specs.declared.events.Event.TheVariants.{Piece, Begin, Work, Deliver, Fail, Tell, Hand}
 use Rattle.schedules.specs.declared.event_lines.EventLine.{EventLine}
 use Rattle.schedules.specs.declared.event_lines.EventLine.TheVariants.{One, Settle}
-use Rattle.schedules.specs.Cuts.{space, cut}
+use Rattle.schedules.specs.Splits.{space, split_once}
 use Rattle.schedules.specs.Numbers.{number_in}
 use Rattle.schedules.specs.Escapes.{one_byte, SpellsByte, SpellsBytes}
 use Rattle.schedules.specs.EventLines.{connection_number, server_number, text_of, piece_line, fill_fields, fill_line}
@@ -18,7 +18,7 @@ use Rattle.schedules.specs.EventLines.{two_servers, call_line, word_line, event_
 use Rattle.schedules.specs.SpelledSchedules.{IsPieceLine, IsFillLine, IsCallLine, IsPairLine, IsLineOf, IsEventLine}
 use Rattle.schedules.proofs.EscapeLaws.{spelled_bytes_read, read_bytes_spelled, one_byte_read, one_byte_spelled}
 use Rattle.schedules.proofs.NumberLaws.{number_read, number_spelled, no_space_in_number}
-use Rattle.schedules.proofs.CutLaws.{cut_read, cut_spelled}
+use Rattle.schedules.proofs.SplitLaws.{split_read, split_spelled}
 
 -- what was handed on, and what came of it
 pub then_parts : {A B : Type 0} (f : A → Option B) (o : Option A) (y : B)
@@ -68,8 +68,9 @@ server_spelled : (field : List ℕ) (i : ℕ) → server_number field ≡ Some i
 server_spelled field i h = let is = number_spelled 0 100 field i (lit≤ tt) h in (is.1, is.2)
 
 -- a number and what stands after its space
-number_cut : (n : ℕ) (rest : List ℕ) → n < 2 ^ 64 → cut space (decimal n ++ space ∷ rest) ≡ Some (decimal n, rest)
-number_cut n rest small = cut_read space (decimal n) rest refl (no_space_in_number n small)
+number_split : (n : ℕ) (rest : List ℕ) → n < 2 ^ 64
+    → split_once space (decimal n ++ space ∷ rest) ≡ Some (decimal n, rest)
+number_split n rest small = split_read space (decimal n) rest refl (no_space_in_number n small)
 
 below_1000 : (n : ℕ) → n < 1000 → n < 2 ^ 64
 below_1000 n low = let wide : 1000 ≤ 2 ^ 64 = lit≤ tt in omega arith
@@ -85,15 +86,15 @@ text_spelled (b ∷ bs) bytes h = (omega arith, read_bytes_spelled bytes (b ∷ 
 
 piece_read : (c : ℕ) (bytes line : List ℕ) → IsPieceLine c bytes line → event_line line ≡ Some (One (Piece c bytes))
 piece_read c bytes line h =
-    let split = number_cut c h.text (below_1000 c h.number) in
+    let split = number_split c h.text (below_1000 c h.number) in
     rw (h.line_is, split, connection_read c h.number, text_read bytes h.text h.some h.text_is) refl
 
 fill_read : (c : ℕ) (bytes line : List ℕ) → IsFillLine c bytes line → event_line line ≡ Some (One (Piece c bytes))
 fill_read c bytes line h =
     let few : h.copies < 2000001 = let a = h.few in omega arith in
     let wide : 2000001 ≤ 2 ^ 64 = lit≤ tt in
-    let first = number_cut c (decimal h.copies ++ space ∷ h.text) (below_1000 c h.number) in
-    let second = number_cut h.copies h.text (omega arith) in
+    let first = number_split c (decimal h.copies ++ space ∷ h.text) (below_1000 c h.number) in
+    let second = number_split h.copies h.text (omega arith) in
     rw (
       h.line_is,
       h.bytes_are,
@@ -113,9 +114,9 @@ line_read (Work c) line h = rw (h.1, connection_read c h.0) refl
 line_read (Hand c) line h = rw (h.1, connection_read c h.0) refl
 line_read (Fail i) line h = rw (h.1, server_read i h.0) refl
 line_read (Deliver i j) line h =
-    rw (h.2, number_cut i (decimal j) (below_1000 i (omega (arith, h.0))), server_read i h.0, server_read j h.1) refl
+    rw (h.2, number_split i (decimal j) (below_1000 i (omega (arith, h.0))), server_read i h.0, server_read j h.1) refl
 line_read (Tell i j) line h =
-    rw (h.2, number_cut i (decimal j) (below_1000 i (omega (arith, h.0))), server_read i h.0, server_read j h.1) refl
+    rw (h.2, number_split i (decimal j) (below_1000 i (omega (arith, h.0))), server_read i h.0, server_read j h.1) refl
 
 -- a line is read as what it says
 pub event_read : (said : EventLine) (line : List ℕ) → IsEventLine said line → event_line line ≡ Some said
@@ -127,13 +128,13 @@ piece_spelled : (rest line : List ℕ) (event : Event)
     → piece_line rest ≡ Some event
     → IsLineOf event line
 piece_spelled rest line event is h =
-    let c = then_parts _ (cut space rest) event h in
+    let c = then_parts _ (split_once space rest) event h in
     let n = then_parts _ (connection_number c.0.0) event c.2 in
     let t = then_parts _ (text_of c.0.1) event n.2 in
     let (low, field) = connection_spelled c.0.0 n.0 n.1 in
     let (some, spells) = text_spelled c.0.1 t.0 t.1 in
     let behind : rest ≡ decimal n.0 ++ space ∷ c.0.1 =
-    parts_are rest c.0.0 c.0.1 (decimal n.0) c.0.1 (cut_spelled space rest c.0.0 c.0.1 c.1) field refl in
+    parts_are rest c.0.0 c.0.1 (decimal n.0) c.0.1 (split_spelled space rest c.0.0 c.0.1 c.1) field refl in
     subst (λ e. IsLineOf e line) (same_Some (Piece n.0 t.0) event t.2)
     (inl (record {
       text = c.0.1;
@@ -149,8 +150,8 @@ fill_fields_spelled : (rest : List ℕ) (c n b : ℕ)
     → line ≡ codes "fill" ++ space ∷ rest
     → IsFillLine c (replicate n b) line
 fill_fields_spelled rest c n b h line is =
-    let first = then_parts _ (cut space rest) (c, n, b) h in
-    let second = then_parts _ (cut space first.0.1) (c, n, b) first.2 in
+    let first = then_parts _ (split_once space rest) (c, n, b) h in
+    let second = then_parts _ (split_once space first.0.1) (c, n, b) first.2 in
     let number = then_parts _ (connection_number first.0.0) (c, n, b) second.2 in
     let copies = then_parts _ (number_in 1 2000001 second.0.0) (c, n, b) number.2 in
     let byte = then_parts _ (one_byte second.0.1) (c, n, b) copies.2 in
@@ -162,10 +163,10 @@ fill_fields_spelled rest c n b h line is =
     let (some, few, amount) = number_spelled 1 2000001 second.0.0 copies.0 (lit≤ tt) copies.1 in
     let later : first.0.1 ≡ decimal n ++ space ∷ second.0.1 =
     parts_are first.0.1 second.0.0 second.0.1 (decimal n) second.0.1
-    (cut_spelled space first.0.1 second.0.0 second.0.1 second.1) (amount ∙ ap decimal n_is) refl in
+    (split_spelled space first.0.1 second.0.0 second.0.1 second.1) (amount ∙ ap decimal n_is) refl in
     let behind : rest ≡ decimal c ++ space ∷ (decimal n ++ space ∷ second.0.1) =
     parts_are rest first.0.0 first.0.1 (decimal c) (decimal n ++ space ∷ second.0.1)
-    (cut_spelled space rest first.0.0 first.0.1 first.1) (field ∙ ap decimal c_is) later in
+    (split_spelled space rest first.0.0 first.0.1 first.1) (field ∙ ap decimal c_is) later in
     record {
       copies = n;
       byte = b;
@@ -192,7 +193,7 @@ pair_spelled : (word rest line : List ℕ) (i j : ℕ)
     → two_servers rest ≡ Some (i, j)
     → IsPairLine word i j line
 pair_spelled word rest line i j is h =
-    let c = then_parts _ (cut space rest) (i, j) h in
+    let c = then_parts _ (split_once space rest) (i, j) h in
     let first = then_parts _ (server_number c.0.0) (i, j) c.2 in
     let second = then_parts _ (server_number c.0.1) (i, j) first.2 in
     let same = same_Some {A = ℕ × ℕ} (first.0, second.0) (i, j) second.2 in
@@ -201,7 +202,7 @@ pair_spelled word rest line i j is h =
     let (low, field) = server_spelled c.0.0 first.0 first.1 in
     let (under, other) = server_spelled c.0.1 second.0 second.1 in
     let behind : rest ≡ decimal i ++ space ∷ decimal j =
-    parts_are rest c.0.0 c.0.1 (decimal i) (decimal j) (cut_spelled space rest c.0.0 c.0.1 c.1)
+    parts_are rest c.0.0 c.0.1 (decimal i) (decimal j) (split_spelled space rest c.0.0 c.0.1 c.1)
     (field ∙ ap decimal i_is) (other ∙ ap decimal j_is) in
     (subst (λ m. m < 100) i_is low, subst (λ m. m < 100) j_is under, is ∙ ap (λ r. word ++ space ∷ r) behind)
 
@@ -295,8 +296,8 @@ one_spelled word rest line said is h =
 -- what a line is read as it says
 pub event_spelled : (line : List ℕ) (said : EventLine) → event_line line ≡ Some said → IsEventLine said line
 event_spelled line said h =
-    let c = then_parts _ (cut space line) said h in
-    let is : line ≡ c.0.0 ++ space ∷ c.0.1 = cut_spelled space line c.0.0 c.0.1 c.1 in
+    let c = then_parts _ (split_once space line) said h in
+    let is : line ≡ c.0.0 ++ space ∷ c.0.1 = split_spelled space line c.0.0 c.0.1 c.1 in
     elim (by_word c.0.0 (codes "settle") (option_map Settle (number_in 1 501 c.0.1))
     (option_map One (word_line c.0.0 c.0.1)) said c.2) [
       | inl (same, e) ↦ settle_spelled c.0.1 line said (named line c.0.0 c.0.1 (codes "settle") is same) e

@@ -4,10 +4,10 @@ use Rattle.std.proofs.Common.{arith, append-nil, length-append}
 use Rattle.std.specs.Prelude.{Result, Ok, Err, not}
 use Rattle.std.proofs.lemmas.Bool.{cases_lt}
 use Rattle.std.proofs.lemmas.List.Elements.{filter-append}
-use Rattle.schedules.specs.Cuts.{is_passed_over, lines}
+use Rattle.schedules.specs.Splits.{is_passed_over, lines}
 use Rattle.schedules.specs.Schedules.{ScheduleShown, schedule_of}
 use Rattle.schedules.specs.SpelledSchedules.{counted_lines, SpellsSchedule, AreAsStated, IsBadNext, IsFirstBad}
-use Rattle.schedules.proofs.CutLaws.{lines_read}
+use Rattle.schedules.proofs.SplitLaws.{lines_read}
 use Rattle.schedules.proofs.ScheduleLaws.{read_spelled, spelled_read}
 use Rattle.schedules.proofs.StatedLines.{IsFirstOf, same_Err, regrouped, front_as_stated}
 use Rattle.schedules.proofs.BadLineLaws.{bad_servers, named_first}

@@ -12,12 +12,12 @@ use Rattle.std.proofs.lemmas.Slice.Eq.{bytes_eq-Decides}
 use Rattle.std.proofs.lemmas.Str.Parse.{digit_from_value}
 use Rattle.proto.specs.Grammar.{is_field}
 use Rattle.proto.proofs.GrammarFields.{fields_of_joined, joined_fields, some_field}
-use Rattle.schedules.specs.Cuts.{space, lf, cut, fields_of}
+use Rattle.schedules.specs.Splits.{space, lf, split_once, fields_of}
 use Rattle.schedules.specs.Numbers.{number_in}
 use Rattle.schedules.specs.HeadLines.{servers_line, homes_line, numbers_below}
 use Rattle.schedules.specs.SpelledSchedules.{words, IsServersLine, IsHomesLine}
 use Rattle.schedules.proofs.NumberLaws.{number_read, number_spelled}
-use Rattle.schedules.proofs.CutLaws.{cut_spelled}
+use Rattle.schedules.proofs.SplitLaws.{split_spelled}
 use Rattle.schedules.proofs.EventLineLaws.{then_parts, by_word, parts_are}
 
 -- `servers N` is read as its number
@@ -27,14 +27,14 @@ servers_read count line h = rw (h.2, number_read 1 17 count (lit≤ tt) h.0 (ome
 -- what is read as a number of servers is a line `servers N`
 pub servers_spelled : (line : List ℕ) (count : ℕ) → servers_line line ≡ Some count → IsServersLine count line
 servers_spelled line count h =
-    let c = then_parts _ (cut space line) count h in
+    let c = then_parts _ (split_once space line) count h in
     elim (by_word c.0.0 (codes "servers") (number_in 1 17 c.0.1) None count c.2) [
       | inl (same, e) ↦
           let (some, few, field) = number_spelled 1 17 c.0.1 count (lit≤ tt) e in (
             some,
             omega arith,
             parts_are line c.0.0 c.0.1 (codes "servers") (decimal count)
-                (cut_spelled space line c.0.0 c.0.1 c.1) same field,
+                (split_spelled space line c.0.0 c.0.1 c.1) same field,
           )
       | inr e ↦ cc
     ]
@@ -124,9 +124,9 @@ pub homes_spelled : (count : ℕ) (line homes : List ℕ)
     → homes_line count line ≡ Some homes
     → IsHomesLine count homes line
 homes_spelled count line homes fits h =
-    let c = then_parts _ (cut space line) homes h in
+    let c = then_parts _ (split_once space line) homes h in
     by_tests c.0.0 c.0.1 (bytes_eq c.0.0 (codes "homes")) (nat_le (length (fields_of c.0.1)) 64) refl refl
-    (cut_spelled space line c.0.0 c.0.1 c.1) c.2
+    (split_spelled space line c.0.0 c.0.1 c.1) c.2
   where
     by_tests : (word rest : List ℕ) (named few : Bool)
         → bytes_eq word (codes "homes") ≡ named

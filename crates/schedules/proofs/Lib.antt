@@ -1,9 +1,9 @@
-pub mod Ordinals
+pub mod SplitPlaces
 pub mod Texts
 pub mod HeadLaws
 pub mod EscapeLaws
 pub mod NumberLaws
-pub mod CutLaws
+pub mod SplitLaws
 pub mod EventLineLaws
 pub mod HeadLineLaws
 pub mod ScheduleLaws

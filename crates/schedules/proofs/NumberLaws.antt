@@ -13,7 +13,7 @@ use Rattle.std.proofs.lemmas.Option.{cond_some}
 use Rattle.std.proofs.lemmas.Str.Parse.{tells_digits, numerals_by_value, digit_from_value}
 use Rattle.std.proofs.lemmas.Str.{digit_value_digit}
 use Rattle.table.specs.Numbers.{number_of}
-use Rattle.schedules.specs.Cuts.{space}
+use Rattle.schedules.specs.Splits.{space}
 use Rattle.schedules.specs.Numbers.{has_leading_zero, number_in}
 
 -- digits, told by a test or one by one

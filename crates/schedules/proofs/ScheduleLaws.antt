@@ -7,12 +7,12 @@ use Rattle.std.specs.Result.{result_unwrap_or}
 use Rattle.std.proofs.lemmas.Option.{same_Some}
 use Rattle.world.specs.declared.events.Event.{Event}
 use Rattle.schedules.specs.declared.event_lines.EventLine.{EventLine}
-use Rattle.schedules.specs.Cuts.{is_passed_over, lines, counted_from}
+use Rattle.schedules.specs.Splits.{is_passed_over, lines, counted_from}
 use Rattle.schedules.specs.HeadLines.{servers_line, homes_line}
 use Rattle.schedules.specs.EventLines.{event_line, events_in, events_line}
 use Rattle.schedules.specs.Schedules.{ScheduleShown, ◌>>=◌, events_of, schedule_of_lines, schedule_of}
 use Rattle.schedules.specs.SpelledSchedules.{counted_lines, IsEventLine, AreEventLines, SpellsSchedule}
-use Rattle.schedules.proofs.CutLaws.{lines_read, lines_spelled}
+use Rattle.schedules.proofs.SplitLaws.{lines_read, lines_spelled}
 use Rattle.schedules.proofs.EventLineLaws.{event_read, event_spelled}
 use Rattle.schedules.proofs.HeadLineLaws.{servers_read, servers_spelled, homes_read, homes_spelled}
 
@@ -63,8 +63,8 @@ wide count few = let enough : 16 ≤ 2 ^ 64 = lit≤ tt in omega arith
 -- what spells a schedule is read as it
 pub spelled_read : (text : List ℕ) (s : ScheduleShown) → SpellsSchedule text s → schedule_of text ≡ Ok s
 spelled_read text s h =
-    let cut : lines text ≡ h.all = lines_read h.all text h.lines in
-    rw cut (by_lines (length h.all + 1) (counted_from 1 h.all) (numbered_lines 1 h.all ∙ h.counted))
+    let same : lines text ≡ h.all = lines_read h.all text h.lines in
+    rw same (by_lines (length h.all + 1) (counted_from 1 h.all) (numbered_lines 1 h.all ∙ h.counted))
   where
     by_lines : (end : ℕ) (ls : List (ℕ × List ℕ))
         → map text_of_line ls ≡ h.first ∷ h.second ∷ h.further

@@ -9,11 +9,11 @@ use Rattle.std.proofs.lemmas.Bool.{cases_lt, cases_Bool, and_parts, and_from, ne
 use Rattle.std.proofs.lemmas.List.Folds.{list_all-append}
 use Rattle.std.proofs.lemmas.Option.{same_Some}
 use Rattle.proto.specs.Grammar.{has_no_lf}
-use Rattle.schedules.specs.Cuts.{lf, cr, lines, parts}
+use Rattle.schedules.specs.Splits.{lf, cr, lines, parts}
 use Rattle.schedules.specs.Escapes.{backslash, is_printable, escape, unescape}
 use Rattle.schedules.specs.Printing.{part_line, sent_text}
 use Rattle.schedules.specs.SpelledSchedules.{AreLines}
-use Rattle.schedules.proofs.CutLaws.{lines_read}
+use Rattle.schedules.proofs.SplitLaws.{lines_read}
 use Rattle.schedules.proofs.EscapeLaws.{escaped_spells, spelled_bytes_read}
 
 -- a digit is no LF

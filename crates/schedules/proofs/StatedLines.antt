@@ -6,7 +6,7 @@ use Rattle.std.specs.Result.{result_err}
 use Rattle.std.proofs.lemmas.Option.{same_Some}
 use Rattle.std.proofs.lemmas.List.Elements.{filter-append}
 use Rattle.schedules.specs.declared.event_lines.EventLine.{EventLine}
-use Rattle.schedules.specs.Cuts.{is_passed_over}
+use Rattle.schedules.specs.Splits.{is_passed_over}
 use Rattle.schedules.specs.SpelledSchedules.{counted_lines, IsEventLine, AreEventLines, AreAsStated, IsBadNext}
 
 -- Line n of these is the first that is not as stated.

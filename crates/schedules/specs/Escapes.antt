@@ -3,7 +3,7 @@ use Rattle.std.specs.Prelude.{◌≡◌, ◌<◌, ◌⊎◌, ℕ, zero, suc, ◌
 use Rattle.std.specs.Prelude.{◌∷◌, ◌++◌, length, Option, None, Some, if◌then◌else◌, codes}
 use Rattle.std.specs.Char.{digit_char}
 use Rattle.proto.specs.Requests.{◌>>=◌}
-use Rattle.schedules.specs.Cuts.{lf, cr}
+use Rattle.schedules.specs.Splits.{lf, cr}
 
 -- the byte in front of an escape's letter
 abbrev pub backslash : ℕ

@@ -6,7 +6,7 @@ use Rattle.world.specs.declared.events.Event.TheVariants.{Piece, Begin, Work, De
 use Rattle.schedules.specs.declared.event_lines.EventLine.{EventLine}
 use Rattle.schedules.specs.declared.event_lines.EventLine.TheVariants.{One, Settle}
 use Rattle.proto.specs.Requests.{◌>>=◌}
-use Rattle.schedules.specs.Cuts.{space, cut}
+use Rattle.schedules.specs.Splits.{space, split_once}
 use Rattle.schedules.specs.Numbers.{number_in}
 use Rattle.schedules.specs.Escapes.{unescape, one_byte}
 use Rattle.schedules.specs.Settling.{settled}
@@ -27,7 +27,7 @@ text_of (b ∷ bs) = unescape (b ∷ bs)
 -- `C TEXT` after `piece`: the bytes of TEXT
 abbrev pub piece_line : List ℕ → Option Event
 piece_line rest = do
-  (number, text) ← cut space rest
+  (number, text) ← split_once space rest
   number ← connection_number number
   bytes ← text_of text
   Some (Piece number bytes)
@@ -35,8 +35,8 @@ piece_line rest = do
 -- `C N TEXT` after `fill`: the connection, N from 1 to 2000000, and the one byte of TEXT
 abbrev pub fill_fields : List ℕ → Option (ℕ × ℕ × ℕ)
 fill_fields rest = do
-  (number, later) ← cut space rest
-  (count, text) ← cut space later
+  (number, later) ← split_once space rest
+  (count, text) ← split_once space later
   number ← connection_number number
   count ← number_in 1 2000001 count
   byte ← one_byte text
@@ -51,7 +51,7 @@ fill_line rest = do
 -- `I J`: two servers
 abbrev pub two_servers : List ℕ → Option (ℕ × ℕ)
 two_servers rest = do
-  (first, second) ← cut space rest
+  (first, second) ← split_once space rest
   i ← server_number first
   j ← server_number second
   Some (i, j)
@@ -78,7 +78,7 @@ word_line word rest =
 -- what a line spells: a word, a space, and what follows it; the `K` of `settle` is from 1 to 500
 abbrev pub event_line : List ℕ → Option EventLine
 event_line line = do
-  (word, rest) ← cut space line
+  (word, rest) ← split_once space line
   if bytes_eq word (codes "settle") then option_map Settle (number_in 1 501 rest) else option_map One
       (word_line word rest)
 

@@ -1,4 +1,4 @@
-pub mod Cuts
+pub mod Splits
 pub mod Numbers
 pub mod Escapes
 pub mod HeadLines

@@ -2,7 +2,7 @@
 use Rattle.std.specs.Prelude.{ℕ, ◌+◌, Bool, List, [], ◌∷◌, ◌++◌, length, is_some, count_by, flat_map, decimal}
 use Rattle.std.specs.Prelude.{if◌then◌else◌, codes}
 use Rattle.world.specs.declared.transcripts.CallTranscript.{CallTranscript}
-use Rattle.schedules.specs.Cuts.{lf, parts}
+use Rattle.schedules.specs.Splits.{lf, parts}
 use Rattle.schedules.specs.Escapes.{escape}
 use Rattle.world.specs.Transcripts.{ConnectionShown, TranscriptShown}
 
@@ -25,7 +25,7 @@ connection_line number k =
 abbrev pub part_line : List ℕ → List ℕ
 part_line part = codes "| " ++ flat_map escape part ++ lf ∷ []
 
--- what was sent, cut after each LF, a line for each part
+-- what was sent, split after each LF, a line for each part
 abbrev pub sent_text : List ℕ → List ℕ
 sent_text sent = flat_map part_line (parts sent)
 

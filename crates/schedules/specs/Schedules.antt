@@ -3,7 +3,7 @@ use Rattle.std.specs.Prelude.{◌≡◌, ℕ, ◌+◌, List, [], ◌∷◌, ◌+
 use Rattle.world.specs.declared.events.Event.{Event}
 use Rattle.schedules.specs.declared.schedules.ScheduleFault.{ScheduleFault}
 use Rattle.schedules.specs.declared.schedules.ScheduleFault.TheVariants.{Memory, BadLine}
-use Rattle.schedules.specs.Cuts.{lines, counted_from}
+use Rattle.schedules.specs.Splits.{lines, counted_from}
 use Rattle.schedules.specs.HeadLines.{servers_line, homes_line}
 use Rattle.schedules.specs.EventLines.{events_line}
 

@@ -7,7 +7,7 @@ use Rattle.world.specs.declared.events.Event.{Event}
 use Rattle.world.specs.declared.events.Event.TheVariants.{Piece, Begin, Work, Deliver, Fail, Tell, Hand}
 use Rattle.schedules.specs.declared.event_lines.EventLine.{EventLine}
 use Rattle.schedules.specs.declared.event_lines.EventLine.TheVariants.{One, Settle}
-use Rattle.schedules.specs.Cuts.{lf, space, is_passed_over}
+use Rattle.schedules.specs.Splits.{lf, space, is_passed_over}
 use Rattle.schedules.specs.Escapes.{SpellsByte, SpellsBytes}
 use Rattle.schedules.specs.EventLines.{events_in}
 use Rattle.schedules.specs.Schedules.{ScheduleShown}

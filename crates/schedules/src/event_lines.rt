@@ -3,10 +3,10 @@ ghost use Rattle.std.specs.Prelude.{◌≡◌, ◌++◌, IfOk, OnOk};
 ghost use Rattle.schedules.specs.EventLines.{event_line, events_in, word_line, piece_line, fill_line, fill_fields};
 ghost use Rattle.schedules.specs.EventLines.{call_line, two_servers, server_number, connection_number, text_of};
 
-use crate::cuts::cut;
 use crate::escapes::{one_byte, unescape};
 use crate::numbers::number_in;
 use crate::settling::push_rounds;
+use crate::splits::split_once;
 use bytes::Bytes;
 use std::alloc::{AllocError, Global};
 use world::Event;
@@ -36,7 +36,7 @@ pub enum EventLine {
 pub fn event_line(alloc: Global, line: &[u8]) -> Result<Option<EventLine>, AllocError>
     ensures { IfOk result (λ said. said ≡ event_line line.now) }
 {
-    let Some((word, rest)) = cut(b' ', line) else {
+    let Some((word, rest)) = split_once(b' ', line) else {
         return Ok(None);
     };
     if word == b"settle".as_slice() {
@@ -83,7 +83,7 @@ fn word_line(alloc: Global, word: &[u8], rest: &[u8]) -> Result<Option<Event>, A
 fn piece_line(alloc: Global, rest: &[u8]) -> Result<Option<Event>, AllocError>
     ensures { IfOk result (λ event. event ≡ piece_line rest.now) }
 {
-    let Some((number, text)) = cut(b' ', rest) else {
+    let Some((number, text)) = split_once(b' ', rest) else {
         return Ok(None);
     };
     let Some(connection) = connection_number(number) else {
@@ -120,8 +120,8 @@ fn fill_line(alloc: Global, rest: &[u8]) -> Result<Option<Event>, AllocError>
 fn fill_fields(rest: &[u8]) -> Option<(usize, usize, u8)>
     ensures { result ≡ fill_fields rest.now }
 {
-    let (number, rest) = cut(b' ', rest)?;
-    let (count, text) = cut(b' ', rest)?;
+    let (number, rest) = split_once(b' ', rest)?;
+    let (count, text) = split_once(b' ', rest)?;
     let connection = connection_number(number)?;
     let count = number_in(1, MOST_FILLED + 1, count)?;
     Some((connection, count, one_byte(text)?))
@@ -145,7 +145,7 @@ fn call_line(word: &[u8], rest: &[u8]) -> Option<Event>
 fn two_servers(rest: &[u8]) -> Option<(usize, usize)>
     ensures { result ≡ two_servers rest.now }
 {
-    let (first, second) = cut(b' ', rest)?;
+    let (first, second) = split_once(b' ', rest)?;
     Some((server_number(first)?, server_number(second)?))
 }
 

@@ -1,10 +1,10 @@
 //! The two lines that open a schedule: how many servers there are, and where the connections are.
 ghost use Rattle.std.specs.Prelude.{◌≡◌, IfOk, length, map, nat_le, option_map};
-ghost use Rattle.schedules.specs.Cuts.{fields_of};
+ghost use Rattle.schedules.specs.Splits.{fields_of};
 ghost use Rattle.schedules.specs.HeadLines.{servers_line, homes_line, numbers_below};
 
-use crate::cuts::cut;
 use crate::numbers::number_in;
+use crate::splits::split_once;
 use std::alloc::{AllocError, Global};
 use world::{MOST_HOMES, MOST_SERVERS};
 
@@ -12,7 +12,7 @@ use world::{MOST_HOMES, MOST_SERVERS};
 pub fn servers_line(line: &[u8]) -> Option<usize>
     ensures { result ≡ servers_line line.now }
 {
-    let (word, number) = cut(b' ', line)?;
+    let (word, number) = split_once(b' ', line)?;
     if word != b"servers".as_slice() {
         return None;
     }
@@ -27,7 +27,7 @@ pub fn homes_line(
 ) -> Result<Option<Vec<usize>>, AllocError>
     ensures { IfOk result (λ homes. option_map (λ v. v.items) homes ≡ homes_line count line.now) }
 {
-    let Some((word, rest)) = cut(b' ', line) else {
+    let Some((word, rest)) = split_once(b' ', line) else {
         return Ok(None);
     };
     if word != b"homes".as_slice() || !fits(rest) {

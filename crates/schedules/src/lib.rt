@@ -1,7 +1,6 @@
 //! The texts of the world: schedules are read, and transcripts printed (docs/FORMATS.md).
 #![tactic(auto)]
 
-mod cuts;
 mod escapes;
 mod event_lines;
 mod head_lines;
@@ -10,6 +9,7 @@ mod numbers;
 mod printing;
 mod schedules;
 mod settling;
+mod splits;
 mod text_laws;
 
 pub use escapes::push_escaped;

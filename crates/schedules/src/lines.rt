@@ -1,8 +1,8 @@
 //! The lines of a text, one after another, each with its number.
 ghost use Rattle.std.specs.Prelude.{◌≡◌, ◌+◌, ◌<◌, [], ◌∷◌, MatchOption, length, Some};
-ghost use Rattle.schedules.specs.Cuts.{is_passed_over, lines, counted_from};
+ghost use Rattle.schedules.specs.Splits.{is_passed_over, lines, counted_from};
 
-use crate::cuts::cut;
+use crate::splits::split_once;
 use std::marker::Model;
 
 /// What is left of a text, and how many of its lines were taken. Contracts see the lines that count
@@ -15,7 +15,7 @@ pub struct Lines<'a> {
 
 impl<'a> Model for Lines<'a> {
     ghost use Rattle.std.specs.Prelude.{◌+◌, ◌<◌, ◌^◌, length};
-    ghost use Rattle.schedules.specs.Cuts.{LinesLeft, lines, counted_from};
+    ghost use Rattle.schedules.specs.Splits.{LinesLeft, lines, counted_from};
 
     ghost Value = { LinesLeft };
 
@@ -70,7 +70,7 @@ fn first_line(text: &[u8]) -> (&[u8], &[u8])
     ensures lines { lines text.now ≡ result.0.now ∷ lines result.1.now }
     ensures shorter { length result.1.now < length text.now }
 {
-    match cut(b'\n', text) {
+    match split_once(b'\n', text) {
         Some(parts) => parts,
         None => (text, &[]),
     }

@@ -1,6 +1,6 @@
 //! The text of a transcript.
 ghost use Rattle.std.specs.Prelude.{◌≡◌, ◌<◌, ◌∷◌, ◌++◌, IfOk, OnOk, length};
-ghost use Rattle.schedules.specs.Cuts.{parts};
+ghost use Rattle.schedules.specs.Splits.{parts};
 ghost use Rattle.schedules.specs.Printing.{transcript_text, connection_text, connection_line, labelled, answered};
 ghost use Rattle.schedules.specs.Printing.{sent_text, part_line, quiet_line};
 

@@ -11,7 +11,7 @@ use Rattle.table.specs.declared.operations.Reply.{Reply}
 use Rattle.table.specs.declared.operations.Reply.TheVariants.{Value}
 use Rattle.table.specs.Items.{Item}
 use Rattle.proto.specs.Turns.{Outcome, Refused, Replied}
-use Rattle.faces.specs.Histories.{History, IsLater, Origin}
+use Rattle.faces.specs.Histories.{History, IsLater, Instance}
 use Rattle.serving.specs.Connections.{Connected, HasOutcome, IsLooked}
 use Rattle.serving.specs.Serving.{AreAnswered, CameTo}
 use Rattle.serving.specs.Wanted.{IsAsking}
@@ -188,11 +188,11 @@ peeked_came seen before after then c d call reply known later (item, is, shown) 
 )
 
 -- no seat is of another server
-all_of_none : (ahead : List Submitting) (o : Origin) → ahead ≡ [] → All (IsAt o) ahead
+all_of_none : (ahead : List Submitting) (o : Instance) → ahead ≡ [] → All (IsAt o) ahead
 all_of_none ahead o none = subst (All (IsAt o)) (sym none) (All-nil (IsAt o))
 
 -- of an idle one none was sent ahead
-pub none_if_idle : (standing : CallStanding) (ahead : List Submitting) (c : Connected) (o : Origin)
+pub none_if_idle : (standing : CallStanding) (ahead : List Submitting) (c : Connected) (o : Instance)
     → StandsAt standing ahead c o → standing ≡ Idle → ahead ≡ []
 none_if_idle standing ahead c o stands e = (subst (λ x. StandsAt x ahead c o) e stands).1
 
@@ -237,21 +237,21 @@ module _ (r : Result (Option Went) ServeFault) (c d e : Connected) (next : CallS
       by (Ok None) a b =
           record {
             answered = answered_next first seen then d e call [] a.0 asking.waiting a.2 a.1 before;
-            stands = subst (λ s. StandsAt s ahead e then.origin) (sym a.3)
+            stands = subst (λ s. StandsAt s ahead e then.instance) (sym a.3)
                 (has_left d e call [] a.0 asking.waiting a.2, none);
           }
       by (Ok (Some went)) a b =
           record {
             answered = subst (λ x. AreAnswered IsReplied first e.calls e.outcomes x) (sym a.3)
                 (answered_same first seen d e (ap (λ x. x.calls) a.2) (ap (λ x. x.outcomes) a.2) before);
-            stands = subst (λ s. StandsAt s ahead e then.origin) (sym a.1)
+            stands = subst (λ s. StandsAt s ahead e then.instance) (sym a.1)
                 (ap (λ x. x.waiting) a.2 ∙ asking.waiting, (asking.fits, asking.suits), none);
           }
       by (Err fault) a b =
           record {
             answered = subst (λ x. AreAnswered IsReplied first e.calls e.outcomes x) (sym b.1)
                 (answered_same first seen d e (ap (λ x. x.calls) b.2) (ap (λ x. x.outcomes) b.2) before);
-            stands = subst (λ s. StandsAt s ahead e then.origin) (sym b.0) (all_of_none ahead then.origin none);
+            stands = subst (λ s. StandsAt s ahead e then.instance) (sym b.0) (all_of_none ahead then.instance none);
           }
 
 -- and then no call waits
@@ -263,10 +263,10 @@ pub refused_client_connection : (c d : Connected) (standing next : CallStanding)
     → next ≡ Idle
     → IsClientConnection d next ahead first seen
 refused_client_connection c d standing next ahead first seen is (asked, e, stores) has idle =
-    let stood = subst (λ x. StandsAt x ahead c seen.origin) e is.stands in
+    let stood = subst (λ x. StandsAt x ahead c seen.instance) e is.stands in
     record {
       answered = answered_next first seen seen c d asked [] Refused stood.0 has (stores, refl) is.answered;
-      stands = subst (λ s. StandsAt s ahead d seen.origin) (sym idle)
+      stands = subst (λ s. StandsAt s ahead d seen.instance) (sym idle)
           (has_left c d asked [] Refused stood.0 has, stood.2);
     }
 
@@ -278,20 +278,20 @@ pub sent_client_connection : (c : Connected) (standing next : CallStanding) (ahe
     → standing ≡ Unsent sent.call
     → next ≡ Sent s
     → s.waiting ≡ Some sent
-    → s.seat.origin ≡ seen.origin
+    → s.seat.instance ≡ seen.instance
     → IsClientConnection c next ahead first seen
 sent_client_connection c standing next ahead first seen s sent is unsent e opened at =
-    let stood = subst (λ x. StandsAt x ahead c seen.origin) unsent is.stands in
+    let stood = subst (λ x. StandsAt x ahead c seen.instance) unsent is.stands in
     record {
       answered = is.answered;
-      stands = subst (λ x. StandsAt x ahead c seen.origin) (sym e)
-          (subst (λ a. AreOpenAt seen.origin (s ∷ a) c.waiting) (sym stood.2)
-          (subst (AreOpenAt seen.origin (s ∷ [])) (sym stood.0)
+      stands = subst (λ x. StandsAt x ahead c seen.instance) (sym e)
+          (subst (λ a. AreOpenAt seen.instance (s ∷ a) c.waiting) (sym stood.2)
+          (subst (AreOpenAt seen.instance (s ∷ [])) (sym stood.0)
           (record { sent = sent; is = refl; opened = opened; here = at }, tt)));
     }
 
 -- one more call is open
-open_more : (o : Origin) (ss : List Submitting) (calls : List Call) (s : Submitting) (call : Call)
+open_more : (o : Instance) (ss : List Submitting) (calls : List Call) (s : Submitting) (call : Call)
     → AreOpenAt o ss calls → IsOpenAt o s call → AreOpenAt o (ss ++ s ∷ []) (calls ++ call ∷ [])
 open_more o [] [] s call all one = (one, tt)
 open_more o [] (c ∷ calls) s call all one = absurd all
@@ -299,13 +299,13 @@ open_more o (t ∷ ss) [] s call all one = absurd all
 open_more o (t ∷ ss) (c ∷ calls) s call all one = (all.0, open_more o ss calls s call all.1 one)
 
 -- all of them are of this server
-open_here : (o : Origin) (ss : List Submitting) (calls : List Call) → AreOpenAt o ss calls → All (IsAt o) ss
+open_here : (o : Instance) (ss : List Submitting) (calls : List Call) → AreOpenAt o ss calls → All (IsAt o) ss
 open_here o [] calls all = All-nil (IsAt o)
 open_here o (s ∷ ss) [] all = absurd all
 open_here o (s ∷ ss) (call ∷ calls) all = All-cons (IsAt o) s ss all.0.here (open_here o ss calls all.1)
 
 -- wherever it stands, its seats are of its server
-pub seats_here : (standing : CallStanding) (ahead : List Submitting) (c : Connected) (o : Origin)
+pub seats_here : (standing : CallStanding) (ahead : List Submitting) (c : Connected) (o : Instance)
     → StandsAt standing ahead c o → HoldsAt o standing × All (IsAt o) ahead
 seats_here Idle ahead c o stands = (tt, all_of_none ahead o stands.1)
 seats_here Reading ahead c o stands = (tt, all_of_none ahead o stands.1)
@@ -324,7 +324,7 @@ pub over_client_connection : (c d : Connected) (standing : CallStanding) (ahead 
 over_client_connection c d standing ahead first seen is calls outcomes =
     record {
       answered = answered_same first seen c d calls outcomes is.answered;
-      stands = (seats_here standing ahead c seen.origin is.stands).1;
+      stands = (seats_here standing ahead c seen.instance is.stands).1;
     }
 
 -- one more update was sent ahead
@@ -332,19 +332,19 @@ pub ahead_client_connection : (c d : Connected) (standing : CallStanding) (ahead
     (first seen : History) (p q : Pooling) (s : Submitting)
     → IsClientConnection c standing ahead first seen
     → standing ≡ Sent s
-    → p.seen.origin ≡ seen.origin
+    → p.seen.instance ≡ seen.instance
     → HasSentAhead p q c d ahead longer
     → IsClientConnection d standing longer first seen
 ahead_client_connection c d standing ahead longer first seen p q s is e same has =
-    let stood = subst (λ x. StandsAt x ahead c seen.origin) e is.stands in
+    let stood = subst (λ x. StandsAt x ahead c seen.instance) e is.stands in
     let opened = subst (λ x. IsOpenAt x has.s has.call) same has.opened in
     record {
       answered = answered_same first seen c d (ap (λ x. x.calls) has.waits) (ap (λ x. x.outcomes) has.waits)
           is.answered;
-      stands = subst (λ x. StandsAt x longer d seen.origin) (sym e)
-          (subst (λ a. AreOpenAt seen.origin (s ∷ a) d.waiting) (sym has.seats)
-          (subst (AreOpenAt seen.origin (s ∷ (ahead ++ has.s ∷ []))) (sym (ap (λ x. x.waiting) has.waits))
-          (open_more seen.origin (s ∷ ahead) c.waiting has.s has.call stood opened)));
+      stands = subst (λ x. StandsAt x longer d seen.instance) (sym e)
+          (subst (λ a. AreOpenAt seen.instance (s ∷ a) d.waiting) (sym has.seats)
+          (subst (AreOpenAt seen.instance (s ∷ (ahead ++ has.s ∷ []))) (sym (ap (λ x. x.waiting) has.waits))
+          (open_more seen.instance (s ∷ ahead) c.waiting has.s has.call stood opened)));
     }
 
 -- none was, and memory may have been refused
@@ -356,12 +356,12 @@ pub failed_client_connection : (c d : Connected) (b : Bool) (standing : CallStan
     → longer ≡ ahead
     → IsClientConnection d standing longer first seen
 failed_client_connection c d b standing ahead longer first seen s is e same seats =
-    let stood = subst (λ x. StandsAt x ahead c seen.origin) e is.stands in
+    let stood = subst (λ x. StandsAt x ahead c seen.instance) e is.stands in
     record {
       answered = answered_same first seen c d (ap (λ x. x.calls) same) (ap (λ x. x.outcomes) same) is.answered;
-      stands = subst (λ x. StandsAt x longer d seen.origin) (sym e)
-          (subst (λ a. AreOpenAt seen.origin (s ∷ a) d.waiting) (sym seats)
-          (subst (AreOpenAt seen.origin (s ∷ ahead)) (sym (ap (λ x. x.waiting) same)) stood));
+      stands = subst (λ x. StandsAt x longer d seen.instance) (sym e)
+          (subst (λ a. AreOpenAt seen.instance (s ∷ a) d.waiting) (sym seats)
+          (subst (AreOpenAt seen.instance (s ∷ ahead)) (sym (ap (λ x. x.waiting) same)) stood));
     }
 
 -- one more was sent ahead, or none
@@ -369,7 +369,7 @@ pub maybe_ahead : (b : Bool) (c d : Connected) (standing : CallStanding) (ahead 
     (first seen : History) (p q : Pooling) (s : Submitting)
     → IsClientConnection c standing ahead first seen
     → standing ≡ Sent s
-    → p.seen.origin ≡ seen.origin
+    → p.seen.instance ≡ seen.instance
     → MatchBool b (HasSentAhead p q c d ahead longer)
     ((d ≡ record c { failed = d.failed }) × (longer ≡ ahead) × HasSentNothing p q)
     → IsClientConnection d standing longer first seen
@@ -379,7 +379,7 @@ maybe_ahead false c d standing ahead longer first seen p q s is e same has =
     failed_client_connection c d d.failed standing ahead longer first seen s is e has.0 has.1
 
 -- it stands at the next call that was sent
-next_stands : (o : Origin) (ahead : List Submitting) (d : Connected) (later : List Call) → d.waiting ≡ later
+next_stands : (o : Instance) (ahead : List Submitting) (d : Connected) (later : List Call) → d.waiting ≡ later
     → AreOpenAt o ahead later
     → StandsAt (next_standing ahead) (next_ahead ahead) d o
 next_stands o [] d [] waits all = (waits, refl)
@@ -399,19 +399,19 @@ pub hear_client_connection : (c d : Connected) (standing : CallStanding) (ahead 
     → IsClientConnection d (next_standing ahead) (next_ahead ahead) first now
 hear_client_connection c d standing ahead first seen p q now s t reply is e known a has same =
     subst (λ x. IsClientConnection d (next_standing ahead) (next_ahead ahead) first x) (sym same)
-    (by c.waiting refl (subst (λ x. StandsAt x ahead c seen.origin) e is.stands))
+    (by c.waiting refl (subst (λ x. StandsAt x ahead c seen.instance) e is.stands))
   where
-    by : (waiting : List Call) → c.waiting ≡ waiting → AreOpenAt seen.origin (s ∷ ahead) waiting
+    by : (waiting : List Call) → c.waiting ≡ waiting → AreOpenAt seen.instance (s ∷ ahead) waiting
         → IsClientConnection d (next_standing ahead) (next_ahead ahead) first q
     by [] waits all = absurd all
     by (call ∷ later) waits all =
-        let at : seen.origin ≡ q.origin = sym (a.submitted.later.origin ∙ known.origin) in
+        let at : seen.instance ≡ q.instance = sym (a.submitted.later.instance ∙ known.instance) in
         record {
           answered = answered_next first seen q c d call later (Replied reply) waits has
               (subst (λ x. IsReplied seen x reply q) all.0.is
               (submitted_later seen p q s t all.0.sent reply known all.0.opened a)) is.answered;
           stands = subst (λ o. StandsAt (next_standing ahead) (next_ahead ahead) d o) at
-              (next_stands seen.origin ahead d later (has_left c d call later (Replied reply) waits has) all.1);
+              (next_stands seen.instance ahead d later (has_left c d call later (Replied reply) waits has) all.1);
         }
 
 -- where it stands next, a call was sent, or none waits

@@ -9,12 +9,12 @@ use Rattle.seats.specs.Replies.{IsSubmitted}
 
 -- a history is no earlier than itself
 pub later_same : (c : History) → IsLater c c
-later_same c = record { origin = refl; inputs = prefix_self c.inputs }
+later_same c = record { instance = refl; inputs = prefix_self c.inputs }
 
 -- what is later than a later history is later
 pub later_then : (first second third : History) → IsLater first second → IsLater second third → IsLater first third
 later_then first second third p q =
-    record { origin = q.origin ∙ p.origin; inputs = prefix_trans _ _ _ p.inputs q.inputs }
+    record { instance = q.instance ∙ p.instance; inputs = prefix_trans _ _ _ p.inputs q.inputs }
 
 -- the server has replied, after a look
 pub submitted_then : (before looked after : History) (seat last : SeatState) (sent : SentCall) (reply : Reply)

@@ -14,7 +14,7 @@ use Rattle.seats.specs.contracts.seat_pools.SeatPool as SeatPool
 use Rattle.seats.specs.contracts.submitters.Submitter as Submitter
 use Rattle.seats.proofs.gauges.Gauge.TheSendSync as gauge
 use Rattle.seats.proofs.marks.Mark.TheSendSync as mark
-use Rattle.seats.proofs.submitters.SubmittedKind.TheSendSync as kind
+use Rattle.seats.proofs.submitters.SubmitterStage.TheSendSync as kind
 
 -- a shared lease, whatever its rule is: its word says the same to every thread
 module _ (I : RattleType) (g : Ghosts I.Denot) where

@@ -13,8 +13,8 @@ use Rattle.seats.specs.InProcessLinks.{without_last}
 use Rattle.seats.specs.Replies.{HasAllReplies, IsSubmitted}
 use Rattle.seats.specs.Submitters.{Submitting, IsAnswered, IsLastCall, IsOpen, IsReplyAt, all_sent, last_sent}
 use Rattle.seats.specs.Submitters.{open_at, stage_of, submitting, unused}
-use Rattle.seats.specs.declared.submitters.SubmittedKind.{SubmittedKind}
-use Rattle.seats.specs.declared.submitters.SubmittedKind.TheVariants.{Free, Read, Update, Lost}
+use Rattle.seats.specs.declared.submitters.SubmitterStage.{SubmitterStage}
+use Rattle.seats.specs.declared.submitters.SubmitterStage.TheVariants.{Free, Read, Update, Lost}
 use Rattle.seats.proofs.Linked.{without}
 
 -- the last call
@@ -44,7 +44,7 @@ not_none seat u l e =
     absurd (cc)
 
 opens_as : (seat : SeatState) (sender : CallSenderState) (call : Call) (u : Bool) → is_update call.op ≡ u
-    → seat.origin ≡ sender.origin
+    → seat.instance ≡ sender.instance
     → HasAllReplies seat
     → IsOpen (if u then Update else Read) (with_sent seat sender call)
 opens_as seat sender call true e server all =
@@ -67,13 +67,13 @@ opens_as seat sender call false e server all =
     }
 
 -- a call that was sent is open
-pub opens : (seat : SeatState) (sender : CallSenderState) (call : Call) → seat.origin ≡ sender.origin
+pub opens : (seat : SeatState) (sender : CallSenderState) (call : Call) → seat.instance ≡ sender.instance
     → HasAllReplies seat
     → IsOpen (stage_of call) (with_sent seat sender call)
 opens seat sender call server all = opens_as seat sender call (is_update call.op) refl server all
 
 -- a seat at which none is open has all replies
-replied_free : (stage : SubmittedKind) (seat : SeatState) → IsOpen stage seat → (submitting stage seat).waiting ≡ None
+replied_free : (stage : SubmitterStage) (seat : SeatState) → IsOpen stage seat → (submitting stage seat).waiting ≡ None
     → (stage ≡ Lost → ⊥)
     → HasAllReplies seat
 replied_free Free seat is free unlost = is
@@ -98,7 +98,7 @@ at_stage seat true = refl
 at_stage seat false = refl
 
 -- and shows so
-pub sent_now : (stage : SubmittedKind) (seat : SeatState) (sender : CallSenderState) (call : Call) → IsOpen stage seat
+pub sent_now : (stage : SubmitterStage) (seat : SeatState) (sender : CallSenderState) (call : Call) → IsOpen stage seat
     → (submitting stage seat).waiting ≡ None
     → (submitting stage seat).lost ≡ false
     → submitting (stage_of call) (with_sent seat sender call)
@@ -111,7 +111,7 @@ sent_now Update seat sender call is free unlost = not_none seat true is free
 sent_now Lost seat sender call is free unlost = let no : true ≡ false = unlost in cc
 
 -- it is lost, and no call was open
-pub lost_now : (stage : SubmittedKind) (seat : SeatState) → IsOpen stage seat → (submitting stage seat).waiting ≡ None
+pub lost_now : (stage : SubmitterStage) (seat : SeatState) → IsOpen stage seat → (submitting stage seat).waiting ≡ None
     → submitting Lost seat ≡ record (submitting stage seat) { lost = true }
 lost_now Free seat is free = refl
 lost_now Read seat is free = not_none seat false is free
@@ -119,7 +119,7 @@ lost_now Update seat is free = not_none seat true is free
 lost_now Lost seat is free = refl
 
 -- all that was sent
-pub sent_at : (stage : SubmittedKind) (seat : SeatState) → IsOpen stage seat
+pub sent_at : (stage : SubmitterStage) (seat : SeatState) → IsOpen stage seat
     → all_sent (submitting stage seat) ≡ seat.calls
 sent_at Free seat is = refl
 sent_at Read seat is = ap all_sent (opened_at seat is.before is.sent is.calls) ∙ sym is.calls
@@ -154,7 +154,7 @@ module _ (before after told : History) (seat : SeatState) (reply : Reply) (later
         lost = (refl, refl);
       })
 
-  pub answered : (stage : SubmittedKind) → IsOpen stage seat → IsReplyAt stage reply
+  pub answered : (stage : SubmitterStage) → IsOpen stage seat → IsReplyAt stage reply
       → IsAnswered before after (submitting stage seat) (submitting Free (with_reply seat reply told)) reply
   answered Free is kind = let no : false ≡ true = kind in cc
   answered Read is kind = answered_last false is kind
@@ -190,7 +190,7 @@ waits_last seat u l =
     subst (λ (s : Submitting). IsSome s.waiting) (sym (opened_at seat l.before l.sent l.calls)) refl
 
 -- a read waits
-pub read_waits : (stage : SubmittedKind) (seat : SeatState) (s : Submitting) → stage ≡ Read → IsOpen stage seat
+pub read_waits : (stage : SubmitterStage) (seat : SeatState) (s : Submitting) → stage ≡ Read → IsOpen stage seat
     → submitting stage seat ≡ s
     → IsSome s.waiting
 read_waits stage seat s e is view =
@@ -198,7 +198,7 @@ read_waits stage seat s e is view =
     (waits_last seat false (subst (λ x. IsOpen x seat) e is))
 
 -- an update waits
-pub update_waits : (stage : SubmittedKind) (seat : SeatState) (s : Submitting) → stage ≡ Update → IsOpen stage seat
+pub update_waits : (stage : SubmitterStage) (seat : SeatState) (s : Submitting) → stage ≡ Update → IsOpen stage seat
     → submitting stage seat ≡ s
     → IsSome s.waiting
 update_waits stage seat s e is view =
@@ -206,7 +206,7 @@ update_waits stage seat s e is view =
     (waits_last seat true (subst (λ x. IsOpen x seat) e is))
 
 -- a call was sent at a seat with this value
-pub submit_sent : (stage next : SubmittedKind) (seat last : SeatState) (s : Submitting) (sender : CallSenderState)
+pub submit_sent : (stage next : SubmitterStage) (seat last : SeatState) (s : Submitting) (sender : CallSenderState)
     (call : Call) → submitting stage seat ≡ s
     → IsOpen stage seat
     → s.waiting ≡ None
@@ -219,7 +219,7 @@ submit_sent stage next seat last s sender call view is free unlost e f =
     ∙ (sent_at_stage stage seat is (ap (λ (t : Submitting). t.waiting) view ∙ free) unlost
     ∙ ap (λ (t : Submitting). record t { waiting = Some (record { sender = sender; call = call }) }) view))
   where
-    sent_at_stage : (stage : SubmittedKind) (seat : SeatState) → IsOpen stage seat
+    sent_at_stage : (stage : SubmitterStage) (seat : SeatState) → IsOpen stage seat
         → (submitting stage seat).waiting ≡ None
         → (stage ≡ Lost → ⊥)
         → submitting (stage_of call) (with_sent seat sender call)
@@ -229,11 +229,11 @@ submit_sent stage next seat last s sender call view is free unlost e f =
     sent_at_stage Update seat is free unlost = not_none seat true is free
     sent_at_stage Lost seat is free unlost = absurd (unlost refl)
 
-pub submit_opens : (stage next : SubmittedKind) (seat last : SeatState) (s : Submitting) (sender : CallSenderState)
+pub submit_opens : (stage next : SubmitterStage) (seat last : SeatState) (s : Submitting) (sender : CallSenderState)
     (call : Call) → submitting stage seat ≡ s
     → IsOpen stage seat
     → s.waiting ≡ None
-    → seat.origin ≡ sender.origin
+    → seat.instance ≡ sender.instance
     → (stage ≡ Lost → ⊥)
     → next ≡ stage_of call
     → last ≡ with_sent seat sender call
@@ -245,29 +245,29 @@ submit_opens stage next seat last s sender call view is free server unlost e f =
     (replied_free stage seat is (ap (λ (t : Submitting). t.waiting) view ∙ free) unlost)))
 
 -- whose seat it is, at any stage
-pub submit_origin : (stage : SubmittedKind) (seat : SeatState) (s : Submitting) → submitting stage seat ≡ s
-    → seat.origin ≡ s.seat.origin
-submit_origin stage seat s view = by stage ∙ ap (λ (t : Submitting). t.seat.origin) view
+pub submit_instance : (stage : SubmitterStage) (seat : SeatState) (s : Submitting) → submitting stage seat ≡ s
+    → seat.instance ≡ s.seat.instance
+submit_instance stage seat s view = by stage ∙ ap (λ (t : Submitting). t.seat.instance) view
   where
-    by : (stage : SubmittedKind) → seat.origin ≡ (submitting stage seat).seat.origin
+    by : (stage : SubmitterStage) → seat.instance ≡ (submitting stage seat).seat.instance
     by Free = refl
     by Read = refl
     by Update = refl
     by Lost = refl
 
 -- and its port
-pub submit_port : (stage : SubmittedKind) (seat : SeatState) (s : Submitting) → submitting stage seat ≡ s
+pub submit_port : (stage : SubmitterStage) (seat : SeatState) (s : Submitting) → submitting stage seat ≡ s
     → seat.port ≡ s.seat.port
 submit_port stage seat s view = by stage ∙ ap (λ (t : Submitting). t.seat.port) view
   where
-    by : (stage : SubmittedKind) → seat.port ≡ (submitting stage seat).seat.port
+    by : (stage : SubmitterStage) → seat.port ≡ (submitting stage seat).seat.port
     by Free = refl
     by Read = refl
     by Update = refl
     by Lost = refl
 
 -- a call wasn't sent
-pub submit_lost : (stage : SubmittedKind) (seat last : SeatState) (s : Submitting) → submitting stage seat ≡ s
+pub submit_lost : (stage : SubmitterStage) (seat last : SeatState) (s : Submitting) → submitting stage seat ≡ s
     → IsOpen stage seat
     → s.waiting ≡ None
     → last ≡ seat
@@ -278,7 +278,7 @@ submit_lost stage seat last s view is free e =
     ∙ ap (λ (t : Submitting). record t { lost = true }) view)
 
 -- a reply was taken
-pub take_answered : (before after told : History) (stage next : SubmittedKind) (seat last : SeatState) (s : Submitting)
+pub take_answered : (before after told : History) (stage next : SubmitterStage) (seat last : SeatState) (s : Submitting)
     (reply given : Reply) → submitting stage seat ≡ s → IsOpen stage seat → next ≡ Free
     → last ≡ with_reply seat reply told
     → given ≡ reply
@@ -296,7 +296,7 @@ take_answered before after told stage next seat last s reply given view is e f s
     (answered before after told seat reply later learned put stage is kind))))
 
 -- nothing more was sent
-pub take_unsent : (stage next : SubmittedKind) (seat last : SeatState) (s : Submitting) → submitting stage seat ≡ s
+pub take_unsent : (stage next : SubmitterStage) (seat last : SeatState) (s : Submitting) → submitting stage seat ≡ s
     → IsOpen stage seat
     → all_sent (submitting next last) ≡ last.calls
     → last.calls ≡ seat.calls
@@ -305,14 +305,14 @@ take_unsent stage next seat last s view is shown same =
     shown ∙ (same ∙ (sym (sent_at stage seat is) ∙ ap all_sent view))
 
 -- a seat at which none is open shows what it sent
-pub free_sent : (next : SubmittedKind) (seat : SeatState) → next ≡ Free → all_sent (submitting next seat) ≡ seat.calls
+pub free_sent : (next : SubmitterStage) (seat : SeatState) → next ≡ Free → all_sent (submitting next seat) ≡ seat.calls
 free_sent next seat e = ap (λ x. all_sent (submitting x seat)) e
 
-pub lost_sent : (next : SubmittedKind) (seat : SeatState) → next ≡ Lost → all_sent (submitting next seat) ≡ seat.calls
+pub lost_sent : (next : SubmitterStage) (seat : SeatState) → next ≡ Lost → all_sent (submitting next seat) ≡ seat.calls
 lost_sent next seat e = ap (λ x. all_sent (submitting x seat)) e
 
 -- it took the reply to its open call
-pub take_replied : (stage next : SubmittedKind) (seat last : SeatState) (reply : Reply) (told : History)
+pub take_replied : (stage next : SubmitterStage) (seat last : SeatState) (reply : Reply) (told : History)
     → IsOpen stage seat
     → next ≡ Free
     → last ≡ with_reply seat reply told
@@ -321,7 +321,7 @@ pub take_replied : (stage next : SubmittedKind) (seat last : SeatState) (reply :
 take_replied stage next seat last reply told is e f kind =
     subst (λ x. IsOpen x last) (sym e) (subst HasAllReplies (sym f) (by stage is kind))
   where
-    by : (stage : SubmittedKind) → IsOpen stage seat → IsReplyAt stage reply
+    by : (stage : SubmitterStage) → IsOpen stage seat → IsReplyAt stage reply
         → HasAllReplies (with_reply seat reply told)
     by Free is kind = let no : false ≡ true = kind in cc
     by Read is kind = replied_last seat reply told false is
@@ -329,7 +329,9 @@ take_replied stage next seat last reply told is e f kind =
     by Lost is kind = let no : false ≡ true = kind in cc
 
 -- a seat that shows so is lost
-pub lost_stage : (stage : SubmittedKind) (seat : SeatState) (s : Submitting) → submitting stage seat ≡ s → s.lost ≡ true
+pub lost_stage : (stage : SubmitterStage) (seat : SeatState) (s : Submitting)
+    → submitting stage seat ≡ s
+    → s.lost ≡ true
     → stage ≡ Lost
 lost_stage Free seat s view lost = let no : false ≡ true = ap (λ (t : Submitting). t.lost) view ∙ lost in cc
 lost_stage Read seat s view lost = let no : false ≡ true = ap (λ (t : Submitting). t.lost) view ∙ lost in cc

@@ -6,7 +6,7 @@ use Rattle.table.specs.declared.operations.Reply.{Reply}
 use Rattle.table.specs.declared.operations.Reply.TheVariants.{Value}
 use Rattle.node.specs.Lawful.{IsCall}
 use Rattle.proto.specs.Turns.{Outcome, Refused, Replied, is_store}
-use Rattle.faces.specs.Histories.{History, IsLater, Origin}
+use Rattle.faces.specs.Histories.{History, IsLater, Instance}
 use Rattle.faces.specs.Readers.{HasLookedAtMostOnce}
 use Rattle.rail.specs.CallSenders.{CallSenderState, SentCall, with_call}
 use Rattle.rail.specs.Seats.{SeatState}
@@ -72,28 +72,28 @@ AreLookedFor (call ∷ calls) (Replied reply ∷ outcomes) (look ∷ looks) =
     ShowsReply look call reply × AreLookedFor calls outcomes looks
 
 -- This call is open at this seat of this server.
-pub record IsOpenAt (origin : Origin) (s : Submitting) (call : Call) : Type 0 where
+pub record IsOpenAt (instance : Instance) (s : Submitting) (call : Call) : Type 0 where
   pub sent : SentCall
   pub is : sent.call ≡ call
   pub opened : s.waiting ≡ Some sent
-  pub here : s.seat.origin ≡ origin
+  pub here : s.seat.instance ≡ instance
 
 -- these calls are open, in turn, each at one of these seats of this server
-abbrev pub AreOpenAt : Origin → List Submitting → List Call → Type 0
-AreOpenAt origin [] [] = Unit {0}
-AreOpenAt origin [] (call ∷ calls) = ⊥
-AreOpenAt origin (s ∷ ss) [] = ⊥
-AreOpenAt origin (s ∷ ss) (call ∷ calls) = IsOpenAt origin s call × AreOpenAt origin ss calls
+abbrev pub AreOpenAt : Instance → List Submitting → List Call → Type 0
+AreOpenAt instance [] [] = Unit {0}
+AreOpenAt instance [] (call ∷ calls) = ⊥
+AreOpenAt instance (s ∷ ss) [] = ⊥
+AreOpenAt instance (s ∷ ss) (call ∷ calls) = IsOpenAt instance s call × AreOpenAt instance ss calls
 
 -- Its connection waits for no call, and may want input; or for this one, which waits for a seat; or for one or more,
 -- the first of which is open at this seat of its server, and the later ones at those. All of these are seats of its
 -- server.
-abbrev pub StandsAt : CallStanding → List Submitting → Connected → Origin → Type 0
-StandsAt Idle ahead c origin = (c.waiting ≡ []) × (ahead ≡ [])
-StandsAt Reading ahead c origin = IsWanted Read c × (ahead ≡ [])
-StandsAt (Unsent call) ahead c origin = (c.waiting ≡ call ∷ []) × IsCall call × (ahead ≡ [])
-StandsAt (Sent s) ahead c origin = AreOpenAt origin (s ∷ ahead) c.waiting
-StandsAt Over ahead c origin = All (IsAt origin) ahead
+abbrev pub StandsAt : CallStanding → List Submitting → Connected → Instance → Type 0
+StandsAt Idle ahead c instance = (c.waiting ≡ []) × (ahead ≡ [])
+StandsAt Reading ahead c instance = IsWanted Read c × (ahead ≡ [])
+StandsAt (Unsent call) ahead c instance = (c.waiting ≡ call ∷ []) × IsCall call × (ahead ≡ [])
+StandsAt (Sent s) ahead c instance = AreOpenAt instance (s ∷ ahead) c.waiting
+StandsAt Over ahead c instance = All (IsAt instance) ahead
 
 -- where it stands once the call at which it stood has its reply: at the next one
 abbrev pub next_standing : List Submitting → CallStanding
@@ -116,7 +116,7 @@ pub record HasSentAhead (p q : Pooling) (c d : Connected) (ahead longer : List S
   pub s : Submitting
   pub waits : d ≡ record c { waiting = c.waiting ++ call ∷ [] }
   pub seats : longer ≡ ahead ++ s ∷ []
-  pub opened : IsOpenAt p.seen.origin s call
+  pub opened : IsOpenAt p.seen.instance s call
   pub waiting : s.waiting ≡ Some (record { sender = p.sender; call = call })
   pub sent : q.sender ≡ with_call p.sender s.seat.port call
 
@@ -212,20 +212,20 @@ HasGoneByLooks More c d p q = HasLooked c d p q
 HasGoneByLooks (End end) c d p q = HasLooked c d p q
 
 -- the seat that it has, if any, is one of this server at which no call is open
-abbrev pub HoldsFree : Origin → CallStanding → Type 0
-HoldsFree origin Idle = Unit {0}
-HoldsFree origin Reading = Unit {0}
-HoldsFree origin (Unsent call) = Unit {0}
-HoldsFree origin (Sent s) = IsFreeAt origin s
-HoldsFree origin Over = Unit {0}
+abbrev pub HoldsFree : Instance → CallStanding → Type 0
+HoldsFree instance Idle = Unit {0}
+HoldsFree instance Reading = Unit {0}
+HoldsFree instance (Unsent call) = Unit {0}
+HoldsFree instance (Sent s) = IsFreeAt instance s
+HoldsFree instance Over = Unit {0}
 
 -- the seat that it has, if any, is one of this server
-abbrev pub HoldsAt : Origin → CallStanding → Type 0
-HoldsAt origin Idle = Unit {0}
-HoldsAt origin Reading = Unit {0}
-HoldsAt origin (Unsent call) = Unit {0}
-HoldsAt origin (Sent s) = IsAt origin s
-HoldsAt origin Over = Unit {0}
+abbrev pub HoldsAt : Instance → CallStanding → Type 0
+HoldsAt instance Idle = Unit {0}
+HoldsAt instance Reading = Unit {0}
+HoldsAt instance (Unsent call) = Unit {0}
+HoldsAt instance (Sent s) = IsAt instance s
+HoldsAt instance Over = Unit {0}
 
 -- Nothing came of it, and nothing was seen: more calls may wait.
 pub record IsSameBut (t u : ClientConnectionState) : Type 0 where
@@ -238,4 +238,4 @@ pub record IsSameBut (t u : ClientConnectionState) : Type 0 where
 pub record IsClientConnection (c : Connected) (standing : CallStanding) (ahead : List Submitting)
     (first seen : History) : Type 0 where
   pub answered : AreAnswered IsReplied first c.calls c.outcomes seen
-  pub stands : StandsAt standing ahead c seen.origin
+  pub stands : StandsAt standing ahead c seen.instance

@@ -43,7 +43,7 @@ exchanged seat sent reply told =
 pub record IsSubmitted (before after : History) (seat then : SeatState) (sent : SentCall) (reply : Reply) : Type 0
   where
     pub replied : HasAllReplies seat
-    pub server : sent.sender.origin ≡ seat.origin
+    pub server : sent.sender.instance ≡ seat.instance
     pub told : History
     pub later : IsLater before after
     pub learned : IsLater told after

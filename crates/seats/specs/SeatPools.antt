@@ -1,6 +1,6 @@
 -- The seats of one thread at one server.
 use Rattle.std.specs.Prelude.{◌≡◌, ◌≤◌, ◌<◌, ◌+◌, ℕ, suc, List, [], ◌∷◌, ◌++◌, None, All, length}
-use Rattle.faces.specs.Histories.{History, Origin}
+use Rattle.faces.specs.Histories.{History, Instance}
 use Rattle.faces.specs.Readers.{Looking}
 use Rattle.table.specs.declared.operations.Call.{Call}
 use Rattle.rail.specs.CallSenders.{CallSenderState, with_call}
@@ -66,21 +66,21 @@ abbrev pub HasSameSeats : Pooling → Pooling → Type 0
 HasSameSeats p q = (q.free ≡ p.free) × (q.left ≡ p.left) × (q.seats ≡ p.seats)
 
 -- a seat of this server
-abbrev pub IsAt : Origin → Submitting → Type 0
-IsAt origin s = s.seat.origin ≡ origin
+abbrev pub IsAt : Instance → Submitting → Type 0
+IsAt instance s = s.seat.instance ≡ instance
 
 -- a seat of this server at which no call is open
-abbrev pub IsFreeAt : Origin → Submitting → Type 0
-IsFreeAt origin s = (s.seat.origin ≡ origin) × (s.waiting ≡ None)
+abbrev pub IsFreeAt : Instance → Submitting → Type 0
+IsFreeAt instance s = (s.seat.instance ≡ instance) × (s.waiting ≡ None)
 
 -- What a pool of n seats holds: its sender, those that are free, and those that were left, are of this server, and the
 -- seats no more than it has. There is room for each seat among either.
-pub record IsPool (origin : Origin) (sender : CallSenderState) (seats : ℕ) (free left : List Submitting)
+pub record IsPool (instance : Instance) (sender : CallSenderState) (seats : ℕ) (free left : List Submitting)
     (room space : ℕ)
     : Type 0 where
-  pub sends : sender.origin ≡ origin
-  pub are_free : All (IsFreeAt origin) free
-  pub are_left : All (IsAt origin) left
+  pub sends : sender.instance ≡ instance
+  pub are_free : All (IsFreeAt instance) free
+  pub are_left : All (IsAt instance) left
   pub count : length free + length left ≤ seats
   pub frees : seats ≤ room
   pub leaves : seats ≤ space

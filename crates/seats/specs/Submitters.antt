@@ -9,8 +9,8 @@ use Rattle.rail.specs.CallSenders.{SentCall}
 use Rattle.rail.specs.Seats.{SeatState}
 use Rattle.seats.specs.InProcessLinks.{without_last}
 use Rattle.seats.specs.Replies.{HasAllReplies, IsSubmitted}
-use Rattle.seats.specs.declared.submitters.SubmittedKind.{SubmittedKind}
-use Rattle.seats.specs.declared.submitters.SubmittedKind.TheVariants.{Free, Read, Update, Lost}
+use Rattle.seats.specs.declared.submitters.SubmitterStage.{SubmitterStage}
+use Rattle.seats.specs.declared.submitters.SubmitterStage.TheVariants.{Free, Read, Update, Lost}
 
 -- A seat as it was before its open call was sent; that call, whose reply it hasn't taken, with its sender as it was
 -- then; and whether it is lost, so that nothing is sent or answered any more.
@@ -56,7 +56,7 @@ open_at seat =
     record { seat = record seat { calls = without_last seat.calls }; waiting = last_sent seat.calls; lost = false }
 
 -- what a seat shows at a stage
-abbrev pub submitting : SubmittedKind → SeatState → Submitting
+abbrev pub submitting : SubmitterStage → SeatState → Submitting
 submitting Free seat = unused seat
 submitting Read seat = open_at seat
 submitting Update seat = open_at seat
@@ -68,27 +68,27 @@ pub record IsLastCall (seat : SeatState) (updates : Bool) : Type 0 where
   pub sent : SentCall
   pub calls : seat.calls ≡ before ++ sent ∷ []
   pub kind : is_update sent.call.op ≡ updates
-  pub server : sent.sender.origin ≡ seat.origin
+  pub server : sent.sender.instance ≡ seat.instance
   pub replied : length before ≡ length seat.got
 
 -- a call that is open is the last one that was sent, and each other one has its reply
-abbrev pub IsOpen : SubmittedKind → SeatState → Type 0
+abbrev pub IsOpen : SubmitterStage → SeatState → Type 0
 IsOpen Free seat = HasAllReplies seat
 IsOpen Read seat = IsLastCall seat false
 IsOpen Update seat = IsLastCall seat true
 IsOpen Lost seat = Unit {0}
 
 -- the stage once a call is sent
-abbrev pub stage_of : Call → SubmittedKind
+abbrev pub stage_of : Call → SubmitterStage
 stage_of call = if is_update call.op then Update else Read
 
 -- whether a reply is one to such a call
-abbrev pub is_reply_at : SubmittedKind → Reply → Bool
+abbrev pub is_reply_at : SubmitterStage → Reply → Bool
 is_reply_at Free reply = false
 is_reply_at Read reply = is_value reply
 is_reply_at Update reply = not (is_value reply)
 is_reply_at Lost reply = false
 
 -- it is one
-abbrev pub IsReplyAt : SubmittedKind → Reply → Type 0
+abbrev pub IsReplyAt : SubmitterStage → Reply → Type 0
 IsReplyAt stage reply = is_reply_at stage reply ≡ true

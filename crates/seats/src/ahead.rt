@@ -55,9 +55,9 @@ fn submit_ahead<R: Wait>(
     call: Call,
 ) -> Result<Submitter, ServeFault>
     requires call { IsCall call }
-    requires free { IsFreeAt pool.old.seen.origin submitter }
+    requires free { IsFreeAt pool.old.seen.instance submitter }
     ensures pool { HasSameReader pool.old pool.new }
-    ensures opened { IfOk result (λ sent. IsOpenAt pool.old.seen.origin sent call) }
+    ensures opened { IfOk result (λ sent. IsOpenAt pool.old.seen.instance sent call) }
     ensures waiting { IfOk result
         (λ sent. sent.waiting ≡ Some (record { sender = pool.old.sender; call = call })) }
     ensures sent { IfOk result (λ sent. pool.new.sender ≡ with_call pool.old.sender sent.seat.port call) }
@@ -75,7 +75,7 @@ fn submit_ahead<R: Wait>(
 
 // Gives these seats to the pool, which takes the replies that nobody waits for any more.
 pub(crate) fn leave_all(ahead: VecDeque<Submitter>, pool: &mut SeatPool)
-    requires { All (IsAt pool.old.seen.origin) ahead.items }
+    requires { All (IsAt pool.old.seen.instance) ahead.items }
     ensures reader { HasSameReader pool.old pool.new }
     ensures unsent { HasSentNothing pool.old pool.new }
 {
@@ -88,8 +88,8 @@ pub(crate) fn leave_all(ahead: VecDeque<Submitter>, pool: &mut SeatPool)
 
 // The same of the first of these seats.
 fn leave_next(ahead: &mut VecDeque<Submitter>, pool: &mut SeatPool)
-    requires { All (IsAt pool.old.seen.origin) ahead.old.items }
-    ensures here { All (IsAt pool.new.seen.origin) ahead.new.items }
+    requires { All (IsAt pool.old.seen.instance) ahead.old.items }
+    ensures here { All (IsAt pool.new.seen.instance) ahead.new.items }
     ensures reader { HasSameReader pool.old pool.new }
     ensures unsent { HasSentNothing pool.old pool.new }
 {

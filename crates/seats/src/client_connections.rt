@@ -149,7 +149,7 @@ impl ClientConnection {
         ensures begun { (more : List ℕ) → IsBegun self.now.connected (self.now.connected.read ++ more) }
         ensures answered { AreAnswered IsReplied self.now.first self.now.connected.calls self.now.connected.outcomes
             self.now.seen }
-        ensures stands { StandsAt self.now.standing self.now.ahead self.now.connected self.now.seen.origin }
+        ensures stands { StandsAt self.now.standing self.now.ahead self.now.connected self.now.seen.instance }
     {
         self.connection.so_far();
     }
@@ -590,7 +590,7 @@ fn stand_at(standing: &mut CallStanding, next: CallStanding)
 
 // Gives the seat back to the pool, if it has one.
 fn give_back(standing: &mut CallStanding, pool: &mut SeatPool)
-    requires { HoldsFree pool.old.seen.origin standing.old }
+    requires { HoldsFree pool.old.seen.instance standing.old }
     ensures standing { standing.new ≡ Over }
     ensures pool { HasSameReader pool.old pool.new }
     ensures unsent { HasSentNothing pool.old pool.new }
@@ -614,7 +614,7 @@ fn next_standing(ahead: &mut VecDeque<Submitter>) -> CallStanding
 
 // Gives its seat, if it has one, to the pool, which takes the reply that nobody waits for any more.
 fn leave_one(standing: CallStanding, pool: &mut SeatPool)
-    requires { HoldsAt pool.old.seen.origin standing }
+    requires { HoldsAt pool.old.seen.instance standing }
     ensures reader { HasSameReader pool.old pool.new }
     ensures unsent { HasSentNothing pool.old pool.new }
 {

@@ -115,11 +115,11 @@ impl<R: Wait + Drop> Links for InProcessLinks<R> {
 
     ghost Carried = { InboxMessage };
 
-    // On a wire, a message is the inbox message which says that it comes from the server of these links.
+    // A link carries a message as the inbox message which says that it comes from the server of these links.
     ghost state = { λ s. record {
       list = all_put s.receivers (sent_on s.links.items);
       failures = failures_at s.links.items;
-      wire = sent_at (sent_on s.links.items);
+      carried = sent_at (sent_on s.links.items);
       spelled = λ peer. Took (From s.id peer) ∷ [];
     } };
 

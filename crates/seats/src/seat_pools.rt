@@ -59,7 +59,7 @@ impl Model for SeatPool {
     } };
 
     ghost invariant = { λ p.
-        IsPool p.reader.seen.origin p.call_sender p.seats p.free.items p.left.items (vec_capacity p.free)
+        IsPool p.reader.seen.instance p.call_sender p.seats p.free.items p.left.items (vec_capacity p.free)
         (deque_capacity p.left) };
 }
 
@@ -85,7 +85,7 @@ impl SeatPool {
         mark: Mark,
         gauge: Gauge,
     ) -> SeatPool
-        requires { call_sender.origin ≡ reader.seen.origin }
+        requires { call_sender.instance ≡ reader.seen.instance }
         ensures { result ≡ without_seats reader call_sender }
     {
         SeatPool {
@@ -103,7 +103,7 @@ impl SeatPool {
     /// Adds a seat of the same server, at which no call waits for its reply. It is free then, and there is room for
     /// whatever may become of it later. If it is refused, memory is out, and the seat is dropped.
     pub fn add(&mut self, seat: Seat) -> Result<(), AllocError>
-        requires server { seat.origin ≡ self.old.seen.origin }
+        requires server { seat.instance ≡ self.old.seen.instance }
         requires replied { HasAllReplies seat }
         ensures added { OnOk result (self.new ≡ with_free self.old (unused seat)) }
         ensures refused { OnErr result (self.new ≡ self.old) }
@@ -213,7 +213,7 @@ impl SeatPool {
         ensures unsent { HasSentNothing self.old self.new }
         ensures taken { MatchOption result ((self.new ≡ self.old) × (self.old.free ≡ []))
             (λ seat. self.old ≡ put_back self.new seat) }
-        ensures free { IfSome result (IsFreeAt self.old.seen.origin) }
+        ensures free { IfSome result (IsFreeAt self.old.seen.instance) }
         ensures out { OnSome result (IsOneOut self.new) }
     {
         self.free.pop()
@@ -221,7 +221,7 @@ impl SeatPool {
 
     /// Takes a seat back at which no call is open. If none of its seats is out, it is another pool's, and is dropped.
     pub(crate) fn put(&mut self, free: Submitter)
-        requires { IsFreeAt self.old.seen.origin free }
+        requires { IsFreeAt self.old.seen.instance free }
         ensures reader { HasSameReader self.old self.new }
         ensures unsent { HasSentNothing self.old self.new }
         ensures back { IsOneOut self.old → self.new ≡ put_back self.old free }
@@ -237,7 +237,7 @@ impl SeatPool {
     /// Takes a seat back, for whose reply nobody waits any more. If none of its seats is out, it is another pool's, and
     /// is dropped.
     pub(crate) fn leave(&mut self, left: Submitter)
-        requires { IsAt self.old.seen.origin left }
+        requires { IsAt self.old.seen.instance left }
         ensures reader { HasSameReader self.old self.new }
         ensures unsent { HasSentNothing self.old self.new }
         ensures back { IsOneOut self.old → self.new ≡ put_left self.old left }
@@ -259,7 +259,7 @@ impl SeatPool {
         call: Call,
     ) -> Result<(), CallFault>
         requires call { IsCall call }
-        requires free { IsFreeAt self.old.seen.origin submitter.old }
+        requires free { IsFreeAt self.old.seen.instance submitter.old }
         ensures sent { OnOk result (self.new ≡ with_sent_call self.old submitter.old.seat.port call) }
         ensures waits { OnOk result (submitter.new ≡
             record submitter.old { waiting = Some (record { sender = self.old.sender; call = call }) }) }
@@ -275,8 +275,8 @@ impl SeatPool {
         rt: &R,
         submitter: &mut Submitter,
     ) -> Result<Option<Reply>, CallFault>
-        requires server { IsAt self.old.seen.origin submitter.old }
-        ensures server { IsAt self.new.seen.origin submitter.new }
+        requires server { IsAt self.old.seen.instance submitter.old }
+        ensures server { IsAt self.new.seen.instance submitter.new }
         ensures later { IsLater self.old.seen self.new.seen }
         ensures looks { self.new.looks ≡ self.old.looks }
         ensures seats { HasSameSeats self.old self.new }

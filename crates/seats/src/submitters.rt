@@ -11,7 +11,7 @@ use table::{Call, Reply};
 
 /// What waits at a seat.
 #[derive(Clone, Copy, PartialEq, Eq)]
-pub enum SubmittedKind {
+pub enum SubmitterStage {
     /// No call.
     Free,
     /// A read, whose reply is an item, or none.
@@ -28,7 +28,7 @@ pub enum SubmittedKind {
 #[derive(Drop)]
 pub struct Submitter {
     seat: Seat,
-    stage: SubmittedKind,
+    stage: SubmitterStage,
 }
 
 impl Model for Submitter {
@@ -63,7 +63,7 @@ impl Submitter {
     {
         Submitter {
             seat,
-            stage: SubmittedKind::Free,
+            stage: SubmitterStage::Free,
         }
     }
 
@@ -72,10 +72,10 @@ impl Submitter {
         ensures { MatchBool result (self.now.waiting ≡ None) (IsSome self.now.waiting) }
     {
         match self.stage {
-            SubmittedKind::Free => true,
-            SubmittedKind::Read => false,
-            SubmittedKind::Update => false,
-            SubmittedKind::Lost => true,
+            SubmitterStage::Free => true,
+            SubmitterStage::Read => false,
+            SubmitterStage::Update => false,
+            SubmitterStage::Lost => true,
         }
     }
 
@@ -89,7 +89,7 @@ impl Submitter {
     ) -> Result<(), CallFault>
         requires call { IsCall call }
         requires free { self.old.waiting ≡ None }
-        requires server { self.old.seat.origin ≡ call_sender.old.origin }
+        requires server { self.old.seat.instance ≡ call_sender.old.instance }
         ensures sent { OnOk result (self.new ≡
             record self.old { waiting = Some (record { sender = call_sender.old; call = call }) }) }
         ensures sender { OnOk result (call_sender.new ≡ with_call call_sender.old self.old.seat.port call) }
@@ -97,7 +97,7 @@ impl Submitter {
         ensures unsent { OnErr result (call_sender.new ≡ call_sender.old) }
         ensures spent { self.old.lost ≡ true → IsErr result }
     {
-        if let SubmittedKind::Lost = self.stage {
+        if let SubmitterStage::Lost = self.stage {
             drop(call);
             return Err(CallFault);
         }
@@ -109,7 +109,7 @@ impl Submitter {
             }
             Err(back) => {
                 drop(back);
-                self.stage = SubmittedKind::Lost;
+                self.stage = SubmitterStage::Lost;
                 Err(CallFault)
             }
         }
@@ -120,8 +120,8 @@ impl Submitter {
     /// isn't one to such a call, or if it is lost. After a refusal it is lost, and no call is open. It waits for
     /// nobody.
     pub fn take<R: Wait>(&mut self, rt: &R, reader: &mut Reader) -> Result<Option<Reply>, CallFault>
-        requires together { self.old.seat.origin ≡ reader.old.seen.origin }
-        ensures together { self.new.seat.origin ≡ reader.new.seen.origin }
+        requires together { self.old.seat.instance ≡ reader.old.seen.instance }
+        ensures together { self.new.seat.instance ≡ reader.new.seen.instance }
         ensures later { IsLater reader.old.seen reader.new.seen }
         ensures looks { reader.new.looks ≡ reader.old.looks }
         ensures taken { IfOk result (λ found. MatchOption found
@@ -133,9 +133,9 @@ impl Submitter {
         ensures spent { self.old.lost ≡ true → IsErr result }
     {
         match self.stage {
-            SubmittedKind::Free => return Ok(None),
-            SubmittedKind::Lost => return Err(CallFault),
-            SubmittedKind::Read | SubmittedKind::Update => {}
+            SubmitterStage::Free => return Ok(None),
+            SubmitterStage::Lost => return Err(CallFault),
+            SubmitterStage::Read | SubmitterStage::Update => {}
         }
         match self.seat.reply_if_any(rt) {
             Ok(None) => Ok(None),
@@ -144,7 +144,7 @@ impl Submitter {
                 Ok(Some(reply))
             }
             Err(_) => {
-                self.stage = SubmittedKind::Lost;
+                self.stage = SubmitterStage::Lost;
                 Err(CallFault)
             }
         }
@@ -152,49 +152,49 @@ impl Submitter {
 }
 
 // What is open once a call is sent.
-fn stage_of(call: &Call) -> SubmittedKind
+fn stage_of(call: &Call) -> SubmitterStage
     ensures { result ≡ stage_of call.now }
 {
     if call.op.is_update() {
-        SubmittedKind::Update
+        SubmitterStage::Update
     } else {
-        SubmittedKind::Read
+        SubmitterStage::Read
     }
 }
 
 // Takes a reply to the open call, and learns what comes with it. Refused if it isn't one to such a call.
 fn hear(
-    stage: &mut SubmittedKind,
+    stage: &mut SubmitterStage,
     reader: &mut Reader,
     reply: Reply,
     told: Told,
 ) -> Result<Reply, CallFault>
-    requires server { told.origin ≡ reader.old.seen.origin }
+    requires server { told.instance ≡ reader.old.seen.instance }
     ensures later { IsLater reader.old.seen reader.new.seen }
     ensures told { IsLater told reader.new.seen }
     ensures looks { reader.new.looks ≡ reader.old.looks }
     ensures reply { IfOk result (λ given. given ≡ reply) }
     ensures kind { OnOk result (IsReplyAt stage.old reply) }
-    ensures stage { MatchResult result (λ _. stage.new ≡ SubmittedKind.Free) (λ _. stage.new ≡ SubmittedKind.Lost) }
+    ensures stage { MatchResult result (λ _. stage.new ≡ SubmitterStage.Free) (λ _. stage.new ≡ SubmitterStage.Lost) }
 {
     reader.learn(told);
     if is_reply_at(*stage, &reply) {
-        *stage = SubmittedKind::Free;
+        *stage = SubmitterStage::Free;
         Ok(reply)
     } else {
-        *stage = SubmittedKind::Lost;
+        *stage = SubmitterStage::Lost;
         Err(CallFault)
     }
 }
 
 // Whether a reply is one to such a call.
-fn is_reply_at(stage: SubmittedKind, reply: &Reply) -> bool
+fn is_reply_at(stage: SubmitterStage, reply: &Reply) -> bool
     ensures { result ≡ is_reply_at stage reply.now }
 {
     let shows = matches!(reply, Reply::Value(_));
     match stage {
-        SubmittedKind::Read => shows,
-        SubmittedKind::Update => !shows,
-        SubmittedKind::Free | SubmittedKind::Lost => false,
+        SubmitterStage::Read => shows,
+        SubmitterStage::Update => !shows,
+        SubmitterStage::Free | SubmitterStage::Lost => false,
     }
 }

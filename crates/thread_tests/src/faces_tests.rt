@@ -153,7 +153,7 @@ fn opened<R: Wait>(
 
 // An input that may be given is taken.
 fn feed<R: Wait>(rt: &R, publisher: &mut Publisher, input: Input) -> Result<(), FaceFault>
-    ensures { publisher.new.published.origin ≡ publisher.old.published.origin }
+    ensures { publisher.new.published.instance ≡ publisher.old.published.instance }
 {
     if !input.is_fit() {
         drop(input);
@@ -195,7 +195,7 @@ fn shown_by(look: &Look<Item>) -> Shown {
 }
 
 fn look(beside: &mut Reader, key: &Key) -> Result<Shown, FaceFault>
-    ensures { beside.new.seen.origin ≡ beside.old.seen.origin }
+    ensures { beside.new.seen.instance ≡ beside.old.seen.instance }
 {
     match beside.look(key) {
         Ok(look) => {
@@ -210,7 +210,7 @@ fn look(beside: &mut Reader, key: &Key) -> Result<Shown, FaceFault>
 
 // What a look at the key `a` shows.
 fn look_at_a(alloc: Global, beside: &mut Reader) -> Result<Shown, FaceFault>
-    ensures { beside.new.seen.origin ≡ beside.old.seen.origin }
+    ensures { beside.new.seen.instance ≡ beside.old.seen.instance }
 {
     let a = key(alloc, b"a")?;
     let shown = look(beside, &a);
@@ -233,8 +233,8 @@ enum Step {
 }
 
 fn tells(publisher: &Publisher, beside: &mut Reader) -> bool
-    requires { beside.old.seen.origin ≡ publisher.now.published.origin }
-    ensures { beside.new.seen.origin ≡ beside.old.seen.origin }
+    requires { beside.old.seen.instance ≡ publisher.now.published.instance }
+    ensures { beside.new.seen.instance ≡ beside.old.seen.instance }
 {
     let told = publisher.published().again().tell();
     beside.learn(told.again());
@@ -242,7 +242,7 @@ fn tells(publisher: &Publisher, beside: &mut Reader) -> bool
 }
 
 fn weighs<R: Wait>(rt: &R, publisher: &mut Publisher, weight: Weight) -> Result<bool, FaceFault>
-    ensures { publisher.new.published.origin ≡ publisher.old.published.origin }
+    ensures { publisher.new.published.instance ≡ publisher.old.published.instance }
 {
     let first = publisher.weight() == weight;
     feed(rt, publisher, acknowledged(0))?;
@@ -256,8 +256,8 @@ fn goes<R: Wait>(
     beside: &mut Reader,
     step: Step,
 ) -> Result<bool, FaceFault>
-    requires { beside.old.seen.origin ≡ publisher.old.published.origin }
-    ensures { beside.new.seen.origin ≡ publisher.new.published.origin }
+    requires { beside.old.seen.instance ≡ publisher.old.published.instance }
+    ensures { beside.new.seen.instance ≡ publisher.new.published.instance }
 {
     match step {
         Step::Takes(taken) => {
@@ -278,7 +278,7 @@ fn all_go<R: Wait>(
     beside: &mut Reader,
     steps: &[Step],
 ) -> Result<bool, FaceFault>
-    requires { beside.old.seen.origin ≡ publisher.old.published.origin }
+    requires { beside.old.seen.instance ≡ publisher.old.published.instance }
 {
     for step in steps {
         if !goes(rt, alloc, publisher, beside, *step)? {

@@ -144,7 +144,7 @@ fn sets_of_ports(rt: HostRuntime) {
 
 // Whether a reader finds that a key has no item.
 fn finds_none(reader: &mut Reader, key: &Key) -> bool
-    ensures { reader.new.seen.origin ≡ reader.old.seen.origin }
+    ensures { reader.new.seen.instance ≡ reader.old.seen.instance }
 {
     match reader.look(key) {
         Ok(look) => {
@@ -185,7 +185,7 @@ impl<'a, R: Clock> Links for Held<'a, R> {
     ghost state = { λ s. record {
       list = [];
       failures = λ j. s.failures;
-      wire = λ j. [];
+      carried = λ j. [];
       spelled = λ peer. [];
     } };
 

@@ -25,7 +25,7 @@ use Rattle.interleavings.specs.Moves.{Looks, done, moved_from, moved}
 use Rattle.interleavings.specs.Orders.{begun_call, reply_to}
 use Rattle.interleavings.specs.WorkedRuns.{key, set, item, set_homes, set_moves, failover_homes, set_is_taken}
 use Rattle.interleavings.specs.WorkedRuns.{tail_stops, look_while_dirty, failover_moves}
-use Rattle.interleavings.proofs.lists.Ordinals.{at_same, at_other}
+use Rattle.interleavings.proofs.lists.ChangedFunctions.{at_same, at_other}
 use Rattle.interleavings.proofs.examples.AskedCalls.{set_asked, get_asked}
 use Rattle.interleavings.proofs.examples.InTwoParts.{moved_from-append}
 use Rattle.interleavings.proofs.examples.MissedSet.{served_seats, served_first, served_other}

@@ -18,7 +18,7 @@ use Rattle.interleavings.specs.Moves.{Move, Looks, read_of}
 use Rattle.interleavings.specs.Orders.{begun_call, reply_to}
 use Rattle.interleavings.specs.OtherMoves.{Doing, moved_by, PrecedesBy, IsLinearizationBy, HasNoOrder}
 use Rattle.interleavings.specs.WorkedRuns.{key, set}
-use Rattle.interleavings.proofs.lists.Ordinals.{at_same, at_other}
+use Rattle.interleavings.proofs.lists.ChangedFunctions.{at_same, at_other}
 use Rattle.interleavings.proofs.relation.Transfer.{take_front}
 use Rattle.interleavings.proofs.examples.InTwoParts.{moved_from_by-append}
 use Rattle.interleavings.proofs.examples.WorkedLooks.{looked_seat}

@@ -14,7 +14,7 @@ use Rattle.interleavings.specs.Quiet.{IsQuiet}
 use Rattle.interleavings.specs.WorkedRuns.{set_homes}
 use Rattle.interleavings.specs.WorkedRuns.{lossy_moves}
 use Rattle.interleavings.specs.WrongMoves.{with_lossy_channels}
-use Rattle.interleavings.proofs.lists.Ordinals.{kept_at}
+use Rattle.interleavings.proofs.lists.ChangedFunctions.{kept_at}
 use Rattle.interleavings.proofs.examples.MissedSet.{set_seat}
 use Rattle.interleavings.proofs.examples.QuietPairs.{IsDone, by_two, on_below, stopped_below, quiet_pair}
 

@@ -17,7 +17,7 @@ use Rattle.interleavings.specs.Orders.{reply_to}
 use Rattle.interleavings.specs.Quiet.{goes_on, IsQuiet}
 use Rattle.interleavings.specs.WorkedRuns.{set_homes, set_moves, failover_homes, set_is_taken, tail_stops}
 use Rattle.interleavings.specs.WorkedRuns.{failover_moves, item, set_is_committed, cut_moves}
-use Rattle.interleavings.proofs.lists.Ordinals.{kept_at}
+use Rattle.interleavings.proofs.lists.ChangedFunctions.{kept_at}
 use Rattle.interleavings.proofs.examples.AskedCalls.{set_asked}
 use Rattle.interleavings.proofs.examples.Answered.{second, second_served, last_is}
 use Rattle.interleavings.proofs.examples.MissedSet.{served_seats}

@@ -21,7 +21,7 @@ use Rattle.interleavings.specs.Moves.{moved}
 use Rattle.interleavings.specs.Orders.{begun_call, reply_to, PublishedBefore, IsLinearization, IsInTurn}
 use Rattle.interleavings.specs.WorkedRuns.{set, other_set, flight_homes, flight_moves}
 use Rattle.interleavings.proofs.examples.AskedCalls.{set_asked}
-use Rattle.interleavings.proofs.lists.Ordinals.{kept_at}
+use Rattle.interleavings.proofs.lists.ChangedFunctions.{kept_at}
 use Rattle.interleavings.proofs.relation.Published.{begun_still}
 
 -- clients can ask both sets

@@ -7,7 +7,7 @@ use Rattle.world.specs.Worlds.{World}
 use Rattle.interleavings.specs.Chains.{RunningServer, Chain, with_running, messages_from, messages_to, calls_from}
 use Rattle.interleavings.specs.Chains.{replies_to}
 use Rattle.interleavings.proofs.relation.StandsFor.{StandsFor, queue, sits_still, under_way}
-use Rattle.interleavings.proofs.lists.Ordinals.{kept_at}
+use Rattle.interleavings.proofs.lists.ChangedFunctions.{kept_at}
 
 -- a server that has the same queue, the same left to put, and is the same otherwise
 pub record IsAlike (s t : RunningServer) : Type 0 where

@@ -8,7 +8,7 @@ use Rattle.interleavings.specs.Chains.{Chain, with_at, with_channel, messages_fr
 use Rattle.interleavings.specs.Moves.{Arrives, arrived, brought, done}
 use Rattle.interleavings.proofs.passing.Passes.{Passes, passes}
 use Rattle.interleavings.proofs.relation.StandsFor.{StandsFor, queue, sits_still, under_way}
-use Rattle.interleavings.proofs.lists.Ordinals.{at_other, at_same}
+use Rattle.interleavings.proofs.lists.ChangedFunctions.{at_other, at_same}
 use Rattle.interleavings.proofs.passing.Inboxes.{brought_node, brought_outbox, brought_stopped, calls_brought}
 use Rattle.interleavings.proofs.passing.Inboxes.{from_brought, in_brought, queue_apart, queue_brought}
 use Rattle.interleavings.proofs.lists.Joined.{messages_from-append}

@@ -6,7 +6,7 @@ use Rattle.node.specs.declared.messages.Input.{Input}
 use Rattle.node.proofs.Lists.{In, in_pushed}
 use Rattle.interleavings.specs.Chains.{RunningServer, Chain, messages_from, calls_from}
 use Rattle.interleavings.specs.Moves.{brought}
-use Rattle.interleavings.proofs.lists.Ordinals.{at_other, at_same, kept_at}
+use Rattle.interleavings.proofs.lists.ChangedFunctions.{at_other, at_same, kept_at}
 use Rattle.interleavings.proofs.lists.Joined.{calls_from-append, messages_from-append}
 use Rattle.interleavings.proofs.relation.StandsFor.{listed, queue}
 

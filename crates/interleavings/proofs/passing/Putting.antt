@@ -10,7 +10,7 @@ use Rattle.interleavings.specs.Chains.{messages_to, without_message, calls_from,
 use Rattle.interleavings.specs.Moves.{Puts, put, done}
 use Rattle.interleavings.proofs.passing.Passes.{Passes, passes}
 use Rattle.interleavings.proofs.relation.StandsFor.{StandsFor, queue, sits_still}
-use Rattle.interleavings.proofs.lists.Ordinals.{at_other, at_same, kept_at}
+use Rattle.interleavings.proofs.lists.ChangedFunctions.{at_other, at_same, kept_at}
 use Rattle.interleavings.proofs.lists.Removed.{messages_without_first, others_without_message, replies_without_message}
 
 module _ (l : Chain) (w : World) (i j : ℕ) (h : StandsFor l w) (m : Peer) (ms : List Peer)

@@ -9,7 +9,7 @@ use Rattle.world.specs.Worlds.{World}
 use Rattle.interleavings.specs.Chains.{Seat, Chain, with_at, with_seat}
 use Rattle.interleavings.specs.Moves.{Receives, received, done}
 use Rattle.interleavings.proofs.relation.StandsFor.{Sits, StandsFor, sits_still}
-use Rattle.interleavings.proofs.lists.Ordinals.{at_other, at_same}
+use Rattle.interleavings.proofs.lists.ChangedFunctions.{at_other, at_same}
 use Rattle.interleavings.proofs.passing.Passes.{passes}
 
 got_more : (l m : Chain) (w : World) (o : Option Connection) (s : Seat) (reply : Reply) (more : List Reply)

@@ -12,7 +12,7 @@ use Rattle.interleavings.specs.Moves.{Takes, took, done}
 use Rattle.interleavings.proofs.passing.Alike.{IsAlike, alike_itself, alike_stands}
 use Rattle.interleavings.proofs.passing.Passes.{Passes, passes}
 use Rattle.interleavings.proofs.relation.StandsFor.{StandsFor, listed, queue, sits_still}
-use Rattle.interleavings.proofs.lists.Ordinals.{at_other, at_same, kept_at}
+use Rattle.interleavings.proofs.lists.ChangedFunctions.{at_other, at_same, kept_at}
 use Rattle.interleavings.proofs.lists.FirstOf.{calls_picked, from_picked, in_picked}
 
 module _ (l : Chain) (w : World) (i : ℕ) (sender : Sender) (h : StandsFor l w) (x : Input)

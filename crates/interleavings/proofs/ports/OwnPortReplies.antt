@@ -9,7 +9,7 @@ use Rattle.interleavings.specs.Chains.{OfNotices, first_of}
 use Rattle.interleavings.specs.Moves.{Takes, Replies, reply_put, took, done}
 use Rattle.interleavings.specs.OwnPorts.{port_at, reply_put_from, with_own_ports}
 use Rattle.interleavings.specs.Ports.{output_to}
-use Rattle.interleavings.proofs.lists.Ordinals.{at_self}
+use Rattle.interleavings.proofs.lists.ChangedFunctions.{at_self}
 use Rattle.interleavings.proofs.ports.RenamedChains.{Same, of_chain, seat_there, same_server, same_seat}
 use Rattle.interleavings.proofs.ports.RenamedServers.{running_renamed, replies_renamed, without_reply_renamed}
 use Rattle.interleavings.proofs.ports.OwnPortMoves.{named, where_not}

@@ -10,7 +10,7 @@ use Rattle.interleavings.specs.Chains.{RunningServer, Seat, Chain, with_at, with
 use Rattle.interleavings.specs.Chains.{opening_chain}
 use Rattle.interleavings.specs.Moves.{brought}
 use Rattle.interleavings.specs.Ports.{input_at}
-use Rattle.interleavings.proofs.lists.Ordinals.{at_other, at_same, kept_at}
+use Rattle.interleavings.proofs.lists.ChangedFunctions.{at_other, at_same, kept_at}
 use Rattle.interleavings.proofs.ports.SeatNames.{seat_in}
 use Rattle.interleavings.proofs.ports.RenamedServers.{running_renamed}
 

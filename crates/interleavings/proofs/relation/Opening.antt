@@ -11,7 +11,7 @@ use Rattle.world.proofs.trace.IdLaws.{nowhere}
 use Rattle.world.proofs.trace.Outsets.{length-opening_servers, server_outset, link_outset, fresh_at, nothing_in}
 use Rattle.interleavings.specs.Chains.{opening_chain, opening_seat}
 use Rattle.interleavings.proofs.relation.StandsFor.{IsSeat, Sits, StandsFor, call_at, reply_at}
-use Rattle.interleavings.proofs.lists.Ordinals.{same_both}
+use Rattle.interleavings.proofs.lists.ChangedFunctions.{same_both}
 
 no_call : (i : ℕ) (o : Option Connection)
     → ((k : Connection) → o ≡ Some k → (home : ℕ) × (k ≡ fresh home))

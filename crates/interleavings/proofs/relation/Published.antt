@@ -26,7 +26,7 @@ use Rattle.interleavings.specs.Moves.{publishing, put, arrived, reply_put, has_s
 use Rattle.interleavings.specs.Orders.{begun_call, waiting_calls, is_published}
 use Rattle.interleavings.proofs.lists.FirstOf.{calls_picked}
 use Rattle.interleavings.proofs.lists.Joined.{calls_from-append}
-use Rattle.interleavings.proofs.lists.Ordinals.{at_other, at_same, kept_at}
+use Rattle.interleavings.proofs.lists.ChangedFunctions.{at_other, at_same, kept_at}
 use Rattle.interleavings.proofs.passing.Inboxes.{queue_brought, calls_brought}
 use Rattle.interleavings.proofs.passing.Taking.{none_of}
 use Rattle.interleavings.proofs.ports.RenamedServers.{publishing_stopped}

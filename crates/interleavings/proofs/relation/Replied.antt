@@ -27,7 +27,7 @@ use Rattle.interleavings.specs.Moves.{Notices, is_free, read_of, brought, receiv
 use Rattle.interleavings.specs.Moves.{has_stopped, done, moved_from, moved}
 use Rattle.interleavings.specs.Asked.{AreAsked}
 use Rattle.interleavings.specs.Orders.{reply_to, waiting_calls, is_published}
-use Rattle.interleavings.proofs.lists.Ordinals.{kept_at, at_other}
+use Rattle.interleavings.proofs.lists.ChangedFunctions.{kept_at, at_other}
 use Rattle.interleavings.proofs.relation.Following.{Simulates}
 use Rattle.interleavings.proofs.relation.Given.{given_or_waits}
 use Rattle.interleavings.proofs.relation.Opening.{opens}

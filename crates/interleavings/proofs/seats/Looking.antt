@@ -29,7 +29,7 @@ use Rattle.interleavings.proofs.relation.StandsFor.{IsSeat, Reaches, Sits, Stand
 use Rattle.interleavings.proofs.seats.OneSeat.{Reconnects, WaitsFor, one_seat, reconnects, reconnects_twice}
 use Rattle.interleavings.proofs.seats.Sending.{all_answered, all_heard, at_idle, away_stopped, begins_call, call_opened}
 use Rattle.interleavings.proofs.seats.Sending.{rested_after, seat_lives, with_call}
-use Rattle.interleavings.proofs.lists.Ordinals.{at_self, same_both}
+use Rattle.interleavings.proofs.lists.ChangedFunctions.{at_self, same_both}
 use Rattle.node.proofs.CleanReads.{clean_step}
 use Rattle.proto.proofs.RestedLaws.{rested_answered}
 

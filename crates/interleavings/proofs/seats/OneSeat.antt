@@ -11,7 +11,7 @@ use Rattle.world.specs.Worlds.{World, server, link, lives, with_connection}
 use Rattle.interleavings.specs.Chains.{RunningServer, Seat, Chain, with_at, with_running, with_seat, messages_from}
 use Rattle.interleavings.specs.Chains.{messages_to, calls_from, replies_to}
 use Rattle.interleavings.proofs.relation.StandsFor.{IsSeat, Sits, StandsFor, call_at, listed, queue, reply_at}
-use Rattle.interleavings.proofs.lists.Ordinals.{at_other, at_same, kept_at}
+use Rattle.interleavings.proofs.lists.ChangedFunctions.{at_other, at_same, kept_at}
 use Rattle.world.proofs.lists.Changed.{changed_other, changed_same}
 
 -- the c-th connection is this from now on, and all else is as it was

@@ -18,7 +18,7 @@ use Rattle.interleavings.proofs.relation.StandsFor.{reply_at}
 use Rattle.interleavings.proofs.seats.OneSeat.{Reconnects, WaitsFor, one_seat, reconnects}
 use Rattle.interleavings.proofs.lists.Removed.{messages_without_reply, others_without_reply, replies_without_first}
 use Rattle.proto.proofs.RestedLaws.{rested_answered}
-use Rattle.interleavings.proofs.lists.Ordinals.{same_both}
+use Rattle.interleavings.proofs.lists.ChangedFunctions.{same_both}
 
 -- ---- the reply that waits
 

@@ -25,7 +25,7 @@ use Rattle.proto.proofs.RestedLaws.{GivesRested, IsRested}
 use Rattle.interleavings.proofs.relation.StandsFor.{IsSeat, Reaches, Sits, StandsFor, Tallies, call_at, listed, queue}
 use Rattle.interleavings.proofs.relation.StandsFor.{reply_at, sits_still}
 use Rattle.interleavings.proofs.seats.OneSeat.{Reconnects, WaitsFor, one_seat, reconnects, reconnects_twice}
-use Rattle.interleavings.proofs.lists.Ordinals.{at_other, at_same, same_both}
+use Rattle.interleavings.proofs.lists.ChangedFunctions.{at_other, at_same, same_both}
 use Rattle.interleavings.proofs.passing.Inboxes.{brought_node, brought_outbox, brought_stopped, from_brought}
 use Rattle.interleavings.proofs.passing.Inboxes.{in_brought, queue_apart}
 use Rattle.interleavings.proofs.lists.Joined.{calls_from-append, messages_from-append}

@@ -18,7 +18,7 @@ use Rattle.interleavings.specs.Moves.{Move, Sends, Takes, Publishes, Puts, Arriv
 use Rattle.interleavings.specs.Moves.{Notices, is_free, read_of, looked, put, arrived, reply_put}
 use Rattle.interleavings.specs.Moves.{has_stopped, brought, done}
 use Rattle.interleavings.specs.ServingMoves.{reply_by, look_reply, is_of_seat}
-use Rattle.interleavings.proofs.lists.Ordinals.{kept_at}
+use Rattle.interleavings.proofs.lists.ChangedFunctions.{kept_at}
 
 -- the seats after a call was sent,
 pub sends_seats : (l : Chain) (c : ℕ) (call : Call)

@@ -27,7 +27,7 @@ use Rattle.interleavings.specs.ServingMoves.{ServingChain, ServingMove, Reads, B
 use Rattle.interleavings.specs.ServingMoves.{Writes, Ends, Runs, served_at, with_served, with_move, refusing, asking}
 use Rattle.interleavings.specs.ServingMoves.{key_read, key_due, look_reply, peeked, peeking, answering, is_of_seat}
 use Rattle.interleavings.specs.ServingMoves.{served_by}
-use Rattle.interleavings.proofs.lists.Ordinals.{at_same, at_other, at_self}
+use Rattle.interleavings.proofs.lists.ChangedFunctions.{at_same, at_other, at_self}
 use Rattle.interleavings.proofs.served.Connected.{as_list, IsConnected, connected_heard, connected_begun}
 use Rattle.interleavings.proofs.served.Connected.{connected_made, connected_answered, connected_wrote, counted}
 use Rattle.interleavings.proofs.served.Connected.{is_served}

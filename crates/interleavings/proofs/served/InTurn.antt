@@ -9,7 +9,7 @@ use Rattle.table.specs.declared.operations.Call.{Call}
 use Rattle.table.specs.declared.operations.Reply.{Reply}
 use Rattle.node.proofs.Lists.{get_last}
 use Rattle.interleavings.specs.Chains.{with_at}
-use Rattle.interleavings.proofs.lists.Ordinals.{at_same, at_other, at_self}
+use Rattle.interleavings.proofs.lists.ChangedFunctions.{at_same, at_other, at_self}
 
 -- ---- two lists, one after the other
 

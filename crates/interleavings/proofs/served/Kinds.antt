@@ -28,7 +28,7 @@ use Rattle.interleavings.specs.Orders.{begun_call, reply_to}
 use Rattle.interleavings.specs.Connections.{Connection, waits, may_have}
 use Rattle.interleavings.specs.ServingMoves.{ServingChain, ServingMove, served_at, opening_serving, served}
 use Rattle.interleavings.proofs.examples.InTwoParts.{moved_from-append}
-use Rattle.interleavings.proofs.lists.Ordinals.{at_same}
+use Rattle.interleavings.proofs.lists.ChangedFunctions.{at_same}
 use Rattle.interleavings.proofs.relation.Following.{linearizable}
 use Rattle.interleavings.proofs.runs.Simulating.{simulates}
 use Rattle.interleavings.proofs.served.Connected.{is_served}

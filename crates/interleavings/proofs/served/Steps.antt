@@ -14,7 +14,7 @@ use Rattle.interleavings.specs.Asked.{AreAsked, IsAskedBy}
 use Rattle.interleavings.specs.Connections.{Connection}
 use Rattle.interleavings.specs.ServingMoves.{ServingChain}
 use Rattle.interleavings.specs.ServingMoves.{served_at, with_served}
-use Rattle.interleavings.proofs.lists.Ordinals.{at_same, at_other, at_self}
+use Rattle.interleavings.proofs.lists.ChangedFunctions.{at_same, at_other, at_self}
 use Rattle.interleavings.proofs.served.Connected.{IsConnected}
 use Rattle.interleavings.proofs.served.InTurn.{InTurn}
 use Rattle.interleavings.proofs.served.ChainMoves.{SameCalls}

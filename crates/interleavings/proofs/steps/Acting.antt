@@ -19,7 +19,7 @@ use Rattle.interleavings.proofs.steps.Awaited.{HasIts, asked_calls, asked_replie
 use Rattle.interleavings.proofs.steps.Awaited.{replied_calls, replied_other, replied_own}
 use Rattle.interleavings.proofs.relation.StandsFor.{IsSeat, Sits, StandsFor, Tallies, call_at, queue, reply_at}
 use Rattle.interleavings.proofs.relation.StandsFor.{under_way}
-use Rattle.interleavings.proofs.lists.Ordinals.{at_other, at_same, kept_at}
+use Rattle.interleavings.proofs.lists.ChangedFunctions.{at_other, at_same, kept_at}
 use Rattle.interleavings.proofs.lists.Joined.{messages_to-append, replies_to-append, sent_same}
 
 -- server i is what a step made of it, and what that put out is left to put

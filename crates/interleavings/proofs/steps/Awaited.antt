@@ -17,7 +17,7 @@ use Rattle.world.proofs.trace.WorldLaws.{changed_one}
 use Rattle.interleavings.specs.Chains.{replies_to}
 use Rattle.interleavings.proofs.relation.StandsFor.{call_at, listed, reply_at}
 use Rattle.world.proofs.lists.Changed.{none_changed}
-use Rattle.interleavings.proofs.lists.Ordinals.{same_both}
+use Rattle.interleavings.proofs.lists.ChangedFunctions.{same_both}
 
 -- its open call has the one reply among them, or there is none
 abbrev pub HasIts : ℕ → List Output → ℕ → Connection → Connection → Type 0

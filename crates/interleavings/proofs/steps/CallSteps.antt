@@ -23,7 +23,7 @@ use Rattle.interleavings.proofs.relation.StandsFor.{reply_at}
 use Rattle.interleavings.proofs.steps.StepsPublished.{StepIsPublished, freed, publishes_is, step_is_published}
 use Rattle.interleavings.proofs.steps.Acting.{acts}
 use Rattle.world.proofs.lists.Changed.{changed_other, changed_same}
-use Rattle.interleavings.proofs.lists.Ordinals.{same_both}
+use Rattle.interleavings.proofs.lists.ChangedFunctions.{same_both}
 
 -- ---- the first of the queue is this call: its connection has begun it
 

@@ -8,7 +8,7 @@ use Rattle.interleavings.specs.Chains.{RunningServer, Chain, with_at, with_runni
 use Rattle.interleavings.specs.Chains.{calls_from}
 use Rattle.interleavings.specs.Moves.{Publishes, published, publishing, done}
 use Rattle.interleavings.proofs.steps.Acting.{act}
-use Rattle.interleavings.proofs.lists.Ordinals.{at_other, at_same, at_twice, kept_at}
+use Rattle.interleavings.proofs.lists.ChangedFunctions.{at_other, at_same, at_twice, kept_at}
 use Rattle.interleavings.proofs.relation.StandsFor.{listed, queue, under_way}
 
 -- the server, with nothing unpublished

@@ -15,7 +15,7 @@ use Rattle.interleavings.specs.Chains.{replies_to}
 use Rattle.interleavings.specs.Moves.{Stops, done}
 use Rattle.interleavings.proofs.relation.StandsFor.{Reaches, Sits, StandsFor, queue}
 use Rattle.interleavings.proofs.passing.Alike.{alike_stands}
-use Rattle.interleavings.proofs.lists.Ordinals.{at_other, at_same, kept_at}
+use Rattle.interleavings.proofs.lists.ChangedFunctions.{at_other, at_same, kept_at}
 
 or_none : (b : Bool) → (b || false) ≡ b
 or_none true = refl

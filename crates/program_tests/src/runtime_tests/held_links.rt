@@ -67,7 +67,7 @@ impl<R: Wait + Drop> Links for Barrier<R> {
     ghost state = { λ barrier. record {
       list = barrier.put.items;
       failures = λ server. 0;
-      wire = λ server. [];
+      carried = λ server. [];
       spelled = λ peer. [];
     } };
 
@@ -288,8 +288,8 @@ fn start_last<
         pools,
         inlets,
     } = pooled;
-    let around = context(alloc, id, &failed, gauge, loop_handles);
-    let thread = start_worker(rt, worker, links, around)?;
+    let worker_context = context(alloc, id, &failed, gauge, loop_handles);
+    let thread = start_worker(rt, worker, links, worker_context)?;
     Some((Started { thread, inlets }, pools, failed))
 }
 
@@ -314,15 +314,20 @@ fn context(
 fn start_worker<
     R: Wait + Threads + Copy + Drop + Send + 'static,
     L: Links + WritesOut + Drop + Send + 'static,
->(rt: R, worker: Worker<R>, links: L, around: Option<WorkerContext>) -> Option<JoinHandle<Rest>> {
-    let Some(around) = around else {
+>(
+    rt: R,
+    worker: Worker<R>,
+    links: L,
+    worker_context: Option<WorkerContext>,
+) -> Option<JoinHandle<Rest>> {
+    let Some(worker_context) = worker_context else {
         drop(worker);
         drop(links);
         return None;
     };
     let started = thread::spawn(&rt, move || {
         let mut links = links;
-        work(&rt, worker, &mut links, &around)
+        work(&rt, worker, &mut links, &worker_context)
     });
     started.ok()
 }

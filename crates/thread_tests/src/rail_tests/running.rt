@@ -172,7 +172,7 @@ impl Links for Down {
     ghost state = { λ s. record {
       list = [];
       failures = λ j. s.failures;
-      wire = λ j. [];
+      carried = λ j. [];
       spelled = λ peer. [];
     } };
 
@@ -237,9 +237,9 @@ fn set_of_a(alloc: Global) -> Result<Call, RailFault> {
 
 // Whether a sender sends a call of this seat, which has to be one that may be asked.
 fn sends<R: Wait>(rt: &R, call_sender: &mut CallSender, seat: &mut Seat, call: Call) -> bool
-    requires { seat.old.origin ≡ call_sender.old.origin }
-    ensures seat { seat.new.origin ≡ seat.old.origin }
-    ensures sender { call_sender.new.origin ≡ call_sender.old.origin }
+    requires { seat.old.instance ≡ call_sender.old.instance }
+    ensures seat { seat.new.instance ≡ seat.old.instance }
+    ensures sender { call_sender.new.instance ≡ call_sender.old.instance }
 {
     if call.op.fits() && call.op.suits(&call.target) {
         match call_sender.submit(rt, seat, call) {
@@ -285,7 +285,7 @@ fn is_v(look: &Look<Item>) -> bool {
 
 // Whether a reader finds what was set at a key.
 fn finds_v(reader: &mut Reader, key: &Key) -> Result<bool, RailFault>
-    ensures { reader.new.seen.origin ≡ reader.old.seen.origin }
+    ensures { reader.new.seen.instance ≡ reader.old.seen.instance }
 {
     match reader.look(key) {
         Ok(look) => {
@@ -300,7 +300,7 @@ fn finds_v(reader: &mut Reader, key: &Key) -> Result<bool, RailFault>
 
 // Whether a reader finds what was set.
 fn finds_a(alloc: Global, reader: &mut Reader) -> Result<bool, RailFault>
-    ensures { reader.new.seen.origin ≡ reader.old.seen.origin }
+    ensures { reader.new.seen.instance ≡ reader.old.seen.instance }
 {
     let a = key(alloc, b"a")?;
     finds_v(reader, &a)
@@ -313,8 +313,8 @@ fn is_its_write(
     reply: Reply,
     told: Told,
 ) -> Result<bool, RailFault>
-    requires { told.origin ≡ reader.old.seen.origin }
-    ensures { reader.new.seen.origin ≡ reader.old.seen.origin }
+    requires { told.instance ≡ reader.old.seen.instance }
+    ensures { reader.new.seen.instance ≡ reader.old.seen.instance }
 {
     let stored = matches!(reply, Reply::Stored);
     drop(reply);

@@ -15,7 +15,7 @@ pub see-found-requires : goal.see-found-requires
 see-found-requires c =
     let told = c.in-Ok.ensures.1 in
     record {
-      server = ap (λ (z : Shown). z.history.origin) c.get.ensures
+      server = ap (λ (z : Shown). z.history.instance) c.get.ensures
           ∙ (sym (told.same c.requires.server.0) ∙ c.requires.server.1);
     }
 

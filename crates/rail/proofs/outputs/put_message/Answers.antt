@@ -21,7 +21,7 @@ returns-in-Ok-clause-ok g c =
 pub returns-in-Ok-clause-carried : goal.returns-in-Ok-clause-carried
 returns-in-Ok-clause-carried g c =
     carried_one (g.L.Links.state c.args.links.now) (g.L.Links.state c.put.new.self) c.args.to c.args.peer
-    c.put.ensures.failures c.put.ensures.elsewhere c.put.ensures.spelled c.in-Ok.ensures.ok c.in-Ok.ensures.wire
+    c.put.ensures.failures c.put.ensures.elsewhere c.put.ensures.spelled c.in-Ok.ensures.ok c.in-Ok.ensures.carried
 
 pub returns-in-Err-LinkDown-clause-ok : goal.returns-in-Err-LinkDown-clause-ok
 returns-in-Err-LinkDown-clause-ok g c =

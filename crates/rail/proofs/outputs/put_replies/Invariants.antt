@@ -8,5 +8,5 @@ use Rattle.rail.proofs.outputs.put_replies.Given as goal
 abbrev pub invariant-loop-output : goal.invariant-loop-output
 invariant-loop-output g l =
     (done : List Output) × (l.fn.outputs.items ≡ done ++ into_iter_items l.output-iterator)
-    × AreReplySenders l.published.origin 0 l.reply_senders.items
+    × AreReplySenders l.published.instance 0 l.reply_senders.items
     × HasReplied l.published 0 l.fn.reply_senders.items l.reply_senders.items done

@@ -11,17 +11,18 @@ put-requires g c =
     let reply_message = c.new-reply_message.ensures in
     let told = c.tell.ensures in
     (λ i. record {
-      origin = ((ap (λ (l : NotedReply). l.told.origin) reply_message) ∙ ap (λ t. t.origin) told) i;
+      instance = ((ap (λ (l : NotedReply). l.told.instance) reply_message) ∙ ap (λ t. t.instance) told) i;
       port = (reply_message i).port;
     })
-    ∙ sym (ap (λ (p : ReplySenderState). p.address) c.index_mut.ensures.value ∙ address_at c.args.published.now.origin 0
-    c.args.port c.args.port reply_senders c.index_mut.result.now within (omega arith) c.requires.reply_senders)
+    ∙ sym (ap (λ (p : ReplySenderState). p.address) c.index_mut.ensures.value
+    ∙ address_at c.args.published.now.instance 0 c.args.port
+    c.args.port reply_senders c.index_mut.result.now within (omega arith) c.requires.reply_senders)
 
 pub returns-clause-reply_senders : goal.returns-clause-reply_senders
 returns-clause-reply_senders g c =
     let reply_senders = c.args.reply_senders.now.items in
     let within = c.requires.port in
-    are_set c.args.published.now.origin 0 c.args.port reply_senders c.index_mut.result.now c.put.new.self within
+    are_set c.args.published.now.instance 0 c.args.port reply_senders c.index_mut.result.now c.put.new.self within
     (c.put.ensures.put.address ∙ ap (λ (p : ReplySenderState). p.address) c.index_mut.ensures.value)
     c.requires.reply_senders
 

@@ -11,12 +11,12 @@ pub loop-port-preserved : goal.loop-port-preserved
 loop-port-preserved c =
     let at = c.loop-port.invariant in
     let k = c.loop-port.port in
-    let o = c.args.publisher.now.published.origin in
+    let o = c.args.publisher.now.published.instance in
     let b = c.args.inbox_builder.now.pass.table_id in
     let thread_handle = c.in_ok-thread_handle.ensures.thread_handle
-    ∙ (λ i. thread_handle_at (at.publisher i).published.origin (at.inbox i) k) in
+    ∙ (λ i. thread_handle_at (at.publisher i).published.instance (at.inbox i) k) in
     let reply_sender = c.in_ok-thread_handle.ensures.reply_sender
-    ∙ ap (λ (p : Publishing). reply_sender_at p.published.origin k) at.publisher in
+    ∙ ap (λ (p : Publishing). reply_sender_at p.published.instance k) at.publisher in
     let pushed : c.push-in-loop-port.new.self.items ≡ c.loop-port.reply_senders.items
     ++ c.in_ok-thread_handle.reply_sender ∷ [] =
     search rules in

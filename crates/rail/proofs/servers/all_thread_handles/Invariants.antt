@@ -10,8 +10,8 @@ invariant-loop-port l = record {
   publisher : l.publisher ≡ l.fn.publisher;
   inbox_builder : view l.inbox_builder.pass ≡ taker l.port (view l.fn.inbox_builder.pass).ports [];
   inbox : l.inbox_builder.pass.table_id ≡ l.fn.inbox_builder.pass.table_id;
-  thread_handles : l.thread_handles.items ≡ thread_handles_from l.fn.publisher.published.origin
+  thread_handles : l.thread_handles.items ≡ thread_handles_from l.fn.publisher.published.instance
       l.fn.inbox_builder.pass.table_id 0
       l.port;
-  reply_senders : l.reply_senders.items ≡ reply_senders_from l.fn.publisher.published.origin 0 l.port;
+  reply_senders : l.reply_senders.items ≡ reply_senders_from l.fn.publisher.published.instance 0 l.port;
 }

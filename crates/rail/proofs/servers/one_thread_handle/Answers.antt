@@ -8,4 +8,4 @@ pub returns-clause-thread_handle : goal.returns-clause-thread_handle
 returns-clause-thread_handle c =
     let same = c.published.ensures ∙ ap (λ (p : Publishing). p.published) c.one_reader.ensures.publisher in
     c.in_ok-made.ensures.thread_handle
-    ∙ ap (λ (x : History). thread_handle_at x.origin c.args.inbox_builder.now.pass.table_id c.args.port) same
+    ∙ ap (λ (x : History). thread_handle_at x.instance c.args.inbox_builder.now.pass.table_id c.args.port) same

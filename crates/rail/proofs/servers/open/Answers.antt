@@ -18,23 +18,23 @@ new-worker-requires-clause-ports g c =
     ap (λ (v : InboxKnowledge). v.ports) c.close.ensures.pass
     ∙ (made.inbox_builder.0
     ∙ sym (ap length made.reply_senders
-    ∙ length_opened c.in-Ok.publisher.published.origin 0 (c.args.readers + c.args.more)))
+    ∙ length_opened c.in-Ok.publisher.published.instance 0 (c.args.readers + c.args.more)))
 
 pub new-worker-requires-clause-reply_senders : goal.new-worker-requires-clause-reply_senders
 new-worker-requires-clause-reply_senders g c =
     let same = sym c.beside.ensures.publisher in
     let reply_senders = sym c.in-Ok-beside.ensures.reply_senders in
-    subst (λ (x : Publishing × List ReplySenderState). AreReplySenders x.0.published.origin 0 x.1)
+    subst (λ (x : Publishing × List ReplySenderState). AreReplySenders x.0.published.instance 0 x.1)
     (λ i. (same i, reply_senders i))
-    (are_opened c.in-Ok.publisher.published.origin 0 (c.args.readers + c.args.more))
+    (are_opened c.in-Ok.publisher.published.instance 0 (c.args.readers + c.args.more))
 
 pub new-worker-requires-clause-open : goal.new-worker-requires-clause-open
 new-worker-requires-clause-open g c =
     let same = c.beside.ensures.publisher in
-    let start = ap (λ (x : Publishing). x.published.origin.start) same ∙ c.in-Ok.ensures.start in
+    let start = ap (λ (x : Publishing). x.published.instance.start) same ∙ c.in-Ok.ensures.start in
     let none = ap (λ (x : Publishing). x.published.inputs) same ∙ c.in-Ok.ensures.inputs in
     let n = length c.in-Ok-beside.reply_senders.items in
-    subst (λ (is : List Input). AreOpenBelow n (after c.beside.new.publisher.published.origin.start is)) (sym none)
+    subst (λ (is : List Input). AreOpenBelow n (after c.beside.new.publisher.published.instance.start is)) (sym none)
     (subst (AreOpenBelow n) (sym start) (idle_below c.args.node n c.requires.idle))
 
 pub returns-in-Ok-beside : goal.returns-in-Ok-beside
@@ -42,17 +42,17 @@ returns-in-Ok-beside g c =
     let same = c.beside.ensures.publisher in
     let made = c.in-Ok-beside.ensures in
     let none = ap (λ (x : Publishing). x.published.inputs) same ∙ c.in-Ok.ensures.inputs in
-    let o = c.in-Ok.publisher.published.origin in
+    let o = c.in-Ok.publisher.published.instance in
     let inbox = sym (c.close.ensures.inbox ∙ made.inbox) in
     record {
-      origin = o;
+      instance = o;
       inbox = c.close.result.pass.table_id;
       start = c.in-Ok.ensures.start;
       worker = c.new-worker.ensures
           ∙ (λ i. record {
             inbox = c.close.result.pass.table_id;
             taken = [];
-            published = record { origin = (same i).published.origin; inputs = none i };
+            published = record { instance = (same i).published.instance; inputs = none i };
             goes = true;
             reply_senders = made.reply_senders i;
           });

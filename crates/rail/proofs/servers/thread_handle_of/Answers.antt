@@ -8,9 +8,9 @@ use Rattle.rail.proofs.servers.thread_handle_of.Goals as goal
 
 pub returns-clause-thread_handle : goal.returns-clause-thread_handle
 returns-clause-thread_handle c =
-    let o = c.args.published.now.origin in
+    let o = c.args.published.now.instance in
     let reader : c.args.reader ≡ yet_to_look (history_at o) =
-    c.requires.reader ∙ (λ i. yet_to_look (record { origin = o; inputs = c.requires.first i })) in
+    c.requires.reader ∙ (λ i. yet_to_look (record { instance = o; inputs = c.requires.first i })) in
     let made = ap (λ (v : InboxKnowledge). v.made) c.requires.inbox_builder in
     let b = c.args.inbox_builder.now.pass.table_id in
     is_thread_handle_at o b c.args.port _ reader c.in_ok-seat.ensures.seat

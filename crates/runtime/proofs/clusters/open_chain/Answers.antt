@@ -6,7 +6,7 @@ use Rattle.runtime.proofs.clusters.open_chain.Goals as goal
 pub all_parts-requires : goal.all_parts-requires
 all_parts-requires g c =
     let same : starts_of c.all_links.new.servers.items ≡ starts_of c.in_ok-servers.servers.items =
-    ap (λ cs. map (λ (x : Core). x.worker.published.origin.start) cs) c.all_links.ensures.cores in
+    ap (λ cs. map (λ (x : Core). x.worker.published.instance.start) cs) c.all_links.ensures.cores in
     let size : vec_len c.all_links.new.servers ≡ c.args.count =
     c.all_links.ensures.servers ∙ c.in_ok-servers.ensures.count in
     record {

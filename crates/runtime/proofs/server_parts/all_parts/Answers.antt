@@ -14,7 +14,8 @@ loop-server-init g c =
       count = search rules;
       scheduler = c.new-scheduler.ensures ∙ sym (ap numbers c.new-all_server_parts.ensures.len);
       workers = workers_first (vec_len c.args.servers) (vec_len c.new-all_server_parts.result) c.args.servers.items
-          (into_iter_items c.into_iter-server-iterator.result) c.requires.workers same c.new-all_server_parts.ensures.len;
+          (into_iter_items c.into_iter-server-iterator.result) c.requires.workers same
+          c.new-all_server_parts.ensures.len;
       links = senders_first (vec_len c.args.links) (vec_len c.new-all_server_parts.result) c.args.links.items
           (into_iter_items c.into_iter-left.result) c.requires.links c.into_iter-left.ensures.rest
           c.new-all_server_parts.ensures.len;
@@ -67,5 +68,6 @@ returns-clause-all_server_parts g c =
 
 pub returns-clause-scheduler : goal.returns-clause-scheduler
 returns-clause-scheduler g c =
-    let all : vec_len c.loop-server.all_server_parts ≡ vec_len c.args.servers = omega (arith, c.in-None.ensures.steps.0) in
+    let all : vec_len c.loop-server.all_server_parts ≡ vec_len c.args.servers =
+    omega (arith, c.in-None.ensures.steps.0) in
     c.loop-server.invariant.scheduler ∙ ap numbers all

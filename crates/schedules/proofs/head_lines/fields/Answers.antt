@@ -3,7 +3,7 @@ use Rattle.std.proofs.lemmas.Iterator.Consumers.{map_from_collect}
 use Rattle.std.proofs.lemmas.Iterator.Splits.{YieldsList-from_slice_split}
 use Rattle.schedules.proofs.head_lines.fields.Goals as goal
 
--- the text is cut at each space
+-- the text is split at each space
 pub returns : goal.returns
 returns c = map_from_collect _ c.collect.ensures.ran
     (YieldsList-from_slice_split _ (λ b. nat_eq b 32) c.args.text.now c.split.ensures.rest c.split.ensures.done

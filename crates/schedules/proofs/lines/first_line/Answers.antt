@@ -1,4 +1,4 @@
-use Rattle.schedules.proofs.Ordinals.{lines_at, lines_whole}
+use Rattle.schedules.proofs.SplitPlaces.{lines_at, lines_whole}
 use Rattle.schedules.proofs.lines.first_line.Goals as goal
 
 -- what stands before the first LF is the first line, and the others stand after it

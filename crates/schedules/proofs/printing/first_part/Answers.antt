@@ -1,6 +1,6 @@
 use Rattle.std.proofs.Common.{arith, add-one}
 use Rattle.std.proofs.lemmas.Bool.{false_from_ne_true}
-use Rattle.schedules.proofs.Ordinals.{parts_at, parts_whole}
+use Rattle.schedules.proofs.SplitPlaces.{parts_at, parts_whole}
 use Rattle.schedules.proofs.printing.first_part.Goals as goal
 
 -- what stands up to the first LF, with it, is the first part, and the others stand after it

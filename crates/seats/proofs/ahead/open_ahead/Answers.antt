@@ -13,7 +13,7 @@ returns-in_ok-submitter-in-Ok-Some-clause-ok g c =
       waits = asked.is;
       seats = c.push_back_reserved.ensures.items ∙ ap (λ ss. ss ++ c.in_ok-submitter-in-Ok-Some.submitter ∷ [])
           c.reserve.ensures.items;
-      opened = subst (λ (h : History). IsOpenAt h.origin c.in_ok-submitter-in-Ok-Some.submitter c.in-Ok-Some.call)
+      opened = subst (λ (h : History). IsOpenAt h.instance c.in_ok-submitter-in-Ok-Some.submitter c.in-Ok-Some.call)
           c.take_free.ensures.reader.0 c.in_ok-submitter-in-Ok-Some.ensures.opened;
       waiting = c.in_ok-submitter-in-Ok-Some.ensures.waiting
           ∙ ap (λ (x : CallSenderState). Some (record { sender = x; call = c.in-Ok-Some.call }))

@@ -8,5 +8,5 @@ returns-in-Ok-clause-opened g c =
       sent = record { sender = c.args.pool.now.sender; call = c.args.call };
       is = refl;
       opened = ap (λ (x : Submitting). x.waiting) c.in-Ok.ensures.waits;
-      here = ap (λ (x : Submitting). x.seat.origin) c.in-Ok.ensures.waits ∙ c.requires.free.0;
+      here = ap (λ (x : Submitting). x.seat.instance) c.in-Ok.ensures.waits ∙ c.requires.free.0;
     }

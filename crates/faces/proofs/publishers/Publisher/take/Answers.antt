@@ -33,7 +33,7 @@ invariant_of-self-2 g c =
       (
         node_next me.published c.in-Ok-shown.published me.node c.step_face.new.self c.args.input kept.0.0 next
             c.in-Ok.ensures.state,
-        ap (λ (x : History). x.origin.book) next ∙ kept.0.1,
+        ap (λ (x : History). x.instance.book) next ∙ kept.0.1,
       ),
       shown.0,
     )

@@ -6,7 +6,7 @@ pub unreachable-requires : goal.unreachable-requires
 unreachable-requires c =
     let me = c.self.inside in
     let none : me.place ≡ None = search rules in
-    subst (λ o. IsPlaceOf o me.log_position.origin) none c.self.invariant
+    subst (λ o. IsPlaceOf o me.log_position.instance) none c.self.invariant
 
 pub returns-clause-looked : goal.returns-clause-looked
 returns-clause-looked c = rw (← c.self.view_is, ← c.in-Some.ensures.value) c.look_from-place.ensures.looked

@@ -5,7 +5,7 @@ use Rattle.program_tests.proofs.runtime_tests.helping.scheduler_of_three.Goals a
 pub all_parts-requires : goal.all_parts-requires
 all_parts-requires g c =
     let same : starts_of c.all_links.new.servers.items ≡ starts_of c.in_ok-servers.servers.items =
-    ap (λ cs. map (λ (x : Core). x.worker.published.origin.start) cs) c.all_links.ensures.cores in
+    ap (λ cs. map (λ (x : Core). x.worker.published.instance.start) cs) c.all_links.ensures.cores in
     let size : vec_len c.all_links.new.servers ≡ 3 =
     c.all_links.ensures.servers ∙ c.in_ok-servers.ensures.count in
     record {

@@ -10,7 +10,7 @@ use Rattle.rail.specs.NotedReplies.{ReplySenderState}
 use Rattle.rail.specs.Turns.{HasReplied}
 use Rattle.rail.specs.Workers.{WorkerState, IsGoing}
 use Rattle.rail.proofs.Replying.{replied_none}
-use Rattle.rail.proofs.Turning.{ok_by, err_by, stopped_worker, going_worker, cut_origin, gone}
+use Rattle.rail.proofs.Turning.{ok_by, err_by, stopped_worker, going_worker, cut_instance, gone}
 use Rattle.rail.proofs.workers.Worker.advance.Goals as goal
 
 pub returns-in_default-clause-did : goal.returns-in_default-clause-did
@@ -90,10 +90,10 @@ invariant_of-self-2 g c =
     let after : c.take.new.self ≡ None = search rules in
     let refused : is_err done.result ≡ true = search rules in
     let told' = done.new.told in
-    let origin = cut_origin _ _ c.in-Some.publisher.published told' c.into_input-input.result
-    (err_by done.result _ refused done.ensures.cut) ∙ ap (λ (x : History). x.origin) going.0 in
+    let instance = cut_instance _ _ c.in-Some.publisher.published told' c.into_input-input.result
+    (err_by done.result _ refused done.ensures.cut) ∙ ap (λ (x : History). x.instance) going.0 in
     let closed = subst (λ (ps : List ReplySenderState). HasReplied told' 0 ps c.close_all.new.reply_senders.items [])
     (err_by done.result _ refused done.ensures.unreplied) (c.close_all.ensures.replies told') in
-    stopped_worker c.take.new.self told' me.reply_senders.items _ _ me.told.origin after origin closed
+    stopped_worker c.take.new.self told' me.reply_senders.items _ _ me.told.instance after instance closed
     c.self.invariant.placed
     c.self.invariant.as_many c.close_all.ensures.closed

@@ -8,7 +8,7 @@ pub invariant_of-result : goal.invariant_of-result
 invariant_of-result g c =
     let told : c.tell-told.result ≡ c.args.publisher.published = search rules in
     record {
-      placed = subst (λ (x : History). AreReplySenders x.origin 0 c.args.reply_senders.items) (sym told)
+      placed = subst (λ (x : History). AreReplySenders x.instance 0 c.args.reply_senders.items) (sym told)
           c.requires.reply_senders;
       as_many = sym c.requires.ports;
       closed = λ none. absurd (cc (none));

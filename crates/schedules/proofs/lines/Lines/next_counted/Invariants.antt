@@ -1,5 +1,5 @@
 use Rattle.std.proofs.Common.{◌≡◌, ◌+◌, ◌<◌, ◌^◌, length}
-use Rattle.schedules.specs.Cuts.{lines, counted_from}
+use Rattle.schedules.specs.Splits.{lines, counted_from}
 use Rattle.schedules.proofs.lines.Lines.next_counted.Given as goal
 
 -- the lines that count among those left are those from the start on; taken and left together are all

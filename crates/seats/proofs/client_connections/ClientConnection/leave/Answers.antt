@@ -1,5 +1,5 @@
 use Rattle.std.proofs.Common.{◌∙◌, All, ap, sym, subst}
-use Rattle.faces.specs.Histories.{Origin}
+use Rattle.faces.specs.Histories.{Instance}
 use Rattle.seats.specs.ClientConnections.{ClientConnectionState}
 use Rattle.seats.specs.SeatPools.{IsAt}
 use Rattle.seats.proofs.ClientConnectionLaws.{seats_here}
@@ -8,7 +8,7 @@ use Rattle.seats.proofs.client_connections.ClientConnection.leave.Goals as goal
 pub leave_all-requires : goal.leave_all-requires
 leave_all-requires c =
     let s = c.self.inside in
-    subst (λ (o : Origin). All (IsAt o) s.ahead.items)
-    (sym (ap (λ h. h.origin) c.leave_one.ensures.reader.0 ∙ (c.requires.known.origin
-    ∙ ap (λ (t : ClientConnectionState). t.seen.origin) (sym c.self.view_is))))
-    (seats_here s.standing s.ahead.items s.connection s.seen.origin c.self.invariant.stands).1
+    subst (λ (o : Instance). All (IsAt o) s.ahead.items)
+    (sym (ap (λ h. h.instance) c.leave_one.ensures.reader.0 ∙ (c.requires.known.instance
+    ∙ ap (λ (t : ClientConnectionState). t.seen.instance) (sym c.self.view_is))))
+    (seats_here s.standing s.ahead.items s.connection s.seen.instance c.self.invariant.stands).1

@@ -11,19 +11,19 @@ returns-in-Ok-clause-went g c = (c.submit.new.submitter, c.stand_at.ensures)
 pub invariant_of-self : goal.invariant_of-self
 invariant_of-self g c =
     let s = c.self.inside in
-    let here = ap (λ (t : ClientConnectionState). t.seen.origin) c.self.view_is in
+    let here = ap (λ (t : ClientConnectionState). t.seen.instance) c.self.view_is in
     sent_client_connection s.connection s.standing c.stand_at.new.standing s.ahead.items s.first s.seen
     c.submit.new.submitter
     (record { sender = c.take_free.new.self.sender; call = c.unsent-call.result })
     c.self.invariant (sym c.replace.ensures.value ∙ c.unsent-call.ensures) c.stand_at.ensures
     (ap (λ (x : Submitting). x.waiting) c.in-Ok.ensures.waits)
-    (ap (λ (x : Submitting). x.seat.origin) c.in-Ok.ensures.waits
-    ∙ (c.in-Some.ensures.free.0 ∙ (c.requires.known.origin ∙ sym here)))
+    (ap (λ (x : Submitting). x.seat.instance) c.in-Ok.ensures.waits
+    ∙ (c.in-Some.ensures.free.0 ∙ (c.requires.known.instance ∙ sym here)))
 
 pub returns-in-Ok-clause-sent : goal.returns-in-Ok-clause-sent
 returns-in-Ok-clause-sent g c =
     let s = c.self.inside in
-    let stood = subst (λ (x : CallStanding). StandsAt x s.ahead.items s.connection s.seen.origin)
+    let stood = subst (λ (x : CallStanding). StandsAt x s.ahead.items s.connection s.seen.instance)
     (sym c.replace.ensures.value ∙ c.unsent-call.ensures) c.self.invariant.stands in
     let t : ClientConnectionState = record {
       connected = s.connection;

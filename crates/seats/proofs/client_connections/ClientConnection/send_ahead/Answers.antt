@@ -11,7 +11,7 @@ invariant_of-self g c =
     maybe_ahead c.in-Ok.sent s.connection c.open_ahead.new.connection s.standing s.ahead.items
     c.open_ahead.new.ahead.items s.first s.seen c.args.pool.now c.open_ahead.new.pool c.requires.sent.0 c.self.invariant
     (ap (λ (t : ClientConnectionState). t.standing) c.self.view_is ∙ c.requires.sent.1)
-    (c.requires.known.origin ∙ ap (λ (t : ClientConnectionState). t.seen.origin) (sym c.self.view_is))
+    (c.requires.known.instance ∙ ap (λ (t : ClientConnectionState). t.seen.instance) (sym c.self.view_is))
     c.in-Ok.ensures.ok
 
 pub invariant_of-self-in-Err : goal.invariant_of-self-in-Err

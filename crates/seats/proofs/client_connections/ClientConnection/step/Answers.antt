@@ -13,7 +13,7 @@ invariant_of-self c =
     s.seen
     c.ask.new.seen c.in-Ok-Call.target c.in-Ok-Call.op c.next.ensures.looked found.wanted.0 c.ask.ensures.ok
     c.ask.ensures.err s.ahead.items
-    (none_if_idle s.standing s.ahead.items s.connection s.seen.origin c.self.invariant.stands
+    (none_if_idle s.standing s.ahead.items s.connection s.seen.instance c.self.invariant.stands
     (ap (λ (t : ClientConnectionState). t.standing) c.self.view_is ∙ c.requires.idle)) c.self.invariant.answered
 
 pub returns-in-Ok-Call-clause-further : goal.returns-in-Ok-Call-clause-further

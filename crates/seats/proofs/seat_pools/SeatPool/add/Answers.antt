@@ -12,12 +12,12 @@ invariant_of-self c =
     ∙ ap (λ (xs : List Submitting). xs ++ c.new.result ∷ []) c.make_room.ensures.free in
     record {
       sends = c.self.invariant.sends;
-      are_free = All-same (IsFreeAt s.reader.seen.origin) c.push_reserved.new.self.items
+      are_free = All-same (IsFreeAt s.reader.seen.instance) c.push_reserved.new.self.items
           (s.free.items ++ c.new.result ∷ []) pushed
-          (All-push (IsFreeAt s.reader.seen.origin) s.free.items c.new.result c.self.invariant.are_free
+          (All-push (IsFreeAt s.reader.seen.instance) s.free.items c.new.result c.self.invariant.are_free
           (added s.reader.seen c.args.self.now.seen c.args.seat c.new.result c.new.ensures c.requires.server
           (ap (λ (p : Pooling). p.seen) c.self.view_is)));
-      are_left = All-same (IsAt s.reader.seen.origin) c.make_room.new.left.items s.left.items c.make_room.ensures.left
+      are_left = All-same (IsAt s.reader.seen.instance) c.make_room.new.left.items s.left.items c.make_room.ensures.left
           c.self.invariant.are_left;
       count = omega (
         arith,

@@ -8,13 +8,13 @@ invariant_of-self g c =
     let s = c.self.inside in
     let now = c.take.new.reader.seen in
     record {
-      sends = c.self.invariant.sends ∙ sym c.take.ensures.later.origin;
-      are_free = all_pushed (IsFreeAt now.origin) s.free.items c.push_reserved.new.self.items c.take.new.self
+      sends = c.self.invariant.sends ∙ sym c.take.ensures.later.instance;
+      are_free = all_pushed (IsFreeAt now.instance) s.free.items c.push_reserved.new.self.items c.take.new.self
           c.push_reserved.ensures.items
           (all_later IsFreeAt s.reader.seen now s.free.items c.take.ensures.later c.self.invariant.are_free)
           (c.take.ensures.together, c.if-is_free.ensures);
       are_left = all_later IsAt s.reader.seen now c.pop_front.new.self.items c.take.ensures.later
-          (all_without (IsAt s.reader.seen.origin) s.left.items c.pop_front.new.self.items c.in-Some.seat
+          (all_without (IsAt s.reader.seen.instance) s.left.items c.pop_front.new.self.items c.in-Some.seat
           c.in-Some.ensures.items c.self.invariant.are_left);
       count = omega (arith, c.self.invariant.count, c.in-Some.ensures.cases, c.push_reserved.ensures.len);
       frees = omega (arith, c.self.invariant.frees, c.push_reserved.ensures.capacity);
@@ -26,12 +26,12 @@ invariant_of-self-else-is_free g c =
     let s = c.self.inside in
     let now = c.take.new.reader.seen in
     record {
-      sends = c.self.invariant.sends ∙ sym c.take.ensures.later.origin;
+      sends = c.self.invariant.sends ∙ sym c.take.ensures.later.instance;
       are_free = all_later IsFreeAt s.reader.seen now s.free.items c.take.ensures.later c.self.invariant.are_free;
-      are_left = all_pushed (IsAt now.origin) c.pop_front.new.self.items c.push_back_reserved.new.self.items
+      are_left = all_pushed (IsAt now.instance) c.pop_front.new.self.items c.push_back_reserved.new.self.items
           c.take.new.self c.push_back_reserved.ensures.items
           (all_later IsAt s.reader.seen now c.pop_front.new.self.items c.take.ensures.later
-          (all_without (IsAt s.reader.seen.origin) s.left.items c.pop_front.new.self.items c.in-Some.seat
+          (all_without (IsAt s.reader.seen.instance) s.left.items c.pop_front.new.self.items c.in-Some.seat
           c.in-Some.ensures.items c.self.invariant.are_left))
           c.take.ensures.together;
       count = omega (arith, c.self.invariant.count, c.in-Some.ensures.cases, c.push_back_reserved.ensures.len);

@@ -9,7 +9,7 @@ invariant_of-self c =
     record {
       sends = c.self.invariant.sends;
       are_free = c.self.invariant.are_free;
-      are_left = all_pushed (IsAt s.reader.seen.origin) s.left.items c.push_back_reserved.new.self.items c.args.left
+      are_left = all_pushed (IsAt s.reader.seen.instance) s.left.items c.push_back_reserved.new.self.items c.args.left
           c.push_back_reserved.ensures.items c.self.invariant.are_left
           (at_reader IsAt s.reader.seen c.args.self.now.seen c.args.left
           (ap (λ (p : Pooling). p.seen) c.self.view_is) c.requires);

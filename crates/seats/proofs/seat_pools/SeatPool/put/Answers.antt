@@ -8,7 +8,7 @@ invariant_of-self c =
     let s = c.self.inside in
     record {
       sends = c.self.invariant.sends;
-      are_free = all_pushed (IsFreeAt s.reader.seen.origin) s.free.items c.push_reserved.new.self.items c.args.free
+      are_free = all_pushed (IsFreeAt s.reader.seen.instance) s.free.items c.push_reserved.new.self.items c.args.free
           c.push_reserved.ensures.items c.self.invariant.are_free
           (at_reader IsFreeAt s.reader.seen c.args.self.now.seen c.args.free
           (ap (λ (p : Pooling). p.seen) c.self.view_is) c.requires);

@@ -1,13 +1,13 @@
 use Rattle.std.proofs.Common.{◌∙◌, ℕ, ap, refl}
 use Rattle.rail.specs.CallSenders.{with_call}
-use Rattle.seats.proofs.Submitted.{lost_stage, submit_lost, submit_opens, submit_origin, submit_port, submit_sent}
+use Rattle.seats.proofs.Submitted.{lost_stage, submit_lost, submit_opens, submit_instance, submit_port, submit_sent}
 use Rattle.seats.proofs.submitters.Submitter.submit.Goals as goal
 
 pub submit-requires : goal.submit-requires
 submit-requires g c =
     record {
       call = c.requires.call;
-      server = submit_origin c.self.inside.stage c.self.inside.seat _ c.self.view_is ∙ c.requires.server;
+      server = submit_instance c.self.inside.stage c.self.inside.seat _ c.self.view_is ∙ c.requires.server;
     }
 
 pub returns-in-Err : goal.returns-in-Err
@@ -25,7 +25,7 @@ pub invariant_of-self : goal.invariant_of-self
 invariant_of-self g c =
     submit_opens c.self.inside.stage c.stage_of-stage.result c.self.inside.seat c.submit.new.seat _
     c.args.call_sender.now c.args.call c.self.view_is c.self.invariant c.requires.free
-    (submit_origin c.self.inside.stage c.self.inside.seat _ c.self.view_is ∙ c.requires.server)
+    (submit_instance c.self.inside.stage c.self.inside.seat _ c.self.view_is ∙ c.requires.server)
     c.in_default.not-Lost c.stage_of-stage.ensures c.in-Ok.ensures.seat
 
 pub returns-in-Ok : goal.returns-in-Ok

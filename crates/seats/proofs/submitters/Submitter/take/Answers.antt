@@ -1,6 +1,6 @@
 use Rattle.std.proofs.Common.{ap, refl}
 use Rattle.rail.specs.Seats.{SeatState}
-use Rattle.seats.specs.declared.submitters.SubmittedKind.TheVariants.{Lost}
+use Rattle.seats.specs.declared.submitters.SubmitterStage.TheVariants.{Lost}
 use Rattle.seats.proofs.Submitted.{free_sent, lost_sent, take_answered, take_replied, take_unsent}
 use Rattle.seats.proofs.submitters.Submitter.take.Goals as goal
 

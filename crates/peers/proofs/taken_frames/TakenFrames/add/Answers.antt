@@ -1,7 +1,7 @@
 use Rattle.std.proofs.Common.{List, [], ◌∷◌, ◌++◌, ap, ◌∙◌}
 use Rattle.wire.specs.declared.frames.Frame.{Frame}
 use Rattle.peers.proofs.Taking.{history_grows, history_stays_whole}
-use Rattle.peers.proofs.histories.Taken.add.Goals as goal
+use Rattle.peers.proofs.taken_frames.TakenFrames.add.Goals as goal
 
 pub invariant_of-self : goal.invariant_of-self
 invariant_of-self c =

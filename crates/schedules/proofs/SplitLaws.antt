@@ -1,4 +1,4 @@
--- Bytes cut at a space, and texts cut into lines.
+-- Bytes split at a space, and texts split into lines.
 use Rattle.std.proofs.Common.{◌≡◌, ℕ, ◌≤◌, inl, inr, Bool, true, false, cond, List, [], ◌∷◌, ◌++◌, length, Option, None}
 use Rattle.std.proofs.Common.{Some, refl, ap, arith}
 use Rattle.std.specs.Prelude.{◌==◌, not, IsTrue, option_map}
@@ -6,34 +6,34 @@ use Rattle.std.specs.List.{list_all, onto_first}
 use Rattle.std.proofs.lemmas.Bool.{and_parts, and_from, eqb-true, not-true, not_from_false}
 use Rattle.std.proofs.lemmas.Option.{same_Some}
 use Rattle.proto.specs.Grammar.{has_no_lf}
-use Rattle.schedules.specs.Cuts.{lf, cut, lines}
+use Rattle.schedules.specs.Splits.{lf, split_once, lines}
 use Rattle.schedules.specs.SpelledSchedules.{AreLines}
 
--- bytes are cut after a part that doesn't have the byte
-pub cut_read : (byte : ℕ) (front rest : List ℕ)
+-- bytes are split after a part that doesn't have the byte
+pub split_read : (byte : ℕ) (front rest : List ℕ)
     → byte == byte ≡ true
     → list_all (λ b. not (b == byte)) front ≡ true
-    → cut byte (front ++ byte ∷ rest) ≡ Some (front, rest)
-cut_read byte [] rest same free = rw same refl
-cut_read byte (b ∷ bs) rest same free =
+    → split_once byte (front ++ byte ∷ rest) ≡ Some (front, rest)
+split_read byte [] rest same free = rw same refl
+split_read byte (b ∷ bs) rest same free =
     let parts = and_parts (not (b == byte)) (list_all (λ b. not (b == byte)) bs) free in
-    rw (not-true _ parts.0, cut_read byte bs rest same parts.1) refl
+    rw (not-true _ parts.0, split_read byte bs rest same parts.1) refl
 
--- what was cut is the two parts with the byte between them
-pub cut_spelled : (byte : ℕ) (bytes front rest : List ℕ)
-    → cut byte bytes ≡ Some (front, rest)
+-- what was split is the two parts with the byte between them
+pub split_spelled : (byte : ℕ) (bytes front rest : List ℕ)
+    → split_once byte bytes ≡ Some (front, rest)
     → bytes ≡ front ++ byte ∷ rest
-cut_spelled byte [] front rest h = cc
-cut_spelled byte (b ∷ bs) front rest h =
-    by_test (b == byte) refl (cut byte bs) refl h (λ f r is. cut_spelled byte bs f r is)
+split_spelled byte [] front rest h = cc
+split_spelled byte (b ∷ bs) front rest h =
+    by_test (b == byte) refl (split_once byte bs) refl h (λ f r is. split_spelled byte bs f r is)
   where
     by_test : (t : Bool)
         → b == byte ≡ t
         → (o : Option (List ℕ × List ℕ))
-        → cut byte bs ≡ o
+        → split_once byte bs ≡ o
         → cond {A = Option (List ℕ × List ℕ)} t (Some ([], bs)) (option_map (λ c. (b ∷ c.0, c.1)) o) ≡ Some
         (front, rest)
-        → ((f r : List ℕ) → cut byte bs ≡ Some (f, r) → bs ≡ f ++ byte ∷ r)
+        → ((f r : List ℕ) → split_once byte bs ≡ Some (f, r) → bs ≡ f ++ byte ∷ r)
         → b ∷ bs ≡ front ++ byte ∷ rest
     by_test true here o is e later =
         let pair = same_Some {A = List ℕ × List ℕ} ([], bs) (front, rest) e in
@@ -62,7 +62,7 @@ whole_line (b ∷ x ∷ xs) free some =
     let parts = and_parts (not (b == lf)) (has_no_lf (x ∷ xs)) free in
     rw (not-true _ parts.0, whole_line (x ∷ xs) parts.1 (omega arith)) refl
 
--- the lines of a text are those that it is cut into
+-- the lines of a text are those that it is split into
 pub lines_read : (all : List (List ℕ)) (text : List ℕ) → AreLines all text → lines text ≡ all
 lines_read [] text h = rw h refl
 lines_read (line ∷ later) text (free, h) = elim h [
@@ -85,7 +85,7 @@ one_more_byte b (line ∷ later) bs other (free, h) = (
   ],
 )
 
--- what a text is cut into are its lines
+-- what a text is split into are its lines
 pub lines_spelled : (text : List ℕ) → AreLines (lines text) text
 lines_spelled [] = refl
 lines_spelled (b ∷ bs) = by_test (b == lf) refl (lines_spelled bs)

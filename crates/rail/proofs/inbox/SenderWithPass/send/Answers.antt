@@ -4,7 +4,7 @@ use Rattle.crossbeam_channel.specs.Ends.{sends_on, ruled_capacity}
 use Rattle.rail.specs.declared.inbox.InboxKnowledge.{InboxKnowledge}
 use Rattle.rail.specs.InboxMessages.{IsBelow}
 use Rattle.rail.proofs.Delivering.{sends}
-use Rattle.rail.proofs.inbox.Slot.send.Goals as goal
+use Rattle.rail.proofs.inbox.SenderWithPass.send.Goals as goal
 
 pub send_as-requires-clause-rule : goal.send_as-requires-clause-rule
 send_as-requires-clause-rule g c =

@@ -9,12 +9,12 @@ use wire::Frame;
 /// The frames that someone has taken. It takes no memory: `add` does nothing when the program runs.
 /// Contracts see it as a list.
 #[derive(Drop)]
-pub struct Taken {
+pub struct TakenFrames {
     // Their spellings, one after another.
     tag: Tag,
 }
 
-impl Model for Taken {
+impl Model for TakenFrames {
     ghost use Rattle.std.specs.Prelude.{List, []};
     ghost use Rattle.wire.specs.declared.frames.Frame.{Frame};
     ghost use Rattle.wire.specs.Streams.{frames_in};
@@ -27,12 +27,12 @@ impl Model for Taken {
     ghost invariant = { λ t. AreFirst (frames_in t.tag.numbers) t.tag.numbers [] };
 }
 
-impl Taken {
+impl TakenFrames {
     /// No frame.
-    pub fn new() -> Taken
+    pub fn new() -> TakenFrames
         ensures { result ≡ [] }
     {
-        Taken { tag: Tag::empty() }
+        TakenFrames { tag: Tag::empty() }
     }
 
     /// This frame was taken after the others.

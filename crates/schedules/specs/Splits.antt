@@ -1,14 +1,14 @@
--- Words, lines and parts: bytes cut at spaces and at line feeds.
+-- Words, lines and parts: bytes split at spaces and at line feeds.
 use Rattle.std.specs.Prelude.{ℕ, ◌+◌, Bool, true, ◌==◌, List, [], ◌∷◌, Option, None, Some, option_map, if◌then◌else◌}
 use Rattle.std.specs.List.{onto_first}
 pub use Rattle.proto.specs.Words.{lf, cr, space, fields_of}
 
 -- what stands before the first such byte, and what stands after it, if there is one
-abbrev pub cut : ℕ → List ℕ → Option (List ℕ × List ℕ)
-cut byte [] = None
-cut byte (b ∷ bs) = if b == byte then Some ([], bs) else option_map (λ c. (b ∷ c.0, c.1)) (cut byte bs)
+abbrev pub split_once : ℕ → List ℕ → Option (List ℕ × List ℕ)
+split_once byte [] = None
+split_once byte (b ∷ bs) = if b == byte then Some ([], bs) else option_map (λ c. (b ∷ c.0, c.1)) (split_once byte bs)
 
--- the lines of a text, cut at each LF: bytes after the last LF are a line too, and nothing after it is none
+-- the lines of a text, split at each LF: bytes after the last LF are a line too, and nothing after it is none
 abbrev pub lines : List ℕ → List (List ℕ)
 lines [] = []
 lines (b ∷ bs) = if b == lf then [] ∷ lines bs else onto_first b (lines bs)
