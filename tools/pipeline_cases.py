@@ -1,6 +1,6 @@
-"""Cases of connections that send many requests before they read replies, over a chain of server processes. Updates that
-follow one another are in flight together; each reply has to be what it would be if they went one after another, and
-comes in its turn. What is wrong is given in words. It connects to 127.0.0.1 alone.
+"""Cases of connections that send many requests before they read replies, over server processes and over a cluster in one
+process. Updates that follow one another are in flight together; each reply has to be what it would be if they went one
+after another, and comes in its turn. What is wrong is given in words. It connects to 127.0.0.1 alone.
 """
 import random
 import threading
@@ -98,13 +98,24 @@ def run_all(threads):
         thread.join()
 
 
+def exchange_all(ports):
+    """Three clients at each of these servers, and what was wrong."""
+    faults = []
+    run_all([threading.Thread(target=exchange, args=(port, b"client-%d-%d" % (server, number), faults))
+             for server, port in enumerate(ports) for number in range(3)])
+    return faults
+
+
+def in_one_process(cluster):
+    """Many requests of a connection at once: three clients at each server send updates, reads and faulty lines."""
+    return exchange_all(cluster.ports)
+
+
 def mixed_case(_rounds):
     """Three clients at each server send updates, reads and faulty lines in large writes."""
-    chain, faults = Chain(seats=SEATS), []
+    chain = Chain(seats=SEATS)
     try:
-        run_all([threading.Thread(target=exchange, args=(port, b"client-%d-%d" % (server, number), faults))
-                 for server, port in enumerate(chain.ports) for number in range(3)])
-        return faults + chain.judge_living()
+        return exchange_all(chain.ports) + chain.judge_living()
     finally:
         chain.end()
 
