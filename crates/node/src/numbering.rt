@@ -1,6 +1,7 @@
 //! Numbering: how an update gets its entry.
-ghost use Rattle.std.specs.Prelude.{◌≡◌, ◌<◌, ◌≤◌, true, length, ◌-◌, ◌^◌, OnOk, IfOk, IsTrue};
+ghost use Rattle.std.specs.Prelude.{◌≡◌, ◌<◌, ◌≤◌, ℕ, true, length, ◌-◌, ◌^◌, OnOk, IfOk, IsTrue};
 ghost use Rattle.std.specs.Option.{option_copied};
+ghost use Rattle.table.specs.Decisions.{decision};
 ghost use Rattle.table.specs.Operations.{is_update};
 ghost use Rattle.versions.specs.Stores.{last_number};
 ghost use Rattle.node.specs.Lawful.{IsCall, IsSound};
@@ -10,7 +11,7 @@ ghost use Rattle.node.specs.Numbering as numbering;
 use crate::servers::{OpenUpdate, Replica};
 use crate::{Body, Output};
 use std::alloc::AllocError;
-use table::{Call, Item, Target, decide};
+use table::{Call, Item, Op, Target, decide};
 use versions::{Entry, Store};
 
 impl Replica {
@@ -24,8 +25,8 @@ impl Replica {
         ensures { IfOk result (λ entry. entry ≡ numbering.entry_of self.now origin id call.now) }
     {
         let number = self.store.last() + 1;
-        let newest = newest(&self.store, &call.target);
-        let (reply, change) = decide(self.alloc, newest, &call.op, number)?;
+        let item = item_for(&self.store, call);
+        let (reply, change) = decide(self.alloc, item, &call.op, number)?;
         Entry::new(
             self.alloc,
             number,
@@ -168,6 +169,18 @@ impl Replica {
         } else {
             Ok(())
         }
+    }
+}
+
+// An item on which a call is decided as on the newest version of its target. A set is decided alike on any, so nothing
+// is searched for.
+fn item_for<'a>(store: &'a Store, call: &Call) -> Option<&'a Item>
+    ensures { (number : ℕ) → decision (option_copied result) call.now.op number
+        ≡ decision (numbering.newest store.now call.now.target) call.now.op number }
+{
+    match call.op {
+        Op::Set(..) => None,
+        _ => newest(store, &call.target),
     }
 }
 
