@@ -105,7 +105,7 @@ class Watching(Process):
         return differing("another master's lines", others, [LOST.format(server), ENDED.format(server)])
 
     def is_quiet(self, beats=10, errors=""):
-        """What is wrong if it prints something within so many beats, or has told something else than these errors, if
+        """What is wrong if it prints something within this many beats, or has told something else than these errors, if
         some are given."""
         time.sleep(beats * BEAT / 1000)
         faults = [f"a master prints {step!r}" for step in self.waiting()]

@@ -95,7 +95,7 @@ class Witness:
         return self.askers[server].calls
 
     def faults(self, most):
-        """Sets it once more, and ends it. What is wrong with what was answered, at living servers within so many
+        """Sets it once more, and ends it. What is wrong with what was answered, at living servers within this many
         seconds."""
         self.set()
         return self.end(most)
@@ -120,7 +120,7 @@ class Witness:
 
 
 def hanging(server, calls, most):
-    """What is wrong if one of these calls wasn't answered within so many seconds."""
+    """What is wrong if one of these calls wasn't answered within this many seconds."""
     answered = [call for call in calls if call.ended is not None]
     if len(answered) != len(calls):
         return [f"server {server} left {len(calls) - len(answered)} of {len(calls)} calls without an answer"]

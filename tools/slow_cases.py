@@ -22,7 +22,7 @@ from server_processes import run_clients
 RUNS, STANDS = .03, .27
 # Each stop takes between these parts of the average, so that processes don't stand together.
 PARTS = .5, 1.5
-# Of so many stops one is long, if some are: on average as long as a silence for which a server is called gone.
+# Of this many stops one is long, if some are: on average as long as a silence for which a server is called gone.
 OF_STOPS = 8
 # For how many seconds it is slow, for each round of the clients.
 SECONDS = .08
@@ -117,7 +117,7 @@ class Slowed(Leased):
         return {int(found[1]) for line in self.lines if (found := SILENT.match(line))}
 
     def says(self, begin, seconds=LIMIT):
-        """Whether the master has printed a line that begins so, or does within so many seconds."""
+        """Whether the master has printed a line that begins so, or does within this many seconds."""
         end = time.monotonic() + seconds
         while not any(line.startswith(begin) for line in self.lines):
             if self.has_ended() or time.monotonic() > end:

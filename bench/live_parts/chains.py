@@ -56,7 +56,7 @@ class CraqServers(Craq):
 
 
 class CraqBeaten(CraqServers):
-    """The same with a master that beats, and leases of so many seconds if a number is given. The master's processor
+    """The same with a master that beats, and leases of this many seconds if a number is given. The master's processor
     time isn't counted."""
 
     def __init__(self, name, program, servers, lease=None):

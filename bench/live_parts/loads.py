@@ -6,7 +6,7 @@ import sys
 from collections import namedtuple
 
 PARTS = os.path.dirname(os.path.abspath(__file__))
-PATIENCE = 180  # seconds for one run; and more for one of so many calls, by what a busy machine does a second at least
+PATIENCE = 180  # seconds for one run; and more for one of a number of calls, by what a busy machine does a second at least
 SLOWEST = 2_000
 
 # Calls a second, latencies, and the processor time a call with that part of it that the system took, in microseconds.
@@ -32,7 +32,7 @@ class Generator:
         self.program, self.runs, self.replies, self.seed = compiled("load", folder), 0, 0, 0
 
     def run(self, peer, size, *words, calls=0):
-        """One run against this peer, of so many calls or as the words say. Keys of different sizes have different
+        """One run against this peer, of this many calls or as the words say. Keys of different sizes have different
         prefixes, so that both can be there."""
         self.seed += 1
         own = ["--size", size, "--prefix", f"{size:04}", "--seed", self.seed, "--count", calls]

@@ -56,7 +56,7 @@ def quartiles(numbers):
 
 
 class Course:
-    """Rounds of runs of so many seconds, of these cases; no run begins after the limit, in seconds."""
+    """Rounds of runs of this many seconds, of these cases; no run begins after the limit, in seconds."""
 
     def __init__(self, generator, cases, seconds, limit):
         self.generator, self.cases, self.seconds = generator, cases, seconds

@@ -23,7 +23,7 @@ applied s (Set key version) = record s { face = face_after s.face (steps.Set key
 applied s (Clear number) = record s { face = face_after s.face (steps.Clear number) }
 applied s (Reach n history) = record { face = face_at n s.face; history = history }
 
--- the acts of a change: its steps in order, and then the acknowledged number
+-- the acts of a change: its steps in order, and then the commit number
 abbrev pub acts_of : List FaceStep → ℕ → History → List Act
 acts_of changes acked history = map act_of changes ++ Reach acked history ∷ []
 

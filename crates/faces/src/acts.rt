@@ -14,7 +14,7 @@ pub enum Act {
     Set(Key, Version),
     /// Every key has the version of this number without item from now on.
     Clear(u64),
-    /// The acknowledged number is this one, and the face is the server's after these inputs.
+    /// The commit number is this one, and the face is the server's after these inputs.
     Reach(u64, LogPosition),
 }
 
@@ -30,7 +30,7 @@ impl Act {
     }
 }
 
-/// The acts of a change: its steps in order, and then the acknowledged number.
+/// The acts of a change: its steps in order, and then the commit number.
 pub fn acts_of(
     alloc: Global,
     change: FaceChange,

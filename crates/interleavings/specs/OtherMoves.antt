@@ -1,5 +1,5 @@
 -- Runs whose moves do something else: each definition is that of `Moves.antt` or `Orders.antt`, with what a move does
--- as an argument, and where it counts calls in an inbox also the port from which each seat's calls come.
+-- as an argument, and if it counts calls in an inbox also the port from which each seat's calls come.
 use Rattle.std.specs.Prelude.{◌≡◌, ℕ, ◌+◌, ◌<◌, nat_lt, Bool, true, false, List, [], ◌∷◌, length, take, map, None, Some}
 use Rattle.std.specs.Prelude.{slice_get, IsSome}
 use Rattle.table.specs.Histories.{IsLegal}

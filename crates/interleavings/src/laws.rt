@@ -145,7 +145,7 @@ pub fn clients_see_one_table()
         → AllHaveAll (served done count homes moves) }
 {}
 
-/// A call that has its reply is published: so where a law asks that an update is published, an answered one is.
+/// A call that has its reply is published: so if a law asks that an update is published, an answered one is.
 pub fn answered_calls_are_published()
     ensures calls { (count : ℕ) (homes : List ℕ) (moves : List ServingMove) (x : CallName)
         → count ≤ 16

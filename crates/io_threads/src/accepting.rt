@@ -26,7 +26,7 @@ const REFUSAL: &[u8] = b"SERVER_ERROR too many connections\r\n";
 
 /// Where connections to one server are accepted.
 #[derive(Drop)]
-pub(crate) struct Entrance {
+pub(crate) struct ServerListener {
     // None once no more are accepted.
     listener: Option<TcpListener>,
     permit_issuer: PermitIssuer,
@@ -51,7 +51,7 @@ pub(crate) struct Acceptor<R: Wait + Drop> {
     poll: Poll,
     events: Events,
     // By the servers' ids.
-    entrances: Vec<Entrance>,
+    server_listeners: Vec<ServerListener>,
     loop_handles: Arc<LoopHandles, Global>,
     threads: usize,
     // The thread that gets the next one.
@@ -62,7 +62,7 @@ pub(crate) struct Acceptor<R: Wait + Drop> {
     is_refused: bool,
 }
 
-impl Entrance {
+impl ServerListener {
     /// Accepts this many connections from this listener, or with 0 all, of which `room` may be open at once.
     pub(crate) fn new(
         alloc: Global,
@@ -70,8 +70,8 @@ impl Entrance {
         mark: Mark,
         connections: u64,
         serves: u64,
-    ) -> Result<Entrance, AllocError> {
-        Ok(Entrance {
+    ) -> Result<ServerListener, AllocError> {
+        Ok(ServerListener {
             listener: Some(listener),
             permit_issuer: PermitIssuer::new(alloc, connections)?,
             mark,
@@ -101,7 +101,7 @@ impl Entrance {
         }
     }
 
-    // One more was accepted. The last one closes the entrance.
+    // One more was accepted. The last one closes the server_listener.
     fn count(&mut self) {
         if let Some(left) = self.left {
             let left = left.saturating_sub(1);
@@ -115,11 +115,11 @@ impl Entrance {
 }
 
 impl<R: Wait + Drop> Acceptor<R> {
-    /// Accepts at these entrances, for this many threads. Refused if the system or memory refuses.
+    /// Accepts at these server_listeners, for this many threads. Refused if the system or memory refuses.
     pub(crate) fn new(
         rt: R,
         alloc: Global,
-        entrances: Vec<Entrance>,
+        server_listeners: Vec<ServerListener>,
         loop_handles: Arc<LoopHandles, Global>,
         threads: usize,
     ) -> Result<Acceptor<R>, AllocError>
@@ -133,7 +133,7 @@ impl<R: Wait + Drop> Acceptor<R> {
             rt,
             poll,
             events: Events::with_capacity(alloc, 64)?,
-            entrances,
+            server_listeners,
             loop_handles,
             threads,
             next: 0,
@@ -147,8 +147,8 @@ impl<R: Wait + Drop> Acceptor<R> {
     fn register(&mut self) -> Result<(), AllocError> {
         let registry = self.poll.registry();
         let mut id = 0usize;
-        for entrance in self.entrances.iter_mut() {
-            if let Some(listener) = &mut entrance.listener {
+        for server_listener in self.server_listeners.iter_mut() {
+            if let Some(listener) = &mut server_listener.listener {
                 if registry
                     .register(listener, Token(id), Interest::READABLE)
                     .is_err()
@@ -161,7 +161,7 @@ impl<R: Wait + Drop> Acceptor<R> {
         Ok(())
     }
 
-    /// Accepts until every entrance is closed. After a connection that can't be accepted it pauses.
+    /// Accepts until every server_listener is closed. After a connection that can't be accepted it pauses.
     pub(crate) fn run(&mut self)
     where
         R: Copy,
@@ -172,7 +172,7 @@ impl<R: Wait + Drop> Acceptor<R> {
             self.note_events();
             self.hand_on_held();
             self.is_refused = false;
-            for id in 0..self.entrances.len() {
+            for id in 0..self.server_listeners.len() {
                 self.accept_some(id);
             }
             if self.is_done() {
@@ -188,7 +188,11 @@ impl<R: Wait + Drop> Acceptor<R> {
             Some(Duration::from_millis(PAUSE))
         } else if !self.held.is_empty() {
             Some(Duration::from_millis(SHORT))
-        } else if self.entrances.iter().any(|entrance| entrance.is_ready) {
+        } else if self
+            .server_listeners
+            .iter()
+            .any(|server_listener| server_listener.is_ready)
+        {
             Some(Duration::ZERO)
         } else {
             None
@@ -199,19 +203,19 @@ impl<R: Wait + Drop> Acceptor<R> {
     fn note_events(&mut self) {
         for event in self.events.iter() {
             let Token(id) = event.token();
-            if let Some(entrance) = self.entrances.get_mut(id) {
-                entrance.is_ready = true;
+            if let Some(server_listener) = self.server_listeners.get_mut(id) {
+                server_listener.is_ready = true;
             }
         }
     }
 
-    // Accepts what stands at an entrance, up to a limit.
+    // Accepts what stands at an server_listener, up to a limit.
     fn accept_some(&mut self, id: usize) {
         for _ in 0..MOST {
-            let Some(entrance) = self.entrances.get_mut(id) else {
+            let Some(server_listener) = self.server_listeners.get_mut(id) else {
                 return;
             };
-            match entrance.accept() {
+            match server_listener.accept() {
                 Ok(Some(stream)) => self.admit(id, stream),
                 Ok(None) => return,
                 Err(()) => {
@@ -225,13 +229,14 @@ impl<R: Wait + Drop> Acceptor<R> {
     // Hands a connection to the next thread, unless its server is marked: then it is closed without a byte. One beyond
     // those that the server may have is told so, and closed.
     fn admit(&mut self, id: usize, stream: TcpStream) {
-        let (Some(entrance), Ok(server)) = (self.entrances.get(id), u8::try_from(id)) else {
+        let (Some(server_listener), Ok(server)) = (self.server_listeners.get(id), u8::try_from(id))
+        else {
             return;
         };
-        if entrance.mark.is_set() {
+        if server_listener.mark.is_set() {
             return;
         }
-        match entrance.permit_issuer.admit() {
+        match server_listener.permit_issuer.admit() {
             Some(permit) => {
                 let arrival = Arrival {
                     permit,
@@ -276,9 +281,9 @@ impl<R: Wait + Drop> Acceptor<R> {
     fn is_done(&self) -> bool {
         self.held.is_empty()
             && self
-                .entrances
+                .server_listeners
                 .iter()
-                .all(|entrance| entrance.listener.is_none())
+                .all(|server_listener| server_listener.listener.is_none())
     }
 }
 

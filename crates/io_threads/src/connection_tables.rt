@@ -184,7 +184,7 @@ impl ConnectionTable {
     }
 
     /// Closes all clients, without a further byte, if the server is marked and they weren't closed before.
-    pub(crate) fn mind_mark(&mut self) {
+    pub(crate) fn check_stopped(&mut self) {
         if !self.is_shut && self.mark.is_set() {
             self.shut();
         }
@@ -214,7 +214,7 @@ impl ConnectionTable {
     /// Takes the replies that stand at its seats, and has their clients go on, and those for whom a seat is free.
     /// Whether there were any.
     pub(crate) fn collect<R: Wait + Clock>(&mut self, rt: &R, piece: &mut [u8]) -> bool {
-        self.mind_mark();
+        self.check_stopped();
         self.served_clients.collect(rt);
         let mut any = self.serve_seat_queue(rt, piece);
         for _ in 0..self.reply_queue.len() {

@@ -1,6 +1,6 @@
 //! Starts the threads that accept and serve connections.
 
-use crate::accepting::{Acceptor, Entrance};
+use crate::accepting::{Acceptor, ServerListener};
 use crate::connection_tables::{ConnectionTableParts, SERVERS};
 use crate::loop_handles::LoopHandles;
 use crate::loops::ThreadParts;
@@ -124,9 +124,15 @@ fn start<
     served_servers: Vec<FrontEndServer>,
 ) -> Result<FrontEnd, FrontEndFault> {
     let threads = polls.len();
-    let (entrances, table_parts) = furnish(alloc, settings, threads, served_servers)?;
+    let (server_listeners, table_parts) = make_tables(alloc, settings, threads, served_servers)?;
     let handles = start_serving(rt, alloc, turn_scheduler, loop_handles, polls, table_parts)?;
-    let acceptor = Acceptor::new(rt, alloc, entrances, Arc::try_clone(loop_handles)?, threads)?;
+    let acceptor = Acceptor::new(
+        rt,
+        alloc,
+        server_listeners,
+        Arc::try_clone(loop_handles)?,
+        threads,
+    )?;
     let Ok(acceptor) = thread::spawn(&rt, move || run_acceptor(acceptor)) else {
         return Err(FrontEndFault::Memory);
     };
@@ -177,14 +183,14 @@ fn start_thread<R: Threads, K: Task + Drop + Send + 'static>(
     }
 }
 
-// The entrance of each server, and each thread's parts of tables, by the servers' ids.
-fn furnish(
+// The server_listener of each server, and each thread's parts of tables, by the servers' ids.
+fn make_tables(
     alloc: Global,
     settings: FrontEndSettings,
     threads: usize,
     served_servers: Vec<FrontEndServer>,
-) -> Result<(Vec<Entrance>, Vec<Vec<ConnectionTableParts>>), FrontEndFault> {
-    let mut entrances = Vec::new(alloc);
+) -> Result<(Vec<ServerListener>, Vec<Vec<ConnectionTableParts>>), FrontEndFault> {
+    let mut server_listeners = Vec::new(alloc);
     let mut table_parts = no_table_parts(alloc, threads)?;
     let mut id = 0u8;
     for served_server in served_servers {
@@ -195,10 +201,10 @@ fn furnish(
             output_permit,
         } = served_server;
         add_table_parts(&mut table_parts, id, pools, &mark, &output_permit)?;
-        entrances.push(entrance(alloc, settings, listener, mark)?)?;
+        server_listeners.push(server_listener(alloc, settings, listener, mark)?)?;
         id = id.wrapping_add(1);
     }
-    Ok((entrances, table_parts))
+    Ok((server_listeners, table_parts))
 }
 
 // None yet for each of the threads.
@@ -239,18 +245,18 @@ fn add_table_parts(
 }
 
 // Where connections to a server are accepted.
-fn entrance(
+fn server_listener(
     alloc: Global,
     settings: FrontEndSettings,
     listener: TcpListener,
     mark: Mark,
-) -> Result<Entrance, FrontEndFault> {
+) -> Result<ServerListener, FrontEndFault> {
     if listener.set_nonblocking(true).is_err() {
         return Err(FrontEndFault::Memory);
     }
     keep_waiting(&listener);
     let listener = Listener::from_std(listener);
-    Ok(Entrance::new(alloc, listener, mark, settings.connections, settings.serves)?)
+    Ok(ServerListener::new(alloc, listener, mark, settings.connections, settings.serves)?)
 }
 
 // Has the system keep as many connections as it may that weren't accepted yet.

@@ -279,7 +279,7 @@ impl<R: Wait + Clock + Copy + Drop, T: TurnScheduler + Drop> IoThread<R, T> {
     // Has each client that may take steps take some. Clients of a server that is marked are closed.
     fn serve(&mut self) {
         for connection_table in self.connection_tables.iter_mut() {
-            connection_table.mind_mark();
+            connection_table.check_stopped();
             connection_table.serve_ready(&self.rt, self.piece.as_mut_slice());
         }
         self.note_sent();

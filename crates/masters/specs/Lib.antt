@@ -1,5 +1,5 @@
 pub mod Attendance
-pub mod Errands
+pub mod Tasks
 pub mod Greetings
 pub mod Hosts
 pub mod Notices

@@ -16,7 +16,7 @@ use std::time::Clock;
 
 /// What a master wants of a server.
 #[derive(Clone, Copy)]
-pub(crate) enum Errand {
+pub(crate) enum Task {
     /// Nothing.
     Nothing,
     /// That it accepts the master.
@@ -35,14 +35,14 @@ pub(crate) struct Contact {
     known: Known,
     // The connection, if it stands.
     stream: Option<TcpStream>,
-    errand: Errand,
-    // Whether the notice of the errand was written to the connection.
+    task: Task,
+    // Whether the notice of the task was written to the connection.
     is_put: bool,
 }
 
-/// A server, and what came of its errand.
+/// A server, and what came of its task.
 #[derive(Drop)]
-pub(crate) struct DoneErrand {
+pub(crate) struct DoneTask {
     /// The server.
     pub(crate) contact: Contact,
     /// What came of it. Fails only if memory runs out.
@@ -59,7 +59,7 @@ impl Contact {
             port,
             known: Known::nothing(),
             stream: None,
-            errand: Errand::Nothing,
+            task: Task::Nothing,
             is_put: false,
         }
     }
@@ -75,26 +75,26 @@ impl Contact {
         self.known.met(start, gone);
     }
 
-    /// Gives it an errand. If that is a notice and the connection stands, the notice is written: this waits for nobody.
-    pub(crate) fn ask(&mut self, errand: Errand) -> Result<(), AllocError>
-        ensures { self.new.errand ≡ errand }
+    /// Gives it an task. If that is a notice and the connection stands, the notice is written: this waits for nobody.
+    pub(crate) fn ask(&mut self, task: Task) -> Result<(), AllocError>
+        ensures { self.new.task ≡ task }
     {
-        self.errand = errand;
-        match errand {
-            Errand::Tell(order, _) => self.put(order),
-            Errand::Nothing | Errand::Greet => Ok(()),
+        self.task = task;
+        match task {
+            Task::Tell(order, _) => self.put(order),
+            Task::Nothing | Task::Greet => Ok(()),
         }
     }
 
-    /// Does what the errand asks for. It may wait.
+    /// Does what the task asks for. It may wait.
     pub(crate) fn visit<R: Clock + Net<Listener = TcpListener, Stream = TcpStream>>(
         self,
         rt: &R,
         identity: &Identity,
-    ) -> DoneErrand {
+    ) -> DoneTask {
         let mut contact = self;
         let answer = contact.answer(rt, identity);
-        DoneErrand { contact, answer }
+        DoneTask { contact, answer }
     }
 
     fn answer<R: Clock + Net<Listener = TcpListener, Stream = TcpStream>>(
@@ -102,12 +102,12 @@ impl Contact {
         rt: &R,
         identity: &Identity,
     ) -> Result<Answer, AllocError> {
-        let errand = self.errand;
-        self.errand = Errand::Nothing;
-        match errand {
-            Errand::Nothing => Ok(Answer::Unasked),
-            Errand::Greet => self.open(rt, identity),
-            Errand::Tell(order, seconds) => {
+        let task = self.task;
+        self.task = Task::Nothing;
+        match task {
+            Task::Nothing => Ok(Answer::Unasked),
+            Task::Greet => self.open(rt, identity),
+            Task::Tell(order, seconds) => {
                 let Some(j) = named_in(order) else {
                     return Ok(Answer::Unasked);
                 };
@@ -170,7 +170,7 @@ impl Contact {
 
     // Closes the connection, if it stands.
     fn close(&mut self)
-        ensures { self.new.errand ≡ self.old.errand }
+        ensures { self.new.task ≡ self.old.task }
     {
         drop(self.stream.take());
     }
@@ -189,7 +189,7 @@ impl Contact {
 
     // Writes a notice, if the connection stands. It is closed if that fails.
     fn put(&mut self, order: Order) -> Result<(), AllocError>
-        ensures { self.new.errand ≡ self.old.errand }
+        ensures { self.new.task ≡ self.old.task }
     {
         self.is_put = match &self.stream {
             Some(stream) => put_order(self.alloc, stream, order)?,

@@ -26,7 +26,7 @@ const PIECE: usize = 256;
 /// What came on a connection.
 #[derive(Clone, Copy)]
 enum ReadBytes {
-    // So many bytes.
+    // This many bytes.
     Bytes(usize),
     // Nothing yet.
     Nothing,

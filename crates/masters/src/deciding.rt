@@ -6,11 +6,11 @@ use crate::command::{TellFault, WHO};
 use crate::knowledge::Knowledge;
 use crate::master_lines::tell_unnoted;
 use crate::news::{News, TimedNews, milliseconds_of};
+use crate::notice_thread::{Outcome, Request};
 use crate::notices::done_in;
 use crate::orders::named_in;
 use crate::pending::Pending;
 use crate::settings::MasterSettings;
-use crate::telling::{Outcome, Request};
 use crossbeam_channel::{Receiver, RecvTimeoutError, Sender};
 use ends::Sink;
 use leases::Order;
@@ -20,7 +20,7 @@ use std::time::{Clock, Duration, Instant};
 
 /// What it hears, and who waits for it.
 #[derive(Drop)]
-pub(crate) struct Ears {
+pub(crate) struct Inputs {
     /// What the threads hear.
     pub(crate) all_news: Receiver<TimedNews>,
     /// Where it puts that a line of the input was answered: the next one is read then.
@@ -34,7 +34,7 @@ pub(crate) struct Decider {
     pub(crate) pending: Pending,
     pub(crate) answers: Answers,
     pub(crate) begun: Instant,
-    pub(crate) ears: Ears,
+    pub(crate) inputs: Inputs,
     /// What it has for leases, if it beats.
     pub(crate) beats: Option<Beats>,
 }
@@ -67,13 +67,13 @@ impl Decider {
         wait: Option<u64>,
     ) -> Result<Option<TimedNews>, TellFault> {
         let Some(wait) = wait else {
-            return match self.ears.all_news.recv(rt) {
+            return match self.inputs.all_news.recv(rt) {
                 Ok(timed_news) => Ok(Some(timed_news)),
                 Err(_) => Err(TellFault::Run),
             };
         };
         match self
-            .ears
+            .inputs
             .all_news
             .recv_timeout(rt, Duration::from_nanos(wait))
         {
@@ -128,7 +128,7 @@ impl Decider {
 
     // Lets the next line of the input be read.
     fn let_read<R: Wait>(&self, rt: &R) {
-        let _ = self.ears.answered.try_send(rt, ());
+        let _ = self.inputs.answered.try_send(rt, ());
     }
 
     // This start of server i has accepted a connection, and told who is gone. If it is the one that was called gone

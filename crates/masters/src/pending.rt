@@ -1,8 +1,8 @@
 //! The notices of a master that watches which are under way.
 
 use crate::command::TellFault;
+use crate::notice_thread::{Outcome, Request};
 use crate::notices::{and_one, beside, is_among};
-use crate::telling::{Outcome, Request};
 use crossbeam_channel::{Receiver, Sender};
 use node::View;
 use std::sync::Wait;

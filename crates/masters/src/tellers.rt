@@ -2,10 +2,10 @@
 ghost use Rattle.std.specs.Prelude.{◌≡◌, ◌<◌, ◌≤◌, OnOk, slice_set};
 ghost use Rattle.node.specs.Masters.{notices_from};
 ghost use Rattle.node.specs.Views.{single, union};
-ghost use Rattle.masters.specs.Errands.{asked, errands};
+ghost use Rattle.masters.specs.Tasks.{asked, tasks};
 
 use crate::command::TellFault;
-use crate::contacts::{Contact, DoneErrand, Errand};
+use crate::contacts::{Contact, DoneTask, Task};
 use crate::knowledge::{Knowledge, Known};
 use crate::master_lines::tell_unmet;
 use crate::notices::{Answer, notices, refusal_in};
@@ -69,7 +69,7 @@ impl Teller {
         X: Sink,
     >(&mut self, rt: &R, settings: &MasterSettings, errors: &mut X) -> Result<(), TellFault> {
         for i in 0..self.identity.servers {
-            self.ask(i, Errand::Greet)?;
+            self.ask(i, Task::Greet)?;
         }
         let answers = self.visit_all(rt)?;
         if let Some((id, reason)) = refusal_in(answers.as_slice()) {
@@ -89,7 +89,7 @@ impl Teller {
         if j >= self.identity.servers {
             return Err(TellFault::Run);
         }
-        self.ask(j, Errand::Tell(Order::Gone(j), OWN_PATIENCE))?;
+        self.ask(j, Task::Tell(Order::Gone(j), OWN_PATIENCE))?;
         self.tell_others(rt, Order::Gone(j))
     }
 
@@ -113,24 +113,24 @@ impl Teller {
     fn ask_others(&mut self, order: Order, j: u8) -> Result<(), AllocError>
         requires chain { self.old.identity.servers ≤ 16 }
         requires server { j < 16 }
-        ensures { OnOk result (errands self.new.contacts.items ≡ asked (Errand.Tell order PATIENCE)
+        ensures { OnOk result (tasks self.new.contacts.items ≡ asked (Task.Tell order PATIENCE)
             (notices_from (union self.old.gone (single j)) j 0 self.old.identity.servers)
-            (errands self.old.contacts.items)) }
+            (tasks self.old.contacts.items)) }
     {
         let given = notices(self.alloc, self.gone, j, self.identity.servers)?;
         if let Order::Gone(_) = order {
             self.gone = self.gone.union(View::single(j));
         }
-        self.ask_each(given.as_slice(), Errand::Tell(order, PATIENCE))
+        self.ask_each(given.as_slice(), Task::Tell(order, PATIENCE))
     }
 
-    // Gives the receiver of each of these notices an errand.
-    fn ask_each(&mut self, given: &[(u8, u8)], errand: Errand) -> Result<(), AllocError>
-        ensures { OnOk result (errands self.new.contacts.items
-            ≡ asked errand given.now (errands self.old.contacts.items)) }
+    // Gives the receiver of each of these notices an task.
+    fn ask_each(&mut self, given: &[(u8, u8)], task: Task) -> Result<(), AllocError>
+        ensures { OnOk result (tasks self.new.contacts.items
+            ≡ asked task given.now (tasks self.old.contacts.items)) }
     {
         for notice in given {
-            self.ask(notice.0, errand)?;
+            self.ask(notice.0, task)?;
         }
         Ok(())
     }
@@ -179,19 +179,19 @@ impl Teller {
         ((start ^ (start / NAMES)) % NAMES) as u32
     }
 
-    // Gives server i an errand, if the chain has it.
+    // Gives server i an task, if the chain has it.
     #[tactic(auto, using(crate::proofs::Asking::asked_one, crate::proofs::Asking::asked_none))]
-    fn ask(&mut self, i: u8, errand: Errand) -> Result<(), AllocError>
-        ensures { OnOk result (errands self.new.contacts.items
-            ≡ slice_set (errands self.old.contacts.items) i errand) }
+    fn ask(&mut self, i: u8, task: Task) -> Result<(), AllocError>
+        ensures { OnOk result (tasks self.new.contacts.items
+            ≡ slice_set (tasks self.old.contacts.items) i task) }
     {
         match self.contacts.get_mut(usize::from(i)) {
-            Some(contact) => contact.ask(errand),
+            Some(contact) => contact.ask(task),
             None => Ok(()),
         }
     }
 
-    // Does all errands at the same time. What came of them, by the servers' ids.
+    // Does all tasks at the same time. What came of them, by the servers' ids.
     fn visit_all<R: Threads + Clock + Net<Listener = TcpListener, Stream = TcpStream> + Sync>(
         &mut self,
         rt: &R,
@@ -205,7 +205,7 @@ impl Teller {
         )?;
         let mut answers = Vec::new(self.alloc);
         for visit in visits {
-            let DoneErrand { contact, answer } = visit;
+            let DoneTask { contact, answer } = visit;
             self.gone = self.gone.union(View::from_bits(contact.known().gone));
             self.contacts.push(contact)?;
             answers.push(answer?)?;

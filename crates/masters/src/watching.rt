@@ -5,12 +5,12 @@ ghost use Rattle.masters.specs.Statuses.{IsMasterStatus};
 use crate::answers::Answers;
 use crate::beats::Beats;
 use crate::command::{TellFault, status_of};
-use crate::deciding::{Decider, Ears};
+use crate::deciding::{Decider, Inputs};
 use crate::knowledge::Knowledge;
 use crate::news::{NewsSender, TimedNews};
+use crate::notice_thread::start_notice_thread;
 use crate::settings::MasterSettings;
 use crate::tellers::Teller;
-use crate::telling::start_telling;
 use crate::watch_threads::{OrderSenders, start_reading, start_watchers};
 use crossbeam_channel::{Receiver, bounded};
 use ends::Sink;
@@ -223,14 +223,14 @@ fn start_others<
     let begun = news_sender.begun();
     let servers = teller.servers();
     let answers = Answers::new(alloc)?;
-    let pending = start_telling(rt, alloc, teller, news_sender.another()?)?;
+    let pending = start_notice_thread(rt, alloc, teller, news_sender.another()?)?;
     let answered = start_reading(rt, alloc, servers, input, news_sender)?;
     Ok(Decider {
         knowledge,
         pending,
         answers,
         begun,
-        ears: Ears { all_news, answered },
+        inputs: Inputs { all_news, answered },
         beats,
     })
 }

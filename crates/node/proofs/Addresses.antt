@@ -18,7 +18,7 @@ use Rattle.node.specs.declared.messages.Input.{Input}
 use Rattle.node.specs.declared.messages.Input.TheVariants.{Call as Called, From, Gone}
 use Rattle.node.specs.declared.messages.Output.{Output}
 use Rattle.node.specs.Views.{has, is_that}
-use Rattle.node.specs.Servers.{ServerState, RuleResult, most, head_of, tail_of, is_head, is_tail, previous, next}
+use Rattle.node.specs.Servers.{ServerState, RuleResult, most, head_of, tail_of, is_head, is_tail, predecessor_of, successor_of}
 use Rattle.node.specs.Servers.{message_to}
 use Rattle.node.specs.Numbering.{left_open_by, reply_to, replies, newly_acked, rise, appended}
 use Rattle.node.specs.Numbering.{passed_on, is_taken, entry_of, take_update, entered, is_room_for_update, called, update}
@@ -29,7 +29,7 @@ use Rattle.node.specs.Lawful.{IsSound, IsSettled, AreToOthers}
 use Rattle.node.specs.Actions.{Action, Widen, Append, Reach, Settle, Send, Finish, Trim, Enter, Ask, Show, act, does}
 use Rattle.node.specs.Actions.{Cause, left, MaySend, Guard, AreGuarded, IsDone}
 use Rattle.node.proofs.SoundActions.{IsSeatOf, seat_act}
-use Rattle.node.proofs.Neighbours.{to_previous, to_next, to_head, to_tail}
+use Rattle.node.proofs.Neighbours.{to_predecessor, to_next, to_head, to_tail}
 use Rattle.node.proofs.Settling.{reply_all}
 use Rattle.node.proofs.DoneActions.{came_left, seat_after}
 use Rattle.node.proofs.DoneJoins.{rule_join}
@@ -85,7 +85,7 @@ to_other : (c : Cause) (s : ServerState) (j : ℕ) (body : Body)
     → j ≢ s.id
 to_other c s j (Op id call) h other g = g.1
 to_other c s j (Forward e) h other g = (to_next s j h.placed g.0).1
-to_other c s j (Ack n) h other g = (to_previous s j h.placed g.0).1
+to_other c s j (Ack n) h other g = (to_predecessor s j h.placed g.0).1
 to_other c s j (Query ask key) h other g = (to_tail s j g.1 g.0).1
 to_other c s j (Answer ask n) h other g = λ same. other g.3 (g.5 ∙ ap (λ i. Some (From i g.3)) same)
 
@@ -128,13 +128,13 @@ others_done c s a other d =
 others_rise : (s : ServerState) (n : ℕ) → s.id < s.count → Others s (rise s n)
 others_rise s n placed = others_append s.id s.count (replies s.id s.pend (newly_acked s n)) _
     (replies_others s.id s.count s.id (newly_acked s n) s.pend)
-    (others_to s.id s.count s (previous s) (Ack n) (λ j e. to_previous s j placed e))
+    (others_to s.id s.count s (predecessor_of s) (Ack n) (λ j e. to_predecessor s j placed e))
 
 others_passed_on : (s : ServerState) (e : LogEntry) → s.id < s.count → Others s (passed_on s e)
 unfolding passed_on
 others_passed_on s e placed = cond_both (is_tail s) _ _ (λ (a : RuleResult). Others s a)
     (λ t. others_rise s (last_number s.store) placed)
-    (λ f. others_to s.id s.count s (next s) (Forward e) (λ j f. to_next s j placed f))
+    (λ f. others_to s.id s.count s (successor_of s) (Forward e) (λ j f. to_next s j placed f))
 
 others_passed : (s : ServerState) (e : LogEntry) → s.id < s.count → Others s (passed_on (appended s e) e)
 unfolding appended
@@ -187,10 +187,10 @@ others_receive s i (Op id made) placed low other =
     cond_both (is_head s && is_update made.op) _ _ (λ (a : RuleResult). Others s a)
     (λ t. others_take_update s i id made placed) (λ f. tt)
 others_receive s i (Forward e) placed low other =
-    cond_both (is_that (previous s) i && e.number == last_number s.store + 1) _ _ (λ (a : RuleResult). Others s a)
+    cond_both (is_that (predecessor_of s) i && e.number == last_number s.store + 1) _ _ (λ (a : RuleResult). Others s a)
     (λ t. others_passed s e placed) (λ f. tt)
 others_receive s i (Ack n) placed low other =
-    cond_both (is_that (next s) i && nat_lt s.store.acked n && nat_le n (last_number s.store)) _ _
+    cond_both (is_that (successor_of s) i && nat_lt s.store.acked n && nat_le n (last_number s.store)) _ _
     (λ (a : RuleResult). Others s a) (λ t. others_rise s n placed) (λ f. tt)
 others_receive s i (Query ask key) placed low other =
     cond_both (is_tail s) _ _ (λ (a : RuleResult). Others s a) (λ t. ((low, other), tt)) (λ f. tt)

@@ -65,7 +65,7 @@ passed_left c s e h =
       came = came_left c _ h.came;
       body = h.body;
       joined = h.joined;
-      previous = h.previous;
+      predecessor = h.predecessor;
       next = h.next;
     }
 

@@ -14,7 +14,7 @@ use Rattle.node.specs.declared.servers.OpenRead.{OpenRead}
 use Rattle.node.specs.declared.messages.Body.TheVariants.{Op, Forward, Ack, Query}
 use Rattle.node.specs.declared.messages.Output.{Output}
 use Rattle.node.specs.Views.{View, has, union, is_below, adds, head, tail, predecessor, successor, is_that, is_same}
-use Rattle.node.specs.Servers.{ServerState, RuleResult, head_of, tail_of, is_head, is_tail, previous, next, silent}
+use Rattle.node.specs.Servers.{ServerState, RuleResult, head_of, tail_of, is_head, is_tail, predecessor_of, successor_of, silent}
 use Rattle.node.specs.Servers.{putting, message_to, reply_at}
 use Rattle.node.specs.Numbering.{appended, entry_of, is_taken, taken, risen}
 use Rattle.node.specs.Reading.{open_read, without_read}
@@ -26,7 +26,7 @@ use Rattle.node.specs.Actions.{Widen, Append, Finish, act, Cause, left, IsBrough
 use Rattle.node.specs.Actions.{but_first}
 use Rattle.node.proofs.Lists.{In, in_more}
 use Rattle.node.proofs.ViewLaws.{has-union}
-use Rattle.node.proofs.Neighbours.{that_is, same_is, previous_below, next_within, head_within, head_other, tail_within, no_tail}
+use Rattle.node.proofs.Neighbours.{that_is, same_is, predecessor_below, next_within, head_within, head_other, tail_within, no_tail}
 use Rattle.node.proofs.OpenCalls.{update_in, asked_above}
 use Rattle.node.proofs.StoreChanges.{held_after}
 use Rattle.node.proofs.DoneActions.{IsRule, rule_as, rule_so, rule_silent, rule_then, rule_first, rule_message}
@@ -42,8 +42,8 @@ use Rattle.node.proofs.Growth.{last-grown}
 -- what is known of the predecessor; who is the tail has acknowledged the `whole` log. `old` is the view before the
 -- join.
 pub record IsUnderway (old : View) (from : ℕ) (owed whole : Type 0) (s : ServerState) (d : Due) : Type 0 where
-  pub forwarded : (j : ℕ) → next s ≡ Some j → d.forwarded ≡ from
-  pub told : (j : ℕ) → previous s ≡ Some j → owed
+  pub forwarded : (j : ℕ) → successor_of s ≡ Some j → d.forwarded ≡ from
+  pub told : (j : ℕ) → predecessor_of s ≡ Some j → owed
   pub settled : d.unsettled ≡ []
   pub sent : is_head s ≡ false → d.unsent ≡ []
   pub taken : is_head s ≡ true → (u : OpenUpdate) → In u d.unsent → is_taken s s.id u.id ≡ false
@@ -51,10 +51,10 @@ pub record IsUnderway (old : View) (from : ℕ) (owed whole : Type 0) (s : Serve
   pub none : is_that (tail old s.count) s.id ≡ true → s.asks ≡ []
   pub last : is_tail s ≡ true → whole
 
--- the predecessor is due the acknowledged number if it is a new one, unless that rose, and was told already
+-- the predecessor is due the commit number if it is a new one, unless that rose, and was told already
 abbrev IsOwed : View → ℕ → ServerState → Bool → Type 0
 IsOwed old m s untold =
-    ((untold ≡ not (is_same (predecessor old s.id) (previous s))) × (s.store.acked ≡ m))
+    ((untold ≡ not (is_same (predecessor old s.id) (predecessor_of s))) × (s.store.acked ≡ m))
     ⊎ ((untold ≡ false) × (m < s.store.acked))
 
 -- ---- second: the own open calls
@@ -274,7 +274,7 @@ rule_promoted_to_head c old s d h due =
 -- what is due as the second step begins
 record IsBegun (old : View) (n m : ℕ) (s : ServerState) (d : Due) : Type 0 where
   forwarded : d.forwarded ≡ needed_above old n s
-  untold : d.untold ≡ not (is_same (predecessor old s.id) (previous s))
+  untold : d.untold ≡ not (is_same (predecessor old s.id) (predecessor_of s))
   settled : d.unsettled ≡ []
   unsent : d.unsent ≡ cond (is_same (head old s.count) (head_of s)) [] s.pend
   asked : d.unasked ≡ cond (is_same (tail old s.count) (tail_of s)) [] s.asks
@@ -287,7 +287,7 @@ underway_as : (old : View) (n m : ℕ) (s t : ServerState) (d e : Due)
     → IsHeaded t d e
     → IsUnderway old (needed_above old n t) (IsOwed old m t e.untold) (Unit {0}) t e
 underway_as old n m s t d e p b h =
-    let next_same : next t ≡ next s = rw (p.view, p.count, p.id) refl in
+    let next_same : successor_of t ≡ successor_of s = rw (p.view, p.count, p.id) refl in
     let needed : needed_above old n t ≡ needed_above old n s = rw (p.view, p.count, p.id, p.acked) refl in
     record {
       forwarded = λ j _. h.forwarded ∙ b.forwarded ∙ sym needed;
@@ -359,7 +359,7 @@ rule_promoted_to_tail c old n m s d h same p =
 
 -- the successor was sent the entries up to `to`, and all else stays
 record IsForwarded (s : ServerState) (d e : Due) (to : ℕ) : Type 0 where
-  forwarded : (j : ℕ) → next s ≡ Some j → e.forwarded ≡ to
+  forwarded : (j : ℕ) → successor_of s ≡ Some j → e.forwarded ≡ to
   untold : e.untold ≡ d.untold
   unsettled : e.unsettled ≡ d.unsettled
   unsent : e.unsent ≡ d.unsent
@@ -370,7 +370,7 @@ rule_forwarded : (es : List LogEntry) (c : Cause) (s : ServerState) (d : Due) (f
     → ((e : LogEntry) → In e es → In e s.store.rest)
     → IsLog from es
     → to ≡ from + length es
-    → ((j : ℕ) → next s ≡ Some j → d.forwarded ≡ from)
+    → ((j : ℕ) → successor_of s ≡ Some j → d.forwarded ≡ from)
     → IsRule c s d (putting s (forwarded s es)) (λ e. IsForwarded s d e to)
 unfolding forwarded
 rule_forwarded [] c s d from to h f log high due =
@@ -383,9 +383,9 @@ rule_forwarded [] c s d from to h f log high due =
       unasked = refl;
     })
 rule_forwarded (x ∷ es) c s d from to h f log high due =
-    rule_then c s d (putting s (message_to s (next s) (Forward x))) (λ t. putting t (forwarded t es))
+    rule_then c s d (putting s (message_to s (successor_of s) (Forward x))) (λ t. putting t (forwarded t es))
     (λ e. IsForwarded s d e (from + 1)) _
-    (rule_message c s d (next s) (Forward x) (λ e. IsForwarded s d e (from + 1)) h
+    (rule_message c s d (successor_of s) (Forward x) (λ e. IsForwarded s d e (from + 1)) h
     (λ none. record {
       forwarded = λ j n. absurd (let no = sym none ∙ n in cc);
       untold = refl;
@@ -416,7 +416,7 @@ needed_within : (old : View) (n : ℕ) (s : ServerState)
     → n ≤ last_number s.store
     → (s.store.floor ≤ needed_above old n s) × (needed_above old n s ≤ last_number s.store)
 needed_within old n s h low high =
-    cond_both (is_same (successor old s.count s.id) (next s)) n s.store.acked
+    cond_both (is_same (successor old s.count s.id) (successor_of s)) n s.store.acked
     (λ (k : ℕ). (s.store.floor ≤ k) × (k ≤ last_number s.store))
     (λ _. (low, high))
     (λ _. (h.store.floor_acked, h.store.acked_held))
@@ -461,12 +461,12 @@ rule_acked_to_predecessor : (c : Cause) (old : View) (m : ℕ) (s : ServerState)
     (acked_to_predecessor old m s).state e)
 unfolding acked_to_predecessor
 rule_acked_to_predecessor c old m s d h p =
-    cond_both (not (is_same (predecessor old s.id) (previous s)) && s.store.acked == m) _ _
+    cond_both (not (is_same (predecessor old s.id) (predecessor_of s)) && s.store.acked == m) _ _
     (λ (a : RuleResult). IsRule c s d a
     (λ e. IsUnderway old (last_number a.state.store) (e.untold ≡ false)
     (a.state.store.acked ≡ last_number a.state.store) a.state e))
-    (λ t. (let parts = and_parts (not (is_same (predecessor old s.id) (previous s))) (s.store.acked == m) t in
-    rule_message c s d (previous s) (Ack s.store.acked) _ h
+    (λ t. (let parts = and_parts (not (is_same (predecessor old s.id) (predecessor_of s))) (s.store.acked == m) t in
+    rule_message c s d (predecessor_of s) (Ack s.store.acked) _ h
     (λ none. record {
       forwarded = p.forwarded;
       told = λ j q. absurd (let no = sym none ∙ q in cc);
@@ -479,7 +479,7 @@ rule_acked_to_predecessor c old m s d h p =
     })
     (λ j q. (
       (q, refl),
-      omega (arith, previous_below s j q, h.placed),
+      omega (arith, predecessor_below s j q, h.placed),
       elim (p.told j q)
           [ inl x ↦ x.0 ∙ parts.0 | inr x ↦ absurd (let same = eqb-true _ _ parts.1 in omega (arith, x.1, same)) ],
       record {

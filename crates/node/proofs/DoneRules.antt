@@ -16,7 +16,7 @@ use Rattle.node.specs.declared.messages.Peer.{Peer}
 use Rattle.node.specs.declared.messages.Input.TheVariants.{Call as Called, From}
 use Rattle.node.specs.declared.messages.Output.{Output}
 use Rattle.node.specs.Views.{has, is_that}
-use Rattle.node.specs.Servers.{ServerState, RuleResult, most, seen_of, head_of, is_head, is_tail, previous, next}
+use Rattle.node.specs.Servers.{ServerState, RuleResult, most, seen_of, head_of, is_head, is_tail, predecessor_of, successor_of}
 use Rattle.node.specs.Servers.{putting}
 use Rattle.node.specs.Servers.{message_to}
 use Rattle.node.specs.Numbering.{left_open, replies, newly_acked, risen, rise, appended, passed_on, entry_of, is_taken}
@@ -26,7 +26,7 @@ use Rattle.node.specs.Lawful.{IsCall, IsSound}
 use Rattle.node.specs.Actions.{Append, Reach, Settle, Enter, act, Cause, left, IsWanted, IsReached, Guard, Due, IsPaid}
 use Rattle.node.specs.Actions.{but_first}
 use Rattle.node.proofs.Lists.{In, get_last, in_more}
-use Rattle.node.proofs.Neighbours.{that_is, is_itself, at_head, at_tail, next_of, previous_of, no_head, previous_below}
+use Rattle.node.proofs.Neighbours.{that_is, is_itself, at_head, at_tail, successor_found, predecessor_found, no_head, predecessor_below}
 use Rattle.node.proofs.Neighbours.{next_within, head_within, head_other}
 use Rattle.node.proofs.StoreChanges.{held_between}
 use Rattle.node.proofs.SoundActions.{appended_next}
@@ -36,12 +36,12 @@ use Rattle.node.proofs.SoundLaws.{entry_of-valid}
 -- ---- places
 
 -- who has a successor isn't the tail
-pub not_last : (s : ServerState) (y : ℕ) → next s ≡ Some y → is_tail s ≡ true → ⊥
-not_last s y n t = let f = next_of s y n in both_ways _ f.out ((at_tail s t).between y f.above f.within)
+pub not_last : (s : ServerState) (y : ℕ) → successor_of s ≡ Some y → is_tail s ≡ true → ⊥
+not_last s y n t = let f = successor_found s y n in both_ways _ f.out ((at_tail s t).between y f.above f.within)
 
 -- who has a predecessor isn't the head
-pub not_first : (s : ServerState) (x : ℕ) → previous s ≡ Some x → is_head s ≡ true → ⊥
-not_first s x p t = let f = previous_of s x p in both_ways _ f.out ((at_head s t).below x f.below)
+pub not_first : (s : ServerState) (x : ℕ) → predecessor_of s ≡ Some x → is_head s ≡ true → ⊥
+not_first s x p t = let f = predecessor_found s x p in both_ways _ f.out ((at_head s t).below x f.below)
 
 -- there is a head
 pub has_head : (s : ServerState) → IsSound s → head_of s ≡ None → ⊥
@@ -52,7 +52,7 @@ has_head s h none = both_ways _ h.outside (no_head s.view s.count none s.id h.pl
 -- what is due after a rise: the predecessor, if there is one, was told
 pub record IsRisen (s : ServerState) (d e : Due) : Type 0 where
   pub forwarded : e.forwarded ≡ d.forwarded
-  pub told : (j : ℕ) → previous s ≡ Some j → e.untold ≡ false
+  pub told : (j : ℕ) → predecessor_of s ≡ Some j → e.untold ≡ false
   pub settled : e.unsettled ≡ []
   pub unsent : e.unsent ≡ d.unsent
   pub unasked : e.unasked ≡ d.unasked
@@ -91,7 +91,7 @@ pub rule_rise : (c : Cause) (s : ServerState) (d : Due) (n : ℕ)
 unfolding risen act
 rule_rise c s d n h low high reached due =
     let es = newly_acked s n in
-    let told = λ (t : ServerState). putting t (message_to t (previous t) (Ack n)) in
+    let told = λ (t : ServerState). putting t (message_to t (predecessor_of t) (Ack n)) in
     let up = (act s (Reach n)).state in
     let d1 : Due = record d { untold = true; unsettled = es } in
     let d2 : Due = record d { untold = true; unsettled = [] } in
@@ -99,7 +99,7 @@ rule_rise c s d n h low high reached due =
     (λ k. rule_settling es (left c) up d1 k (λ e i. held_between s.store n e h.store low i) refl) in
     let end = rule_then c s d _ told (λ e. e ≡ d2) (IsRisen s d) all
     (λ e is k. subst (λ x. IsRule (left c) (risen s n) x (told (risen s n)) (IsRisen s d)) (sym is)
-    (rule_message (left c) (risen s n) d2 (previous s) (Ack n) (IsRisen s d) k
+    (rule_message (left c) (risen s n) d2 (predecessor_of s) (Ack n) (IsRisen s d) k
     (λ none. record {
       forwarded = refl;
       told = λ j p. absurd (let no = sym none ∙ p in cc);
@@ -109,13 +109,13 @@ rule_rise c s d n h low high reached due =
     })
     (λ j p. (
       (p, refl),
-      omega (arith, previous_below s j p, h.placed),
+      omega (arith, predecessor_below s j p, h.placed),
       refl,
       record { forwarded = refl; told = λ _ _. refl; settled = refl; unsent = refl; unasked = refl },
     )))) in
     rule_as c s d _ _ _
     (ap (λ (os : List Output). record { state = risen s n; outputs = replies s.id s.pend es ++ os })
-    (sym (message_same s (risen s n) (previous s) (Ack n) refl))) end
+    (sym (message_same s (risen s n) (predecessor_of s) (Ack n) refl))) end
 
 -- ---- appending
 
@@ -157,15 +157,15 @@ record IsPlaced (s t : ServerState) : Type 0 where
   id : t.id ≡ s.id
   head : is_head t ≡ is_head s
   tail : is_tail t ≡ is_tail s
-  next : next t ≡ next s
-  previous : previous t ≡ previous s
+  successor : successor_of t ≡ successor_of s
+  predecessor : predecessor_of t ≡ predecessor_of s
   acked : t.store.acked ≡ s.store.acked
   same_asks : t.asks ≡ s.asks
 
 placed_appended : (s : ServerState) (e : LogEntry) → IsPlaced s (appended s e)
 unfolding appended
 placed_appended s e =
-    record { id = refl; head = refl; tail = refl; next = refl; previous = refl; acked = refl; same_asks = refl }
+    record { id = refl; head = refl; tail = refl; successor = refl; predecessor = refl; acked = refl; same_asks = refl }
 
 -- ---- which updates may be taken
 
@@ -217,8 +217,8 @@ still_untaken s e origin id other never =
 
 -- what is paid but for the own updates that the head is due
 pub record IsClear (s : ServerState) (d : Due) : Type 0 where
-  pub forwarded : (j : ℕ) → next s ≡ Some j → d.forwarded ≡ last_number s.store
-  pub told : (j : ℕ) → previous s ≡ Some j → d.untold ≡ false
+  pub forwarded : (j : ℕ) → successor_of s ≡ Some j → d.forwarded ≡ last_number s.store
+  pub told : (j : ℕ) → predecessor_of s ≡ Some j → d.untold ≡ false
   pub settled : d.unsettled ≡ []
   pub asked : is_tail s ≡ false → d.unasked ≡ []
   pub last : is_tail s ≡ true → (s.store.acked ≡ last_number s.store) × (s.asks ≡ [])
@@ -260,7 +260,7 @@ acked_risen s n = omega arith
 
 -- who has a successor and rises to what that has acknowledged has paid
 paid_acked : (s : ServerState) (d e : Due) (n i : ℕ)
-    → next s ≡ Some i
+    → successor_of s ≡ Some i
     → IsPaid s d
     → IsRisen s d e
     → IsPaid (rise s n).state e
@@ -296,10 +296,10 @@ rule_passed c s d e k p number sent taken =
     rule_so c t d _ (IsRisen t d) _ (λ e2 r. paid_risen t d e2 l (at.same_asks ∙ was.1) sent2 taken2 r)
     (rule_rise c t d (last_number t.store) k (omega (arith, at.acked, was.0, more)) (omega arith) (inl (l, refl))
     p.settled)))
-    (λ f. rule_message c t d (next t) (Forward e) (IsPaid t) k
+    (λ f. rule_message c t d (successor_of t) (Forward e) (IsPaid t) k
     (λ none. record {
       forwarded = λ j n. absurd (let no = sym none ∙ n in cc);
-      told = λ j q. p.told j (sym at.previous ∙ q);
+      told = λ j q. p.told j (sym at.predecessor ∙ q);
       settled = p.settled;
       sent = sent2;
       taken = taken2;
@@ -309,10 +309,10 @@ rule_passed c s d e k p number sent taken =
     (λ j n. (
       (n, appended_in s e),
       (next_within t j k.placed n).1,
-      omega (arith, number, p.forwarded j (sym at.next ∙ n)),
+      omega (arith, number, p.forwarded j (sym at.successor ∙ n)),
       record {
         forwarded = λ _ _. omega (arith, number, more);
-        told = λ x q. p.told x (sym at.previous ∙ q);
+        told = λ x q. p.told x (sym at.predecessor ∙ q);
         settled = p.settled;
         sent = sent2;
         taken = taken2;
@@ -522,13 +522,13 @@ module _ (s : ServerState) (d : Due) (i : ℕ) (m : Peer) (h : IsSound s) (p : I
       → IsEntry e
       → ((k : ℕ) → has m.view k ≡ true → has s.view k ≡ true)
       → IsRule (Some (From i m)) s d (receive_forward s i e) (λ x. IsPaid (receive_forward s i e).state x
-      × (previous (receive_forward s i e).state ≡ Some i
+      × (predecessor_of (receive_forward s i e).state ≡ Some i
       → e.number ≢ last_number (receive_forward s i e).state.store + 1))
   rule_receive_forward e is valid joined =
-      cond_both (is_that (previous s) i && e.number == last_number s.store + 1) _ _
+      cond_both (is_that (predecessor_of s) i && e.number == last_number s.store + 1) _ _
       (λ (a : RuleResult). IsRule (Some (From i m)) s d a
-      (λ x. IsPaid a.state x × (previous a.state ≡ Some i → e.number ≢ last_number a.state.store + 1)))
-      (λ t. (let parts = and_parts (is_that (previous s) i) (e.number == last_number s.store + 1) t in
+      (λ x. IsPaid a.state x × (predecessor_of a.state ≡ Some i → e.number ≢ last_number a.state.store + 1)))
+      (λ t. (let parts = and_parts (is_that (predecessor_of s) i) (e.number == last_number s.store + 1) t in
       let from = that_is _ i parts.0 in
       let number = eqb-true _ _ parts.1 in
       rule_so (Some (From i m)) s d _ _ _
@@ -536,7 +536,7 @@ module _ (s : ServerState) (d : Due) (i : ℕ) (m : Peer) (h : IsSound s) (p : I
       (rule_appended (Some (From i m)) s d e h (clear_paid s d p) (
         valid,
         inr (record
-            { from = i; message = m; came = refl; body = is; joined = joined; previous = from; next = number }),
+            { from = i; message = m; came = refl; body = is; joined = joined; predecessor = from; next = number }),
       )
       (λ _ u k. absurd (nothing_in u
       (subst (λ us. In u us) (p.sent (false_from_ne_true _ (λ first. not_first s i from first))) k))) p.sent
@@ -549,15 +549,15 @@ module _ (s : ServerState) (d : Due) (i : ℕ) (m : Peer) (h : IsSound s) (p : I
       → m.body ≡ Ack n
       → ((k : ℕ) → has m.view k ≡ true → has s.view k ≡ true)
       → IsRule (Some (From i m)) s d (receive_ack s i n) (λ e. IsPaid (receive_ack s i n).state e
-      × (next (receive_ack s i n).state ≡ Some i → n ≤ last_number (receive_ack s i n).state.store
+      × (successor_of (receive_ack s i n).state ≡ Some i → n ≤ last_number (receive_ack s i n).state.store
       → n ≤ (receive_ack s i n).state.store.acked))
   rule_receive_ack n is joined =
-      cond_both (is_that (next s) i && nat_lt s.store.acked n && nat_le n (last_number s.store)) _ _
+      cond_both (is_that (successor_of s) i && nat_lt s.store.acked n && nat_le n (last_number s.store)) _ _
       (λ (a : RuleResult). IsRule (Some (From i m)) s d a
       (λ e. IsPaid a.state e
-      × (next a.state ≡ Some i → n ≤ last_number a.state.store → n ≤ a.state.store.acked)))
-      (λ t. (let parts = and_parts (is_that (next s) i && nat_lt s.store.acked n) (nat_le n (last_number s.store)) t in
-      let first = and_parts (is_that (next s) i) (nat_lt s.store.acked n) parts.0 in
+      × (successor_of a.state ≡ Some i → n ≤ last_number a.state.store → n ≤ a.state.store.acked)))
+      (λ t. (let parts = and_parts (is_that (successor_of s) i && nat_lt s.store.acked n) (nat_le n (last_number s.store)) t in
+      let first = and_parts (is_that (successor_of s) i) (nat_lt s.store.acked n) parts.0 in
       let to = that_is _ i first.0 in
       rule_so (Some (From i m)) s d _ (IsRisen s d) _ (λ e r. (paid_acked s d e n i to p r, λ _ _. acked_risen s n))
       (rule_rise (Some (From i m)) s d n h (ltb-true _ _ first.1) (leb-true _ _ parts.1)

@@ -27,7 +27,7 @@ use Rattle.node.proofs.FaceLaws.{slot-is, kept, kept_clear, slot_at, slot-face_a
 use Rattle.node.proofs.FaceLaws.{item_based, slot_based, slot_of, slot-raw}
 use Rattle.versions.proofs.Logs.{log-take}
 
--- ---- what an acknowledged number takes away stays away
+-- ---- what a commit number takes away stays away
 
 no_clear : (n c : ℕ) → c ≤ n → kept_clear n c ≡ 0
 no_clear n c le = rw (le-leb c n le) refl
@@ -62,7 +62,7 @@ pair_of c d o p e g = λ i. (e i, g i)
 slot_again : (a n : ℕ) (s : Slot) → a ≤ n → slot_at n (slot_at a s) ≡ slot_at n s
 slot_again a n s le = pair_of _ _ _ _ (cleared_again (nat_le s.0 a) a n s.0 refl le) (kept_again a n s.1 le)
 
--- ---- entries keep what an acknowledged number doesn't tell apart
+-- ---- entries keep what a commit number doesn't tell apart
 
 same_after : (clear set : Bool) (number : ℕ) (item : Option Item) (n : ℕ) (s t : Slot)
     → slot_at n s ≡ slot_at n t

@@ -180,7 +180,7 @@ both : (b : Bool) → b ≡ (b && true)
 both true = refl
 both false = refl
 
--- of entries above the acknowledged number, each that touches the key makes it dirty
+-- of entries above the commit number, each that touches the key makes it dirty
 newer : (q : List ℕ) (low acked : ℕ) (es : List LogEntry) (s : Slot) → acked ≤ low → IsLog low es
     → nat_le (number_in (slot_by_all q es s).0 (slot_by_all q es s).1) acked
     ≡ (nat_le (number_in s.0 s.1) acked && not (list_any (touches q) es))
@@ -190,7 +190,7 @@ newer q low acked (e ∷ es) s le log =
     ∙ newer_step (is_clear e.change) (sets q e.target e.change) e.number (item_put e.change) acked s
     (list_any (touches q) es) (omega (arith, log.1))
 
--- the newest version is acknowledged exactly if no entry above the acknowledged number touches the key
+-- the newest version is acknowledged exactly if no entry above the commit number touches the key
 pub acked-all : (q : List ℕ) (k low acked : ℕ) (es : List LogEntry) (s : Slot)
     → acked ≡ low + k
     → IsLog low es
@@ -205,19 +205,19 @@ acked-all q (suc k) low acked (e ∷ es) s is log h =
 
 -- ---- what is shown of it
 
--- a key's version at an acknowledged number
+-- a key's version at a commit number
 abbrev pub kept : ℕ → Option Version → Option Version
 kept n o = cond (not (is_removed n o)) o None
 
--- a clear at an acknowledged number: one that is acknowledged is forgotten
+-- a clear at a commit number: one that is acknowledged is forgotten
 abbrev pub kept_clear : ℕ → ℕ → ℕ
 kept_clear n cleared = cond (nat_le cleared n) 0 cleared
 
--- what is kept of a key at an acknowledged number
+-- what is kept of a key at a commit number
 abbrev pub slot_at : ℕ → Slot → Slot
 slot_at n s = (kept_clear n s.0, kept n s.1)
 
--- a face that is brought to an acknowledged number keeps just that of each key
+-- a face that is brought to a commit number keeps just that of each key
 pub slot-face_at : (n : ℕ) (f : FaceState) (q : List ℕ) → slot (face_at n f) q ≡ slot_at n (slot f q)
 slot-face_at n f q = ap (λ (o : Option Version). (kept_clear n f.cleared, o))
     (get-retain_keys f.versions (λ key. not (is_removed n (maps.get f.versions key))) q
@@ -252,7 +252,7 @@ look-kept : (acked : ℕ) (s : Slot)
 look-kept acked (c, None) le = acked_clear (nat_le c acked) c acked refl
 look-kept acked (c, Some v) le = look-version c acked v.number v.item le
 
--- a look at a face at an acknowledged number shows the slot before acknowledged versions were taken away
+-- a look at a face at a commit number shows the slot before acknowledged versions were taken away
 pub look-face_at : (acked : ℕ) (f : FaceState) (q : List ℕ)
     → (slot f q).0 ≤ number_in (slot f q).0 (slot f q).1
     → look_at (face_at acked f) q ≡ shown acked (slot f q)

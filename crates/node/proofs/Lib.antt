@@ -10,6 +10,8 @@ pub mod Repeats
 pub mod Retaking
 pub mod Rejoining
 pub mod Lists
+pub mod Beginnings
+pub mod BegunLists
 pub mod StoreChanges
 pub mod OpenCalls
 pub mod Neighbours

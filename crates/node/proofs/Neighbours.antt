@@ -3,8 +3,8 @@
 use Rattle.std.proofs.Common.{◌≡◌, ◌≢◌, ℕ, suc, ◌-◌, ◌<◌, true, false, Option, Some, None, refl, ◌∙◌, arith, inl, inr, ap}
 use Rattle.std.proofs.lemmas.Bool.{both_ways, cases_order, eqb-true, eq-eqb}
 use Rattle.node.specs.Views.{View, has, predecessor, successor, head, tail, is_that, is_same}
-use Rattle.node.specs.Servers.{ServerState, head_of, tail_of, is_head, is_tail, previous, next}
-use Rattle.node.proofs.ViewLaws.{next_is, next_within_many, no_next, IsPrevious, previous_is, no_previous}
+use Rattle.node.specs.Servers.{ServerState, head_of, tail_of, is_head, is_tail, predecessor_of, successor_of}
+use Rattle.node.proofs.ViewLaws.{next_is, next_within_many, no_next, IsPredecessor, predecessor_is, no_predecessor}
 
 -- who passes the test of being the one is the one
 pub that_is : (o : Option ℕ) (i : ℕ) → is_that o i ≡ true → o ≡ Some i
@@ -67,11 +67,11 @@ head_from v n j h = found_head v n j (head v n) refl h
 
 -- if no tail is found, the view names all servers
 pub no_tail : (v : View) (n : ℕ) → tail v n ≡ None → (x : ℕ) → x < n → has v x ≡ true
-no_tail v n h x l = no_previous v n h x l
+no_tail v n h x l = no_predecessor v n h x l
 
 -- there is only one nearest server below, so one predecessor and one tail
-pub previous_agree : (v : View) (n i j : ℕ) → IsPrevious v n i → IsPrevious v n j → i ≡ j
-previous_agree v n i j h g =
+pub predecessor_agree : (v : View) (n i j : ℕ) → IsPredecessor v n i → IsPredecessor v n j → i ≡ j
+predecessor_agree v n i j h g =
     elim (cases_order i j) [
       | inl same ↦ same
       | inr other ↦ elim other [
@@ -80,13 +80,13 @@ previous_agree v n i j h g =
       ]
     ]
 
-found_previous : (v : View) (n j : ℕ) (o : Option ℕ) → predecessor v n ≡ o → IsPrevious v n j → o ≡ Some j
-found_previous v n j None e h = absurd (both_ways _ h.out (no_previous v n e j h.below))
-found_previous v n j (Some i) e h = ap (λ x. Some x) (previous_agree v n i j (previous_is v n i e) h)
+found_predecessor : (v : View) (n j : ℕ) (o : Option ℕ) → predecessor v n ≡ o → IsPredecessor v n j → o ≡ Some j
+found_predecessor v n j None e h = absurd (both_ways _ h.out (no_predecessor v n e j h.below))
+found_predecessor v n j (Some i) e h = ap (λ x. Some x) (predecessor_agree v n i j (predecessor_is v n i e) h)
 
 -- the nearest server below that the view leaves is found as the predecessor
-pub previous_from : (v : View) (n j : ℕ) → IsPrevious v n j → predecessor v n ≡ Some j
-previous_from v n j h = found_previous v n j (predecessor v n) refl h
+pub predecessor_from : (v : View) (n j : ℕ) → IsPredecessor v n j → predecessor v n ≡ Some j
+predecessor_from v n j h = found_predecessor v n j (predecessor v n) refl h
 
 -- ---- successors
 
@@ -138,33 +138,33 @@ pub head_of_is : (s : ServerState) (j : ℕ) → head_of s ≡ Some j → IsHead
 head_of_is s j h = head_is s.view s.count j h
 
 -- whom a server takes for the tail is the greatest one outside its view
-pub tail_of_is : (s : ServerState) (j : ℕ) → tail_of s ≡ Some j → IsPrevious s.view s.count j
-tail_of_is s j h = previous_is s.view s.count j h
+pub tail_of_is : (s : ServerState) (j : ℕ) → tail_of s ≡ Some j → IsPredecessor s.view s.count j
+tail_of_is s j h = predecessor_is s.view s.count j h
 
 -- who takes itself for the head is the least one outside its own view
 pub at_head : (s : ServerState) → is_head s ≡ true → IsHead s.view s.count s.id
 at_head s h = head_of_is s s.id (that_is _ s.id h)
 
 -- who takes itself for the tail is the greatest one outside its own view
-pub at_tail : (s : ServerState) → is_tail s ≡ true → IsPrevious s.view s.count s.id
+pub at_tail : (s : ServerState) → is_tail s ≡ true → IsPredecessor s.view s.count s.id
 at_tail s h = tail_of_is s s.id (that_is _ s.id h)
 
 -- a server's predecessor is the nearest one below that its own view leaves
-pub previous_of : (s : ServerState) (p : ℕ) → previous s ≡ Some p → IsPrevious s.view s.id p
-previous_of s p h = previous_is s.view s.id p h
+pub predecessor_found : (s : ServerState) (p : ℕ) → predecessor_of s ≡ Some p → IsPredecessor s.view s.id p
+predecessor_found s p h = predecessor_is s.view s.id p h
 
 -- a server's successor is the nearest one above that its own view leaves
-pub next_of : (s : ServerState) (j : ℕ) → next s ≡ Some j → IsFollowing s.view s.count s.id j
-next_of s j h = following_is s.view s.count s.id j h
+pub successor_found : (s : ServerState) (j : ℕ) → successor_of s ≡ Some j → IsFollowing s.view s.count s.id j
+successor_found s j h = following_is s.view s.count s.id j h
 
 -- ---- whom a server takes for its neighbours
 
 -- a predecessor has a smaller id
-pub previous_below : (s : ServerState) (j : ℕ) → previous s ≡ Some j → j < s.id
-previous_below s j e = (previous_is s.view s.id j e).below
+pub predecessor_below : (s : ServerState) (j : ℕ) → predecessor_of s ≡ Some j → j < s.id
+predecessor_below s j e = (predecessor_is s.view s.id j e).below
 
 -- a successor has a greater id, and is of the chain
-pub next_within : (s : ServerState) (j : ℕ) → s.id < s.count → next s ≡ Some j → (s.id < j) × (j < s.count)
+pub next_within : (s : ServerState) (j : ℕ) → s.id < s.count → successor_of s ≡ Some j → (s.id < j) × (j < s.count)
 next_within s j placed e =
     let n = next_is s.view (suc s.id) (s.count - suc s.id) j e in
     let w = next_within_many s.view (suc s.id) (s.count - suc s.id) j e in
@@ -176,7 +176,7 @@ head_within s j e = omega (arith, next_within_many s.view 0 s.count j e)
 
 -- whom a server takes for the tail is of the chain
 pub tail_within : (s : ServerState) (j : ℕ) → tail_of s ≡ Some j → j < s.count
-tail_within s j e = (previous_is s.view s.count j e).below
+tail_within s j e = (predecessor_is s.view s.count j e).below
 
 -- who isn't the head takes another for it
 not_that : (o : Option ℕ) (i j : ℕ) → is_that o i ≡ false → o ≡ Some j → j ≢ i
@@ -191,11 +191,11 @@ pub tail_other : (s : ServerState) (j : ℕ) → is_tail s ≡ false → tail_of
 tail_other s j h e = not_that (tail_of s) s.id j h e
 
 -- each of them is another server of the chain
-pub to_previous : (s : ServerState) (j : ℕ) → s.id < s.count → previous s ≡ Some j → (j < s.count) × (j ≢ s.id)
-to_previous s j placed e = let low = previous_below s j e in (omega arith, λ same. omega (arith, same))
+pub to_predecessor : (s : ServerState) (j : ℕ) → s.id < s.count → predecessor_of s ≡ Some j → (j < s.count) × (j ≢ s.id)
+to_predecessor s j placed e = let low = predecessor_below s j e in (omega arith, λ same. omega (arith, same))
 
 -- a message to the successor goes to another server of the chain
-pub to_next : (s : ServerState) (j : ℕ) → s.id < s.count → next s ≡ Some j → (j < s.count) × (j ≢ s.id)
+pub to_next : (s : ServerState) (j : ℕ) → s.id < s.count → successor_of s ≡ Some j → (j < s.count) × (j ≢ s.id)
 to_next s j placed e = let w = next_within s j placed e in (w.1, λ same. omega (arith, w.0, same))
 
 -- a message to the head, of who isn't it, goes to another server of the chain

@@ -56,7 +56,7 @@ all-append : (f : FaceState) (xs ys : List FaceStep)
 all-append f [] ys = refl
 all-append f (x ∷ xs) ys = all-append (face_after f x) xs ys
 
--- changes of versions don't ask for the acknowledged number
+-- changes of versions don't ask for the commit number
 after_unacked : (f g : FaceState) (x : FaceStep)
     → f.versions ≡ g.versions
     → f.cleared ≡ g.cleared

@@ -4,7 +4,7 @@ use Rattle.std.proofs.lemmas.Bool.{cond_both}
 use Rattle.std.specs.Prelude.{Result, Ok, Err, OnOk}
 use Rattle.node.specs.declared.messages.Output.{Output}
 use Rattle.node.specs.Views.{View, predecessor, is_same}
-use Rattle.node.specs.Servers.{ServerState, RuleResult, previous}
+use Rattle.node.specs.Servers.{ServerState, RuleResult, predecessor_of}
 use Rattle.node.specs.Joining.{promoted_to_head, promoted_to_tail, caught_up, acked_to_predecessor, asks_renewed}
 use Rattle.node.specs.Joining.{rejoined}
 
@@ -28,7 +28,7 @@ silent-caught_up old n s = refl
 silent-acked_to_predecessor : (old : View) (n : ℕ) (s : ServerState) → (acked_to_predecessor old n s).state ≡ s
 unfolding acked_to_predecessor
 silent-acked_to_predecessor old n s =
-    cond_both (not (is_same (predecessor old s.id) (previous s)) && s.store.acked == n) _ _
+    cond_both (not (is_same (predecessor old s.id) (predecessor_of s)) && s.store.acked == n) _ _
     (λ (a : RuleResult). a.state ≡ s) (λ t. refl) (λ f. refl)
 
 module _ (old : View) (n m : ℕ) (s : ServerState) where

@@ -7,7 +7,7 @@ use Rattle.node.specs.declared.servers.OpenUpdate.{OpenUpdate}
 use Rattle.node.specs.declared.servers.OpenRead.{OpenRead}
 use Rattle.node.specs.declared.messages.Body.TheVariants.{Op, Forward, Query}
 use Rattle.node.specs.declared.messages.Output.{Output}
-use Rattle.node.specs.Servers.{ServerState, next, head_of, tail_of, message_to, reply_at}
+use Rattle.node.specs.Servers.{ServerState, successor_of, head_of, tail_of, message_to, reply_at}
 use Rattle.node.specs.Joining.{sent_again, forwarded, replies_to, asked_again}
 
 one_more : (whole done part after rest all : List Output)
@@ -23,7 +23,7 @@ no_more whole done all h is = sym (h ∙ ap (λ r. done ++ r) is ∙ append-nil 
 
 forwarded_more : (s : ServerState) (rest es : List LogEntry) (e : LogEntry)
     → rest ≡ e ∷ es
-    → forwarded s rest ≡ message_to s (next s) (Forward e) ++ forwarded s es
+    → forwarded s rest ≡ message_to s (successor_of s) (Forward e) ++ forwarded s es
 unfolding forwarded
 forwarded_more s rest es e is = rw is refl
 
@@ -36,7 +36,7 @@ forwarded_none s (e ∷ es) is = absurd (omega arith)
 pub forwarded_step : (s : ServerState) (rest es : List LogEntry) (e : LogEntry) (whole done after : List Output)
     → rest ≡ e ∷ es
     → whole ≡ done ++ forwarded s rest
-    → after ≡ done ++ message_to s (next s) (Forward e)
+    → after ≡ done ++ message_to s (successor_of s) (Forward e)
     → whole ≡ after ++ forwarded s es
 forwarded_step s rest es e whole done after is h put =
     one_more whole done _ after _ _ h (forwarded_more s rest es e is) put

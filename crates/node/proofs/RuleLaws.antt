@@ -16,7 +16,7 @@ use Rattle.node.specs.declared.messages.Peer.{Peer}
 use Rattle.node.specs.declared.messages.Input.{Input}
 use Rattle.node.specs.declared.messages.Input.TheVariants.{From}
 use Rattle.node.specs.Views.{View, has, is_below, is_that}
-use Rattle.node.specs.Servers.{ServerState, opening, RuleResult, is_head, is_tail, previous}
+use Rattle.node.specs.Servers.{ServerState, opening, RuleResult, is_head, is_tail, predecessor_of}
 use Rattle.node.specs.Numbering.{appended, passed_on, entry_of, is_taken, take_update, entered, is_room_for_update}
 use Rattle.node.specs.Numbering.{called, update}
 use Rattle.node.specs.Joining.{join}
@@ -100,9 +100,9 @@ good-receive s i (Op id made) low fit valid g =
     (λ t. good-take_update s i id made low fit (and_parts (is_head s) (is_update made.op) t).1 g)
     (λ f. g)
 good-receive s i (Forward e) low fit valid g =
-    cond_both (is_that (previous s) i && e.number == last_number s.store + 1) _ _ (λ (a : RuleResult). IsGood a.state)
+    cond_both (is_that (predecessor_of s) i && e.number == last_number s.store + 1) _ _ (λ (a : RuleResult). IsGood a.state)
     (λ t. good-passed s e valid
-    (eqb-true _ _ (and_parts (is_that (previous s) i) (e.number == last_number s.store + 1) t).1) g)
+    (eqb-true _ _ (and_parts (is_that (predecessor_of s) i) (e.number == last_number s.store + 1) t).1) g)
     (λ f. g)
 good-receive s i (Ack n) low fit valid g =
     let r = rule_receive_ack s (nothing_due s) i (plain (Ack n)) g.sound (paid_nothing s g.settled) n refl

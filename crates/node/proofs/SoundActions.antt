@@ -84,7 +84,7 @@ grown_then s t u h g = record {
   next_ask = omega (arith, h.next_ask, g.next_ask);
 }
 
--- what leaves the view and the acknowledged number takes nothing away
+-- what leaves the view and the commit number takes nothing away
 grown_kept : (s t : ServerState)
     → IsSeatOf s t
     → t.view ≡ s.view

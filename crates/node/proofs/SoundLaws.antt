@@ -93,7 +93,7 @@ updates-push above (v ∷ us) u call is h = (h.0, h.1, h.2, updates-push v.id us
 
 -- ---- own reads
 
--- the bounds of the reads that wait: one below the next ask, one at most the acknowledged number
+-- the bounds of the reads that wait: one below the next ask, one at most the commit number
 pub reads_bound : (above lower_bound : ℕ) (rs : List OpenRead) (next_ask acked : ℕ)
     → AreReads above lower_bound rs next_ask acked
     → (above < next_ask) × (lower_bound ≤ acked)
@@ -109,7 +109,7 @@ lower_reads : (a b m n : ℕ) (rs : List OpenRead) (next_ask acked : ℕ)
 lower_reads a b m n [] next_ask acked le leq h = (omega (arith, h.0), omega (arith, h.1))
 lower_reads a b m n (r ∷ rs) next_ask acked le leq h = (omega (arith, h.0), omega (arith, h.1), h.2)
 
--- the acknowledged number may rise
+-- the commit number may rise
 pub reads-acked : (above lower_bound : ℕ) (rs : List OpenRead) (next_ask acked n : ℕ)
     → acked ≤ n
     → AreReads above lower_bound rs next_ask acked
@@ -134,14 +134,14 @@ reads-without above lower_bound [] next_ask acked ask h = h
 reads-without above lower_bound (r ∷ rs) next_ask acked ask h =
     read_step _ above lower_bound r rs _ next_ask acked h (reads-without r.ask r.lower_bound rs next_ask acked ask h.2)
 
--- one more read waits, under the next ask and with the acknowledged number as its lower bound
+-- one more read waits, under the next ask and with the commit number as its lower bound
 pub reads-push : (above lower_bound : ℕ) (rs : List OpenRead) (r : OpenRead)
     → AreReads above lower_bound rs r.ask r.lower_bound
     → AreReads above lower_bound (rs ++ r ∷ []) (r.ask + 1) r.lower_bound
 reads-push above lower_bound [] r h = (h.0, h.1, (omega arith, omega arith))
 reads-push above lower_bound (q ∷ rs) r h = (h.0, h.1, reads-push q.ask q.lower_bound rs r h.2)
 
--- the open read of an ask is among them: its lower bound is between the floor and the acknowledged number
+-- the open read of an ask is among them: its lower bound is between the floor and the commit number
 found_step : (b : Bool) (r q : OpenRead) (rest : Option OpenRead) (lower_bound acked : ℕ)
     → (lower_bound ≤ r.lower_bound)
     → (r.lower_bound ≤ acked)
@@ -151,7 +151,7 @@ found_step : (b : Bool) (r q : OpenRead) (rest : Option OpenRead) (lower_bound a
 found_step true r q rest lower_bound acked low high f h = let same : r ≡ q = same_Some r q h in rw (← same) (low, high)
 found_step false r q rest lower_bound acked low high f h = f h
 
--- an open read that is found has a lower bound from the bound of the list to the acknowledged number
+-- an open read that is found has a lower bound from the bound of the list to the commit number
 pub read-found : (above lower_bound : ℕ) (rs : List OpenRead) (next_ask acked ask : ℕ) (q : OpenRead)
     → AreReads above lower_bound rs next_ask acked
     → find (λ r. r.ask == ask) rs ≡ Some q
@@ -161,7 +161,7 @@ read-found above lower_bound (r ∷ rs) next_ask acked ask q h e =
     found_step _ r q _ lower_bound acked h.1 (reads_bound r.ask r.lower_bound rs next_ask acked h.2).1
     (λ g. let k = read-found r.ask r.lower_bound rs next_ask acked ask q h.2 g in (omega (arith, k.0, h.1), k.1)) e
 
--- the least of the acknowledged number and the lower bounds is the first lower bound, or the acknowledged number
+-- the least of the commit number and the lower bounds is the first lower bound, or the commit number
 pub least_first : (above lower_bound : ℕ) (r : OpenRead) (rs : List OpenRead) (next_ask acked : ℕ)
     → AreReads above lower_bound (r ∷ rs) next_ask acked
     → least_open acked (r ∷ rs) ≡ r.lower_bound
@@ -169,7 +169,7 @@ least_first above lower_bound r [] next_ask acked h = omega (arith, h.2)
 least_first above lower_bound r (q ∷ rs) next_ask acked h =
     omega (arith, h.2.1, least_first r.ask r.lower_bound q rs next_ask acked h.2)
 
--- the least of the acknowledged number and the lower bounds is from the bound of the list to the acknowledged number
+-- the least of the commit number and the lower bounds is from the bound of the list to the commit number
 pub least_within : (above lower_bound : ℕ) (rs : List OpenRead) (next_ask acked : ℕ)
     → AreReads above lower_bound rs next_ask acked
     → (lower_bound ≤ least_open acked rs) × (least_open acked rs ≤ acked)
@@ -338,7 +338,7 @@ sound-reads s rs next_ask reads h = record {
   reads = reads;
 }
 
--- a server stays sound as its acknowledged number rises up to the last one
+-- a server stays sound as its commit number rises up to the last one
 pub sound-acked : (s : ServerState) (n : ℕ)
     → s.store.acked ≤ n
     → n ≤ last_number s.store

@@ -48,7 +48,7 @@ get_taken (suc m) (y ∷ xs) (suc k) x h = let g = get_taken m xs k x h in (g.0,
 pub held_after : (s : StoreState) (n : ℕ) (e : LogEntry) → In e (entries_after s n) → In e s.rest
 held_after s n e i = (n - s.floor + i.0, get_dropped (n - s.floor) s.rest i.0 _ e refl i.1)
 
--- an entry between the acknowledged number and n
+-- an entry between the commit number and n
 pub held_between : (s : StoreState) (n : ℕ) (e : LogEntry)
     → IsStore s
     → s.acked < n

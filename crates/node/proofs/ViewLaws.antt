@@ -9,7 +9,7 @@ use Rattle.std.proofs.lemmas.Nat.Bits.{bit_at_or, bit_at-lt, bit_at-pow_other, b
 use Rattle.std.proofs.lemmas.Nat.Bits.{bit_at_above}
 use Rattle.std.proofs.lemmas.Option.{same_Some}
 use Rattle.node.specs.Views.{View, has, union, single, is_below, next_from, predecessor}
-pub use Rattle.node.specs.Chains.{IsNext, IsPrevious}
+pub use Rattle.node.specs.Chains.{IsNext, IsPredecessor}
 
 -- a union names whom one of the two views names
 pub has-union : (u v : View) (i : ℕ) → has (union u v) i ≡ (has u i || has v i)
@@ -119,27 +119,27 @@ no_next v k zero h x a l = absurd (omega arith)
 no_next v k (suc many) h x a l =
     all_step v k many (has v k) (next_from v (suc k) many) refl (no_next v (suc k) many) h x a l
 
-previous_step : (v : View) (k p : ℕ) (b : Bool) (rest : Option ℕ)
+predecessor_step : (v : View) (k p : ℕ) (b : Bool) (rest : Option ℕ)
     → has v k ≡ b
-    → (rest ≡ Some p → IsPrevious v k p)
+    → (rest ≡ Some p → IsPredecessor v k p)
     → cond b rest (Some k) ≡ Some p
-    → IsPrevious v (suc k) p
-previous_step v k p true rest e f h =
+    → IsPredecessor v (suc k) p
+predecessor_step v k p true rest e f h =
     let r = f h in
     record {
       below = omega (arith, r.below);
       out = r.out;
       between = λ x a l. elim (cases_eq x k) [ inl same ↦ rw same e | inr other ↦ r.between x a (omega arith) ];
     }
-previous_step v k p false rest e f h =
+predecessor_step v k p false rest e f h =
     let same = same_Some k p h in
     record { below = omega arith; out = rw (← same) e; between = λ x a l. absurd (omega arith) }
 
 -- the predecessor that is found is the nearest server below outside the view
-pub previous_is : (v : View) (i p : ℕ) → predecessor v i ≡ Some p → IsPrevious v i p
+pub predecessor_is : (v : View) (i p : ℕ) → predecessor v i ≡ Some p → IsPredecessor v i p
 unfolding predecessor
-previous_is v zero p h = grind arith
-previous_is v (suc k) p h = previous_step v k p (has v k) (predecessor v k) refl (previous_is v k p) h
+predecessor_is v zero p h = grind arith
+predecessor_is v (suc k) p h = predecessor_step v k p (has v k) (predecessor v k) refl (predecessor_is v k p) h
 
 none_step : (v : View) (k : ℕ) (b : Bool) (rest : Option ℕ)
     → has v k ≡ b
@@ -152,7 +152,7 @@ none_step v k true rest e f h x l = elim (cases_eq x k) [ inl same ↦ rw same e
 none_step v k false rest e f h x l = absurd cc
 
 -- if no predecessor is found, the view names all servers below
-pub no_previous : (v : View) (i : ℕ) → predecessor v i ≡ None → (x : ℕ) → x < i → has v x ≡ true
+pub no_predecessor : (v : View) (i : ℕ) → predecessor v i ≡ None → (x : ℕ) → x < i → has v x ≡ true
 unfolding predecessor
-no_previous v zero h x l = grind arith
-no_previous v (suc k) h x l = none_step v k (has v k) (predecessor v k) refl (no_previous v k) h x l
+no_predecessor v zero h x l = grind arith
+no_predecessor v (suc k) h x l = none_step v k (has v k) (predecessor v k) refl (no_predecessor v k) h x l

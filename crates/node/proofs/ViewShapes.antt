@@ -23,22 +23,22 @@ next_within v i count l =
 pub next_past : (v : View) (i count : ℕ) → count ≤ i → next_from v i (count - i) ≡ None
 next_past v i count l = let a : count - i ≡ 0 = omega arith in rw a (next_zero v i)
 
-previous_suc : (v : View) (k : ℕ) → predecessor v (suc k) ≡ cond (has v k) (predecessor v k) (Some k)
+predecessor_suc : (v : View) (k : ℕ) → predecessor v (suc k) ≡ cond (has v k) (predecessor v k) (Some k)
 unfolding predecessor
-previous_suc v k = refl
+predecessor_suc v k = refl
 
 none_below : (v : View) → predecessor v 0 ≡ None
 unfolding predecessor
 none_below v = refl
 
 -- before server 0 there is none
-pub previous_zero : (v : View) (k : ℕ) → k ≤ 0 → predecessor v k ≡ None
-previous_zero v k h = let e : k ≡ 0 = omega arith in rw e (none_below v)
+pub predecessor_zero : (v : View) (k : ℕ) → k ≤ 0 → predecessor v k ≡ None
+predecessor_zero v k h = let e : k ≡ 0 = omega arith in rw e (none_below v)
 
 -- the nearest server below k: the one before k if the view leaves it, otherwise that below this one
-pub previous_more : (v : View) (k : ℕ)
+pub predecessor_more : (v : View) (k : ℕ)
     → 0 < k
     → predecessor v k ≡ cond (has v (k - 1)) (predecessor v (k - 1)) (Some (k - 1))
-previous_more v k l = let e : k ≡ suc (k - 1) =
+predecessor_more v k l = let e : k ≡ suc (k - 1) =
     omega arith in subst (λ n. predecessor v n ≡ cond (has v (k - 1)) (predecessor v (k - 1)) (Some (k - 1))) (sym e)
-    (previous_suc v (k - 1))
+    (predecessor_suc v (k - 1))

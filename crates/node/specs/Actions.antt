@@ -19,7 +19,7 @@ use Rattle.node.specs.declared.messages.Input.{Input}
 use Rattle.node.specs.declared.messages.Input.TheVariants.{Call as Called, From, Gone}
 use Rattle.node.specs.declared.messages.Output.TheVariants.{To}
 use Rattle.node.specs.Views.{View, has, single, is_below, is_same}
-use Rattle.node.specs.Servers.{ServerState, RuleResult, most, head_of, tail_of, is_head, is_tail, previous, next}
+use Rattle.node.specs.Servers.{ServerState, RuleResult, most, head_of, tail_of, is_head, is_tail, predecessor_of, successor_of}
 use Rattle.node.specs.Servers.{silent}
 use Rattle.node.specs.Servers.{putting, and_then, message_to, reply_at}
 use Rattle.node.specs.Numbering.{newly_acked, left_open_by, reply_to, appended, entry_of, is_taken, entered}
@@ -78,7 +78,7 @@ pub record IsPassed (input : Cause) (s : ServerState) (e : LogEntry) : Type 0 wh
   pub message : Peer
   pub came : input ≡ Some (From from message)
   pub body : message.body ≡ Forward e
-  pub previous : previous s ≡ Some from
+  pub predecessor : predecessor_of s ≡ Some from
   pub next : e.number ≡ last_number s.store + 1
   -- the message's view was joined
   pub joined : (k : ℕ) → has message.view k ≡ true → has s.view k ≡ true
@@ -87,7 +87,7 @@ pub record IsPassed (input : Cause) (s : ServerState) (e : LogEntry) : Type 0 wh
 abbrev pub IsReached : Cause → ServerState → ℕ → Type 0
 IsReached input s n =
     ((is_tail s ≡ true) × (n ≡ last_number s.store))
-    ⊎ ((i : ℕ) × (m : Peer) × (input ≡ Some (From i m)) × (m.body ≡ Ack n) × (next s ≡ Some i)
+    ⊎ ((i : ℕ) × (m : Peer) × (input ≡ Some (From i m)) × (m.body ≡ Ack n) × (successor_of s ≡ Some i)
     × ((k : ℕ) → has m.view k ≡ true → has s.view k ≡ true))
 
 -- a message that may be put out to server j
@@ -95,8 +95,8 @@ abbrev pub MaySend : Cause → ServerState → ℕ → Body → Type 0
 MaySend input s j (Op id call) =
     (head_of s ≡ Some j) × (j ≢ s.id) × (is_update call.op ≡ true) × IsCall call × (port : ℕ)
     × In (record { id = id; port = port; call = call }) s.pend
-MaySend input s j (Forward e) = (next s ≡ Some j) × In e s.store.rest
-MaySend input s j (Ack n) = (previous s ≡ Some j) × (n ≡ s.store.acked)
+MaySend input s j (Forward e) = (successor_of s ≡ Some j) × In e s.store.rest
+MaySend input s j (Ack n) = (predecessor_of s ≡ Some j) × (n ≡ s.store.acked)
 MaySend input s j (Query ask key) =
     (tail_of s ≡ Some j) × (is_tail s ≡ false) × (1 ≤ ask) × (port : ℕ) × (lower_bound : ℕ)
     × In (record { ask = ask; port = port; key = key; lower_bound = lower_bound }) s.asks
@@ -118,7 +118,7 @@ pub record Due : Type 0 where
   pub since : ServerState
   -- the successor was sent the entries up to this number
   pub forwarded : ℕ
-  -- the predecessor has yet to be told the acknowledged number
+  -- the predecessor has yet to be told the commit number
   pub untold : Bool
   -- acknowledged entries whose calls have yet to be closed
   pub unsettled : List LogEntry
@@ -133,14 +133,14 @@ nothing_due s =
     record { since = s; forwarded = last_number s.store; untold = false; unsettled = []; unsent = []; unasked = [] }
 
 -- What a join makes due, from the server before it to the one whose view was widened: a new successor needs the entries
--- that aren't acknowledged, a new predecessor the acknowledged number, a new head the own updates, and a new tail the
+-- that aren't acknowledged, a new predecessor the commit number, a new head the own updates, and a new tail the
 -- own reads.
 abbrev pub due_to_new : ServerState → ServerState → Due
 due_to_new s t =
     record {
       since = s;
-      forwarded = if is_same (next s) (next t) then last_number s.store else s.store.acked;
-      untold = not (is_same (previous s) (previous t));
+      forwarded = if is_same (successor_of s) (successor_of t) then last_number s.store else s.store.acked;
+      untold = not (is_same (predecessor_of s) (predecessor_of t));
       unsettled = [];
       unsent = if is_same (head_of s) (head_of t) then [] else s.pend;
       unasked = if is_same (tail_of s) (tail_of t) then [] else s.asks;
@@ -151,7 +151,7 @@ abbrev pub but_first : {X : Type 0} → List X → List X
 but_first [] = []
 but_first (x ∷ xs) = xs
 
--- it is the turn of a message: the successor's next entry, the new acknowledged number, the first own update or read
+-- it is the turn of a message: the successor's next entry, the new commit number, the first own update or read
 -- that is due
 abbrev pub IsTurnOf : Body → Due → Type 0
 IsTurnOf (Op id call) d =
@@ -173,9 +173,9 @@ due_after (Answer ask n) d = d
 
 -- Nothing is left to do: what a step ends with.
 pub record IsPaid (s : ServerState) (d : Due) : Type 0 where
-  -- the successor was sent every entry, and the predecessor was told the acknowledged number
-  pub forwarded : (j : ℕ) → next s ≡ Some j → d.forwarded ≡ last_number s.store
-  pub told : (j : ℕ) → previous s ≡ Some j → d.untold ≡ false
+  -- the successor was sent every entry, and the predecessor was told the commit number
+  pub forwarded : (j : ℕ) → successor_of s ≡ Some j → d.forwarded ≡ last_number s.store
+  pub told : (j : ℕ) → predecessor_of s ≡ Some j → d.untold ≡ false
   -- every acknowledged entry has closed its call
   pub settled : d.unsettled ≡ []
   -- the own updates that were due were sent to the head; who is the head has taken those that it could
@@ -194,7 +194,7 @@ pub data Action : Type 0 where
   Widen : (v : View) → Action
   -- an entry is appended
   Append : (e : LogEntry) → Action
-  -- the acknowledged number rises
+  -- the commit number rises
   Reach : (n : ℕ) → Action
   -- an acknowledged entry closes its call, if that is an own one without a reply
   Settle : (e : LogEntry) → Action
@@ -355,8 +355,8 @@ due_in_the_end d s (a ∷ later) = due_in_the_end (due d s a) (act s a).state la
 -- acknowledged, a query is answered by the tail, and an answer of the tail that is in range leaves its read closed
 abbrev pub IsTakenIn : ℕ → Body → RuleResult → Type 0
 IsTakenIn i (Op id call) a = is_head a.state ≡ true → is_update call.op ≡ true → is_taken a.state i id ≡ false
-IsTakenIn i (Forward e) a = previous a.state ≡ Some i → e.number ≢ last_number a.state.store + 1
-IsTakenIn i (Ack n) a = next a.state ≡ Some i → n ≤ last_number a.state.store → n ≤ a.state.store.acked
+IsTakenIn i (Forward e) a = predecessor_of a.state ≡ Some i → e.number ≢ last_number a.state.store + 1
+IsTakenIn i (Ack n) a = successor_of a.state ≡ Some i → n ≤ last_number a.state.store → n ≤ a.state.store.acked
 IsTakenIn i (Query ask key) a =
     is_tail a.state ≡ true → (m : Peer) × In (To i m) a.outputs × (m.body ≡ Answer ask (last_number a.state.store))
 IsTakenIn i (Answer ask n) a =

@@ -10,7 +10,7 @@ pub record IsNext (v : View) (k j : ℕ) : Type 0 where
   pub between : (x : ℕ) → k ≤ x → x < j → has v x ≡ true
 
 -- p is the nearest server outside the view below i
-pub record IsPrevious (v : View) (i p : ℕ) : Type 0 where
+pub record IsPredecessor (v : View) (i p : ℕ) : Type 0 where
   pub below : p < i
   pub out : has v p ≡ false
   pub between : (x : ℕ) → p < x → x < i → has v x ≡ true

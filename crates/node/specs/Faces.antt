@@ -27,7 +27,7 @@ abbrev pub Versions : Type 0
 Versions = maps.FinMap key_cmp Version
 
 -- A face: each key's newest version; the number of the last clear, which is a version without item of every key
--- that has no later one, or 0; and the acknowledged number.
+-- that has no later one, or 0; and the commit number.
 pub record FaceState : Type 0 where
   pub versions : Versions
   pub cleared : ℕ
@@ -58,7 +58,7 @@ abbrev pub is_removed : ℕ → Option Version → Bool
 is_removed n None = true
 is_removed n (Some v) = not (is_some v.item) && nat_le v.number n
 
--- the face with n as its acknowledged number: the versions without item up to n are taken away, and a clear up to n as
+-- the face with n as its commit number: the versions without item up to n are taken away, and a clear up to n as
 -- well
 abbrev pub face_at : ℕ → FaceState → FaceState
 face_at n f =
@@ -88,7 +88,7 @@ pub record IsQueued (versions : Versions) (tombstones : List Tombstone) : Type 0
       → v.item ≡ None
       → Waits v.number key tombstones
 
--- a change is done: its steps in order, and then the acknowledged number
+-- a change is done: its steps in order, and then the commit number
 abbrev pub face_changed : FaceState → List FaceStep → ℕ → FaceState
 face_changed f steps acked = face_at acked (face_after_all f steps)
 
@@ -118,18 +118,18 @@ base_step e = Set e.0 (record { number = e.1.unique; item = Some e.1 })
 abbrev pub no_face : FaceState
 no_face = record { versions = maps.empty; cleared = 0; acked = 0 }
 
--- the face of a server: the base's items, changed by the entries above the floor, at the acknowledged number
+-- the face of a server: the base's items, changed by the entries above the floor, at the commit number
 abbrev pub face_of : ServerState → FaceState
 face_of s =
     face_at s.store.acked
     (face_after_all (record { versions = versions_of s.store.base; cleared = 0; acked = s.store.floor })
     (face_steps s.store.rest))
 
--- how a step changes the face: by the entries that it appends, and to the acknowledged number after it
+-- how a step changes the face: by the entries that it appends, and to the commit number after it
 abbrev pub steps_by : ServerState → Input → List FaceStep
 steps_by s input = face_steps (entries_after (taken_in s input).state.store (last_number s.store))
 
--- the acknowledged number after the step
+-- the commit number after the step
 abbrev pub acked_by : ServerState → Input → ℕ
 acked_by s input = (taken_in s input).state.store.acked
 

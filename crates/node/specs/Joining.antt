@@ -13,7 +13,7 @@ use Rattle.node.specs.declared.servers.OpenRead.{OpenRead}
 use Rattle.node.specs.declared.messages.Body.TheVariants.{Op, Forward, Ack, Query}
 use Rattle.node.specs.declared.messages.Output.{Output}
 use Rattle.node.specs.Views.{View, union, adds, head, tail, predecessor, successor, is_that, is_same}
-use Rattle.node.specs.Servers.{ServerState, RuleResult, head_of, tail_of, is_head, is_tail, previous, next, silent}
+use Rattle.node.specs.Servers.{ServerState, RuleResult, head_of, tail_of, is_head, is_tail, predecessor_of, successor_of, silent}
 use Rattle.node.specs.Servers.{putting, and_then, message_to, reply_at}
 use Rattle.node.specs.Numbering.{taken, rise}
 
@@ -49,22 +49,22 @@ promoted_to_tail s =
 -- each of these entries goes to the successor, in order
 unfoldable pub forwarded : ServerState → List LogEntry → List Output
 forwarded s [] = []
-forwarded s (e ∷ es) = message_to s (next s) (Forward e) ++ forwarded s es
+forwarded s (e ∷ es) = message_to s (successor_of s) (Forward e) ++ forwarded s es
 
 -- the number above which the successor needs this server's entries: the acknowledged one if the successor changed,
 -- and otherwise the last one before the join
 abbrev pub needed_above : View → ℕ → ServerState → ℕ
-needed_above old last_before s = if is_same (successor old s.count s.id) (next s) then last_before else s.store.acked
+needed_above old last_before s = if is_same (successor old s.count s.id) (successor_of s) then last_before else s.store.acked
 
 -- Fourth: a successor gets the entries that it needs.
 unfoldable pub caught_up : View → ℕ → ServerState → RuleResult
 caught_up old last_before s = putting s (forwarded s (entries_after s.store (needed_above old last_before s)))
 
--- Fifth: a new predecessor gets the acknowledged number, unless the third step raised it, and so sent it already.
+-- Fifth: a new predecessor gets the commit number, unless the third step raised it, and so sent it already.
 unfoldable pub acked_to_predecessor : View → ℕ → ServerState → RuleResult
 acked_to_predecessor old acked_before s =
-    if not (is_same (predecessor old s.id) (previous s)) && s.store.acked == acked_before
-    then putting s (message_to s (previous s) (Ack s.store.acked)) else silent s
+    if not (is_same (predecessor old s.id) (predecessor_of s)) && s.store.acked == acked_before
+    then putting s (message_to s (predecessor_of s) (Ack s.store.acked)) else silent s
 
 -- each of these reads is answered with its key's newest version
 unfoldable pub replies_to : ServerState → List OpenRead → List Output

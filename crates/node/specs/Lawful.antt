@@ -57,7 +57,7 @@ AreUpdates above (u ∷ us) next_id =
     (above < u.id) × IsCall u.call × (is_update u.call.op ≡ true) × AreUpdates u.id us next_id
 
 -- reads that may wait: in the order of their asks, which are above this number and below the next ask,
--- with lower bounds that never fall, none below the floor or above the acknowledged number
+-- with lower bounds that never fall, none below the floor or above the commit number
 abbrev pub AreReads : ℕ → ℕ → List OpenRead → ℕ → ℕ → Type 0
 AreReads above lower_bound [] next_ask acked = (above < next_ask) × (lower_bound ≤ acked)
 AreReads above lower_bound (r ∷ rs) next_ask acked =
@@ -71,7 +71,7 @@ pub record IsSound (s : ServerState) : Type 0 where
   -- its view names neither itself nor one that isn't of the chain;
   pub outside : has s.view s.id ≡ false
   pub within : is_below s.view s.count ≡ true
-  -- its entries follow one another, the floor is at most the acknowledged number, and that is at most the last;
+  -- its entries follow one another, the floor is at most the commit number, and that is at most the last;
   pub store : IsStore s.store
   -- an item of the base was put by an entry up to the floor;
   pub based : (key : List ℕ) (item : Item) → item_at s.store.base key ≡ Some item → item.unique ≤ s.store.floor
@@ -89,7 +89,7 @@ IsSettled s = is_tail s ≡ true → (s.store.acked ≡ last_number s.store) × 
 pub record IsLawful (s : ServerState) : Type 0 where
   pub sound : IsSound s
   pub settled : IsSettled s
-  -- the floor is the least of the acknowledged number and all lower bounds.
+  -- the floor is the least of the commit number and all lower bounds.
   pub floored : s.store.floor ≡ least_open s.store.acked s.asks
 
 -- a message goes to another server of the chain

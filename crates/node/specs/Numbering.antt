@@ -14,7 +14,7 @@ use Rattle.node.specs.declared.servers.OpenUpdate.{OpenUpdate}
 use Rattle.node.specs.declared.messages.Body.TheVariants.{Op, Forward, Ack}
 use Rattle.node.specs.declared.messages.Output.{Output}
 use Rattle.node.specs.Views.{is_that}
-use Rattle.node.specs.Servers.{ServerState, RuleResult, most, seen_of, head_of, is_head, is_tail, previous, next}
+use Rattle.node.specs.Servers.{ServerState, RuleResult, most, seen_of, head_of, is_head, is_tail, predecessor_of, successor_of}
 use Rattle.node.specs.Servers.{silent}
 use Rattle.node.specs.Servers.{putting, message_to, reply_at, without_first}
 
@@ -51,11 +51,11 @@ unfoldable pub replies : ℕ → List OpenUpdate → List LogEntry → List Outp
 replies id pend [] = []
 replies id pend (e ∷ es) = reply_to id pend e ++ replies id (left_open_by id pend e) es
 
--- the entries above the acknowledged number, up to n
+-- the entries above the commit number, up to n
 abbrev pub newly_acked : ServerState → ℕ → List LogEntry
 newly_acked s n = take (n - s.store.acked) (entries_after s.store s.store.acked)
 
--- Rise to n, a number above the acknowledged one: it becomes the acknowledged number, the own calls among the entries
+-- Rise to n, a number above the acknowledged one: it becomes the commit number, the own calls among the entries
 -- newly passed are answered in order, and then the predecessor is told (CRAQ, "Chain Replication with Apportioned
 -- Queries": acknowledgements go back up the chain)
 unfoldable pub risen : ServerState → ℕ → ServerState
@@ -64,7 +64,7 @@ risen s n = record s { store = acked_to s.store n; pend = left_open s.id s.pend 
 -- the server risen to n, and what it puts out
 abbrev pub rise : ServerState → ℕ → RuleResult
 rise s n =
-    record { state = risen s n; outputs = replies s.id s.pend (newly_acked s n) ++ message_to s (previous s) (Ack n) }
+    record { state = risen s n; outputs = replies s.id s.pend (newly_acked s n) ++ message_to s (predecessor_of s) (Ack n) }
 
 -- appending
 
@@ -75,7 +75,7 @@ appended s e = record s { store = pushed s.store e; seen = slice_set s.seen e.or
 -- an entry that was just appended: at the tail it is acknowledged, otherwise it goes on to the successor
 -- (CRAQ, "Chain Replication")
 unfoldable pub passed_on : ServerState → LogEntry → RuleResult
-passed_on s e = if is_tail s then rise s (last_number s.store) else putting s (message_to s (next s) (Forward e))
+passed_on s e = if is_tail s then rise s (last_number s.store) else putting s (message_to s (successor_of s) (Forward e))
 
 -- taking
 
@@ -139,10 +139,10 @@ receive_op s i id call = if is_head s && is_update call.op then take_update s i 
 -- `Forward` from server i: from the predecessor the entry with the next number is appended and passed on
 abbrev pub receive_forward : ServerState → ℕ → LogEntry → RuleResult
 receive_forward s i e =
-    if is_that (previous s) i && e.number == last_number s.store + 1 then passed_on (appended s e) e else silent s
+    if is_that (predecessor_of s) i && e.number == last_number s.store + 1 then passed_on (appended s e) e else silent s
 
 -- `Ack` from server i: from the successor, with a number above the acknowledged one and not above the last, this server
 -- rises to it
 abbrev pub receive_ack : ServerState → ℕ → ℕ → RuleResult
 receive_ack s i n =
-    if is_that (next s) i && nat_lt s.store.acked n && nat_le n (last_number s.store) then rise s n else silent s
+    if is_that (successor_of s) i && nat_lt s.store.acked n && nat_le n (last_number s.store) then rise s n else silent s

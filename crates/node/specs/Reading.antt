@@ -12,7 +12,7 @@ use Rattle.node.specs.Views.{is_that}
 use Rattle.node.specs.Servers.{ServerState, RuleResult, most, tail_of, is_tail, silent, putting, message_to, reply_at}
 use Rattle.node.specs.Servers.{without_first}
 
--- a read waits for an answer under the next ask: its lower bound is the acknowledged number (this project's rule)
+-- a read waits for an answer under the next ask: its lower bound is the commit number (this project's rule)
 unfoldable pub asked : ServerState → ℕ → List ℕ → ServerState
 asked s port key =
     record s {

@@ -64,12 +64,12 @@ abbrev pub is_tail : ServerState → Bool
 is_tail s = is_that (tail_of s) s.id
 
 -- its predecessor in its own view
-abbrev pub previous : ServerState → Option ℕ
-previous s = predecessor s.view s.id
+abbrev pub predecessor_of : ServerState → Option ℕ
+predecessor_of s = predecessor s.view s.id
 
 -- its successor, in its own view
-abbrev pub next : ServerState → Option ℕ
-next s = successor s.view s.count s.id
+abbrev pub successor_of : ServerState → Option ℕ
+successor_of s = successor s.view s.count s.id
 
 -- What a rule makes of a server: the server after it, and what is put out, in order.
 pub record RuleResult : Type 0 where

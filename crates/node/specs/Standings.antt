@@ -7,7 +7,7 @@ use Rattle.node.specs.declared.standings.Standing.{Standing}
 use Rattle.node.specs.Servers.{ServerState}
 use Rattle.node.specs.Steps.{taken_in}
 
--- the servers that it knows to have failed, its last number, its acknowledged number and its floor
+-- the servers that it knows to have failed, its last number, its commit number and its floor
 abbrev pub standing : ServerState → Standing
 standing s = record { view = s.view; last = last_number s.store; acked = s.store.acked; floor = s.store.floor }
 

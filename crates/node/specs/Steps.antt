@@ -52,12 +52,12 @@ taken_in s (Called port asked) = call s port asked
 taken_in s (From i peer) = from_peer s i peer
 taken_in s (Gone j) = gone s j
 
--- the least of the acknowledged number and the lower bounds of all open reads
+-- the least of the commit number and the lower bounds of all open reads
 abbrev pub least_open : ℕ → List OpenRead → ℕ
 least_open acked [] = acked
 least_open acked (r ∷ rs) = min r.lower_bound (least_open acked rs)
 
--- versions below each open read's lower bound and the acknowledged number are folded into one table (this project's
+-- versions below each open read's lower bound and the commit number are folded into one table (this project's
 -- rule)
 unfoldable pub trimmed : ServerState → ServerState
 trimmed s = record s { store = dropped_to s.store (least_open s.store.acked s.asks) }

@@ -35,7 +35,7 @@ pub enum FaceStep {
 pub struct FaceChange {
     /// The changes of versions, in order.
     pub steps: Vec<FaceStep>,
-    /// The acknowledged number from now on.
+    /// The commit number from now on.
     pub acked: u64,
 }
 
@@ -115,7 +115,7 @@ impl Node {
 }
 
 impl Replica {
-    // The versions of the base's items, then what the entries above the floor change, and the acknowledged number.
+    // The versions of the base's items, then what the entries above the floor change, and the commit number.
     fn whole_face(&self) -> Result<FaceChange, AllocError>
         ensures { IfOk result
             (λ change. faces.face_changed faces.no_face change.steps.items change.acked ≡ faces.face_of self.now) }
@@ -127,7 +127,7 @@ impl Replica {
         Ok(FaceChange { steps, acked })
     }
 
-    /// How the entries above a number change the face, with the acknowledged number. It copies no item's data.
+    /// How the entries above a number change the face, with the commit number. It copies no item's data.
     pub(crate) fn change_after(&self, above: u64) -> Result<FaceChange, AllocError>
         requires above { (self.now.store.floor ≤ above) × (above ≤ last_number self.now.store) }
         ensures steps { IfOk result

@@ -63,7 +63,7 @@ fn settle_first(
 }
 
 impl Replica {
-    /// Raises the acknowledged number to `n`: the own calls among the entries newly passed are answered, and then the
+    /// Raises the commit number to `n`: the own calls among the entries newly passed are answered, and then the
     /// predecessor is told.
     #[tactic(auto, unfolding(crate::specs::Numbering::risen))]
     pub(crate) fn rise(&mut self, n: u64, outputs: &mut Vec<Output>) -> Result<(), AllocError>
@@ -73,15 +73,15 @@ impl Replica {
         ensures { OnOk result (Does self.new outputs.old.items outputs.new.items (numbering.rise self.old n)) }
     {
         let acked = self.store.acked();
-        let previous = self.previous();
+        let predecessor = self.predecessor();
         let entries = self.store.entries_after(acked);
         settle_first(self.id, &mut self.pend, entries, n - acked, outputs)?;
         self.store.ack(n);
         // Nobody is to be told: a body that nobody gets would be made and dropped at each set of a head.
-        if previous.is_none() {
+        if predecessor.is_none() {
             return Ok(());
         }
-        self.send(previous, Body::Ack(n), outputs)
+        self.send(predecessor, Body::Ack(n), outputs)
     }
 
     /// The entry is the last one from now on, and its id counts among those seen of its origin.
@@ -118,7 +118,7 @@ impl Replica {
             return self.rise(last, outputs);
         }
         match self.append_copy(&entry) {
-            Ok(()) => self.send(self.next(), Body::Forward(entry), outputs),
+            Ok(()) => self.send(self.successor(), Body::Forward(entry), outputs),
             Err(e) => {
                 drop(entry);
                 Err(e)
@@ -147,7 +147,7 @@ impl Replica {
             (Does self.new outputs.old.items outputs.new.items (numbering.receive_forward self.old i entry)) }
     {
         let last = self.store.last();
-        if is_that(self.previous(), i) && last < entry.number() && entry.number() - last == 1 {
+        if is_that(self.predecessor(), i) && last < entry.number() && entry.number() - last == 1 {
             self.append_and_pass(entry, outputs)
         } else {
             drop(entry);
@@ -166,7 +166,7 @@ impl Replica {
         requires chain { IsSound self.old }
         ensures { OnOk result (Does self.new outputs.old.items outputs.new.items (numbering.receive_ack self.old i n)) }
     {
-        if is_that(self.next(), i) && self.store.acked() < n && n <= self.store.last() {
+        if is_that(self.successor(), i) && self.store.acked() < n && n <= self.store.last() {
             self.rise(n, outputs)
         } else {
             Ok(())

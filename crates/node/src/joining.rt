@@ -152,35 +152,35 @@ impl Replica {
         ensures { OnOk result
             (outputs.new.items ≡ outputs.old.items ++ (joining.caught_up old last_before self.now).outputs) }
     {
-        let next = self.next();
-        let known = is_same(old.successor(self.count, self.id), next);
+        let successor = self.successor();
+        let known = is_same(old.successor(self.count, self.id), successor);
         let above = if known {
             last_before
         } else {
             self.store.acked()
         };
-        self.forward_after(above, next, outputs)
+        self.forward_after(above, successor, outputs)
     }
 
     // Each entry above a number goes to the successor, in order.
     fn forward_after(
         &self,
         above: u64,
-        next: Option<u8>,
+        successor: Option<u8>,
         outputs: &mut Vec<Output>,
     ) -> Result<(), AllocError>
-        requires next { next ≡ servers.next self.now }
+        requires successor { successor ≡ servers.successor_of self.now }
         requires above { (self.now.store.floor ≤ above) × (above ≤ last_number self.now.store) }
         ensures { OnOk result
             (outputs.new.items ≡ outputs.old.items ++ joining.forwarded self.now (entries_after self.now.store above)) }
     {
         for entry in self.store.entries_after(above) {
-            self.send(next, Body::Forward(entry.clone()?), outputs)?;
+            self.send(successor, Body::Forward(entry.clone()?), outputs)?;
         }
         Ok(())
     }
 
-    // Fifth: a new predecessor gets the acknowledged number, unless the third step raised it, and so sent it already.
+    // Fifth: a new predecessor gets the commit number, unless the third step raised it, and so sent it already.
     #[tactic(auto, unfolding(crate::specs::Joining::acked_to_predecessor))]
     fn ack_to_predecessor(
         &self,
@@ -193,12 +193,12 @@ impl Replica {
             (outputs.new.items
             ≡ outputs.old.items ++ (joining.acked_to_predecessor old acked_before self.now).outputs) }
     {
-        let previous = self.previous();
+        let predecessor = self.predecessor();
         let acked = self.store.acked();
-        if is_same(old.predecessor(self.id), previous) || acked != acked_before {
+        if is_same(old.predecessor(self.id), predecessor) || acked != acked_before {
             return Ok(());
         }
-        self.send(previous, Body::Ack(acked), outputs)
+        self.send(predecessor, Body::Ack(acked), outputs)
     }
 
     // Sixth: if the tail changed, the open reads are closed at the tail, and asked again elsewhere.

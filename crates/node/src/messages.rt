@@ -20,7 +20,7 @@ pub enum Body {
     Op(u64, Call),
     /// `Forward(entry)`: an entry of the sender's, for its successor.
     Forward(Entry),
-    /// `Ack(n)`: the sender's acknowledged number, for its predecessor.
+    /// `Ack(n)`: the sender's commit number, for its predecessor.
     Ack(u64),
     /// `Query(ask, key)`: the sender's ask of this number for a key, for the tail.
     Query(u64, Key),

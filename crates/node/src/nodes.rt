@@ -115,7 +115,7 @@ impl Node {
     }
 
     /// The same step, and how it changes the face that readers beside the node see: the steps in order, and then the
-    /// acknowledged number, with which the versions without item up to it are taken away. Refused with Memory, and the
+    /// commit number, with which the versions without item up to it are taken away. Refused with Memory, and the
     /// node is stopped from then on; with Stopped, exactly from then on. It copies an item's data only if the head
     /// joins two pieces for an append or a prepend. Besides the time of `step` it takes time linear in the entries that
     /// it appends.

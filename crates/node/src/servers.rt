@@ -31,7 +31,7 @@ pub struct OpenRead {
     pub port: usize,
     /// The key.
     pub key: Key,
-    /// The acknowledged number when it was asked.
+    /// The commit number when it was asked.
     pub lower_bound: u64,
 }
 
@@ -124,17 +124,17 @@ impl Replica {
     }
 
     /// Its predecessor in its own view.
-    pub(crate) fn previous(&self) -> Option<u8>
+    pub(crate) fn predecessor(&self) -> Option<u8>
         requires chain { self.now.id ≤ 16 }
-        ensures { result ≡ servers.previous self.now }
+        ensures { result ≡ servers.predecessor_of self.now }
     {
         self.view.predecessor(self.id)
     }
 
     /// Its successor in its own view.
-    pub(crate) fn next(&self) -> Option<u8>
+    pub(crate) fn successor(&self) -> Option<u8>
         requires chain { (self.now.id < self.now.count) × (self.now.count ≤ 16) }
-        ensures { result ≡ servers.next self.now }
+        ensures { result ≡ servers.successor_of self.now }
     {
         self.view.successor(self.count, self.id)
     }

@@ -199,7 +199,7 @@ impl Replica {
         self.store.drop_to(least);
     }
 
-    // The least of the acknowledged number and the lower bounds of all open reads.
+    // The least of the commit number and the lower bounds of all open reads.
     fn least_open(&self) -> u64
         requires chain { IsSound self.now }
         ensures least { result ≡ steps.least_open self.now.store.acked self.now.asks }

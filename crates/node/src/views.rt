@@ -107,10 +107,10 @@ impl View {
     }
 
     /// The greatest server outside it below this one, or `None` if there is none.
-    #[tactic(auto, using(crate::proofs::ViewShapes::previous_more, crate::proofs::ViewShapes::previous_zero))]
+    #[tactic(auto, using(crate::proofs::ViewShapes::predecessor_more, crate::proofs::ViewShapes::predecessor_zero))]
     pub fn predecessor(self, i: u8) -> Option<u8>
         requires server { i ≤ 16 }
-        ensures previous { result ≡ views.predecessor self i }
+        ensures predecessor { result ≡ views.predecessor self i }
         ensures below { IfSome result (λ p. p < i) }
     {
         let mut k = i;

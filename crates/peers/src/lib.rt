@@ -1,4 +1,4 @@
-//! Links between servers: who greets whom, frames that are put to a peer, and those of a peer, which are handed on.
+//! Frames to and from a peer: who greets whom, frames that are put, and frames that come, which are handed on.
 #![tactic(auto)]
 
 mod faults;

@@ -30,7 +30,7 @@ spent_at zero xs d within = refl
 spent_at (suc k) [] d within = absurd (omega (arith, within))
 spent_at (suc k) (x ∷ xs) d within = spent_at k xs d (omega (arith, within))
 
--- so it is where some are spent
+-- so it is if some are spent
 pub same_at : (k : ℕ) (xs ys : List Output) (now : Output)
     → k < length xs
     → ys ≡ spent_to k xs

@@ -1,13 +1,13 @@
 -- What a turn of a worker comes to, and what that says of the worker.
 use Rattle.std.specs.Prelude.{◌≡◌, ℕ, true, false}
 use Rattle.rail.specs.Workers.{WorkerState}
-use Rattle.runtime.specs.declared.workers_with_links.Found.{Found}
-use Rattle.runtime.specs.declared.workers_with_links.Found.TheVariants.{Nothing, Message, Stopped, Refused, Closed, End}
+use Rattle.runtime.specs.declared.workers_with_links.TurnOutcome.{TurnOutcome}
+use Rattle.runtime.specs.declared.workers_with_links.TurnOutcome.TheVariants.{Nothing, Message, Stopped, Refused, Closed, End}
 
 -- What was found at the worker of this server, of its states before and after: a note of an end only if the worker has
 -- stopped, and then the note is of this server; and one whenever a message was taken by a worker that doesn't go on
 -- after it.
-abbrev pub Finds : ℕ → WorkerState → WorkerState → Found → Type 0
+abbrev pub Finds : ℕ → WorkerState → WorkerState → TurnOutcome → Type 0
 Finds id before after Nothing = after ≡ before
 Finds id before after Message = after.goes ≡ true
 Finds id before after (Stopped ended) = (after.goes ≡ false) × (ended ≡ id)

@@ -13,7 +13,7 @@ const PATIENCE: u64 = 30;
 /// Which servers have connected.
 #[derive(Drop)]
 pub(crate) struct Arrivals {
-    scheduler: Mutex<Arrived>,
+    arrived: Mutex<Arrived>,
     alarm: Alarm,
 }
 
@@ -37,7 +37,7 @@ enum Arrival {
 
 // How far the links are.
 #[derive(Clone, Copy)]
-enum Meeting {
+enum Readiness {
     // All stand.
     Whole,
     // That from this server doesn't stand yet.
@@ -55,7 +55,7 @@ impl Arrivals {
         }
         let is_ready = false;
         Ok(Arrivals {
-            scheduler: Mutex::new(Arrived { is_ready, links }),
+            arrived: Mutex::new(Arrived { is_ready, links }),
             alarm: Alarm::new(),
         })
     }
@@ -73,12 +73,12 @@ impl Arrivals {
 
     // It tells whether the server isn't ready.
     fn set<R: Wait>(&self, rt: &R, j: u8, arrival: Arrival) -> bool {
-        let mut guard = self.scheduler.lock(rt);
-        let scheduler = &mut *guard;
-        if let Some(place) = scheduler.links.get_mut(usize::from(j)) {
+        let mut guard = self.arrived.lock(rt);
+        let arrived = &mut *guard;
+        if let Some(place) = arrived.links.get_mut(usize::from(j)) {
             *place = arrival;
         }
-        let is_early = !scheduler.is_ready;
+        let is_early = !arrived.is_ready;
         drop(guard);
         self.alarm.ring();
         is_early
@@ -101,9 +101,9 @@ impl Arrivals {
                 return Err(ServerFault::Gone);
             }
             match self.look(rt, starts) {
-                Meeting::Whole => return Ok(()),
-                Meeting::Broken(fault) => return Err(fault),
-                Meeting::Waits(j) => {
+                Readiness::Whole => return Ok(()),
+                Readiness::Broken(fault) => return Err(fault),
+                Readiness::Waits(j) => {
                     if is_over(rt, begun) {
                         return Err(ServerFault::NotHere(j));
                     }
@@ -115,14 +115,14 @@ impl Arrivals {
     }
 
     // How far the links are. If all stand, the server is ready from now on.
-    fn look<R: Wait>(&self, rt: &R, starts: &[Option<u64>]) -> Meeting {
-        let mut guard = self.scheduler.lock(rt);
-        let scheduler = &mut *guard;
-        let meeting = meeting_of(scheduler.links.as_slice(), starts);
-        if matches!(meeting, Meeting::Whole) {
-            scheduler.is_ready = true;
+    fn look<R: Wait>(&self, rt: &R, starts: &[Option<u64>]) -> Readiness {
+        let mut guard = self.arrived.lock(rt);
+        let arrived = &mut *guard;
+        let readiness = readiness_of(arrived.links.as_slice(), starts);
+        if matches!(readiness, Readiness::Whole) {
+            arrived.is_ready = true;
         }
-        meeting
+        readiness
     }
 }
 
@@ -135,21 +135,21 @@ fn is_over<R: Clock>(rt: &R, begun: Instant) -> bool {
 }
 
 // How far the links are, of which those to the other servers stand at these starts.
-fn meeting_of(links: &[Arrival], starts: &[Option<u64>]) -> Meeting {
-    let mut meeting = Meeting::Whole;
+fn readiness_of(links: &[Arrival], starts: &[Option<u64>]) -> Readiness {
+    let mut readiness = Readiness::Whole;
     let mut j = 0u8;
     for start in starts {
         if let Some(start) = start {
             match links.get(usize::from(j)) {
                 Some(Arrival::Here(other)) if other == start => {}
-                Some(Arrival::Here(_)) => return Meeting::Broken(ServerFault::Restarted(j)),
+                Some(Arrival::Here(_)) => return Readiness::Broken(ServerFault::Restarted(j)),
                 Some(Arrival::Lost(reason)) => {
-                    return Meeting::Broken(ServerFault::Lost(j, reason));
+                    return Readiness::Broken(ServerFault::Lost(j, reason));
                 }
-                Some(Arrival::Away) | None => meeting = Meeting::Waits(j),
+                Some(Arrival::Away) | None => readiness = Readiness::Waits(j),
             }
         }
         j = j.wrapping_add(1);
     }
-    meeting
+    readiness
 }

@@ -50,7 +50,7 @@ pub fn cluster<
 ) -> u8
     ensures { (result ≡ DONE) ⊎ ((result ≡ FAILED) ⊎ (result ≡ MEMORY)) }
 {
-    match steer(rt, alloc, numbers, machine, input, output, errors) {
+    match run_commands(rt, alloc, numbers, machine, input, output, errors) {
         Ok(()) => DONE,
         Err(fault) => {
             fault.tell(errors);
@@ -60,7 +60,7 @@ pub fn cluster<
 }
 
 // Runs a chain, and fails the servers that the input names.
-fn steer<
+fn run_commands<
     R: Wait
         + Threads
         + Clock

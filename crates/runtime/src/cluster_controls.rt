@@ -19,7 +19,7 @@ pub(crate) struct ClusterControl<R: Wait + Drop> {
 
 // What a look at the servers found.
 #[derive(Clone, Copy)]
-enum Found {
+enum LookOutcome {
     // This server has stopped by itself, and this many others haven't failed.
     Fallen(Ended, usize),
     // The others couldn't be told, as memory was out.
@@ -113,9 +113,9 @@ impl<R: Wait + Copy + Drop + Send + 'static> ClusterControl<R> {
     {
         for _ in rt.forever() {
             match self.look(rt) {
-                Found::Fallen(ended, living) => say_fallen(rt, ended.id(), living),
-                Found::Untold => self.scheduler.alarm().wait_a_little(rt),
-                Found::Nothing => return,
+                LookOutcome::Fallen(ended, living) => say_fallen(rt, ended.id(), living),
+                LookOutcome::Untold => self.scheduler.alarm().wait_a_little(rt),
+                LookOutcome::Nothing => return,
             }
             if self.scheduler.alarm().is_over() {
                 return;
@@ -124,7 +124,7 @@ impl<R: Wait + Copy + Drop + Send + 'static> ClusterControl<R> {
         unreachable!()
     }
 
-    fn look(&self, rt: &R) -> Found {
+    fn look(&self, rt: &R) -> LookOutcome {
         let mut controls = self.controls.lock(rt);
         let fallen = controls.next_fallen(&self.scheduler);
         if let Some(ended) = fallen {
@@ -132,9 +132,9 @@ impl<R: Wait + Copy + Drop + Send + 'static> ClusterControl<R> {
         }
         let all_told = controls.tell(rt, &self.scheduler);
         match fallen {
-            Some(ended) => Found::Fallen(ended, controls.living()),
-            None if all_told => Found::Nothing,
-            None => Found::Untold,
+            Some(ended) => LookOutcome::Fallen(ended, controls.living()),
+            None if all_told => LookOutcome::Nothing,
+            None => LookOutcome::Untold,
         }
     }
 }

@@ -73,7 +73,7 @@ impl<R: Wait + Copy + Drop + Send + 'static> Cluster<R> {
             concurrency,
             Allowance::new(numbers.memory, count),
         )?;
-        let workers = start_attendants(rt, alloc, &scheduler, count)?;
+        let workers = start_worker_threads(rt, alloc, &scheduler, count)?;
         let (controls, served_servers) = all_served_servers(alloc, listeners, all_server_parts)?;
         let settings = FrontEndSettings {
             connections: u64::from(numbers.connections),
@@ -209,7 +209,7 @@ fn all_listeners<R: Net<Listener = TcpListener, Stream = TcpStream>>(
 }
 
 // Starts the threads of all workers, whom others help.
-fn start_attendants<R: Wait + Threads + Copy + Drop + Send + 'static>(
+fn start_worker_threads<R: Wait + Threads + Copy + Drop + Send + 'static>(
     rt: R,
     alloc: Global,
     scheduler: &Arc<Scheduler<R>, Global>,

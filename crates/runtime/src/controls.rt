@@ -124,7 +124,7 @@ impl ServerControls {
             return Err(StopFault);
         };
         let stopping = control.stop(rt)?;
-        scheduler.ring(j);
+        scheduler.wake(j);
         scheduler.wake_all();
         Ok(stopping)
     }
@@ -196,7 +196,7 @@ impl ServerControls {
             let (i, _) = notice;
             if let Some(control) = self.controls.get_mut(usize::from(i)) {
                 let _ = control.tell(rt, ended);
-                scheduler.ring(i);
+                scheduler.wake(i);
             }
         }
         true
@@ -207,7 +207,7 @@ impl ServerControls {
         let mut id = 0u8;
         for control in self.controls.iter_mut() {
             let _ = control.inlet.end(rt);
-            scheduler.ring(id);
+            scheduler.wake(id);
             id = id.wrapping_add(1);
         }
     }

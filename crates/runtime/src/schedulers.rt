@@ -6,7 +6,7 @@ ghost use Rattle.runtime.specs.Schedulers.{ids};
 
 use crate::alarms::Alarm;
 use crate::endings::Ending;
-use crate::workers_with_links::{Found, WorkerWithLinks};
+use crate::workers_with_links::{TurnOutcome, WorkerWithLinks};
 use io_threads::{LoopHandles, TurnScheduler, Visit};
 use rail::{PortSet, Worker};
 use seats::{Gauge, InProcessLinks, ServerSet};
@@ -74,10 +74,10 @@ impl<R: Wait + Drop> RunSlot<R> {
         let mut turns = 0usize;
         for _ in 0..most {
             match self.turn(&mut *worker_with_links, alarm) {
-                Found::Message | Found::Stopped(_) | Found::Refused(_) => {
+                TurnOutcome::Message | TurnOutcome::Stopped(_) | TurnOutcome::Refused(_) => {
                     turns = turns.wrapping_add(1);
                 }
-                Found::Nothing | Found::Closed(_) | Found::End => break,
+                TurnOutcome::Nothing | TurnOutcome::Closed(_) | TurnOutcome::End => break,
             }
         }
         if turns == most {
@@ -93,22 +93,22 @@ impl<R: Wait + Drop> RunSlot<R> {
 
     // Takes a turn, if there is a message. If the server has ended, the note of that is put where others look. If
     // memory was refused, the alarm is rung too.
-    fn turn(&self, worker_with_links: &mut WorkerWithLinks<R>, alarm: &Alarm) -> Found
+    fn turn(&self, worker_with_links: &mut WorkerWithLinks<R>, alarm: &Alarm) -> TurnOutcome
         ensures { Finds worker_with_links.old.id worker_with_links.old.worker worker_with_links.new.worker result }
     {
         let found = worker_with_links.turn();
         match found {
-            Found::Nothing | Found::Message => {}
-            Found::Stopped(ended) => self.ending.put(ended),
-            Found::Refused(ended) => {
+            TurnOutcome::Nothing | TurnOutcome::Message => {}
+            TurnOutcome::Stopped(ended) => self.ending.put(ended),
+            TurnOutcome::Refused(ended) => {
                 self.ending.put(ended);
                 alarm.ring();
             }
-            Found::Closed(ended) => {
+            TurnOutcome::Closed(ended) => {
                 self.ending.put(ended);
                 self.end();
             }
-            Found::End => self.end(),
+            TurnOutcome::End => self.end(),
         }
         found
     }
@@ -119,7 +119,7 @@ impl<R: Wait + Drop> RunSlot<R> {
         self.parker.unpark();
     }
 
-    fn ring(&self) {
+    fn wake(&self) {
         self.due.store(true, Ordering::SeqCst);
         self.parker.unpark();
     }
@@ -182,9 +182,9 @@ impl<R: Wait + Drop> Scheduler<R> {
     }
 
     /// Wakes the thread of a server's worker, into whose inbox something was put.
-    pub(crate) fn ring(&self, id: u8) {
+    pub(crate) fn wake(&self, id: u8) {
         if let Some(run_slot) = self.run_slot(id) {
-            run_slot.ring();
+            run_slot.wake();
         }
     }
 
@@ -290,7 +290,7 @@ impl<R: Wait + Drop> TurnScheduler for Scheduler<R> {
             let Some(id) = left.take_after(0) else {
                 return;
             };
-            self.ring(id);
+            self.wake(id);
         }
     }
 }

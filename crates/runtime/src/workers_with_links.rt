@@ -18,7 +18,7 @@ pub(crate) struct WorkerWithLinks<R: Wait + Drop> {
 
 /// What there was to do at a worker.
 #[derive(Clone, Copy)]
-pub(crate) enum Found {
+pub(crate) enum TurnOutcome {
     /// Nothing.
     Nothing,
     /// A message, and the server goes on.
@@ -46,16 +46,16 @@ impl<R: Wait + Drop> WorkerWithLinks<R> {
     }
 
     /// Takes a turn of the worker, if there is a message. A note of its end is of its server.
-    pub(crate) fn turn(&mut self) -> Found
+    pub(crate) fn turn(&mut self) -> TurnOutcome
         ensures { Finds self.old.id self.old.worker self.new.worker result }
     {
         match self.worker.turn_if_any(&mut self.links) {
-            Ok(None) => Found::Nothing,
-            Ok(Some(Turn::Went)) => Found::Message,
-            Ok(Some(Turn::Stopped)) => Found::Stopped(Ended::of(self.id, &self.worker)),
-            Ok(Some(Turn::End)) => Found::End,
-            Err(RailFault::Closed) => Found::Closed(Ended::of(self.id, &self.worker)),
-            Err(_) => Found::Refused(Ended::of(self.id, &self.worker)),
+            Ok(None) => TurnOutcome::Nothing,
+            Ok(Some(Turn::Went)) => TurnOutcome::Message,
+            Ok(Some(Turn::Stopped)) => TurnOutcome::Stopped(Ended::of(self.id, &self.worker)),
+            Ok(Some(Turn::End)) => TurnOutcome::End,
+            Err(RailFault::Closed) => TurnOutcome::Closed(Ended::of(self.id, &self.worker)),
+            Err(_) => TurnOutcome::Refused(Ended::of(self.id, &self.worker)),
         }
     }
 

@@ -132,7 +132,7 @@ abbrev pub output_line : Input → Output → List ℕ
 output_line input (To to message) = sending_line to message
 output_line input (Replied port reply) = answering_line input port reply
 
--- what server i did: what it took, its view if it changed, the entries that it appended, its acknowledged number if it
+-- what server i did: what it took, its view if it changed, the entries that it appended, its commit number if it
 -- rose, and what it put out
 abbrev pub step_lines : ℕ → ℕ → StepShown → List ℕ
 step_lines count i step =

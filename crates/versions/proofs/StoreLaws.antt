@@ -17,11 +17,11 @@ store-pushed s e valid next h = record {
       length-append s.rest (e ∷ []) in omega (arith, h.acked_held, l);
 }
 
--- a store whose acknowledged number rises up to the last one is one
+-- a store whose commit number rises up to the last one is one
 pub store-acked : (s : StoreState) (n : ℕ) → s.acked ≤ n → n ≤ last_number s → IsStore s → IsStore (acked_to s n)
 store-acked s n low high h = record { log = h.log; floor_acked = omega (arith, h.floor_acked); acked_held = high }
 
--- a store whose floor rises up to the acknowledged number is one
+-- a store whose floor rises up to the commit number is one
 pub store-dropped : (s : StoreState) (n : ℕ) → s.floor ≤ n → n ≤ s.acked → IsStore s → IsStore (dropped_to s n)
 store-dropped s n low high h = record {
   log = log-drop s.floor (n - s.floor) n s.rest (omega arith) h.log;

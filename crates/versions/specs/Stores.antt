@@ -83,7 +83,7 @@ sets key target change = is_key_of (set_key target change) key
 abbrev pub touches : List ℕ → LogEntry → Bool
 touches key e = sets key e.target e.change || is_clear e.change
 
--- a key is clean if no entry above the acknowledged number touches it, and dirty otherwise
+-- a key is clean if no entry above the commit number touches it, and dirty otherwise
 -- (CRAQ, "Chain Replication with Apportioned Queries"; a clear makes every key dirty, also keys that were never set)
 abbrev pub is_clean : StoreState → List ℕ → Bool
 is_clean s key = not (list_any (touches key) (entries_after s s.acked))
@@ -96,7 +96,7 @@ IsClean s key = IsTrue (is_clean s key)
 abbrev pub pushed : StoreState → LogEntry → StoreState
 pushed s e = record s { rest = s.rest ++ e ∷ [] }
 
--- with the acknowledged number raised to this one
+-- with the commit number raised to this one
 abbrev pub acked_to : StoreState → ℕ → StoreState
 acked_to s n = record s { acked = n }
 

@@ -29,8 +29,8 @@ pub fn parts_are_logs()
         → IsLog before (es ++ e ∷ []) }
 {}
 
-/// A store stays one: with its next entry, with a greater acknowledged number up to the last, and with a greater floor
-/// up to the acknowledged number, which loses no entry's number.
+/// A store stays one: with its next entry, with a greater commit number up to the last, and with a greater floor
+/// up to the commit number, which loses no entry's number.
 pub fn stores_stay_stores()
     ensures pushed { (s : StoreState) (e : LogEntry)
         → IsEntry e

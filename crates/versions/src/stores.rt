@@ -44,7 +44,7 @@ impl From<AllocError> for StoreFault {
 }
 
 /// The items at a number, the floor, and the entries of the log above it. An item stands once: in the base, or in its
-/// entry. Contracts see the base, the floor, the entries above it and the acknowledged number (`StoreState`).
+/// entry. Contracts see the base, the floor, the entries above it and the commit number (`StoreState`).
 #[derive(Drop)]
 pub struct Store {
     alloc: Global,
@@ -79,7 +79,7 @@ impl Model for Store {
 }
 
 impl Store {
-    /// An empty store: floor, acknowledged number and last number are 0. It allocates nothing.
+    /// An empty store: floor, commit number and last number are 0. It allocates nothing.
     pub fn new(alloc: Global) -> Store
         ensures { result ≡ opening_store }
     {
@@ -134,7 +134,7 @@ impl Store {
         Ok(())
     }
 
-    /// Raises the acknowledged number to `n`, in constant time.
+    /// Raises the commit number to `n`, in constant time.
     pub fn ack(&mut self, n: u64)
         requires above { self.old.acked ≤ n }
         requires known { n ≤ last_number self.old }
@@ -220,7 +220,7 @@ impl Store {
         items_of(self.alloc, &self.records)
     }
 
-    /// Whether no entry above the acknowledged number puts, drops or clears the key
+    /// Whether no entry above the commit number puts, drops or clears the key
     /// (CRAQ, "Chain Replication with Apportioned Queries"). Time is logarithmic in the number of keys.
     pub fn is_clean(&self, key: &Key) -> bool
         ensures clean { IsTrue result ↔ IsClean self.now key.now }

@@ -196,7 +196,7 @@ forward_body_at bytes = do
     done.1,
   )
 
--- an acknowledged number
+-- a commit number
 unfoldable pub ack_body_at : List ℕ → Read Body
 ack_body_at bytes = do
   n ← number_at w64 any bytes

@@ -142,7 +142,7 @@ forward_body = do
   done ← change (is_all on) entry
   makes (bodies.Forward (record { number = entry; origin = origin; id = id; target = on; reply = told; change = done }))
 
--- an acknowledged number
+-- a commit number
 abbrev pub ack_body : Part Body
 ack_body = number w64 any >>= λ n. makes (bodies.Ack n)
 

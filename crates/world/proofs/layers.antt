@@ -1,4 +1,4 @@
--- The first two layers: shapes and addresses (`Addressed` to `FittingTurns`), logs and acknowledged numbers (`HeldLogs`
+-- The first two layers: shapes and addresses (`Addressed` to `FittingTurns`), logs and commit numbers (`HeldLogs`
 -- to `LoggedMoves`). Each is kept by every move. Begin with `Layers` of `trace`.
 pub mod Addressed
 pub mod Frames

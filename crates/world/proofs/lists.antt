@@ -1,5 +1,3 @@
--- Lists alone: what stands at a place, what a change of one place leaves, and beginnings.
+-- Lists: what stands at a place, and what a change of one connection leaves.
 pub mod Standing
-pub mod Beginnings
-pub mod Fronts
 pub mod Changed

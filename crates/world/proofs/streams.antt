@@ -1,4 +1,4 @@
--- What is on its way between neighbours: forwarded entries and acknowledged numbers, so that in a quiet world all have
+-- What is on its way between neighbours: forwarded entries and commit numbers, so that in a quiet world all have
 -- the same log. Begin with `Streaming`; `AtRest` is what it comes to.
 pub mod Streaming
 pub mod ForwardRuns

@@ -8,7 +8,7 @@ use std::collections::BTreeMap;
 use std::test::Fail;
 use table::{Item, Key, Version};
 
-// What readers beside a node see: each key's newest version, the last clear, and the acknowledged number.
+// What readers beside a node see: each key's newest version, the last clear, and the commit number.
 #[derive(Drop)]
 struct Published {
     versions: BTreeMap<Key, Version>,

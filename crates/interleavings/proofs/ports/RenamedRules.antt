@@ -20,7 +20,7 @@ use Rattle.node.specs.Numbering.{taken, take_update, entered, is_room_for_update
 use Rattle.node.specs.Numbering.{receive_forward, receive_ack}
 use Rattle.node.specs.Reading.{asked, dirty_read, read, read_of, receive_query, open_read, without_read, answered}
 use Rattle.node.specs.Reading.{receive_answer}
-use Rattle.node.specs.Servers.{ServerState, RuleResult, most, head_of, tail_of, is_head, is_tail, previous, next}
+use Rattle.node.specs.Servers.{ServerState, RuleResult, most, head_of, tail_of, is_head, is_tail, predecessor_of, successor_of}
 use Rattle.node.specs.Servers.{silent}
 use Rattle.node.specs.Servers.{putting, and_then, message_to, reply_at}
 use Rattle.node.specs.Views.{is_that}
@@ -84,15 +84,15 @@ module _ (f : ℕ → ℕ) where
   pub rise_renamed : (s : ServerState) (n : ℕ) → rise (renamed f s) n ≡ renamed_result f (rise s n)
   rise_renamed s n =
       let rs = replies s.id s.pend (newly_acked s n) in
-      let ms = message_to s (previous s) (Ack n) in
+      let ms = message_to s (predecessor_of s) (Ack n) in
       ap (λ t. record {
         state = t;
         outputs = replies s.id (map (with_port f) s.pend) (newly_acked s n)
-            ++ message_to (renamed f s) (previous s) (Ack n);
+            ++ message_to (renamed f s) (predecessor_of s) (Ack n);
       }) (risen_renamed s n)
       ∙ ap (λ os. record { state = renamed f (risen s n); outputs = os })
-      (ap (λ os. os ++ message_to (renamed f s) (previous s) (Ack n)) (replies_renamed f s.id s.pend (newly_acked s n))
-      ∙ ap (λ os. map (output_to f) rs ++ os) (message_renamed s (previous s) (Ack n))
+      (ap (λ os. os ++ message_to (renamed f s) (predecessor_of s) (Ack n)) (replies_renamed f s.id s.pend (newly_acked s n))
+      ∙ ap (λ os. map (output_to f) rs ++ os) (message_renamed s (predecessor_of s) (Ack n))
       ∙ both_renamed f rs ms)
 
   -- an entry is appended
@@ -105,9 +105,9 @@ module _ (f : ℕ → ℕ) where
       → passed_on (renamed f s) e ≡ renamed_result f (passed_on s e)
   unfolding passed_on
   passed_on_renamed s e =
-      either_renamed (is_tail s) (rise s (last_number s.store)) (putting s (message_to s (next s) (Forward e))) _ _
+      either_renamed (is_tail s) (rise s (last_number s.store)) (putting s (message_to s (successor_of s) (Forward e))) _ _
       (rise_renamed s (last_number s.store))
-      (putting_renamed s (message_to s (next s) (Forward e)) _ (message_renamed s (next s) (Forward e)))
+      (putting_renamed s (message_to s (successor_of s) (Forward e)) _ (message_renamed s (successor_of s) (Forward e)))
 
   -- an update is taken
   pub taken_renamed : (s : ServerState) (origin id : ℕ) (call : Call)
@@ -166,14 +166,14 @@ module _ (f : ℕ → ℕ) where
   pub receive_forward_renamed : (s : ServerState) (i : ℕ) (e : LogEntry)
       → receive_forward (renamed f s) i e ≡ renamed_result f (receive_forward s i e)
   receive_forward_renamed s i e =
-      either_renamed (is_that (previous s) i && e.number == last_number s.store + 1) (passed_on (appended s e) e)
+      either_renamed (is_that (predecessor_of s) i && e.number == last_number s.store + 1) (passed_on (appended s e) e)
       (silent s) _ _ (ap (λ t. passed_on t e) (appended_renamed s e) ∙ passed_on_renamed (appended s e) e) refl
 
   -- an acknowledgement comes
   pub receive_ack_renamed : (s : ServerState) (i n : ℕ)
       → receive_ack (renamed f s) i n ≡ renamed_result f (receive_ack s i n)
   receive_ack_renamed s i n =
-      either_renamed (is_that (next s) i && nat_lt s.store.acked n && nat_le n (last_number s.store)) (rise s n)
+      either_renamed (is_that (successor_of s) i && nat_lt s.store.acked n && nat_le n (last_number s.store)) (rise s n)
       (silent s) _ _ (rise_renamed s n) refl
 
   -- ---- reads

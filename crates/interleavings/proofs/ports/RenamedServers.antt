@@ -59,7 +59,7 @@ without_message_renamed f j (Replied d reply ∷ os) =
     ap (λ ps. Replied (f d) reply ∷ ps) (without_message_renamed f j os)
 
 module _ (f : ℕ → ℕ) (apart : (p q : ℕ) → f p ≡ f q → p ≡ q) where
-  -- names of ports are equal just where the ports are
+  -- names of ports are equal exactly if the ports are
   pub same_test : (d p : ℕ) → (f d == f p) ≡ (d == p)
   same_test d p = elim (cases_eq d p) [
     | inl same ↦ eq-eqb (f d) (f p) (ap f same) ∙ sym (eq-eqb d p same)

@@ -18,7 +18,7 @@ use Rattle.node.specs.Joining.{needed_above, caught_up, acked_to_predecessor, re
 use Rattle.node.specs.Joining.{rejoined, join}
 use Rattle.node.specs.Numbering.{taken, rise, update}
 use Rattle.node.specs.Reading.{read_of}
-use Rattle.node.specs.Servers.{ServerState, head_of, tail_of, is_head, is_tail, previous, next, silent, putting}
+use Rattle.node.specs.Servers.{ServerState, head_of, tail_of, is_head, is_tail, predecessor_of, successor_of, silent, putting}
 use Rattle.node.specs.Servers.{and_then, message_to, reply_at}
 use Rattle.node.specs.Steps.{call, gone, receive, received, is_heard, from_peer, taken_in, trimmed, step}
 use Rattle.node.specs.Views.{View, has, single, adds, head, tail, predecessor, is_that, is_same}
@@ -75,9 +75,9 @@ module _ (f : ℕ → ℕ) where
   unfolding forwarded
   forwarded_renamed s [] = refl
   forwarded_renamed s (e ∷ es) =
-      ap (λ os. os ++ forwarded (renamed f s) es) (message_renamed f s (next s) (Forward e))
-      ∙ ap (λ os. map (output_to f) (message_to s (next s) (Forward e)) ++ os) (forwarded_renamed s es)
-      ∙ both_renamed f (message_to s (next s) (Forward e)) (forwarded s es)
+      ap (λ os. os ++ forwarded (renamed f s) es) (message_renamed f s (successor_of s) (Forward e))
+      ∙ ap (λ os. map (output_to f) (message_to s (successor_of s) (Forward e)) ++ os) (forwarded_renamed s es)
+      ∙ both_renamed f (message_to s (successor_of s) (Forward e)) (forwarded s es)
 
   caught_up_renamed : (old : View) (last : ℕ) (s : ServerState)
       → caught_up old last (renamed f s) ≡ renamed_result f (caught_up old last s)
@@ -90,9 +90,9 @@ module _ (f : ℕ → ℕ) where
       → acked_to_predecessor old acked (renamed f s) ≡ renamed_result f (acked_to_predecessor old acked s)
   unfolding acked_to_predecessor
   to_predecessor_renamed old acked s =
-      let ms = message_to s (previous s) (Ack s.store.acked) in
-      either_renamed f (not (is_same (predecessor old s.id) (previous s)) && s.store.acked == acked) (putting s ms)
-      (silent s) _ _ (putting_renamed f s ms _ (message_renamed f s (previous s) (Ack s.store.acked))) refl
+      let ms = message_to s (predecessor_of s) (Ack s.store.acked) in
+      either_renamed f (not (is_same (predecessor old s.id) (predecessor_of s)) && s.store.acked == acked) (putting s ms)
+      (silent s) _ _ (putting_renamed f s ms _ (message_renamed f s (predecessor_of s) (Ack s.store.acked))) refl
 
   replies_to_renamed : (s : ServerState) (rs : List OpenRead)
       → replies_to (renamed f s) (map (read_with_port f) rs) ≡ map (output_to f) (replies_to s rs)

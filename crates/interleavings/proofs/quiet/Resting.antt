@@ -10,7 +10,7 @@ use Rattle.world.specs.Connections.{Connection, to_work}
 use Rattle.world.specs.Quiet.{waits}
 use Rattle.world.specs.Waiting.{waiting_reply}
 use Rattle.world.specs.Worlds.{World, server, link, lives}
-use Rattle.world.proofs.lists.Fronts.{found_below}
+use Rattle.node.proofs.BegunLists.{found_below}
 use Rattle.world.proofs.trace.IdLaws.{living_parts}
 use Rattle.world.proofs.waiting.NoneForgotten.{IsResting}
 use Rattle.interleavings.specs.Chains.{Chain, messages_from, messages_to, calls_from}

@@ -8,7 +8,7 @@ use Rattle.world.specs.declared.connections.Stage.TheVariants.{Idle, Begun, Aske
 use Rattle.world.specs.Calls.{CallId, given_calls}
 use Rattle.world.specs.Connections.{Connection, to_work}
 use Rattle.world.specs.Worlds.{World, lives}
-use Rattle.world.proofs.lists.Fronts.{found_below}
+use Rattle.node.proofs.BegunLists.{found_below}
 use Rattle.interleavings.specs.Chains.{Chain, listed}
 use Rattle.interleavings.specs.Orders.{begun_call, waiting_calls, is_published}
 use Rattle.interleavings.proofs.relation.Published.{is_stopped, same_less}

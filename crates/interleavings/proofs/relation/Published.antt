@@ -279,7 +279,7 @@ module _ (x y : CallId) where
   abbrev OneHome : Chain → Type 0
   OneHome l = (l.seats x.connection).home ≡ (l.seats y.connection).home
 
-  -- so it was then, or it is so at the start, where their server has stopped
+  -- so it was then, or it is so at the start, if their server has stopped
   abbrev Earlier : Chain → List Move → Type 0
   Earlier l moves = WasBetween l moves x y ⊎ ((is_stopped l x ≡ true) × IsBetween l x y)
 

@@ -12,7 +12,7 @@ use Rattle.world.specs.declared.events.Event.{Event}
 use Rattle.world.specs.Worlds.{World, run_of}
 use Rattle.world.specs.Calls.{CallId}
 use Rattle.world.specs.Orders.{OrderedCall}
-use Rattle.world.proofs.lists.Fronts.{found_below}
+use Rattle.node.proofs.BegunLists.{found_below}
 use Rattle.world.proofs.lists.Standing.{some_of}
 use Rattle.world.proofs.moments.AllLaws.{all_moments}
 use Rattle.world.proofs.order.Since.{is_some}

@@ -10,7 +10,7 @@ use Rattle.table.specs.declared.operations.Call.{Call}
 use Rattle.table.specs.declared.operations.Reply.{Reply}
 use Rattle.world.specs.Calls.{CallId}
 use Rattle.world.specs.Orders.{OrderedCall, StandsAt}
-use Rattle.world.proofs.lists.Fronts.{found_below}
+use Rattle.node.proofs.BegunLists.{found_below}
 use Rattle.world.proofs.lists.Standing.{get_within, some_of}
 use Rattle.world.proofs.order.Since.{is_some}
 use Rattle.interleavings.specs.Chains.{Chain}

@@ -7,7 +7,7 @@ ghost use Rattle.node.specs.Actions.{IsWhole};
 
 /// Each step of a lawful server is a list of the actions of `specs/Actions.antt`, one after another. Each is done by a
 /// sound server in its turn, and what its guard says is known then. After the last nothing is due any more: the
-/// successor was sent every entry, the predecessor was told the acknowledged number, calls and reads were sent where
+/// successor was sent every entry, the predecessor was told the commit number, calls and reads were sent where
 /// they are to go, and what the input says was taken in.
 pub fn steps_are_actions()
     ensures { (s : ServerState) (input : Input)

@@ -92,7 +92,7 @@ pub fn joins_keep_servers_sound()
 {}
 
 /// Open updates have ids below the next id; open reads have asks below the next ask, and lower bounds up to the
-/// acknowledged number, the least of which is between the floor and that number.
+/// commit number, the least of which is between the floor and that number.
 pub fn open_calls_are_ordered()
     ensures updates { (above : ℕ) (us : List OpenUpdate) (next_id : ℕ)
         → AreUpdates above us next_id

@@ -1,7 +1,7 @@
 //! Laws of views: sets of servers, and the order of the chain in one.
 ghost use Rattle.std.specs.Prelude.{◌≡◌, ℕ, ◌+◌, ◌<◌, ◌≤◌, ◌||◌, true, false, Some, None};
 ghost use Rattle.node.specs.Views.{View, has, is_below, next_from, predecessor, single, union};
-ghost use Rattle.node.specs.Chains.{IsNext, IsPrevious};
+ghost use Rattle.node.specs.Chains.{IsNext, IsPredecessor};
 
 /// A view is a set of servers: the empty one names nobody, a single one its server alone, and a union those that one of
 /// the two names.
@@ -32,6 +32,6 @@ pub fn neighbors_are_nearest()
     ensures no_next { (v : View) (k : ℕ) (many : ℕ)
         → next_from v k many ≡ None
         → (x : ℕ) → k ≤ x → x < k + many → has v x ≡ true }
-    ensures previous { (v : View) (i : ℕ) (p : ℕ) → predecessor v i ≡ Some p → IsPrevious v i p }
-    ensures no_previous { (v : View) (i : ℕ) → predecessor v i ≡ None → (x : ℕ) → x < i → has v x ≡ true }
+    ensures predecessor { (v : View) (i : ℕ) (p : ℕ) → predecessor v i ≡ Some p → IsPredecessor v i p }
+    ensures no_predecessor { (v : View) (i : ℕ) → predecessor v i ≡ None → (x : ℕ) → x < i → has v x ≡ true }
 {}

@@ -19,7 +19,7 @@ use Rattle.node.specs.Numbering.{newest, appended, entered}
 use Rattle.node.specs.Reading.{asked}
 use Rattle.node.specs.Joining.{widened}
 use Rattle.node.specs.Steps.{trimmed}
-use Rattle.node.proofs.ViewLaws.{previous_is}
+use Rattle.node.proofs.ViewLaws.{predecessor_is}
 use Rattle.world.specs.Worlds.{server}
 use Rattle.node.proofs.Lists.{pushed_cases}
 use Rattle.node.specs.Actions.{Action, Widen, Append, Reach, Settle, Send, Finish, Trim, Enter, Ask, Show, act, Cause}
@@ -27,8 +27,8 @@ use Rattle.node.specs.Actions.{IsWanted, IsMade, IsPassed}
 use Rattle.world.proofs.trace.Traces.{Traced, log, count, open_id, done}
 use Rattle.world.proofs.trace.Layers.{Holds, IsIssued, IsDecided, Asks, Carries, entries_of}
 use Rattle.world.proofs.trace.TraceLaws.{new_entries, server_done, server_other, log_done, log_other}
-use Rattle.world.proofs.lists.Beginnings.{begins-take}
-use Rattle.world.proofs.lists.Fronts.{begins_taken}
+use Rattle.node.proofs.Beginnings.{begins-take}
+use Rattle.node.proofs.BegunLists.{begins_taken}
 use Rattle.world.proofs.layers.HeldLogs.{held_last, held_value}
 use Rattle.world.proofs.calls.EntryCounts.{entries-own, entries-other}
 use Rattle.world.proofs.calls.Kept.{decided_as, decided_later}
@@ -121,7 +121,7 @@ passed_next t i cause e g m =
     let lt = within t i cause (Append e) g in
     let k = known_of t i cause (Some (From m.from m.message)) m.came g.known in
     let carried = subst (λ b. Carries t m.from m.message.view b) m.body k.1 in
-    let before = previous_is _ _ _ m.previous in
+    let before = predecessor_is _ _ _ m.predecessor in
     let below : m.from < i = rw (l.framed.id i lt) at before.below in
     let front = begins_taken (log t i) (log t m.from) (l.logged.begins m.from i below lt before.out) in
     let ordinal : e.number - 1 ≡ length (log t i) =

@@ -22,7 +22,7 @@ use Rattle.node.specs.Actions.{IsAnswered}
 use Rattle.world.proofs.trace.Traces.{Traced, AnsweredRead, log, open_id}
 use Rattle.world.proofs.trace.Layers.{Holds, Lawful, IsWith, Carries}
 use Rattle.world.proofs.trace.TraceLaws.{new_reads}
-use Rattle.world.proofs.lists.Beginnings.{begins-take, begins-length}
+use Rattle.node.proofs.Beginnings.{begins-take, begins-length}
 use Rattle.world.proofs.layers.HeldLogs.{held_last, held_value, held_after}
 use Rattle.world.proofs.layers.LastLiving.{alive}
 use Rattle.world.proofs.layers.LoggedActions.{tail_log}

@@ -20,7 +20,7 @@ use Rattle.world.proofs.trace.Traces.{Traced, AnsweredRead, open_id, done}
 use Rattle.world.proofs.trace.Layers.{Later, IsWith, IsRead, Read}
 use Rattle.world.proofs.trace.WorldLaws.{Answers, changed_one}
 use Rattle.world.proofs.trace.TraceLaws.{new_reads, reads_done, connection_done}
-use Rattle.world.proofs.lists.Beginnings.{begins-take, begins-length}
+use Rattle.node.proofs.Beginnings.{begins-take, begins-length}
 use Rattle.world.proofs.calls.OpenIds.{ordinal_of, with_begun}
 use Rattle.world.proofs.calls.StepInputs.{IsStep}
 use Rattle.world.proofs.calls.NewReads.{IsNewRead, new_read}

@@ -5,7 +5,7 @@ use Rattle.versions.specs.Entries.{LogEntry, IsEntry}
 use Rattle.node.specs.Lawful.{IsSound}
 use Rattle.world.specs.Worlds.{server, lives}
 use Rattle.node.proofs.Lists.{In}
-use Rattle.world.proofs.lists.Fronts.{begins_back}
+use Rattle.node.proofs.BegunLists.{begins_back}
 use Rattle.world.proofs.layers.HeldLogs.{held_entry}
 use Rattle.node.specs.Actions.{Action, Cause, Guard}
 use Rattle.world.proofs.trace.Traces.{Traced, log, count, done}

@@ -16,7 +16,7 @@ use Rattle.world.specs.Worlds.{server}
 use Rattle.node.specs.Actions.{Send, Cause, MaySend}
 use Rattle.world.proofs.trace.Traces.{Traced, count}
 use Rattle.world.proofs.trace.Layers.{Later, Goes, IsAddressed, Framed, IsKnown}
-use Rattle.world.proofs.trace.IdLaws.{head_of_is, tail_of_is, at_tail, previous_of, next_of, living_parts}
+use Rattle.world.proofs.trace.IdLaws.{head_of_is, tail_of_is, at_tail, predecessor_found, successor_found, living_parts}
 use Rattle.world.proofs.trace.Moves.{CanDo}
 use Rattle.node.proofs.Neighbours.{tail_other}
 
@@ -73,7 +73,7 @@ aimed t i j cause (Op id call) s is n own sound known (head, other, update, fit,
       entry = tt;
     }
 aimed t i j cause (Forward e) s is n own sound known (to_next, here) =
-    let h = next_of s j to_next in
+    let h = successor_found s j to_next in
     record {
       to = h.out;
       goes = (rw is at h.above, λ x a l. h.between x (omega (arith, is)) l);
@@ -81,7 +81,7 @@ aimed t i j cause (Forward e) s is n own sound known (to_next, here) =
       entry = entry_in s.store.floor s.store.rest here.0 e sound.store.log here.1;
     }
 aimed t i j cause (Ack m) s is n own sound known (back, acked) =
-    let h = previous_of s j back in
+    let h = predecessor_found s j back in
     record { to = h.out; goes = (rw is at h.below, λ x a l. h.between x a (omega (arith, is))); fit = tt; entry = tt }
 aimed t i j cause (Query ask key) s is n own sound known (to_tail, apart, low, port, lower_bound, here) =
     let h = tail_of_is s j to_tail in

@@ -11,7 +11,7 @@ use Rattle.versions.specs.Stores.{StoreState, last_number, opening_store, items_
 use Rattle.versions.specs.Stores.{entries_after, pushed, acked_to, dropped_to}
 use Rattle.versions.proofs.Holding.{items_after-append}
 use Rattle.node.proofs.Lists.{In, pushed_cases}
-use Rattle.world.proofs.lists.Beginnings.{slice_get-drop}
+use Rattle.node.proofs.Beginnings.{slice_get-drop}
 use Rattle.world.proofs.trace.Layers.{Holds}
 
 -- the opening store is that of the empty log
@@ -49,7 +49,7 @@ holds-pushed es s e h valid next =
           [ inl old ↦ h.numbered k f old | inr new ↦ rw (new.0, new.1) (omega (arith, next, last), valid) ];
     }
 
--- the store stays that of the log as its acknowledged number rises up to the last one
+-- the store stays that of the log as its commit number rises up to the last one
 pub holds-acked_to : (es : List LogEntry) (s : StoreState) (n : ℕ)
     → Holds es s
     → s.acked ≤ n
@@ -96,7 +96,7 @@ held_after es s n h low =
     let sum : s.floor + (n - s.floor) ≡ n = omega arith in
     ap (λ fs. drop (n - s.floor) fs) h.rest ∙ drop-drop (n - s.floor) s.floor es ∙ ap (λ m. drop m es) sum
 
--- the store stays that of the log as its floor rises up to the acknowledged number
+-- the store stays that of the log as its floor rises up to the commit number
 pub holds-dropped_to : (es : List LogEntry) (s : StoreState) (n : ℕ)
     → Holds es s
     → s.floor ≤ n

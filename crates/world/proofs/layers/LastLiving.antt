@@ -4,12 +4,12 @@ use Rattle.std.proofs.lemmas.Bool.{cases_eq, both_ways, false_from_ne_true, or_p
 use Rattle.node.specs.Views.{has}
 use Rattle.world.specs.Worlds.{World, server, lives}
 use Rattle.node.proofs.Lists.{Begins}
-use Rattle.world.proofs.lists.Beginnings.{begins_same, begins_as}
+use Rattle.node.proofs.Beginnings.{begins_same, begins_as}
 use Rattle.node.specs.Actions.{Action}
 use Rattle.world.proofs.trace.Traces.{Traced, log, count, last_living, done, failing}
 use Rattle.world.proofs.trace.TraceLaws.{committed_done}
 use Rattle.world.proofs.trace.ChangeLaws.{count_failing, failed_failing, committed_failing, committed_left}
-use Rattle.world.proofs.trace.IdLaws.{has-union, previous_from, living_parts, living_from, last_lives, before_last}
+use Rattle.world.proofs.trace.IdLaws.{has-union, predecessor_from, living_parts, living_from, last_lives, before_last}
 use Rattle.world.proofs.trace.IdLaws.{has_last}
 use Rattle.world.proofs.trace.LaterLaws.{logs_done}
 use Rattle.world.proofs.trace.Layers.{Framed, Logged}
@@ -28,7 +28,7 @@ pub last_found : (w : World) (i : ℕ)
     → IsAlive w i
     → ((x : ℕ) → i < x → x < length w.servers → has w.failed x ≡ true)
     → last_living w ≡ Some i
-last_found w i a f = previous_from w.failed (length w.servers) i (record { below = a.within; out = a.out; between = f })
+last_found w i a f = predecessor_from w.failed (length w.servers) i (record { below = a.within; out = a.out; between = f })
 
 -- each living server's log has the committed entries
 pub living_begins : (u : Traced) → Framed u

@@ -1,4 +1,4 @@
--- Each action keeps logs and acknowledged numbers.
+-- Each action keeps logs and commit numbers.
 use Rattle.std.proofs.Common.{◌≡◌, ℕ, ◌+◌, ◌-◌, ◌<◌, ◌≤◌, true, false, [], ◌++◌, length, Some, refl, arith, inl, inr}
 use Rattle.std.proofs.Common.{ap, sym, ◌∙◌, subst}
 use Rattle.std.specs.Prelude.{slice_get}
@@ -11,7 +11,7 @@ use Rattle.node.specs.declared.messages.Body.TheVariants.{Op, Forward, Ack, Quer
 use Rattle.node.specs.declared.messages.Peer.{Peer}
 use Rattle.node.specs.declared.messages.Input.TheVariants.{From}
 use Rattle.node.specs.Views.{View, has}
-use Rattle.node.specs.Servers.{is_head, is_tail, next}
+use Rattle.node.specs.Servers.{is_head, is_tail, successor_of}
 use Rattle.node.specs.Numbering.{appended, entered}
 use Rattle.node.specs.Reading.{asked}
 use Rattle.node.specs.Joining.{widened}
@@ -19,14 +19,14 @@ use Rattle.node.specs.Steps.{least_open, trimmed}
 use Rattle.node.specs.Lawful.{IsSound}
 use Rattle.node.proofs.SoundLaws.{least_within}
 use Rattle.world.specs.Worlds.{server, lives}
-use Rattle.world.proofs.lists.Beginnings.{begins_as, begins-push}
+use Rattle.node.proofs.Beginnings.{begins_as, begins-push}
 use Rattle.world.proofs.layers.HeldLogs.{held_last, holds-pushed, holds-acked_to, holds-dropped_to, held_entry}
 use Rattle.node.specs.Actions.{Action, Widen, Append, Reach, Settle, Send, Finish, Trim, Enter, Ask, Show, act, Cause}
 use Rattle.node.specs.Actions.{IsMade, IsPassed, IsReached, MaySend, Guard}
 use Rattle.world.proofs.trace.Traces.{Traced, log, count, last_living, done}
 use Rattle.world.proofs.trace.TraceLaws.{new_entries}
 use Rattle.world.proofs.trace.Layers.{Later, Framed, Carries, Logged, Lawful, IsKnown}
-use Rattle.world.proofs.trace.IdLaws.{has-union, at_head, at_tail, previous_of, next_of}
+use Rattle.world.proofs.trace.IdLaws.{has-union, at_head, at_tail, predecessor_found, successor_found}
 use Rattle.world.proofs.layers.LastLiving.{alive, last_found}
 use Rattle.world.proofs.layers.LoggedLaws.{IsFit, kept_done, logged_from}
 
@@ -155,7 +155,7 @@ fit_passed t i cause e f l lt known valid p =
     let s = server t.world i in
     let c : Carries t p.from p.message.view (Forward e) =
     subst (λ b. Carries t p.from p.message.view b) p.body (heard t i cause p.from p.message known p.came).carries in
-    let above = previous_of s p.from p.previous in
+    let above = predecessor_found s p.from p.predecessor in
     let last = held_last (log t i) s.store (l.holds i lt) in
     let ordinal : e.number - 1 ≡ length (log t i) = omega (arith, p.next, last) in
     let id = f.id i lt in
@@ -168,7 +168,7 @@ fit_passed t i cause e f l lt known valid p =
       ]
     ]))
 
--- ---- the acknowledged number rises
+-- ---- the commit number rises
 
 fit_raised : (t : Traced) (i n : ℕ)
     → Logged t
@@ -209,7 +209,7 @@ fit_reached t i cause n f l h known low high (inr r) =
     let m = r.1 in
     let heard = heard t i cause from m known r.2 in
     let c : Carries t from m.view (Ack n) = subst (λ b. Carries t from m.view b) r.3 heard.carries in
-    let below = next_of s from r.4 in
+    let below = successor_found s from r.4 in
     let id = f.id i lt in
     fit_raised t i n l lt low high (λ k more less o.
     elim (cases_order k from) [
@@ -298,7 +298,7 @@ fit t i cause (Ask port key) f l h known sound g =
 fit t i cause (Show port key) f l h known sound g =
     fit_alike t i (Show port key) l (alive t.world i h).within refl (λ k o. o) refl (λ j b e. absurd cc)
 
--- an action of a living server keeps logs and acknowledged numbers
+-- an action of a living server keeps logs and commit numbers
 pub logged_done : (t : Traced) (i : ℕ) (cause : Cause) (a : Action)
     → lives t.world i ≡ true
     → Lawful t

@@ -1,4 +1,4 @@
--- Logs and acknowledged numbers hold before any event, and after a changed connection, a message taken off and a
+-- Logs and commit numbers hold before any event, and after a changed connection, a message taken off and a
 -- failure.
 use Rattle.std.proofs.Common.{◌≡◌, ℕ, ◌<◌, List, [], ◌∷◌, length, refl, arith, inl, ap, sym, ◌∙◌}
 use Rattle.std.proofs.lemmas.Option.{none-some as none_some}
@@ -7,7 +7,7 @@ use Rattle.node.specs.declared.messages.Peer.{Peer}
 use Rattle.node.specs.Servers.{ServerState}
 use Rattle.world.specs.Connections.{Connection}
 use Rattle.world.specs.Worlds.{World, server, link}
-use Rattle.world.proofs.lists.Beginnings.{begins_as, begins_nil}
+use Rattle.node.proofs.Beginnings.{begins_as, begins_nil}
 use Rattle.world.proofs.layers.HeldLogs.{holds_opening}
 use Rattle.world.proofs.trace.Traces.{Traced, log, count, last_living, reconnected, unlinked, failing, outset}
 use Rattle.world.proofs.trace.ChangeLaws.{count_reconnected, failed_reconnected, server_reconnected, link_reconnected}
@@ -21,7 +21,7 @@ use Rattle.world.proofs.layers.LoggedLaws.{logged_from, kept_alike}
 last_alike : (v w : World) → w.failed ≡ v.failed → length w.servers ≡ length v.servers → last_living w ≡ last_living v
 last_alike v w failed servers = rw (failed, servers) refl
 
--- logs and acknowledged numbers hold after a changed connection
+-- logs and commit numbers hold after a changed connection
 pub logged_reconnected : (t : Traced) (c : ℕ) (change : Connection → Connection)
     → Lawful t
     → Later t (reconnected t c change)
@@ -35,7 +35,7 @@ logged_reconnected t c change w later framed =
     logged_from t u l later framed (kept_alike t u l later (server_reconnected t c change) (log_reconnected t c change)
     (λ i h. kept ∙ l.last i (sym same ∙ h)) (λ h. kept) (λ i j m h. rw (link_reconnected t c change i j) at h))
 
--- logs and acknowledged numbers hold after a message that was taken off a link
+-- logs and commit numbers hold after a message that was taken off a link
 pub logged_unlinked : (t : Traced) (i j : ℕ) (m : Peer) (ms : List Peer)
     → link t.world i j ≡ m ∷ ms
     → Lawful t
@@ -50,7 +50,7 @@ logged_unlinked t i j m ms e w later framed =
     logged_from t u l later framed (kept_alike t u l later (server_unlinked t i j ms) (log_unlinked t i j ms)
     (λ k h. kept ∙ l.last k (sym same ∙ h)) (λ h. kept) (link_unlinked t i j m ms e))
 
--- logs and acknowledged numbers hold after a failure
+-- logs and commit numbers hold after a failure
 pub logged_failing : (t : Traced) (i : ℕ)
     → Lawful t
     → Later t (failing t i)
@@ -63,7 +63,7 @@ logged_failing t i w later framed =
 
 -- ---- before any event
 
--- logs and acknowledged numbers hold before any event
+-- logs and commit numbers hold before any event
 pub logged_outset : (n : ℕ) (homes : List ℕ) → Logged (outset n homes)
 logged_outset n homes =
     let t = outset n homes in

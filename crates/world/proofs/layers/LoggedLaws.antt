@@ -1,4 +1,4 @@
--- Logs and acknowledged numbers: what messages carry stays, and what a world must show to keep them.
+-- Logs and commit numbers: what messages carry stays, and what a world must show to keep them.
 use Rattle.std.proofs.Common.{◌≡◌, ◌≢◌, ℕ, ◌+◌, ◌-◌, ◌<◌, ◌≤◌, true, false, List, [], ◌++◌, length, Option, Some, None}
 use Rattle.std.proofs.Common.{refl, arith, ◌⊎◌, inl, inr, ap, sym, ◌∙◌}
 use Rattle.std.specs.Prelude.{slice_get}
@@ -11,7 +11,7 @@ use Rattle.node.specs.declared.messages.Peer.{Peer}
 use Rattle.node.specs.Views.{View, has}
 use Rattle.world.specs.Worlds.{server, link, lives}
 use Rattle.node.proofs.Lists.{In, Begins}
-use Rattle.world.proofs.lists.Beginnings.{begins-length}
+use Rattle.node.proofs.Beginnings.{begins-length}
 use Rattle.node.specs.Actions.{Action, Send, act}
 use Rattle.world.proofs.trace.Traces.{Traced, log, count, last_living, done}
 use Rattle.world.proofs.trace.TraceLaws.{new_entries, last_living_done, server_done, server_other, link_done, log_other}
@@ -73,7 +73,7 @@ pub record IsKept (t u : Traced) : Type 0 where
   pub within : (i : ℕ) → i < count u → (server u.world i).store.acked ≤ length u.committed
   pub sent : (i j : ℕ) (m : Peer) → In m (link u.world i j) → In m (link t.world i j) ⊎ Carries u i m.view m.body
 
--- logs and acknowledged numbers hold in a later world of which all that `IsKept` asks is shown
+-- logs and commit numbers hold in a later world of which all that `IsKept` asks is shown
 pub logged_from : (t u : Traced) → Logged t → Later t u → Framed u → IsKept t u → Logged u
 logged_from t u l later f k = record {
   holds = k.holds;
@@ -123,7 +123,7 @@ pub record IsFit (t : Traced) (i : ℕ) (a : Action) : Type 0 where
   pub within : (act (server t.world i) a).state.store.acked ≤ length t.committed
   pub sent : (j : ℕ) (body : Body) → a ≡ Send j body → Carries t i (server t.world i).view body
 
--- an action of a living server that shows all that `IsFit` asks keeps logs and acknowledged numbers
+-- an action of a living server that shows all that `IsFit` asks keeps logs and commit numbers
 pub kept_done : (t : Traced) (i : ℕ) (a : Action)
     → Framed t
     → Logged t

@@ -1,10 +1,10 @@
--- Logs and acknowledged numbers hold after each move, and the committed entries only grow.
+-- Logs and commit numbers hold after each move, and the committed entries only grow.
 use Rattle.std.proofs.Common.{ℕ, List}
 use Rattle.node.specs.declared.messages.Peer.{Peer}
 use Rattle.world.specs.Connections.{Connection, came, begun, asked, handed}
 use Rattle.world.specs.Worlds.{where_home_lives}
 use Rattle.node.proofs.Lists.{Begins}
-use Rattle.world.proofs.lists.Beginnings.{begins_same}
+use Rattle.node.proofs.Beginnings.{begins_same}
 use Rattle.world.proofs.trace.Traces.{Traced, reconnected, unlinked}
 use Rattle.world.proofs.trace.ChangeLaws.{committed_reconnected, committed_unlinked}
 use Rattle.world.proofs.trace.Moves.{Move, Does, Comes, Starts, Works, Hands, Takes, Fails, moved, IsMove}
@@ -30,7 +30,7 @@ grows_moved t (Hands c) h w = grows_reconnected t c (where_home_lives t.world (�
 grows_moved t (Takes i j ms) h w = grows_unlinked t i j ms
 grows_moved t (Fails i) h w = grows_failing t i w.logged
 
--- logs and acknowledged numbers hold after each move
+-- logs and commit numbers hold after each move
 pub logged_moved : (t : Traced) (m : Move)
     → IsMove t m
     → Lawful t

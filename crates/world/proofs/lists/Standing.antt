@@ -30,7 +30,7 @@ changed_cases (k ∷ ks) (suc c) (suc d) change new h =
       | inr same ↦ inr (same.0, ap suc same.1, same.2, same.3)
     ]
 
--- where a connection stands after a change of one, a connection stood before it
+-- if a connection stands at a place after a change of one, one stood there before it
 pub stood_before : (ks : List Connection) (c d : ℕ) (change : Connection → Connection) (new : Connection)
     → slice_get (changed_at ks c change) d ≡ Some new
     → (old : Connection) × (slice_get ks d ≡ Some old)

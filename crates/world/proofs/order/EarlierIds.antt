@@ -4,7 +4,7 @@ use Rattle.std.proofs.Common.{arith, inl, inr}
 use Rattle.std.specs.Prelude.{slice_get}
 use Rattle.std.proofs.lemmas.Bool.{cases_eq, cases_lt}
 use Rattle.versions.specs.Entries.{LogEntry}
-use Rattle.world.proofs.lists.Fronts.{found_below}
+use Rattle.node.proofs.BegunLists.{found_below}
 use Rattle.world.proofs.trace.Layers.{entries_of}
 use Rattle.world.proofs.calls.EntryCounts.{entries-own, entries-other, entries-none}
 use Rattle.world.proofs.waiting.Rooms.{taken_more}

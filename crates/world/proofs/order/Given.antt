@@ -19,7 +19,7 @@ use Rattle.world.specs.declared.connections.Stage.TheVariants.{Idle, Begun, Aske
 use Rattle.world.specs.Connections.{Connection, open_call, may_have, asked}
 use Rattle.world.specs.Worlds.{World, server, acted, with_server, with_connection}
 use Rattle.world.specs.Calls.{CallId, begun_call, given_calls, is_given_by, is_given}
-use Rattle.world.proofs.lists.Fronts.{found_below}
+use Rattle.node.proofs.BegunLists.{found_below}
 use Rattle.world.proofs.trace.Traces.{Traced, issued_by, open_id, outset}
 use Rattle.world.proofs.trace.Layers.{Lawful, IsAnswer}
 use Rattle.world.proofs.trace.IdLaws.{living_parts}

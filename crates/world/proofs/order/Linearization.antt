@@ -20,7 +20,7 @@ use Rattle.world.proofs.order.LegalOrder.{legal}
 use Rattle.world.proofs.order.Linear.{get_mapped, mapped_get, front, nothing_there, more_of, name_of, asked_of}
 use Rattle.world.proofs.order.Linear.{named_is, asked_is, ranked, order_of, decided_committed, all_make, all_show}
 use Rattle.world.proofs.order.Linear.{Sources, comes_from, stands, table_of}
-use Rattle.world.proofs.lists.Fronts.{found_below, begins_back}
+use Rattle.node.proofs.BegunLists.{found_below, begins_back}
 use Rattle.world.proofs.order.Since.{is_some}
 use Rattle.world.proofs.order.AtHomes.{AtHomes}
 use Rattle.world.proofs.order.Spent.{IsFull}

@@ -8,7 +8,7 @@ use Rattle.world.specs.Worlds.{run_of}
 use Rattle.world.specs.Orders.{OrderedCall, IsLinearization}
 use Rattle.world.proofs.trace.Traces.{Traced, outset}
 use Rattle.world.proofs.trace.Outsets.{count_outset, server_outset, log_outset, link_outset, nothing_in}
-use Rattle.world.proofs.lists.Fronts.{found_below}
+use Rattle.node.proofs.BegunLists.{found_below}
 use Rattle.world.proofs.moments.Moments.{Moments, next_world}
 use Rattle.world.proofs.moments.AllLaws.{laws, all_moments}
 use Rattle.world.proofs.trace.LaterLaws.{later_same}

@@ -17,10 +17,10 @@ use Rattle.node.specs.Lawful.{AreReads}
 use Rattle.world.specs.Worlds.{server, link, lives}
 use Rattle.world.specs.Calls.{CallId, begun_call}
 use Rattle.node.proofs.Lists.{In, in_joined, pushed_cases}
-use Rattle.world.proofs.lists.Beginnings.{begins-length}
+use Rattle.node.proofs.Beginnings.{begins-length}
 use Rattle.world.proofs.layers.HeldLogs.{held_last}
 use Rattle.world.proofs.layers.LastLiving.{alive, last_found}
-use Rattle.world.proofs.trace.IdLaws.{that_is, previous_is}
+use Rattle.world.proofs.trace.IdLaws.{that_is, predecessor_is}
 use Rattle.node.proofs.OpenLists.{reads_act}
 use Rattle.node.specs.Actions.{Action, Widen, Append, Reach, Settle, Send, Finish, Trim, Enter, Ask, Show, Cause}
 use Rattle.world.proofs.trace.Traces.{Traced, AnsweredRead, log, count, done}
@@ -51,7 +51,7 @@ pub tail_holds : (u : Traced) (i : ℕ)
     → last_number (server u.world i).store ≡ length u.committed
 tail_holds u i l h tail =
     let a = alive u.world i h in
-    let p = previous_is _ _ _ (that_is _ _ tail) in
+    let p = predecessor_is _ _ _ (that_is _ _ tail) in
     let id = l.framed.id i a.within in
     let chain = l.framed.chain i a.within in
     let last = last_found u.world i a

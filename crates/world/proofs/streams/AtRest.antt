@@ -7,15 +7,15 @@ use Rattle.std.proofs.lemmas.Bool.{and_parts, cases_eq, eqb-true}
 use Rattle.std.proofs.lemmas.Option.{none-some}
 use Rattle.node.specs.declared.messages.Peer.{Peer}
 use Rattle.node.specs.Views.{has, tail, predecessor, successor}
-use Rattle.node.specs.Servers.{is_tail, previous}
+use Rattle.node.specs.Servers.{is_tail, predecessor_of}
 use Rattle.node.specs.Lawful.{IsSettled}
 use Rattle.world.specs.Links.{is_empty}
 use Rattle.world.specs.Quiet.{all_below, is_server_quiet, is_quiet}
 use Rattle.world.specs.Worlds.{World, server, link, lives}
 use Rattle.world.proofs.trace.Traces.{Traced, log, count}
 use Rattle.world.proofs.trace.Layers.{Lawful}
-use Rattle.world.proofs.lists.Beginnings.{begins-whole}
-use Rattle.world.proofs.trace.IdLaws.{IsPrevious, following_is, no_following, previous_from, is_itself, living_parts}
+use Rattle.node.proofs.Beginnings.{begins-whole}
+use Rattle.world.proofs.trace.IdLaws.{IsPredecessor, following_is, no_following, predecessor_from, is_itself, living_parts}
 use Rattle.world.proofs.trace.IdLaws.{living_from}
 use Rattle.world.proofs.streams.Streaming.{numbers, IsRun, IsTold, Streaming}
 use Rattle.world.proofs.streams.StreamSteps.{last_is, next_in}
@@ -92,16 +92,16 @@ module _ (t : Traced) (h : Lawful t) (s : Streaming t.world) (rest : IsAtRest t.
       (record {
         here = here.0;
         inside = there.0;
-        next = next_in t h.framed i here.0 ∙ n;
+        successor = next_in t h.framed i here.0 ∙ n;
         unaware = unaware;
         alive = there.1;
       }) in
       let whole = none_left _ _ (link t.world i j) (rest.links i j a b) stream.run in
       let same : log t j ≡ log t i = begins-whole (log t j) (log t i) (h.logged.begins i j f.above there.0 unaware)
       (omega (arith, stream.reached, whole, last_is t h.logged i here.0, last_is t h.logged j there.0)) in
-      let before : previous (server t.world j) ≡ Some i =
+      let before : predecessor_of (server t.world j) ≡ Some i =
       ap (λ x. predecessor (server t.world j).view x) (h.framed.id j there.0)
-      ∙ previous_from (server t.world j).view j i
+      ∙ predecessor_from (server t.world j).view j i
       (record {
         below = f.above;
         out = unaware;
@@ -110,7 +110,7 @@ module _ (t : Traced) (h : Lawful t) (s : Streaming t.world) (rest : IsAtRest t.
       }) in
       let told = not_more t.world i j (rest.links j i b a)
       (s.acks i j (record
-      { here = here.0; inside = there.0; previous = before; unaware = f.out; alive = here.1 })) in
+      { here = here.0; inside = there.0; predecessor = before; unaware = f.out; alive = here.1 })) in
       record {
         log = sym same ∙ level.log;
         acked = omega (arith, told, h.logged.acks i j f.above there.0 f.out, level.acked);
@@ -119,15 +119,15 @@ module _ (t : Traced) (h : Lawful t) (s : Streaming t.world) (rest : IsAtRest t.
   level_last : (i : ℕ) → lives t.world i ≡ true → successor (server t.world i).view (count t) i ≡ None → IsLevel t i
   level_last i a n =
       let here = living_parts t.world i a in
-      let last : IsPrevious (server t.world i).view (count t) i =
+      let last : IsPredecessor (server t.world i).view (count t) i =
       record {
         below = here.0;
         out = rest.views i i a here.0 ∙ here.1;
         between = no_following (server t.world i).view (count t) i n;
       } in
-      let found = previous_from (server t.world i).view (count t) i last in
+      let found = predecessor_from (server t.world i).view (count t) i last in
       let committed : t.committed ≡ log t i = h.logged.last i
-      (previous_from t.world.failed (count t) i
+      (predecessor_from t.world.failed (count t) i
       (record { below = here.0; out = here.1; between = λ x p q. sym (rest.views i x a q) ∙ last.between x p q })) in
       let is_last : is_tail (server t.world i) ≡ true =
       rw (h.framed.chain i here.0, h.framed.id i here.0)

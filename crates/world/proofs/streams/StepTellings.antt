@@ -1,5 +1,5 @@
 -- What a step tells a server's neighbours, and what it asks of the tail, one case an action: the successor gets the new
--- entries, or if it is a new one all entries that weren't acknowledged; the predecessor the acknowledged number, if
+-- entries, or if it is a new one all entries that weren't acknowledged; the predecessor the commit number, if
 -- that or itself is new; and each read that is open after it was open under the same tail, or a query for it is put
 -- out.
 use Rattle.std.proofs.Common.{◌≡◌, ℕ, ◌≤◌, Bool, true, false, cond, not, List, [], ◌∷◌, ◌++◌, Option, Some, None, refl}
@@ -19,7 +19,7 @@ use Rattle.node.specs.declared.messages.Output.{Output}
 use Rattle.node.specs.declared.messages.Output.TheVariants.{To}
 use Rattle.table.specs.declared.operations.Reply.{Reply}
 use Rattle.node.specs.Views.{View, is_same}
-use Rattle.node.specs.Servers.{ServerState, RuleResult, tail_of, is_tail, previous, next, message_to}
+use Rattle.node.specs.Servers.{ServerState, RuleResult, tail_of, is_tail, predecessor_of, successor_of, message_to}
 use Rattle.node.specs.Numbering.{open_update, replied, reply_to, appended, entered}
 use Rattle.node.specs.Reading.{asked}
 use Rattle.node.specs.Joining.{widened}
@@ -29,7 +29,7 @@ use Rattle.node.specs.Actions.{Action, Widen, Append, Reach, Settle, Send, Finis
 use Rattle.node.specs.Actions.{Cause, left, MaySend, Guard, AreGuarded, Due, IsPaid, IsTurn, IsTurnOf, due, due_after}
 use Rattle.node.specs.Actions.{AreInTurn, due_in_the_end, nothing_due, but_first}
 use Rattle.node.proofs.Lists.{In, in_front, in_behind, in_more, in_pushed}
-use Rattle.node.proofs.Neighbours.{next_of, following_from}
+use Rattle.node.proofs.Neighbours.{successor_found, following_from}
 use Rattle.node.proofs.OpenLists.{in_without}
 use Rattle.node.proofs.SoundActions.{Grown, grown_act}
 use Rattle.node.proofs.DoneActions.{grown_does}
@@ -54,7 +54,7 @@ same_self a b k e g = rw (e, g) (eq-eqb k k refl)
 sent_run : (c : Cause) (d : Due) (s : ServerState) (j : ℕ) (body : Body) (y : ℕ)
     → MaySend c s j body
     → IsTurnOf body d
-    → next s ≡ Some y
+    → successor_of s ≡ Some y
     → IsRun d.forwarded (due_after body d).forwarded (numbers_to y (message_to s (Some j) body))
 sent_run c d s j (Op id call) y g t n = rw (none_brought forwarded_number s y (Some j) (Op id call) refl) refl
 sent_run c d s j (Forward e) y g t n = rw (number_there s y (Some j) e (sym g.0 ∙ n)) (t, sym t)
@@ -66,11 +66,11 @@ sent_run c d s j (Answer ask k) y g t n = rw (none_brought forwarded_number s y 
 act_run : (c : Cause) (d : Due) (s : ServerState) (a : Action) (y : ℕ)
     → Guard c s a
     → IsTurn d s a
-    → next s ≡ Some y
-    → next (act s a).state ≡ Some y
+    → successor_of s ≡ Some y
+    → successor_of (act s a).state ≡ Some y
     → IsRun d.forwarded (due d s a).forwarded (numbers_to y (act s a).outputs)
 unfolding act
-act_run c d s (Widen v) y g t n m = rw (same_self (next s) (next (widened s v)) y n m) (ap (λ (x : Due). x.forwarded) t)
+act_run c d s (Widen v) y g t n m = rw (same_self (successor_of s) (successor_of (widened s v)) y n m) (ap (λ (x : Due). x.forwarded) t)
 act_run c d s (Append e) y g t n m = refl
 act_run c d s (Reach k) y g t n m = refl
 act_run c d s (Settle e) y g t n m = rw (closed_none forwarded_number y s.id s.pend e) refl
@@ -83,7 +83,7 @@ act_run c d s (Show port key) y g t n m = refl
 
 sent_none : (c : Cause) (s : ServerState) (j : ℕ) (body : Body) (y : ℕ)
     → MaySend c s j body
-    → (next s ≡ Some y → ⊥)
+    → (successor_of s ≡ Some y → ⊥)
     → numbers_to y (message_to s (Some j) body) ≡ []
 sent_none c s j (Op id call) y g other = none_brought forwarded_number s y (Some j) (Op id call) refl
 sent_none c s j (Forward e) y g other = rw (ne_eqb j y (λ same. other (g.0 ∙ ap Some same))) refl
@@ -94,7 +94,7 @@ sent_none c s j (Answer ask k) y g other = none_brought forwarded_number s y (So
 -- and to no other
 act_none : (c : Cause) (s : ServerState) (a : Action) (y : ℕ)
     → Guard c s a
-    → (next s ≡ Some y → ⊥)
+    → (successor_of s ≡ Some y → ⊥)
     → numbers_to y (act s a).outputs ≡ []
 unfolding act
 act_none c s (Widen v) y g other = refl
@@ -110,11 +110,11 @@ act_none c s (Show port key) y g other = refl
 
 -- a new successor is due the entries that aren't acknowledged
 act_new : (d : Due) (s : ServerState) (a : Action) (y : ℕ)
-    → (next s ≡ Some y → ⊥)
-    → next (act s a).state ≡ Some y
+    → (successor_of s ≡ Some y → ⊥)
+    → successor_of (act s a).state ≡ Some y
     → (due d s a).forwarded ≡ s.store.acked
 unfolding act appended entered asked trimmed
-act_new d s (Widen v) y other m = cond_both (is_same (next s) (next (widened s v))) _ _ (λ (k : ℕ). k ≡ s.store.acked)
+act_new d s (Widen v) y other m = cond_both (is_same (successor_of s) (successor_of (widened s v))) _ _ (λ (k : ℕ). k ≡ s.store.acked)
     (λ t. absurd (other (same_is _ _ t ∙ m))) (λ f. refl)
 act_new d s (Append e) y other m = absurd (other m)
 act_new d s (Reach k) y other m = absurd (other m)
@@ -130,12 +130,12 @@ act_new d s (Show port key) y other m = absurd (other m)
 next_between : (s u t : ServerState) (y : ℕ)
     → Grown s u
     → Grown u t
-    → next s ≡ Some y
-    → next t ≡ Some y
-    → next u ≡ Some y
+    → successor_of s ≡ Some y
+    → successor_of t ≡ Some y
+    → successor_of u ≡ Some y
 next_between s u t y g h n m =
-    let first = next_of s y n in
-    let last = next_of t y m in
+    let first = successor_found s y n in
+    let last = successor_found t y m in
     following_from u.view u.count u.id y (record {
       above = omega (arith, first.above, g.id);
       within = omega (arith, first.within, g.count);
@@ -146,8 +146,8 @@ next_between s u t y g h n m =
 same_run : (actions : List Action) (c : Cause) (d : Due) (s : ServerState) (y : ℕ)
     → AreGuarded c s actions
     → AreInTurn d s actions
-    → next s ≡ Some y
-    → next (does s actions).state ≡ Some y
+    → successor_of s ≡ Some y
+    → successor_of (does s actions).state ≡ Some y
     → IsRun d.forwarded (due_in_the_end d s actions).forwarded (numbers_to y (does s actions).outputs)
 unfolding does
 same_run [] c d s y g t n m = refl
@@ -161,8 +161,8 @@ same_run (a ∷ later) c d s y g t n m =
 new_run : (actions : List Action) (c : Cause) (d : Due) (s : ServerState) (y : ℕ)
     → AreGuarded c s actions
     → AreInTurn d s actions
-    → (next s ≡ Some y → ⊥)
-    → next (does s actions).state ≡ Some y
+    → (successor_of s ≡ Some y → ⊥)
+    → successor_of (does s actions).state ≡ Some y
     → (f : ℕ) × (f ≤ (does s actions).state.store.acked) × IsRun f (due_in_the_end d s actions).forwarded
     (numbers_to y (does s actions).outputs)
 unfolding does
@@ -170,7 +170,7 @@ new_run [] c d s y g t other m = absurd (other m)
 new_run (a ∷ later) c d s y g t other m =
     let u = (act s a).state in
     let none = act_none c s a y g.1 other in
-    elim (some_or_not (next u) y) [
+    elim (some_or_not (successor_of u) y) [
       | inl now ↦ (
         s.store.acked,
         omega (arith, (grown_act c s a g.1).acked, (grown_does later (left c) u g.2).acked),
@@ -191,12 +191,12 @@ AcksIn x n os = (m : Peer) × (k : ℕ) × In (To x m) os × (m.body ≡ Ack k) 
 
 -- the predecessor was told before, or is now
 abbrev Acknowledges : ℕ → ℕ → Due → ServerState → List Output → Type 0
-Acknowledges x n d s os = ((d.untold ≡ false) × (previous s ≡ Some x) × (n ≤ s.store.acked)) ⊎ AcksIn x n os
+Acknowledges x n d s os = ((d.untold ≡ false) × (predecessor_of s ≡ Some x) × (n ≤ s.store.acked)) ⊎ AcksIn x n os
 
 sent_ack : (c : Cause) (d : Due) (s : ServerState) (j : ℕ) (body : Body) (x n : ℕ)
     → MaySend c s j body
     → (due_after body d).untold ≡ false
-    → previous s ≡ Some x
+    → predecessor_of s ≡ Some x
     → n ≤ s.store.acked
     → Acknowledges x n d s (message_to s (Some j) body)
 sent_ack c d s j (Op id call) x n g h p low = inl (h, p, low)
@@ -225,7 +225,7 @@ act_ack : (c : Cause) (d : Due) (s : ServerState) (a : Action) (x n : ℕ)
     → Guard c s a
     → IsTurn d s a
     → (due d s a).untold ≡ false
-    → previous (act s a).state ≡ Some x
+    → predecessor_of (act s a).state ≡ Some x
     → n ≤ (act s a).state.store.acked
     → Acknowledges x n d s (act s a).outputs
 unfolding act appended entered asked trimmed
@@ -245,7 +245,7 @@ does_ack : (actions : List Action) (c : Cause) (d : Due) (s : ServerState) (x n 
     → AreGuarded c s actions
     → AreInTurn d s actions
     → (due_in_the_end d s actions).untold ≡ false
-    → previous (does s actions).state ≡ Some x
+    → predecessor_of (does s actions).state ≡ Some x
     → n ≤ (does s actions).state.store.acked
     → Acknowledges x n d s (does s actions).outputs
 unfolding does
@@ -285,7 +285,7 @@ unfolding does
 does_last [] c s g = omega arith
 does_last (a ∷ later) c s g = omega (arith, act_last c s a g.0, does_last later (left c) (act s a).state g.2)
 
--- server x is told the acknowledged number
+-- server x is told the commit number
 abbrev pub Acks : ℕ → RuleResult → Type 0
 Acks x a = (m : Peer) × (n : ℕ) × In (To x m) a.outputs × (m.body ≡ Ack n) × (a.state.store.acked ≤ n)
 
@@ -293,16 +293,16 @@ Acks x a = (m : Peer) × (n : ℕ) × In (To x m) a.outputs × (m.body ≡ Ack n
 pub record Informs (s : ServerState) (a : RuleResult) : Type 0 where
   pub last : last_number s.store ≤ last_number a.state.store
   pub same : (y : ℕ)
-      → next s ≡ Some y
-      → next a.state ≡ Some y
+      → successor_of s ≡ Some y
+      → successor_of a.state ≡ Some y
       → IsRun (last_number s.store) (last_number a.state.store) (numbers_to y a.outputs)
   pub new : (y : ℕ)
-      → (next s ≡ Some y → ⊥)
-      → next a.state ≡ Some y
+      → (successor_of s ≡ Some y → ⊥)
+      → successor_of a.state ≡ Some y
       → (f : ℕ) × (f ≤ a.state.store.acked) × IsRun f (last_number a.state.store) (numbers_to y a.outputs)
   pub acks : (x : ℕ)
-      → previous a.state ≡ Some x
-      → ((previous s ≡ Some x) × (a.state.store.acked ≤ s.store.acked)) ⊎ Acks x a
+      → predecessor_of a.state ≡ Some x
+      → ((predecessor_of s ≡ Some x) × (a.state.store.acked ≤ s.store.acked)) ⊎ Acks x a
 
 informs_does : (actions : List Action) (c : Cause) (s : ServerState)
     → AreGuarded c s actions

@@ -14,7 +14,7 @@ use Rattle.node.specs.declared.messages.Body.TheVariants.{Op, Forward, Ack, Quer
 use Rattle.node.specs.declared.messages.Peer.{Peer}
 use Rattle.node.specs.declared.messages.Input.TheVariants.{From}
 use Rattle.node.specs.Views.{View, has, is_below, predecessor}
-use Rattle.node.specs.Servers.{ServerState, previous, next}
+use Rattle.node.specs.Servers.{ServerState, predecessor_of, successor_of}
 use Rattle.node.specs.Steps.{is_heard, step}
 use Rattle.node.specs.Lawful.{IsSound}
 use Rattle.world.specs.Worlds.{server, link}
@@ -22,8 +22,8 @@ use Rattle.node.proofs.Lists.{in_more}
 use Rattle.world.proofs.trace.Traces.{Traced, count}
 use Rattle.world.proofs.layers.Addressed.{sender_apart}
 use Rattle.world.proofs.trace.Layers.{Goes, Carries, IsAddressed, Framed}
-use Rattle.world.proofs.lists.Beginnings.{begins-length}
-use Rattle.world.proofs.trace.IdLaws.{following_from, previous_from, previous_of}
+use Rattle.node.proofs.Beginnings.{begins-length}
+use Rattle.world.proofs.trace.IdLaws.{following_from, predecessor_from, predecessor_found}
 use Rattle.node.specs.Actions.{IsTakenIn}
 use Rattle.node.proofs.DoneSteps.{step_whole}
 use Rattle.world.proofs.streams.Streaming.{forwarded_number, numbers, IsRun, Linked, Stream, LinkedBack, IsTold}
@@ -100,10 +100,10 @@ module _ (t u : Traced) (h : Follows t u) (i a : ℕ) (m : Peer) (p : Stepped t.
   reached_next e f is number low unaware =
       let s = server u.world a in
       let g : Goes i a m.view (count t) (Forward e) = subst (λ b. Goes i a m.view (count t) b) is addressed.goes in
-      let from : previous s ≡ Some i = ap (λ x. predecessor s.view x) (h.after.framed.id a (rw h.later.count p.here))
-      ∙ previous_from s.view a i
+      let from : predecessor_of s ≡ Some i = ap (λ x. predecessor s.view x) (h.after.framed.id a (rw h.later.count p.here))
+      ∙ predecessor_from s.view a i
       (record { below = g.0; out = unaware; between = λ x p q. heeded.0 x (g.1 x p q) }) in
-      let took : previous s ≡ Some i → e.number ≢ last_number s.store + 1 =
+      let took : predecessor_of s ≡ Some i → e.number ≢ last_number s.store + 1 =
       subst (λ b. IsTakenIn i b (record { state = s; outputs = (step (server t.world a) (From i m)).outputs })) is
       (rw p.own (heeded.1 unaware)) in
       elim (cases_lt (last_number s.store) (f + 1)) [
@@ -150,12 +150,12 @@ module _ (t u : Traced) (h : Follows t u) (i a : ℕ) (m : Peer) (p : Stepped t.
       (subst (λ xs. IsRun s.from (last_number (server t.world i).store) xs) (ap (λ xs. numbers xs) first) s.run) apart
       l.unaware
 
-  -- ---- the acknowledged number
+  -- ---- the commit number
 
   -- the sender's number is reached
   reached_ack : (n : ℕ)
       → m.body ≡ Ack n
-      → previous (server t.world i) ≡ Some a
+      → predecessor_of (server t.world i) ≡ Some a
       → has (server u.world a).view i ≡ false
       → n ≤ (server u.world a).store.acked
   reached_ack n is before unaware =
@@ -166,12 +166,12 @@ module _ (t u : Traced) (h : Follows t u) (i a : ℕ) (m : Peer) (p : Stepped t.
       subst (λ b. Carries t i m.view b) is (h.before.logged.carries i a m (rw first (0, refl))) in
       let held = (h.before.logged.holds i addressed.sender).acked in
       let begins = begins-length _ _
-      (h.before.logged.begins a i g.0 addressed.sender (previous_of (server t.world i) a before).out) in
+      (h.before.logged.begins a i g.0 addressed.sender (predecessor_found (server t.world i) a before).out) in
       let inside : i < count u = rw h.later.count addressed.sender in
-      let following : next s ≡ Some i = next_in u h.after.framed a here
+      let following : successor_of s ≡ Some i = next_in u h.after.framed a here
       ∙ following_from s.view (count u) a i
       (record { above = g.0; within = inside; out = unaware; between = λ x p q. heeded.0 x (g.1 x p q) }) in
-      let took : next s ≡ Some i → n ≤ last_number s.store → n ≤ s.store.acked =
+      let took : successor_of s ≡ Some i → n ≤ last_number s.store → n ≤ s.store.acked =
       subst (λ b. IsTakenIn i b (record { state = s; outputs = (step (server t.world a) (From i m)).outputs })) is
       (rw p.own (heeded.1 unaware)) in
       took following (omega (
@@ -194,7 +194,7 @@ module _ (t u : Traced) (h : Follows t u) (i a : ℕ) (m : Peer) (p : Stepped t.
         | inl low ↦ inl (omega (arith, same, low, h.later.acks a))
         | inr g ↦ elim (in_more m (link u.world i a) g.0 (rw first at g.2)) [
           | inl it ↦ inl (omega
-              (arith, same, g.4, reached_ack g.1 (ap (λ x. x.body) (sym it) ∙ g.3) old.previous l.unaware))
+              (arith, same, g.4, reached_ack g.1 (ap (λ x. x.body) (sym it) ∙ g.3) old.predecessor l.unaware))
           | inr behind ↦ inr (g.0, g.1, behind, g.3, omega (arith, same, g.4))
         ]
       ]

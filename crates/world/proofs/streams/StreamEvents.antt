@@ -4,7 +4,7 @@ use Rattle.std.proofs.lemmas.Bool.{cases_eq, both_ways, false_from_ne_true}
 use Rattle.versions.specs.Stores.{last_number}
 use Rattle.node.specs.declared.messages.Input.{Input}
 use Rattle.node.specs.Views.{has}
-use Rattle.node.specs.Servers.{ServerState, previous, next}
+use Rattle.node.specs.Servers.{ServerState, predecessor_of, successor_of}
 use Rattle.world.specs.Worlds.{World}
 use Rattle.world.proofs.trace.Traces.{Traced, count, outset}
 use Rattle.world.proofs.trace.Outsets.{count_outset, server_outset, link_outset}
@@ -20,7 +20,7 @@ streaming_still w w' h s = record {
       let r = s.forwards x y (record {
         here = rw (← h.count) l.here;
         inside = rw (← h.count) l.inside;
-        next = ap (λ v. next v) (sym (h.servers x)) ∙ l.next;
+        successor = ap (λ v. successor_of v) (sym (h.servers x)) ∙ l.successor;
         unaware = ap (λ v. has v.view x) (sym (h.servers y)) ∙ l.unaware;
         alive = false_from_ne_true _ (λ e. both_ways _ l.alive (h.failed y e));
       }) in
@@ -34,7 +34,7 @@ streaming_still w w' h s = record {
       elim (s.acks x y (record {
         here = rw (← h.count) l.here;
         inside = rw (← h.count) l.inside;
-        previous = ap (λ v. previous v) (sym (h.servers y)) ∙ l.previous;
+        predecessor = ap (λ v. predecessor_of v) (sym (h.servers y)) ∙ l.predecessor;
         unaware = ap (λ v. has v.view y) (sym (h.servers x)) ∙ l.unaware;
         alive = false_from_ne_true _ (λ e. both_ways _ l.alive (h.failed x e));
       })) [

@@ -8,15 +8,15 @@ use Rattle.node.specs.declared.messages.Body.TheVariants.{Op, Forward, Ack, Quer
 use Rattle.node.specs.declared.messages.Input.{Input}
 use Rattle.node.specs.declared.messages.Peer.{Peer}
 use Rattle.node.specs.Views.{has, successor}
-use Rattle.node.specs.Servers.{previous, next}
+use Rattle.node.specs.Servers.{predecessor_of, successor_of}
 use Rattle.node.specs.Steps.{step}
 use Rattle.world.specs.Worlds.{server, link}
 use Rattle.node.proofs.Lists.{In, in_front, in_behind}
 use Rattle.world.proofs.trace.Traces.{Traced, log, count}
 use Rattle.world.proofs.trace.Layers.{Later, Goes, Framed, Logged}
-use Rattle.world.proofs.lists.Beginnings.{begins-length}
+use Rattle.node.proofs.Beginnings.{begins-length}
 use Rattle.world.proofs.layers.HeldLogs.{held_last}
-use Rattle.world.proofs.trace.IdLaws.{next_of, following_from, previous_of}
+use Rattle.world.proofs.trace.IdLaws.{successor_found, following_from, predecessor_found}
 use Rattle.world.proofs.streams.Streaming.{forwarded_number, numbers, sent_to, Linked, Stream, LinkedBack, IsTold}
 use Rattle.world.proofs.streams.ForwardRuns.{run-append, run_as, brought-append, in_sent}
 use Rattle.world.proofs.streams.StepTellings.{some_or_not, Informs, informs_step}
@@ -44,7 +44,7 @@ pub next_in : (t : Traced)
     → Framed t
     → (i : ℕ)
     → i < count t
-    → next (server t.world i) ≡ successor (server t.world i).view (count t) i
+    → successor_of (server t.world i) ≡ successor (server t.world i).view (count t) i
 next_in t f i l = rw (f.id i l, f.chain i l) refl
 
 number_step : (b : Body) (ks : List ℕ) → ((e : LogEntry) → b ≡ Forward e → ⊥) → ks ≡ [] → forwarded_number b ++ ks ≡ []
@@ -66,7 +66,7 @@ nothing_sent : (t : Traced)
     → a < count t
     → y < count t
     → has (server t.world a).view y ≡ false
-    → (next (server t.world a) ≡ Some y → ⊥)
+    → (successor_of (server t.world a) ≡ Some y → ⊥)
     → numbers (link t.world a y) ≡ []
 nothing_sent t f a y here inside out other =
     no_forwards (link t.world a y) (λ m i e is.
@@ -86,7 +86,7 @@ module _ (t u : Traced) (h : Follows t u) (a : ℕ) (input : Input) (p : Stepped
   linked_other x y other l = record {
     here = rw (← h.later.count) l.here;
     inside = rw (← h.later.count) l.inside;
-    next = ap (λ s. next s) (sym (p.others x other)) ∙ l.next;
+    successor = ap (λ s. successor_of s) (sym (p.others x other)) ∙ l.successor;
     unaware = still_out t u h.later y x l.unaware;
     alive = ap (λ v. has v y) (sym p.failed) ∙ l.alive;
   }
@@ -112,20 +112,20 @@ module _ (t u : Traced) (h : Follows t u) (a : ℕ) (input : Input) (p : Stepped
   forwards_own y f l =
       let o = step (server t.world a) input in
       let inside : y < count t = rw (← h.later.count) l.inside in
-      let follows = next_of (server u.world a) y l.next in
+      let follows = successor_found (server u.world a) y l.successor in
       let above : a < y = omega (arith, follows.above, h.after.framed.id a l.here) in
       let apart : y ≢ a = λ e. omega (arith, e, above) in
-      let to : next o.state ≡ Some y = ap (λ s. next s) (sym p.own) ∙ l.next in
+      let to : successor_of o.state ≡ Some y = ap (λ s. successor_of s) (sym p.own) ∙ l.successor in
       let now : numbers (link u.world a y) ≡ numbers (link t.world a y) ++ numbers (sent_to y o.outputs) =
       ap (λ ms. numbers ms) (p.sent y inside) ∙ brought-append forwarded_number (link t.world a y) (sent_to y o.outputs) in
       let last : last_number (server u.world a).store ≡ last_number o.state.store =
       ap (λ s. last_number s.store) p.own in
-      elim (some_or_not (next (server t.world a)) y) [
+      elim (some_or_not (successor_of (server t.world a)) y) [
         | inl was ↦ (let s = f
             (record {
               here = p.here;
               inside = inside;
-              next = was;
+              successor = was;
               unaware = ap (λ s. has s.view a) (sym (p.others y apart)) ∙ l.unaware;
               alive =
                   ap (λ v. has v y) (sym p.failed) ∙ l.alive;
@@ -156,14 +156,14 @@ module _ (t u : Traced) (h : Follows t u) (a : ℕ) (input : Input) (p : Stepped
             })
       ]
 
-  -- ---- acknowledged numbers
+  -- ---- commit numbers
 
   -- who is linked to its predecessor after another's step was so before it
   pub linked_back_other : (x y : ℕ) → y ≢ a → LinkedBack u.world x y → LinkedBack t.world x y
   linked_back_other x y other l = record {
     here = rw (← h.later.count) l.here;
     inside = rw (← h.later.count) l.inside;
-    previous = ap (λ s. previous s) (sym (p.others y other)) ∙ l.previous;
+    predecessor = ap (λ s. predecessor_of s) (sym (p.others y other)) ∙ l.predecessor;
     unaware = still_out t u h.later x y l.unaware;
     alive = ap (λ v. has v x) (sym p.failed) ∙ l.alive;
   }
@@ -186,16 +186,16 @@ module _ (t u : Traced) (h : Follows t u) (a : ℕ) (input : Input) (p : Stepped
   acks_own x f l =
       let o = step (server t.world a) input in
       let below : x < a =
-      omega (arith, (previous_of (server u.world a) x l.previous).below, h.after.framed.id a l.inside) in
+      omega (arith, (predecessor_found (server u.world a) x l.predecessor).below, h.after.framed.id a l.inside) in
       let apart : x ≢ a = λ e. omega (arith, e, below) in
       let inside : x < count t = rw (← h.later.count) l.here in
-      let from : previous o.state ≡ Some x = ap (λ s. previous s) (sym p.own) ∙ l.previous in
+      let from : predecessor_of o.state ≡ Some x = ap (λ s. predecessor_of s) (sym p.own) ∙ l.predecessor in
       let acked : (server u.world a).store.acked ≡ o.state.store.acked = ap (λ s. s.store.acked) p.own in
       elim (informs.acks x from) [
         | inl old ↦ elim (f (record {
           here = inside;
           inside = p.here;
-          previous = old.0;
+          predecessor = old.0;
           unaware = ap (λ s. has s.view a) (sym (p.others x apart)) ∙ l.unaware;
           alive = ap (λ v. has v x) (sym p.failed) ∙ l.alive;
         })) [

@@ -8,7 +8,7 @@ use Rattle.node.specs.declared.messages.Peer.{Peer}
 use Rattle.node.specs.declared.messages.Output.{Output}
 use Rattle.node.specs.declared.messages.Output.TheVariants.{To, Reply as Replied}
 use Rattle.node.specs.Views.{has}
-use Rattle.node.specs.Servers.{previous, next}
+use Rattle.node.specs.Servers.{predecessor_of, successor_of}
 use Rattle.world.specs.Worlds.{World, server, link}
 use Rattle.node.proofs.Lists.{In}
 
@@ -44,7 +44,7 @@ sent_to y (Replied c reply ∷ os) = sent_to y os
 pub record Linked (w : World) (x y : ℕ) : Type 0 where
   pub here : x < length w.servers
   pub inside : y < length w.servers
-  pub next : next (server w x) ≡ Some y
+  pub successor : successor_of (server w x) ≡ Some y
   pub unaware : has (server w y).view x ≡ false
   pub alive : has w.failed y ≡ false
 
@@ -58,7 +58,7 @@ pub record Stream (w : World) (x y : ℕ) : Type 0 where
 pub record LinkedBack (w : World) (x y : ℕ) : Type 0 where
   pub here : x < length w.servers
   pub inside : y < length w.servers
-  pub previous : previous (server w y) ≡ Some x
+  pub predecessor : predecessor_of (server w y) ≡ Some x
   pub unaware : has (server w x).view y ≡ false
   pub alive : has w.failed x ≡ false
 

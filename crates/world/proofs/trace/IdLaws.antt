@@ -4,11 +4,11 @@ use Rattle.std.specs.Prelude.{not, nat_lt}
 use Rattle.std.proofs.lemmas.Bool.{and_parts, and_from, both_ways, cases_order, ltb-true, lt-ltb, not-true}
 use Rattle.std.proofs.lemmas.Bool.{not_from_false}
 pub use Rattle.node.proofs.ViewLaws.{has-union, has-single_other, has_single, nowhere, named-below, IsNext, next_is}
-pub use Rattle.node.proofs.ViewLaws.{next_within_many, no_next, IsPrevious, previous_is, no_previous}
+pub use Rattle.node.proofs.ViewLaws.{next_within_many, no_next, IsPredecessor, predecessor_is, no_predecessor}
 pub use Rattle.node.proofs.Neighbours.{that_is, is_itself, IsHead, head_is, no_head, heads_agree, head_from, no_tail}
-pub use Rattle.node.proofs.Neighbours.{previous_agree, previous_from, IsFollowing, following_is, no_following}
+pub use Rattle.node.proofs.Neighbours.{predecessor_agree, predecessor_from, IsFollowing, following_is, no_following}
 pub use Rattle.node.proofs.Neighbours.{following_agree, following_from, head_of_is, tail_of_is, at_head, at_tail}
-pub use Rattle.node.proofs.Neighbours.{previous_of, next_of}
+pub use Rattle.node.proofs.Neighbours.{predecessor_found, successor_found}
 use Rattle.node.specs.Views.{has}
 use Rattle.world.specs.Worlds.{World, lives}
 use Rattle.world.proofs.trace.Traces.{last_living}
@@ -26,13 +26,13 @@ living_from w i l h = and_from _ _ (lt-ltb _ _ l) (not_from_false _ h)
 
 -- the last living server lives
 pub last_lives : (w : World) (k : ℕ) → last_living w ≡ Some k → lives w k ≡ true
-last_lives w k h = let r = previous_is w.failed (length w.servers) k h in living_from w k r.below r.out
+last_lives w k h = let r = predecessor_is w.failed (length w.servers) k h in living_from w k r.below r.out
 
 -- a living server is the last one, or stands before it
 pub before_last : (w : World) (i k : ℕ) → lives w i ≡ true → last_living w ≡ Some k → i ≤ k
 before_last w i k h e =
     let p = living_parts w i h in
-    let r = previous_is w.failed (length w.servers) k e in
+    let r = predecessor_is w.failed (length w.servers) k e in
     elim (cases_order i k) [
       | inl same ↦ omega (arith, same)
       | inr other ↦ elim other
@@ -41,7 +41,7 @@ before_last w i k h e =
 
 found_last : (w : World) (i : ℕ) (o : Option ℕ) → lives w i ≡ true → last_living w ≡ o → (k : ℕ) × (o ≡ Some k)
 found_last w i None h e =
-    absurd (let p = living_parts w i h in both_ways _ p.1 (no_previous w.failed (length w.servers) e i p.0))
+    absurd (let p = living_parts w i h in both_ways _ p.1 (no_predecessor w.failed (length w.servers) e i p.0))
 found_last w i (Some k) h e = (k, refl)
 
 -- if one lives there is a last one

@@ -81,7 +81,7 @@ pub record Framed (t : Traced) : Type 0 where
       → slice_get k.calls p ≡ Some call
       → IsCall call
 
--- ---- logs and acknowledged numbers
+-- ---- logs and commit numbers
 
 -- the store is that of this log: its base is made of the entries up to the floor, its rest is what comes after
 pub record Holds (es : List LogEntry) (s : StoreState) : Type 0 where
@@ -92,7 +92,7 @@ pub record Holds (es : List LogEntry) (s : StoreState) : Type 0 where
   pub acked : s.acked ≤ length es
   pub numbered : (k : ℕ) (e : LogEntry) → slice_get es k ≡ Some e → (e.number ≡ k + 1) × IsEntry e
 
--- what a message carries of logs and acknowledged numbers
+-- what a message carries of logs and commit numbers
 abbrev pub Carries : Traced → ℕ → View → Body → Type 0
 Carries t i v (Op id call) = Unit {0}
 Carries t i v (Forward e) =

@@ -16,8 +16,8 @@ use Rattle.node.proofs.Lists.{In}
 use Rattle.node.specs.Actions.{IsTakenIn}
 use Rattle.world.proofs.trace.Traces.{Traced, count}
 use Rattle.world.proofs.trace.Layers.{Lawful, Goes, Carries, IsAddressed}
-use Rattle.world.proofs.lists.Beginnings.{begins-length}
-use Rattle.world.proofs.trace.IdLaws.{tail_of_is, previous_from, is_itself}
+use Rattle.node.proofs.Beginnings.{begins-length}
+use Rattle.world.proofs.trace.IdLaws.{tail_of_is, predecessor_from, is_itself}
 use Rattle.node.proofs.DoneActions.{seat_after}
 use Rattle.node.proofs.DoneSteps.{step_whole, step_done}
 use Rattle.node.proofs.RuleLaws.{lawful-step}
@@ -102,7 +102,7 @@ query_met t i a m ms r key h first is from lawful waits to unaware =
     let informs = informs_step (server t.world a) (From i m) lawful addressed.fit addressed.entry in
     let g : Goes i a m.view (count t) (Query r.ask key) = subst (λ b. Goes i a m.view (count t) b) is addressed.goes in
     let found : tail s.view s.count ≡ Some a = ap (λ n. tail s.view n) chain
-    ∙ previous_from s.view (count t) a
+    ∙ predecessor_from s.view (count t) a
     (record {
       below = addressed.receiver;
       out = ap (λ x. has s.view x) (sym id) ∙ after.sound.outside;

@@ -218,7 +218,7 @@ led_appended c d s e h g t own l = record {
 
     leads_appended : is_head s ≡ true → Leads (appended s e) d
     leads_appended f = elim g.1 [
-      | inr p ↦ absurd (not_first s p.from p.previous f)
+      | inr p ↦ absurd (not_first s p.from p.predecessor f)
       | inl m ↦ elim (cases_eq e.origin s.id)
           [ inl mine ↦ own_entry (l.leads f) mine m | inr other ↦ other_entry (l.leads f) other ]
     ]

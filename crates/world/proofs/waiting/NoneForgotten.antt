@@ -16,7 +16,7 @@ use Rattle.world.specs.Connections.{Connection}
 use Rattle.world.specs.Worlds.{World, server, lives, home_lives, happens, run_of}
 use Rattle.world.specs.Calls.{CallId, IsBegun, IsAnswered, has_living_home}
 use Rattle.world.specs.Quiet.{waits, is_server_quiet, all_below, is_quiet}
-use Rattle.world.proofs.lists.Fronts.{found_below}
+use Rattle.node.proofs.BegunLists.{found_below}
 use Rattle.world.proofs.trace.IdLaws.{living_parts}
 use Rattle.world.proofs.trace.Traces.{Traced, count, outset}
 use Rattle.world.proofs.trace.Layers.{Lawful}

@@ -19,8 +19,8 @@ use Rattle.world.specs.Worlds.{World, server, link}
 use Rattle.node.proofs.Lists.{In}
 use Rattle.world.proofs.trace.Traces.{Traced, log, issued_by, count}
 use Rattle.world.proofs.trace.Layers.{Goes, Carries, Asks, IsAddressed, IsIssued, Lawful, entries_of}
-use Rattle.world.proofs.lists.Beginnings.{begins-take}
-use Rattle.world.proofs.trace.IdLaws.{previous_of, head_from, is_itself}
+use Rattle.node.proofs.Beginnings.{begins-take}
+use Rattle.world.proofs.trace.IdLaws.{predecessor_found, head_from, is_itself}
 use Rattle.node.specs.Actions.{IsTakenIn}
 use Rattle.node.proofs.RuleLaws.{lawful-step}
 use Rattle.node.proofs.DoneRules.{taken_from}
@@ -53,7 +53,7 @@ module _ (t : Traced) (l : Lawful t) (i a : ℕ) (m : Peer) (there : In m (link 
   expected e is u grown same from number own =
       let s = server t.world a in
       let here = addressed.receiver in
-      let p = previous_of u i from in
+      let p = predecessor_found u i from in
       let low : a < 16 = omega (arith, here, l.framed.most) in
       let id : u.id ≡ a = grown.id ∙ l.framed.id a here in
       let out : has s.view i ≡ false = false_from_ne_true _ (λ e. both_ways _ p.out (grown.view i e)) in

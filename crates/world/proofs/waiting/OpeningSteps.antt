@@ -17,7 +17,7 @@ use Rattle.world.specs.Worlds.{server, link}
 use Rattle.node.proofs.Lists.{In, Begins}
 use Rattle.world.proofs.trace.Traces.{Traced, log, count}
 use Rattle.world.proofs.trace.Layers.{Goes, Framed, Lawful, entries_of}
-use Rattle.world.proofs.lists.Beginnings.{begins-take}
+use Rattle.node.proofs.Beginnings.{begins-take}
 use Rattle.world.proofs.trace.IdLaws.{that_is, head_of_is, head_from}
 use Rattle.world.proofs.calls.EntryCounts.{entries-joined}
 use Rattle.world.proofs.streams.Streaming.{sent_to}

@@ -9,7 +9,7 @@ use Rattle.node.specs.declared.messages.Body.TheVariants.{Forward}
 use Rattle.node.specs.declared.messages.Peer.{Peer}
 use Rattle.node.specs.declared.messages.Input.{Input}
 use Rattle.node.specs.declared.messages.Input.TheVariants.{Call as Called, From, Gone}
-use Rattle.node.specs.Servers.{ServerState, seen_of, head_of, is_head, previous}
+use Rattle.node.specs.Servers.{ServerState, seen_of, head_of, is_head, predecessor_of}
 use Rattle.node.specs.Numbering.{appended, entered}
 use Rattle.node.specs.Reading.{asked}
 use Rattle.node.specs.Joining.{widened}
@@ -91,7 +91,7 @@ IsExpected s (From i m) =
     → (u : ServerState)
     → Grown s u
     → IsSame s u
-    → previous u ≡ Some i
+    → predecessor_of u ≡ Some i
     → e.number ≡ last_number u.store + 1
     → IsNextOwn u e
 IsExpected s (Gone j) = Unit {0}
@@ -151,7 +151,7 @@ passed_of c input u e f p =
       came = f _ p.came;
       body = p.body;
       joined = p.joined;
-      previous = p.previous;
+      predecessor = p.predecessor;
       next = p.next;
     }
 
@@ -213,10 +213,10 @@ passed_next : (input : Input) (s u : ServerState) (e : LogEntry)
     → Fresh (Some input) s u
     → IsPassed (Some input) u e
     → IsNextOwn u e
-passed_next input s u e expected g (inl first) p = absurd (not_first u p.from p.previous first)
+passed_next input s u e expected g (inl first) p = absurd (not_first u p.from p.predecessor first)
 passed_next input s u e expected g (inr (inl same)) p =
     let is : input ≡ From p.from p.message = same_Some input _ p.came in
-    subst (λ x. IsExpected s x) is expected e p.body u g same p.previous p.next
+    subst (λ x. IsExpected s x) is expected e p.body u g same p.predecessor p.next
 passed_next input s u e expected g (inr (inr x)) p =
     let one : From x.0 x.1 ≡ From p.from p.message = same_Some _ _ (sym x.3 ∙ p.came) in
     let message : x.1 ≡ p.message = cc in

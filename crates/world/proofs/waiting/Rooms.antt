@@ -11,7 +11,7 @@ use Rattle.world.specs.Worlds.{World, server}
 use Rattle.world.proofs.trace.Traces.{Traced, log, issued_by, count}
 use Rattle.world.proofs.trace.Layers.{Lawful, entries_of}
 use Rattle.world.proofs.calls.EntryCounts.{entries-own, entries-other, entries-none}
-use Rattle.world.proofs.lists.Fronts.{found_below}
+use Rattle.node.proofs.BegunLists.{found_below}
 use Rattle.world.proofs.streams.StreamSteps.{last_is}
 use Rattle.world.proofs.waiting.OpeningInputs.{HasRooms}
 use Rattle.world.proofs.waiting.Totals.{total, total_one, total_two, entries_total}

@@ -5,11 +5,11 @@ use Rattle.versions.proofs.laws.stores_stay_stores.Goals as goal
 pub returns-clause-pushed : goal.returns-clause-pushed
 returns-clause-pushed c = store-pushed
 
--- a store whose acknowledged number rises up to the last one is one
+-- a store whose commit number rises up to the last one is one
 pub returns-clause-acked : goal.returns-clause-acked
 returns-clause-acked c = store-acked
 
--- a store whose floor rises up to the acknowledged number is one
+-- a store whose floor rises up to the commit number is one
 pub returns-clause-dropped : goal.returns-clause-dropped
 returns-clause-dropped c = store-dropped
 

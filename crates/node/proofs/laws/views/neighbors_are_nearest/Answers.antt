@@ -1,4 +1,4 @@
-use Rattle.node.proofs.ViewLaws.{next_is, next_within_many, no_next, previous_is, no_previous}
+use Rattle.node.proofs.ViewLaws.{next_is, next_within_many, no_next, predecessor_is, no_predecessor}
 use Rattle.node.proofs.laws.views.neighbors_are_nearest.Goals as goal
 
 -- what `next_from` finds is the nearest server outside the view from there on
@@ -14,9 +14,9 @@ pub returns-clause-no_next : goal.returns-clause-no_next
 returns-clause-no_next c = no_next
 
 -- the predecessor that is found is the nearest server below outside the view
-pub returns-clause-previous : goal.returns-clause-previous
-returns-clause-previous c = previous_is
+pub returns-clause-predecessor : goal.returns-clause-predecessor
+returns-clause-predecessor c = predecessor_is
 
 -- if no predecessor is found, the view names all servers below
-pub returns-clause-no_previous : goal.returns-clause-no_previous
-returns-clause-no_previous c = no_previous
+pub returns-clause-no_predecessor : goal.returns-clause-no_predecessor
+returns-clause-no_predecessor c = no_predecessor

@@ -16,7 +16,7 @@ returns-in-Some-clause-least c =
     (least_at_front 0 inside.store.floor inside.asks.items inside.next_ask inside.store.acked c.in-Some.read.now
     reads some c.in-Some.ensures.lookup).0
 
--- the lower bound of the first open read is at most the acknowledged number
+-- the lower bound of the first open read is at most the commit number
 pub returns-in-Some-clause-high : goal.returns-in-Some-clause-high
 returns-in-Some-clause-high c =
     let inside = c.self.inside in

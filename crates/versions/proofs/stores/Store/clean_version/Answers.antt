@@ -5,7 +5,7 @@ use Rattle.versions.proofs.Holding.{dirty-held, newest-held, newest-absent, newe
 use Rattle.versions.proofs.Holding.{is_second}
 use Rattle.versions.proofs.stores.Store.clean_version.Goals as goal
 
--- if a clear is above the acknowledged number, the key is dirty
+-- if a clear is above the commit number, the key is dirty
 pub returns-then-is_above-clause-clean : goal.returns-then-is_above-clause-clean
 returns-then-is_above-clause-clean c =
     rw (← c.self.view_is, dirty-held _ _ _ _ _ _ c.self.invariant c.args.key.now)

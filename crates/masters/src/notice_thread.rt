@@ -47,7 +47,7 @@ pub(crate) struct Outcome {
 
 // What the thread has.
 #[derive(Drop)]
-struct Telling {
+struct NoticeThread {
     teller: Teller,
     requests: Receiver<Request>,
     outcomes: Sender<Outcome>,
@@ -55,7 +55,7 @@ struct Telling {
 }
 
 /// Starts the thread, which puts there that something came of a notice. Fails only if memory or threads run out.
-pub(crate) fn start_telling<
+pub(crate) fn start_notice_thread<
     R: Wait
         + Threads
         + Clock
@@ -68,13 +68,13 @@ pub(crate) fn start_telling<
 >(rt: R, alloc: Global, teller: Teller, news_sender: NewsSender) -> Result<Pending, AllocError> {
     let (asks, requests) = bounded(alloc, REQUESTS)?;
     let (outcomes, given) = bounded(alloc, REQUESTS)?;
-    let telling = Telling {
+    let notice_thread = NoticeThread {
         teller,
         requests,
         outcomes,
         news_sender,
     };
-    match thread::spawn(&rt, move || run(&rt, telling)) {
+    match thread::spawn(&rt, move || run(&rt, notice_thread)) {
         Ok(thread) => {
             drop(thread);
             Ok(Pending::new(asks, given))
@@ -88,18 +88,18 @@ pub(crate) fn start_telling<
 
 fn run<R: Wait + Threads + Clock + Net<Listener = TcpListener, Stream = TcpStream> + Sync>(
     rt: &R,
-    telling: Telling,
+    notice_thread: NoticeThread,
 ) {
-    let mut telling = telling;
+    let mut notice_thread = notice_thread;
     for _ in rt.forever() {
-        if !telling.go_on(rt) {
+        if !notice_thread.go_on(rt) {
             return;
         }
     }
     unreachable!()
 }
 
-impl Telling {
+impl NoticeThread {
     // Gives the next notice. It tells whether there was one, and there was memory.
     fn go_on<R: Wait + Threads + Clock + Net<Listener = TcpListener, Stream = TcpStream> + Sync>(
         &mut self,

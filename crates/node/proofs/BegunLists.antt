@@ -4,7 +4,7 @@ use Rattle.std.specs.Prelude.{slice_get}
 use Rattle.std.proofs.lemmas.List.{take_all}
 use Rattle.std.proofs.lemmas.Option.{same_Some}
 use Rattle.node.proofs.Lists.{Begins}
-use Rattle.world.proofs.lists.Beginnings.{begins-take}
+use Rattle.node.proofs.Beginnings.{begins-take}
 
 -- a place below the length has an element
 pub found_below : {X : Type 0} (xs : List X) (k : ℕ) → k < length xs → (x : X) × (slice_get xs k ≡ Some x)
