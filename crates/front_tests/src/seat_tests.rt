@@ -1,5 +1,5 @@
-//! Calls that are open at once at the seats of one pool, of two connections or of one: the server takes them in the order
-//! in which they were sent.
+//! Calls that are open at once at the seats of one pool, of two connections or of one: the server takes them in the
+//! order in which they were sent.
 ghost use Rattle.faces.specs.Histories.{IsLater};
 
 use super::servers::pooled_with;

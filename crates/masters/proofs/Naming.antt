@@ -1,6 +1,6 @@
 -- A line that names a server.
-use Rattle.std.proofs.Common.{◌≡◌, ◌≢◌, ℕ, ◌<◌, ◌+◌, List, ◌∷◌, ◌++◌, sym, ap, ◌∙◌, subst, arith, decimal, ⊎_elim, drop, Bor}
-use Rattle.std.proofs.Common.{Option, None, Some, MatchOption}
+use Rattle.std.proofs.Common.{◌≡◌, ◌≢◌, ℕ, ◌<◌, ◌+◌, List, ◌∷◌, ◌++◌, sym, ap, ◌∙◌, subst, arith, decimal, ⊎_elim}
+use Rattle.std.proofs.Common.{drop, Bor, Option, None, Some, MatchOption}
 use Rattle.std.proofs.lemmas.List.{append_cancel_left}
 use Rattle.std.proofs.lemmas.Bool.Decides.{eqb_tells}
 
@@ -9,7 +9,8 @@ pub word_and_space : (line word after : List ℕ) (r : Option (Bor (List ℕ)))
     → line ≡ word ++ after
     → MatchOption r ((rest : List ℕ) → after ≢ 32 ∷ rest) (λ x. after ≡ 32 ∷ x.now)
     → MatchOption r ((rest : List ℕ) → line ≢ word ++ 32 ∷ rest) (λ x. line ≡ word ++ 32 ∷ x.now)
-word_and_space line word after None cut absent = λ rest e. absent rest (append_cancel_left word after (32 ∷ rest) (sym cut ∙ e))
+word_and_space line word after None cut absent =
+    λ rest e. absent rest (append_cancel_left word after (32 ∷ rest) (sym cut ∙ e))
 word_and_space line word after (Some x) cut found = cut ∙ ap (λ xs. word ++ xs) found
 
 -- the text is none of the numbers so far, and not the next one

@@ -77,8 +77,8 @@ enum Connected {
 }
 
 /// Connects to a port of a host and greets: up to 200 tries, with pauses of 50 milliseconds, and none after 30 seconds.
-/// A greeting that is refused is the last one. It answers `NoHost` if no try found an address, and else `NoAnswer`. Fails
-/// only if memory runs out.
+/// A greeting that is refused is the last one. It answers `NoHost` if no try found an address, and else `NoAnswer`. It
+/// fails only if memory runs out.
 pub fn reach<R: Clock + Net<Listener = TcpListener, Stream = TcpStream>>(
     rt: &R,
     alloc: Global,

@@ -15,8 +15,8 @@ pub fn empty_line(alloc: Global) -> Result<Vec<u8>, AllocError>
     Vec::with_capacity(alloc, KEPT)
 }
 
-/// Puts the next line without its end there, or a beginning of it if it is long. It tells whether there is one: there is
-/// none after the end of input, or after a read that fails.
+/// Puts the next line without its end there, or a beginning of it if it is long. It tells whether there is one. There
+/// is none after the end of input, or after a read that fails.
 pub fn next_line<S: Source>(input: &mut S, line: &mut Vec<u8>) -> Result<bool, AllocError> {
     line.clear();
     for _ in 0..u64::MAX {

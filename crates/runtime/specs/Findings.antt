@@ -2,7 +2,8 @@
 use Rattle.std.specs.Prelude.{◌≡◌, ℕ, true, false}
 use Rattle.rail.specs.Workers.{WorkerState}
 use Rattle.runtime.specs.declared.workers_with_links.TurnOutcome.{TurnOutcome}
-use Rattle.runtime.specs.declared.workers_with_links.TurnOutcome.TheVariants.{Nothing, Message, Stopped, Refused, Closed, End}
+use Rattle.runtime.specs.declared.workers_with_links.TurnOutcome.TheVariants.{Nothing, Message, Stopped, Refused}
+use Rattle.runtime.specs.declared.workers_with_links.TurnOutcome.TheVariants.{Closed, End}
 
 -- What was found at the worker of this server, of its states before and after: a note of an end only if the worker has
 -- stopped, and then the note is of this server; and one whenever a message was taken by a worker that doesn't go on

@@ -9,7 +9,8 @@ loop-id-preserved g c =
     record {
       count = search rules;
       workers = starts_more c.loop-id.id c.args.count c.loop-id.servers.items c.push.new.self.items
-          c.in_ok-server.server c.in_ok-node.node c.loop-id.invariant.workers c.in_ok-node.ensures.which c.in_ok-server.ensures.worker
+          c.in_ok-server.server c.in_ok-node.node c.loop-id.invariant.workers c.in_ok-node.ensures.which
+          c.in_ok-server.ensures.worker
           c.in_ok-push.ensures.items;
       pools = own_more c.loop-id.servers.items c.push.new.self.items c.in_ok-server.server c.loop-id.invariant.pools
           c.in_ok-server.ensures.pools c.in_ok-push.ensures.items;
