@@ -140,7 +140,7 @@ def taken_port(program, first):
         words = [program, "cluster", "--quiet", "--servers", "3", "--port", str(first)]
         run = subprocess.run(words, input=b"", capture_output=True, timeout=LIMIT * 2, check=False)
     faults = differs("the status", str(run.returncode), "1") + differs("the output", run.stdout, b"")
-    return faults + differs("the fault", run.stderr, b"craq: cannot listen on 127.0.0.1 port %d\n" % (first + 1))
+    return faults + differs("the fault", run.stderr, b"craq: cannot listen on 127.0.0.1 port %d: the port is taken\n" % (first + 1))
 
 
 def steered(cluster):
@@ -178,6 +178,7 @@ def lost_answers(cluster):
     faults += differs("the status", str(process.wait(LIMIT)), "0")
     line = ("craq: standard output cannot be written; this and maybe later answers are lost: gone 1; "
             "the cluster goes on\n")
+    line += f'craq: a line of the input is "fail J", with J from 0 to {len(cluster.ports) - 1}\n'
     return faults + ([] if cluster.told() == line else [f"standard error: {cluster.told()!r}"])
 
 
@@ -198,16 +199,31 @@ def memory_runs_out(cluster):
             return [f"no server runs out of memory: {cluster.told()!r}"]
         number = filled(cluster, number)
     resource.prlimit(cluster.process.pid, resource.RLIMIT_AS, (held + 4 * ROOM, resource.RLIM_INFINITY))
-    lines = cluster.told().splitlines()
-    cluster.failed = {int(FALLEN.fullmatch(line)[1]) for line in lines}
-    faults = [] if len(cluster.failed) == len(lines) else [f"standard error: {lines!r}"]
-    for home in set(range(len(cluster.ports))) - cluster.failed:
-        client = Connection(cluster.ports[home])
-        faults += differs(f"a set at server {home}", stored(client, b"last", 1), b"STORED")
-        client.close()
+    faults = []
+    for home in range(len(cluster.ports)):
+        # a line may come after the server has closed its connections
+        if home not in fallen(cluster):
+            try:
+                client = Connection(cluster.ports[home])
+                faults += differs(f"a set at server {home}", stored(client, b"last", 1), b"STORED")
+                client.close()
+            except Closed:
+                end = time.monotonic() + LIMIT
+                while home not in fallen(cluster):
+                    if time.monotonic() > end:
+                        raise
+                    time.sleep(.05)
+    cluster.failed, lines = fallen(cluster), cluster.told().splitlines()
+    if len(cluster.failed) != len(lines):
+        faults.append(f"standard error: {lines!r}")
     for home in cluster.failed:
         faults += is_closed(Connection(cluster.ports[home]))
     return faults
+
+
+def fallen(cluster):
+    """The servers of which a line says that they ran out of memory."""
+    return {int(found[1]) for found in map(FALLEN.fullmatch, cluster.told().splitlines()) if found}
 
 
 def filled(cluster, number):

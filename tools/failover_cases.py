@@ -4,10 +4,11 @@ import re
 import time
 
 from chain_clients import Wrong
-from notice_cases import GONE_STATUS, gone_line, said, stored
-from peer_sockets import MASTER, admitted, gone, noted, received
-from server_checks import differing, untold
-from server_processes import Chain, Process, run_clients
+from notice_cases import GONE_STATUS, LAST, LIVES, gone_line, said, stored
+from peer_sockets import MASTER, Closing, admitted, gone, noted, received
+from ports import free_ports
+from server_checks import differing, differing_at_last, untold
+from server_processes import Chain, Process, allowed, run_clients
 
 BEAT = 50  # milliseconds
 STEP = re.compile(r"\+\d+\.\d{3} s (server \d+: .*)\n")
@@ -15,6 +16,8 @@ STEP = re.compile(r"\+\d+\.\d{3} s (server \d+: .*)\n")
 NOTE = re.compile(r"\+\d+\.\d{3} s (takes reign|followed by reign|server \d+: has a lease of|no server has answered|"
                   r"the master stood still) .*\n")
 MET, LOST, ENDED = "server {}: connected", "server {}: connection lost", "server {}: its process has ended"
+# In so many seconds a master, at its usual beat, opens at most so many connections to one server.
+SPAN, MOST = 2, 12
 NONE_LEFT = "craq: no server is left; start the chain anew, and then this master\n"
 
 
@@ -222,8 +225,8 @@ def unmet_case(_rounds):
         chain.master = chain.another_master()
         time.sleep(10 * BEAT / 1000)
         faults = [f"it prints {step!r}" for step in chain.master.waiting()]
-        faults += differing("its standard error", chain.master.told(),
-                            "craq: server 2 does not answer; if it has failed, type gone 2\n")
+        faults += differing_at_last("its standard error", chain.master.told,
+                                    "craq: server 2 does not answer; if it has failed, type gone 2\n")
         faults += said(chain.master, "gone 2", "gone 2 told 2") + said(chain.master, "gone 3", "bad line")
         for port in chain.ports[:2]:
             faults += stored(port)
@@ -244,7 +247,7 @@ def typed_case(_rounds):
             lines.append(chain.master.step())
         faults = differing("its answers", [line for line in lines if line.startswith("gone")], ["gone 1 told 3\n"])
         faults += differing("its status", chain.servers[1].status(), GONE_STATUS)
-        faults += untold(chain.servers[1], gone_line(1)) + chain.master.is_quiet()
+        faults += untold(chain.servers[1], gone_line(1)) + chain.master.is_quiet(errors=None)
         late = chain.another_master()
         faults += late.is_quiet()
         late.end()
@@ -312,3 +315,65 @@ def anew_case(_rounds):
         return faults + chain.judge_living()
     finally:
         chain.end()
+
+
+def closing_case(_rounds):
+    """A server accepts each connection of a master that watches, and closes it: the master pauses between two. Once it
+    was called gone each line on it is printed once."""
+    peer_port = free_ports(2)
+    closing = Closing(peer_port + 1)
+    master = Process(("master", "--servers", "2", "--peer-port", str(peer_port), "--watch"))
+    try:
+        counts, lines = [], []
+        for typed in ("", "gone 1\n"):
+            before = closing.count
+            master.say(typed)
+            time.sleep(SPAN)
+            counts.append(closing.count - before)
+            while master.has_line():
+                lines.append(step_in(master.line()))
+        faults = [f"{count} connections in {SPAN} s" for count in counts if count > MOST]
+        told = lines.index("gone 1 told 0\n")
+        living, later = ([line for line in part if line in (MET.format(1), LOST.format(1))]
+                         for part in (lines[:told], lines[told:]))
+        faults += [] if 2 < len(living) <= 2 * MOST else [f"before it was called gone: {len(living)} lines"]
+        faults += [] if len(later) == len(set(later)) else [f"after that: {len(later)} lines, {later[:5]}"]
+        return faults
+    finally:
+        master.end()
+        closing.end()
+
+
+class Slow(Watched):
+    """A chain with a master that hears the servers seldom, so that one that lives counts as answering for long."""
+
+    beat, paces = 3000, ("--after", "9000")
+
+
+def warned_case(_rounds):
+    """A line calls a server gone that still answers, a killed one, and the last one: the master says so of the first
+    and the last, and does what the line says. Of a line that means nothing it says what a line is."""
+    chain = Slow()
+    try:
+        chain.master.say("gone 1\ngo 1\n")
+        lines = lines_until(chain.master, "gone 1 told 2\n", "bad line\n", ENDED.format(1))
+        faults = differing("the status of the first", chain.servers[1].status(), GONE_STATUS)
+        chain.kill(2)
+        lines += lines_until(chain.master, "gone 2 told 1\n")
+        chain.master.say("gone 2\ngone 0\n")
+        lines += lines_until(chain.master, "gone 2 told 1\n", "gone 0 told 0\n")
+        faults += differing("the status of the last", chain.servers[0].status(), GONE_STATUS)
+        faults += differing("the status of the master", chain.master.status(), 1)
+        told = [line for line in chain.master.told().splitlines() if "answer that" not in line]
+        return faults + differing("its standard error", told, [
+            LIVES.format(1), allowed("gone", 3).rstrip(), LIVES.format(0), LAST.format(0), NONE_LEFT.rstrip()])
+    finally:
+        chain.end()
+
+
+def lines_until(master, *wanted):
+    """The lines of a master until these have come."""
+    lines = []
+    while not set(wanted) <= set(lines):
+        lines.append(master.step())
+    return lines

@@ -1,6 +1,6 @@
 """Cases of tools/test_servers on greetings: who is refused, what it is told, and when a server is ready."""
 from chain_clients import Connection
-from peer_sockets import ACK, MASTER, accepted, gone, hello, opened, refused, rest
+from peer_sockets import ACK, MASTER, accepted, confirmed, gone, hello, opened, refused, rest
 from ports import free_ports
 from server_checks import Alone, Starting, answered, differing, is_silent, untold
 from server_processes import Chain, Process
@@ -140,7 +140,8 @@ def older_case(_rounds):
 
 
 def ready_case(_rounds):
-    """A server is ready, and serves its first client, once each of its links is accepted in both directions."""
+    """A server is ready, and serves its first client, once each of its links is accepted in both directions, and it was
+    told where each goes on."""
     chain = Starting(3)
     try:
         first, second = chain.peers[1], chain.peers[2]
@@ -148,7 +149,8 @@ def ready_case(_rounds):
         client = Connection(chain.port)
         client.send(b"get a\r\n")
         faults = []
-        steps = (lambda: None, lambda: first.inlet.sendall(accepted()), second.accept, lambda: first.link(0))
+        steps = (lambda: None, lambda: first.met.sendall(accepted()), lambda: first.met.sendall(confirmed()),
+                 second.accept, lambda: first.link(0))
         for step in steps:
             step()
             if not is_silent(client.socket) or chain.server.has_line():

@@ -3,11 +3,11 @@ import random
 import time
 
 from chain_clients import Wrong, living
-from failover_cases import BEAT, ENDED, Watched
+from failover_cases import BEAT, ENDED, Watched, lines_until
 from gateways import HOST, Gateway
 from lease_witnesses import SECOND, SLACK, Witness, late
 from notice_cases import GONE_STATUS, gone_line, stored
-from server_checks import differing, untold
+from server_checks import differing, differing_at_last, untold
 from server_processes import run_clients
 
 # How many seconds leases run, and for how many milliseconds a server may be silent.
@@ -104,14 +104,6 @@ def is_gone(chain, server):
     """What is wrong if a server that was called gone doesn't say so and end."""
     faults = differing("its status", chain.servers[server].status(), GONE_STATUS)
     return faults + untold(chain.servers[server], gone_line(server))
-
-
-def lines_until(master, *wanted):
-    """The lines of a master until these have come."""
-    lines = []
-    while not set(wanted) <= set(lines):
-        lines.append(master.step())
-    return lines
 
 
 def killed(chain, server):
@@ -359,7 +351,7 @@ def fits_case(_rounds):
         witness = Witness(chain, 1)
         witness.set()
         faults = witness.faults(SLACK)
-        return faults + differing("its standard error", sorted(chain.master.told().splitlines()),
-                                  [SHORT.format(i) for i in range(3)])
+        return faults + differing_at_last("its standard error", lambda: sorted(chain.master.told().splitlines()),
+                                          [SHORT.format(i) for i in range(3)])
     finally:
         chain.end()

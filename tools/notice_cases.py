@@ -3,9 +3,12 @@ servers that are called gone and live."""
 
 from chain_clients import Closed, Connection
 from peer_sockets import MASTER, admitted, gone, greeting, noted, received, refused
-from server_checks import Alone, answered, differing, is_closed, untold
+from server_checks import Alone, answered, differing, differing_at_last, is_closed, untold
 from server_processes import Chain, ended
 
+# What a master says before it does what a line says.
+LIVES = "craq: server {} still answers; it is told that it is gone, and ends"
+LAST = "craq: server {} is the last one of the chain; its table ends with it"
 # What a server says that was called gone.
 GONE_STATUS = 4
 
@@ -53,7 +56,7 @@ def masters_case(_rounds):
             faults += stored(port)
         away = "craq: server 2 does not answer; if it has failed, type gone 2\n"
         for i, (master, told) in enumerate(zip(masters, ("", "", away))):
-            faults += differing(f"standard error of master {i}", master.told(), told)
+            faults += differing_at_last(f"standard error of master {i}", master.told, told)
         return faults + chain.judge_living()
     finally:
         for it in [chain, *masters]:
@@ -73,7 +76,7 @@ def unanswered_case(_rounds):
         for port in (chain.ports[0], chain.ports[2], chain.ports[3]):
             faults += stored(port)
         line = "craq: server 3 did not answer that server 1 is gone: look at it, and type gone 1 again\n"
-        return faults + differing("its standard error", chain.master.told(), line) + chain.judge_living()
+        return faults + differing_at_last("its standard error", chain.master.told, line) + chain.judge_living()
     finally:
         chain.end()
 
@@ -146,7 +149,7 @@ def anew_case(_rounds):
             f"started anew; if the chain goes on without it, end it and type gone {i}; if all servers were started "
             "anew, start the master anew" for i in (0, 2)
         ]
-        faults += differing("its standard error", chain.master.told().splitlines(), lines)
+        faults += differing_at_last("its standard error", lambda: chain.master.told().splitlines(), lines)
         chain.master.end()
         chain.master = chain.another_master()
         chain.tell(1)
@@ -201,7 +204,8 @@ def unserved(client):
 
 
 def living_case(_rounds):
-    """A living server is called gone: it says so, serves nobody any more, and ends; the others go on without it."""
+    """A living server is called gone: it says so, serves nobody any more, and ends; the others go on without it. The
+    master says beforehand that it lives, unless it is slow to answer."""
     chain = Chain()
     try:
         client = Connection(chain.ports[1])
@@ -212,6 +216,8 @@ def living_case(_rounds):
         faults += untold(chain.servers[1], gone_line(1)) + unserved(client)
         for port in (chain.ports[0], chain.ports[2]):
             faults += stored(port)
+        if chain.master.told() not in ("", LIVES.format(1) + "\n"):
+            faults.append(f"the master says {chain.master.told()!r}")
         return faults + chain.judge_living()
     finally:
         chain.end()

@@ -1,10 +1,11 @@
 """Cases of tools/test_servers in which the test is the other servers of a chain: which connections a server closes,
 and what it tells of links that break."""
 from chain_clients import Connection
-from peer_sockets import (ACK, EMPTY_VIEW, MASTER, NAME, NUMBER_ONE, OLD_HELLO, OP_INCR, Peer, admitted, gone, greeting,
-                          hello, introduction, refused)
+from peer_sockets import (ACK, ANSWER, EMPTY_VIEW, MASTER, NAME, NUMBER_ONE, OLD_HELLO, OP_INCR, Peer, accepted,
+                          admitted, confirmed, gone, greeting, hello, introduction, linked, received, refused)
 from ports import free_ports
-from server_checks import Alone, Starting, answered, differing, is_closed, link_line, reset, untold, unwritten_line
+from server_checks import (Alone, Starting, answered, differing, differing_at_last, is_closed, link_line, reset,
+                           still_line, untold)
 from server_processes import Process
 
 # Standard error of server 0.
@@ -12,14 +13,14 @@ OLD_LINE = "craq: server 0: a peer speaks format 1, and this server format 2; it
 
 
 def silent_case(_rounds):
-    """The test is the middle of three servers and says nothing: an update waits for it, and is answered once the others
-    are told of its failure."""
+    """The test is the middle of three servers, and says nothing once its links stand: an update waits for it, and is
+    answered once the others are told of its failure."""
     port, peer_port = free_ports(3), free_ports(3)
     middle = Peer(1, 3, peer_port)
     chain = ("--servers", "3", "--peer-port", str(peer_port))
     running = [Process(("server", "--id", str(i), "--port", str(port), *chain)) for i in (0, 2)]
     try:
-        greetings = sorted(middle.accept() for _ in running)
+        greetings = sorted(middle.accept(accepted() + confirmed()) for _ in running)
         faults = differing("what the others say first", greetings, [(0, 3, NAME), (2, 3, NAME)])
         for i in (0, 2):
             middle.link(i)
@@ -51,9 +52,10 @@ def rules_case(_rounds):
         second.sendall(hello(2))
         if not is_closed(second):
             faults.append("a second Hello doesn't close")
-        # Server 1 is heard: server 0, the head, forwards to it what it asks for.
+        # Server 1 is heard: server 0, the head, forwards to it what it asks for, and confirms it.
         first.sendall(OP_INCR)
         faults += differing("the forward", chain.peers[1].receive(12), b"\x02\x02" + EMPTY_VIEW + NUMBER_ONE)
+        faults += differing("the confirmation", received(first, 10), confirmed(len(OP_INCR)))
         first.sendall(gone(2))
         if not is_closed(first):
             faults.append("a Gone from a server doesn't close")
@@ -61,11 +63,17 @@ def rules_case(_rounds):
         master.sendall(ACK)
         if not is_closed(master):
             faults.append("a message from the master doesn't close")
-        faults += answered(chain.peer_port, [("server 1 again", greeting(1, 3), refused(3))])
+        faults += answered(chain.peer_port, [("another start of server 1", greeting(1, 3, start=2), refused(3))])
+        for server, count in ((1, len(OP_INCR)), (2, 0)):
+            again, goes_on = linked(chain.peer_port, server, 3)
+            faults += differing(f"where the link from server {server} goes on", goes_on, count)
+            again.close()
         client = Connection(chain.port)
         faults += differing("a clean read", client.call(b"get k\r\n"), b"END")
-        lines = [line for line in chain.server.told().splitlines() if " was refused: " not in line]
-        return faults + differing("standard error", lines, [
+        def lines():
+            return [line for line in chain.server.told().splitlines() if " was refused: " not in line]
+
+        return faults + differing_at_last("standard error", lines, [
             OLD_LINE,
             link_line(0, 2, "was closed after a second Hello"),
             link_line(0, 1, "was closed after a notice of a failure, which only the master may send"),
@@ -97,32 +105,36 @@ def strange_rows():
 
 
 def broken_case(_rounds):
-    """The test is servers 1 to 5 of six: each link that breaks is told, with the reason."""
+    """The test is servers 1 to 5 of six. A link whose connection ends or breaks goes on with the next one, and nothing
+    is told of it. Each that is closed for what came over it is told, with the reason; and each that stands still."""
     chain = Alone(6)
     try:
         speakers, faults = chain.speakers, []
-        speakers[1].close()
-        faults += untold(chain.server, link_line(0, 1, "ended"))
-        reset(speakers[2])
-        faults += untold(chain.server, link_line(0, 2, "broke"))
-        speakers[3].sendall(b"\x02\x0f")
+        for server, end in ((1, lambda it: it.close()), (2, reset)):
+            speakers[server].sendall(ANSWER)
+            faults += differing("the confirmation", received(speakers[server], 10), confirmed(len(ANSWER)))
+            speakers[server].sendall(ANSWER[:-1])
+            end(speakers[server])
+            speakers[server], count = linked(chain.peer_port, server, 6)
+            faults += differing(f"where the link from server {server} goes on", count, len(ANSWER))
+        speakers[3].sendall(b"\x02\x11")
         faults += untold(chain.server, link_line(0, 3, "was closed after a malformed frame"))
         speakers[4].sendall(OLD_HELLO)
         faults += untold(chain.server, link_line(0, 4, "was closed after a frame of format 1"))
         speakers[5].sendall(introduction(6))
         faults += untold(chain.server, link_line(0, 5, "was closed after a frame that belongs to greetings"))
         master, _failed = admitted(chain.peer_port, MASTER, 6)
-        master.sendall(b"\x02\x0f")
+        master.sendall(b"\x02\x11")
         told = "craq: server 0: the connection of the master was closed after a malformed frame"
         faults += untold(chain.server, told)
         master.close()
-        # The successor closes its end: the updates that are forwarded to it can't be written any more.
-        reset(chain.peers[1].inlet)
+        # The successor can't be reached any more: the updates that are forwarded to it wait.
+        chain.peers[1].leave()
         client = Connection(chain.port)
         client.send(b"set a 0 0 1 noreply\r\n1\r\n" * 1000)
-        faults += untold(chain.server, unwritten_line(0, 1))
+        faults += untold(chain.server, still_line(0, 1))
         lines = chain.server.told().splitlines()
-        return faults + differing("the number of lines", len(lines), 7)
+        return faults + differing("the number of lines", len(lines), 5)
     finally:
         chain.end()
 
@@ -138,7 +150,7 @@ def silenced_case(_rounds):
         client.send(b"set a 0 0 1\r\n1\r\n")
         faults = differing("the forward", chain.peers[2].receive(2), b"\x02\x02")
         chain.speakers[1].close()
-        chain.peers[1].inlet.close()
+        chain.peers[1].leave()
         faults += answered(chain.peer_port, [("an older format", OLD_HELLO, b"")])
         faults += untold(chain.server, OLD_LINE)
         faults += differing("standard error", chain.server.told(), OLD_LINE + "\n")

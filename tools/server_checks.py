@@ -1,5 +1,6 @@
 """What the cases of tools/test_servers and tools/test_leases share: telling what came of a case, comparing, waiting for
 a line, and a server whose peers the test is."""
+import re
 import socket
 import struct
 import time
@@ -31,6 +32,15 @@ def differing(what, seen, wanted):
     return [] if seen == wanted else [f"{what}: {seen!r}, not {wanted!r}"]
 
 
+def differing_at_last(what, seen, wanted):
+    """The same of what is seen when this is called, once it is as wanted or the limit has passed: a program's lines are
+    written by a thread of their own."""
+    end = time.monotonic() + LIMIT
+    while seen() != wanted and time.monotonic() < end:
+        time.sleep(0.02)
+    return differing(what, seen(), wanted)
+
+
 def call_line(other):
     """What the user is to do about a link that is broken."""
     return f"unless server {other} or this one is being stopped, one of the two must be called gone"
@@ -41,9 +51,37 @@ def link_line(server, other, reason):
     return f"craq: server {server}: the link from server {other} {reason}; {call_line(other)}"
 
 
-def unwritten_line(server, other):
-    """A server's line on the link to another that can't be written."""
-    return f"craq: server {server}: the link to server {other} can't be written; {call_line(other)}"
+def still_line(server, other, wait=None):
+    """A server's line on the link to another that has stood still for two seconds at least, and for which so many bytes
+    wait, or any number."""
+    return LineWith(f"craq: server {server}: the link to server {other} stands still for ", " ms, ",
+                    f" bytes wait; {call_line(other)}", second=wait)
+
+
+def goes_line(server, other):
+    """A server's line on the link to another that goes on, and was told to stand still."""
+    return LineWith(f"craq: server {server}: the link to server {other} goes on after ", " ms, and has lost nothing")
+
+
+def milliseconds(line):
+    """Of a line on a link that stands still, or goes on."""
+    return int(line.partition(" ms")[0].split()[-1])
+
+
+class LineWith:
+    """A line that has numbers between these texts: first milliseconds, 2,000 at least, and then this one, if it is
+    given. It is equal to each such line."""
+
+    def __init__(self, *texts, second=None):
+        self.texts, self.second = texts, second
+        self.pattern = re.compile(r"(\d+)".join(map(re.escape, texts)))
+
+    def __eq__(self, line):
+        found = self.pattern.fullmatch(line)
+        return bool(found) and int(found[1]) >= 2000 and self.second in (None, *map(int, found.groups()[1:]))
+
+    def __repr__(self):
+        return repr("N".join(self.texts))
 
 
 def untold(process, line):
@@ -108,12 +146,14 @@ class Starting:
 
 
 class Alone(Starting):
-    """The same server once it is ready; `speakers` are the links of the others to it."""
+    """The same server once it is ready; `speakers` are the links of the others to it. These confirm what it sends,
+    until they leave."""
 
     def __init__(self, servers):
         super().__init__(servers)
         for peer in self.peers.values():
             peer.accept()
+            peer.stay()
         self.speakers = {i: peer.link(0) for i, peer in self.peers.items()}
         if self.server.line() != "ready\n":
             raise Wrong(f"server 0 isn't ready: {self.server.told()!r}")

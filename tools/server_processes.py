@@ -36,10 +36,10 @@ def end_all():
 class Process:
     """A run of the program, with its standard output as lines and its standard error in a file."""
 
-    def __init__(self, words, files=None):
-        """With `files`, that many may be open in it at once."""
+    def __init__(self, words, files=None, errors=None, program=PROGRAM):
+        """With `files`, that many may be open in it at once; with `errors`, that is its standard error."""
         self.words, self.unread = words, b""
-        self.errors = tempfile.TemporaryFile()
+        self.errors, self.passed = tempfile.TemporaryFile() if errors is None else errors, []
 
         def prepare():
             end_with_the_tool()
@@ -47,7 +47,7 @@ class Process:
                 resource.setrlimit(resource.RLIMIT_NOFILE, (files, files))
 
         self.process = subprocess.Popen(
-            [PROGRAM, *words], stdin=subprocess.PIPE, stdout=subprocess.PIPE, stderr=self.errors, preexec_fn=prepare)
+            [program, *words], stdin=subprocess.PIPE, stdout=subprocess.PIPE, stderr=self.errors, preexec_fn=prepare)
         running.append(self)
 
     @property
@@ -77,8 +77,20 @@ class Process:
         self.process.stdin.flush()
 
     def told(self):
-        """What it has written to its standard error."""
-        return os.pread(self.errors.fileno(), 1024 * 1024, 0).decode()
+        """What it has written to its standard error, but for lines that were passed over."""
+        text = os.pread(self.errors.fileno(), 1024 * 1024, 0).decode()
+        for line in self.passed:
+            text = text.replace(line, "", 1)
+        return text
+
+    def pass_over(self, line):
+        """Waits until it has written this line to its standard error, which isn't told then."""
+        end = time.monotonic() + LIMIT
+        while line not in self.told():
+            if time.monotonic() > end:
+                raise Wrong(f"{self.words[0]}: standard error hasn't {line!r}, but {self.told()!r}")
+            time.sleep(0.02)
+        self.passed.append(line)
 
     def status(self):
         """Its exit status, once it has ended by itself."""
@@ -146,6 +158,11 @@ def ended(*words):
         process.end()
 
 
+def allowed(word, servers):
+    """The line of a program on a line of its input that means nothing."""
+    return f'craq: a line of the input is "{word} J", with J from 0 to {servers - 1}\n'
+
+
 class Chain:
     """Server processes of a chain, and a master. The clients of chain_clients run over it."""
 
@@ -179,6 +196,7 @@ class Chain:
         master.say("\n")
         if master.line() != "bad line\n":
             raise Wrong(f"a master ends: {master.told()!r}")
+        master.pass_over(allowed("gone", self.count))
         return master
 
     def kill(self, server):

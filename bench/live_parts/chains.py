@@ -16,9 +16,10 @@ SETTINGS = {"MALLOC_ARENA_MAX": "1", "GLIBC_TUNABLES": "glibc.malloc.hugetlb=1"}
 class Craq(Peer):
     """`craq cluster`: connections go to its servers in turn, the first to the head."""
 
-    def __init__(self, name, program, servers):
+    def __init__(self, name, program, servers, more=()):
+        """`more` are words for it, or for each process."""
         super().__init__(name)
-        self.program, self.servers = program, servers
+        self.program, self.servers, self.more = program, servers, more
 
     def start_craq(self, *words, stdin=subprocess.DEVNULL):
         words = [*self.program, *map(str, words)]
@@ -27,7 +28,7 @@ class Craq(Peer):
     def open(self, _folder):
         self.first = free_ports(self.servers)
         numbers = ["--servers", self.servers, "--port", self.first, *CLIENTS]
-        self.start_craq("cluster", *numbers, stdin=subprocess.PIPE)
+        self.start_craq("cluster", *numbers, *self.more, stdin=subprocess.PIPE)
         self.wait_until_ready()
 
     def wait_until_ready(self):
@@ -41,11 +42,6 @@ class Craq(Peer):
 
 class CraqServers(Craq):
     """A chain of `craq server` processes: connections go to them in turn, the first to the head."""
-
-    def __init__(self, name, program, servers, more=()):
-        """`more` are words for each server."""
-        super().__init__(name, program, servers)
-        self.more = more
 
     def open(self, _folder):
         self.first = free_ports(2 * self.servers)

@@ -1,5 +1,5 @@
-"""What a call costs against the number of keys, of servers, and of updates of one key; how long a flush makes clients
-wait. Each count has fresh servers."""
+"""What a call costs against the number of servers, and of updates of one key; how long a flush makes clients wait. Each
+count has fresh servers. What it costs against the number of keys: many_keys.py."""
 import socket
 import statistics
 import time
@@ -31,16 +31,6 @@ def timed(generator, peer, sets, seconds, *words):
 def medians(loads):
     """The median latency and the processor time of each."""
     return [f"{number:.1f}" for load in loads for number in (load.p50, load.processor)]
-
-
-def keys_table(generator, makers, counts, seconds):
-    table = [["", "keys", "get, p50", "get, processor", "set, p50", "set, processor"]]
-    for name, make in makers.items():
-        for count in counts:
-            with filled(generator, make(), count) as peer:
-                loads = [timed(generator, peer, sets, seconds, "--keys", count) for sets in (0, 1)]
-            table.append([name, f"{count:,}", *medians(loads)])
-    return table
 
 
 def servers_table(generator, program, counts, seconds):

@@ -7,6 +7,9 @@
  * --pids names processes whose processor time is read at both ends of the counted time: all of it, and the part that
  * the system took for them, which is known to a hundredth of a second. --fill sets every key once, in
  * order, over one connection. --canned takes the block of bytes x that echo answers for each value.
+ *
+ * Keys are drawn evenly, or with --zipf E so that the k-th most frequent one comes as often as 1 / k^E says, with E
+ * below 1; the frequent ones are scattered among the others.
  */
 #define _GNU_SOURCE
 #include <arpa/inet.h>
@@ -33,7 +36,7 @@ enum { KEY_DIGITS = 9, MAX_PREFIX = 64, HEAD = 27, FILLER = 4096, PIECE = 1 << 1
 static int ports[MAX_PORTS], port_count, pids[MAX_PIDS], pid_count;
 static int connections = 1, depth = 1, keys = 10000, size = 100, wait_for;
 static bool resp, canned, fill;
-static double seconds, warm_up, set_part = 0.1, patience = 20;
+static double seconds, warm_up, set_part = 0.1, patience = 20, zipf;
 static uint64_t limit, seed = 1;
 static const char *prefix = "key";
 static char *filler, *block;
@@ -122,6 +125,40 @@ static uint64_t draw(uint64_t *state)
     return *state;
 }
 
+/* In [0, 1). */
+static double draw_part(uint64_t *state) { return (double)(draw(state) >> 11) / 9007199254740992.0; }
+
+/* What turns an even draw into a rank: the sum of 1 / k^zipf over all keys, and what Gray's method derives from it
+ * ("Quickly generating billion-record synthetic databases", 1994). */
+static struct { double sum, first_two, stretch, power; } ranks;
+
+static void make_ranks(void)
+{
+    for (int k = keys; k > 0; k--)
+        ranks.sum += pow(k, -zipf);
+    ranks.first_two = 1 + pow(.5, zipf);
+    ranks.stretch = (1 - pow(2. / keys, 1 - zipf)) / (1 - ranks.first_two / ranks.sum);
+    ranks.power = 1 / (1 - zipf);
+}
+
+/* From 0, the most frequent one. */
+static uint64_t draw_rank(uint64_t *state)
+{
+    double drawn = draw_part(state), place = drawn * ranks.sum;
+    if (place < 1)
+        return 0;
+    if (place < ranks.first_two)
+        return 1;
+    return (uint64_t)(keys * pow(ranks.stretch * (drawn - 1) + 1, ranks.power));
+}
+
+/* Each rank has a key of its own, since the factor is a prime above any number of keys. */
+static int draw_key(uint64_t *state)
+{
+    uint64_t drawn = zipf > 0 ? draw_rank(state) * 2654435761u : draw(state);
+    return (int)(drawn % (uint64_t)keys);
+}
+
 static int key_length(void) { return (int)strlen(prefix) + KEY_DIGITS; }
 
 static int put_key(char *to, int key) { return sprintf(to, "%s%09d", prefix, key); }
@@ -167,13 +204,14 @@ static bool value_is_whole(const char *value, size_t length, int key)
 
 enum { STEP_BITS = 6, STEPS = 1 << STEP_BITS, BUCKETS = (64 - STEP_BITS + 1) << STEP_BITS };
 
-struct histogram { uint64_t count, buckets[BUCKETS]; };
+struct histogram { uint64_t count, longest, buckets[BUCKETS]; };
 
 static void add_time(struct histogram *h, uint64_t ns)
 {
     int power = ns < STEPS ? 0 : 63 - __builtin_clzll(ns) - STEP_BITS + 1;
     h->buckets[power ? ((uint64_t)power << STEP_BITS) + ((ns >> (power - 1)) & (STEPS - 1)) : ns]++;
     h->count++;
+    h->longest = ns > h->longest ? ns : h->longest;
 }
 
 static void add_histogram(struct histogram *to, const struct histogram *from)
@@ -181,6 +219,7 @@ static void add_histogram(struct histogram *to, const struct histogram *from)
     for (int i = 0; i < BUCKETS; i++)
         to->buckets[i] += from->buckets[i];
     to->count += from->count;
+    to->longest = from->longest > to->longest ? from->longest : to->longest;
 }
 
 /* This quantile in microseconds: the least value of its bucket. */
@@ -331,8 +370,8 @@ static void push_more(struct worker *w, struct connection *c, uint64_t t)
         return;                         /* what is still to be sent goes first */
     while (has_place(c) && t < counted_to && w->left) {
         w->left--;
-        double drawn = (double)(draw(&w->random) >> 11) / 9007199254740992.0;
-        push(w, c, drawn < set_part ? SET : GET, (int)(draw(&w->random) % (uint64_t)keys), t);
+        enum kind kind = draw_part(&w->random) < set_part ? SET : GET;
+        push(w, c, kind, draw_key(&w->random), t);
     }
 }
 
@@ -593,7 +632,7 @@ static void sleep_until(uint64_t t)
 static const char *const USAGE =
     "load --ports P[,P...] (--seconds S | --count N | --fill) [--connections 1] [--depth 1] [--keys 10000]\n"
     "     [--size 100] [--sets 0.1] [--warm-up S] [--prefix key] [--seed 1] [--pids P[,P...]] [--patience 20]\n"
-    "     [--canned] [--resp [--wait-for N]]";
+    "     [--zipf E] [--canned] [--resp [--wait-for N]]";
 
 static int numbers(char *text, int *to, int most)
 {
@@ -610,7 +649,7 @@ static void read_words(int argc, char **argv)
         {"count", 1, 0, 'n'}, {"warm-up", 1, 0, 'w'}, {"keys", 1, 0, 'k'}, {"size", 1, 0, 'v'},
         {"sets", 1, 0, 'r'}, {"resp", 0, 0, 'R'}, {"wait-for", 1, 0, 'W'}, {"prefix", 1, 0, 'x'},
         {"seed", 1, 0, 'S'}, {"patience", 1, 0, 'T'}, {"pids", 1, 0, 'P'}, {"canned", 0, 0, 'C'},
-        {"fill", 0, 0, 'f'}, {0, 0, 0, 0}};
+        {"fill", 0, 0, 'f'}, {"zipf", 1, 0, 'z'}, {0, 0, 0, 0}};
     for (int o; (o = getopt_long(argc, argv, "", options, NULL)) != -1;) {
         switch (o) {
         case 'p': port_count = numbers(optarg, ports, MAX_PORTS); break;
@@ -630,12 +669,13 @@ static void read_words(int argc, char **argv)
         case 'T': patience = atof(optarg); break;
         case 'C': canned = true; break;
         case 'f': fill = true; break;
+        case 'z': zipf = atof(optarg); break;
         default: stop("usage: %s", USAGE);
         }
     }
     bool counts = port_count && connections >= 1 && connections <= MAX_CONNECTIONS && depth >= 1 && depth <= MAX_DEPTH;
     bool items = keys >= 1 && keys <= 999999999 && size >= 1 && size <= 1 << 20 && strlen(prefix) <= MAX_PREFIX;
-    if (!counts || !items || patience < 1 || !(fill || limit || seconds > 0))
+    if (!counts || !items || patience < 1 || zipf < 0 || zipf >= 1 || !(fill || limit || seconds > 0))
         stop("usage: %s", USAGE);
 }
 
@@ -661,9 +701,10 @@ static void report(const struct worker *workers, int count, double took, struct 
         add_histogram(&sum->times, &workers[i].times);
     }
     const struct histogram *times = &sum->times;
-    printf("{\"seconds\": %.6f, \"gets\": %llu, \"sets\": %llu, \"p50\": %.2f, \"p99\": %.2f, \"p999\": %.2f, ", took,
-           (unsigned long long)sum->gets, (unsigned long long)sum->sets, quantile(times, .5), quantile(times, .99),
-           quantile(times, .999));
+    printf("{\"seconds\": %.6f, \"gets\": %llu, \"sets\": %llu, ", took, (unsigned long long)sum->gets,
+           (unsigned long long)sum->sets);
+    printf("\"p50\": %.2f, \"p99\": %.2f, \"p999\": %.2f, \"longest\": %.2f, ", quantile(times, .5),
+           quantile(times, .99), quantile(times, .999), (double)times->longest / 1000.0);
     printf("\"processor\": %.6f, \"system\": %.6f, \"errors\": %llu, \"first_error\": \"%s\"}\n",
            (double)used.all / 1e9, (double)used.system / 1e9, (unsigned long long)sum->errors, sum->first_error);
     exit(sum->errors ? 1 : 0);
@@ -674,6 +715,8 @@ int main(int argc, char **argv)
     read_words(argc, argv);
     signal(SIGPIPE, SIG_IGN);
     make_filler();
+    if (zipf > 0)
+        make_ranks();
     int threads = fill || connections == 1 ? 1 : 2, next = 0;
     struct worker *workers = room((size_t)threads * sizeof *workers);
     struct connection *all = room((size_t)connections * sizeof *all);

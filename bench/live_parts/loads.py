@@ -10,7 +10,7 @@ PATIENCE = 180  # seconds for one run; and more for one of a number of calls, by
 SLOWEST = 2_000
 
 # Calls a second, latencies, and the processor time a call with that part of it that the system took, in microseconds.
-Load = namedtuple("Load", "rate p50 p99 p999 processor system")
+Load = namedtuple("Load", "rate p50 p99 p999 longest processor system")
 
 
 class Failed(Exception):
@@ -31,12 +31,12 @@ class Generator:
     def __init__(self, folder):
         self.program, self.runs, self.replies, self.seed = compiled("load", folder), 0, 0, 0
 
-    def run(self, peer, size, *words, calls=0):
-        """One run against this peer, of this many calls or as the words say. Keys of different sizes have different
-        prefixes, so that both can be there."""
+    def run(self, peer, size, *words, calls=0, under=()):
+        """One run against this peer, of this many calls or as the words say; `under` is a command that starts it. Keys
+        of different sizes have different prefixes, so that both can be there."""
         self.seed += 1
         own = ["--size", size, "--prefix", f"{size:04}", "--seed", self.seed, "--count", calls]
-        words = [self.program, *peer.words(size), *map(str, [*own, *words])]
+        words = [*under, self.program, *peer.words(size), *map(str, [*own, *words])]
         try:
             done = subprocess.run(words, stdout=subprocess.PIPE, text=True, timeout=PATIENCE + calls / SLOWEST)
         except subprocess.TimeoutExpired:
@@ -50,7 +50,7 @@ class Generator:
         self.runs += 1
         self.replies += count
         used = [told[field] / count * 1e6 if count else 0.0 for field in ("processor", "system")]
-        return Load(count / told["seconds"], told["p50"], told["p99"], told["p999"], *used)
+        return Load(count / told["seconds"], *(told[field] for field in ("p50", "p99", "p999", "longest")), *used)
 
     def fill(self, peer, size, keys):
         return self.run(peer, size, "--fill", "--keys", keys, calls=keys)

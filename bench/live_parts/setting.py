@@ -9,11 +9,19 @@ import time
 TOP = os.path.dirname(os.path.dirname(os.path.dirname(os.path.abspath(__file__))))
 # Of a machine that is called idle: the greatest load average at the start, and the most processors that others use.
 IDLE = .5
+# Of the launcher's two programs, the proved one.
+os.environ["CRAQ_PROVED"] = "1"
 
 
 def program():
     """The built program's command line."""
     return checked([os.environ.get("CRAQ", os.path.join(TOP, "craq"))])
+
+
+def binary():
+    """The built program's own file, which the launcher starts."""
+    program()
+    return os.environ.get("CRAQ", os.path.join(TOP, "crates", "craq", "out", "craq"))
 
 
 def checked(command):

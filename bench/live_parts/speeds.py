@@ -5,14 +5,27 @@ from collections import defaultdict, namedtuple
 
 from live_parts.peers import SIZES, running
 
-Case = namedtuple("Case", "mix size connections depth")
-
 MIXES = {"get": 0, "set": 1, "1 write in 10": .1}
 CONNECTIONS = [1, 4, 16]
 DEPTHS = [1, 16]
 KEYS = 10_000
 # Many connections, as web services hold them: these runs are four times as long.
 MANY = [100, 1000]
+
+
+class Case(namedtuple("Case", "mix size connections depth")):
+    """What is run: which calls, how many bytes of data, and over how many connections with how many calls in flight."""
+
+    head = ["calls", "bytes", "connections", "in flight"]
+
+    def texts(self):
+        return [self.mix, f"{self.size}", f"{self.connections}", f"{self.depth}"]
+
+    def words(self):
+        """What the load generator has to be told, but for how long it runs."""
+        return ["--sets", MIXES[self.mix], "--connections", self.connections, "--depth", self.depth, "--keys", KEYS]
+
+
 CASES = [Case(mix, size, connections, depth)
          for mix in MIXES for size in SIZES for depth in DEPTHS for connections in CONNECTIONS]
 CASES += [Case("1 write in 10", 100, connections, 1) for connections in MANY]
@@ -71,9 +84,9 @@ class Course:
                 if peer.name != "echo":
                     self.generator.fill(peer, size, KEYS)
 
-    def go_round(self, peers, turn):
-        """Each peer has each case once, in an order that goes round."""
-        for place, case in enumerate(self.cases):
+    def go_round(self, peers, turn, cases=None):
+        """Each peer has each of these cases once, in an order that goes round; all cases if none are given."""
+        for place, case in enumerate(cases or self.cases):
             first = (turn + place) % len(peers)
             for peer in peers[first:] + peers[:first]:
                 if self.is_over():
@@ -82,8 +95,8 @@ class Course:
 
     def one_run(self, peer, case):
         seconds = self.seconds * (4 if case.connections in MANY else 1)
-        words = ["--sets", MIXES[case.mix], "--connections", case.connections, "--depth", case.depth, "--keys", KEYS]
-        return self.generator.run(peer, case.size, *words, "--seconds", seconds, "--warm-up", max(.01, seconds / 8))
+        words = ["--seconds", seconds, "--warm-up", max(.01, seconds / 8)]
+        return self.generator.run(peer, case.size, *case.words(), *words)
 
 
 def measure(course, peers, rounds):

@@ -1,5 +1,5 @@
 """What was measured, as plain text and as Markdown: tables are lists of rows of texts, the first row the head."""
-from live_parts.speeds import quartiles
+from live_parts.speeds import Case, quartiles
 
 
 def plain(table):
@@ -12,11 +12,8 @@ def markdown(table):
     return "\n".join([lines[0], "|" + "---|" * len(table[0]), *lines[1:]])
 
 
-def case_texts(case):
-    return [case.mix, f"{case.size}", f"{case.connections}", f"{case.depth}"]
-
-
-CASE_HEAD = ["calls", "bytes", "connections", "in flight"]
+def head_of(cases):
+    return next(iter(cases), Case).head
 
 
 def short(number):
@@ -42,21 +39,21 @@ def ratio_table(samples, cases, names, base, field="rate", shown=short):
     """The base's median, and the ratio of each other peer to it: the median, and the quartiles."""
     unit, form = COMPARED[field]
     others = [name for name in names if name != base]
-    table = [[*CASE_HEAD, f"{base}, {unit}", *others]]
+    table = [[*head_of(cases), f"{base}, {unit}", *others]]
     for case in cases:
         if samples.has(case, base):
             ratios = [samples.ratios(case, name, base, field) for name in others]
-            table.append([*case_texts(case), form.format(samples.median(case, base, field)),
+            table.append([*case.texts(), form.format(samples.median(case, base, field)),
                           *(ratio_text(each, shown) if each else "" for each in ratios)])
     return table
 
 
 def field_table(samples, cases, names, shown):
     """Medians of each peer."""
-    table = [CASE_HEAD + list(names)]
+    table = [[*head_of(cases), *names]]
     for case in cases:
         if any(samples.has(case, name) for name in names):
-            table.append(case_texts(case) + [shown(case, name) if samples.has(case, name) else "" for name in names])
+            table.append([*case.texts(), *(shown(case, name) if samples.has(case, name) else "" for name in names)])
     return table
 
 

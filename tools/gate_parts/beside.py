@@ -1,5 +1,5 @@
-"""A command that runs beside what is left of the gate, once the program and what tries it are proved and built: the tools'
-tests."""
+"""A command that runs beside what is left of the gate, once the program and what tries it are proved and built: the
+tools' tests."""
 import os
 import subprocess
 import tempfile
@@ -10,9 +10,9 @@ from meter import METER
 # Its task among those of the crates, and how much memory it may take, in bytes.
 KEY = ("tools", "tools")
 NEEDS = 2e9
-# What it tries: the program, and the tests that tools/refused_steps runs. In a repository without them, the command waits
-# for each crate's proof.
-TRIED = (("craq", "proof"), ("integration", "tests"))
+# What it tries: the program, and the tests that tools/refused_steps and tools/fail_alloc run. In a repository without
+# them, the command waits for each crate's proof.
+TRIED = (("craq", "proof"), ("integration", "tests"), ("thread_tests", "tests"))
 
 
 class Beside:

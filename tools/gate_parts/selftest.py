@@ -1,8 +1,8 @@
 """What the gate must refuse, and what it must pass: `tools/gate --selftest`.
 
-Throw-away repositories of one small crate go through the whole gate; made-up outputs of a check go through the reading of
-a batch alone; repositories with a change are looked up in the record of edits that was made without it, or of their last
-commit."""
+Throw-away repositories of one small crate go through the whole gate; made-up outputs of a check go through the reading
+of a batch alone; repositories that name other sources than they have end it; repositories with a change are looked up
+in the record of edits that was made without it, or of their last commit."""
 import concurrent.futures
 import contextlib
 import os
@@ -282,6 +282,28 @@ READINGS = {
 }
 
 
+# --- the sum of the proved sources
+
+
+def of_other_sources(named):
+    """Whether a gate ends at once in a repository whose tools/proved_sources has this, or isn't there."""
+    with tempfile.TemporaryDirectory(prefix="gate-sources-") as room:
+        for it in ("crates/craq", "tools"):
+            os.makedirs(f"{room}/{it}")
+        shutil.copy(f"{os.path.dirname(GATE)}/sources", f"{room}/tools/sources")
+        append(f"{room}/crates.txt", "")
+        if named is not None:
+            append(f"{room}/tools/proved_sources", named)
+        ran = subprocess.run([sys.executable, GATE], cwd=room, capture_output=True, text=True)
+        return ran.returncode == 1 and ran.stdout.startswith("gate: FAILED: tools/proved_sources")
+
+
+SOURCES = {
+    "tools/proved_sources has another sum": lambda: of_other_sources(f"{'0' * 64}  -\n"),
+    "tools/proved_sources isn't there": lambda: of_other_sources(None),
+}
+
+
 # --- the record of edits
 
 
@@ -410,6 +432,7 @@ def selftest(words):
     failed, number = 0, os.environ.get("RT_JOBS", "")
     side_by_side = int(number) if number.isdigit() and int(number) else rt.processors()
     readings = [("reading", name, call) for name, call in READINGS.items() if is_chosen(name)]
+    readings += [("sources", name, call) for name, call in SOURCES.items() if is_chosen(name)]
     readings += [("record", name, call) for name, call in RECORDS.items() if is_chosen(name)]
     for of, name, call in readings:
         is_well = bool(call())

@@ -21,6 +21,10 @@ peer_port_rule = required_rule (codes "peer-port") (Signed (pos 1) (pos 65520))
 abbrev pub lease_rule : Rule
 lease_rule = number_rule (codes "lease") (Signed (pos 1) (pos 3600))
 
+-- `--link-timeout MS`
+abbrev pub link_timeout_rule : Rule
+link_timeout_rule = number_or_rule (codes "link-timeout") (Signed (pos 10) (pos 3600000)) (codes "1000")
+
 -- `--watch`, `--beat MS` and `--after MS`
 abbrev pub watch_rule : Rule
 watch_rule = flag_rule (codes "watch")
@@ -54,7 +58,7 @@ abbrev pub server_app : App
 server_app =
     let chain = with_rule (with_rule (new_app (codes "server")) id_rule) servers_rule in
     let listening = with_rule (with_rule chain port_rule) peer_port_rule in
-    with_hosts (with_serving (with_rule listening lease_rule))
+    with_hosts (with_serving (with_rule (with_rule listening lease_rule) link_timeout_rule))
 
 -- `master` with its options
 abbrev pub master_app : App
@@ -75,6 +79,7 @@ pub record NamesServer (found : Option (Text × List Row)) (numbers : ServerNumb
   pub connections : GivesNumber 1 65536 (codes "connections") rows numbers.connections
   pub memory : GivesNumberIfAny 1 1048576 (codes "memory") rows numbers.memory
   pub lease : GivesNumberIfAny 1 3600 (codes "lease") rows numbers.lease
+  pub link_timeout : GivesNumber 10 3600000 (codes "link-timeout") rows numbers.link_timeout
   pub quiet : GivesFlag (codes "quiet") rows numbers.quiet
 
 -- the command that was found is `master`, with these numbers

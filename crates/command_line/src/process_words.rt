@@ -4,7 +4,8 @@ ghost use Rattle.clap.specs.Words.{subcommand_rows_of};
 ghost use Rattle.command_line.specs.Options.{HasRule, ReadsAs};
 ghost use Rattle.command_line.specs.ProcessWords.{AddsHosts, NamesHosts, NamesMaster, NamesServer};
 ghost use Rattle.command_line.specs.ProcessWords.{address_rule, after_rule, beat_rule, chain_rule, id_rule};
-ghost use Rattle.command_line.specs.ProcessWords.{lease_rule, master_app, peer_port_rule, peers_rule, server_app};
+ghost use Rattle.command_line.specs.ProcessWords.{lease_rule, link_timeout_rule, master_app, peer_port_rule};
+ghost use Rattle.command_line.specs.ProcessWords.{peers_rule, server_app};
 ghost use Rattle.command_line.specs.ProcessWords.{watch_rule};
 ghost use Rattle.command_line.specs.declared.processes.Hosts.{Hosts};
 ghost use Rattle.command_line.specs.declared.processes.MasterNumbers.{MasterNumbers};
@@ -35,6 +36,7 @@ pub fn server_numbers<'a>(matches: &ArgMatches<'a>) -> Option<ServerNumbers>
     let connections = middle_number(given, "connections", 1, 65_536)?;
     let memory = number_if_any(given, "memory", 1, 1_048_576)?;
     let lease = number_if_any(given, "lease", 1, 3_600)?;
+    let link_timeout = middle_number(given, "link-timeout", 10, 3_600_000)?;
     let quiet = flag_given(given, "quiet");
     Some(ServerNumbers {
         id,
@@ -46,6 +48,7 @@ pub fn server_numbers<'a>(matches: &ArgMatches<'a>) -> Option<ServerNumbers>
         connections,
         memory,
         lease,
+        link_timeout,
         quiet,
     })
 }
@@ -110,7 +113,8 @@ pub fn server_parser<'a>(alloc: Global) -> Result<Parser<'a>, AllocError>
     let port = and_option(servers, port_option(alloc));
     let listening = and_option(port, peer_port_option(alloc));
     let leased = and_option(listening, lease_option(alloc));
-    let serving = with_serving(alloc, leased?)?;
+    let timed = and_option(leased, link_timeout_option(alloc));
+    let serving = with_serving(alloc, timed?)?;
     with_hosts(alloc, serving)
 }
 
@@ -161,6 +165,15 @@ fn lease_option<'a>(alloc: Global) -> Arg<'a>
     let help = "How long its lease runs; without one it is never called gone for its silence alone";
     let numbers = value_parser!(u32).range(1..=3_600);
     number_option(alloc, "lease", "SECONDS", help, numbers)
+}
+
+fn link_timeout_option<'a>(alloc: Global) -> Arg<'a>
+    ensures { HasRule link_timeout_rule result }
+{
+    let help =
+        "How many milliseconds a link to another server may take nothing until it is opened anew";
+    let numbers = value_parser!(u32).range(10..=3_600_000);
+    number_option(alloc, "link-timeout", "MS", help, numbers).default_value("1000")
 }
 
 fn watch_option<'a>(alloc: Global) -> Arg<'a>

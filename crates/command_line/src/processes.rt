@@ -21,6 +21,9 @@ pub struct ServerNumbers {
     pub memory: Option<u32>,
     /// For how many seconds its lease runs: 1 to 3,600; None: it has no lease, and isn't called gone for its silence.
     pub lease: Option<u32>,
+    /// For how many milliseconds a link to another server may take nothing, until its connection is opened anew: 10 to
+    /// 3,600,000.
+    pub link_timeout: u32,
     /// Whether the line at the start is left out.
     pub quiet: bool,
 }

@@ -109,7 +109,7 @@ fn other_words_are_refused(rt: HostRuntime) -> Result<(), Fail> {
     Ok(())
 }
 
-// Lines with a number out of its range, by their place. There are 11.
+// Lines with a number out of its range, by their place. There are 13.
 fn numbers_out_of_range(place: usize) -> &'static str {
     match place {
         0 => "craq|cluster|--servers|17|--port|4000",
@@ -121,14 +121,16 @@ fn numbers_out_of_range(place: usize) -> &'static str {
         6 => "craq|cluster|--servers=3|--port=4000|--memory=1048577",
         7 => "craq|server|--id=0|--servers=3|--port=4000|--peer-port=5000|--lease=0",
         8 => "craq|server|--id=0|--servers=3|--port=4000|--peer-port=5000|--lease=3601",
-        9 => "craq|master|--servers=3|--peer-port=5000|--after=1",
+        9 => "craq|server|--id=0|--servers=3|--port=4000|--peer-port=5000|--link-timeout=9",
+        10 => "craq|server|--id=0|--servers=3|--port=4000|--peer-port=5000|--link-timeout=3600001",
+        11 => "craq|master|--servers=3|--peer-port=5000|--after=1",
         _ => "craq|master|--servers=3|--peer-port=5000|--after=3600001",
     }
 }
 
 #[test]
 fn numbers_out_of_range_are_refused(rt: HostRuntime) -> Result<(), Fail> {
-    for place in 0..11 {
+    for place in 0..13 {
         assert!(rt;
             is_refused(
                 rt.alloc(),
@@ -204,7 +206,7 @@ fn asks_for_server(alloc: Global, line: &str, wanted: &ServerNumbers) -> bool {
 fn words_tell_a_server(rt: HostRuntime) -> Result<(), Fail> {
     let line =
         "craq|server|--id=2|--servers=3|--port=4000|--peer-port|5000|--peers|a,b,c|--connections=9|--lease=5|--quiet";
-    let numbers = ServerNumbers {
+    let mut numbers = ServerNumbers {
         id: 2,
         servers: 3,
         port: 4000,
@@ -214,8 +216,15 @@ fn words_tell_a_server(rt: HostRuntime) -> Result<(), Fail> {
         connections: 9,
         memory: None,
         lease: Some(5),
+        link_timeout: 1_000,
         quiet: true,
     };
+    assert!(rt; asks_for_server(rt.alloc(), line, &numbers));
+    let line =
+        "craq|server|--id=2|--servers=3|--port=4000|--peer-port=5000|--peers=a,b,c|--connections=9|--link-timeout=10";
+    numbers.lease = None;
+    numbers.link_timeout = 10;
+    numbers.quiet = false;
     assert!(rt; asks_for_server(rt.alloc(), line, &numbers));
     Ok(())
 }

@@ -5,6 +5,7 @@ mod faults;
 mod program;
 mod scenarios;
 mod tellings;
+mod unused_options;
 
 pub use command_line::{DONE, FAILED, MEMORY, USAGE};
 pub use faults::ScenarioFault;

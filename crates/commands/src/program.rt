@@ -11,6 +11,7 @@ ghost use Rattle.commands.specs.declared.faults.ScenarioFault.TheVariants.{Run};
 
 use crate::faults::{ScenarioFault, write_parts};
 use crate::scenarios::scenario;
+use crate::unused_options::refuse_unused;
 use command_line::{Command, DONE, MEMORY, Print, USAGE, UsageFault, VERSION, read_command};
 use ends::{Sink, TrackedReader, WriteFault, write_all};
 use std::io::ErrorKind;
@@ -62,14 +63,15 @@ pub fn run<R: Files + Input + AllocGlobal, W: Sink, X: Sink>(
     }
 }
 
-/// What the program's arguments ask for.
+/// What the program's arguments ask for. They are refused too if they give an option that changes nothing.
 pub fn read_arguments<R: Env + AllocGlobal>(rt: &R) -> Result<Command, UsageFault> {
     let arguments: Vec<String> = arguments(rt)?;
     let words: Vec<&str> = arguments
         .iter()
         .map(|word| word.as_str())
         .collect(rt.alloc())?;
-    read_command(rt.alloc(), words.as_slice())
+    let command = read_command(rt.alloc(), words.as_slice())?;
+    refuse_unused(rt.alloc(), command, words.as_slice())
 }
 
 fn arguments<R: Env + AllocGlobal>(rt: &R) -> Result<Vec<String>, UsageFault> {

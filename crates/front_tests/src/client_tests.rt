@@ -3,10 +3,12 @@ ghost use Rattle.std.specs.Prelude.{IfSome};
 ghost use Rattle.faces.specs.Histories.{IsLater};
 
 use super::servers::pooled;
-use io_threads::{Client, Pause, Pooled, Ready};
-use leases::{AnyEnd, Lease, SharedLease, Term, nanoseconds_of};
+use in_process_links::InProcessLinks;
+use io_threads::{Client, Heard, Pooled, Ready};
+use leases::{AnyEnd, Lease, Order, Reading, SharedLease, Term};
 use rail::Worker;
-use seats::{InProcessLinks, Mark, OutputPermit, SeatPool};
+use seats::{Pause, SeatPool};
+use server_guards::{Mark, OutputPermit};
 use std::alloc::Global;
 use std::io;
 use std::io::{Error, ErrorKind, Read, Write};
@@ -120,7 +122,7 @@ fn open_alone<R: Wait + Copy + Drop>(
         return None;
     };
     let mut client = Client::new(alloc, socket, &pool);
-    client.is_ready_for(Ready {
+    client.note_ready(Ready {
         reading: true,
         writing: true,
         ended: true,
@@ -157,18 +159,19 @@ impl<R: Wait + Clock + Copy + Drop> Beside for Alone<'_, R> {
 
     fn go(&mut self) -> Pause {
         let mut piece = [0u8; 64];
-        self.client.go(
+        let progress = self.client.serve(
             &self.rt,
             &mut self.pool,
             piece.as_mut_slice(),
             &self.output_permit,
-        )
+        );
+        progress.pause
     }
 
     fn hears(&mut self) -> bool {
         let mut links = InProcessLinks::new(self.rt, 0, Vec::new(self.alloc));
         matches!(self.worker.turn_if_any(&mut links), Ok(Some(_)))
-            && self.client.hear(&self.rt, &mut self.pool) == Some(true)
+            && self.client.receive_replies(&self.rt, &mut self.pool) == Heard::Reply
     }
 }
 
@@ -209,7 +212,7 @@ fn is_over<B: Beside>(beside: &mut B) -> bool
                     return false;
                 }
             }
-            Pause::Socket | Pause::Seat | Pause::Lease => return false,
+            Pause::Input | Pause::Output | Pause::Seat | Pause::Lease => return false,
         }
     }
     false
@@ -334,12 +337,12 @@ fn lease_of_an_hour(alloc: Global) -> Option<Arc<SharedLease<AnyEnd>, Global>> {
 
 // Prolongs a lease from now on. Whether the clock could be read.
 fn prolongs<R: Clock>(rt: &R, shared: &SharedLease<AnyEnd>) -> bool {
-    let Ok(reading) = rt.monotonic() else {
+    let Some(reading) = Reading::after(rt, 0u16) else {
         return false;
     };
-    let now = nanoseconds_of(reading);
+    let stamp = reading.shown();
     let mut lease = Lease::new(Term::of_seconds(HOUR));
-    lease.beat(0, now, now);
+    lease.hear(Order::Beat(0, Some(stamp)), reading);
     shared.renew(&lease);
     true
 }

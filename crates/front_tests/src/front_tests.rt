@@ -18,25 +18,25 @@ const CLIENTS: usize = 4;
 
 const EACH: usize = 75;
 
-// How often a client tries to get in, and its pause after each try, in milliseconds.
-const TRIES: usize = 700;
+/// How often a client tries to get in, and its pause after each try, in milliseconds.
+pub const TRIES: usize = 700;
 
-const PAUSE: u64 = 20;
+pub const PAUSE: u64 = 20;
 
-const SET: &[u8] = b"set a 0 0 1\r\n1\r\n";
+pub const SET: &[u8] = b"set a 0 0 1\r\n1\r\n";
 
-const STORED: &[u8] = b"STORED\r\n";
+pub const STORED: &[u8] = b"STORED\r\n";
 
-const GET: &[u8] = b"get b\r\n";
+pub const GET: &[u8] = b"get b\r\n";
 
-const NONE: &[u8] = b"END\r\n";
+pub const NONE: &[u8] = b"END\r\n";
 
 const TOO_MANY: &[u8] = b"SERVER_ERROR too many connections\r\n";
 
 const NO_ROOM: &[u8] = b"SERVER_ERROR out of memory storing object\r\n";
 
-// A connection to this port.
-fn client<R: Net<Listener = TcpListener, Stream = TcpStream>>(
+/// A connection to this port.
+pub fn client<R: Net<Listener = TcpListener, Stream = TcpStream>>(
     rt: &R,
     port: u16,
 ) -> Option<TcpStream> {
@@ -68,8 +68,8 @@ fn says(stream: &mut TcpStream, text: &[u8]) -> bool {
     true
 }
 
-// Whether the request is taken, and these bytes come next.
-fn answers(stream: &mut TcpStream, request: &[u8], reply: &[u8]) -> bool {
+/// Whether the request is taken, and these bytes come next.
+pub fn answers(stream: &mut TcpStream, request: &[u8], reply: &[u8]) -> bool {
     stream.write_all(request).is_ok() && says(stream, reply)
 }
 
@@ -182,6 +182,7 @@ fn read_back<R: Net<Listener = TcpListener, Stream = TcpStream>>(
 const HUNDREDS: FrontEndSettings = FrontEndSettings {
     connections: 1024,
     serves: 300,
+    dense: 8,
 };
 
 // Some hundred connections read back what they set.
@@ -266,6 +267,7 @@ fn a_held_call_blocks_no_other(rt: HostRuntime) {
     let settings = FrontEndSettings {
         connections: 2,
         serves: 3,
+        dense: 1,
     };
     let served = open_served(rt, rt.alloc(), 2, 1, settings, None);
     assert!(rt; held_call_blocks_none(&rt, served));
@@ -306,6 +308,7 @@ fn a_connection_beyond_the_limit_is_refused(rt: HostRuntime) {
     let settings = FrontEndSettings {
         connections: 2,
         serves: 4,
+        dense: 1,
     };
     let served = open_served(rt, rt.alloc(), 1, 2, settings, None);
     assert!(rt; one_is_too_many(&rt, served));
@@ -335,6 +338,7 @@ fn without_room_a_store_is_refused(rt: HostRuntime) {
     let settings = FrontEndSettings {
         connections: 1,
         serves: 1,
+        dense: 1,
     };
     let served = open_served(rt, rt.alloc(), 1, 1, settings, Some(0));
     assert!(rt; stores_are_refused(&rt, served));
@@ -442,6 +446,7 @@ fn a_client_that_breaks_off_makes_room(rt: HostRuntime) {
     let settings = FrontEndSettings {
         connections: 2,
         serves: 3000,
+        dense: 1,
     };
     let opened = open(rt, rt.alloc(), 1, 1, settings, None);
     assert!(rt; one_that_breaks_off_makes_room(rt, rt.alloc(), opened));

@@ -7,6 +7,8 @@ mod client_tests;
 #[cfg(test)]
 mod front_tests;
 #[cfg(test)]
+mod guest_tests;
+#[cfg(test)]
 mod seat_tests;
 #[cfg(test)]
 mod served;

@@ -3,9 +3,11 @@
 ghost use Rattle.faces.specs.Histories.{IsLater};
 
 use super::servers::pooled_with;
+use in_process_links::InProcessLinks;
 use io_threads::Pooled;
 use rail::{Turn, Worker};
-use seats::{ClientConnection, InProcessLinks, Mark, SeatPool, Went};
+use seats::{ClientConnection, Pause, SeatPool};
+use server_guards::Mark;
 use std::alloc::Global;
 use std::sync::Wait;
 
@@ -21,11 +23,11 @@ fn sends<R: Wait>(
     ensures known { IsLater client_connection.new.seen pool.new.seen }
     ensures later { IsLater pool.old.seen pool.new.seen }
 {
-    let Ok(Went::Input) = client_connection.go(rt, pool) else {
+    let Ok(Pause::Input) = client_connection.advance(rt, pool) else {
         return false;
     };
     match client_connection.feed(bytes) {
-        Ok(()) => matches!(client_connection.go(rt, pool), Ok(Went::Reply)),
+        Ok(()) => matches!(client_connection.advance(rt, pool), Ok(Pause::Reply)),
         Err(_) => false,
     }
 }
@@ -41,7 +43,7 @@ fn hears<R: Wait>(
     ensures known { IsLater client_connection.new.seen pool.new.seen }
     ensures later { IsLater pool.old.seen pool.new.seen }
 {
-    let heard = matches!(client_connection.hear(rt, pool), Ok(true));
+    let heard = matches!(client_connection.receive_replies(rt, pool), Ok(true));
     heard && client_connection.output() == reply
 }
 

@@ -1,15 +1,18 @@
 //! A server with a front end over real sockets, at a port that nobody else listens on.
 
 use super::servers::pooled;
+use in_process_links::{InProcessLinks, ServerSet};
 use io_threads::{
-    FrontEnd, FrontEndServer, FrontEndSettings, LoopHandles, Pooled, ScheduledElsewhere,
-    open_front_end, open_loop_handles,
+    FrontEnd, FrontEndServer, FrontEndSettings, Guests, LoopHandles, NoGuests, Pooled,
+    TurnScheduler, Visit, open_front_end, open_loop_handles,
 };
 use mio::Poll;
 use rail::{Turn, Worker};
-use seats::{InProcessLinks, Mark, OutputPermit, SeatPool};
+use seats::SeatPool;
+use server_guards::{Mark, OutputPermit};
 use std::alloc::Global;
 use std::net::{Ipv4Addr, Net, TcpListener, TcpStream};
+use std::sync::atomic::{AtomicUsize, Ordering};
 use std::sync::{Arc, Wait};
 use std::thread;
 use std::thread::{JoinHandle, Threads};
@@ -25,6 +28,34 @@ pub struct Served<T: Drop> {
     turns: T,
     mark: Mark,
     loop_handles: Arc<LoopHandles, Global>,
+    elsewhere: Arc<Elsewhere, Global>,
+}
+
+/// A scheduler that leaves all turns to others, and counts how often it was asked for some of the server.
+#[derive(Drop)]
+struct Elsewhere {
+    asked: AtomicUsize,
+}
+
+impl TurnScheduler for Elsewhere {
+    fn expect(&self, _id: u8) {}
+
+    fn take_turns(&self, id: u8, _most: usize) -> Visit {
+        if id == 0 {
+            self.asked.fetch_add(1, Ordering::SeqCst);
+        }
+        Visit::nothing()
+    }
+
+    fn all_due(&self) -> ServerSet {
+        ServerSet::new()
+    }
+
+    fn answers_soon(&self) -> bool {
+        false
+    }
+
+    fn leave(&self, _servers: ServerSet) {}
 }
 
 /// One whose turns are taken.
@@ -77,6 +108,27 @@ pub fn open_served<
     open(rt, alloc, servers, threads, settings, memory)?.begin(rt, alloc)
 }
 
+/// A server alone whose turns are taken, and whose first thread has guests.
+pub fn open_with_guests<
+    R: Wait
+        + Threads
+        + Clock
+        + Net<Listener = TcpListener, Stream = TcpStream>
+        + Copy
+        + Drop
+        + Send
+        + 'static,
+    G: Guests + Drop + Send + 'static,
+>(
+    rt: R,
+    alloc: Global,
+    threads: usize,
+    settings: FrontEndSettings,
+    guests: G,
+) -> Option<Served<JoinHandle<()>>> {
+    open_hosting(rt, alloc, 1, threads, settings, None, Some(guests))?.begin(rt, alloc)
+}
+
 /// A server whose turns nobody takes yet.
 pub fn open<
     R: Wait
@@ -95,6 +147,36 @@ pub fn open<
     settings: FrontEndSettings,
     memory: Option<u32>,
 ) -> Option<Served<Worker<R>>> {
+    open_hosting(
+        rt,
+        alloc,
+        servers,
+        threads,
+        settings,
+        memory,
+        None::<NoGuests>,
+    )
+}
+
+fn open_hosting<
+    R: Wait
+        + Threads
+        + Clock
+        + Net<Listener = TcpListener, Stream = TcpStream>
+        + Copy
+        + Drop
+        + Send
+        + 'static,
+    G: Guests + Drop + Send + 'static,
+>(
+    rt: R,
+    alloc: Global,
+    servers: u8,
+    threads: usize,
+    settings: FrontEndSettings,
+    memory: Option<u32>,
+    guests: Option<G>,
+) -> Option<Served<Worker<R>>> {
     let place = find_place(&rt, alloc, threads)?;
     let Pooled {
         worker,
@@ -102,7 +184,7 @@ pub fn open<
         inlets,
     } = pooled(rt, alloc, servers, threads, memory, &place.mark)?;
     drop(inlets);
-    serve(rt, alloc, settings, place, pools, worker)
+    serve(rt, alloc, settings, place, pools, worker, guests)
 }
 
 // Where a server's clients come in: its port, its mark, and the loop handles of its threads, with what these poll.
@@ -134,13 +216,18 @@ fn find_place<R: Net<Listener = TcpListener, Stream = TcpStream>>(
 }
 
 // Serves the clients who come in there.
-fn serve<R: Wait + Threads + Clock + Net + Copy + Drop + Send + 'static, T: Drop>(
+fn serve<
+    R: Wait + Threads + Clock + Net + Copy + Drop + Send + 'static,
+    T: Drop,
+    G: Guests + Drop + Send + 'static,
+>(
     rt: R,
     alloc: Global,
     settings: FrontEndSettings,
     place: Place,
     pools: Vec<SeatPool>,
     turns: T,
+    guests: Option<G>,
 ) -> Option<Served<T>> {
     let Place {
         port,
@@ -150,7 +237,8 @@ fn serve<R: Wait + Threads + Clock + Net + Copy + Drop + Send + 'static, T: Drop
         polls,
     } = place;
     let served_servers = only_served_server(alloc, listener, pools, &mark)?;
-    let elsewhere = Arc::new(alloc, ScheduledElsewhere).ok()?;
+    let asked = AtomicUsize::new(0);
+    let elsewhere = Arc::new(alloc, Elsewhere { asked }).ok()?;
     let front_end = open_front_end(
         rt,
         alloc,
@@ -159,6 +247,7 @@ fn serve<R: Wait + Threads + Clock + Net + Copy + Drop + Send + 'static, T: Drop
         &loop_handles,
         polls,
         served_servers,
+        guests,
     )
     .ok()?;
     Some(Served {
@@ -167,6 +256,7 @@ fn serve<R: Wait + Threads + Clock + Net + Copy + Drop + Send + 'static, T: Drop
         turns,
         mark,
         loop_handles,
+        elsewhere,
     })
 }
 
@@ -202,6 +292,7 @@ impl<T: TakesTurns + Drop + Send + 'static> Served<T> {
             turns,
             mark,
             loop_handles,
+            elsewhere,
         } = self;
         let turns = start(rt, alloc, turns, &loop_handles)?;
         Some(Served {
@@ -210,6 +301,7 @@ impl<T: TakesTurns + Drop + Send + 'static> Served<T> {
             turns,
             mark,
             loop_handles,
+            elsewhere,
         })
     }
 }
@@ -240,6 +332,12 @@ pub trait Serves {
     /// Marks that no more calls are answered.
     fn fall_silent(&self);
 
+    /// Wakes its threads.
+    fn wake(&self);
+
+    /// Whether its threads asked for turns.
+    fn was_asked(&self) -> bool;
+
     /// Waits until all connections are closed. The worker ends then, as nobody has a seat any more.
     fn end<R: Threads>(self, rt: &R);
 }
@@ -252,6 +350,14 @@ impl Serves for Served<JoinHandle<()>> {
     fn fall_silent(&self) {
         self.mark.set();
         self.loop_handles.wake_all();
+    }
+
+    fn wake(&self) {
+        self.loop_handles.wake_all();
+    }
+
+    fn was_asked(&self) -> bool {
+        self.elsewhere.asked.load(Ordering::SeqCst) != 0
     }
 
     fn end<R: Threads>(self, rt: &R) {

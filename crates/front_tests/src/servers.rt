@@ -2,7 +2,7 @@
 
 use io_threads::{Pooled, open_pools};
 use node::Node;
-use seats::{Allowance, Gauge, Mark};
+use server_guards::{Allowance, Gauge, Mark};
 use std::alloc::Global;
 use std::sync::Wait;
 

@@ -2,12 +2,46 @@
 
 use crate::making::{Fault, all_hold, all_true};
 use leases::{
-    Answer, AnyEnd, Claim, Due, Lease, MasterMachine, Order, Paces, Report, Roll, SECOND,
+    Answer, AnyEnd, Claim, Due, Lease, MasterMachine, Order, Paces, Reading, Report, Roll, SECOND,
     ServerRecord, SharedLease, Term, Watch, WatchDue, nanoseconds_of, next_epoch,
 };
 use std::alloc::Global;
+use std::io;
 use std::test::Fail;
-use std::time::Duration;
+use std::time::{Clock, Duration};
+
+// A clock that shows this many nanoseconds.
+#[derive(Drop)]
+struct Shows(u64);
+
+impl Clock for Shows {
+    fn monotonic(&self) -> io::Result<Duration> {
+        Ok(Duration::from_nanos(self.0))
+    }
+
+    fn since_1970(&self) -> io::Result<Duration> {
+        Ok(Duration::from_nanos(self.0))
+    }
+}
+
+// A reading of that clock, once this is known.
+fn read<T: Copy>(known: T, now: u64) -> Option<Reading<T>> {
+    Reading::after(&Shows(now), known)
+}
+
+// What a server answers that knows these to be gone, when its clock shows this.
+fn answers(lease: &mut Lease, order: Order, gone: u16, now: u64) -> Option<Answer> {
+    let reading = read(gone, now)?;
+    Some(lease.hear(order, reading))
+}
+
+// The report that it answers.
+fn reports(lease: &mut Lease, order: Order, gone: u16, now: u64) -> Option<Report> {
+    match answers(lease, order, gone, now)? {
+        Answer::Tells(report) => Some(report),
+        Answer::Notes(_) => None,
+    }
+}
 
 fn two_seconds() -> Option<Term> {
     Term::of_seconds(2)
@@ -31,7 +65,7 @@ fn is_kept_up(term: Option<Term>) -> bool {
 fn beaten(stamp: u64, now: u64) -> Lease {
     let mut lease = Lease::new(two_seconds());
     lease.enter(7);
-    lease.beat(7, stamp, now);
+    answers(&mut lease, Order::Beat(7, Some(stamp)), 0, now);
     lease
 }
 
@@ -105,10 +139,9 @@ fn a_lease_runs_from_the_stamp() -> Result<(), Fail> {
 fn a_server_is_in_its_latest_epoch() -> Result<(), Fail> {
     let mut lease = beaten(SECOND, SECOND);
     let (enters, is_of) = (lease.enter(6), lease.is_of(7));
-    lease.beat(6, 2 * SECOND, 2 * SECOND);
+    answers(&mut lease, Order::Beat(6, Some(2 * SECOND)), 4, 2 * SECOND);
     let is_held = lease.is_held(3 * SECOND);
-    lease.learn(4, 2 * SECOND);
-    lease.learn(1, 3 * SECOND);
+    answers(&mut lease, Order::Beat(7, None), 1, 3 * SECOND);
     all_true(&[!enters, is_of, !is_held, lease.known() == 4])
 }
 
@@ -131,18 +164,24 @@ fn a_watch_beats_and_then_tells() -> Result<(), Fail> {
 // at 1 s.
 fn told_after(order: Order, now: u64) -> Option<(u64, bool)> {
     let mut lease = beaten(SECOND, SECOND);
-    match lease.hear(order, 0, now) {
-        Answer::Tells(report) => Some((report.epoch, now < report.end)),
-        Answer::Notes(_) => None,
+    let report = reports(&mut lease, order, 0, now)?;
+    Some((report.epoch, now < report.end))
+}
+
+// The server of which a notice is taken in epoch 7, or what the server reports.
+fn heard_after(order: Order) -> Option<Result<u8, Report>> {
+    let mut lease = beaten(SECOND, SECOND);
+    match answers(&mut lease, order, 0, SECOND)? {
+        Answer::Tells(report) => Some(Err(report)),
+        Answer::Notes(id) => Some(Ok(id)),
     }
 }
 
 // The server of which a notice is taken in epoch 7.
 fn noted_after(order: Order) -> Option<u8> {
-    let mut lease = beaten(SECOND, SECOND);
-    match lease.hear(order, 0, SECOND) {
-        Answer::Tells(_) => None,
-        Answer::Notes(id) => Some(id),
+    match heard_after(order) {
+        Some(Ok(id)) => Some(id),
+        Some(Err(_)) | None => None,
     }
 }
 
@@ -205,8 +244,9 @@ fn followed() -> Claim {
     let mut claim = Claim::new(3, Paces::usual(), SECOND);
     let mut lease = Lease::new(two_seconds());
     lease.enter(9);
-    lease.beat(9, 3 * SECOND, 3 * SECOND);
-    claim.informed(&lease.report(0, 3 * SECOND), 0, 2 * SECOND);
+    if let Some(report) = reports(&mut lease, Order::Beat(9, Some(3 * SECOND)), 0, 3 * SECOND) {
+        claim.informed(&report, 0, 2 * SECOND);
+    }
     claim
 }
 
@@ -243,9 +283,14 @@ fn epochs_end_in_the_masters_name() -> Result<(), Fail> {
 
 // What server 1 of three tells in an epoch, at 2 s of its clock, if it knows these to be gone.
 fn report_in(epoch: u64, gone: u16) -> Report {
-    let mut lease = Lease::new(two_seconds());
-    lease.enter(epoch);
-    lease.report(gone, 2 * SECOND)
+    Report {
+        epoch,
+        stamp: 2 * SECOND,
+        end: 0,
+        term: two_seconds(),
+        gone,
+        known: 0,
+    }
 }
 
 // Server 1 of three, which a master of epoch 7 has greeted.
@@ -312,6 +357,39 @@ enum Step {
 // A tenth of a second.
 const TENTH: u64 = 100_000_000;
 
+// What is due for a server when its clock shows this.
+fn next(master_machine: &mut MasterMachine, id: u8, now: u64) -> Option<Due> {
+    let reading = read((), now)?;
+    Some(master_machine.next(id, reading))
+}
+
+// Whether it is followed by another once a server told of this epoch, whose lease has this term.
+fn told(
+    master_machine: &mut MasterMachine,
+    id: u8,
+    epoch: u64,
+    term: Option<Term>,
+    now: u64,
+) -> Option<bool> {
+    let reading = read(of_term(term, report_in(epoch, 0)), now)?;
+    if id < 2 {
+        Some(master_machine.told(id, reading))
+    } else {
+        None
+    }
+}
+
+// The same report, of a lease of this term.
+fn of_term(term: Option<Term>, report: Report) -> Report {
+    Report { term, ..report }
+}
+
+// The epoch that it takes at 1 s.
+fn claims(master_machine: &mut MasterMachine) -> Option<u64> {
+    let reading = read((), SECOND)?;
+    master_machine.claim(reading)
+}
+
 fn tells(master_machine: &mut MasterMachine, from: u64, until: u64) -> bool {
     let mut now = from;
     let mut has_told = false;
@@ -320,7 +398,7 @@ fn tells(master_machine: &mut MasterMachine, from: u64, until: u64) -> bool {
             break;
         }
         for id in 0..2u8 {
-            if let Due::Server(Order::Silent(_, _)) = master_machine.next(id, now) {
+            if let Some(Due::Server(Order::Silent(_, _))) = next(master_machine, id, now) {
                 has_told = true;
             }
         }
@@ -331,15 +409,15 @@ fn tells(master_machine: &mut MasterMachine, from: u64, until: u64) -> bool {
 
 fn goes(master_machine: &mut MasterMachine, step: Step) -> bool {
     match step {
-        Step::Claims(epoch) => master_machine.claim(SECOND) == Some(epoch),
+        Step::Claims(epoch) => claims(master_machine) == Some(epoch),
         Step::Told(id, epoch, now, followed) => {
-            id < 2 && master_machine.told(id, &report_in(epoch, 0), now) == followed
+            told(master_machine, id, epoch, two_seconds(), now) == Some(followed)
         }
         Step::Loses => {
             master_machine.lose(1);
             true
         }
-        Step::IsDue(due) => master_machine.next(1, SECOND) == due,
+        Step::IsDue(due) => next(master_machine, 1, SECOND) == Some(due),
         Step::Tells(from, until, wanted) => tells(master_machine, from, until) == wanted,
     }
 }
@@ -358,9 +436,12 @@ fn other_step(master_machine: &mut MasterMachine, steps: &[Step]) -> Option<usiz
 
 // The same of a master that has just started, and that both servers told in no epoch how they are.
 fn other_of_new(alloc: Global, steps: &[Step]) -> Result<Option<usize>, Fault> {
-    let mut master_machine = MasterMachine::new(alloc, 3, 2, Paces::usual(), SECOND)?;
-    master_machine.told(0, &report_in(0, 0), SECOND);
-    master_machine.told(1, &report_in(0, 0), SECOND);
+    let Some(reading) = read((), SECOND) else {
+        return Err(Fault::Refused);
+    };
+    let mut master_machine = MasterMachine::new(alloc, 3, 2, Paces::usual(), reading)?;
+    told(&mut master_machine, 0, 0, two_seconds(), SECOND);
+    told(&mut master_machine, 1, 0, two_seconds(), SECOND);
     let other = other_step(&mut master_machine, steps);
     drop(master_machine);
     Ok(other)

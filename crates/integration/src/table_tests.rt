@@ -202,6 +202,7 @@ enum Answer {
     NotFound,
     Deleted,
     TooLarge,
+    Flushed,
     Nothing,
     Item(u32, &'static [u8], u64),
     // An item without flags, of this many bytes.
@@ -215,6 +216,7 @@ fn is_answer(reply: &Reply, wanted: Answer) -> bool {
         Answer::NotFound => matches!(reply, Reply::NotFound),
         Answer::Deleted => matches!(reply, Reply::Deleted),
         Answer::TooLarge => matches!(reply, Reply::TooLarge),
+        Answer::Flushed => matches!(reply, Reply::Flushed),
         Answer::Nothing => matches!(reply, Reply::Value(None)),
         Answer::Item(flags, data, unique) => match reply {
             Reply::Value(Some(item)) => item.flags() == flags
@@ -231,7 +233,7 @@ fn is_answer(reply: &Reply, wanted: Answer) -> bool {
     }
 }
 
-// What is asked of the key of these bytes, and the answer.
+// What is asked of the key of these bytes, or of all keys if it is a flush, and the answer.
 type Step = (&'static [u8], Ask, Answer);
 
 // Whether a call that fits and suits is answered so.
@@ -245,9 +247,16 @@ fn answers(table: &mut Table, target: &Target, op: &Op, wanted: Answer) -> Resul
     Ok(right)
 }
 
+fn target_of(alloc: Global, name: &[u8], ask: Ask) -> Result<Target, Fault> {
+    match ask {
+        Ask::Flush => Ok(Target::All),
+        _ => Ok(Target::One(key(alloc, name)?)),
+    }
+}
+
 fn goes(alloc: Global, table: &mut Table, step: Step) -> Result<bool, Fault> {
     let (name, ask, wanted) = step;
-    let target = Target::One(key(alloc, name)?);
+    let target = target_of(alloc, name, ask)?;
     match op_of(alloc, ask) {
         Ok(op) => {
             let went = answers(table, &target, &op, wanted);
@@ -336,6 +345,21 @@ static DELETED: [Step; 6] = [
 #[test]
 fn delete(rt: HostRuntime) -> Result<(), Fail> {
     all_hold(other_of_new(rt.alloc(), &DELETED))
+}
+
+static FLUSHED: [Step; 7] = [
+    (b"a", Ask::Puts(Verb::Set, 0, b"1"), Answer::Stored),
+    (b"b", Ask::Puts(Verb::Set, 0, b"2"), Answer::Stored),
+    (b"", Ask::Flush, Answer::Flushed),
+    (b"a", Ask::Read, Answer::Nothing),
+    (b"b", Ask::Read, Answer::Nothing),
+    (b"a", Ask::Puts(Verb::Set, 0, b"3"), Answer::Stored),
+    (b"a", Ask::Read, Answer::Item(0, b"3", 4)),
+];
+
+#[test]
+fn flush_all(rt: HostRuntime) -> Result<(), Fail> {
+    all_hold(other_of_new(rt.alloc(), &FLUSHED))
 }
 
 // Whether a change puts this item, or keeps what is there.

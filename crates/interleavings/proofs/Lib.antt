@@ -10,3 +10,4 @@ pub mod examples
 pub mod ports
 pub mod served
 pub mod rows
+pub mod restored

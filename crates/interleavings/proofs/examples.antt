@@ -1,5 +1,5 @@
--- Worked runs: answers, a failover, runs at whose end nothing is left to do; and runs that have no order, or forget a
--- call, if a move lacks its rule.
+-- Worked runs: answers, a failover, a start from a table, runs at whose end nothing is left to do; and runs that have
+-- no order, or forget a call, if a move or a start lacks its rule.
 pub mod InTwoParts
 pub mod WorkedLooks
 pub mod AskedCalls
@@ -17,3 +17,5 @@ pub mod SetsInTurn
 pub mod SetsOfOneClient
 pub mod PipelinedSets
 pub mod OvertakenSet
+pub mod Starts
+pub mod HandedOver

@@ -4,5 +4,6 @@ pub mod Opening
 pub mod Published
 pub mod Given
 pub mod Transfer
+pub mod CommittedOrder
 pub mod Following
 pub mod Replied

@@ -11,6 +11,7 @@ pub mod Unrefused
 pub mod EachMove
 pub mod Along
 pub mod Names
+pub mod OrderFromStart
 pub mod OneOrder
 pub mod Kinds
 pub mod OwnPortServing

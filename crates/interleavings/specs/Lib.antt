@@ -12,5 +12,10 @@ pub mod Connections
 pub mod ServingMoves
 pub mod Served
 pub mod Rows
+pub mod Restored
+pub mod OrdersFrom
+pub mod Lives
+pub mod ServedFrom
 pub mod WorkedServing
 pub mod WorkedRows
+pub mod WorkedStarts

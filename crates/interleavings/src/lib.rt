@@ -2,11 +2,18 @@
 #![tactic(auto)]
 
 mod laws;
+mod starts;
 pub mod worked;
+pub mod worked_starts;
 
 pub use laws::{
     answered_calls_are_published, asked_calls_are_spelled, clients_see_one_table,
     every_run_is_linearizable, no_call_is_forgotten, pipelining_clients_see_one_table,
     ports_are_names, seats_may_have_own_ports, served_seats_may_have_own_ports,
     without_refusals_all_is_replied,
+};
+pub use starts::{
+    clients_see_one_table_from_a_start, every_life_has_one_order, held_tables_are_reached,
+    restored_chains_are_reached, restored_chains_forget_no_call, restored_runs_are_linearizable,
+    tables_are_reached,
 };

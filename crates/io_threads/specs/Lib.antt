@@ -1,4 +1,5 @@
 pub mod ClientSockets
 pub mod Clients
-pub mod ServedClients
+pub mod Dealing
+pub mod KnownClients
 pub mod Pools

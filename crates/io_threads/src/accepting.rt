@@ -1,10 +1,11 @@
-//! The thread that accepts connections, and hands each to one of the serving threads in turn.
+//! The thread that accepts connections, and hands each to one of the serving threads.
 
 use crate::connection_permits::PermitIssuer;
 use crate::loop_handles::{Arrival, LoopHandles};
+use crate::permitted_streams::PermittedStream;
 use mio::net::{TcpListener, TcpStream};
 use mio::{Events, Interest, Poll, Token};
-use seats::Mark;
+use server_guards::Mark;
 use std::alloc::{AllocError, Global};
 use std::collections::VecDeque;
 use std::io::{ErrorKind, Write};
@@ -53,9 +54,6 @@ pub(crate) struct Acceptor<R: Wait + Drop> {
     // By the servers' ids.
     server_listeners: Vec<ServerListener>,
     loop_handles: Arc<LoopHandles, Global>,
-    threads: usize,
-    // The thread that gets the next one.
-    next: usize,
     // Those that are still to be handed on.
     held: VecDeque<Held>,
     // Whether the last one that stood there couldn't be accepted.
@@ -63,21 +61,20 @@ pub(crate) struct Acceptor<R: Wait + Drop> {
 }
 
 impl ServerListener {
-    /// Accepts this many connections from this listener, or with 0 all, of which `room` may be open at once.
+    /// Accepts this many connections from this listener, or with 0 all, as the permit issuer lets them in.
     pub(crate) fn new(
-        alloc: Global,
         listener: TcpListener,
+        permit_issuer: PermitIssuer,
         mark: Mark,
-        connections: u64,
         serves: u64,
-    ) -> Result<ServerListener, AllocError> {
-        Ok(ServerListener {
+    ) -> ServerListener {
+        ServerListener {
             listener: Some(listener),
-            permit_issuer: PermitIssuer::new(alloc, connections)?,
+            permit_issuer,
             mark,
             left: if serves == 0 { None } else { Some(serves) },
             is_ready: true,
-        })
+        }
     }
 
     // The next connection, if one stands there. Whether another may.
@@ -115,13 +112,12 @@ impl ServerListener {
 }
 
 impl<R: Wait + Drop> Acceptor<R> {
-    /// Accepts at these server_listeners, for this many threads. Refused if the system or memory refuses.
+    /// Accepts at these server_listeners. Refused if the system or memory refuses.
     pub(crate) fn new(
         rt: R,
         alloc: Global,
         server_listeners: Vec<ServerListener>,
         loop_handles: Arc<LoopHandles, Global>,
-        threads: usize,
     ) -> Result<Acceptor<R>, AllocError>
     where
         R: Net,
@@ -135,8 +131,6 @@ impl<R: Wait + Drop> Acceptor<R> {
             events: Events::with_capacity(alloc, 64)?,
             server_listeners,
             loop_handles,
-            threads,
-            next: 0,
             held: VecDeque::new(alloc),
             is_refused: false,
         };
@@ -209,7 +203,7 @@ impl<R: Wait + Drop> Acceptor<R> {
         }
     }
 
-    // Accepts what stands at an server_listener, up to a limit.
+    // Accepts what stands at a server's listener, up to a limit.
     fn accept_some(&mut self, id: usize) {
         for _ in 0..MOST {
             let Some(server_listener) = self.server_listeners.get_mut(id) else {
@@ -226,11 +220,13 @@ impl<R: Wait + Drop> Acceptor<R> {
         }
     }
 
-    // Hands a connection to the next thread, unless its server is marked: then it is closed without a byte. One beyond
-    // those that the server may have is told so, and closed.
+    // Hands a connection to the thread that gets the next one, unless its server is marked: then it is closed without a
+    // byte. One beyond those that the server may have is told so, and closed.
     fn admit(&mut self, id: usize, stream: TcpStream) {
-        let (Some(server_listener), Ok(server)) = (self.server_listeners.get(id), u8::try_from(id))
-        else {
+        let (Some(server_listener), Ok(server)) = (
+            self.server_listeners.get_mut(id),
+            u8::try_from(id),
+        ) else {
             return;
         };
         if server_listener.mark.is_set() {
@@ -238,26 +234,13 @@ impl<R: Wait + Drop> Acceptor<R> {
         }
         match server_listener.permit_issuer.admit() {
             Some(permit) => {
-                let arrival = Arrival {
-                    permit,
-                    stream,
-                    server,
-                };
-                let thread = self.next_thread();
+                let thread = permit.thread;
+                let stream = PermittedStream::new(permit, stream);
+                let arrival = Arrival { stream, server };
                 self.hand_on(thread, arrival);
             }
             None => refuse(stream),
         }
-    }
-
-    // The thread whose turn it is to get a connection.
-    fn next_thread(&mut self) -> usize {
-        let thread = self.next;
-        self.next = thread.wrapping_add(1);
-        if self.next >= self.threads {
-            self.next = 0;
-        }
-        thread
     }
 
     // Hands a connection to a thread, or keeps it for later. If memory is out for that it is closed.

@@ -3,6 +3,7 @@ ghost use Rattle.std.specs.Prelude.{◌≡◌, ◌≤◌, ◌+◌, ◌++◌, [],
 ghost use Rattle.io_threads.specs.ClientSockets.{TakesSome, came, came_in, read_faults, went, went_out, write_faults};
 
 use ends::{Failures, Passed};
+use server_guards::Permit;
 use std::io::{ErrorKind, Read, Write};
 
 /// What came of a read.
@@ -32,8 +33,8 @@ pub enum WriteOutcome {
 /// A socket that waits for nothing.
 #[derive(Drop)]
 pub struct ClientSocket<S: Read + Write> {
-    /// The socket.
-    pub inner: S,
+    // The socket. Nobody else reads it, or writes it without a permit.
+    inner: S,
     /// The bytes that its reads gave.
     pub given: Passed,
     /// The bytes that its writes took.
@@ -81,14 +82,17 @@ impl<S: Read + Write> ClientSocket<S> {
         }
     }
 
-    /// Writes once, from the front of the slice. If the socket takes no byte and names no error, the write has failed.
-    pub fn write(&mut self, bytes: &[u8]) -> WriteOutcome
+    /// Writes once, from the front of the slice, for which this permit was given. If the socket takes no byte and names
+    /// no error, the write has failed.
+    pub fn write(&mut self, bytes: &[u8], permit: Permit) -> WriteOutcome
+        requires permitted { permit ≡ bytes.now }
         ensures bound { went result ≤ length bytes.now }
         ensures some { TakesSome result }
         ensures given { self.new.given ≡ self.old.given }
         ensures taken { self.new.taken ≡ self.old.taken ++ went_out result bytes.now }
         ensures faults { self.new.faults ≡ self.old.faults + write_faults result }
     {
+        drop(permit);
         match self.inner.write(bytes) {
             Ok(0) => {
                 self.faults.rise();

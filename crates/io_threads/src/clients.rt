@@ -1,32 +1,39 @@
 //! A client's connection with its socket, which goes as far as it can without waiting.
-ghost use Rattle.std.specs.Prelude.{◌≡◌, ◌+◌, IfSome, MatchOption, OnSome};
+ghost use Rattle.std.specs.Prelude.{◌≡◌, ◌+◌, IfSome, IsFalse, MatchOption, OnSome, []};
 ghost use Rattle.seats.specs.declared.client_connections.CallStanding.TheVariants.{Reading};
-ghost use Rattle.io_threads.specs.Clients.{HasPassed};
+ghost use Rattle.seats.specs.ClientConnections.{HasSentInTurn};
+ghost use Rattle.seats.specs.SeatPools.{Pooling};
+ghost use Rattle.io_threads.specs.Clients.{HasPassed, IsAtRest, without_call};
 ghost use Rattle.io_threads.specs.ClientSockets.{read_faults, write_faults};
 
 use crate::client_sockets::{ClientSocket, ReadOutcome, WriteOutcome};
-use seats::{ClientConnection, OutputPermit, SeatPool, Went};
+use seats::{ClientConnection, Pause, SeatPool};
+use server_guards::{OutputPermit, Permit};
+use serving::ServeFault;
 use std::alloc::Global;
 use std::io::{Read, Write};
 use std::marker::Model;
 use std::sync::Wait;
 use std::time::Clock;
 
-/// Why a client goes no further.
+/// How far a client went.
 #[derive(Clone, Copy, Debug, PartialEq, Eq)]
-pub enum Pause {
-    /// It may go on, once others have had their turn.
-    Turn,
-    /// There is no input now, or its output isn't taken now.
-    Socket,
-    /// Its call is to be sent as soon as a seat is free.
-    Seat,
-    /// Its call was sent, perhaps with updates after it.
+pub struct Progress {
+    /// Why it goes no further.
+    pub pause: Pause,
+    /// Whether it sent a call, for which a turn is due, or may have sent one before a fault.
+    pub has_sent: bool,
+}
+
+/// What came of the replies to a client's calls.
+#[derive(Clone, Copy, Debug, PartialEq, Eq)]
+pub enum Heard {
+    /// One or more have come, and were handed on.
     Reply,
-    /// Output is due, and the server may not put it out now.
-    Lease,
-    /// It is at its end, or has failed, or nobody reads.
-    Over,
+    /// None has come yet.
+    NotYet,
+    /// None will be handed on any more: memory was refused to one, or the server answers no call any more.
+    Over(ServeFault),
 }
 
 /// What a socket was found ready for.
@@ -51,6 +58,8 @@ pub struct Client<S: Read + Write> {
     // The fields lie in this order, and what each event looks at before the client connection: one line of the
     // processor's memory.
     client_socket: ClientSocket<S>,
+    // Why it went no further last.
+    pause: Pause,
     // Whether there may be input, and whether more output may be taken.
     is_readable: bool,
     is_writable: bool,
@@ -89,13 +98,14 @@ impl<S: Read + Write> Model for Client<S> {
 
 impl<S: Read + Write> Client<S> {
     ghost use Rattle.std.specs.Prelude.{◌≡◌, ◌≢◌, ◌≤◌, ◌<◌, ◌++◌, ◌||◌, ℕ, List, [], true, false, length};
-    ghost use Rattle.std.specs.Prelude.{IfNone, IfSome, MatchBool};
+    ghost use Rattle.std.specs.Prelude.{IfNone, IfSome, IsFalse};
     ghost use Rattle.faces.specs.Histories.{IsLater};
     ghost use Rattle.serving.specs.Connections.{IsBegun};
-    ghost use Rattle.seats.specs.SeatPools.{HasSameReader};
-    ghost use Rattle.seats.specs.ClientConnections.{HasHeard, IsFurther, begun};
-    ghost use Rattle.seats.specs.declared.client_connections.CallStanding.TheVariants.{Reading, Over as Spent};
-    ghost use Rattle.io_threads.specs.Clients.{HasPassed, HasPaused};
+    ghost use Rattle.seats.specs.SeatPools.{HasSameReader, HasSentNothing};
+    ghost use Rattle.seats.specs.ClientConnections.{HasSentInTurn, IsFurther, begun};
+    ghost use Rattle.seats.specs.declared.client_connections.CallStanding.TheVariants.{Reading};
+    ghost use Rattle.io_threads.specs.Clients.{HasGoneQuietly, HasHeardOf, HasPassed, HasPaused, HasPausedAtSocket};
+    ghost use Rattle.io_threads.specs.Clients.{IsAtRest};
 
     /// A client that has said nothing. It allocates nothing.
     pub fn new(alloc: Global, socket: S, pool: &SeatPool) -> Client<S>
@@ -108,6 +118,7 @@ impl<S: Read + Write> Client<S> {
     {
         Client {
             client_socket: ClientSocket::new(socket),
+            pause: Pause::Input,
             client_connection: ClientConnection::new(alloc, pool),
             is_readable: false,
             is_writable: true,
@@ -128,7 +139,7 @@ impl<S: Read + Write> Client<S> {
     }
 
     /// Its socket was found ready for this. Once the connection is gone it stays so.
-    pub fn is_ready_for(&mut self, ready: Ready)
+    pub fn note_ready(&mut self, ready: Ready)
         ensures { self.new ≡ record self.old { gone = self.old.gone || ready.gone } }
     {
         self.is_readable |= ready.reading || ready.ended;
@@ -137,125 +148,170 @@ impl<S: Read + Write> Client<S> {
         self.is_gone |= ready.gone;
     }
 
+    // Why it went no further last; at first it wants input.
+    pub(crate) fn pause(&self) -> Pause {
+        self.pause
+    }
+
     // How much output is due, and one more if it wants input.
     pub(crate) fn look_at(&self) -> usize {
         let due = self.client_connection.output().len();
         due.wrapping_add(usize::from(self.client_connection.wants_input()))
     }
 
-    /// Goes on for a while, and says why it goes no further: `HasPaused` tells what each answer means. Once memory was
-    /// refused to what was read, or the connection is gone, nothing is read, written, looked at or sent. The slice is
-    /// room for what is read. Before each write the output permit is asked, after all that is due was made up. If it
-    /// doesn't let the server put anything out, what is due stays so. An output permit that no lease holds lets all
-    /// out.
-    #[tactic(auto, using(crate::proofs::Later::seeing, crate::proofs::Pausing::passed, crate::proofs::Pausing::ending))]
-    pub fn go<R: Wait + Clock>(
+    /// Goes on for a while, and says why it goes no further: `HasPaused` tells what each answer means; and whether it
+    /// sent a call. Once memory was refused to what was read, or the connection is gone, nothing is read, written,
+    /// looked at or sent. The slice is room for what is read. Before each write the output permit is asked, after all
+    /// that is due was made up. If it doesn't let the server put anything out, what is due stays so. An output permit
+    /// that no lease holds lets all out.
+    #[tactic(auto, using(crate::proofs::Later::seeing, crate::proofs::Pausing::passed, crate::proofs::Pausing::ending, crate::proofs::Sending::sending, crate::proofs::Sending::resting))]
+    pub fn serve<R: Wait + Clock>(
         &mut self,
         rt: &R,
         pool: &mut SeatPool,
         piece: &mut [u8],
         output_permit: &OutputPermit,
-    ) -> Pause
+    ) -> Progress
         requires known { IsLater self.old.client_connection.seen pool.old.seen }
         ensures known { IsLater self.new.client_connection.seen pool.new.seen }
         ensures later { IsLater pool.old.seen pool.new.seen }
         ensures first { self.new.client_connection.first ≡ self.old.client_connection.first }
+        ensures unheard { self.new.client_connection.heard ≡ self.old.client_connection.heard }
         ensures given { HasPassed self.old.given self.new.given }
         ensures taken { HasPassed self.old.taken self.new.taken }
         ensures gone { self.new.gone ≡ self.old.gone }
-        ensures paused { HasPaused result self.old.faults self.new }
-        ensures held { output_permit.now ≡ false → result ≢ Pause.Lease }
+        ensures paused { HasPaused result.pause self.old self.new pool.old pool.new }
+        ensures sent { HasSentInTurn self.old.client_connection self.new.client_connection pool.old pool.new }
+        ensures unsent { IsFalse result.has_sent → HasSentNothing pool.old pool.new }
+        ensures held { output_permit.now ≡ false → result.pause ≢ Pause.Lease }
         ensures refused { self.old.refused ≡ true →
-            (result ≡ Pause.Over) × (self.new ≡ self.old) × (pool.new ≡ pool.old) }
-        ensures left { self.old.gone ≡ true → (result ≡ Pause.Over) × (self.new ≡ self.old) × (pool.new ≡ pool.old) }
+            (result.pause ≡ Pause.Over) × (self.new ≡ self.old) × (pool.new ≡ pool.old) }
+        ensures left { self.old.gone ≡ true →
+            (result.pause ≡ Pause.Over) × (self.new ≡ self.old) × (pool.new ≡ pool.old) }
     {
-        if self.is_refused {
-            return Pause::Over;
+        still(&self.client_connection);
+        if self.is_refused || self.is_gone {
+            return Progress {
+                pause: Pause::Over,
+                has_sent: false,
+            };
         }
-        if self.is_gone {
-            return Pause::Over;
-        }
-        self.go_on(rt, pool, piece, output_permit)
+        let progress = self.take_steps(rt, pool, piece, output_permit);
+        self.pause = progress.pause;
+        progress
     }
 
     // Takes a few steps.
-    #[tactic(auto, using(crate::proofs::Later::seeing, crate::proofs::Pausing::passed, crate::proofs::Pausing::ending))]
-    fn go_on<R: Wait + Clock>(
+    #[tactic(auto, using(crate::proofs::Later::seeing, crate::proofs::Pausing::passed, crate::proofs::Pausing::ending, crate::proofs::Sending::sending, crate::proofs::Sending::resting))]
+    fn take_steps<R: Wait + Clock>(
         &mut self,
         rt: &R,
         pool: &mut SeatPool,
         piece: &mut [u8],
         output_permit: &OutputPermit,
-    ) -> Pause
+    ) -> Progress
         requires known { IsLater self.old.client_connection.seen pool.old.seen }
         requires whole { self.old.refused ≡ false }
         ensures known { IsLater self.new.client_connection.seen pool.new.seen }
         ensures later { IsLater pool.old.seen pool.new.seen }
         ensures first { self.new.client_connection.first ≡ self.old.client_connection.first }
+        ensures unheard { self.new.client_connection.heard ≡ self.old.client_connection.heard }
         ensures given { HasPassed self.old.given self.new.given }
         ensures taken { HasPassed self.old.taken self.new.taken }
         ensures gone { self.new.gone ≡ self.old.gone }
-        ensures paused { HasPaused result self.old.faults self.new }
-        ensures held { output_permit.now ≡ false → result ≢ Pause.Lease }
+        ensures paused { HasPaused result.pause self.old self.new pool.old pool.new }
+        ensures sent { HasSentInTurn self.old.client_connection self.new.client_connection pool.old pool.new }
+        ensures unsent { IsFalse result.has_sent → HasSentNothing pool.old pool.new }
+        ensures held { output_permit.now ≡ false → result.pause ≢ Pause.Lease }
     {
+        still(&self.client_connection);
         for _ in 0..PASSES {
-            if let Some(pause) = self.step(rt, pool, piece, output_permit) {
-                return pause;
+            if let Some(progress) = self.step(rt, pool, piece, output_permit) {
+                return progress;
             }
         }
-        Pause::Turn
+        Progress {
+            pause: Pause::Turn,
+            has_sent: false,
+        }
     }
 
-    // Goes on until it has to read or write, and does so once.
-    #[tactic(auto, using(crate::proofs::Later::seeing, crate::proofs::Pausing::passed, crate::proofs::Pausing::ending))]
+    // Goes on until it has to read or write, and does so once. If it goes on after that, no call was sent.
+    #[tactic(auto, using(crate::proofs::Later::seeing, crate::proofs::Pausing::passed, crate::proofs::Pausing::ending, crate::proofs::Sending::sending, crate::proofs::Sending::resting))]
     fn step<R: Wait + Clock>(
         &mut self,
         rt: &R,
         pool: &mut SeatPool,
         piece: &mut [u8],
         output_permit: &OutputPermit,
-    ) -> Option<Pause>
+    ) -> Option<Progress>
         requires known { IsLater self.old.client_connection.seen pool.old.seen }
         requires whole { self.old.refused ≡ false }
         ensures known { IsLater self.new.client_connection.seen pool.new.seen }
         ensures later { IsLater pool.old.seen pool.new.seen }
         ensures first { self.new.client_connection.first ≡ self.old.client_connection.first }
+        ensures unheard { self.new.client_connection.heard ≡ self.old.client_connection.heard }
         ensures given { HasPassed self.old.given self.new.given }
         ensures taken { HasPassed self.old.taken self.new.taken }
         ensures gone { self.new.gone ≡ self.old.gone }
         ensures faults { self.old.faults ≤ self.new.faults }
         ensures whole { IfNone result (self.new.refused ≡ false) }
-        ensures paused { IfSome result (λ pause. HasPaused pause self.old.faults self.new) }
-        ensures held { output_permit.now ≡ false → IfSome result (λ pause. pause ≢ Pause.Lease) }
+        ensures paused { IfSome result
+            (λ progress. HasPaused progress.pause self.old self.new pool.old pool.new) }
+        ensures sent { HasSentInTurn self.old.client_connection self.new.client_connection pool.old pool.new }
+        ensures unsent { IfSome result (λ progress. IsFalse progress.has_sent → HasSentNothing pool.old pool.new) }
+        ensures quiet { IfNone result
+            (HasGoneQuietly self.old.client_connection self.new.client_connection pool.old pool.new) }
+        ensures held { output_permit.now ≡ false → IfSome result (λ progress. progress.pause ≢ Pause.Lease) }
     {
-        match self.client_connection.go(rt, pool) {
-            Ok(Went::Input) => self.read(piece),
-            Ok(Went::Write) => self.write(rt, output_permit),
-            Ok(Went::Seat) => Some(Pause::Seat),
-            Ok(Went::Reply) => Some(Pause::Reply),
-            Ok(Went::More) => Some(Pause::Turn),
-            Ok(Went::End(_)) => Some(Pause::Over),
-            Err(_) => Some(Pause::Over),
+        let in_flight = self.client_connection.in_flight();
+        match self.client_connection.advance(rt, pool) {
+            Ok(Pause::Input) => without_call(self.read(piece)),
+            Ok(Pause::Output) => without_call(self.write(rt, output_permit)),
+            Ok(Pause::Reply) => Some(Progress {
+                pause: Pause::Reply,
+                has_sent: is_another(self.client_connection.in_flight(), in_flight),
+            }),
+            Ok(Pause::Seat) => Some(Progress {
+                pause: Pause::Seat,
+                has_sent: false,
+            }),
+            Ok(Pause::Turn) => Some(Progress {
+                pause: Pause::Turn,
+                has_sent: false,
+            }),
+            Ok(Pause::Over) => Some(Progress {
+                pause: Pause::Over,
+                has_sent: false,
+            }),
+            Ok(Pause::Lease) => unreachable!(),
+            Err(_) => Some(Progress {
+                pause: Pause::Over,
+                has_sent: true,
+            }),
         }
     }
 
     // Reads once, if there may be input.
-    #[tactic(auto, using(crate::proofs::Pausing::passed, crate::proofs::Pausing::ending))]
+    #[tactic(auto, using(crate::proofs::Pausing::passed, crate::proofs::Pausing::breaking, crate::proofs::Sending::resting))]
     fn read(&mut self, piece: &mut [u8]) -> Option<Pause>
         requires reads { self.old.client_connection.standing ≡ Reading }
+        requires waits { self.old.client_connection.connected.waiting ≡ [] }
         requires whole { self.old.refused ≡ false }
+        ensures rest { IsAtRest self.new.client_connection }
         ensures seen { self.new.client_connection.seen ≡ self.old.client_connection.seen }
         ensures first { self.new.client_connection.first ≡ self.old.client_connection.first }
+        ensures unheard { self.new.client_connection.heard ≡ self.old.client_connection.heard }
         ensures given { HasPassed self.old.given self.new.given }
         ensures taken { self.new.taken ≡ self.old.taken }
         ensures gone { self.new.gone ≡ self.old.gone }
         ensures faults { self.old.faults ≤ self.new.faults }
         ensures whole { IfNone result (self.new.refused ≡ false) }
-        ensures paused { IfSome result (λ pause. HasPaused pause self.old.faults self.new) }
+        ensures paused { IfSome result (λ pause. HasPausedAtSocket pause self.old.faults self.new) }
         ensures held { IfSome result (λ pause. pause ≢ Pause.Lease) }
     {
         if !self.is_readable {
-            return Some(Pause::Socket);
+            return Some(Pause::Input);
         }
         match read(&mut self.client_socket, &mut self.client_connection, piece) {
             Some(ReadOutcome::Bytes(n)) => {
@@ -264,7 +320,7 @@ impl<S: Read + Write> Client<S> {
             }
             Some(ReadOutcome::Nothing) => {
                 self.is_readable = false;
-                Some(Pause::Socket)
+                Some(Pause::Input)
             }
             Some(ReadOutcome::End) => None,
             Some(ReadOutcome::Fault) => Some(Pause::Over),
@@ -276,53 +332,54 @@ impl<S: Read + Write> Client<S> {
     }
 
     // Writes once, if output may be taken, and the server may put it out.
-    #[tactic(auto, using(crate::proofs::Pausing::passed, crate::proofs::Pausing::ending))]
+    #[tactic(auto, using(crate::proofs::Pausing::passed, crate::proofs::Pausing::breaking, crate::proofs::Sending::resting))]
     fn write<R: Clock>(&mut self, rt: &R, output_permit: &OutputPermit) -> Option<Pause>
         requires writes { 0 < length self.old.client_connection.connected.due }
+        requires rests { IsAtRest self.old.client_connection }
+        ensures rest { IsAtRest self.new.client_connection }
         ensures seen { self.new.client_connection.seen ≡ self.old.client_connection.seen }
         ensures first { self.new.client_connection.first ≡ self.old.client_connection.first }
+        ensures unheard { self.new.client_connection.heard ≡ self.old.client_connection.heard }
         ensures given { self.new.given ≡ self.old.given }
         ensures taken { HasPassed self.old.taken self.new.taken }
         ensures gone { self.new.gone ≡ self.old.gone }
         ensures faults { self.old.faults ≤ self.new.faults }
         ensures whole { self.new.refused ≡ self.old.refused }
-        ensures paused { IfSome result (λ pause. HasPaused pause self.old.faults self.new) }
+        ensures paused { IfSome result (λ pause. HasPausedAtSocket pause self.old.faults self.new) }
         ensures held { output_permit.now ≡ false → IfSome result (λ pause. pause ≢ Pause.Lease) }
     {
         if !self.is_writable {
-            return Some(Pause::Socket);
+            return Some(Pause::Output);
         }
-        if !output_permit.lets(rt) {
+        let Some(permit) = output_permit.lets(rt, self.client_connection.output()) else {
             return Some(Pause::Lease);
-        }
-        match write(&mut self.client_socket, &mut self.client_connection) {
+        };
+        match write(&mut self.client_socket, &mut self.client_connection, permit) {
             WriteOutcome::Bytes(_) => None,
             WriteOutcome::Nothing => {
                 self.is_writable = false;
-                Some(Pause::Socket)
+                Some(Pause::Output)
             }
             WriteOutcome::Fault => Some(Pause::Over),
         }
     }
 
     /// Takes the replies to the calls that were sent, as many as have come, that to the oldest call first, and says
-    /// whether there was one. Some(false) if not; None if none ever will, or memory is out. Nothing is read or written.
-    pub fn hear<R: Wait>(&mut self, rt: &R, pool: &mut SeatPool) -> Option<bool>
+    /// what came of them. Nothing is read, written or sent.
+    pub fn receive_replies<R: Wait>(&mut self, rt: &R, pool: &mut SeatPool) -> Heard
         requires known { IsLater self.old.client_connection.seen pool.old.seen }
         ensures known { IsLater self.new.client_connection.seen pool.new.seen }
         ensures later { IsLater pool.old.seen pool.new.seen }
         ensures same { self.new ≡ record self.old { client_connection = self.new.client_connection } }
         ensures first { self.new.client_connection.first ≡ self.old.client_connection.first }
         ensures further { IsFurther self.old.client_connection.connected self.new.client_connection.connected }
-        ensures heard { IfSome result
-            (λ heard. MatchBool heard (HasHeard self.new.client_connection)
-            (self.new.client_connection ≡ self.old.client_connection)) }
-        ensures over { IfNone result (self.new.client_connection.standing ≡ Spent) }
+        ensures heard { HasHeardOf result self.old.client_connection self.new.client_connection pool.old pool.new }
+        ensures unsent { HasSentNothing pool.old pool.new }
     {
-        match self.client_connection.hear(rt, pool) {
-            Ok(true) => Some(true),
-            Ok(false) => Some(false),
-            Err(_) => None,
+        match self.client_connection.receive_replies(rt, pool) {
+            Ok(true) => Heard::Reply,
+            Ok(false) => Heard::NotYet,
+            Err(fault) => Heard::Over(fault),
         }
     }
 
@@ -344,14 +401,47 @@ impl<S: Read + Write> Client<S> {
     }
 }
 
+// Nothing is sent while nothing is done.
+#[tactic(auto, using(crate::proofs::Sending::nothing_yet))]
+fn still(client_connection: &ClientConnection)
+    ensures { (pool : Pooling) → HasSentInTurn client_connection.now client_connection.now pool pool }
+{
+    client_connection.so_far();
+}
+
+// It goes no further for this reason, if there is one, and sent no call.
+fn without_call(pause: Option<Pause>) -> Option<Progress>
+    ensures { result ≡ without_call pause }
+{
+    match pause {
+        Some(pause) => Some(Progress {
+            pause,
+            has_sent: false,
+        }),
+        None => None,
+    }
+}
+
+// Whether another number of calls is in flight than before.
+fn is_another(now: Option<usize>, before: Option<usize>) -> bool
+    ensures { IsFalse result → now ≡ before }
+{
+    match (now, before) {
+        (Some(n), Some(m)) => n != m,
+        (None, None) => false,
+        _ => true,
+    }
+}
+
 // Reads once, and feeds what came. None if memory is refused to that.
-#[tactic(auto, using(crate::proofs::Pausing::passed))]
+#[tactic(auto, using(crate::proofs::Pausing::passed, crate::proofs::Sending::resting))]
 fn read<S: Read + Write>(
     client_socket: &mut ClientSocket<S>,
     client_connection: &mut ClientConnection,
     piece: &mut [u8],
 ) -> Option<ReadOutcome>
     requires reads { client_connection.old.standing ≡ Reading }
+    requires waits { client_connection.old.connected.waiting ≡ [] }
     requires given { client_socket.old.given ≡ client_connection.old.connected.read }
     requires taken { client_socket.old.taken ≡ client_connection.old.connected.written }
     ensures given { OnSome result (client_socket.new.given ≡ client_connection.new.connected.read) }
@@ -361,8 +451,10 @@ fn read<S: Read + Write>(
     ensures faults { MatchOption result (client_socket.new.faults ≡ client_socket.old.faults)
         (λ came. client_socket.new.faults ≡ client_socket.old.faults + read_faults came) }
     ensures waits { IfSome result (λ came. came ≡ ReadOutcome.Nothing → client_connection.new ≡ client_connection.old) }
+    ensures rest { IsAtRest client_connection.new }
     ensures seen { client_connection.new.seen ≡ client_connection.old.seen }
     ensures first { client_connection.new.first ≡ client_connection.old.first }
+    ensures unheard { client_connection.new.heard ≡ client_connection.old.heard }
 {
     match client_socket.read(piece) {
         ReadOutcome::Bytes(n) => {
@@ -380,12 +472,15 @@ fn read<S: Read + Write>(
     }
 }
 
-// Writes once, and counts what went.
-#[tactic(auto, using(crate::proofs::Pausing::passed))]
+// Writes once, what this permit was given for, and counts what went.
+#[tactic(auto, using(crate::proofs::Pausing::passed, crate::proofs::Sending::resting))]
 fn write<S: Read + Write>(
     client_socket: &mut ClientSocket<S>,
     client_connection: &mut ClientConnection,
+    permit: Permit,
 ) -> WriteOutcome
+    requires permitted { permit ≡ client_connection.old.connected.due }
+    requires rests { IsAtRest client_connection.old }
     requires taken { client_socket.old.taken ≡ client_connection.old.connected.written }
     ensures given { client_socket.new.given ≡ client_socket.old.given }
     ensures read { client_connection.new.connected.read ≡ client_connection.old.connected.read }
@@ -393,10 +488,12 @@ fn write<S: Read + Write>(
     ensures passed { HasPassed client_socket.old.taken client_socket.new.taken }
     ensures faults { client_socket.new.faults ≡ client_socket.old.faults + write_faults result }
     ensures waits { result ≡ WriteOutcome.Nothing → client_connection.new ≡ client_connection.old }
+    ensures rest { IsAtRest client_connection.new }
     ensures seen { client_connection.new.seen ≡ client_connection.old.seen }
     ensures first { client_connection.new.first ≡ client_connection.old.first }
+    ensures unheard { client_connection.new.heard ≡ client_connection.old.heard }
 {
-    match client_socket.write(client_connection.output()) {
+    match client_socket.write(client_connection.output(), permit) {
         WriteOutcome::Bytes(n) => {
             client_connection.written(n);
             WriteOutcome::Bytes(n)

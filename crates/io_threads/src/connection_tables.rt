@@ -1,12 +1,17 @@
 //! The clients of one thread at one server, and the seats that it has there.
 
-use crate::clients::{Pause, Ready};
+use crate::clients::{Heard, Ready};
+use crate::known_clients;
+use crate::known_clients::Clients;
 use crate::loop_handles::Arrival;
-use crate::served_clients::{ServedClients, Waits};
 use crate::wait_queues::WaitQueue;
 use mio::{Interest, Registry, Token};
-use seats::{Mark, OutputPermit, SeatPool};
+use seats::{Pause, SeatPool};
+use server_guards::{Mark, OutputPermit};
+use serving::ServeFault;
+use slab::Slab;
 use std::alloc::{AllocError, Global};
+use std::marker::Model;
 use std::sync::Wait;
 use std::time::Clock;
 
@@ -25,12 +30,15 @@ pub(crate) struct ConnectionTableParts {
     pub(crate) output_permit: OutputPermit,
 }
 
-/// The clients of one thread at one server. Each waits for its socket, or its key stands in one of the four queues,
-/// once.
+/// The clients of one thread at one server, by keys, and the seats that the thread has there. Each client waits for its
+/// socket, or its key stands in one of the four queues, once. The type keeps that the reader of the seats knows all that
+/// was told to any client. Contracts see what the reader has seen.
 #[derive(Drop)]
 pub(crate) struct ConnectionTable {
+    alloc: Global,
     id: u8,
-    served_clients: ServedClients,
+    pool: SeatPool,
+    clients: Clients,
     // The keys of those that may go on.
     ready_queue: WaitQueue,
     // Of those whose calls wait for a seat. One is free only while such a call is about to be sent.
@@ -49,6 +57,22 @@ pub(crate) struct ConnectionTable {
     is_shut: bool,
 }
 
+impl Model for ConnectionTable {
+    ghost use Rattle.std.specs.Coded.{codes};
+    ghost use Rattle.logbook.specs.Pages.{book_coded};
+    ghost use Rattle.versions.specs.Stores.{coded_items};
+    ghost use Rattle.faces.specs.Histories.{History};
+    ghost use Rattle.io_threads.specs.KnownClients.{KnowsAll};
+
+    ghost Value = { History };
+
+    ghost coded = { Prim.hlevel (codes, coded_items, book_coded) };
+
+    ghost view = { λ t. t.pool.seen };
+
+    ghost invariant = { λ t. KnowsAll t.pool.seen t.clients };
+}
+
 impl ConnectionTable {
     /// Without clients. It allocates nothing.
     pub(crate) fn new(alloc: Global, table_parts: ConnectionTableParts) -> ConnectionTable {
@@ -59,8 +83,10 @@ impl ConnectionTable {
             output_permit,
         } = table_parts;
         ConnectionTable {
+            alloc,
             id,
-            served_clients: ServedClients::new(alloc, pool),
+            pool,
+            clients: Slab::new(alloc),
             ready_queue: WaitQueue::new(alloc),
             seat_queue: WaitQueue::new(alloc),
             reply_queue: WaitQueue::new(alloc),
@@ -91,7 +117,7 @@ impl ConnectionTable {
 
     /// Whether it has no client.
     pub(crate) fn is_empty(&self) -> bool {
-        self.served_clients.is_empty()
+        self.clients.is_empty()
     }
 
     /// Whether a client may take steps.
@@ -122,65 +148,56 @@ impl ConnectionTable {
             drop(arrival);
             return;
         }
-        let Arrival {
-            permit,
-            mut stream,
-            ..
-        } = arrival;
-        let _ = stream.set_nodelay(true);
+        let Arrival { mut stream, .. } = arrival;
+        let _ = stream.stream.set_nodelay(true);
         let token = self
-            .served_clients
-            .next_key()
+            .clients
+            .vacant_key()
             .wrapping_mul(SERVERS)
             .wrapping_add(usize::from(self.id));
         let interests = Interest::READABLE | Interest::WRITABLE;
         if registry
-            .register(&mut stream, Token(token), interests)
+            .register(&mut stream.stream, Token(token), interests)
             .is_ok()
         {
-            self.served_clients.add(stream, permit);
-        } else {
-            drop(permit);
-            drop(stream);
+            known_clients::add(self.alloc, &self.pool, &mut self.clients, stream);
         }
     }
 
     /// A client's socket was found ready for this. If it waits for that, it goes on for a while. If it is gone while
     /// its call or its output waits, it is closed at once.
-    pub(crate) fn is_ready_for<R: Wait + Clock>(
+    pub(crate) fn take_event<R: Wait + Clock>(
         &mut self,
         rt: &R,
         key: usize,
         ready: Ready,
         piece: &mut [u8],
     ) {
-        match self.served_clients.is_ready_for(key, ready) {
-            Some(Waits::Socket) => self.go(rt, key, piece),
-            Some(Waits::Seat) => {
-                if ready.gone {
-                    self.seat_queue.leave(key);
-                    self.served_clients.close(key);
-                }
+        match known_clients::note_ready(&self.pool, &mut self.clients, key, ready) {
+            Some(Pause::Input | Pause::Output) => self.serve_client(rt, key, piece),
+            Some(Pause::Seat) if ready.gone => {
+                self.seat_queue.leave(key);
+                self.close(key);
             }
-            Some(Waits::Reply) => {
-                if ready.gone {
-                    self.reply_queue.leave(key);
-                    self.served_clients.close(key);
-                }
+            Some(Pause::Reply) if ready.gone => {
+                self.reply_queue.leave(key);
+                self.close(key);
             }
-            Some(Waits::Lease) => {
-                if ready.gone {
-                    self.lease_queue.leave(key);
-                    self.served_clients.close(key);
-                }
+            Some(Pause::Lease) if ready.gone => {
+                self.lease_queue.leave(key);
+                self.close(key);
             }
-            Some(Waits::Turn) | None => {}
+            _ => {}
         }
     }
 
-    /// Looks at a client, so that it is near once it goes on.
+    /// Looks at a client, so that it is near once it goes on: how much output is due there, and one more if it wants
+    /// input. None counts as nothing.
     pub(crate) fn look_at(&self, key: usize) -> usize {
-        self.served_clients.look_at(key)
+        match self.clients.get(key) {
+            Some(client) => client.look_at(),
+            None => 0,
+        }
     }
 
     /// Closes all clients, without a further byte, if the server is marked and they weren't closed before.
@@ -197,7 +214,7 @@ impl ConnectionTable {
         self.seat_queue.clear();
         self.reply_queue.clear();
         self.lease_queue.clear();
-        self.served_clients.close_all();
+        known_clients::close_all(&self.pool, &mut self.clients);
     }
 
     /// Has each client that may take steps take some. Those whose output waited may, once the server may put it out.
@@ -207,7 +224,7 @@ impl ConnectionTable {
             let Some(key) = self.ready_queue.next() else {
                 return;
             };
-            self.go(rt, key, piece);
+            self.serve_client(rt, key, piece);
         }
     }
 
@@ -215,20 +232,26 @@ impl ConnectionTable {
     /// Whether there were any.
     pub(crate) fn collect<R: Wait + Clock>(&mut self, rt: &R, piece: &mut [u8]) -> bool {
         self.check_stopped();
-        self.served_clients.collect(rt);
+        known_clients::collect(rt, &mut self.pool, &self.clients);
         let mut any = self.serve_seat_queue(rt, piece);
         for _ in 0..self.reply_queue.len() {
             let Some(key) = self.reply_queue.next() else {
                 return any;
             };
-            match self.served_clients.hear(rt, key) {
-                Some(false) => self.await_reply(key),
-                Some(true) => {
+            match known_clients::receive_replies(rt, &mut self.pool, &mut self.clients, key) {
+                Heard::NotYet => self.await_reply(key),
+                Heard::Reply => {
                     any = true;
                     self.serve_seat_queue(rt, piece);
-                    self.go(rt, key, piece);
+                    self.serve_client(rt, key, piece);
                 }
-                None => {
+                // Only this client's text found no memory; a reply is heard without a read or a write.
+                Heard::Over(ServeFault::Memory | ServeFault::Read | ServeFault::Write) => {
+                    any = true;
+                    self.close(key);
+                    self.serve_seat_queue(rt, piece);
+                }
+                Heard::Over(ServeFault::Call) => {
                     self.shut();
                     return true;
                 }
@@ -241,61 +264,72 @@ impl ConnectionTable {
     fn serve_seat_queue<R: Wait + Clock>(&mut self, rt: &R, piece: &mut [u8]) -> bool {
         let mut any = false;
         for _ in 0..self.seat_queue.len() {
-            if !self.served_clients.has_free_seat() {
+            if !self.pool.has_free() {
                 return any;
             }
             let Some(key) = self.seat_queue.next() else {
                 return any;
             };
             any = true;
-            self.go(rt, key, piece);
+            self.serve_client(rt, key, piece);
         }
         any
     }
 
     // Has those go on whose output waits, if the server may put it out now.
     fn serve_held<R: Wait + Clock>(&mut self, rt: &R, piece: &mut [u8]) {
-        if self.lease_queue.is_empty() || !self.output_permit.lets(rt) {
+        if self.lease_queue.is_empty() || self.output_permit.lets(rt, &[]).is_none() {
             return;
         }
         for _ in 0..self.lease_queue.len() {
             let Some(key) = self.lease_queue.next() else {
                 return;
             };
-            self.go(rt, key, piece);
+            self.serve_client(rt, key, piece);
         }
     }
 
     // Has a client go on for a while, unless the server is marked: then all are closed.
-    fn go<R: Wait + Clock>(&mut self, rt: &R, key: usize, piece: &mut [u8]) {
+    fn serve_client<R: Wait + Clock>(&mut self, rt: &R, key: usize, piece: &mut [u8]) {
         if self.mark.is_set() {
             self.shut();
             return;
         }
-        match self.served_clients.go(rt, key, piece, &self.output_permit) {
+        let progress = known_clients::serve(
+            rt,
+            &mut self.pool,
+            &mut self.clients,
+            key,
+            piece,
+            &self.output_permit,
+        );
+        self.has_sent |= progress.has_sent;
+        match progress.pause {
             Pause::Turn => self.enqueue(key),
-            Pause::Socket => {}
+            Pause::Input | Pause::Output => {}
             Pause::Seat => self.await_seat(key),
-            Pause::Reply => {
-                self.has_sent = true;
-                self.await_reply(key);
-            }
+            Pause::Reply => self.await_reply(key),
             Pause::Lease => self.hold(key),
-            Pause::Over => self.served_clients.close(key),
+            Pause::Over => self.close(key),
         }
+    }
+
+    // Closes a client.
+    fn close(&mut self, key: usize) {
+        known_clients::close(&mut self.pool, &mut self.clients, key);
     }
 
     // A client may go on.
     fn enqueue(&mut self, key: usize) {
         if self.ready_queue.join(key).is_err() {
-            self.served_clients.close(key);
+            self.close(key);
         }
     }
 
     // A client's call waits for a seat.
     fn await_seat(&mut self, key: usize) {
         if self.seat_queue.join(key).is_err() {
-            self.served_clients.close(key);
+            self.close(key);
         }
     }
 
@@ -309,7 +343,7 @@ impl ConnectionTable {
     // A client's output waits until the server may put it out.
     fn hold(&mut self, key: usize) {
         if self.lease_queue.join(key).is_err() {
-            self.served_clients.close(key);
+            self.close(key);
         }
     }
 }

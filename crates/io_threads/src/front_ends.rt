@@ -1,14 +1,17 @@
 //! Starts the threads that accept and serve connections.
 
 use crate::accepting::{Acceptor, ServerListener};
+use crate::connection_permits::PermitIssuer;
 use crate::connection_tables::{ConnectionTableParts, SERVERS};
+use crate::guests::Guests;
 use crate::loop_handles::LoopHandles;
 use crate::loops::ThreadParts;
 use crate::turn_schedulers::TurnScheduler;
 use libc::net;
 use mio::Poll;
 use mio::net::TcpListener as Listener;
-use seats::{Mark, OutputPermit, SeatPool};
+use seats::SeatPool;
+use server_guards::{Mark, OutputPermit};
 use std::alloc::{AllocError, AllocFailed, Global};
 use std::net::{Net, TcpListener};
 use std::os::fd::AsRawFd;
@@ -51,13 +54,16 @@ impl<T: Drop> From<AllocFailed<T>> for FrontEndFault {
     }
 }
 
-/// How many connections a front end serves.
+/// How many connections a front end serves, and which thread serves them.
 #[derive(Clone, Copy, Debug)]
 pub struct FrontEndSettings {
     /// How many may be open at once, of each server.
     pub connections: u64,
     /// How many are accepted of each server before the front end closes; with 0 it never does.
     pub serves: u64,
+    /// How many connections of a server a thread gets before another one gets any; with 1 they are dealt out as evenly
+    /// as can be.
+    pub dense: u64,
 }
 
 /// One server of a front end: where its clients connect, the seats of each thread, the mark that is set as soon as it
@@ -79,10 +85,12 @@ pub struct FrontEnd {
 
 /// Starts the threads that serve the clients of these servers, one for each poll of the loop handles, and the one that
 /// accepts connections. The servers stand in the order of their ids. Refused with Numbers if some thread has no seat at
-/// some server, or there are more than 16 servers, else with Memory; threads that were started then end.
+/// some server, or there are more than 16 servers, else with Memory; threads that were started then end. The first
+/// thread reads the guests, if there are any.
 pub fn open_front_end<
     R: Wait + Threads + Clock + Net + Copy + Drop + Send + 'static,
     T: TurnScheduler + Send + Sync + Drop + 'static,
+    G: Guests + Drop + Send + 'static,
 >(
     rt: R,
     alloc: Global,
@@ -91,8 +99,10 @@ pub fn open_front_end<
     loop_handles: &Arc<LoopHandles, Global>,
     polls: Vec<Poll>,
     served_servers: Vec<FrontEndServer>,
+    guests: Option<G>,
 ) -> Result<FrontEnd, FrontEndFault> {
     if served_servers.len() > SERVERS {
+        drop(guests);
         return Err(FrontEndFault::Numbers);
     }
     let front_end = start(
@@ -103,6 +113,7 @@ pub fn open_front_end<
         loop_handles,
         polls,
         served_servers,
+        guests,
     );
     if front_end.is_err() {
         loop_handles.finish();
@@ -114,6 +125,7 @@ pub fn open_front_end<
 fn start<
     R: Wait + Threads + Clock + Net + Copy + Drop + Send + 'static,
     T: TurnScheduler + Send + Sync + Drop + 'static,
+    G: Guests + Drop + Send + 'static,
 >(
     rt: R,
     alloc: Global,
@@ -122,17 +134,20 @@ fn start<
     loop_handles: &Arc<LoopHandles, Global>,
     polls: Vec<Poll>,
     served_servers: Vec<FrontEndServer>,
+    guests: Option<G>,
 ) -> Result<FrontEnd, FrontEndFault> {
     let threads = polls.len();
     let (server_listeners, table_parts) = make_tables(alloc, settings, threads, served_servers)?;
-    let handles = start_serving(rt, alloc, turn_scheduler, loop_handles, polls, table_parts)?;
-    let acceptor = Acceptor::new(
+    let handles = start_serving(
         rt,
         alloc,
-        server_listeners,
-        Arc::try_clone(loop_handles)?,
-        threads,
+        turn_scheduler,
+        loop_handles,
+        polls,
+        table_parts,
+        guests,
     )?;
+    let acceptor = Acceptor::new(rt, alloc, server_listeners, Arc::try_clone(loop_handles)?)?;
     let Ok(acceptor) = thread::spawn(&rt, move || run_acceptor(acceptor)) else {
         return Err(FrontEndFault::Memory);
     };
@@ -165,7 +180,8 @@ trait Task {
     fn run(self);
 }
 
-impl<R: Wait + Clock + Copy + Drop, T: TurnScheduler + Drop> Task for ThreadParts<R, T> {
+impl<R: Wait + Clock + Copy + Drop, T: TurnScheduler + Drop, G: Guests + Drop> Task
+    for ThreadParts<R, T, G> {
     fn run(self) {
         let mut serving = self.begin();
         serving.run();
@@ -201,7 +217,7 @@ fn make_tables(
             output_permit,
         } = served_server;
         add_table_parts(&mut table_parts, id, pools, &mark, &output_permit)?;
-        server_listeners.push(server_listener(alloc, settings, listener, mark)?)?;
+        server_listeners.push(server_listener(alloc, settings, threads, listener, mark)?)?;
         id = id.wrapping_add(1);
     }
     Ok((server_listeners, table_parts))
@@ -244,10 +260,11 @@ fn add_table_parts(
     Ok(())
 }
 
-// Where connections to a server are accepted.
+// Where connections to a server are accepted, for this many threads.
 fn server_listener(
     alloc: Global,
     settings: FrontEndSettings,
+    threads: usize,
     listener: TcpListener,
     mark: Mark,
 ) -> Result<ServerListener, FrontEndFault> {
@@ -256,7 +273,8 @@ fn server_listener(
     }
     keep_waiting(&listener);
     let listener = Listener::from_std(listener);
-    Ok(ServerListener::new(alloc, listener, mark, settings.connections, settings.serves)?)
+    let permit_issuer = PermitIssuer::new(alloc, threads, settings.connections, settings.dense)?;
+    Ok(ServerListener::new(listener, permit_issuer, mark, settings.serves))
 }
 
 // Has the system keep as many connections as it may that weren't accepted yet.
@@ -268,6 +286,7 @@ fn keep_waiting(listener: &TcpListener) {
 fn start_serving<
     R: Wait + Threads + Clock + Copy + Drop + Send + 'static,
     T: TurnScheduler + Send + Sync + Drop + 'static,
+    G: Guests + Drop + Send + 'static,
 >(
     rt: R,
     alloc: Global,
@@ -275,8 +294,10 @@ fn start_serving<
     loop_handles: &Arc<LoopHandles, Global>,
     polls: Vec<Poll>,
     table_parts: Vec<Vec<ConnectionTableParts>>,
+    guests: Option<G>,
 ) -> Result<Vec<JoinHandle<()>>, FrontEndFault> {
     let mut handles = Vec::new(alloc);
+    let mut guests = guests;
     let mut me = 0usize;
     let mut polls = polls.into_iter();
     for own in table_parts {
@@ -293,6 +314,7 @@ fn start_serving<
             loop_handles,
             poll,
             own,
+            guests.take(),
         )?;
         handles.push(start_thread(&rt, thread_parts)?)?;
         me = me.wrapping_add(1);

@@ -1,7 +1,6 @@
 //! The serving threads, as others see them: who hands them connections, and who wakes them.
 
-use crate::connection_permits::ConnectionPermit;
-use mio::net::TcpStream;
+use crate::permitted_streams::PermittedStream;
 use mio::{Poll, Token, Waker};
 use rail::PortSet;
 use std::alloc::{AllocError, Global};
@@ -19,9 +18,7 @@ const PORTS: usize = 64;
 /// A connection on its way to the thread that serves it.
 #[derive(Drop)]
 pub(crate) struct Arrival {
-    // Before the stream, as it is dropped first: who sees the connection end finds room.
-    pub(crate) permit: ConnectionPermit,
-    pub(crate) stream: TcpStream,
+    pub(crate) stream: PermittedStream,
     /// The server to which it was made.
     pub(crate) server: u8,
 }

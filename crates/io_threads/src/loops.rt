@@ -1,15 +1,25 @@
 //! A serving thread: it waits for its sockets, serves what is ready, takes turns, and hands on the replies.
+ghost use Rattle.std.specs.Prelude.{◌≡◌, ◌%◌, [], true};
+ghost use Rattle.mio.specs.Events.{items};
+ghost use Rattle.in_process_links.specs.ServerSets.{has_server};
 
 use crate::clients::Ready;
 use crate::connection_tables::{ConnectionTable, ConnectionTableParts, SERVERS};
+use crate::guests::Guests;
 use crate::loop_handles::{LoopHandles, OpenAt, WAKE};
 use crate::turn_schedulers::TurnScheduler;
 use crossbeam_utils::Backoff;
+use in_process_links::ServerSet;
 use mio::{Events, Poll, Token};
-use seats::ServerSet;
 use std::alloc::{AllocError, Global};
 use std::sync::{Arc, Wait};
 use std::time::{Clock, Duration};
+
+/// The token of the guest of place 0, 2^40. No client has a token as high.
+const FIRST_GUEST: usize = 1_099_511_627_776;
+
+/// The server to which guests bring.
+const HOST: u8 = 0;
 
 /// The most bytes of one read.
 const PIECE: usize = 65_536;
@@ -35,7 +45,7 @@ const HELD: u64 = 10;
 
 /// What a serving thread begins with. Unlike the thread's own state it may be sent to another thread.
 #[derive(Drop)]
-pub(crate) struct ThreadParts<R: Wait + Drop, T: TurnScheduler + Drop> {
+pub(crate) struct ThreadParts<R: Wait + Drop, T: TurnScheduler + Drop, G: Guests + Drop> {
     rt: R,
     alloc: Global,
     me: usize,
@@ -45,12 +55,14 @@ pub(crate) struct ThreadParts<R: Wait + Drop, T: TurnScheduler + Drop> {
     events: Events,
     // By the servers' ids.
     table_parts: Vec<ConnectionTableParts>,
+    // None but for the first thread.
+    guests: Option<G>,
     piece: Vec<u8>,
 }
 
 /// A serving thread.
 #[derive(Drop)]
-pub(crate) struct IoThread<R: Wait + Drop, T: TurnScheduler + Drop> {
+pub(crate) struct IoThread<R: Wait + Drop, T: TurnScheduler + Drop, G: Guests + Drop> {
     rt: R,
     me: usize,
     turn_scheduler: Arc<T, Global>,
@@ -59,6 +71,8 @@ pub(crate) struct IoThread<R: Wait + Drop, T: TurnScheduler + Drop> {
     events: Events,
     // By the servers' ids. None if memory was out as it began.
     connection_tables: Vec<ConnectionTable>,
+    // None but for the first thread.
+    guests: Option<G>,
     // Where all reads go.
     piece: Vec<u8>,
     // The servers that it is to visit, and the one that it visited last.
@@ -68,7 +82,7 @@ pub(crate) struct IoThread<R: Wait + Drop, T: TurnScheduler + Drop> {
     seen: usize,
 }
 
-impl<R: Wait + Copy + Drop, T: TurnScheduler + Drop> ThreadParts<R, T> {
+impl<R: Wait + Copy + Drop, T: TurnScheduler + Drop, G: Guests + Drop> ThreadParts<R, T, G> {
     /// Of a thread with this loop handle, which waits here. Refused only if memory is out.
     pub(crate) fn new(
         rt: R,
@@ -78,7 +92,8 @@ impl<R: Wait + Copy + Drop, T: TurnScheduler + Drop> ThreadParts<R, T> {
         loop_handles: Arc<LoopHandles, Global>,
         poll: Poll,
         table_parts: Vec<ConnectionTableParts>,
-    ) -> Result<ThreadParts<R, T>, AllocError> {
+        guests: Option<G>,
+    ) -> Result<ThreadParts<R, T, G>, AllocError> {
         Ok(ThreadParts {
             rt,
             alloc,
@@ -88,12 +103,13 @@ impl<R: Wait + Copy + Drop, T: TurnScheduler + Drop> ThreadParts<R, T> {
             poll,
             events: Events::with_capacity(alloc, EVENTS)?,
             table_parts,
+            guests,
             piece: Vec::from_elem(alloc, 0u8, PIECE)?,
         })
     }
 
     /// The thread itself. If memory is out for its connection tables, it has none, and closes what is handed to it.
-    pub(crate) fn begin(self) -> IoThread<R, T> {
+    pub(crate) fn begin(self) -> IoThread<R, T, G> {
         let ThreadParts {
             rt,
             alloc,
@@ -103,6 +119,7 @@ impl<R: Wait + Copy + Drop, T: TurnScheduler + Drop> ThreadParts<R, T> {
             poll,
             events,
             table_parts,
+            guests,
             piece,
         } = self;
         let connection_tables = match ConnectionTable::open_all(alloc, table_parts) {
@@ -117,6 +134,7 @@ impl<R: Wait + Copy + Drop, T: TurnScheduler + Drop> ThreadParts<R, T> {
             poll,
             events,
             connection_tables,
+            guests,
             piece,
             due: ServerSet::new(),
             last: 0,
@@ -125,13 +143,14 @@ impl<R: Wait + Copy + Drop, T: TurnScheduler + Drop> ThreadParts<R, T> {
     }
 }
 
-impl<R: Wait + Clock + Copy + Drop, T: TurnScheduler + Drop> IoThread<R, T> {
+impl<R: Wait + Clock + Copy + Drop, T: TurnScheduler + Drop, G: Guests + Drop> IoThread<R, T, G> {
     /// Serves until no more connections come and all are closed.
     pub(crate) fn run(&mut self) {
         let rt = self.rt;
         for _ in rt.forever() {
             self.wait();
             self.take_events();
+            self.serve_guests();
             self.serve();
             self.turns_and_replies();
             if self.is_done() {
@@ -145,6 +164,7 @@ impl<R: Wait + Clock + Copy + Drop, T: TurnScheduler + Drop> IoThread<R, T> {
     // Waits for what is ready. With something to do it only looks.
     fn wait(&mut self) {
         if self.due != ServerSet::new()
+            || self.has_busy_guests()
             || self
                 .connection_tables
                 .iter()
@@ -238,14 +258,20 @@ impl<R: Wait + Clock + Copy + Drop, T: TurnScheduler + Drop> IoThread<R, T> {
         self.seen = seen;
     }
 
-    // Has each client go on whose socket is ready, and takes new ones in.
-    fn take_events(&mut self) {
+    // Has each client go on whose socket is ready, notes the guests whose socket is, and takes new ones in. No event is
+    // left: a second pass would find a new client under the key of one that was closed, and take that one's end for its
+    // own.
+    fn take_events(&mut self)
+        ensures handled { items self.new.events ≡ [] }
+    {
         self.look_ahead();
         let mut is_woken = false;
         for event in self.events.iter() {
             let Token(token) = event.token();
             if token == WAKE {
                 is_woken = true;
+            } else if token >= FIRST_GUEST {
+                note_guest(&mut self.guests, token.wrapping_sub(FIRST_GUEST));
             } else if let Some(connection_table) = self.connection_tables.get_mut(token % SERVERS) {
                 let ready = Ready {
                     reading: event.is_readable(),
@@ -254,16 +280,20 @@ impl<R: Wait + Clock + Copy + Drop, T: TurnScheduler + Drop> IoThread<R, T> {
                     gone: event.is_error() || event.is_write_closed(),
                 };
                 let key = token / SERVERS;
-                connection_table.is_ready_for(&self.rt, key, ready, self.piece.as_mut_slice());
+                connection_table.take_event(&self.rt, key, ready, self.piece.as_mut_slice());
             }
         }
         if is_woken {
             self.take_arrivals();
         }
+        self.events.clear();
     }
 
-    // Takes in the connections that were handed to this thread.
+    // Takes in the guests that have come, and the connections that were handed to this thread.
     fn take_arrivals(&mut self) {
+        if let Some(guests) = &mut self.guests {
+            guests.take_in(self.poll.registry(), FIRST_GUEST);
+        }
         let Some(arrivals) = self.loop_handles.arrivals(self.me) else {
             return;
         };
@@ -273,6 +303,23 @@ impl<R: Wait + Clock + Copy + Drop, T: TurnScheduler + Drop> IoThread<R, T> {
                 Some(connection_table) => connection_table.admit(registry, arrival),
                 None => drop(arrival),
             }
+        }
+    }
+
+    // Reads guests, for a while. If they may have brought something, a turn is due.
+    fn serve_guests(&mut self) {
+        if let Some(guests) = &mut self.guests {
+            if guests.serve(&self.rt, self.piece.as_mut_slice()) {
+                expect_turn(&*self.turn_scheduler, &mut self.due, HOST);
+            }
+        }
+    }
+
+    // Whether guests may have more to read.
+    fn has_busy_guests(&self) -> bool {
+        match &self.guests {
+            Some(guests) => guests.is_busy(),
+            None => false,
         }
     }
 
@@ -289,8 +336,7 @@ impl<R: Wait + Clock + Copy + Drop, T: TurnScheduler + Drop> IoThread<R, T> {
     fn note_sent(&mut self) {
         for connection_table in self.connection_tables.iter_mut() {
             if connection_table.take_sent() {
-                self.turn_scheduler.expect(connection_table.id());
-                self.due.add(connection_table.id());
+                expect_turn(&*self.turn_scheduler, &mut self.due, connection_table.id());
             }
         }
     }
@@ -349,4 +395,19 @@ impl<R: Wait + Clock + Copy + Drop, T: TurnScheduler + Drop> IoThread<R, T> {
             .iter()
             .all(|connection_table| connection_table.is_empty())
     }
+}
+
+// The socket of the guest of this place is ready.
+fn note_guest<G: Guests>(guests: &mut Option<G>, place: usize) {
+    if let Some(guests) = guests {
+        guests.note_ready(place);
+    }
+}
+
+// Something was put into this server's inbox: a turn is due there.
+fn expect_turn<T: TurnScheduler>(turn_scheduler: &T, due: &mut ServerSet, id: u8)
+    ensures { has_server due.new (id % 32) ≡ true }
+{
+    turn_scheduler.expect(id);
+    due.add(id);
 }

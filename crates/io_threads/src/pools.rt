@@ -10,7 +10,8 @@ ghost use Rattle.io_threads.specs.Pools.{AreAllAt, AreOf, BeginsAs, handles_send
 
 use node::Node;
 use rail::{Inlet, RailFault, Room, Seat, Server, ThreadHandle, Worker, open};
-use seats::{Gauge, Mark, SeatPool};
+use seats::SeatPool;
+use server_guards::{Gauge, Mark};
 use std::alloc::{AllocError, Global};
 use std::sync::Wait;
 

@@ -1,7 +1,7 @@
 //! Who takes the turns of the servers' workers.
 
+use in_process_links::ServerSet;
 use rail::PortSet;
-use seats::ServerSet;
 
 /// What came of a visit to a server.
 #[derive(Clone, Copy, Debug)]
@@ -28,10 +28,10 @@ impl Visit {
 /// Has the turns of the servers of one process taken. Nobody waits for a worker: if another thread is at it, that
 /// thread takes its turns.
 ///
-/// Who has put a call into a server's inbox says so (`expect`), and then takes turns there, and at each server that is
-/// answered as due; or it leaves them to the server's own thread.
+/// Who has put a message into a server's inbox says so (`expect`), and then takes turns there, and at each server that
+/// is answered as due; or it leaves them to the server's own thread.
 pub trait TurnScheduler {
-    /// A call was put into the inbox of server `id`, where turns will be taken.
+    /// A message was put into the inbox of server `id`, where turns will be taken.
     fn expect(&self, id: u8);
 
     /// Takes up to this many turns of server `id`, if no other thread is at it.
@@ -45,26 +45,4 @@ pub trait TurnScheduler {
 
     /// Leaves it to these servers' own threads to take turns there.
     fn leave(&self, servers: ServerSet);
-}
-
-/// A scheduler that leaves all turns to others: each worker has a thread of its own, which its inbox wakes.
-#[derive(Clone, Copy, Debug, Drop)]
-pub struct ScheduledElsewhere;
-
-impl TurnScheduler for ScheduledElsewhere {
-    fn expect(&self, _id: u8) {}
-
-    fn take_turns(&self, _id: u8, _most: usize) -> Visit {
-        Visit::nothing()
-    }
-
-    fn all_due(&self) -> ServerSet {
-        ServerSet::new()
-    }
-
-    fn answers_soon(&self) -> bool {
-        false
-    }
-
-    fn leave(&self, _servers: ServerSet) {}
 }

@@ -4,6 +4,7 @@ ghost use Rattle.leases.specs.Holding.{unheld, holds, learned, entered, beaten, 
 ghost use Rattle.leases.specs.Holding.{report_of, answer_to};
 
 use crate::orders::{Answer, Order, Report};
+use crate::readings::Reading;
 use crate::terms::Term;
 use std::marker::Model;
 
@@ -38,13 +39,16 @@ impl Lease {
         }
     }
 
-    /// What the server does with an order and answers to it, if it knows these servers to be gone, server i being the
-    /// bit of value 2^i, and then the clock showed `now`. Who calls takes a notice (`Answer::Notes`) before the next
-    /// order is heard, so that no answer hides what the server was told.
-    pub fn hear(&mut self, order: Order, gone: u16, now: u64) -> Answer
-        ensures state { self.new ≡ heeded self.old order gone now }
-        ensures answer { result ≡ answer_to self.old order gone now }
+    /// What the server does with an order and answers to it, by a reading of its clock after it knew who is gone,
+    /// server i being the bit of value 2^i. The reading is taken once the order is here, and all earlier ones were
+    /// heard. Who calls takes a notice (`Answer::Notes`) before the next order is heard, so that no answer hides what
+    /// the server was told.
+    pub fn hear(&mut self, order: Order, reading: Reading<u16>) -> Answer
+        ensures state { self.new ≡ heeded self.old order reading.known reading.shown }
+        ensures answer { result ≡ answer_to self.old order reading.known reading.shown }
     {
+        let gone = reading.known();
+        let now = reading.shown();
         let noticed = self.noticed(order);
         self.obey(order, now);
         self.learn(gone, now);
@@ -84,8 +88,8 @@ impl Lease {
         }
     }
 
-    /// How the server is that knows these to be gone, when its clock shows `now`.
-    pub fn report(&self, gone: u16, now: u64) -> Report
+    // How the server is that knows these to be gone, when its clock shows `now`.
+    fn report(&self, gone: u16, now: u64) -> Report
         ensures { result ≡ report_of self.now gone now }
     {
         Report {
@@ -118,11 +122,11 @@ impl Lease {
         epoch == self.epoch
     }
 
-    /// A beat came, of this epoch and with this stamp, and then the clock showed `now`. The lease runs its term from
-    /// the stamp on, which is what this server answered to an earlier beat: not from `now`, since a beat may have lain
-    /// somewhere, while its master waited for the lease to run out. A beat of another epoch does nothing, and so does
-    /// one with a stamp that the clock can't have shown yet.
-    pub fn beat(&mut self, epoch: u64, stamp: u64, now: u64)
+    // A beat came, of this epoch and with this stamp, and then the clock showed `now`. The lease runs its term from the
+    // stamp on, which is what this server answered to an earlier beat: not from `now`, since a beat may have lain
+    // somewhere, while its master waited for the lease to run out. A beat of another epoch does nothing, and so does
+    // one with a stamp that the clock can't have shown yet.
+    fn beat(&mut self, epoch: u64, stamp: u64, now: u64)
         ensures { self.new ≡ beaten self.old epoch stamp now }
     {
         if epoch == self.epoch && stamp <= now {
@@ -149,9 +153,9 @@ impl Lease {
         }
     }
 
-    /// The server knew these servers to be gone, server i being the bit of value 2^i, and then the clock showed `now`:
-    /// if the lease held, none of them was ever told that this server is gone.
-    pub fn learn(&mut self, gone: u16, now: u64)
+    // The server knew these servers to be gone, server i being the bit of value 2^i, and then the clock showed `now`:
+    // if the lease held, none of them was ever told that this server is gone.
+    fn learn(&mut self, gone: u16, now: u64)
         ensures { self.new ≡ learned self.old gone now }
     {
         if self.is_held(now) {

@@ -29,9 +29,14 @@
 //!   process has ended, and no lease has to run out.
 //!
 //! So there are machines that read no clock and send nothing; times are nanoseconds since a start, as each one's own
-//! clock shows them (`nanoseconds_of`). A server has a `Lease`, under a lock; its other threads ask a `SharedLease`. A
-//! master has a `MasterMachine`: its `Claim` to an epoch, and for each server a `ServerRecord`, which is a `Watch` and
-//! a `Roll` in that epoch.
+//! clock shows them. A server has a `Lease`, under a lock; its other threads ask a `SharedLease`. A master has a
+//! `MasterMachine`: its `Claim` to an epoch, and for each server a `ServerRecord`, which is a `Watch` and a `Roll` in
+//! that epoch.
+//!
+//! A `Lease` and a `MasterMachine` are handed a `Reading`: what was known (who is gone, or what a server told), and
+//! what the clock showed after that. Only `Reading::after` makes one, so its number isn't made up, and is no older than
+//! what was known. Each serves once. Which clock is read is up to who calls. So is that a master's is read as soon as a
+//! report is there: a reading that comes late only makes the master later.
 //!
 //! **What a server does** is `Lease::hear`:
 //!
@@ -44,7 +49,7 @@
 //! - Its lease runs out: it puts nothing out, and goes on otherwise. A beat after that is as any other: if the stamp
 //!   that it brings back isn't older than the term, the lease holds again.
 //!
-//! **What a master does**, while its caller moves the bytes and reads the clock, is `MasterMachine`:
+//! **What a master does**, while its caller moves the bytes and has the clock read, is `MasterMachine`:
 //!
 //! - It starts: each server is greeted with epoch 0, which changes nothing there, and tells how it is.
 //! - A server told how it is: `MasterMachine::told`. The claim is told, and then each server record. So a server that
@@ -120,7 +125,7 @@ pub use leases::Lease;
 pub use master_machines::MasterMachine;
 pub use orders::{Answer, Order, Report};
 pub use paces::{AFTER, BEAT, MILLISECOND, Paces, SLOWEST};
-pub use readings::nanoseconds_of;
+pub use readings::{Reading, nanoseconds_of};
 pub use rolls::Roll;
 pub use server_records::{Due, ServerRecord};
 pub use shared_leases::{AnyEnd, SharedLease};

@@ -29,13 +29,14 @@ ghost use Rattle.leases.specs.MasterMachines.{due_at, asked_at, after_asking};
 use crate::claims::Claim;
 use crate::orders::Report;
 use crate::paces::Paces;
+use crate::readings::Reading;
 use crate::server_records::{Due, ServerRecord, bit_of};
 use std::alloc::{AllocError, Global};
 use std::marker::Model;
 
 /// All that a master decides: which epoch is its own, and what is due for each server. Who has it hands it what servers
-/// tell and what the clock shows, and sends what is due. Times are nanoseconds of the master's own clock, which never
-/// goes back.
+/// tell and readings of the clock, and sends what is due. Times are nanoseconds of the master's own clock, which never
+/// goes back. They come as readings alone, so none is made up.
 #[derive(Drop)]
 pub struct MasterMachine {
     claim: Claim,
@@ -70,18 +71,20 @@ impl Model for MasterMachine {
 }
 
 impl MasterMachine {
-    /// A master of this name that has just started, in a chain of n servers, when its clock shows `now`. Nothing is
+    /// A master of this name that has just started, in a chain of n servers, by this reading of its clock. Nothing is
     /// known of the servers, and it has no epoch. No two masters have the same name. Fails only if memory runs out.
     pub fn new(
         alloc: Global,
         name: u32,
         servers: u8,
         paces: Paces,
-        now: u64,
+        reading: Reading<()>,
     ) -> Result<MasterMachine, AllocError>
         requires chain { servers ≤ 16 }
-        ensures { IfOk result (λ master_machine. master_machine ≡ started name servers paces.beat paces.after now) }
+        ensures { IfOk result (λ master_machine.
+            master_machine ≡ started name servers paces.beat paces.after reading.shown) }
     {
+        let now = reading.shown();
         let server_records = new_server_records(alloc, servers, paces)?;
         Ok(MasterMachine {
             claim: Claim::new(name, paces, now),
@@ -94,19 +97,22 @@ impl MasterMachine {
         })
     }
 
-    /// A server told how it is, and then the clock showed `now`. Each server record hears it, so they hear all that
+    /// A server told how it is, and then the clock was read. Each server record hears it, so they hear all that
     /// servers tell in the order in which it came. If the master reigned before and doesn't any more, each server
     /// record begins anew without an epoch; the answer says whether that is so. If nobody was heard for long before,
     /// though beats went out in time, then the master was cut off, and a server isn't called silent before it answers
     /// once more.
-    pub fn told(&mut self, from: u8, report: &Report, now: u64) -> bool
+    pub fn told(&mut self, from: u8, reading: Reading<Report>) -> bool
         requires server { from < 16 }
-        ensures state { self.new ≡ told self.old from report.now now }
-        ensures followed { result ≡ is_followed_by (sparing self.old now) from report.now now }
+        ensures state { self.new ≡ told self.old from reading.known reading.shown }
+        ensures followed { result ≡
+            is_followed_by (sparing self.old reading.shown) from reading.known reading.shown }
     {
+        let report = reading.known();
+        let now = reading.shown();
         self.spare_if_cut_off(now);
         let reigned = self.is_reigning();
-        self.hear(from, report, now);
+        self.hear(from, &report, now);
         self.stand_down(reigned)
     }
 
@@ -168,16 +174,18 @@ impl MasterMachine {
         true
     }
 
-    /// Takes a new epoch if it is to when the clock shows `now`: then each server record begins anew in it. None if it
-    /// isn't to, or if there is no such number below 2^64; then nothing changes.
-    pub fn claim(&mut self, now: u64) -> Option<u64>
-        ensures due { IfSome result (λ epoch. may_claim self.old now ≡ true) }
+    /// Takes a new epoch if it is to by this reading: then each server record begins anew in it. None if it isn't to,
+    /// or if there is no such number below 2^64; then nothing changes.
+    pub fn claim(&mut self, reading: Reading<()>) -> Option<u64>
+        ensures due { IfSome result (λ epoch. may_claim self.old reading.shown ≡ true) }
         ensures above { IfSome result (λ epoch. self.old.claim.highest < epoch) }
         ensures own { IfSome result (λ epoch. epoch % 2 ^ 32 ≡ self.old.claim.name) }
-        ensures state { IfSome result (λ epoch. self.new ≡ epoch_taken self.old epoch now) }
+        ensures state { IfSome result (λ epoch. self.new ≡ epoch_taken self.old epoch reading.shown) }
         ensures none { IfNone result (self.new ≡ self.old) }
-        ensures missed { IfNone result (may_claim self.old now ≡ true → 2 ^ 64 ≤ self.old.claim.highest + 2 ^ 32) }
+        ensures missed { IfNone result
+            (may_claim self.old reading.shown ≡ true → 2 ^ 64 ≤ self.old.claim.highest + 2 ^ 32) }
     {
+        let now = reading.shown();
         if !self.is_due(now) {
             return None;
         }
@@ -213,15 +221,16 @@ impl MasterMachine {
         self.met |= bit_of(id);
     }
 
-    /// What is due for this server when the clock shows `now`. It counts as done. For a server that the chain hasn't
-    /// nothing ever is. As long as the master is cut off no server is told that it is gone for its silence; so it isn't
-    /// if it is the last one.
+    /// What is due for this server by this reading. It counts as done. For a server that the chain hasn't nothing ever
+    /// is. As long as the master is cut off no server is told that it is gone for its silence; so it isn't if it is the
+    /// last one.
     #[tactic(auto, using(crate::proofs::Sparing::spared_count))]
-    pub fn next(&mut self, id: u8, now: u64) -> Due
+    pub fn next(&mut self, id: u8, reading: Reading<()>) -> Due
         ensures due { id < length self.old.server_records
-            → result ≡ due_at (sparing self.old now).server_records id now }
-        ensures state { self.new ≡ after_asking self.old id now }
+            → result ≡ due_at (sparing self.old reading.shown).server_records id reading.shown }
+        ensures state { self.new ≡ after_asking self.old id reading.shown }
     {
+        let now = reading.shown();
         self.spare_if_cut_off(now);
         self.attend(now);
         next_of(self.server_records.as_mut_slice(), usize::from(id), now)

@@ -4,3 +4,4 @@ pub mod Noting
 pub mod PeerLinked
 pub mod Telling
 pub mod Waiting
+pub mod Writing

@@ -7,6 +7,7 @@ use Rattle.leases.specs.declared.orders.Report.{Report}
 use Rattle.leases.specs.declared.orders.Answer.{Answer}
 use Rattle.leases.specs.declared.orders.Answer.TheVariants.{Notes}
 use Rattle.leases.specs.Holding.{LeaseState, answer_to, answer_with, heeded, report_of}
+use Rattle.links.specs.Admissions.{PeerAdmissionState, HasHeard}
 use Rattle.links.specs.Orders.{IsAnswer, NamesServer}
 
 same_id : (j id : ℕ) → Notes j ≡ Notes id → j ≡ id
@@ -45,3 +46,14 @@ pub noted_is_named : (epoch id j : ℕ) (answer : Answer)
 noted_is_named epoch id j answer a e =
     silence_named (nat_eq epoch a.lease.epoch) id j
     (report_of (heeded a.lease (Silent epoch id) a.gone a.now) a.gone a.now) (sym a.same ∙ e)
+
+-- what an admission has heard it has answered
+pub heard_is_answered : (before after : PeerAdmissionState) (order : Order) (answer : Answer)
+    → HasHeard before order answer after
+    → IsAnswer order answer
+heard_is_answered before after order answer heard = record {
+  lease = before.lease;
+  gone = before.gone;
+  now = heard.shown;
+  same = heard.answer;
+}

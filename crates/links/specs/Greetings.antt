@@ -11,7 +11,8 @@ use Rattle.peers.specs.declared.identities.Identity.{Identity}
 use Rattle.links.specs.declared.speakers.Who.{Who}
 use Rattle.links.specs.declared.speakers.Who.TheVariants.{Server, Master}
 use Rattle.links.specs.Admissions.{PeerAdmissionState}
-use Rattle.links.specs.GreeterInlets.{waiting}
+use Rattle.links.specs.GreeterInlets.{waiting_link}
+use Rattle.links.specs.IncomingLinks.{link_for}
 
 -- the opener's chain has the host's name
 abbrev pub is_same_chain : Identity → Introduction → Bool
@@ -29,21 +30,27 @@ refusal host admission id opener =
     else if nat_eq id 16 then None
     else if nat_eq id host.id then Some Taken
     else if has admission.gone id then Some Gone
-    else if is_some (waiting admission.greeter_inlets id) then None
+    else if is_some (link_for opener.start (waiting_link admission.greeter_inlets id)) then None
     else Some Taken
 
--- who is accepted has the inlet that waited for it; a master has brought nothing
-abbrev pub HasInlet : PeerAdmissionState → ℕ → Who → Type 0
-HasInlet admission id (Server j inlet) = waiting admission.greeter_inlets id ≡ Some inlet
-HasInlet admission id (Master told) = told ≡ []
+-- who is accepted has the link that waited for it, as it goes on with this start; a master has brought nothing
+abbrev pub HasLink : PeerAdmissionState → ℕ → ℕ → Who → Type 0
+HasLink admission id start (Server j link) =
+    link_for start (waiting_link admission.greeter_inlets id) ≡ Some link
+HasLink admission id start (Master told) = told ≡ []
 
--- At some admission who greets so is accepted, has the inlet that waited there, and is told who has failed as far as it
+-- the link of a server is that of this start of it
+abbrev pub IsOfStart : ℕ → Who → Type 0
+IsOfStart start (Server j link) = link.received.start ≡ start
+IsOfStart start (Master told) = Unit {0}
+
+-- At some admission who greets so is accepted, has the link that waited there, and is told who has failed as far as it
 -- is known there.
 pub record IsAdmitted (host : Identity) (id : ℕ) (opener : Introduction) (who : Who) (answer : Acceptance)
     : Type 0 where
   pub admission : PeerAdmissionState
   pub accepted : refusal host admission id opener ≡ None
-  pub inlet : HasInlet admission id who
+  pub link : HasLink admission id opener.start who
   pub told : answer.gone ≡ admission.gone
 
 -- At some admission who greets so is refused for this reason.

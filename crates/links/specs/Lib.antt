@@ -7,3 +7,4 @@ pub mod PeerLinks
 pub mod GreeterInlets
 pub mod Speakers
 pub mod Waiting
+pub mod IncomingLinks

@@ -9,7 +9,7 @@ use Rattle.leases.specs.declared.orders.Answer.TheVariants.{Tells, Notes}
 use Rattle.leases.specs.Holding.{LeaseState, answer_to}
 use Rattle.wire.specs.declared.frames.Frame.{Frame}
 use Rattle.wire.specs.declared.frames.Frame.TheVariants.{Hello, Peer, Gone, Introduction, Accepted, Refused, Noted}
-use Rattle.wire.specs.declared.frames.Frame.TheVariants.{Reign, Beat, Silent}
+use Rattle.wire.specs.declared.frames.Frame.TheVariants.{Reign, Beat, Silent, Confirmed, Stalled}
 use Rattle.wire.specs.declared.frames.Frame.TheVariants as frames
 use Rattle.wire.specs.declared.watching.Alive.{Alive}
 use Rattle.wire.specs.Spellings.{spelling}
@@ -82,3 +82,5 @@ Answers (Beat beat) bytes = TellsHow (orders.Beat beat.epoch (stamp_in beat.stam
 Answers (frames.Alive alive) bytes = bytes ≡ []
 Answers (Silent silent) bytes =
     TellsHow (orders.Silent silent.epoch silent.id) bytes ⊎ (bytes ≡ spelling (Noted silent.id))
+Answers (Confirmed count) bytes = bytes ≡ []
+Answers (Stalled servers) bytes = bytes ≡ []

@@ -2,7 +2,7 @@
 use Rattle.std.specs.Prelude.{ℕ, List}
 use Rattle.wire.specs.declared.frames.Frame.{Frame}
 use Rattle.wire.specs.declared.frames.Frame.TheVariants.{Hello, Peer, Gone, Introduction, Accepted, Refused, Noted}
-use Rattle.wire.specs.declared.frames.Frame.TheVariants.{Reign, Beat, Alive, Silent}
+use Rattle.wire.specs.declared.frames.Frame.TheVariants.{Reign, Beat, Alive, Silent, Confirmed, Stalled}
 use Rattle.links.specs.declared.speakers.Who.{Who}
 
 -- Who speaks and what it has brought, where it is answered, whom its messages have called gone, the frames that were
@@ -27,3 +27,5 @@ named_in (Reign epoch) = 0
 named_in (Beat beat) = 0
 named_in (Alive alive) = 0
 named_in (Silent silent) = 0
+named_in (Confirmed count) = 0
+named_in (Stalled servers) = 0

@@ -5,6 +5,7 @@
 mod admissions;
 mod ghost_lists;
 mod greeter_inlets;
+mod incoming_links;
 mod notices;
 mod orders;
 mod peer_connections;
@@ -12,7 +13,7 @@ mod peer_links;
 mod peer_ports;
 mod speakers;
 
-pub use admissions::PeerAdmission;
+pub use admissions::{Heard, Noted, PeerAdmission};
 pub use ghost_lists::GhostList;
 pub use greeter_inlets::GreeterInlets;
 pub use orders::{Response, alive_of, order_of};

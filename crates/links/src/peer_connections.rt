@@ -77,6 +77,28 @@ impl<C: LinkControl + Drop, W: Sink + Drop> PeerConnection<C, W> {
             failures: Failures::new(),
         }
     }
+
+    /// How many bytes of a server's link were handed on. None of a master.
+    pub fn handed(&self) -> Option<u64> {
+        self.speaker.handed()
+    }
+
+    /// Who spoke, once the connection has ended. It is answered no more.
+    pub fn into_speaker(self) -> Speaker
+        ensures { result ≡ self.speaker }
+    {
+        let PeerConnection {
+            shared_port,
+            speaker,
+            sink,
+            taken,
+            ..
+        } = self;
+        drop(shared_port);
+        drop(sink);
+        drop(taken);
+        speaker
+    }
 }
 
 impl<C: LinkControl + Drop, W: Sink + Drop> Taker for PeerConnection<C, W> {

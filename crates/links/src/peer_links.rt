@@ -1,151 +1,211 @@
-//! Links to the other servers of a chain, over sinks of any kind.
-ghost use Rattle.std.specs.Prelude.{◌≡◌, ◌≢◌, ◌≤◌, ◌<◌, ◌⊎◌, ◌++◌, ◌∷◌, [], ℕ, length, nat_lt, IfErr, OnOk};
-ghost use Rattle.std.specs.Prelude.{OnErr};
+//! Links to the other servers of a chain, over connections of any kind.
+ghost use Rattle.std.specs.Prelude.{◌≡◌, ◌≢◌, ◌≤◌, ◌<◌, ◌⊎◌, ◌++◌, ◌∷◌, [], ℕ, true, false, length, nat_lt};
+ghost use Rattle.std.specs.Prelude.{◌||◌, IfErr, IfSome, OnErr, OnOk};
 ghost use Rattle.wire.specs.Spellings.{IsInRange, spelling};
 ghost use Rattle.wire.specs.declared.frames.Frame.TheVariants as frames;
 ghost use Rattle.node.specs.declared.messages.Output.TheVariants.{To};
 ghost use Rattle.node.specs.Lawful.{IsFit};
+ghost use Rattle.link_streams.specs.Streams.{may_confirm, unwritten};
 ghost use Rattle.rail.specs.declared.faults.RailFault.TheVariants.{Memory, LinkDown};
-ghost use Rattle.links.specs.PeerLinks.{AreFlushed, IsFlushed, failures_at, given_at};
+ghost use Rattle.links.specs.PeerLinks.{HaveWritten, WritesSome, changed_at, confirmed, connected, disconnected, ended};
+ghost use Rattle.links.specs.PeerLinks.{failures_at, given_at, kept_at, may_connect, meets_at, some_waits};
+ghost use Rattle.links.specs.PeerLinks.{unwritten_at};
 
 use crate::ghost_lists::GhostList;
-use bytes::BytesMut;
-use ends::Sink;
+use link_streams::{LinkSink, SentStream, StreamFault};
 use node::Peer;
-use peers::put_all;
 use rail::{Links, Published, RailFault};
 use std::alloc::Global;
-use std::mem;
 use std::snapshot::Snapshot;
-use wire::{Frame, encode_onto};
+use wire::Frame;
 
-/// If this much waits on a link, it is written before more is put: 64 KiB.
-pub const FULL: usize = 65_536;
-
-/// A link on which nothing waits keeps no block above this size.
-const LARGE: usize = 131_072;
-
-/// The link to one server. It is given frames, which wait until they are written together.
+/// The link to one server, which outlives its connections. It keeps what is put on it until the other server confirms
+/// it. It never waits.
 #[derive(Drop)]
 pub struct PeerLink<W> {
-    /// Where its frames go, unless there is none, as to itself.
+    /// What was put, and how far the other server is.
+    pub stream: SentStream,
+    /// The connection, if one stands.
     pub sink: Option<W>,
-    /// The frames that wait, as bytes.
-    pub waiting: BytesMut,
-    /// Whether a frame could not be written.
+    /// Whether it has failed for good, as a link to the server itself has from the start.
     pub has_failed: bool,
 }
 
 /// The links of one server to all servers of its chain, by their ids.
 #[derive(Drop)]
 pub struct PeerLinks<W> {
-    alloc: Global,
     links: Vec<PeerLink<W>>,
     puts: GhostList<(u8, Peer)>,
 }
 
-impl<W: Sink + Drop> PeerLink<W> {
-    ghost use Rattle.std.specs.Prelude.{◌≡◌, ◌<◌, ◌⊎◌, ◌++◌, [], true, false, length, is_none, None};
-    ghost use Rattle.std.specs.Prelude.{IfErr, IsErrOf, IsTrue, OnErr, OnOk};
+impl<W: LinkSink + Drop> PeerLink<W> {
+    ghost use Rattle.std.specs.Prelude.{◌≡◌, ◌≢◌, ◌⊎◌, ◌↔◌, None, true, false, length, IfErr, IsErrOf, OnErr, OnOk};
     ghost use Rattle.wire.specs.Spellings.{IsInRange, spelling};
-    ghost use Rattle.links.specs.PeerLinks.{given_by};
+    ghost use Rattle.link_streams.specs.Streams.{may_confirm, unsent_to, unwritten, with_bytes};
+    ghost use Rattle.links.specs.PeerLinks.{HasWritten, confirmed, connected, disconnected, ended, kept_by};
+    ghost use Rattle.links.specs.PeerLinks.{may_connect, waits};
 
-    /// A link on which nothing waits. It hasn't failed, or has if there is no sink. It allocates nothing.
-    pub fn new(alloc: Global, sink: Option<W>) -> PeerLink<W>
-        ensures sink { result.sink ≡ sink }
-        ensures waiting { result.waiting.items ≡ [] }
-        ensures failed { result.has_failed ≡ is_none sink }
+    /// A link to this start of a server: nothing was put, and no connection stands. It allocates nothing.
+    pub fn new(alloc: Global, start: u64) -> PeerLink<W>
+        ensures stream { result.stream ≡ unsent_to start }
+        ensures sink { result.sink ≡ None }
+        ensures failed { result.has_failed ≡ false }
     {
-        let has_failed = sink.is_none();
         PeerLink {
-            sink,
-            waiting: BytesMut::new(alloc),
-            has_failed,
+            stream: SentStream::new(alloc, start),
+            sink: None,
+            has_failed: false,
         }
     }
 
-    /// Gives it a frame, which waits; if much waits then, all that waits is written (`FULL`). If that can't be done,
-    /// the link has failed, and its sink is dropped: nothing more is written. If memory is out, the link stays as it
-    /// is. It may wait for the sink.
-    pub fn put(&mut self, alloc: Global, frame: &Frame) -> Result<(), RailFault>
+    /// No link, as to the server itself: it has failed. It allocates nothing.
+    pub fn absent(alloc: Global) -> PeerLink<W>
+        ensures stream { result.stream ≡ unsent_to 0 }
+        ensures sink { result.sink ≡ None }
+        ensures failed { result.has_failed ≡ true }
+    {
+        PeerLink {
+            stream: SentStream::new(alloc, 0),
+            sink: None,
+            has_failed: true,
+        }
+    }
+
+    /// Puts a frame after all others, of which nothing is written yet. Refused if the link has failed, or memory is
+    /// out; nothing has changed then.
+    pub fn put(&mut self, frame: &Frame) -> Result<(), RailFault>
         requires range { IsInRange frame.now }
-        ensures given { OnOk result
-            (given_by W.written self.new ≡ given_by W.written self.old ++ spelling frame.now) }
+        ensures put { OnOk result (self.new.stream ≡ with_bytes self.old.stream (spelling frame.now)) }
+        ensures stays { OnErr result (self.new.stream ≡ self.old.stream) }
+        ensures sink { self.new.sink ≡ self.old.sink }
+        ensures failed { self.new.has_failed ≡ self.old.has_failed }
+        ensures down { IsErrOf result RailFault.LinkDown ↔ (self.old.has_failed ≡ true) }
         ensures fault { IfErr result (λ fault. (fault ≡ RailFault.Memory) ⊎
             ((fault ≡ RailFault.LinkDown) × (self.new.has_failed ≡ true))) }
-        // If it was given a part of it, the link has failed.
-        ensures unput { OnErr result ((self.new.has_failed ≡ true) ⊎
-            (given_by W.written self.new ≡ given_by W.written self.old)) }
-        ensures stays { (self.new.has_failed ≡ self.old.has_failed) ⊎ (self.new.has_failed ≡ true) }
-        ensures up { OnOk result (self.new.has_failed ≡ self.old.has_failed) }
-        ensures little { OnOk result (length self.new.waiting.items < FULL) }
-        ensures memory { IsErrOf result RailFault.Memory → (self.new.has_failed ≡ self.old.has_failed)
-            × (given_by W.written self.new ≡ given_by W.written self.old) }
-        ensures dropped { IsErrOf result RailFault.LinkDown → self.new.sink ≡ None }
-        ensures absent { self.old.sink ≡ None → IsErrOf result RailFault.LinkDown }
     {
-        if self.sink.is_none() {
-            self.give_up(alloc);
+        if self.has_failed {
             return Err(RailFault::LinkDown);
         }
-        if encode_onto(&mut self.waiting, frame).is_err() {
+        if self.stream.put_frame(frame).is_err() {
             return Err(RailFault::Memory);
-        }
-        if self.waiting.len() >= FULL && !self.flush(alloc) {
-            return Err(RailFault::LinkDown);
         }
         Ok(())
     }
 
-    /// Writes all that waits, by one write if the sink takes all of it at once; it writes nothing if nothing waits. If
-    /// it can't be written, the link has failed, and its sink is dropped. Whether it was. It may wait for the sink.
-    pub fn flush(&mut self, alloc: Global) -> bool
-        ensures given { (self.new.has_failed ≡ true) ⊎
-            (given_by W.written self.new ≡ given_by W.written self.old) }
-        ensures flushed { self.new.waiting.items ≡ [] }
-        ensures stays { (self.new.has_failed ≡ self.old.has_failed) ⊎ (self.new.has_failed ≡ true) }
-        ensures done { IsTrue result → (self.new.has_failed ≡ self.old.has_failed)
-            × (given_by W.written self.new ≡ given_by W.written self.old) }
-        ensures failed { result ≡ false → (self.new.has_failed ≡ true) × (self.new.sink ≡ None) }
+    /// A new connection stands. Its receiver is this start of the server, and goes on after so many bytes. An earlier
+    /// connection is dropped. If it is refused, no connection stands. A link that has failed refuses each, as if the
+    /// server were another start.
+    pub fn connect(&mut self, sink: W, start: u64, count: u64) -> Result<(), StreamFault>
+        ensures connected { OnOk result (self.new ≡ connected sink count self.old) }
+        ensures refused { OnErr result (self.new ≡ disconnected self.old) }
+        ensures may { OnOk result (may_connect start count self.old ≡ true) }
+        ensures may_not { OnErr result (may_connect start count self.old ≡ false) }
+        ensures other { IsErrOf result StreamFault.OtherStart
+            ↔ ((self.old.has_failed ≡ true) ⊎ (start ≢ self.old.stream.start)) }
     {
-        if self.waiting.is_empty() {
-            return true;
+        self.disconnect();
+        if self.has_failed {
+            drop(sink);
+            return Err(StreamFault::OtherStart);
         }
-        if let Some(sink) = &mut self.sink {
-            if put_all(sink, &mut self.waiting).is_ok() {
-                rest(alloc, &mut self.waiting);
-                return true;
-            }
+        if let Err(fault) = self.stream.resume(start, count) {
+            drop(sink);
+            return Err(fault);
         }
-        self.give_up(alloc);
-        false
+        self.sink = Some(sink);
+        Ok(())
     }
 
-    // The link has failed from now on.
-    fn give_up(&mut self, alloc: Global)
-        ensures failed { self.new.has_failed ≡ true }
-        ensures waiting { self.new.waiting.items ≡ [] }
-        ensures dropped { self.new.sink ≡ None }
+    /// No connection stands any more.
+    pub fn disconnect(&mut self)
+        ensures { self.new ≡ disconnected self.old }
     {
         self.sink = None;
-        drop(mem::replace(&mut self.waiting, BytesMut::new(alloc)));
+    }
+
+    /// The other server says over the connection that it has handed on so many bytes. They are no longer kept. It may
+    /// be no more than were written; nothing has changed then.
+    pub fn confirm(&mut self, count: u64) -> Result<(), StreamFault>
+        ensures confirmed { OnOk result (self.new ≡ confirmed count self.old) }
+        ensures stays { OnErr result (self.new ≡ self.old) }
+        ensures unsent { IsErrOf result StreamFault.Unsent ↔ (may_confirm self.old.stream count ≡ false) }
+        ensures fault { IfErr result (λ fault. fault ≡ StreamFault.Unsent) }
+    {
+        self.stream.confirm(count)
+    }
+
+    /// Writes what is unwritten over the connection, until all is written or it takes none now. If it fails, no
+    /// connection stands any more. Whether something waits for a connection that stands: who calls has to come again
+    /// when that one takes more.
+    pub fn write_out(&mut self) -> bool
+        ensures written { HasWritten W.taken self.old self.new }
+        ensures waits { result ≡ waits self.new }
+    {
+        if self.stream.unwritten().is_empty() {
+            return false;
+        }
+        let Some(sink) = &mut self.sink else {
+            return false;
+        };
+        match write_some(&mut self.stream, sink) {
+            Some(waits) => waits,
+            None => {
+                self.disconnect();
+                false
+            }
+        }
+    }
+
+    /// It has failed for good: its connection is dropped, and what it kept.
+    pub fn fail(&mut self)
+        ensures { self.new ≡ ended self.old }
+    {
+        self.disconnect();
+        self.stream.clear();
         self.has_failed = true;
     }
-}
 
-// Gives the block of an empty buffer back, if it is large.
-fn rest(alloc: Global, buffer: &mut BytesMut)
-    requires { buffer.old.items ≡ [] }
-    ensures { buffer.new.items ≡ [] }
-{
-    if buffer.capacity() > LARGE {
-        drop(mem::replace(buffer, BytesMut::new(alloc)));
+    /// How many bytes are kept, since the other server hasn't confirmed them.
+    pub fn kept(&self) -> usize
+        ensures { result ≡ length (kept_by self.now) }
+    {
+        self.stream.kept()
+    }
+
+    /// How many of these the connection has still to take.
+    pub fn unwritten(&self) -> usize
+        ensures { result ≡ length (unwritten self.now.stream) }
+    {
+        self.stream.unwritten().len()
     }
 }
 
-impl<W: Sink + Drop> PeerLinks<W> {
-    ghost use Rattle.std.specs.Prelude.{◌≡◌, [], length};
-    ghost use Rattle.links.specs.PeerLinks.{AreFlushed};
+// Writes what is unwritten, until all is written or the connection takes none now. Whether something is left. None if
+// the connection has failed.
+fn write_some<W: LinkSink>(stream: &mut SentStream, sink: &mut W) -> Option<bool>
+    ensures written { WritesSome W.taken stream.old stream.new sink.old sink.new }
+    ensures left { IfSome result (λ left. left ≡ nat_lt 0 (length (unwritten stream.new))) }
+{
+    let mut left = stream.unwritten().len();
+    while left > 0 {
+        match sink.take_some(stream.unwritten()) {
+            Some(0) => return Some(true),
+            Some(n) => {
+                stream.written(n);
+                left -= n;
+            }
+            None => return None,
+        }
+    }
+    Some(false)
+}
+
+impl<W: LinkSink + Drop> PeerLinks<W> {
+    ghost use Rattle.std.specs.Prelude.{◌≡◌, ◌≢◌, ◌<◌, ℕ, [], true, false, length, OnErr, OnOk};
+    ghost use Rattle.link_streams.specs.Streams.{may_confirm};
+    ghost use Rattle.links.specs.PeerLinks.{HaveWritten, changed_at, confirmed, connected, disconnected, ended};
+    ghost use Rattle.links.specs.PeerLinks.{failures_at, given_at, kept_at, may_connect, meets_at, some_waits};
+    ghost use Rattle.links.specs.PeerLinks.{unwritten_at};
 
     /// The links to these servers, each at the place of its server's id, over which nothing was put.
     pub fn new(alloc: Global, links: Vec<PeerLink<W>>) -> PeerLinks<W>
@@ -153,23 +213,98 @@ impl<W: Sink + Drop> PeerLinks<W> {
         ensures links { result.links.items ≡ links.items }
     {
         PeerLinks {
-            alloc,
             links,
             puts: GhostList::new(alloc),
         }
     }
 
-    /// Writes all that waits on the links. A link fails if that can't be done. It may wait for the sinks.
-    pub fn flush(&mut self)
+    /// Writes what is unwritten, over each link whose connection stands. Whether something waits for one of these: who
+    /// calls has to come again when that one takes more.
+    pub fn write_out(&mut self) -> bool
         // Nothing is put meanwhile.
         ensures list { self.new.puts ≡ self.old.puts }
-        ensures flushed { AreFlushed W.written self.old.links.items self.new.links.items (length self.new.links.items) }
+        ensures written { HaveWritten W.taken (length self.old.links.items) self.old.links.items self.new.links.items }
+        ensures waits { result ≡ some_waits self.new.links.items }
+        // Each link carries what it carried, and none fails.
+        ensures given { (j : ℕ) → given_at self.new.links.items j ≡ given_at self.old.links.items j }
+        ensures failures { (j : ℕ) → failures_at self.new.links.items j ≡ failures_at self.old.links.items j }
     {
-        flush_all(self.alloc, &mut self.links);
+        write_each(&mut self.links)
+    }
+
+    /// A new connection to a server stands (`PeerLink::connect`). To a server outside the chain it is refused.
+    pub fn connect_at(&mut self, j: u8, sink: W, start: u64, count: u64) -> Result<(), StreamFault>
+        ensures list { self.new.puts ≡ self.old.puts }
+        ensures connected { OnOk result
+            (self.new.links.items ≡ changed_at (connected sink count) self.old.links.items j) }
+        ensures refused { OnErr result (self.new.links.items ≡ changed_at disconnected self.old.links.items j) }
+        ensures may { OnOk result (meets_at (may_connect start count) self.old.links.items j ≡ true) }
+        ensures may_not { OnErr result (meets_at (may_connect start count) self.old.links.items j ≡ false) }
+        // Each link carries what it carried, and none fails.
+        ensures given { (k : ℕ) → given_at self.new.links.items k ≡ given_at self.old.links.items k }
+        ensures failures { (k : ℕ) → failures_at self.new.links.items k ≡ failures_at self.old.links.items k }
+    {
+        connect_to(&mut self.links, j, sink, start, count)
+    }
+
+    /// No connection to a server stands any more.
+    pub fn disconnect_at(&mut self, j: u8)
+        ensures list { self.new.puts ≡ self.old.puts }
+        ensures disconnected { self.new.links.items ≡ changed_at disconnected self.old.links.items j }
+        // Each link carries what it carried, and none fails.
+        ensures given { (k : ℕ) → given_at self.new.links.items k ≡ given_at self.old.links.items k }
+        ensures failures { (k : ℕ) → failures_at self.new.links.items k ≡ failures_at self.old.links.items k }
+    {
+        disconnect_from(&mut self.links, j);
+    }
+
+    /// A server says over its connection that it has handed on so many bytes (`PeerLink::confirm`). It is refused of a
+    /// server outside the chain.
+    pub fn confirm_at(&mut self, j: u8, count: u64) -> Result<(), StreamFault>
+        ensures list { self.new.puts ≡ self.old.puts }
+        ensures confirmed { OnOk result
+            (self.new.links.items ≡ changed_at (confirmed count) self.old.links.items j) }
+        ensures stays { OnErr result (self.new.links.items ≡ self.old.links.items) }
+        ensures may { OnOk result
+            (meets_at (λ link. may_confirm link.stream count) self.old.links.items j ≡ true) }
+        ensures may_not { OnErr result
+            (meets_at (λ link. may_confirm link.stream count) self.old.links.items j ≡ false) }
+        // Each link carries what it carried, and none fails.
+        ensures given { (k : ℕ) → given_at self.new.links.items k ≡ given_at self.old.links.items k }
+        ensures failures { (k : ℕ) → failures_at self.new.links.items k ≡ failures_at self.old.links.items k }
+    {
+        confirm_of(&mut self.links, j, count)
+    }
+
+    /// The link to a server has failed for good (`PeerLink::fail`).
+    pub fn fail_at(&mut self, j: u8)
+        ensures list { self.new.puts ≡ self.old.puts }
+        ensures failed { self.new.links.items ≡ changed_at ended self.old.links.items j }
+        ensures down { 0 < failures_at self.new.links.items j }
+        // Each other link carries what it carried, and doesn't fail.
+        ensures given { (k : ℕ) → k ≢ j → given_at self.new.links.items k ≡ given_at self.old.links.items k }
+        ensures failures { (k : ℕ) → k ≢ j →
+            failures_at self.new.links.items k ≡ failures_at self.old.links.items k }
+    {
+        give_up(&mut self.links, j);
+    }
+
+    /// How many bytes the link to a server keeps, since they aren't confirmed; none outside the chain.
+    pub fn kept_at(&self, j: u8) -> usize
+        ensures { result ≡ kept_at self.now.links.items j }
+    {
+        kept_of(self.links.as_slice(), j)
+    }
+
+    /// How many of these bytes no connection has taken yet; none outside the chain.
+    pub fn unwritten_at(&self, j: u8) -> usize
+        ensures { result ≡ unwritten_at self.now.links.items j }
+    {
+        unwritten_of(self.links.as_slice(), j)
     }
 }
 
-impl<W: Sink + Drop> Links for PeerLinks<W> {
+impl<W: LinkSink + Drop> Links for PeerLinks<W> {
     ghost use Rattle.std.specs.Prelude.{ℕ};
     ghost use Rattle.wire.specs.Spellings.{spelling};
     ghost use Rattle.wire.specs.declared.frames.Frame.TheVariants as frames;
@@ -180,7 +315,7 @@ impl<W: Sink + Drop> Links for PeerLinks<W> {
     ghost state = { λ s. record {
       list = s.puts;
       failures = failures_at s.links.items;
-      carried = given_at W.written s.links.items;
+      carried = given_at s.links.items;
       spelled = λ peer. spelling (frames.Peer peer);
     } };
 
@@ -196,25 +331,24 @@ impl<W: Sink + Drop> Links for PeerLinks<W> {
         ensures fault { IfErr result (λ f. (f ≡ Memory) ⊎
             ((f ≡ LinkDown) × (0 < failures_at self.new.links.items to))) }
         // The link to that server was given what was put, and no other was given anything.
-        ensures given { OnOk result (given_at W.written self.new.links.items to ≡
-            given_at W.written self.old.links.items to ++ spelling (frames.Peer peer)) }
-        // If it was given a part of it, the link has failed.
+        ensures given { OnOk result (given_at self.new.links.items to ≡
+            given_at self.old.links.items to ++ spelling (frames.Peer peer)) }
+        // If it was given that, and it couldn't be noted, the link has failed.
         ensures unput { OnErr result ((0 < failures_at self.new.links.items to) ⊎
-            (given_at W.written self.new.links.items to ≡ given_at W.written self.old.links.items to)) }
+            (given_at self.new.links.items to ≡ given_at self.old.links.items to)) }
         ensures elsewhere { (j : ℕ) → j ≢ to →
-            given_at W.written self.new.links.items j ≡ given_at W.written self.old.links.items j }
-        // A link fails only if what was to go over it couldn't be written, or noted.
+            given_at self.new.links.items j ≡ given_at self.old.links.items j }
         ensures up { (j : ℕ) → OnOk result (failures_of self.new j ≡ failures_of self.old j) }
         ensures others { (j : ℕ) → j ≢ to → failures_of self.new j ≡ failures_of self.old j }
     {
         let (snapshot, frame) = framed(to, peer);
-        let given = put_to(self.alloc, &mut self.links, to, &frame);
+        let given = put_to(&mut self.links, to, &frame);
         drop(frame);
         given?;
         match self.puts.add(snapshot) {
             Ok(()) => Ok(()),
             Err(_) => {
-                give_up(self.alloc, &mut self.links, to);
+                give_up(&mut self.links, to);
                 Err(RailFault::Memory)
             }
         }
@@ -234,7 +368,7 @@ fn framed(to: u8, peer: Peer) -> (Snapshot<(u8, Peer)>, Frame)
 
 // Whether the link to a server has failed.
 #[tactic(auto, using(crate::proofs::PeerLinked::tells_failed, crate::proofs::PeerLinked::tells_beyond))]
-fn has_failed<W: Sink + Drop>(links: &[PeerLink<W>], to: u8) -> bool
+fn has_failed<W: LinkSink + Drop>(links: &[PeerLink<W>], to: u8) -> bool
     ensures { result ≡ nat_lt 0 (failures_at links.now to) }
 {
     let place = usize::from(to);
@@ -245,64 +379,130 @@ fn has_failed<W: Sink + Drop>(links: &[PeerLink<W>], to: u8) -> bool
     }
 }
 
+// How many bytes the link to a server keeps.
+fn kept_of<W: LinkSink + Drop>(links: &[PeerLink<W>], to: u8) -> usize
+    ensures { result ≡ kept_at links.now to }
+{
+    let place = usize::from(to);
+    if place < links.len() {
+        links[place].kept()
+    } else {
+        0
+    }
+}
+
+// How many bytes of the link to a server no connection has taken yet.
+fn unwritten_of<W: LinkSink + Drop>(links: &[PeerLink<W>], to: u8) -> usize
+    ensures { result ≡ unwritten_at links.now to }
+{
+    let place = usize::from(to);
+    if place < links.len() {
+        links[place].unwritten()
+    } else {
+        0
+    }
+}
+
 // Puts a frame to a server whose link hasn't failed.
-#[tactic(auto, using(crate::proofs::PeerLinked::failed_at, crate::proofs::PeerLinked::none_fewer, crate::proofs::PeerLinked::same_failures, crate::proofs::PeerLinked::failed_elsewhere, crate::proofs::PeerLinked::beyond, crate::proofs::PeerLinked::given_there, crate::proofs::PeerLinked::given_now, crate::proofs::PeerLinked::given_elsewhere))]
-fn put_to<W: Sink + Drop>(
-    alloc: Global,
+#[tactic(auto, using(crate::proofs::PeerLinked::failed_at, crate::proofs::PeerLinked::same_failures, crate::proofs::PeerLinked::beyond, crate::proofs::PeerLinked::given_there, crate::proofs::PeerLinked::given_now, crate::proofs::PeerLinked::given_elsewhere))]
+fn put_to<W: LinkSink + Drop>(
     links: &mut Vec<PeerLink<W>>,
     to: u8,
     frame: &Frame,
 ) -> Result<(), RailFault>
     requires range { IsInRange frame.now }
     ensures given { OnOk result
-        (given_at W.written links.new.items to ≡ given_at W.written links.old.items to ++ spelling frame.now) }
-    ensures unput { OnErr result ((0 < failures_at links.new.items to) ⊎
-        (given_at W.written links.new.items to ≡ given_at W.written links.old.items to)) }
-    ensures elsewhere { (j : ℕ) → j ≢ to →
-        given_at W.written links.new.items j ≡ given_at W.written links.old.items j }
-    ensures failures { (j : ℕ) → failures_at links.old.items j ≤ failures_at links.new.items j }
+        (given_at links.new.items to ≡ given_at links.old.items to ++ spelling frame.now) }
+    ensures unput { OnErr result (given_at links.new.items to ≡ given_at links.old.items to) }
+    ensures elsewhere { (j : ℕ) → j ≢ to → given_at links.new.items j ≡ given_at links.old.items j }
+    ensures failures { (j : ℕ) → failures_at links.new.items j ≡ failures_at links.old.items j }
     ensures fault { IfErr result (λ fault. (fault ≡ RailFault.Memory) ⊎
         ((fault ≡ RailFault.LinkDown) × (0 < failures_at links.new.items to))) }
-    ensures up { (j : ℕ) → OnOk result (failures_at links.new.items j ≡ failures_at links.old.items j) }
-    ensures others { (j : ℕ) → j ≢ to → failures_at links.new.items j ≡ failures_at links.old.items j }
 {
     let place = usize::from(to);
     if place < links.len() {
-        links[place].put(alloc, frame)
+        links[place].put(frame)
     } else {
         Err(RailFault::LinkDown)
     }
 }
 
-// Writes all that waits on each of these links.
-#[tactic(auto, using(crate::proofs::PeerLinked::none_flushed, crate::proofs::PeerLinked::one_more_flushed))]
-fn flush_all<W: Sink + Drop>(alloc: Global, links: &mut Vec<PeerLink<W>>)
-    ensures { AreFlushed W.written links.old.items links.new.items (length links.new.items) }
+// Writes what is unwritten on each of these links. Whether something waits on one of them.
+fn write_each<W: LinkSink + Drop>(links: &mut Vec<PeerLink<W>>) -> bool
+    ensures written { HaveWritten W.taken (length links.old.items) links.old.items links.new.items }
+    ensures waits { result ≡ some_waits links.new.items }
 {
+    let mut waits = false;
     for place in 0..links.len() {
-        flush_at(alloc, links, place);
+        waits = either(links[place].write_out(), waits);
     }
+    waits
 }
 
-// Writes all that waits on the link at this place.
-fn flush_at<W: Sink + Drop>(alloc: Global, links: &mut Vec<PeerLink<W>>, place: usize)
-    requires { place < length links.old.items }
-    ensures { IsFlushed W.written links.old.items links.new.items place }
+// Whether one of these holds.
+fn either(one: bool, other: bool) -> bool
+    ensures { result ≡ (one || other) }
 {
-    let _ = links[place].flush(alloc);
+    one || other
 }
 
-// The link to a server has failed from now on.
-#[tactic(auto, using(crate::proofs::PeerLinked::failed_at, crate::proofs::PeerLinked::none_fewer, crate::proofs::PeerLinked::failed_elsewhere, crate::proofs::PeerLinked::beyond, crate::proofs::PeerLinked::given_elsewhere))]
-fn give_up<W: Sink + Drop>(alloc: Global, links: &mut Vec<PeerLink<W>>, to: u8)
-    ensures down { 0 < failures_at links.new.items to }
-    ensures elsewhere { (j : ℕ) → j ≢ to →
-        given_at W.written links.new.items j ≡ given_at W.written links.old.items j }
-    ensures failures { (j : ℕ) → failures_at links.old.items j ≤ failures_at links.new.items j }
-    ensures others { (j : ℕ) → j ≢ to → failures_at links.new.items j ≡ failures_at links.old.items j }
+// A new connection to a server stands.
+fn connect_to<W: LinkSink + Drop>(
+    links: &mut Vec<PeerLink<W>>,
+    to: u8,
+    sink: W,
+    start: u64,
+    count: u64,
+) -> Result<(), StreamFault>
+    ensures connected { OnOk result (links.new.items ≡ changed_at (connected sink count) links.old.items to) }
+    ensures refused { OnErr result (links.new.items ≡ changed_at disconnected links.old.items to) }
+    ensures may { OnOk result (meets_at (may_connect start count) links.old.items to ≡ true) }
+    ensures may_not { OnErr result (meets_at (may_connect start count) links.old.items to ≡ false) }
 {
     let place = usize::from(to);
     if place < links.len() {
-        links[place].give_up(alloc);
+        links[place].connect(sink, start, count)
+    } else {
+        drop(sink);
+        Err(StreamFault::OtherStart)
+    }
+}
+
+// No connection to a server stands any more.
+fn disconnect_from<W: LinkSink + Drop>(links: &mut Vec<PeerLink<W>>, to: u8)
+    ensures { links.new.items ≡ changed_at disconnected links.old.items to }
+{
+    let place = usize::from(to);
+    if place < links.len() {
+        links[place].disconnect();
+    }
+}
+
+// A server has confirmed so many bytes.
+fn confirm_of<W: LinkSink + Drop>(
+    links: &mut Vec<PeerLink<W>>,
+    to: u8,
+    count: u64,
+) -> Result<(), StreamFault>
+    ensures confirmed { OnOk result (links.new.items ≡ changed_at (confirmed count) links.old.items to) }
+    ensures stays { OnErr result (links.new.items ≡ links.old.items) }
+    ensures may { OnOk result (meets_at (λ link. may_confirm link.stream count) links.old.items to ≡ true) }
+    ensures may_not { OnErr result (meets_at (λ link. may_confirm link.stream count) links.old.items to ≡ false) }
+{
+    let place = usize::from(to);
+    if place < links.len() {
+        links[place].confirm(count)
+    } else {
+        Err(StreamFault::Unsent)
+    }
+}
+
+// The link to a server has failed from now on.
+fn give_up<W: LinkSink + Drop>(links: &mut Vec<PeerLink<W>>, to: u8)
+    ensures { links.new.items ≡ changed_at ended links.old.items to }
+{
+    let place = usize::from(to);
+    if place < links.len() {
+        links[place].fail();
     }
 }

@@ -1,13 +1,12 @@
 //! What all who speak at a server's peer port share.
-ghost use Rattle.std.specs.Prelude.{◌≡◌, None, Some, true, false, OnOk, IfErr, IfOk};
-ghost use Rattle.node.specs.Views.{adds, is_below};
-ghost use Rattle.leases.specs.Holding.{answer_to};
-ghost use Rattle.links.specs.Greetings.{HasInlet, IsAdmitted, IsRefused, refusal};
+ghost use Rattle.std.specs.Prelude.{◌≡◌, ◌&&◌, nat_le, None, Some, true, false, OnOk, IfErr, IfOk, IfSome, IfNone};
+ghost use Rattle.node.specs.Views.{is_below};
+ghost use Rattle.links.specs.Greetings.{HasLink, IsAdmitted, IsRefused, refusal};
 ghost use Rattle.links.specs.PeerPorts.{IsCalledGone, link_control_of, host_of};
 ghost use Rattle.links.specs.Orders.{IsAnswer, NamesServer};
 ghost use Rattle.links.specs.Speakers.{Greets};
 
-use crate::admissions::PeerAdmission;
+use crate::admissions::{Heard, Noted, PeerAdmission};
 use crate::greeter_inlets::GreeterInlets;
 use crate::speakers::Speaker;
 use leases::{Answer, Lease, Order, Term};
@@ -16,10 +15,14 @@ use peers::Identity;
 use rail::Inlet;
 use std::alloc::Global;
 use std::sync::{Mutex, Wait};
+use std::time::Clock;
 use wire::{Acceptance, Introduction, Reason};
 
-/// What ends connections, reads the clock, and publishes when the lease ends.
+/// What ends connections, has the clock, and publishes when the lease ends.
 pub trait LinkControl {
+    /// The kind of the server's clock.
+    type ServerClock: Clock;
+
     /// Server `j` was called gone. The connection to it is ended: a write that waits there fails, and so do all later
     /// ones. So a machine that is silent and takes no bytes can't hold up a server that was told of its failure. If it
     /// is this server itself, it answers no call any more, and all its connections to other servers are ended. It may
@@ -29,8 +32,8 @@ pub trait LinkControl {
     /// This server itself was called gone, and who said so has its answer: the server is to end.
     fn end(&self);
 
-    /// What the server's clock shows, in nanoseconds. None if it can't be read.
-    fn now(&self) -> Option<u64>;
+    /// The server's clock, by which its lease runs. It is read under the admission's lock.
+    fn clock(&self) -> &Self::ServerClock;
 
     /// The server's lease has heard an order. This is called under the admission's lock, so that ends are published in
     /// the order in which they are made, for those who ask without that lock.
@@ -68,7 +71,7 @@ impl<C: LinkControl> PeerPort<C> {
         }
     }
 
-    /// What ends connections, and reads the clock.
+    /// What ends connections, and has the clock.
     pub fn link_control(&self) -> &C
         ensures { result.now ≡ link_control_of self.now }
     {
@@ -88,8 +91,8 @@ impl<C: LinkControl> PeerPort<C> {
     }
 
     /// The speaker who greets so, and what it is answered; or why it isn't accepted (`PeerAdmission::admit`). Of each
-    /// server one greeting at most is accepted, since a speaker of its id has the one inlet that waited for it
-    /// (`Speaker`). It may wait for others who greet.
+    /// server one speaks at a time at most, since a speaker of its id has the one link that waited for it, and all that
+    /// do are of one start (`Speaker`). It may wait for others who greet.
     pub fn greet<R: Wait>(
         &self,
         rt: &R,
@@ -107,13 +110,24 @@ impl<C: LinkControl> PeerPort<C> {
         greet_at(&mut admission, alloc, &self.host, id, opener)
     }
 
+    /// A speaker whose connection has ended is given back: the link of a server waits again, for the same start of it
+    /// (`PeerAdmission::give_back`). It may wait for others who greet. What waits stands under a lock, so no clause can
+    /// say it.
+    pub fn give_back<R: Wait>(&self, rt: &R, speaker: Speaker) {
+        let mut admission = self.admission.lock(rt);
+        admission.give_back(speaker);
+    }
+
     /// These servers were called gone: each is cut of which this is news. Of a server that the chain hasn't nothing is
     /// noted. It tells whether this server itself isn't among them, or was known to be. It may wait.
     pub fn learn<R: Wait>(&self, rt: &R, view: View) -> bool
         // What was known stands under a lock, so no clause can say when this is news.
         ensures { result ≡ false → IsCalledGone (host_of self.now) view }
     {
-        if !self.note(rt, view) {
+        let Some(noted) = self.note(rt, view) else {
+            return true;
+        };
+        if !noted.is_news() {
             return true;
         }
         for j in 0..SERVERS {
@@ -128,20 +142,21 @@ impl<C: LinkControl> PeerPort<C> {
         }
     }
 
-    /// What the server does with an order of a master and answers to it, when its clock shows `now`. If it is a notice
-    /// that is taken, the server that it names is cut, if that is news. Who calls brings the notice then. It may wait.
-    pub(crate) fn hear<R: Wait>(&self, rt: &R, order: Order, now: u64) -> Answer
+    /// What the server does with an order of a master and answers to it. If it is a notice that is taken, the server
+    /// that it names is cut, if that is news. Who calls brings the notice then. None if the clock can't be read. It may
+    /// wait.
+    pub(crate) fn hear<R: Wait>(&self, rt: &R, order: Order) -> Option<Heard>
         requires server { NamesServer order }
         // It is answered by the admission as others have left it, whom no clause can name.
-        ensures { IsAnswer order result }
+        ensures { IfSome result (λ heard. IsAnswer order heard.answer) }
     {
-        let (answer, is_news) = self.heed(rt, order, now);
-        if let Answer::Notes(j) = answer {
-            if is_news {
+        let heard = self.heed(rt, order)?;
+        if let Answer::Notes(j) = heard.answer() {
+            if heard.is_news() {
                 self.link_control.cut(rt, j);
             }
         }
-        answer
+        Some(heard)
     }
 
     /// Stops the server. It may wait, also for masters.
@@ -156,27 +171,31 @@ impl<C: LinkControl> PeerPort<C> {
         self.stop(rt);
     }
 
-    // What the admission does with an order, and whether it is news of a failure. The lease is published under the
-    // admission's lock, so that ends are published in the order in which they are made.
-    fn heed<R: Wait>(&self, rt: &R, order: Order, now: u64) -> (Answer, bool)
+    // What the admission does with an order. The clock is read under its lock, and so is the lease published, so that
+    // ends are published in the order in which they are made.
+    #[tactic(auto, using(crate::proofs::Noting::heard_is_answered))]
+    fn heed<R: Wait>(&self, rt: &R, order: Order) -> Option<Heard>
         requires server { NamesServer order }
-        ensures { IsAnswer order result.0 }
+        ensures { IfSome result (λ heard. IsAnswer order heard.answer) }
     {
         let mut admission = self.admission.lock(rt);
-        let heeded = heed_at(&mut admission, order, now);
+        let heard = admission.hear(self.link_control.clock(), order)?;
         self.link_control.renewed(admission.lease());
-        heeded
+        Some(heard)
     }
 
-    // Notes that these have failed. It tells whether that is news.
-    fn note<R: Wait>(&self, rt: &R, view: View) -> bool
-        ensures { result ≡ true → is_below view self.now.host.servers ≡ true }
+    // Notes that these have failed, unless the chain hasn't one of them.
+    fn note<R: Wait>(&self, rt: &R, view: View) -> Option<Noted>
+        ensures noted { IfSome result (λ noted. noted.view ≡ view) }
+        ensures chain { IfSome result (λ _. is_below view self.now.host.servers ≡ true) }
+        ensures beyond { IfNone result
+            ((nat_le self.now.host.servers 16 && is_below view self.now.host.servers) ≡ false) }
     {
         if self.host.servers <= SERVERS && view.is_below(self.host.servers) {
             let mut admission = self.admission.lock(rt);
-            admission.note(view)
+            Some(admission.note(view))
         } else {
-            false
+            None
         }
     }
 }
@@ -190,7 +209,7 @@ fn greet_at(
     opener: &Introduction,
 ) -> Result<(Speaker, Acceptance), Reason>
     ensures accepted { OnOk result (refusal host.now admission.old id opener.now ≡ None) }
-    ensures inlet { IfOk result (λ accepted. HasInlet admission.old id accepted.0) }
+    ensures link { IfOk result (λ accepted. HasLink admission.old id opener.now.start accepted.0) }
     ensures greets { IfOk result (λ accepted. Greets id accepted.0) }
     ensures start { IfOk result (λ accepted. accepted.1.start ≡ host.now.start) }
     ensures gone { IfOk result (λ accepted. accepted.1.gone ≡ admission.old.gone) }
@@ -204,15 +223,4 @@ fn greet_at(
         }
         Err(reason) => Err(reason),
     }
-}
-
-// What this admission does with an order, and whether it is news of a failure.
-fn heed_at(admission: &mut PeerAdmission, order: Order, now: u64) -> (Answer, bool)
-    requires server { NamesServer order }
-    ensures answer { result.0 ≡ answer_to admission.old.lease order admission.old.gone now }
-    ensures news { result.1 ≡ adds admission.old.gone admission.new.gone }
-{
-    let gone = admission.gone();
-    let answer = admission.hear(order, now);
-    (answer, gone.adds(admission.gone()))
 }

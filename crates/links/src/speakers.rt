@@ -1,30 +1,35 @@
 //! Who speaks at a server's peer port, and what the server hears of it.
-ghost use Rattle.std.specs.Prelude.{◌≡◌, ◌++◌, ◌∷◌, ◌⊎◌, ◌<◌, [], ℕ, List, OnOk, OnErr, IfOk};
+ghost use Rattle.std.specs.Prelude.{◌≡◌, ◌++◌, ◌∷◌, ◌⊎◌, ◌<◌, [], ℕ, List, OnOk, OnErr, IfOk, IfSome, length};
 ghost use Rattle.peers.specs.Links.{MayCome};
 ghost use Rattle.node.specs.Lawful.{IsBody};
 ghost use Rattle.links.specs.declared.speakers.Who.TheVariants.{Server, Master};
 ghost use Rattle.leases.specs.declared.orders.Order.TheVariants as orders;
 ghost use Rattle.links.specs.PeerPorts.{host_of};
 ghost use Rattle.links.specs.Orders.{Answers, IsAnswer, NamesServer, TellsHow, bytes_of, stamp_in};
-ghost use Rattle.links.specs.Speakers.{Hears, NamesOneOf, Notes};
+ghost use Rattle.links.specs.GreeterInlets.{places, waiting_link};
+ghost use Rattle.links.specs.Speakers.{Hears, NamesOneOf, Notes, SpeaksFor, WaitsAgain, handed_of};
+ghost use Rattle.wire.specs.Spellings.{spelling};
 
+use crate::admissions::Heard;
+use crate::greeter_inlets::GreeterInlets;
+use crate::incoming_links::IncomingLink;
 use crate::notices::Notices;
 use crate::orders::{Response, alive_of, order_of};
 use crate::peer_ports::{LinkControl, PeerPort};
 use leases::{Answer, Order};
 use node::{Peer, SERVERS, View};
 use peers::TakeFault;
-use rail::Inlet;
 use std::alloc::Global;
 use std::marker::Model;
 use std::sync::Wait;
-use wire::{Beat, Frame, Silent};
+use wire::{Beat, Frame, Silent, size};
 
-/// Who speaks on an accepted connection. Only `PeerAdmission::admit` makes one: that of a server has the inlet that
-/// waited for it, of which there is one, and which is given once (`GreeterInlets::take`). So of the inlets of an
-/// admission each server gets one speaker at most, ever: who greets with an id that has greeted before gets none. This
-/// holds too of an admission that stands under a lock, as that of a `PeerPort`, where no contract can say who greeted
-/// before. Contracts see who it is, and what it has brought (`Who`).
+/// Who speaks on an accepted connection. Only `PeerAdmission::admit` makes one: that of a server has the link that
+/// waited for it, of which there is one (`GreeterInlets::take`). So at an admission each server has one speaker at a
+/// time at most: who greets with the id of one that speaks gets none until that one is given back
+/// (`PeerAdmission::give_back`). And all of them are of the start that greeted first, for ever. This holds too of an
+/// admission that stands under a lock, as that of a `PeerPort`, where no contract can say who greeted before. Contracts
+/// see who it is, and what it has brought (`Who`).
 #[derive(Drop)]
 pub struct Speaker {
     who: Who,
@@ -33,8 +38,8 @@ pub struct Speaker {
 /// A server, or a master. No other crate can name it.
 #[derive(Drop)]
 pub enum Who {
-    /// The server of this id, with the inlet by which the server hears it.
-    Server(u8, Inlet),
+    /// The server of this id, with the link by which the server hears it.
+    Server(u8, IncomingLink),
     /// A master, with the servers of which it has brought a notice, by the inlet that all masters share.
     Master(Notices),
 }
@@ -48,12 +53,12 @@ impl Model for Speaker {
 }
 
 impl Speaker {
-    /// The server of this id, which is heard by this inlet.
-    pub(crate) fn server(id: u8, inlet: Inlet) -> Speaker
-        ensures { result ≡ Server id inlet }
+    /// The server of this id, which is heard by this link.
+    pub(crate) fn server(id: u8, link: IncomingLink) -> Speaker
+        ensures { result ≡ Server id link }
     {
         Speaker {
-            who: Who::Server(id, inlet),
+            who: Who::Server(id, link),
         }
     }
 
@@ -66,12 +71,38 @@ impl Speaker {
         }
     }
 
+    /// How many bytes of a server's link were handed on, in whole frames: where its connection goes on. None of a
+    /// master.
+    pub fn handed(&self) -> Option<u64>
+        ensures { result ≡ handed_of self.now }
+    {
+        match &self.who {
+            Who::Server(_, link) => Some(link.handed()),
+            Who::Master(_) => None,
+        }
+    }
+
+    /// The link of a server waits again. If the chain hasn't this server, it is dropped.
+    pub(crate) fn give_back(self, greeter_inlets: &mut GreeterInlets)
+        ensures waits { WaitsAgain self greeter_inlets.old greeter_inlets.new }
+        ensures others { (j : ℕ)
+            → (SpeaksFor self j → ⊥) → waiting_link greeter_inlets.new j ≡ waiting_link greeter_inlets.old j }
+        ensures places { places greeter_inlets.new ≡ places greeter_inlets.old }
+    {
+        let Speaker { who } = self;
+        match who {
+            Who::Server(id, link) => greeter_inlets.put_back(id, link.wait()),
+            Who::Master(told) => drop(told),
+        }
+    }
+
     /// Does what a frame asks for, if the frame keeps the rules, and says what answers it: a server sends messages, a
-    /// master sends notices of failures, and each is brought to the server as it is. A master's orders are heard by the
-    /// server's lease, once the clock has been read; one that is a notice of silence, and is taken, is brought as
-    /// another notice is. Any other frame is refused, and so is one that can't be brought, and an order if the clock
-    /// can't be read; then nothing was brought. Before a notice is brought, the connection to the server that has
-    /// failed is ended. It may wait, also for other masters.
+    /// master sends notices of failures, and each is brought to the server as it is. A message's bytes count as handed
+    /// on once it was brought. A master's orders are heard by the server's lease; one that is a notice of silence, and
+    /// is taken, is brought as another notice is. Any other frame is refused, and so is one that can't be brought, or
+    /// with which the link has 2^64 bytes or more, and an order if the clock can't be read; then nothing was brought.
+    /// Before a notice is brought, the connection to the server that has failed is ended. It may wait, also for other
+    /// masters.
     pub fn hear<R: Wait, C: LinkControl>(
         &mut self,
         rt: &R,
@@ -85,19 +116,22 @@ impl Speaker {
         ensures chain { OnOk result (NamesOneOf (host_of shared_port.now) frame) }
         ensures refused { OnErr result (self.new ≡ self.old) }
     {
-        hear(rt, shared_port, &mut self.who, frame)
+        let count = count_of(&frame);
+        hear(rt, shared_port, &mut self.who, frame, count)
     }
 }
 
-// Does what a frame asks for.
+// Does what a frame of so many bytes asks for.
 #[tactic(auto, using(crate::proofs::Telling::any_frame))]
 fn hear<R: Wait, C: LinkControl>(
     rt: &R,
     shared_port: &PeerPort<C>,
     who: &mut Who,
     frame: Frame,
+    count: Option<usize>,
 ) -> Result<Response, TakeFault>
-    requires { MayCome frame }
+    requires may_come { MayCome frame }
+    requires count { IfSome count (λ n. n ≡ length (spelling frame)) }
     ensures heard { OnOk result (Hears who.old frame who.new) }
     ensures answered { IfOk result (λ response. Answers frame (bytes_of response)) }
     ensures noted { IfOk result (λ response. Notes who.old response who.new) }
@@ -105,7 +139,7 @@ fn hear<R: Wait, C: LinkControl>(
     ensures refused { OnErr result (who.new ≡ who.old) }
 {
     match frame {
-        Frame::Peer(peer) => bring(rt, who, peer),
+        Frame::Peer(peer) => bring(rt, who, peer, count),
         Frame::Gone(j) => tell(rt, shared_port, who, j),
         Frame::Reign(epoch) => greet(rt, shared_port, who, epoch),
         Frame::Beat(beat) => prolong(rt, shared_port, who, beat),
@@ -115,20 +149,62 @@ fn hear<R: Wait, C: LinkControl>(
         | Frame::Accepted(_)
         | Frame::Refused(_)
         | Frame::Alive(_)
+        | Frame::Confirmed(_)
+        | Frame::Stalled(_)
         | Frame::Noted(_) => Err(TakeFault),
     }
 }
 
-// Brings a message, if a server speaks.
-fn bring<R: Wait>(rt: &R, who: &mut Who, peer: Peer) -> Result<Response, TakeFault>
-    requires { IsBody peer.body }
+// How many bytes a frame has, if its numbers are in range.
+fn count_of(frame: &Frame) -> Option<usize>
+    ensures { IfSome result (λ n. n ≡ length (spelling frame.now)) }
+{
+    if frame.is_in_range() {
+        Some(size(frame))
+    } else {
+        None
+    }
+}
+
+// Brings a message, whose frame has so many bytes, if a server speaks. Refused if there is no such count.
+fn bring<R: Wait>(
+    rt: &R,
+    who: &mut Who,
+    peer: Peer,
+    count: Option<usize>,
+) -> Result<Response, TakeFault>
+    requires body { IsBody peer.body }
+    requires count { IfSome count (λ n. n ≡ length (spelling (Frame.Peer peer))) }
+    ensures heard { OnOk result (Hears who.old (Frame.Peer peer) who.new) }
+    ensures answered { IfOk result (λ response. Answers (Frame.Peer peer) (bytes_of response)) }
+    ensures noted { IfOk result (λ response. Notes who.old response who.new) }
+    ensures refused { OnErr result (who.new ≡ who.old) }
+{
+    match count {
+        Some(count) => bring_counted(rt, who, peer, count),
+        None => {
+            drop(peer);
+            Err(TakeFault)
+        }
+    }
+}
+
+// The same of a frame of n bytes.
+fn bring_counted<R: Wait>(
+    rt: &R,
+    who: &mut Who,
+    peer: Peer,
+    n: usize,
+) -> Result<Response, TakeFault>
+    requires body { IsBody peer.body }
+    requires count { n ≡ length (spelling (Frame.Peer peer)) }
     ensures heard { OnOk result (Hears who.old (Frame.Peer peer) who.new) }
     ensures answered { IfOk result (λ response. Answers (Frame.Peer peer) (bytes_of response)) }
     ensures noted { IfOk result (λ response. Notes who.old response who.new) }
     ensures refused { OnErr result (who.new ≡ who.old) }
 {
     match who {
-        Who::Server(id, inlet) => match inlet.bring(rt, *id, peer) {
+        Who::Server(id, link) => match link.bring(rt, *id, peer, n) {
             Ok(()) => Ok(Response::Nothing),
             Err(_) => Err(TakeFault),
         },
@@ -236,7 +312,7 @@ fn silence_by<R: Wait, C: LinkControl>(
     if id >= SERVERS || id >= shared_port.host().servers {
         return Err(TakeFault);
     }
-    match heed(rt, shared_port, Order::Silent(epoch, id))? {
+    match heed(rt, shared_port, Order::Silent(epoch, id))?.answer() {
         Answer::Tells(report) => Ok(Response::Alive(alive_of(report))),
         Answer::Notes(named) => {
             let mut inlet = shared_port.notices().lock(rt);
@@ -257,23 +333,23 @@ fn report<R: Wait, C: LinkControl>(
     ensures answered { IfOk result (λ response. TellsHow order (bytes_of response)) }
     ensures noted { (told : List ℕ) → IfOk result (λ response. Notes (Master told) response (Master told)) }
 {
-    match heed(rt, shared_port, order)? {
+    match heed(rt, shared_port, order)?.answer() {
         Answer::Tells(report) => Ok(Response::Alive(alive_of(report))),
         Answer::Notes(_) => Err(TakeFault),
     }
 }
 
-// What the server does with an order. The clock is read now that the order is here.
+// What the server does with an order. Refused if the clock can't be read.
 fn heed<R: Wait, C: LinkControl>(
     rt: &R,
     shared_port: &PeerPort<C>,
     order: Order,
-) -> Result<Answer, TakeFault>
+) -> Result<Heard, TakeFault>
     requires server { NamesServer order }
-    ensures { IfOk result (λ answer. IsAnswer order answer) }
+    ensures { IfOk result (λ heard. IsAnswer order heard.answer) }
 {
-    match shared_port.link_control().now() {
-        Some(now) => Ok(shared_port.hear(rt, order, now)),
+    match shared_port.hear(rt, order) {
+        Some(heard) => Ok(heard),
         None => Err(TakeFault),
     }
 }

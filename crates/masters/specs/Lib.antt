@@ -1,9 +1,2 @@
-pub mod Attendance
-pub mod Tasks
-pub mod Greetings
-pub mod Hosts
-pub mod Notices
-pub mod Orders
-pub mod Standings
+pub mod Lines
 pub mod Statuses
-pub mod Terms

@@ -1,10 +1,10 @@
 -- The exit statuses of a master (this project's rule).
 use Rattle.std.specs.Prelude.{◌≡◌, ◌⊎◌, ℕ}
-use Rattle.masters.specs.declared.command.TellFault.{TellFault}
-use Rattle.masters.specs.declared.command.TellFault.TheVariants.{Memory, Refused, Run, NoServer}
+use Rattle.master_decisions.specs.declared.faults.MasterFault.{MasterFault}
+use Rattle.master_decisions.specs.declared.faults.MasterFault.TheVariants.{Memory, Refused, Run, NoServer}
 
 -- the status of one that ends by this fault
-abbrev pub status_of : TellFault → ℕ
+abbrev pub status_of : MasterFault → ℕ
 status_of Memory = 3
 status_of (Refused i reason) = 1
 status_of Run = 1

@@ -1,182 +1,120 @@
-//! What stands on the connection of one who watches a server, if the master beats: orders on the way there, and on the
-//! way back how the server is.
+//! The connection to a server: orders on the way there, and on the way back what the server answers.
+ghost use Rattle.std.specs.Prelude.{◌≡◌};
 
-use crate::acknowledgements::put_order;
-use crate::news::{News, NewsSender};
-use crate::orders::report_of;
-use crossbeam_channel::Receiver;
-use leases::{Order, nanoseconds_of};
+use ends::TrackedWriter;
+use leases::Order;
+use master_decisions::{Incoming, frame_of, incoming_of};
+use peers::{LinkFault, put_frame};
 use std::alloc::{AllocError, Global};
 use std::io::{ErrorKind, Read};
 use std::net::TcpStream;
-use std::sync::Wait;
-use std::time::{Clock, Duration};
-use wire::{Alive, Frame, Frames, WireFault};
+use std::time::Duration;
+use wire::{Frame, Frames, WireFault};
 
 /// For this many milliseconds it waits for a frame before it looks for an order again. An order goes out later than it
 /// could by as much.
 const TICK: u64 = 10;
 
-/// How many orders go out before it looks for a frame again.
-const ORDERS: u8 = 4;
-
 /// How many bytes it reads at once, at most.
 const PIECE: usize = 256;
 
-/// What came on a connection.
-#[derive(Clone, Copy)]
-enum ReadBytes {
-    // This many bytes.
-    Bytes(usize),
-    // Nothing yet.
-    Nothing,
-    // Nothing, and nothing more will come.
-    End,
+/// For how many seconds a write may wait for the server to read: more than any notice is waited for.
+const WRITE: u64 = 5;
+
+/// A connection that the server has accepted.
+#[derive(Drop)]
+pub(crate) struct Conversation {
+    alloc: Global,
+    stream: TcpStream,
+    // What came and is no whole frame yet.
+    frames: Frames,
+    // Whether the start of the server that has accepted it is the one that is known.
+    is_known: bool,
 }
 
-/// Sends what the master ordered, and waits a moment for what the server with this id tells. It tells whether the
-/// connection stands. Of each report the clock is read once it is here, as the master's wait counts from then. Fails
-/// only if memory runs out.
-pub(crate) fn converse<R: Wait + Clock>(
-    rt: &R,
-    alloc: Global,
-    stream: &TcpStream,
-    orders: &Receiver<Order>,
-    frames: &mut Frames,
-    news_sender: &NewsSender,
-    id: u8,
-) -> Result<bool, AllocError> {
-    if !send_orders(rt, alloc, stream, orders)? {
-        return Ok(false);
-    }
-    let mut piece = [0u8; PIECE];
-    match read_soon(stream, piece.as_mut_slice()) {
-        ReadBytes::Bytes(count) => match piece.get(..count) {
-            Some(bytes) => hear(rt, frames, bytes, news_sender, id),
-            None => Ok(false),
-        },
-        ReadBytes::Nothing => Ok(true),
-        ReadBytes::End => Ok(false),
-    }
-}
-
-// Sends what the master ordered. It tells whether all of it was written.
-fn send_orders<R: Wait>(
-    rt: &R,
-    alloc: Global,
-    stream: &TcpStream,
-    orders: &Receiver<Order>,
-) -> Result<bool, AllocError> {
-    for _ in 0..ORDERS {
-        let Ok(order) = orders.try_recv(rt) else {
-            return Ok(true);
-        };
-        if !put_order(alloc, stream, order)? {
-            return Ok(false);
+impl Conversation {
+    /// On this stream, which the start of the server has accepted that is known, or another one.
+    pub(crate) fn new(alloc: Global, stream: TcpStream, is_known: bool) -> Conversation {
+        let _ = stream.set_write_timeout(Some(Duration::from_secs(WRITE)));
+        Conversation {
+            alloc,
+            stream,
+            frames: Frames::new(alloc),
+            is_known,
         }
     }
-    Ok(true)
-}
 
-// Reads what is there, or comes soon.
-fn read_soon(stream: &TcpStream, piece: &mut [u8]) -> ReadBytes {
-    if stream
-        .set_read_timeout(Some(Duration::from_millis(TICK)))
-        .is_err()
+    /// Whether the start of the server is the one that is known.
+    pub(crate) fn is_known(&self) -> bool
+        ensures { result ≡ self.now.is_known }
     {
-        return ReadBytes::End;
+        self.is_known
     }
-    let mut source = stream;
-    match source.read(piece) {
-        Ok(0) => ReadBytes::End,
-        Ok(count) => ReadBytes::Bytes(count),
-        Err(fault) => match fault.kind() {
-            ErrorKind::WouldBlock | ErrorKind::TimedOut | ErrorKind::Interrupted =>
-                ReadBytes::Nothing,
-            _ => ReadBytes::End,
-        },
+
+    /// Writes an order. It tells whether it was written: no chain has a server beyond 15.
+    pub(crate) fn put(&self, order: Order) -> Result<bool, AllocError> {
+        let frame = frame_of(order);
+        let is_put = self.put_if_in_range(&frame);
+        drop(frame);
+        is_put
+    }
+
+    // Writes a frame, if it is in its range.
+    fn put_if_in_range(&self, frame: &Frame) -> Result<bool, AllocError> {
+        if !frame.is_in_range() {
+            return Ok(false);
+        }
+        let mut sink = TrackedWriter::new(&self.stream);
+        let put = put_frame(self.alloc, &mut sink, frame);
+        drop(sink);
+        match put {
+            Ok(()) => Ok(true),
+            Err(LinkFault::Memory) => Err(AllocError),
+            Err(_) => Ok(false),
+        }
+    }
+
+    /// Reads what is there, or comes within a moment. It tells whether the connection stands.
+    pub(crate) fn read(&mut self) -> Result<bool, AllocError> {
+        let tick = Duration::from_millis(TICK);
+        if self.stream.set_read_timeout(Some(tick)).is_err() {
+            return Ok(false);
+        }
+        let mut piece = [0u8; PIECE];
+        let mut source = &self.stream;
+        match source.read(piece.as_mut_slice()) {
+            Ok(0) => Ok(false),
+            Ok(count) => match piece.get(..count) {
+                Some(bytes) => fed(&mut self.frames, bytes),
+                None => Ok(false),
+            },
+            Err(fault) => Ok(matches!(
+                fault.kind(),
+                ErrorKind::WouldBlock | ErrorKind::TimedOut | ErrorKind::Interrupted
+            )),
+        }
+    }
+
+    /// The next frame of those that were read.
+    pub(crate) fn next(&mut self) -> Result<Incoming, AllocError> {
+        match self.frames.next() {
+            Ok(Some(frame)) => {
+                let incoming = incoming_of(&frame);
+                drop(frame);
+                Ok(incoming)
+            }
+            Ok(None) => Ok(Incoming::Nothing),
+            Err(WireFault::Memory) => Err(AllocError),
+            Err(_) => Ok(Incoming::End),
+        }
     }
 }
 
-// Hears what these bytes tell. It tells whether each frame that they end is a report, or the answer to a notice.
-fn hear<R: Wait + Clock>(
-    rt: &R,
-    frames: &mut Frames,
-    bytes: &[u8],
-    news_sender: &NewsSender,
-    id: u8,
-) -> Result<bool, AllocError> {
+// Takes bytes that were read. It tells whether more may come.
+fn fed(frames: &mut Frames, bytes: &[u8]) -> Result<bool, AllocError> {
     match frames.feed(bytes) {
-        Ok(()) => hear_frames(rt, frames, news_sender, id),
+        Ok(()) => Ok(true),
         Err(WireFault::Memory) => Err(AllocError),
         Err(_) => Ok(false),
     }
-}
-
-// Hears each frame that is whole.
-fn hear_frames<R: Wait + Clock>(
-    rt: &R,
-    frames: &mut Frames,
-    news_sender: &NewsSender,
-    id: u8,
-) -> Result<bool, AllocError> {
-    for _ in 0..PIECE {
-        match next_report(frames)? {
-            Next::Report(alive) => {
-                if !tell(rt, news_sender, id, alive) {
-                    return Ok(false);
-                }
-            }
-            Next::Noted => {}
-            Next::Nothing => return Ok(true),
-            Next::Bad => return Ok(false),
-        }
-    }
-    Ok(true)
-}
-
-// What the next frame is.
-#[derive(Clone, Copy)]
-enum Next {
-    // A report.
-    Report(Alive),
-    // The answer to a notice, for which nobody waits here.
-    Noted,
-    // Not whole yet.
-    Nothing,
-    // None that belongs there.
-    Bad,
-}
-
-fn next_report(frames: &mut Frames) -> Result<Next, AllocError> {
-    match frames.next() {
-        Ok(Some(frame)) => {
-            let next = next_of(&frame);
-            drop(frame);
-            Ok(next)
-        }
-        Ok(None) => Ok(Next::Nothing),
-        Err(WireFault::Memory) => Err(AllocError),
-        Err(_) => Ok(Next::Bad),
-    }
-}
-
-fn next_of(frame: &Frame) -> Next {
-    match frame {
-        Frame::Alive(alive) => Next::Report(*alive),
-        Frame::Noted(_) => Next::Noted,
-        _ => Next::Bad,
-    }
-}
-
-// Puts a report, with what the clock shows now that it is here. It tells whether it is one. If the clock can't be read,
-// it is as if nothing had come.
-fn tell<R: Wait + Clock>(rt: &R, news_sender: &NewsSender, id: u8, alive: Alive) -> bool {
-    let Some(report) = report_of(alive) else {
-        return false;
-    };
-    if let Ok(reading) = rt.monotonic() {
-        news_sender.put(rt, News::Told(id, report, nanoseconds_of(reading)));
-    }
-    true
 }

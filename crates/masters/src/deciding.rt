@@ -1,281 +1,270 @@
-//! What a master that watches does with what it hears. It waits for no server.
+//! What a master does with what it hears. It waits for no server.
+ghost use Rattle.std.specs.Prelude.{◌≡◌, ◌↔◌, IsSome, true};
 
-use crate::answers::Answers;
-use crate::beats::Beats;
-use crate::command::{TellFault, WHO};
-use crate::knowledge::Knowledge;
-use crate::master_lines::tell_unnoted;
-use crate::news::{News, TimedNews, milliseconds_of};
-use crate::notice_thread::{Outcome, Request};
-use crate::notices::done_in;
-use crate::orders::named_in;
-use crate::pending::Pending;
-use crate::settings::MasterSettings;
+use crate::input_threads::named_by;
+use crate::news::{TimedNews, milliseconds_since};
+use crate::platforms::Platform;
+use crate::printers::Printer;
+use crate::starting::ServerSender;
 use crossbeam_channel::{Receiver, RecvTimeoutError, Sender};
-use ends::Sink;
-use leases::Order;
-use node::SERVERS;
-use std::sync::Wait;
-use std::time::{Clock, Duration, Instant};
+use ends::{Sink, Source};
+use lines::next_line;
+use master_decisions::{
+    Beats, Decision, Facts, Knowledge, Leaving, MasterFault, News, Presence, Rounds, StalledLinks,
+    ToldSteps, decided_by_news, looks_first,
+};
+use std::alloc::{AllocError, Global};
+use std::time::{Duration, Instant};
 
-/// What it hears, and who waits for it.
+/// The thread that decides: all that a master knows, and what it waits for.
 #[derive(Drop)]
-pub(crate) struct Inputs {
-    /// What the threads hear.
-    pub(crate) all_news: Receiver<TimedNews>,
-    /// Where it puts that a line of the input was answered: the next one is read then.
-    pub(crate) answered: Sender<()>,
-}
-
-/// The thread that decides.
-#[derive(Drop)]
-pub(crate) struct Decider {
+pub(crate) struct Decider<'a, W, X> {
+    pub(crate) alloc: Global,
+    pub(crate) printer: Printer<'a, W, X>,
     pub(crate) knowledge: Knowledge,
-    pub(crate) pending: Pending,
-    pub(crate) answers: Answers,
-    pub(crate) begun: Instant,
-    pub(crate) inputs: Inputs,
-    /// What it has for leases, if it beats.
+    /// What is wanted of servers, and not done yet.
+    pub(crate) rounds: Rounds,
+    /// Where what is wanted of each server goes, by its id.
+    pub(crate) server_senders: Vec<ServerSender>,
+    /// What the threads hear.
+    all_news: Receiver<TimedNews>,
+    /// Where it puts that a line of the input was answered, if a thread reads it: the next one is read then.
+    pub(crate) answered: Option<Sender<()>>,
+    /// When it began.
+    begun: Instant,
+    /// What it has for leases, if it watches.
     pub(crate) beats: Option<Beats>,
+    /// Whom it heard lately.
+    pub(crate) presence: Presence,
+    /// Which links between servers stand still, and what it printed of that.
+    pub(crate) stalled_links: StalledLinks,
+    /// Whose answers don't count.
+    pub(crate) leaving: Leaving,
+    /// What it printed of servers that are gone.
+    pub(crate) told_steps: ToldSteps,
 }
 
-impl Decider {
-    /// Watches until no server is left.
-    pub(crate) fn go_on<R: Wait + Clock, W: Sink, X: Sink>(
+impl<'a, W: Sink, X: Sink> Decider<'a, W, X> {
+    /// Of a master that began then, before it spoke to a server: its threads put their news there. Fails only if memory
+    /// runs out.
+    pub(crate) fn new(
+        alloc: Global,
+        printer: Printer<'a, W, X>,
+        server_senders: Vec<ServerSender>,
+        all_news: Receiver<TimedNews>,
+        begun: Instant,
+    ) -> Result<Decider<'a, W, X>, AllocError> {
+        let knowledge = Knowledge::new(alloc, printer.settings.numbers.servers)?;
+        Ok(Decider {
+            alloc,
+            printer,
+            knowledge,
+            rounds: Rounds::new(alloc),
+            server_senders,
+            all_news,
+            answered: None,
+            begun,
+            beats: None,
+            presence: Presence::new(),
+            stalled_links: StalledLinks::new(),
+            leaving: Leaving::new(),
+            told_steps: ToldSteps::new(),
+        })
+    }
+
+    /// Reads lines until the input ends. While something is under way no line is read.
+    pub(crate) fn read_on<R: Platform, S: Source>(
         &mut self,
         rt: &R,
-        settings: &MasterSettings,
-        output: &mut W,
-        errors: &mut X,
-    ) -> Result<(), TellFault> {
+        input: &mut S,
+        line: &mut Vec<u8>,
+    ) -> Result<(), MasterFault> {
         for _ in rt.forever() {
-            if !self.knowledge.has_living() && self.pending.is_empty() {
-                return Err(TellFault::NoServer);
-            }
-            let wait = self.act(rt, settings, output, errors)?;
-            if let Some(timed_news) = self.next_news(rt, wait)? {
-                self.take(rt, settings, output, errors, timed_news)?;
+            self.end_rounds(rt)?;
+            if !self.rounds.is_empty() {
+                self.take_next(rt, None)?;
+            } else if next_line(input, line)? {
+                let milliseconds = self.running(rt);
+                let news = named_by(line.as_slice(), self.servers());
+                self.take(rt, TimedNews { milliseconds, news })?;
+            } else {
+                return Ok(());
             }
         }
         unreachable!()
     }
 
-    // What is new, if something is in this many nanoseconds; if there is no such number, it waits for it.
-    fn next_news<R: Wait + Clock>(
-        &self,
+    /// Watches until no server is left.
+    pub(crate) fn watch_on<R: Platform>(&mut self, rt: &R) -> Result<(), MasterFault> {
+        for _ in rt.forever() {
+            let wait = self.act(rt)?;
+            self.end_rounds(rt)?;
+            if !self.knowledge.has_living() && self.rounds.is_empty() {
+                return Err(MasterFault::NoServer);
+            }
+            self.take_next(rt, wait)?;
+        }
+        unreachable!()
+    }
+
+    /// Waits for what is new, for this many nanoseconds at most if there is such a number, and does what it asks for.
+    pub(crate) fn take_next<R: Platform>(
+        &mut self,
         rt: &R,
         wait: Option<u64>,
-    ) -> Result<Option<TimedNews>, TellFault> {
-        let Some(wait) = wait else {
-            return match self.inputs.all_news.recv(rt) {
-                Ok(timed_news) => Ok(Some(timed_news)),
-                Err(_) => Err(TellFault::Run),
-            };
-        };
-        match self
-            .inputs
-            .all_news
-            .recv_timeout(rt, Duration::from_nanos(wait))
-        {
-            Ok(timed_news) => Ok(Some(timed_news)),
-            Err(RecvTimeoutError::Timeout) => Ok(None),
-            Err(RecvTimeoutError::Disconnected) => Err(TellFault::Run),
-        }
-    }
-
-    // Does what a piece of news asks for.
-    fn take<R: Wait + Clock, W: Sink, X: Sink>(
-        &mut self,
-        rt: &R,
-        settings: &MasterSettings,
-        output: &mut W,
-        errors: &mut X,
-        timed_news: TimedNews,
-    ) -> Result<(), TellFault> {
-        let TimedNews { milliseconds, news } = timed_news;
-        if let Some((i, what)) = self.step_of(&news) {
-            self.answers
-                .step(output, errors, WHO, milliseconds, i, what);
-        }
-        match news {
-            News::Typed(j) => {
-                self.lose(j);
-                self.give(rt, Order::Gone(j), true)
-            }
-            News::BadLine => {
-                self.answers.bad_line(output, errors, WHO);
-                self.let_read(rt);
-                Ok(())
-            }
-            News::Met(i, start, gone) => self.meet(rt, i, start, gone),
-            News::Ended(j) => {
-                self.lose(j);
-                self.tell_gone(rt, j)
-            }
-            News::Told(i, report, now) => self.hear(rt, output, errors, i, &report, now),
-            News::Given => self.end_one(rt, settings, output, errors),
-            News::Broken(_) | News::Lost(_) => Ok(()),
-            News::Fault(fault) => Err(fault),
-        }
-    }
-
-    // Server j does nothing more.
-    fn lose(&mut self, j: u8) {
-        if let Some(beats) = &mut self.beats {
-            beats.lose(j);
-        }
-    }
-
-    // Lets the next line of the input be read.
-    fn let_read<R: Wait>(&self, rt: &R) {
-        let _ = self.inputs.answered.try_send(rt, ());
-    }
-
-    // This start of server i has accepted a connection, and told who is gone. If it is the one that was called gone
-    // meanwhile, as it wasn't reached, it is told so and ends.
-    fn meet<R: Wait>(&mut self, rt: &R, i: u8, start: u64, gone: u16) -> Result<(), TellFault> {
-        let is_back = self.knowledge.is_gone(i) && self.knowledge.start(i) == Some(start);
-        self.knowledge.met(i, start, gone);
-        if let Some(beats) = &mut self.beats {
-            beats.met(i);
-            if is_back {
-                beats.hand(rt, i, Order::Gone(i));
-            }
-        }
-        self.tell_again(rt)
-    }
-
-    /// Has the others told once more of each server that is gone, if one that was reached may not know it.
-    pub(crate) fn tell_again<R: Wait>(&mut self, rt: &R) -> Result<(), TellFault> {
-        for j in 0..SERVERS {
-            if self.knowledge.is_untold(j) && self.pending.lets_again(j) {
-                self.give(rt, Order::Gone(j), false)?;
-            }
-        }
-        Ok(())
-    }
-
-    /// Has the others told that server `j` is gone, if that isn't known.
-    pub(crate) fn tell_gone<R: Wait>(&mut self, rt: &R, j: u8) -> Result<(), TellFault> {
-        if self.knowledge.is_gone(j) {
-            return Ok(());
-        }
-        self.give(rt, Order::Gone(j), false)
-    }
-
-    /// Has a notice given. A server that it names as gone is known to be gone from then on. Each who watches a server
-    /// hands it on at once. The thread that gives notices gives it too, and waits for the answers; so it may come to it
-    /// only once a server that is silent hasn't answered the one before.
-    pub(crate) fn give<R: Wait>(
-        &mut self,
-        rt: &R,
-        order: Order,
-        is_typed: bool,
-    ) -> Result<(), TellFault> {
-        let Some(j) = named_in(order) else {
-            return Err(TellFault::Run);
-        };
-        let request = Request {
-            order,
-            is_typed,
-            gone: self.knowledge.gone(),
-            known: self.knowledge.all()?,
-        };
-        if let Order::Gone(_) = order {
-            self.knowledge.lose(j);
-        }
-        self.hand_to_all(rt, order);
-        self.pending.put(rt, j, request)
-    }
-
-    // Hands a notice to each who watches a server that was met, also to that server itself if it is reached: it ends
-    // then.
-    fn hand_to_all<R: Wait>(&self, rt: &R, order: Order) {
-        if let Some(beats) = &self.beats {
-            beats.hand_to_all(rt, order);
-        }
-    }
-
-    // Something came of a notice.
-    fn end_one<R: Wait, W: Sink, X: Sink>(
-        &mut self,
-        rt: &R,
-        settings: &MasterSettings,
-        output: &mut W,
-        errors: &mut X,
-    ) -> Result<(), TellFault> {
-        match self.pending.next(rt) {
-            Some(outcome) => {
-                let order = outcome.order;
-                let is_typed = outcome.is_typed;
-                self.print(settings, output, errors, &outcome);
-                drop(outcome);
-                if is_typed {
-                    self.let_read(rt);
-                }
-                self.end_notice(rt, order)
-            }
+    ) -> Result<(), MasterFault> {
+        match self.next_news(rt, wait)? {
+            Some(timed_news) => self.take(rt, timed_news),
             None => Ok(()),
         }
     }
 
-    // Learns what came of a notice, and answers as to a line.
-    fn print<W: Sink, X: Sink>(
-        &mut self,
-        settings: &MasterSettings,
-        output: &mut W,
-        errors: &mut X,
-        outcome: &Outcome,
-    ) {
-        self.knowledge.learn(outcome.known.as_slice());
-        let given = outcome.answers.as_slice();
-        tell_unnoted(errors, settings, given, outcome.order);
-        if let Some(j) = named_in(outcome.order) {
-            self.answers.told(output, errors, WHO, j, done_in(given));
-        }
-    }
-
-    // A notice was given. The others are told once more of that server, if that is due.
-    fn end_notice<R: Wait>(&mut self, rt: &R, order: Order) -> Result<(), TellFault> {
-        let Some(j) = named_in(order) else {
-            return Err(TellFault::Run);
+    // What is new, if something is in time.
+    fn next_news<R: Platform>(
+        &self,
+        rt: &R,
+        wait: Option<u64>,
+    ) -> Result<Option<TimedNews>, MasterFault> {
+        let Some(wait) = wait else {
+            return match self.all_news.recv(rt) {
+                Ok(timed_news) => Ok(Some(timed_news)),
+                Err(_) => Err(MasterFault::Run),
+            };
         };
-        if self.pending.end(j) && self.knowledge.is_untold(j) {
-            return self.give(rt, Order::Gone(j), false);
-        }
-        Ok(())
-    }
-
-    // The line that tells what is new of a server.
-    fn step_of(&self, news: &News) -> Option<(u8, &'static [u8])> {
-        match news {
-            News::Met(i, _, _) => Some((*i, b"connected".as_slice())),
-            News::Broken(i) => Some((*i, b"connection lost".as_slice())),
-            News::Lost(i) => Some((*i, self.loss_of(*i))),
-            News::Ended(i) => Some((*i, b"its process has ended".as_slice())),
-            News::Typed(_) | News::BadLine | News::Told(_, _, _) | News::Given | News::Fault(_) =>
-                None,
+        match self.all_news.recv_timeout(rt, Duration::from_nanos(wait)) {
+            Ok(timed_news) => Ok(Some(timed_news)),
+            Err(RecvTimeoutError::Timeout) => Ok(None),
+            Err(RecvTimeoutError::Disconnected) => Err(MasterFault::Run),
         }
     }
 
-    // What it says that server i isn't reached.
-    fn loss_of(&self, i: u8) -> &'static [u8] {
-        if self.knowledge.is_gone(i) {
-            return b"not reached".as_slice();
+    // Does what is decided about a piece of news, and what it asks for beside that.
+    fn take<R: Platform>(&mut self, rt: &R, timed_news: TimedNews) -> Result<(), MasterFault> {
+        let TimedNews { milliseconds, news } = timed_news;
+        self.tell_step(milliseconds, &news);
+        self.presence.attend(milliseconds, &news);
+        if let News::Typed(j) = news {
+            return self.take_line(rt, milliseconds, j);
         }
-        match &self.beats {
-            Some(beats) if beats.has_lease(i) => {
-                b"not reached; it may live, so nobody is told before its lease is over".as_slice()
+        let decision = decided_by_news(self.facts_with(&news), &news);
+        match self.carry_out(rt, decision) {
+            Ok(()) => self.follow(rt, milliseconds, news),
+            Err(fault) => {
+                drop(news);
+                Err(fault)
             }
-            _ => b"not reached; it may live, so nobody is told that it is gone".as_slice(),
         }
     }
 
-    /// How many milliseconds have passed since the master began.
-    pub(crate) fn running<R: Clock>(&self, rt: &R) -> u64 {
-        match self.begun.elapsed(rt) {
-            Ok(passed) => milliseconds_of(passed),
-            Err(_) => 0,
+    // A line of the input says that server j is gone.
+    fn take_line<R: Platform>(
+        &mut self,
+        rt: &R,
+        milliseconds: u64,
+        j: u8,
+    ) -> Result<(), MasterFault> {
+        if looks_first(self.watches(), self.knowledge.is_gone(j)) {
+            return self.look(rt, j);
         }
+        let beat = self.printer.settings.numbers.beat;
+        let answers = self.presence.answers(j, milliseconds, beat);
+        self.do_line(rt, j, answers)
+    }
+
+    /// Does what the line says, once it is known whether the server still answers: it is told what a person should know
+    /// before.
+    pub(crate) fn do_line<R: Platform>(
+        &mut self,
+        rt: &R,
+        j: u8,
+        answers: bool,
+    ) -> Result<(), MasterFault> {
+        self.warn(j, answers);
+        let decision = decided_by_news(self.facts(), &News::Typed(j));
+        self.carry_out(rt, decision)
+    }
+
+    // Does what a piece of news asks for beside what was decided.
+    fn follow<R: Platform>(
+        &mut self,
+        rt: &R,
+        milliseconds: u64,
+        news: News,
+    ) -> Result<(), MasterFault> {
+        match news {
+            News::Typed(_) | News::Broken(_) | News::Lost(_) | News::Ended(_) => Ok(()),
+            News::BadLine => {
+                self.printer.bad_line();
+                self.let_read(rt);
+                Ok(())
+            }
+            News::Met(i, start, gone) => self.meet(rt, i, start, gone),
+            News::Told(i, reading) => {
+                self.stalled_links.answered(i, milliseconds);
+                self.hear(rt, i, reading)
+            }
+            News::Stalled(i, servers) => {
+                self.stalled_links.hear(i, servers, milliseconds);
+                Ok(())
+            }
+            News::Answered(i, answered) => {
+                self.hear_answer(i, answered);
+                Ok(())
+            }
+            News::Fault(fault) => Err(fault),
+        }
+    }
+
+    // What is known when there is this news.
+    fn facts_with(&self, news: &News) -> Facts {
+        self.knowledge.facts_with(self.watches(), news)
+    }
+
+    /// What is known, of no news.
+    pub(crate) fn facts(&self) -> Facts {
+        self.knowledge.facts(self.watches())
+    }
+
+    /// Does what was decided: a server does nothing more, something is sent to one, a notice is given.
+    pub(crate) fn carry_out<R: Platform>(
+        &mut self,
+        rt: &R,
+        decision: Decision,
+    ) -> Result<(), MasterFault> {
+        if let (Some(beats), Some(j)) = (&mut self.beats, decision.given_up()) {
+            beats.lose(j);
+        }
+        if let Some(sending) = decision.sending() {
+            let (i, order) = sending.parts();
+            self.hand(rt, i, order);
+        }
+        match decision.notice() {
+            Some(notice) => self.give(rt, notice),
+            None => Ok(()),
+        }
+    }
+
+    /// Lets the next line of the input be read, if a thread reads it.
+    pub(crate) fn let_read<R: Platform>(&self, rt: &R) {
+        if let Some(answered) = &self.answered {
+            let _ = answered.try_send(rt, ());
+        }
+    }
+
+    /// Whether it watches.
+    pub(crate) fn watches(&self) -> bool
+        ensures { (result ≡ true) ↔ IsSome self.now.beats }
+    {
+        self.beats.is_some()
+    }
+
+    /// How many servers the chain has.
+    pub(crate) fn servers(&self) -> u8 {
+        self.printer.settings.numbers.servers
+    }
+
+    /// How many milliseconds have passed since it began.
+    pub(crate) fn running<R: Platform>(&self, rt: &R) -> u64 {
+        milliseconds_since(rt, self.begun)
     }
 }

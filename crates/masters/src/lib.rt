@@ -1,41 +1,26 @@
-//! The master of a chain, which tells its servers of failures; and what it shares with them: settings, greetings, lines
-//! of input and their answers. It opens connections.
+//! The master of a chain, which tells its servers of failures: of those that a line of its input names, and, if it
+//! watches, of those that it finds. It opens connections to the servers. What is decided is decided in
+//! `master_decisions`: here are the threads that hand it what comes and what a clock shows, and do what it answers, and
+//! what a person reads of it.
 #![tactic(auto)]
 
-mod acknowledgements;
-mod answers;
-mod attendance;
-mod beats;
 mod command;
-mod contacts;
 mod conversations;
 mod deciding;
-mod greetings;
-mod input_lines;
-mod keepalive;
-mod knowledge;
+mod giving;
+mod input_threads;
 mod lease_duties;
+mod link_duties;
 mod master_lines;
 mod news;
-mod notice_thread;
-mod notices;
-mod orders;
-mod pending;
-mod settings;
-mod short_frames;
-mod standings;
-mod starts;
-mod tellers;
-mod watch_threads;
-mod watchers;
+mod platforms;
+mod printers;
+mod server_threads;
+mod server_watches;
+mod starting;
+mod step_lines;
 mod watching;
 
-pub use answers::Answers;
 pub use command::master;
-pub use greetings::{Channel, Greeted, PeerSink, reach};
-pub use input_lines::{empty_line, next_line, server_named};
-pub use keepalive::keep_alive;
-pub use settings::{MasterSettings, ServerSettings, port_of};
-pub use short_frames::{Deadline, ReceivedFrame, next_frame};
-pub use starts::start_number;
+pub use platforms::Platform;
 pub use watching::watch;

@@ -1,24 +1,60 @@
 //! What a master tells of servers that don't do what they are asked, each time in one line.
 
-use crate::notices::{Answer, beside, only_one, silent_in};
-use crate::orders::named_in;
-use crate::settings::{MasterSettings, port_of};
-use ends::{Sink, write_all};
-use itoa::Buffer;
+use craq_settings::{MasterSettings, port_of};
+use ends::Sink;
 use leases::Order;
+use lines::{text, text_of};
+use master_decisions::{Answer, MasterFault, answer_at, done_in, named_in, only_one, silent_in};
 use node::{SERVERS, View};
+use std::fmt;
+use std::fmt::Display;
 use wire::Reason;
 
-/// Server `i` refuses the master.
-pub(crate) fn tell_refusal<X: Sink>(
-    errors: &mut X,
-    settings: &MasterSettings,
-    i: u8,
-    reason: Reason,
-) {
-    say_server(errors, settings, i);
-    say(errors, " refuses this master: ");
-    say_reason(errors, settings, reason);
+/// What to look at if no server answers.
+const LOOK: &str = "look at --peers, --peer-port and its servers";
+
+/// What to do about a server that was started anew.
+const ANEW: &str = "if all servers were started anew, start the master anew";
+
+/// What to do about a lease that is too short.
+const SHORT: &str = "give it a longer --lease, or this master a shorter --beat";
+
+// The numbers of servers, with commas between them.
+#[derive(Clone, Copy)]
+struct Numbers(View);
+
+impl Display for Numbers {
+    fn fmt<W: fmt::Write>(&self, f: &mut fmt::Formatter<W>) -> fmt::Result {
+        let mut between = "";
+        for i in 0..SERVERS {
+            if self.0.has(i) {
+                write!(f, "{between}{i}")?;
+                between = ",";
+            }
+        }
+        Ok(())
+    }
+}
+
+/// Why the master ends.
+pub(crate) fn tell_fault<X: Sink>(errors: &mut X, settings: &MasterSettings, fault: MasterFault) {
+    let _ = match fault {
+        MasterFault::Memory => writeln!(text(errors), "craq: out of memory"),
+        MasterFault::Run => writeln!(text(errors), "craq: run failed"),
+        MasterFault::NoServer => writeln!(
+            text(errors),
+            "craq: no server is left; start the chain anew, and then this master"
+        ),
+        MasterFault::Refused(i, reason) => {
+            let (host, port) = place_of(settings, i);
+            let said = write!(
+                text(errors),
+                "craq: server {i} at {host} port {port} refuses this master: "
+            );
+            say_reason(errors, settings, reason);
+            said
+        }
+    };
 }
 
 /// Who didn't answer when the master connected, but those that are known to have failed.
@@ -29,38 +65,34 @@ pub(crate) fn tell_unmet<X: Sink>(
     gone: View,
 ) {
     for i in 0..SERVERS {
-        if let Some(Answer::NoHost) = answers.get(usize::from(i)) {
+        if let Answer::NoHost = answer_at(answers, i) {
             tell_host(errors, settings, i);
         }
     }
-    let unmet = beside(silent_in(answers), gone);
-    if unmet.bits() == 0 {
-        return;
+    let unmet = silent_in(answers, gone);
+    if unmet.bits() != 0 {
+        tell_silent_at_start(errors, unmet, done_in(answers) > 0);
     }
-    if !answers.contains(&Answer::Done) {
-        say(
-            errors,
-            "craq: no server answers; if the chain runs, look at ",
-        );
-        say(
-            errors,
-            "--peers, --peer-port and its servers; the master goes on\n",
-        );
-        return;
-    }
-    say(errors, "craq: ");
-    say_servers(errors, unmet);
-    match only_one(unmet) {
-        Some(i) => {
-            say(errors, " does not answer; if it has failed, type gone ");
-            say_number(errors, u16::from(i));
-            say(errors, "\n");
-        }
-        None => say(
-            errors,
-            " do not answer; for each that has failed, type gone and its number\n",
+}
+
+// These servers didn't answer when the master connected; some other one did, or none.
+fn tell_silent_at_start<X: Sink>(errors: &mut X, unmet: View, some_answer: bool) {
+    let mut line = text(errors);
+    let numbers = Numbers(unmet);
+    let _ = match only_one(unmet) {
+        _ if !some_answer => writeln!(
+            line,
+            "craq: no server answers; if the chain runs, {LOOK}; the master goes on"
         ),
-    }
+        Some(i) => writeln!(
+            line,
+            "craq: server {i} does not answer; if it has failed, type gone {i}"
+        ),
+        None => writeln!(
+            line,
+            "craq: servers {numbers} do not answer; for each that has failed, type gone and its number"
+        ),
+    };
 }
 
 /// Who hasn't noted that a server has failed, as the notice says, or was silent until its lease was over.
@@ -71,153 +103,118 @@ pub(crate) fn tell_unnoted<X: Sink>(
     order: Order,
 ) {
     if let Some(j) = named_in(order) {
-        tell_untold(errors, settings, answers, j);
-        tell_silent(errors, answers, j);
-    }
-}
-
-// Who wasn't told that server j has failed, since it refuses the master or was started anew.
-fn tell_untold<X: Sink>(errors: &mut X, settings: &MasterSettings, answers: &[Answer], j: u8) {
-    for i in 0..SERVERS {
-        match answers.get(usize::from(i)) {
-            Some(Answer::NoHost) => tell_host(errors, settings, i),
-            Some(Answer::Refused(reason)) => {
-                say_untold(errors, settings, i, j);
-                say(errors, "it refuses this master: ");
-                say_reason(errors, settings, *reason);
-            }
-            Some(Answer::Anew) => {
-                say_untold(errors, settings, i, j);
-                say_anew(errors, i);
-            }
-            Some(Answer::Unasked | Answer::Done | Answer::Silent | Answer::Untaken) | None => {}
+        for i in 0..SERVERS {
+            tell_untold(errors, settings, i, answer_at(answers, i), j);
         }
+        tell_silent(errors, silent_in(answers, View::empty()), j);
     }
 }
 
-// Who gave no answer to the notice that server j has failed.
-fn tell_silent<X: Sink>(errors: &mut X, answers: &[Answer], j: u8) {
-    let silent = silent_in(answers);
+// That server i wasn't told that server j has failed, if it refuses the master or was started anew.
+fn tell_untold<X: Sink>(errors: &mut X, settings: &MasterSettings, i: u8, answer: Answer, j: u8) {
+    match answer {
+        Answer::NoHost => tell_host(errors, settings, i),
+        Answer::Refused(reason) => {
+            say_untold(errors, settings, i, j);
+            let _ = write!(text(errors), "it refuses this master: ");
+            say_reason(errors, settings, reason);
+        }
+        Answer::Anew => {
+            say_untold(errors, settings, i, j);
+            let _ = writeln!(
+                text(errors),
+                "it was started anew; if the chain goes on without it, end it and type gone {i}; {ANEW}"
+            );
+        }
+        Answer::Unasked | Answer::Done | Answer::Silent | Answer::Untaken => {}
+    }
+}
+
+// These servers gave no answer to the notice that server j has failed.
+fn tell_silent<X: Sink>(errors: &mut X, silent: View, j: u8) {
     if silent.bits() == 0 {
         return;
     }
-    say(errors, "craq: ");
-    say_servers(errors, silent);
-    say(errors, " did not answer that server ");
-    say_number(errors, u16::from(j));
-    match only_one(silent) {
-        Some(_) => say(errors, " is gone: look at it, and type gone "),
-        None => say(errors, " is gone: look at them, and type gone "),
-    }
-    say_number(errors, u16::from(j));
-    say(errors, " again\n");
+    let (word, them) = match only_one(silent) {
+        Some(_) => ("server", "it"),
+        None => ("servers", "them"),
+    };
+    let numbers = Numbers(silent);
+    let _ = write!(
+        text(errors),
+        "craq: {word} {numbers} did not answer that server {j} is gone: "
+    );
+    let _ = writeln!(text(errors), "look at {them}, and type gone {j} again");
 }
 
 /// The lease of server `i` is too short for the master's beats.
 pub(crate) fn tell_short_term<X: Sink>(errors: &mut X, i: u8) {
-    say(errors, "craq: the lease of server ");
-    say_number(errors, u16::from(i));
-    say(
-        errors,
-        " is not longer than two beats, so it serves by fits; ",
+    let _ = writeln!(
+        text(errors),
+        "craq: the lease of server {i} is not longer than two beats, so it serves by fits; {SHORT}"
     );
-    say(
-        errors,
-        "give it a longer --lease, or this master a shorter --beat\n",
+}
+
+/// A line of the input says of server `j`, which still answers, that it is gone.
+pub(crate) fn tell_living<X: Sink>(errors: &mut X, j: u8) {
+    let _ = writeln!(
+        text(errors),
+        "craq: server {j} still answers; it is told that it is gone, and ends"
+    );
+}
+
+/// A line of the input says of server `j`, which is the last one, that it is gone.
+pub(crate) fn tell_last<X: Sink>(errors: &mut X, j: u8) {
+    let _ = writeln!(
+        text(errors),
+        "craq: server {j} is the last one of the chain; its table ends with it"
     );
 }
 
 // The host of server i has no address.
 fn tell_host<X: Sink>(errors: &mut X, settings: &MasterSettings, i: u8) {
-    say(errors, "craq: unknown host ");
-    if let Some(host) = settings.hosts.get(usize::from(i)) {
-        say(errors, host.as_str());
-    }
-    say(errors, " of server ");
-    say_number(errors, u16::from(i));
-    say(errors, "\n");
+    let (host, _) = place_of(settings, i);
+    let _ = writeln!(text(errors), "craq: unknown host {host} of server {i}");
 }
 
 // The beginning of a line on server i, which wasn't told that server j has failed.
 fn say_untold<X: Sink>(errors: &mut X, settings: &MasterSettings, i: u8, j: u8) {
-    say_server(errors, settings, i);
-    say(errors, " was not told that server ");
-    say_number(errors, u16::from(j));
-    say(errors, " is gone: ");
-}
-
-// The end of a line on server i, which was started anew.
-fn say_anew<X: Sink>(errors: &mut X, i: u8) {
-    say(
-        errors,
-        "it was started anew; if the chain goes on without it, end it and type gone ",
-    );
-    say_number(errors, u16::from(i));
-    say(
-        errors,
-        "; if all servers were started anew, start the master anew\n",
+    let (host, port) = place_of(settings, i);
+    let _ = write!(
+        text(errors),
+        "craq: server {i} at {host} port {port} was not told that server {j} is gone: "
     );
 }
 
 // The end of a line on a server that refuses the master.
 fn say_reason<X: Sink>(errors: &mut X, settings: &MasterSettings, reason: Reason) {
-    match reason {
-        Reason::Servers => {
-            say(errors, "it has another number of servers than ");
-            say_number(errors, u16::from(settings.numbers.servers));
-            say(errors, "; give --servers as the chain has it\n");
-        }
-        Reason::Chain => {
-            say(errors, "it belongs to another chain than ");
-            let _ = write_all(errors, settings.chain.bytes());
-            say(errors, "; give --chain as the chain has it\n");
-        }
-        Reason::Format => say(
-            errors,
-            "it speaks another format; use one version of craq for all\n",
+    let (servers, chain) = (settings.numbers.servers, text_of(settings.chain.bytes()));
+    let mut line = text(errors);
+    let _ = match reason {
+        Reason::Servers => writeln!(
+            line,
+            "it has another number of servers than {servers}; give --servers as the chain has it"
         ),
-        Reason::Taken | Reason::Gone => say(
-            errors,
-            "it takes it for a server; look at what listens there\n",
+        Reason::Chain => writeln!(
+            line,
+            "it belongs to another chain than {chain}; give --chain as the chain has it"
         ),
-    }
+        Reason::Format => writeln!(
+            line,
+            "it speaks another format; use one version of craq for all"
+        ),
+        Reason::Taken | Reason::Gone => writeln!(
+            line,
+            "it takes it for a server; look at what listens there"
+        ),
+    };
 }
 
-// The beginning of a line on server i.
-fn say_server<X: Sink>(errors: &mut X, settings: &MasterSettings, i: u8) {
-    say(errors, "craq: server ");
-    say_number(errors, u16::from(i));
-    if let Some(host) = settings.hosts.get(usize::from(i)) {
-        say(errors, " at ");
-        say(errors, host.as_str());
-        say(errors, " port ");
-        say_number(errors, port_of(settings.numbers.peer_port, i));
-    }
-}
-
-// The numbers of servers, with commas between them.
-fn say_servers<X: Sink>(errors: &mut X, servers: View) {
-    match only_one(servers) {
-        Some(_) => say(errors, "server "),
-        None => say(errors, "servers "),
-    }
-    let mut is_first = true;
-    for i in 0..SERVERS {
-        if servers.has(i) {
-            if !is_first {
-                say(errors, ",");
-            }
-            is_first = false;
-            say_number(errors, u16::from(i));
-        }
-    }
-}
-
-fn say_number<X: Sink>(errors: &mut X, number: u16) {
-    let mut digits = Buffer::new();
-    let _ = write_all(errors, digits.format(number).as_bytes());
-}
-
-fn say<X: Sink>(errors: &mut X, text: &str) {
-    let _ = write_all(errors, text.as_bytes());
+// The host of server i, and its port for masters.
+fn place_of(settings: &MasterSettings, i: u8) -> (&str, u16) {
+    let host = match settings.hosts.get(usize::from(i)) {
+        Some(host) => host.as_str(),
+        None => "",
+    };
+    (host, port_of(settings.numbers.peer_port, i))
 }

@@ -1,8 +1,7 @@
-//! What a master that watches hears: of servers from those who watch them, and of its input.
+//! How what is new comes to the thread of a master that decides, and when it was.
 
-use crate::command::TellFault;
 use crossbeam_channel::Sender;
-use leases::Report;
+use master_decisions::News;
 use std::alloc::AllocError;
 use std::sync::Wait;
 use std::time::{Clock, Duration, Instant};
@@ -13,31 +12,8 @@ const SECOND: u64 = 1_000;
 /// How many nanoseconds a millisecond has.
 const NANOSECONDS: u32 = 1_000_000;
 
-/// What is new.
-#[derive(Clone, Copy)]
-pub(crate) enum News {
-    /// A line of the input names this server as gone.
-    Typed(u8),
-    /// A line of the input means nothing.
-    BadLine,
-    /// This start of this server has accepted a connection. It knows these servers to be gone.
-    Met(u8, u64, u16),
-    /// The connection to this server has ended.
-    Broken(u8),
-    /// This server can't be reached.
-    Lost(u8),
-    /// The process of this server has ended.
-    Ended(u8),
-    /// This server told how it is, and then the clock showed this many nanoseconds.
-    Told(u8, Report, u64),
-    /// Something came of a notice that was to be given.
-    Given,
-    /// One of the threads goes on no more.
-    Fault(TellFault),
-}
-
 /// What is new, and when it was: milliseconds since the master began.
-#[derive(Clone, Copy)]
+#[derive(Drop)]
 pub(crate) struct TimedNews {
     pub(crate) milliseconds: u64,
     pub(crate) news: News,
@@ -64,18 +40,33 @@ impl NewsSender {
         })
     }
 
-    /// When the master began.
-    pub(crate) fn begun(&self) -> Instant {
-        self.begun
+    /// How many milliseconds have passed since the master began; 0 if the clock can't be read.
+    pub(crate) fn running<R: Clock>(&self, rt: &R) -> u64 {
+        milliseconds_since(rt, self.begun)
+    }
+
+    /// How many milliseconds have passed since the master began. None if the clock can't be read.
+    pub(crate) fn passed<R: Clock>(&self, rt: &R) -> Option<u64> {
+        passed_since(rt, self.begun)
     }
 
     /// Puts what is new, once there is room. It is lost if the master ends.
     pub(crate) fn put<R: Wait + Clock>(&self, rt: &R, news: News) {
-        let milliseconds = match self.begun.elapsed(rt) {
-            Ok(passed) => milliseconds_of(passed),
-            Err(_) => 0,
-        };
+        let milliseconds = self.running(rt);
         let _ = self.sender.send(rt, TimedNews { milliseconds, news });
+    }
+}
+
+/// How many milliseconds have passed since then; 0 if the clock can't be read.
+pub(crate) fn milliseconds_since<R: Clock>(rt: &R, begun: Instant) -> u64 {
+    passed_since(rt, begun).unwrap_or(0)
+}
+
+// How many milliseconds have passed since then. None if the clock can't be read.
+fn passed_since<R: Clock>(rt: &R, begun: Instant) -> Option<u64> {
+    match begun.elapsed(rt) {
+        Ok(passed) => Some(milliseconds_of(passed)),
+        Err(_) => None,
     }
 }
 

@@ -1,5 +1,6 @@
 -- How the frames of a stream are taken, one read after another.
 use Rattle.std.proofs.Common.{◌≡◌, ℕ, false, List, [], ◌∷◌, ◌++◌, refl, sym, ap, subst, ◌∙◌, append_assoc, append-nil}
+use Rattle.std.proofs.Common.{Result, Ok, Err, OnErr}
 use Rattle.wire.specs.declared.ends.PeerEnd.{PeerEnd}
 use Rattle.wire.specs.declared.ends.PeerEnd.TheVariants as ends
 use Rattle.wire.specs.declared.frames.Frame.{Frame}
@@ -23,6 +24,15 @@ none_taken before = record { handed = []; first = none_yet []; taken = sym (appe
 -- a stream that ends before its first byte ends by its input
 pub nothing_ends : IsEnd [] ends.Input
 nothing_ends = ends_there [] (Short 1) nothing_read
+
+-- a frame that is refused leaves those that were taken
+pub none_more : {X E : Type 0} (r : Result X E) (bytes rest : List ℕ) (before now after : List Frame)
+    → TakesFirst bytes rest before now
+    → after ≡ now
+    → OnErr r ((left : List ℕ) × TakesFirst bytes left before after)
+none_more (Ok x) bytes rest before now after t same = tt
+none_more (Err e) bytes rest before now after t same =
+    (rest, record { handed = t.handed; first = t.first; taken = same ∙ t.taken })
 
 -- no frame is left
 pub taken_all : (end : PeerEnd) (read rest : List ℕ) (before after : List Frame) → TakesFirst read rest before after

@@ -5,7 +5,7 @@ use Rattle.node.specs.Lawful.{IsBody}
 use Rattle.wire.specs.declared.ends.PeerEnd.{PeerEnd}
 use Rattle.wire.specs.declared.frames.Frame.{Frame}
 use Rattle.wire.specs.declared.frames.Frame.TheVariants.{Hello, Peer, Gone, Introduction, Accepted, Refused, Noted}
-use Rattle.wire.specs.declared.frames.Frame.TheVariants.{Reign, Beat, Alive, Silent}
+use Rattle.wire.specs.declared.frames.Frame.TheVariants.{Reign, Beat, Alive, Silent, Confirmed, Stalled}
 use Rattle.wire.specs.Streams.{frames_in}
 use Rattle.wire.specs.Ends.{AreFirst, end_in}
 use Rattle.peers.specs.declared.faults.LinkFault.{LinkFault}
@@ -24,6 +24,8 @@ MayCome (Reign epoch) = Unit {0}
 MayCome (Beat beat) = Unit {0}
 MayCome (Alive alive) = Unit {0}
 MayCome (Silent silent) = Unit {0}
+MayCome (Confirmed count) = Unit {0}
+MayCome (Stalled servers) = Unit {0}
 
 -- all frames that stand in these bytes were taken, in order, and the bytes end so
 pub record TakesAll (end : PeerEnd) (read : List ℕ) (before after : List Frame) : Type 0 where

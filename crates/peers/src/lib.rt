@@ -3,6 +3,7 @@
 
 mod faults;
 mod identities;
+mod peer_readers;
 mod putting;
 mod receiving;
 mod taken_frames;
@@ -10,6 +11,7 @@ mod takers;
 
 pub use faults::LinkFault;
 pub use identities::Identity;
+pub use peer_readers::{HandedOn, PeerReader};
 pub use putting::{put_all, put_frame};
 pub use receiving::serve_peer;
 pub use taken_frames::TakenFrames;

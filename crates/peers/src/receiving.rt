@@ -6,8 +6,9 @@ ghost use Rattle.wire.specs.Ends.{IsEnd};
 ghost use Rattle.wire.specs.Streams.{fed, fresh};
 ghost use Rattle.peers.specs.Links.{HasHeard, TakesAll, TakesBeginning, TakesFirst};
 ghost use Rattle.peers.specs.Links.{failed_reads, failed_takes, failed_writes};
+ghost use Rattle.peers.specs.Reading.{StopsAt, goes_on};
 
-use crate::{LinkFault, Taker};
+use crate::{HandedOn, LinkFault, Taker};
 use ends::Source;
 use std::alloc::{AllocError, Global};
 use std::sync::Wait;
@@ -81,6 +82,34 @@ fn serve<R: Wait, S: Source, T: Taker>(
     unreachable!()
 }
 
+/// Hands on up to this many frames that stand whole at the front of the unread bytes. It may wait for the taker.
+pub(crate) fn hand_on_some<R: Wait, T: Taker>(
+    rt: &R,
+    frames: &mut Frames,
+    taker: &mut T,
+    most: usize,
+) -> Result<HandedOn, LinkFault>
+    requires open { frames.old.closed ≡ false }
+    ensures first { OnOk result
+        (TakesFirst frames.old.unread frames.new.unread (T.taken taker.old) (T.taken taker.new)) }
+    ensures stops { IfOk result (λ handed_on. StopsAt handed_on frames.new.unread) }
+    ensures open { IfOk result (λ handed_on. goes_on handed_on ≡ true → frames.new.closed ≡ false) }
+    ensures heard { HasHeard T.hears T.misses T.taken (failed_takes result) taker.old taker.new }
+    ensures takes { T.failures taker.new ≡ T.failures taker.old + failed_takes result }
+{
+    'frames: for _ in 0..most {
+        match frames.next() {
+            Ok(Some(whole)) => taker.take(rt, whole)?,
+            Ok(None) => return Ok(HandedOn::All),
+            Err(WireFault::Malformed) => return Ok(HandedOn::End(PeerEnd::Malformed)),
+            Err(WireFault::OldFormat) => return Ok(HandedOn::End(PeerEnd::Old)),
+            Err(WireFault::Memory) => return Err(LinkFault::Memory),
+            Err(WireFault::Closed) => unreachable!(),
+        }
+    }
+    Ok(HandedOn::Part)
+}
+
 // A buffer of this many bytes.
 fn blank(alloc: Global, length: usize) -> Result<Vec<u8>, AllocError>
     ensures { IfOk result (λ bytes. vec_len bytes ≡ length) }
@@ -88,8 +117,8 @@ fn blank(alloc: Global, length: usize) -> Result<Vec<u8>, AllocError>
     Vec::from_elem(alloc, 0u8, length)
 }
 
-// Adds a piece to an open reader. Refused only if no memory is left, which changes nothing.
-fn feed(frames: &mut Frames, piece: &[u8]) -> Result<(), LinkFault>
+/// Adds a piece to an open reader. Refused only if no memory is left, which changes nothing.
+pub(crate) fn feed(frames: &mut Frames, piece: &[u8]) -> Result<(), LinkFault>
     requires open { frames.old.closed ≡ false }
     ensures fed { OnOk result (frames.new ≡ fed frames.old piece.now) }
     ensures err { OnErr result (frames.new ≡ frames.old) }

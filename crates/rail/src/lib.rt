@@ -1,4 +1,4 @@
-//! The threads of one server: a worker that owns the node, and those who ask it, read beside it and carry its messages.
+//! One server that runs: a worker that owns the node, and those who ask it, read beside it and carry its messages.
 #![tactic(auto)]
 
 mod call_notes;

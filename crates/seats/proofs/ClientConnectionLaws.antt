@@ -1,7 +1,7 @@
 -- How a connection at a server's seats goes on.
 use Rattle.std.proofs.Common.{◌≡◌, ◌⊎◌, ◌∙◌, Bool, true, false, [], ◌∷◌, ◌++◌, Option, Some, None, inl, inr, refl, ap}
 use Rattle.std.proofs.Common.{sym, subst}
-use Rattle.std.proofs.Common.{ℕ, append_assoc, append-nil, All, List, Result, Ok, Err, IfOk, MatchBool, OnErr}
+use Rattle.std.proofs.Common.{append_assoc, append-nil, All, List, Result, Ok, Err, IfOk, MatchBool, OnErr}
 use Rattle.std.proofs.Common.{MatchOption}
 use Rattle.std.proofs.lemmas.List.Elements.{All-nil, All-cons, All-head, All-tail}
 use Rattle.table.specs.declared.operations.Op.{Op}
@@ -17,20 +17,18 @@ use Rattle.serving.specs.Serving.{AreAnswered, CameTo}
 use Rattle.serving.specs.Wanted.{IsAsking}
 use Rattle.serving.specs.declared.endings.ServeFault.{ServeFault}
 use Rattle.serving.proofs.Served.{Stands, has_left, stands_answered}
-use Rattle.rail.specs.CallSenders.{CallSenderState, SentCall, with_call}
+use Rattle.rail.specs.CallSenders.{SentCall}
 use Rattle.seats.specs.Submitters.{Submitting, IsAnswered}
 use Rattle.seats.specs.Replies.{ShowsClean}
 use Rattle.seats.specs.ClientConnections.{HoldsStore, IsFurther, IsPeeked, IsReplied, IsClientConnection, StandsAt}
-use Rattle.seats.specs.ClientConnections.{AreOpenAt, ClientConnectionState, HasSentAhead, HoldsAt, IsOpenAt}
-use Rattle.seats.specs.ClientConnections.{next_ahead, next_standing}
-use Rattle.seats.specs.ClientConnections.{AreSentBy, HasSentInTurn, HasSentOn, IsSameBut, seats_open}
-use Rattle.seats.specs.SeatPools.{HasSentNothing, IsAt, Pooling, with_sent_call}
+use Rattle.seats.specs.ClientConnections.{AreAllAnswered, AreOpenAt, ClientConnectionState, HasSentAhead, Hearing}
+use Rattle.seats.specs.ClientConnections.{HoldsAt, IsOpenAt, IsSameBut, hearing, next_ahead, next_standing}
+use Rattle.seats.specs.SeatPools.{HasSentNothing, IsAt, Pooling}
 use Rattle.seats.specs.declared.client_connections.CallStanding.{CallStanding}
 use Rattle.seats.specs.declared.client_connections.CallStanding.TheVariants.{Idle, Over, Reading, Sent, Unsent}
-use Rattle.seats.specs.declared.client_connections.Went.{Went}
-use Rattle.seats.specs.declared.client_connections.Went.TheVariants.{Seat}
+use Rattle.seats.specs.declared.client_connections.Pause.{Pause}
+use Rattle.seats.specs.declared.client_connections.Pause.TheVariants.{Seat}
 use Rattle.seats.proofs.Seated.{later_same, later_then, submitted_then}
-use Rattle.seats.proofs.Submitted.{answers_to}
 
 -- nothing more
 pub further_same : (c : Connected) → IsFurther c c
@@ -108,15 +106,16 @@ further_failed c d b e =
     }
 
 -- the calls and what they came to are the same
-pub answered_same : (first seen : History) (c d : Connected) → d.calls ≡ c.calls → d.outcomes ≡ c.outcomes
-    → AreAnswered IsReplied first c.calls c.outcomes seen
-    → AreAnswered IsReplied first d.calls d.outcomes seen
-answered_same first seen c d calls outcomes a =
-    subst (λ cs. AreAnswered IsReplied first cs d.outcomes seen) (sym calls)
-    (subst (λ rs. AreAnswered IsReplied first c.calls rs seen) (sym outcomes) a)
+pub answered_same : (first seen : History) (heard : List Submitting) (c d : Connected)
+    → d.calls ≡ c.calls → d.outcomes ≡ c.outcomes
+    → AreAllAnswered first c.calls c.outcomes heard seen
+    → AreAllAnswered first d.calls d.outcomes heard seen
+answered_same first seen heard c d calls outcomes a =
+    subst (λ cs. AreAllAnswered first cs d.outcomes heard seen) (sym calls)
+    (subst (λ rs. AreAllAnswered first c.calls rs heard seen) (sym outcomes) a)
 
 -- the call that waits came to something
-pub answered_next : (first before after : History) (c d : Connected) (call : Call) (later : List Call)
+pub answered_next : (first before after : Hearing) (c d : Connected) (call : Call) (later : List Call)
     (outcome : Outcome)
     → c.waiting ≡ call ∷ later → HasOutcome outcome c d → CameTo IsReplied before call outcome after
     → AreAnswered IsReplied first c.calls c.outcomes before
@@ -127,32 +126,26 @@ answered_next first before after c d call later outcome waits has by a =
     (record { calls = a; written = refl }) in
     stands.calls
 
--- a look that came after all that was seen
-pub peeked_later : (seen before after : History) (call : Call) (reply : Reply) → IsLater seen before
-    → IsPeeked before after call reply
-    → IsReplied seen call reply after
-peeked_later seen before after call reply later p =
-    inl (record {
-      item = p.item;
-      later = later_then seen before after later p.later;
-      shown = p.shown;
-      reply_is = p.reply_is;
-    })
+-- a look came to it, or a refusal, and no seat was heard
+pub came_replied : (seen then : History) (heard : List Submitting) (call : Call) (outcome : Outcome)
+    → CameTo IsPeeked seen call outcome then
+    → CameTo IsReplied (hearing seen heard) call outcome (hearing then heard)
+came_replied seen then heard call (Replied reply) came = inl (came, refl)
+came_replied seen then heard call Refused came = (came.0, ap (λ (h : History). hearing h heard) came.1)
 
--- the server's reply that came after all that was seen
-pub submitted_later : (seen before after : History) (s t : Submitting) (sent : SentCall) (reply : Reply)
-    → IsLater seen before
-    → s.waiting ≡ Some sent
+-- what was answered at a seat, after a look
+pub answered_later : (seen before after : History) (s t : Submitting) (reply : Reply) → IsLater seen before
     → IsAnswered before after s t reply
-    → IsReplied seen sent.call reply after
-submitted_later seen before after s t sent reply later waits a =
-    inr (
-      s.seat,
-      t.seat,
-      sent.sender,
-      submitted_then seen before after s.seat t.seat sent reply later
-          (answers_to before after s t sent reply waits a),
-    )
+    → IsAnswered seen after s t reply
+answered_later seen before after s t reply later a =
+    record {
+      sent = a.sent;
+      waits = a.waits;
+      submitted = submitted_then seen before after s.seat t.seat a.sent reply later a.submitted;
+      kind = a.kind;
+      free = a.free;
+      lost = a.lost;
+    }
 
 -- it was asked what it wants, seen as a client connection's
 pub further_view : (before after : Connected) (t : ClientConnectionState) → before ≡ t.connected → IsLooked before after
@@ -178,12 +171,11 @@ pub peeked_came : (seen before after then : History) (c d : Connected) (call : C
     → ((item : Option Item) × (reply ≡ Value item) × ShowsClean after call item)
     → HasOutcome (Replied reply) c d
     → then ≡ after
-    → (outcome : Outcome) × CameTo IsReplied seen call outcome then × HasOutcome outcome c d
+    → (outcome : Outcome) × CameTo IsPeeked seen call outcome then × HasOutcome outcome c d
 peeked_came seen before after then c d call reply known later (item, is, shown) has e = (
   Replied reply,
-  subst (λ x. IsReplied seen call reply x) (sym e)
-      (peeked_later seen before after call reply known
-      (record { item = item; later = later; shown = shown; reply_is = is })),
+  subst (λ x. IsPeeked seen call reply x) (sym e)
+      (record { item = item; later = later_then seen before after known later; shown = shown; reply_is = is }),
   has,
 )
 
@@ -197,10 +189,10 @@ pub none_if_idle : (standing : CallStanding) (ahead : List Submitting) (c : Conn
 none_if_idle standing ahead c o stands e = (subst (λ x. StandsAt x ahead c o) e stands).1
 
 -- A call was asked for: it came to something at once, or it waits for a seat, or there was a fault.
-module _ (r : Result (Option Went) ServeFault) (c d e : Connected) (next : CallStanding) (first seen then : History)
+module _ (r : Result (Option Pause) ServeFault) (c d e : Connected) (next : CallStanding) (first seen then : History)
     (target : Target) (op : Op) (looked : IsLooked c d) (asking : IsAsking target op d)
     (ok : IfOk r (λ found. MatchOption found
-    ((outcome : Outcome) × CameTo IsReplied seen (record { target = target; op = op }) outcome then
+    ((outcome : Outcome) × CameTo IsPeeked seen (record { target = target; op = op }) outcome then
     × HasOutcome outcome d e × (next ≡ Idle))
     (λ went. (went ≡ Seat) × (next ≡ Unsent (record { target = target; op = op })) × (e ≡ d) × (then ≡ seen))))
     (err : OnErr r ((next ≡ Over) × (then ≡ seen) × (e ≡ record d { failed = e.failed }))) where
@@ -210,9 +202,9 @@ module _ (r : Result (Option Went) ServeFault) (c d e : Connected) (next : CallS
   pub asked_further : IsFurther c e
   asked_further = by r ok err
     where
-      by : (s : Result (Option Went) ServeFault)
+      by : (s : Result (Option Pause) ServeFault)
           → IfOk s (λ found. MatchOption found
-          ((outcome : Outcome) × CameTo IsReplied seen call outcome then × HasOutcome outcome d e × (next ≡ Idle))
+          ((outcome : Outcome) × CameTo IsPeeked seen call outcome then × HasOutcome outcome d e × (next ≡ Idle))
           (λ went. (went ≡ Seat) × (next ≡ Unsent call) × (e ≡ d) × (then ≡ seen)))
           → OnErr s ((next ≡ Over) × (then ≡ seen) × (e ≡ record d { failed = e.failed }))
           → IsFurther c e
@@ -220,67 +212,69 @@ module _ (r : Result (Option Went) ServeFault) (c d e : Connected) (next : CallS
       by (Ok (Some went)) a b = subst (λ x. IsFurther c x) (sym a.2) (further_looked c d looked)
       by (Err fault) a b = further_then c d e (further_looked c d looked) (further_failed d e e.failed b.2)
 
-  pub asked_client_connection : (ahead : List Submitting) → ahead ≡ []
-      → AreAnswered IsReplied first c.calls c.outcomes seen
-      → IsClientConnection e next ahead first then
-  asked_client_connection ahead none is = by r ok err
+  pub asked_client_connection : (ahead heard : List Submitting) → ahead ≡ []
+      → AreAllAnswered first c.calls c.outcomes heard seen
+      → IsClientConnection e next ahead heard first then
+  asked_client_connection ahead heard none is = by r ok err
     where
-      before : AreAnswered IsReplied first d.calls d.outcomes seen
-      before = answered_same first seen c d looked.calls looked.outcomes is
+      before : AreAllAnswered first d.calls d.outcomes heard seen
+      before = answered_same first seen heard c d looked.calls looked.outcomes is
 
-      by : (s : Result (Option Went) ServeFault)
+      by : (s : Result (Option Pause) ServeFault)
           → IfOk s (λ found. MatchOption found
-          ((outcome : Outcome) × CameTo IsReplied seen call outcome then × HasOutcome outcome d e × (next ≡ Idle))
+          ((outcome : Outcome) × CameTo IsPeeked seen call outcome then × HasOutcome outcome d e × (next ≡ Idle))
           (λ went. (went ≡ Seat) × (next ≡ Unsent call) × (e ≡ d) × (then ≡ seen)))
           → OnErr s ((next ≡ Over) × (then ≡ seen) × (e ≡ record d { failed = e.failed }))
-          → IsClientConnection e next ahead first then
+          → IsClientConnection e next ahead heard first then
       by (Ok None) a b =
           record {
-            answered = answered_next first seen then d e call [] a.0 asking.waiting a.2 a.1 before;
+            answered = answered_next (hearing first []) (hearing seen heard) (hearing then heard) d e call [] a.0
+                asking.waiting a.2 (came_replied seen then heard call a.0 a.1) before;
             stands = subst (λ s. StandsAt s ahead e then.instance) (sym a.3)
                 (has_left d e call [] a.0 asking.waiting a.2, none);
           }
       by (Ok (Some went)) a b =
           record {
-            answered = subst (λ x. AreAnswered IsReplied first e.calls e.outcomes x) (sym a.3)
-                (answered_same first seen d e (ap (λ x. x.calls) a.2) (ap (λ x. x.outcomes) a.2) before);
+            answered = subst (λ x. AreAllAnswered first e.calls e.outcomes heard x) (sym a.3)
+                (answered_same first seen heard d e (ap (λ x. x.calls) a.2) (ap (λ x. x.outcomes) a.2) before);
             stands = subst (λ s. StandsAt s ahead e then.instance) (sym a.1)
                 (ap (λ x. x.waiting) a.2 ∙ asking.waiting, (asking.fits, asking.suits), none);
           }
       by (Err fault) a b =
           record {
-            answered = subst (λ x. AreAnswered IsReplied first e.calls e.outcomes x) (sym b.1)
-                (answered_same first seen d e (ap (λ x. x.calls) b.2) (ap (λ x. x.outcomes) b.2) before);
+            answered = subst (λ x. AreAllAnswered first e.calls e.outcomes heard x) (sym b.1)
+                (answered_same first seen heard d e (ap (λ x. x.calls) b.2) (ap (λ x. x.outcomes) b.2) before);
             stands = subst (λ s. StandsAt s ahead e then.instance) (sym b.0) (all_of_none ahead then.instance none);
           }
 
 -- and then no call waits
-pub refused_client_connection : (c d : Connected) (standing next : CallStanding) (ahead : List Submitting)
+pub refused_client_connection : (c d : Connected) (standing next : CallStanding) (ahead heard : List Submitting)
     (first seen : History)
-    → IsClientConnection c standing ahead first seen
+    → IsClientConnection c standing ahead heard first seen
     → HoldsStore standing
     → HasOutcome Refused c d
     → next ≡ Idle
-    → IsClientConnection d next ahead first seen
-refused_client_connection c d standing next ahead first seen is (asked, e, stores) has idle =
+    → IsClientConnection d next ahead heard first seen
+refused_client_connection c d standing next ahead heard first seen is (asked, e, stores) has idle =
     let stood = subst (λ x. StandsAt x ahead c seen.instance) e is.stands in
     record {
-      answered = answered_next first seen seen c d asked [] Refused stood.0 has (stores, refl) is.answered;
+      answered = answered_next (hearing first []) (hearing seen heard) (hearing seen heard) c d asked [] Refused stood.0 has
+          (stores, refl) is.answered;
       stands = subst (λ s. StandsAt s ahead d seen.instance) (sym idle)
           (has_left c d asked [] Refused stood.0 has, stood.2);
     }
 
 -- the call that waited for a seat is open at this one
-pub sent_client_connection : (c : Connected) (standing next : CallStanding) (ahead : List Submitting)
+pub sent_client_connection : (c : Connected) (standing next : CallStanding) (ahead heard : List Submitting)
     (first seen : History) (s : Submitting)
     (sent : SentCall)
-    → IsClientConnection c standing ahead first seen
+    → IsClientConnection c standing ahead heard first seen
     → standing ≡ Unsent sent.call
     → next ≡ Sent s
     → s.waiting ≡ Some sent
     → s.seat.instance ≡ seen.instance
-    → IsClientConnection c next ahead first seen
-sent_client_connection c standing next ahead first seen s sent is unsent e opened at =
+    → IsClientConnection c next ahead heard first seen
+sent_client_connection c standing next ahead heard first seen s sent is unsent e opened at =
     let stood = subst (λ x. StandsAt x ahead c seen.instance) unsent is.stands in
     record {
       answered = is.answered;
@@ -316,30 +310,30 @@ seats_here (Sent s) ahead c o stands =
 seats_here Over ahead c o stands = (tt, stands)
 
 -- it goes no further
-pub over_client_connection : (c d : Connected) (standing : CallStanding) (ahead : List Submitting)
+pub over_client_connection : (c d : Connected) (standing : CallStanding) (ahead heard : List Submitting)
     (first seen : History)
-    → IsClientConnection c standing ahead first seen
+    → IsClientConnection c standing ahead heard first seen
     → d.calls ≡ c.calls → d.outcomes ≡ c.outcomes
-    → IsClientConnection d Over ahead first seen
-over_client_connection c d standing ahead first seen is calls outcomes =
+    → IsClientConnection d Over ahead heard first seen
+over_client_connection c d standing ahead heard first seen is calls outcomes =
     record {
-      answered = answered_same first seen c d calls outcomes is.answered;
+      answered = answered_same first seen heard c d calls outcomes is.answered;
       stands = (seats_here standing ahead c seen.instance is.stands).1;
     }
 
 -- one more update was sent ahead
-pub ahead_client_connection : (c d : Connected) (standing : CallStanding) (ahead longer : List Submitting)
+pub ahead_client_connection : (c d : Connected) (standing : CallStanding) (ahead longer heard : List Submitting)
     (first seen : History) (p q : Pooling) (s : Submitting)
-    → IsClientConnection c standing ahead first seen
+    → IsClientConnection c standing ahead heard first seen
     → standing ≡ Sent s
     → p.seen.instance ≡ seen.instance
     → HasSentAhead p q c d ahead longer
-    → IsClientConnection d standing longer first seen
-ahead_client_connection c d standing ahead longer first seen p q s is e same has =
+    → IsClientConnection d standing longer heard first seen
+ahead_client_connection c d standing ahead longer heard first seen p q s is e same has =
     let stood = subst (λ x. StandsAt x ahead c seen.instance) e is.stands in
     let opened = subst (λ x. IsOpenAt x has.s has.call) same has.opened in
     record {
-      answered = answered_same first seen c d (ap (λ x. x.calls) has.waits) (ap (λ x. x.outcomes) has.waits)
+      answered = answered_same first seen heard c d (ap (λ x. x.calls) has.waits) (ap (λ x. x.outcomes) has.waits)
           is.answered;
       stands = subst (λ x. StandsAt x longer d seen.instance) (sym e)
           (subst (λ a. AreOpenAt seen.instance (s ∷ a) d.waiting) (sym has.seats)
@@ -348,35 +342,35 @@ ahead_client_connection c d standing ahead longer first seen p q s is e same has
     }
 
 -- none was, and memory may have been refused
-pub failed_client_connection : (c d : Connected) (b : Bool) (standing : CallStanding) (ahead longer : List Submitting)
-    (first seen : History) (s : Submitting)
-    → IsClientConnection c standing ahead first seen
+pub failed_client_connection : (c d : Connected) (b : Bool) (standing : CallStanding)
+    (ahead longer heard : List Submitting) (first seen : History) (s : Submitting)
+    → IsClientConnection c standing ahead heard first seen
     → standing ≡ Sent s
     → d ≡ record c { failed = b }
     → longer ≡ ahead
-    → IsClientConnection d standing longer first seen
-failed_client_connection c d b standing ahead longer first seen s is e same seats =
+    → IsClientConnection d standing longer heard first seen
+failed_client_connection c d b standing ahead longer heard first seen s is e same seats =
     let stood = subst (λ x. StandsAt x ahead c seen.instance) e is.stands in
     record {
-      answered = answered_same first seen c d (ap (λ x. x.calls) same) (ap (λ x. x.outcomes) same) is.answered;
+      answered = answered_same first seen heard c d (ap (λ x. x.calls) same) (ap (λ x. x.outcomes) same) is.answered;
       stands = subst (λ x. StandsAt x longer d seen.instance) (sym e)
           (subst (λ a. AreOpenAt seen.instance (s ∷ a) d.waiting) (sym seats)
           (subst (AreOpenAt seen.instance (s ∷ ahead)) (sym (ap (λ x. x.waiting) same)) stood));
     }
 
 -- one more was sent ahead, or none
-pub maybe_ahead : (b : Bool) (c d : Connected) (standing : CallStanding) (ahead longer : List Submitting)
+pub maybe_ahead : (b : Bool) (c d : Connected) (standing : CallStanding) (ahead longer heard : List Submitting)
     (first seen : History) (p q : Pooling) (s : Submitting)
-    → IsClientConnection c standing ahead first seen
+    → IsClientConnection c standing ahead heard first seen
     → standing ≡ Sent s
     → p.seen.instance ≡ seen.instance
     → MatchBool b (HasSentAhead p q c d ahead longer)
     ((d ≡ record c { failed = d.failed }) × (longer ≡ ahead) × HasSentNothing p q)
-    → IsClientConnection d standing longer first seen
-maybe_ahead true c d standing ahead longer first seen p q s is e same has =
-    ahead_client_connection c d standing ahead longer first seen p q s is e same has
-maybe_ahead false c d standing ahead longer first seen p q s is e same has =
-    failed_client_connection c d d.failed standing ahead longer first seen s is e has.0 has.1
+    → IsClientConnection d standing longer heard first seen
+maybe_ahead true c d standing ahead longer heard first seen p q s is e same has =
+    ahead_client_connection c d standing ahead longer heard first seen p q s is e same has
+maybe_ahead false c d standing ahead longer heard first seen p q s is e same has =
+    failed_client_connection c d d.failed standing ahead longer heard first seen s is e has.0 has.1
 
 -- it stands at the next call that was sent
 next_stands : (o : Instance) (ahead : List Submitting) (d : Connected) (later : List Call) → d.waiting ≡ later
@@ -387,29 +381,37 @@ next_stands o [] d (call ∷ later) waits all = absurd all
 next_stands o (s ∷ ss) d later waits all = subst (AreOpenAt o (s ∷ ss)) (sym waits) all
 
 -- and has it
-pub hear_client_connection : (c d : Connected) (standing : CallStanding) (ahead : List Submitting)
+pub hear_client_connection : (c d : Connected) (standing : CallStanding) (ahead heard longer : List Submitting)
     (first seen p q now : History)
     (s t : Submitting) (reply : Reply)
-    → IsClientConnection c standing ahead first seen
+    → IsClientConnection c standing ahead heard first seen
     → standing ≡ Sent s
     → IsLater seen p
     → IsAnswered p q s t reply
     → HasOutcome (Replied reply) c d
     → now ≡ q
-    → IsClientConnection d (next_standing ahead) (next_ahead ahead) first now
-hear_client_connection c d standing ahead first seen p q now s t reply is e known a has same =
-    subst (λ x. IsClientConnection d (next_standing ahead) (next_ahead ahead) first x) (sym same)
+    → longer ≡ heard ++ s ∷ []
+    → IsClientConnection d (next_standing ahead) (next_ahead ahead) longer first now
+hear_client_connection c d standing ahead heard longer first seen p q now s t reply is e known a has same more =
+    subst (λ x. IsClientConnection d (next_standing ahead) (next_ahead ahead) longer first x) (sym same)
     (by c.waiting refl (subst (λ x. StandsAt x ahead c seen.instance) e is.stands))
   where
     by : (waiting : List Call) → c.waiting ≡ waiting → AreOpenAt seen.instance (s ∷ ahead) waiting
-        → IsClientConnection d (next_standing ahead) (next_ahead ahead) first q
+        → IsClientConnection d (next_standing ahead) (next_ahead ahead) longer first q
     by [] waits all = absurd all
     by (call ∷ later) waits all =
         let at : seen.instance ≡ q.instance = sym (a.submitted.later.instance ∙ known.instance) in
         record {
-          answered = answered_next first seen q c d call later (Replied reply) waits has
-              (subst (λ x. IsReplied seen x reply q) all.0.is
-              (submitted_later seen p q s t all.0.sent reply known all.0.opened a)) is.answered;
+          answered = answered_next (hearing first []) (hearing seen heard) (hearing q longer) c d call later
+              (Replied reply) waits has
+              (inr (record {
+                seat = s;
+                freed = t;
+                opened = all.0;
+                answered = answered_later seen p q s t reply known a;
+                heard = more;
+              }))
+              is.answered;
           stands = subst (λ o. StandsAt (next_standing ahead) (next_ahead ahead) d o) at
               (next_stands seen.instance ahead d later (has_left c d call later (Replied reply) waits has) all.1);
         }
@@ -420,146 +422,13 @@ pub next_heard : (standing : CallStanding) (ahead : List Submitting) → standin
 next_heard standing [] e = inl e
 next_heard standing (s ∷ ss) e = inr (s, e)
 
--- nothing was sent
-pub unsent : (t : ClientConnectionState) (p q : Pooling) → HasSentNothing p q → HasSentInTurn t p q
-unsent t p q same =
-    record {
-      more = [];
-      sent = same;
-      open_at = inr (seats_open t.standing t.ahead, sym (append-nil (seats_open t.standing t.ahead)));
-    }
-
--- nothing was sent, and then what is open now
-pub sent_then : (t : ClientConnectionState) (p q r : Pooling) → HasSentNothing p q → HasSentInTurn t q r
-    → HasSentInTurn t p r
-sent_then t p q r same then =
-    record {
-      more = then.more;
-      sent = subst (λ (x : CallSenderState). AreSentBy x then.more r.sender) same then.sent;
-      open_at = then.open_at;
-    }
-
--- the call was sent at this seat, and none was sent ahead
-pub sent_one : (t : ClientConnectionState) (p q r : Pooling) (s u : Submitting) (call : Call) → HasSentNothing p q
-    → t.standing ≡ Sent u
-    → t.ahead ≡ []
-    → u ≡ record s { waiting = Some (record { sender = q.sender; call = call }) }
-    → r ≡ with_sent_call q s.seat.port call
-    → HasSentInTurn t p r
-sent_one t p q r s u call same e none waits sent =
-    sent_then t p q r same
-    (record {
-      more = u ∷ [];
-      sent = (
-        call,
-        ap (λ (x : Submitting). x.waiting) waits,
-        ap (λ (x : Pooling). x.sender) sent
-            ∙ ap (λ (port : ℕ). with_call q.sender port call) (sym (ap (λ (x : Submitting). x.seat.port) waits)),
-      );
-      open_at = inr ([], ap (λ x. seats_open x t.ahead) e ∙ ap (λ (a : List Submitting). u ∷ a) none);
-    })
-
--- the same, one list after the other
-sent_both : (x y z : CallSenderState) (ss ts : List Submitting) → AreSentBy x ss y → AreSentBy y ts z
-    → AreSentBy x (ss ++ ts) z
-sent_both x y z [] ts a b = subst (λ (w : CallSenderState). AreSentBy w ts z) a b
-sent_both x y z (s ∷ ss) ts a b = (a.0, a.1, sent_both (with_call x s.seat.port a.0) y z ss ts a.2 b)
-
--- it stands at a sent call, so it goes on
-not_over : (standing : CallStanding) (s : Submitting) → standing ≡ Sent s → standing ≡ Over → ⊥
-not_over standing s e over = let both : Sent s ≡ Over = sym e ∙ over in absurd cc
-
--- what is open was sent in turn, and then more was
-pub sent_on : (t u : ClientConnectionState) (p q r : Pooling) (s : Submitting) → t.standing ≡ Sent s
-    → HasSentInTurn t p q
-    → HasSentOn t u q r
-    → HasSentInTurn u p r
-sent_on t u p q r s e first then =
-    record {
-      more = first.more ++ then.more;
-      sent = sent_both p.sender q.sender r.sender first.more then.more first.sent then.sent;
-      open_at = by first.open_at then.open_at;
-    }
-  where
-    by : (t.standing ≡ Over) ⊎ ((before : List Submitting) × (seats_open t.standing t.ahead ≡ before ++ first.more))
-        → (u.standing ≡ Over) ⊎ (seats_open u.standing u.ahead ≡ seats_open t.standing t.ahead ++ then.more)
-        → (u.standing ≡ Over)
-        ⊎ ((before : List Submitting) × (seats_open u.standing u.ahead ≡ before ++ (first.more ++ then.more)))
-    by (inl over) now = absurd (not_over t.standing s e over)
-    by (inr was) (inl over) = inl over
-    by (inr was) (inr now) =
-        inr (
-          was.0,
-          now ∙ (ap (λ (xs : List Submitting). xs ++ then.more) was.1
-              ∙ append_assoc was.0 first.more then.more),
-        )
-
--- nothing more was
-pub on_same : (t : ClientConnectionState) (p : Pooling) → HasSentOn t t p p
-on_same t p =
-    record {
-      more = [];
-      sent = refl;
-      open_at = inr (sym (append-nil (seats_open t.standing t.ahead)));
-    }
-
--- more was, and then more
-pub on_then : (t u v : ClientConnectionState) (p q r : Pooling) (s : Submitting) → u.standing ≡ Sent s
-    → HasSentOn t u p q
-    → HasSentOn u v q r
-    → HasSentOn t v p r
-on_then t u v p q r s e first then =
-    record {
-      more = first.more ++ then.more;
-      sent = sent_both p.sender q.sender r.sender first.more then.more first.sent then.sent;
-      open_at = by first.open_at then.open_at;
-    }
-  where
-    by : (u.standing ≡ Over) ⊎ (seats_open u.standing u.ahead ≡ seats_open t.standing t.ahead ++ first.more)
-        → (v.standing ≡ Over) ⊎ (seats_open v.standing v.ahead ≡ seats_open u.standing u.ahead ++ then.more)
-        → (v.standing ≡ Over)
-        ⊎ (seats_open v.standing v.ahead ≡ seats_open t.standing t.ahead ++ (first.more ++ then.more))
-    by (inl over) now = absurd (not_over u.standing s e over)
-    by (inr was) (inl over) = inl over
-    by (inr was) (inr now) =
-        inr (now ∙ (ap (λ (xs : List Submitting). xs ++ then.more) was
-        ∙ append_assoc (seats_open t.standing t.ahead) first.more then.more))
-
--- one more update was sent ahead, or none
-pub on_ahead : (b : Bool) (t u : ClientConnectionState) (c d : Connected) (ahead longer : List Submitting)
-    (p q : Pooling) (s : Submitting)
-    → t.standing ≡ Sent s → u.standing ≡ t.standing → t.ahead ≡ ahead → u.ahead ≡ longer
-    → MatchBool b (HasSentAhead p q c d ahead longer)
-    ((d ≡ record c { failed = d.failed }) × (longer ≡ ahead) × HasSentNothing p q)
-    → HasSentOn t u p q
-on_ahead true t u c d ahead longer p q s e same was is has =
-    record {
-      more = has.s ∷ [];
-      sent = (has.call, has.waiting, has.sent);
-      open_at = inr (ap (λ x. seats_open x u.ahead) (same ∙ e)
-          ∙ (ap (λ (a : List Submitting). s ∷ a)
-          (is ∙ (has.seats ∙ ap (λ (a : List Submitting). a ++ has.s ∷ []) (sym was)))
-          ∙ ap (λ x. seats_open x t.ahead ++ has.s ∷ []) (sym e)));
-    }
-on_ahead false t u c d ahead longer p q s e same was is has =
-    record {
-      more = [];
-      sent = has.2;
-      open_at = inr (ap (λ x. seats_open x u.ahead) same
-          ∙ (ap (λ (a : List Submitting). seats_open t.standing a) (is ∙ (has.1 ∙ sym was))
-          ∙ sym (append-nil (seats_open t.standing t.ahead))));
-    }
-
--- no further call is made
-pub on_over : (t u : ClientConnectionState) (p q : Pooling) → u.standing ≡ Over → HasSentNothing p q → HasSentOn t u p q
-on_over t u p q over same = record { more = []; sent = same; open_at = inl over }
-
 -- nothing came of it, twice
 pub same_then : (t u v : ClientConnectionState) → IsSameBut t u → IsSameBut u v → IsSameBut t v
 same_then t u v a b =
     record {
       connected = b.connected
           ∙ ap (λ (c : Connected). record c { waiting = v.connected.waiting; failed = v.connected.failed }) a.connected;
+      heard = b.heard ∙ a.heard;
       first = b.first ∙ a.first;
       seen = b.seen ∙ a.seen;
     }

@@ -1,9 +1,11 @@
-pub mod Limits
 pub mod Seated
-pub mod Linked
 pub mod Pooled
 pub mod Submitted
 pub mod Looked
 pub mod ClientConnectionLaws
+pub mod SentInTurn
+pub mod Causes
+pub mod HeardInTurn
+pub mod Walks
 pub mod Sent
-pub mod ServerBits
+pub mod SeatCalled

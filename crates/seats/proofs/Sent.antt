@@ -1,58 +1,35 @@
--- An output permit and a pool of seats may go to another thread, and a lease that a server renews be asked by several.
-use denote.RattleType.{RattleType}
-use denote.Param.Send.{IsSend, IsSync, sendable}
-use Rattle.std.proofs.Crossing.{crosses, Arc-send, Deque-send, Vec-send}
-use Rattle.std.specs.contracts.sync.atomic.AtomicIn as AtomicIn
-use Rattle.std.specs.declared.sync.atomic.Rule.{Ghosts}
-use Rattle.leases.specs.contracts.shared_leases.AnyEnd as AnyEnd
-use Rattle.leases.specs.contracts.shared_leases.AnyEndRule.TheImpl.{ghosts}
-use Rattle.leases.specs.contracts.shared_leases.SharedLease as SharedLease
+-- A pool of seats may go to another thread.
+use denote.Param.Send.{IsSend, sendable}
+use Rattle.boxcar.proofs.Sent.{tag_send}
+use Rattle.std.proofs.Crossing.{crosses, Deque-send, Vec-send}
+use Rattle.ends.specs.contracts.failures.Failures as Failures
 use Rattle.faces.proofs.readers.Reader.TheSendSync as reader
 use Rattle.rail.proofs.Sent.{call_sender_send, seat_send}
-use Rattle.seats.specs.contracts.output_permits.OutputPermit as OutputPermit
+use Rattle.server_guards.proofs.gauges.Gauge.TheSendSync as gauge
+use Rattle.server_guards.proofs.marks.Mark.TheSendSync as mark
 use Rattle.seats.specs.contracts.seat_pools.SeatPool as SeatPool
 use Rattle.seats.specs.contracts.submitters.Submitter as Submitter
-use Rattle.seats.proofs.gauges.Gauge.TheSendSync as gauge
-use Rattle.seats.proofs.marks.Mark.TheSendSync as mark
 use Rattle.seats.proofs.submitters.SubmitterStage.TheSendSync as kind
-
--- a shared lease, whatever its rule is: its word says the same to every thread
-module _ (I : RattleType) (g : Ghosts I.Denot) where
-  word_send : IsSend (AtomicIn.the_row I g)
-  word_send = search crosses
-
-  word_sync : IsSync (AtomicIn.the_row I g)
-  word_sync = search crosses
-
-  lease_send : IsSend (SharedLease.the_row I g)
-  lease_send = let word = word_send in search sendable depth 20
-
-  lease_sync : IsSync (SharedLease.the_row I g)
-  lease_sync = let word = word_sync in search sendable depth 20
-
--- a shared lease of whose ends nothing is said
-abbrev pub shared : RattleType
-shared = SharedLease.the_row AnyEnd.the_row ghosts
-
--- a shared lease that a server renews may go to another thread
-pub shared_send : IsSend shared
-shared_send = lease_send AnyEnd.the_row ghosts
-
--- and be asked by several
-pub shared_sync : IsSync shared
-shared_sync = lease_sync AnyEnd.the_row ghosts
-
--- an output permit may go to another thread
-pub output_permit_send : IsSend OutputPermit.the_row
-output_permit_send = let lease = Arc-send shared shared_send shared_sync in search sendable depth 20
 
 -- a seat may go to another thread
 submitter_send : IsSend Submitter.the_row
 submitter_send = search (sendable, crosses, seat_send, kind.the_field_send) depth 20
+
+-- a count that contracts alone see may go to another thread
+failures_send : IsSend Failures.the_row
+failures_send = search (sendable, crosses, tag_send) depth 20
 
 -- a pool of seats may go to another thread
 pub seat_pool_send : IsSend SeatPool.the_row
 seat_pool_send =
     let free = Vec-send Submitter.the_row submitter_send in
     let left = Deque-send Submitter.the_row submitter_send in
-    search (sendable, crosses, reader.the_send, call_sender_send, mark.the_field_send, gauge.the_field_send) depth 20
+    search (
+      sendable,
+      crosses,
+      reader.the_send,
+      call_sender_send,
+      mark.the_field_send,
+      gauge.the_field_send,
+      failures_send,
+    ) depth 20

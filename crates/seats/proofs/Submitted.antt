@@ -9,19 +9,23 @@ use Rattle.faces.specs.Histories.{History, IsLater}
 use Rattle.faces.specs.Outputs.{PutsOut}
 use Rattle.rail.specs.CallSenders.{CallSenderState, SentCall}
 use Rattle.rail.specs.Seats.{SeatState, with_reply, with_sent}
-use Rattle.seats.specs.InProcessLinks.{without_last}
 use Rattle.seats.specs.Replies.{HasAllReplies, IsSubmitted}
 use Rattle.seats.specs.Submitters.{Submitting, IsAnswered, IsLastCall, IsOpen, IsReplyAt, all_sent, last_sent}
-use Rattle.seats.specs.Submitters.{open_at, stage_of, submitting, unused}
+use Rattle.seats.specs.Submitters.{open_at, stage_of, submitting, unused, without_last}
 use Rattle.seats.specs.declared.submitters.SubmitterStage.{SubmitterStage}
 use Rattle.seats.specs.declared.submitters.SubmitterStage.TheVariants.{Free, Read, Update, Lost}
-use Rattle.seats.proofs.Linked.{without}
 
 -- the last call
 last_of : (e : SentCall) (es : List SentCall) → last_sent (es ++ e ∷ []) ≡ Some e
 last_of e [] = refl
 last_of e (f ∷ []) = refl
 last_of e (f ∷ (h ∷ es)) = last_of e (h ∷ es)
+
+-- and the others
+without : (e : SentCall) (es : List SentCall) → without_last (es ++ e ∷ []) ≡ es
+without e [] = refl
+without e (f ∷ []) = refl
+without e (f ∷ (h ∷ es)) = ap (λ w. f ∷ w) (without e (h ∷ es))
 
 -- a seat with this open call
 abbrev opened : SeatState → List SentCall → Option SentCall → Submitting

@@ -1,7 +1,5 @@
 pub mod Replies
-pub mod InProcessLinks
-pub mod Reached
-pub mod ServerSets
 pub mod Submitters
 pub mod SeatPools
 pub mod ClientConnections
+pub mod SeatCallers

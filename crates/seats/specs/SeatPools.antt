@@ -1,5 +1,5 @@
 -- The seats of one thread at one server.
-use Rattle.std.specs.Prelude.{◌≡◌, ◌≤◌, ◌<◌, ◌+◌, ℕ, suc, List, [], ◌∷◌, ◌++◌, None, All, length}
+use Rattle.std.specs.Prelude.{◌≡◌, ◌≤◌, ◌<◌, ◌+◌, ℕ, suc, List, [], ◌∷◌, ◌++◌, Option, None, All, length}
 use Rattle.faces.specs.Histories.{History, Instance}
 use Rattle.faces.specs.Readers.{Looking}
 use Rattle.table.specs.declared.operations.Call.{Call}
@@ -7,8 +7,9 @@ use Rattle.rail.specs.CallSenders.{CallSenderState, with_call}
 use Rattle.seats.specs.Submitters.{Submitting}
 
 -- What a pool's reader has seen or was told of, and each history whose face stood when it looked; the sender of its
--- calls; its seats at which no call is open, the next one last; those for whose replies nobody waits any more; and how
--- many it has, with those that were taken out.
+-- calls; its seats at which no call is open, the next one last; those for whose replies nobody waits any more; how many
+-- it has, with those that were taken out; how many bytes the items of its server may take, if there is a limit; and how
+-- often a call found that its server is marked, gone or stopped, or gave no reply that fits it.
 pub record Pooling : Type 0 where
   pub seen : History
   pub looks : List History
@@ -16,11 +17,22 @@ pub record Pooling : Type 0 where
   pub free : List Submitting
   pub left : List Submitting
   pub seats : ℕ
+  pub limit : Option ℕ
+  pub faults : ℕ
 
 -- a pool without seats
-abbrev pub without_seats : Looking → CallSenderState → Pooling
-without_seats reader sender =
-    record { seen = reader.seen; looks = reader.looks; sender = sender; free = []; left = []; seats = 0 }
+abbrev pub without_seats : Looking → CallSenderState → Option ℕ → Pooling
+without_seats reader sender limit =
+    record {
+      seen = reader.seen;
+      looks = reader.looks;
+      sender = sender;
+      free = [];
+      left = [];
+      seats = 0;
+      limit = limit;
+      faults = 0;
+    }
 
 -- it has one seat more, which is free
 abbrev pub with_free : Pooling → Submitting → Pooling
@@ -37,6 +49,10 @@ put_left p s = record p { left = p.left ++ s ∷ [] }
 -- its sender sent one call more, from this port
 abbrev pub with_sent_call : Pooling → ℕ → Call → Pooling
 with_sent_call p port call = record p { sender = with_call p.sender port call }
+
+-- one call more got no reply
+abbrev pub with_fault : Pooling → Pooling
+with_fault p = record p { faults = p.faults + 1 }
 
 -- how many of its seats are here
 abbrev pub here : Pooling → ℕ
@@ -60,6 +76,18 @@ HasSameReader p q = (q.seen ≡ p.seen) × (q.looks ≡ p.looks)
 -- its sender has sent nothing more
 abbrev pub HasSentNothing : Pooling → Pooling → Type 0
 HasSentNothing p q = q.sender ≡ p.sender
+
+-- no call more got no reply
+abbrev pub HasNoFault : Pooling → Pooling → Type 0
+HasNoFault p q = q.faults ≡ p.faults
+
+-- one call more got no reply
+abbrev pub HasOneFault : Pooling → Pooling → Type 0
+HasOneFault p q = q.faults ≡ p.faults + 1
+
+-- its server's items may take as much as before
+abbrev pub HasSameLimit : Pooling → Pooling → Type 0
+HasSameLimit p q = q.limit ≡ p.limit
 
 -- the seats are those that it had
 abbrev pub HasSameSeats : Pooling → Pooling → Type 0

@@ -7,7 +7,6 @@ use Rattle.table.specs.declared.operations.Reply.{Reply}
 use Rattle.faces.specs.Histories.{History}
 use Rattle.rail.specs.CallSenders.{SentCall}
 use Rattle.rail.specs.Seats.{SeatState}
-use Rattle.seats.specs.InProcessLinks.{without_last}
 use Rattle.seats.specs.Replies.{HasAllReplies, IsSubmitted}
 use Rattle.seats.specs.declared.submitters.SubmitterStage.{SubmitterStage}
 use Rattle.seats.specs.declared.submitters.SubmitterStage.TheVariants.{Free, Read, Update, Lost}
@@ -49,6 +48,12 @@ abbrev pub last_sent : List SentCall → Option SentCall
 last_sent [] = None
 last_sent (e ∷ []) = Some e
 last_sent (e ∷ (f ∷ es)) = last_sent (f ∷ es)
+
+-- these calls without the last one
+abbrev pub without_last : List SentCall → List SentCall
+without_last [] = []
+without_last (e ∷ []) = []
+without_last (e ∷ (f ∷ es)) = e ∷ without_last (f ∷ es)
 
 -- a seat at which the last call is open
 abbrev pub open_at : SeatState → Submitting

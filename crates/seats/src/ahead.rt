@@ -1,9 +1,10 @@
 //! The seats at which updates of a client connection were sent ahead, while an update before them waits for its reply.
-ghost use Rattle.std.specs.Prelude.{◌≡◌, All, IfOk, Some, MatchBool, OnErr};
+ghost use Rattle.std.specs.Prelude.{◌≡◌, All, IfErr, IfOk, Some, MatchBool, OnErr, OnOk};
 ghost use Rattle.rail.specs.CallSenders.{with_call};
 ghost use Rattle.node.specs.Lawful.{IsCall};
-ghost use Rattle.seats.specs.SeatPools.{HasSameReader, HasSentNothing, IsAt, IsFreeAt};
-ghost use Rattle.seats.specs.ClientConnections.{HasSentAhead, IsOpenAt};
+ghost use Rattle.serving.specs.declared.endings.ServeFault.TheVariants.{Call as NoReply};
+ghost use Rattle.seats.specs.SeatPools.{HasNoFault, HasOneFault, HasSameReader, HasSentNothing, IsAt, IsFreeAt};
+ghost use Rattle.seats.specs.ClientConnections.{HasCause, HasLostAhead, HasSentAhead, IsOpenAt};
 
 use crate::seat_pools::SeatPool;
 use crate::submitters::Submitter;
@@ -25,7 +26,9 @@ pub(crate) fn open_ahead<R: Wait>(
         (HasSentAhead pool.old pool.new connection.old connection.new ahead.old.items ahead.new.items)
         ((connection.new ≡ record connection.old { failed = connection.new.failed }) ×
         (ahead.new.items ≡ ahead.old.items) × HasSentNothing pool.old pool.new)) }
-    ensures err { OnErr result ((connection.new ≡ record connection.old { waiting = connection.new.waiting }) ×
+    ensures unfailed { OnOk result (HasNoFault pool.old pool.new) }
+    ensures cause { IfErr result (λ fault. HasCause fault connection.new pool.old pool.new) }
+    ensures err { OnErr result (HasLostAhead connection.old connection.new ×
         (ahead.new.items ≡ ahead.old.items) × HasSentNothing pool.old pool.new) }
 {
     if !pool.has_room() || ahead.reserve(1).is_err() {
@@ -61,6 +64,8 @@ fn submit_ahead<R: Wait>(
     ensures waiting { IfOk result
         (λ sent. sent.waiting ≡ Some (record { sender = pool.old.sender; call = call })) }
     ensures sent { IfOk result (λ sent. pool.new.sender ≡ with_call pool.old.sender sent.seat.port call) }
+    ensures unfailed { OnOk result (HasNoFault pool.old pool.new) }
+    ensures fault { IfErr result (λ fault. (fault ≡ NoReply) × HasOneFault pool.old pool.new) }
     ensures err { OnErr result (HasSentNothing pool.old pool.new) }
 {
     let mut submitter = submitter;

@@ -1,7 +1,7 @@
 //! A connection at a server's seats, without a thread: each of its calls is refused or answered by a look at once, or
 //! sent at a seat, whose reply is taken later. Updates that follow one another may be sent before the first has its
 //! reply.
-ghost use Rattle.std.specs.Prelude.{◌≡◌, IfOk, Some, MatchOption, OnErr, OnOk};
+ghost use Rattle.std.specs.Prelude.{◌≡◌, true, IfErr, IfOk, Some, MatchOption, OnErr, OnOk};
 ghost use Rattle.table.specs.declared.operations.Call.{Call};
 ghost use Rattle.proto.specs.Turns.{Outcome, Refused};
 ghost use Rattle.faces.specs.Histories.{IsLater};
@@ -9,24 +9,27 @@ ghost use Rattle.faces.specs.Readers.{HasLookedAtMostOnce};
 ghost use Rattle.serving.specs.Connections.{HasOutcome, MayRefuse};
 ghost use Rattle.serving.specs.Serving.{CameTo};
 ghost use Rattle.serving.specs.Wanted.{IsAsking};
+ghost use Rattle.serving.specs.declared.endings.ServeFault.TheVariants.{Memory};
 ghost use Rattle.seats.specs.declared.client_connections.CallStanding.TheVariants.{Idle, Over, Reading, Unsent};
-ghost use Rattle.seats.specs.declared.client_connections.Went.TheVariants.{Seat};
-ghost use Rattle.seats.specs.SeatPools.{HasSameReader, HasSentNothing};
+ghost use Rattle.seats.specs.declared.client_connections.Pause.TheVariants.{Seat};
+ghost use Rattle.seats.specs.SeatPools.{HasNoFault, HasSameReader, HasSentNothing};
 ghost use Rattle.seats.specs.ClientConnections.{
+  HasCause,
   HasLookedFor,
   HoldsAt,
   HoldsFree,
-  IsReplied,
+  IsPeeked,
   next_ahead,
   next_standing,
 };
 
 use crate::ahead::{leave_all, open_ahead};
+use crate::heard_seats::HeardSeats;
 use crate::outcomes::{hand_on, is_refused, settle};
 use crate::seat_pools::SeatPool;
 use crate::submitters::Submitter;
 use rail::Told;
-use serving::{Connection, End, ServeFault, Wants};
+use serving::{Connection, ServeFault, Wants};
 use std::alloc::{AllocError, Global};
 use std::collections::VecDeque;
 use std::marker::Model;
@@ -34,21 +37,24 @@ use std::mem;
 use std::sync::Wait;
 use table::Call;
 
-/// How far a client connection went.
-#[derive(Clone, Copy, PartialEq, Eq)]
-pub enum Went {
+/// Why a client goes no further, or its connection.
+#[derive(Clone, Copy, Debug, PartialEq, Eq)]
+pub enum Pause {
     /// All is answered and written: it wants input.
     Input,
-    /// It wants that output is written.
-    Write,
+    /// Output is due, which is to be written.
+    Output,
+    /// Output is due, and the server may not put it out now. Only a client with a socket says so.
+    Lease,
     /// Its call waits for a free seat.
     Seat,
-    /// Its call was sent, perhaps with updates after it, and the reply isn't here yet.
+    /// Its call was sent, now or before, perhaps with updates after it, and the reply isn't here yet.
     Reply,
-    /// It made as many calls as it may in one go, and can go on.
-    More,
-    /// All is answered and written, and nothing more is wanted.
-    End(End),
+    /// It can go on, once others have had their turn.
+    Turn,
+    /// It goes no further: all is answered and written, and nothing more is wanted. A client with a socket says so too
+    /// if it has failed, or nobody reads.
+    Over,
 }
 
 /// Where a client connection stands.
@@ -72,7 +78,8 @@ pub const MOST_CALLS: usize = 32;
 /// A connection at a server's seats: it is fed with input, makes the calls of that, one after another, and says what it
 /// waits for. While an update is open, the updates that come next may be sent too, each at a seat of its own; they are
 /// sent and answered in turn. Contracts see the connection, where it stands, the seats of the updates that were sent
-/// ahead, and what its reader had seen at first and when its last call had its reply (`ClientConnectionState`).
+/// ahead, those whose replies it has had, and what its reader had seen at first and when its last call had its reply
+/// (`ClientConnectionState`).
 #[derive(Drop)]
 pub struct ClientConnection {
     // The fields lie in this order: what a call by a look touches lies close together.
@@ -82,6 +89,8 @@ pub struct ClientConnection {
     standing: CallStanding,
     // The seats of the calls that were sent after the one at which it stands, in turn.
     ahead: VecDeque<Submitter>,
+    // The seats whose replies it has had, for contracts alone.
+    heard: HeardSeats,
 }
 
 impl Model for ClientConnection {
@@ -100,32 +109,37 @@ impl Model for ClientConnection {
       connected = t.connection;
       standing = t.standing;
       ahead = t.ahead.items;
+      heard = t.heard.all;
       first = t.first;
       seen = t.seen;
     } };
 
-    ghost invariant = { λ t. IsClientConnection t.connection t.standing t.ahead.items t.first t.seen };
+    ghost invariant = { λ t.
+        IsClientConnection t.connection t.standing t.ahead.items t.heard.all t.first t.seen };
 }
 
 impl ClientConnection {
-    ghost use Rattle.std.specs.Prelude.{◌≡◌, ◌≤◌, ◌↔◌, ◌++◌, ℕ, List, [], true, take, drop, length};
-    ghost use Rattle.std.specs.Prelude.{OnOk, OnErr, IfOk, IsErr, IfSome, IsTrue};
+    ghost use Rattle.std.specs.Prelude.{◌≡◌, ◌⊎◌, ◌≤◌, ◌↔◌, ◌++◌, ℕ, List, [], true, take, drop, length};
+    ghost use Rattle.std.specs.Prelude.{None, OnOk, OnErr, IfErr, IfNone, IfOk, IsErr, IfSome, IsSome, IsTrue};
     ghost use Rattle.std.specs.Prelude.{MatchBool, MatchOption, MatchResult};
     ghost use Rattle.faces.specs.Histories.{IsLater};
     ghost use Rattle.serving.specs.Connections.{IsBegun};
-    ghost use Rattle.serving.specs.Serving.{AreAnswered};
-    ghost use Rattle.seats.specs.SeatPools.{HasSameReader, HasSentNothing};
+    ghost use Rattle.seats.specs.SeatPools.{HasNoFault, HasSameReader, HasSentNothing};
     ghost use Rattle.seats.specs.ClientConnections.{
+      AreAllAnswered,
+      HasCause,
       HasGone,
       HasGoneByLooks,
+      HasHeardInTurn,
       HasLooked,
       HasLookedOn,
+      HasRefusedNone,
       HasSentInTurn,
-      HasSentOn,
       HoldsStore,
       IsFurther,
     };
-    ghost use Rattle.seats.specs.ClientConnections.{HasHeard, IsReplied, IsSameBut, LeavesCall, StandsAt, begun, fed};
+    ghost use Rattle.seats.specs.ClientConnections.{HasHeard, IsSameBut, LeavesCall, StandsAt, begun, fed, seats_open};
+    ghost use Rattle.seats.specs.Submitters.{Submitting};
     ghost use Rattle.seats.specs.declared.client_connections.CallStanding.TheVariants.{Idle, Reading, Over};
 
     /// A client's connection of which nothing was read. It allocates nothing.
@@ -136,6 +150,7 @@ impl ClientConnection {
             connection: Connection::new(alloc),
             standing: CallStanding::Idle,
             ahead: VecDeque::new(alloc),
+            heard: HeardSeats::new(),
             first: pool.tell(),
             seen: pool.tell(),
         }
@@ -143,12 +158,13 @@ impl ClientConnection {
 
     /// Whatever was done: the calls are the first ones of the bytes that were read, each with what it came to, and what
     /// was written, with what is due, is a beginning of what is due for them. Each call came to something, in order: to
-    /// the reply of a clean look, or the server's, and each of these has seen what the one before it had seen; or to a
-    /// refusal, if it stores, which leaves what was seen as it was.
+    /// the reply of a clean look, or to what was answered at the next of the seats that were heard, at which it was
+    /// open, and each of these has seen what the one before it had seen; or to a refusal, if it stores, which leaves
+    /// what was seen as it was.
     pub fn so_far(&self)
         ensures begun { (more : List ℕ) → IsBegun self.now.connected (self.now.connected.read ++ more) }
-        ensures answered { AreAnswered IsReplied self.now.first self.now.connected.calls self.now.connected.outcomes
-            self.now.seen }
+        ensures answered { AreAllAnswered self.now.first self.now.connected.calls self.now.connected.outcomes
+            self.now.heard self.now.seen }
         ensures stands { StandsAt self.now.standing self.now.ahead self.now.connected self.now.seen.instance }
     {
         self.connection.so_far();
@@ -185,44 +201,55 @@ impl ClientConnection {
 
     /// Goes on as far as it can: it makes the calls of what was read, one after another, each by a look at once, or at
     /// a free seat of the pool, until it waits for something. A call that stores is refused while the pool has no room,
-    /// and isn't made then. A call gets no reply if the server is marked or gone. After a fault no further call is
-    /// made, and it answers a fault from then on; what is due may still be written. If it waits for the reply to an
-    /// update, the updates that come next are sent too, each at a free seat, as many as the pool lets be in flight.
-    pub fn go<R: Wait>(&mut self, rt: &R, pool: &mut SeatPool) -> Result<Went, ServeFault>
+    /// and isn't made then. A call gets no reply if the server is marked or gone: that, or a refusal of memory, is what
+    /// a fault comes from. After a fault no further call is made, and it answers a fault from then on; what is due may
+    /// still be written. If it waits for the reply to an update, the updates that come next are sent too, each at a
+    /// free seat, as many as the pool lets be in flight.
+    pub fn advance<R: Wait>(&mut self, rt: &R, pool: &mut SeatPool) -> Result<Pause, ServeFault>
         requires known { IsLater self.old.seen pool.old.seen }
         ensures known { IsLater self.new.seen pool.new.seen }
         ensures later { IsLater pool.old.seen pool.new.seen }
         ensures first { self.new.first ≡ self.old.first }
         ensures further { IsFurther self.old.connected self.new.connected }
         ensures went { IfOk result (λ went. HasGone went self.new) }
-        ensures sent { HasSentInTurn self.new pool.old pool.new }
+        ensures sent { HasSentInTurn self.old self.new pool.old pool.new }
+        ensures heard { self.new.heard ≡ self.old.heard }
+        ensures unfailed { OnOk result (HasNoFault pool.old pool.new) }
+        ensures cause { IfErr result
+            (λ fault. (self.old.standing ≡ Over) ⊎ HasCause fault self.new.connected pool.old pool.new) }
         // No reply of a look was kept, and no look is forgotten: each reply to its calls is of a look of its own, at
         // the face that stood. Beside these at most one look was made, for the call that it leaves waiting, or at which
         // a fault came.
         ensures looked { MatchResult result
             (λ went. HasGoneByLooks went self.old.connected self.new.connected pool.old pool.new)
             (λ _. HasLookedOn self.old.connected self.new.connected pool.old pool.new) }
+        // Without a limit no store is refused.
+        ensures refused { pool.old.limit ≡ None → HasRefusedNone self.old.connected self.new.connected }
         ensures over { OnErr result (self.new.standing ≡ Over) }
         ensures spent { self.old.standing ≡ Over → IsErr result × (self.new ≡ self.old) × (pool.new ≡ pool.old) }
     {
-        match self.go_alone(rt, pool)? {
-            Went::Reply => {
+        match self.advance_alone(rt, pool)? {
+            Pause::Reply => {
                 self.go_ahead(rt, pool)?;
-                Ok(Went::Reply)
+                Ok(Pause::Reply)
             }
             went => Ok(went),
         }
     }
 
     // The same, but nothing is sent ahead.
-    fn go_alone<R: Wait>(&mut self, rt: &R, pool: &mut SeatPool) -> Result<Went, ServeFault>
+    fn advance_alone<R: Wait>(&mut self, rt: &R, pool: &mut SeatPool) -> Result<Pause, ServeFault>
         requires known { IsLater self.old.seen pool.old.seen }
         ensures known { IsLater self.new.seen pool.new.seen }
         ensures later { IsLater pool.old.seen pool.new.seen }
         ensures first { self.new.first ≡ self.old.first }
         ensures further { IsFurther self.old.connected self.new.connected }
         ensures went { IfOk result (λ went. HasGone went self.new) }
-        ensures sent { HasSentInTurn self.new pool.old pool.new }
+        ensures sent { HasSentInTurn self.old self.new pool.old pool.new }
+        ensures heard { self.new.heard ≡ self.old.heard }
+        ensures unfailed { OnOk result (HasNoFault pool.old pool.new) }
+        ensures cause { IfErr result
+            (λ fault. (self.old.standing ≡ Over) ⊎ HasCause fault self.new.connected pool.old pool.new) }
         // No reply of a look was kept, and no look is forgotten: each reply to its calls is of a look of its own, at
         // the face that stood. Beside these at most one look was made, for the call that it leaves waiting, or at which
         // a fault came.
@@ -233,8 +260,8 @@ impl ClientConnection {
         ensures spent { self.old.standing ≡ Over → IsErr result × (self.new ≡ self.old) × (pool.new ≡ pool.old) }
     {
         match &self.standing {
-            CallStanding::Idle => self.go_on(rt, pool),
-            CallStanding::Reading => Ok(Went::Input),
+            CallStanding::Idle => self.make_calls(rt, pool),
+            CallStanding::Reading => Ok(Pause::Input),
             CallStanding::Unsent(call) => {
                 if is_refused(pool, call) {
                     self.pass_over(rt, pool)
@@ -242,14 +269,18 @@ impl ClientConnection {
                     self.send(rt, pool)
                 }
             }
-            CallStanding::Sent(_) => Ok(Went::Reply),
+            CallStanding::Sent(_) => Ok(Pause::Reply),
             CallStanding::Over => Err(ServeFault::Call),
         }
     }
 
     /// Takes the replies to the calls that were sent, as many as have come, that to the oldest call first, and says
     /// whether there was one: its seat is free then.
-    pub fn hear<R: Wait>(&mut self, rt: &R, pool: &mut SeatPool) -> Result<bool, ServeFault>
+    pub fn receive_replies<R: Wait>(
+        &mut self,
+        rt: &R,
+        pool: &mut SeatPool,
+    ) -> Result<bool, ServeFault>
         requires known { IsLater self.old.seen pool.old.seen }
         ensures known { IsLater self.new.seen pool.new.seen }
         ensures later { IsLater pool.old.seen pool.new.seen }
@@ -257,12 +288,18 @@ impl ClientConnection {
         ensures further { IsFurther self.old.connected self.new.connected }
         ensures looks { pool.new.looks ≡ pool.old.looks }
         ensures unsent { HasSentNothing pool.old pool.new }
-        ensures heard { IfOk result (λ heard. MatchBool heard (HasHeard self.new) (self.new ≡ self.old)) }
+        ensures heard { IfOk result (λ heard. MatchBool heard (HasHeard self.old self.new) (self.new ≡ self.old)) }
+        ensures in_turn { OnOk result (HasHeardInTurn self.old self.new pool.old pool.new
+            (seats_open self.new.standing self.new.ahead)) }
+        ensures before_fault { OnErr result
+            ((left : List Submitting) × HasHeardInTurn self.old self.new pool.old pool.new left) }
+        ensures unfailed { OnOk result (HasNoFault pool.old pool.new) }
+        ensures cause { IfErr result (λ fault. HasCause fault self.new.connected pool.old pool.new) }
         ensures over { OnErr result (self.new.standing ≡ Over) }
     {
         let mut any = false;
         for _ in 0..=self.ahead.len() {
-            if !self.hear_one(rt, pool)? {
+            if !self.receive_reply(rt, pool)? {
                 return Ok(any);
             }
             any = true;
@@ -271,7 +308,7 @@ impl ClientConnection {
     }
 
     // Takes the reply to the oldest call that was sent, if it has come, and says whether it did.
-    fn hear_one<R: Wait>(&mut self, rt: &R, pool: &mut SeatPool) -> Result<bool, ServeFault>
+    fn receive_reply<R: Wait>(&mut self, rt: &R, pool: &mut SeatPool) -> Result<bool, ServeFault>
         requires known { IsLater self.old.seen pool.old.seen }
         ensures known { IsLater self.new.seen pool.new.seen }
         ensures later { IsLater pool.old.seen pool.new.seen }
@@ -279,17 +316,26 @@ impl ClientConnection {
         ensures further { IsFurther self.old.connected self.new.connected }
         ensures looks { pool.new.looks ≡ pool.old.looks }
         ensures unsent { HasSentNothing pool.old pool.new }
-        ensures heard { IfOk result (λ heard. MatchBool heard (HasHeard self.new) (self.new ≡ self.old)) }
+        ensures heard { IfOk result (λ heard. MatchBool heard
+            (HasHeard self.old self.new ×
+            HasHeardInTurn self.old self.new pool.old pool.new (seats_open self.new.standing self.new.ahead))
+            (self.new ≡ self.old)) }
+        ensures unheard { OnErr result (HasHeardInTurn self.old self.new pool.old pool.new
+            (seats_open self.old.standing self.old.ahead)) }
+        ensures unfailed { OnOk result (HasNoFault pool.old pool.new) }
+        ensures cause { IfErr result (λ fault. HasCause fault self.new.connected pool.old pool.new) }
         ensures over { OnErr result (self.new.standing ≡ Over) }
     {
         let CallStanding::Sent(submitter) = &mut self.standing else {
             return Ok(false);
         };
+        let heard = self.heard.plus(submitter);
         match pool.take_reply(rt, submitter) {
             Ok(None) => Ok(false),
             Ok(Some(reply)) => {
                 give_back(&mut self.standing, pool);
                 hand_on(&mut self.connection, &mut self.seen, pool, reply)?;
+                self.heard = heard;
                 stand_at(&mut self.standing, next_standing(&mut self.ahead));
                 Ok(true)
             }
@@ -330,10 +376,12 @@ impl ClientConnection {
             connection,
             standing,
             ahead,
+            heard,
             first,
             seen,
         } = self;
         drop(connection);
+        drop(heard);
         drop(first);
         drop(seen);
         leave_one(standing, pool);
@@ -341,15 +389,19 @@ impl ClientConnection {
     }
 
     // Makes calls while no call waits.
-    fn go_on<R: Wait>(&mut self, rt: &R, pool: &mut SeatPool) -> Result<Went, ServeFault>
+    fn make_calls<R: Wait>(&mut self, rt: &R, pool: &mut SeatPool) -> Result<Pause, ServeFault>
         requires idle { self.old.standing ≡ Idle }
+        requires none { self.old.connected.waiting ≡ [] }
         requires known { IsLater self.old.seen pool.old.seen }
         ensures known { IsLater self.new.seen pool.new.seen }
         ensures later { IsLater pool.old.seen pool.new.seen }
         ensures first { self.new.first ≡ self.old.first }
         ensures further { IsFurther self.old.connected self.new.connected }
         ensures went { IfOk result (λ went. HasGone went self.new) }
-        ensures sent { HasSentInTurn self.new pool.old pool.new }
+        ensures sent { HasSentInTurn self.old self.new pool.old pool.new }
+        ensures heard { self.new.heard ≡ self.old.heard }
+        ensures unfailed { OnOk result (HasNoFault pool.old pool.new) }
+        ensures cause { IfErr result (λ fault. HasCause fault self.new.connected pool.old pool.new) }
         ensures looked { MatchResult result
             (λ went. HasGoneByLooks went self.old.connected self.new.connected pool.old pool.new)
             (λ _. HasLookedOn self.old.connected self.new.connected pool.old pool.new) }
@@ -358,34 +410,38 @@ impl ClientConnection {
         for _ in 0..MOST_CALLS {
             match self.step(pool)? {
                 None => {}
-                Some(Went::Seat) => return self.send(rt, pool),
+                Some(Pause::Seat) => return self.send(rt, pool),
                 Some(went) => return Ok(went),
             }
         }
-        Ok(Went::More)
+        Ok(Pause::Turn)
     }
 
     // Refuses the call that waits for a seat, and goes on.
-    fn pass_over<R: Wait>(&mut self, rt: &R, pool: &mut SeatPool) -> Result<Went, ServeFault>
+    fn pass_over<R: Wait>(&mut self, rt: &R, pool: &mut SeatPool) -> Result<Pause, ServeFault>
         requires store { HoldsStore self.old.standing }
+        requires limit { IsSome pool.old.limit }
         requires known { IsLater self.old.seen pool.old.seen }
         ensures known { IsLater self.new.seen pool.new.seen }
         ensures later { IsLater pool.old.seen pool.new.seen }
         ensures first { self.new.first ≡ self.old.first }
         ensures further { IsFurther self.old.connected self.new.connected }
         ensures went { IfOk result (λ went. HasGone went self.new) }
-        ensures sent { HasSentInTurn self.new pool.old pool.new }
+        ensures sent { HasSentInTurn self.old self.new pool.old pool.new }
+        ensures heard { self.new.heard ≡ self.old.heard }
+        ensures unfailed { OnOk result (HasNoFault pool.old pool.new) }
+        ensures cause { IfErr result (λ fault. HasCause fault self.new.connected pool.old pool.new) }
         ensures looked { MatchResult result
             (λ went. HasGoneByLooks went self.old.connected self.new.connected pool.old pool.new)
             (λ _. HasLookedOn self.old.connected self.new.connected pool.old pool.new) }
         ensures over { OnErr result (self.new.standing ≡ Over) }
     {
         refuse(&mut self.connection, &mut self.standing)?;
-        self.go_on(rt, pool)
+        self.make_calls(rt, pool)
     }
 
     // The connection's next step. None if it was a call that a look answered, or that was refused.
-    fn step(&mut self, pool: &mut SeatPool) -> Result<Option<Went>, ServeFault>
+    fn step(&mut self, pool: &mut SeatPool) -> Result<Option<Pause>, ServeFault>
         requires idle { self.old.standing ≡ Idle }
         requires known { IsLater self.old.seen pool.old.seen }
         ensures known { IsLater self.new.seen pool.new.seen }
@@ -395,6 +451,11 @@ impl ClientConnection {
         ensures went { IfOk result
             (λ found. MatchOption found (self.new.standing ≡ Idle) (λ went. HasGone went self.new)) }
         ensures unsent { HasSentNothing pool.old pool.new }
+        ensures sent { HasSentInTurn self.old self.new pool.old pool.new }
+        ensures rests { IfOk result (λ found. IfNone found (self.new.connected.waiting ≡ [])) }
+        ensures heard { self.new.heard ≡ self.old.heard }
+        ensures unfailed { OnOk result (HasNoFault pool.old pool.new) }
+        ensures cause { IfErr result (λ fault. HasCause fault self.new.connected pool.old pool.new) }
         ensures looked { MatchResult result
             (λ found. MatchOption found (HasLooked self.old.connected self.new.connected pool.old pool.new)
             (λ went. HasGoneByLooks went self.old.connected self.new.connected pool.old pool.new))
@@ -409,12 +470,12 @@ impl ClientConnection {
                 pool,
                 Call { target, op },
             ),
-            Ok(Wants::Write) => Ok(Some(Went::Write)),
+            Ok(Wants::Write) => Ok(Some(Pause::Output)),
             Ok(Wants::Read) => {
                 stand_reading(&mut self.standing);
-                Ok(Some(Went::Input))
+                Ok(Some(Pause::Input))
             }
-            Ok(Wants::End(end)) => Ok(Some(Went::End(end))),
+            Ok(Wants::End(_)) => Ok(Some(Pause::Over)),
             Err(_) => {
                 stand_at(&mut self.standing, CallStanding::Over);
                 Err(ServeFault::Memory)
@@ -423,24 +484,28 @@ impl ClientConnection {
     }
 
     // Sends the call that waits at a free seat, if there is one.
-    fn send<R: Wait>(&mut self, rt: &R, pool: &mut SeatPool) -> Result<Went, ServeFault>
-        requires unsent { HasGone Went.Seat self.old }
+    fn send<R: Wait>(&mut self, rt: &R, pool: &mut SeatPool) -> Result<Pause, ServeFault>
+        requires unsent { HasGone Pause.Seat self.old }
         requires known { IsLater self.old.seen pool.old.seen }
         ensures same { self.new ≡ record self.old { standing = self.new.standing } }
         ensures pool { HasSameReader pool.old pool.new }
-        ensures sent { HasSentInTurn self.new pool.old pool.new }
+        ensures sent { HasSentInTurn self.old self.new pool.old pool.new }
+        ensures unfailed { OnOk result (HasNoFault pool.old pool.new) }
+        ensures cause { IfErr result (λ fault. HasCause fault self.new.connected pool.old pool.new) }
         ensures waits { IfOk result (λ went. LeavesCall went) }
         ensures went { IfOk result (λ went. HasGone went self.new) }
         ensures over { OnErr result (self.new.standing ≡ Over) }
     {
+        // What waits is known by where it stands.
+        let _ = &self.standing;
         let Some(mut submitter) = pool.take_free() else {
-            return Ok(Went::Seat);
+            return Ok(Pause::Seat);
         };
         let call = unsent(mem::replace(&mut self.standing, CallStanding::Over));
         match pool.submit(rt, &mut submitter, call) {
             Ok(()) => {
                 stand_at(&mut self.standing, CallStanding::Sent(submitter));
-                Ok(Went::Reply)
+                Ok(Pause::Reply)
             }
             Err(_) => {
                 pool.put(submitter);
@@ -452,12 +517,14 @@ impl ClientConnection {
     // Sends the updates that come next, as long as there are some, and free seats, and no more are sent ahead than may
     // be.
     fn go_ahead<R: Wait>(&mut self, rt: &R, pool: &mut SeatPool) -> Result<(), ServeFault>
-        requires sent { HasGone Went.Reply self.old }
+        requires sent { HasGone Pause.Reply self.old }
         requires known { IsLater self.old.seen pool.old.seen }
         ensures same { IsSameBut self.old self.new }
         ensures pool { HasSameReader pool.old pool.new }
-        ensures on { HasSentOn self.old self.new pool.old pool.new }
-        ensures sent { OnOk result (HasGone Went.Reply self.new) }
+        ensures on { HasSentInTurn self.old self.new pool.old pool.new }
+        ensures unfailed { OnOk result (HasNoFault pool.old pool.new) }
+        ensures cause { IfErr result (λ fault. HasCause fault self.new.connected pool.old pool.new) }
+        ensures sent { OnOk result (HasGone Pause.Reply self.new) }
         ensures over { OnErr result (self.new.standing ≡ Over) }
     {
         for _ in self.ahead.len()..pool.most_ahead() {
@@ -470,12 +537,14 @@ impl ClientConnection {
 
     // Sends the update that comes next, if one does, and there is a free seat. Whether it did.
     fn send_ahead<R: Wait>(&mut self, rt: &R, pool: &mut SeatPool) -> Result<bool, ServeFault>
-        requires sent { HasGone Went.Reply self.old }
+        requires sent { HasGone Pause.Reply self.old }
         requires known { IsLater self.old.seen pool.old.seen }
         ensures same { IsSameBut self.old self.new }
         ensures pool { HasSameReader pool.old pool.new }
-        ensures on { HasSentOn self.old self.new pool.old pool.new }
-        ensures sent { OnOk result (HasGone Went.Reply self.new) }
+        ensures on { HasSentInTurn self.old self.new pool.old pool.new }
+        ensures unfailed { OnOk result (HasNoFault pool.old pool.new) }
+        ensures cause { IfErr result (λ fault. HasCause fault self.new.connected pool.old pool.new) }
+        ensures sent { OnOk result (HasGone Pause.Reply self.new) }
         ensures over { OnErr result (self.new.standing ≡ Over) }
     {
         match open_ahead(rt, pool, &mut self.connection, &mut self.ahead) {
@@ -488,12 +557,28 @@ impl ClientConnection {
     }
 }
 
+impl ClientConnection {
+    ghost use Rattle.std.specs.Prelude.{◌≡◌, [], MatchOption, length, suc};
+    ghost use Rattle.seats.specs.ClientConnections.{seats_open};
+
+    /// How many updates were sent after the call that waits for its reply. None if no call was sent.
+    pub fn in_flight(&self) -> Option<usize>
+        ensures { MatchOption result (seats_open self.now.standing self.now.ahead ≡ [])
+            (λ n. length (seats_open self.now.standing self.now.ahead) ≡ suc n) }
+    {
+        match self.standing {
+            CallStanding::Sent(_) => Some(self.ahead.len()),
+            _ => None,
+        }
+    }
+}
+
 // Refuses the call that waits.
 fn refuse(connection: &mut Connection, standing: &mut CallStanding) -> Result<(), ServeFault>
     requires may_refuse { MayRefuse connection.old.waiting }
     ensures ok { OnOk result (HasOutcome Refused connection.old connection.new × (standing.new ≡ Idle)) }
-    ensures err { OnErr result ((standing.new ≡ Over) ×
-        (connection.new ≡ record connection.old { failed = connection.new.failed })) }
+    ensures err { OnErr result ((standing.new ≡ Over) × (connection.new ≡ record connection.old { failed = true })) }
+    ensures fault { IfErr result (λ fault. fault ≡ Memory) }
 {
     match connection.refuse() {
         Ok(()) => {
@@ -514,14 +599,14 @@ fn ask(
     seen: &mut Told,
     pool: &mut SeatPool,
     call: Call,
-) -> Result<Option<Went>, ServeFault>
+) -> Result<Option<Pause>, ServeFault>
     requires idle { standing.old ≡ Idle }
     requires asking { IsAsking call.target call.op connection.old }
     requires known { IsLater seen.old pool.old.seen }
     ensures known { IsLater seen.new pool.new.seen }
     ensures later { IsLater pool.old.seen pool.new.seen }
     ensures ok { IfOk result (λ found. MatchOption found
-        ((outcome : Outcome) × CameTo IsReplied seen.old call outcome seen.new ×
+        ((outcome : Outcome) × CameTo IsPeeked seen.old call outcome seen.new ×
         HasOutcome outcome connection.old connection.new × (standing.new ≡ Idle))
         (λ went. (went ≡ Seat) × (standing.new ≡ Unsent call) × (connection.new ≡ connection.old) ×
         (seen.new ≡ seen.old))) }
@@ -531,6 +616,8 @@ fn ask(
         (λ went. (went ≡ Seat) × (connection.new ≡ connection.old))) }
     ensures once { HasLookedAtMostOnce pool.old.looks pool.new.looks }
     ensures unsent { HasSentNothing pool.old pool.new }
+    ensures unfailed { OnOk result (HasNoFault pool.old pool.new) }
+    ensures cause { IfErr result (λ fault. HasCause fault connection.new pool.old pool.new) }
     ensures err { OnErr result ((standing.new ≡ Over) × (seen.new ≡ seen.old) ×
         (connection.new ≡ record connection.old { failed = connection.new.failed })) }
 {
@@ -541,7 +628,7 @@ fn ask(
         }
         Ok(false) => {
             stand_at(standing, CallStanding::Unsent(call));
-            Ok(Some(Went::Seat))
+            Ok(Some(Pause::Seat))
         }
         Err(fault) => {
             drop(call);
@@ -594,6 +681,7 @@ fn give_back(standing: &mut CallStanding, pool: &mut SeatPool)
     ensures standing { standing.new ≡ Over }
     ensures pool { HasSameReader pool.old pool.new }
     ensures unsent { HasSentNothing pool.old pool.new }
+    ensures unfailed { HasNoFault pool.old pool.new }
 {
     match mem::replace(standing, CallStanding::Over) {
         CallStanding::Sent(submitter) => pool.put(submitter),
@@ -617,6 +705,7 @@ fn leave_one(standing: CallStanding, pool: &mut SeatPool)
     requires { HoldsAt pool.old.seen.instance standing }
     ensures reader { HasSameReader pool.old pool.new }
     ensures unsent { HasSentNothing pool.old pool.new }
+    ensures unfailed { HasNoFault pool.old pool.new }
 {
     match standing {
         CallStanding::Sent(submitter) => {

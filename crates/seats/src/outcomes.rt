@@ -1,22 +1,24 @@
 //! What one call of a connection comes to at once: it is refused, or has its reply.
-ghost use Rattle.std.specs.Prelude.{◌≡◌, true, IfOk, IsTrue, MatchBool, OnErr, OnOk};
+ghost use Rattle.std.specs.Prelude.{◌≡◌, true, IfErr, IfOk, IsSome, IsTrue, MatchBool, OnErr, OnOk};
 ghost use Rattle.proto.specs.Turns.{Outcome, Replied, is_store};
 ghost use Rattle.faces.specs.Histories.{IsLater};
 ghost use Rattle.faces.specs.Readers.{HasLookedAtMostOnce};
 ghost use Rattle.serving.specs.Connections.{HasOutcome, MayHave};
 ghost use Rattle.serving.specs.Serving.{CameTo};
+ghost use Rattle.serving.specs.declared.endings.ServeFault.TheVariants.{Memory};
 ghost use Rattle.serving.specs.Wanted.{IsAsking};
-ghost use Rattle.seats.specs.ClientConnections.{HasLookedFor, IsReplied};
-ghost use Rattle.seats.specs.SeatPools.{HasSentNothing};
+ghost use Rattle.seats.specs.ClientConnections.{HasCause, HasLookedFor, IsPeeked};
+ghost use Rattle.seats.specs.SeatPools.{HasNoFault, HasSentNothing};
 
 use crate::seat_pools::SeatPool;
 use rail::Told;
 use serving::{Connection, ServeFault, stores};
 use table::{Call, Reply};
 
-/// Whether a call is to be refused: it stores, and the pool has no room.
+/// Whether a call is to be refused: it stores, and the pool has no room, so there is a limit.
 pub(crate) fn is_refused(pool: &SeatPool, call: &Call) -> bool
-    ensures { IsTrue result → is_store call.now.op ≡ true }
+    ensures stores { IsTrue result → is_store call.now.op ≡ true }
+    ensures limit { IsTrue result → IsSome pool.now.limit }
 {
     stores(&call.op) && !pool.has_room()
 }
@@ -35,7 +37,7 @@ pub(crate) fn settle(
     ensures known { IsLater seen.new pool.new.seen }
     ensures later { IsLater pool.old.seen pool.new.seen }
     ensures ok { IfOk result (λ settled. MatchBool settled
-        ((outcome : Outcome) × CameTo IsReplied seen.old call.now outcome seen.new ×
+        ((outcome : Outcome) × CameTo IsPeeked seen.old call.now outcome seen.new ×
         HasOutcome outcome connection.old connection.new)
         ((connection.new ≡ connection.old) × (seen.new ≡ seen.old))) }
     // A reply that is handed on here is of the face that stood, and it was looked at once.
@@ -45,6 +47,8 @@ pub(crate) fn settle(
     // Whatever the answer: no look is forgotten, and at most one is made.
     ensures once { HasLookedAtMostOnce pool.old.looks pool.new.looks }
     ensures unsent { HasSentNothing pool.old pool.new }
+    ensures unfailed { OnOk result (HasNoFault pool.old pool.new) }
+    ensures cause { IfErr result (λ fault. HasCause fault connection.new pool.old pool.new) }
     ensures err { OnErr result ((seen.new ≡ seen.old) ×
         (connection.new ≡ record connection.old { failed = connection.new.failed })) }
 {
@@ -73,6 +77,7 @@ pub(crate) fn hand_on(
     requires may_have { MayHave connection.old.waiting reply }
     ensures ok { OnOk result (HasOutcome (Replied reply) connection.old connection.new × (seen.new ≡ pool.now.seen)) }
     ensures err { OnErr result ((seen.new ≡ seen.old) × (connection.new ≡ record connection.old { failed = true })) }
+    ensures fault { IfErr result (λ fault. fault ≡ Memory) }
 {
     let answered = connection.answer(&reply);
     drop(reply);

@@ -2,11 +2,11 @@
 ghost use Rattle.std.specs.Prelude.{◌≡◌, ◌<◌, ◌≤◌, ◌+◌, MatchBool, OnOk, vec_capacity, vec_len};
 ghost use Rattle.std.specs.VecDeque.{deque_capacity, deque_len};
 
-use crate::gauges::Gauge;
-use crate::marks::Mark;
 use crate::peeks::peek;
 use crate::submitters::Submitter;
+use ends::Failures;
 use rail::{CallSender, Reader, Seat, Told};
+use server_guards::{Gauge, Mark};
 use serving::CallFault;
 use std::alloc::{AllocError, Global};
 use std::collections::VecDeque;
@@ -17,7 +17,8 @@ use table::{Call, Reply};
 /// What one thread has at one server: a reader, a sender of calls, and seats that its connections take in turn. All
 /// calls of its seats go by its one sender, so the server takes them in the order in which they were sent. Contracts
 /// see what the reader has seen or was told of, at which faces it has looked, the sender with all that it sent, the
-/// seats that are here, and how many it has (`Pooling`). No seat is lost: one that isn't here was taken out.
+/// seats that are here, how many it has, the limit of its gauge, and how often a call got no reply (`Pooling`). No seat
+/// is lost: one that isn't here was taken out.
 #[derive(Drop)]
 pub struct SeatPool {
     reader: Reader,
@@ -26,6 +27,8 @@ pub struct SeatPool {
     mark: Mark,
     // Whether the server's items may take more memory.
     gauge: Gauge,
+    // How often a call got no reply, for contracts alone.
+    faults: Failures,
     // How many updates of a connection may be sent ahead of the first one's reply.
     most_ahead: usize,
     // How many seats it has, with those that were taken out.
@@ -56,6 +59,8 @@ impl Model for SeatPool {
       free = p.free.items;
       left = p.left.items;
       seats = p.seats;
+      limit = p.gauge.allowance.limit;
+      faults = p.faults;
     } };
 
     ghost invariant = { λ p.
@@ -65,7 +70,8 @@ impl Model for SeatPool {
 
 impl SeatPool {
     ghost use Rattle.std.specs.Prelude.{◌≡◌, ◌↔◌, ◌<◌, ◌++◌, ◌∷◌, [], None, Option, length};
-    ghost use Rattle.std.specs.Prelude.{IfOk, IfSome, IsErr, IsTrue, MatchOption, OnErr, OnOk, OnSome, Some, true};
+    ghost use Rattle.std.specs.Prelude.{IfOk, IfSome, IsErr, IsTrue, MatchOption, MatchResult, OnErr, OnOk, OnSome, Some};
+    ghost use Rattle.std.specs.Prelude.{true};
     ghost use Rattle.node.specs.Lawful.{IsCall};
     ghost use Rattle.table.specs.Items.{Item};
     ghost use Rattle.table.specs.declared.operations.Reply.TheVariants.{Value};
@@ -74,7 +80,7 @@ impl SeatPool {
     ghost use Rattle.seats.specs.Replies.{HasAllReplies, ShowsClean};
     ghost use Rattle.seats.specs.SeatPools.{HasAllSeats, HasSameReader, HasSameSeats, HasSentNothing, IsAt, IsFreeAt};
     ghost use Rattle.seats.specs.SeatPools.{IsOneOut, here, put_back, put_left, with_free, with_sent_call};
-    ghost use Rattle.seats.specs.SeatPools.{without_seats};
+    ghost use Rattle.seats.specs.SeatPools.{HasNoFault, HasOneFault, HasSameLimit, with_fault, without_seats};
     ghost use Rattle.seats.specs.Submitters.{IsAnswered, unused};
 
     /// A pool without seats, at the reader's server, which has this sender, this mark and this gauge.
@@ -86,13 +92,14 @@ impl SeatPool {
         gauge: Gauge,
     ) -> SeatPool
         requires { call_sender.instance ≡ reader.seen.instance }
-        ensures { result ≡ without_seats reader call_sender }
+        ensures { result ≡ without_seats reader call_sender gauge.allowance.limit }
     {
         SeatPool {
             reader,
             call_sender,
             mark,
             gauge,
+            faults: Failures::new(),
             most_ahead: 0,
             seats: 0,
             free: Vec::new(alloc),
@@ -140,8 +147,10 @@ impl SeatPool {
         self.most_ahead
     }
 
-    /// Whether a call that stores may be sent. If not, it is to be refused.
-    pub fn has_room(&self) -> bool {
+    /// Whether a call that stores may be sent. If not, it is to be refused. It always may if there is no limit.
+    pub fn has_room(&self) -> bool
+        ensures { self.now.limit ≡ None → result ≡ true }
+    {
         self.gauge.has_room()
     }
 
@@ -162,10 +171,13 @@ impl SeatPool {
         ensures once { HasLookedAtMostOnce self.old.looks self.new.looks }
         ensures seats { HasSameSeats self.old self.new }
         ensures unsent { HasSentNothing self.old self.new }
+        ensures limit { HasSameLimit self.old self.new }
+        ensures fault { MatchResult result (λ _. HasNoFault self.old self.new) (λ _. HasOneFault self.old self.new) }
     {
         let found = peek(&mut self.reader, call);
         if self.mark.is_set() {
             drop(found);
+            self.faults.rise();
             return Err(CallFault);
         }
         Ok(found)
@@ -213,6 +225,7 @@ impl SeatPool {
         ensures unsent { HasSentNothing self.old self.new }
         ensures taken { MatchOption result ((self.new ≡ self.old) × (self.old.free ≡ []))
             (λ seat. self.old ≡ put_back self.new seat) }
+        ensures unfailed { HasNoFault self.old self.new }
         ensures free { IfSome result (IsFreeAt self.old.seen.instance) }
         ensures out { OnSome result (IsOneOut self.new) }
     {
@@ -224,6 +237,7 @@ impl SeatPool {
         requires { IsFreeAt self.old.seen.instance free }
         ensures reader { HasSameReader self.old self.new }
         ensures unsent { HasSentNothing self.old self.new }
+        ensures unfailed { HasNoFault self.old self.new }
         ensures back { IsOneOut self.old → self.new ≡ put_back self.old free }
         ensures other { here self.old ≡ self.old.seats → self.new ≡ self.old }
     {
@@ -240,6 +254,7 @@ impl SeatPool {
         requires { IsAt self.old.seen.instance left }
         ensures reader { HasSameReader self.old self.new }
         ensures unsent { HasSentNothing self.old self.new }
+        ensures unfailed { HasNoFault self.old self.new }
         ensures back { IsOneOut self.old → self.new ≡ put_left self.old left }
         ensures other { here self.old ≡ self.old.seats → self.new ≡ self.old }
     {
@@ -263,10 +278,17 @@ impl SeatPool {
         ensures sent { OnOk result (self.new ≡ with_sent_call self.old submitter.old.seat.port call) }
         ensures waits { OnOk result (submitter.new ≡
             record submitter.old { waiting = Some (record { sender = self.old.sender; call = call }) }) }
-        ensures err { OnErr result ((submitter.new ≡ record submitter.old { lost = true }) × (self.new ≡ self.old)) }
+        ensures err { OnErr result
+            ((submitter.new ≡ record submitter.old { lost = true }) × (self.new ≡ with_fault self.old)) }
         ensures spent { submitter.old.lost ≡ true → IsErr result }
     {
-        submitter.submit(rt, &mut self.call_sender, call)
+        match submitter.submit(rt, &mut self.call_sender, call) {
+            Ok(()) => Ok(()),
+            Err(fault) => {
+                self.faults.rise();
+                Err(fault)
+            }
+        }
     }
 
     /// The reply to the open call of a seat that was taken out, as `Submitter::take` says.
@@ -285,8 +307,15 @@ impl SeatPool {
             ((submitter.new ≡ submitter.old) × (self.new ≡ self.old))
             (λ reply. IsAnswered self.old.seen self.new.seen submitter.old submitter.new reply)) }
         ensures lost { OnErr result (submitter.new.waiting ≡ None) }
+        ensures fault { MatchResult result (λ _. HasNoFault self.old self.new) (λ _. HasOneFault self.old self.new) }
     {
-        submitter.take(rt, &mut self.reader)
+        match submitter.take(rt, &mut self.reader) {
+            Ok(reply) => Ok(reply),
+            Err(fault) => {
+                self.faults.rise();
+                Err(fault)
+            }
+        }
     }
 }
 

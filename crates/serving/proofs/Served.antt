@@ -7,12 +7,12 @@ use Rattle.serving.specs.Serving.{AreAnswered, CameTo}
 use Rattle.serving.specs.Connections.{Connected, HasOutcome}
 
 -- the first call of a list, or this one
-abbrev first_or : Call → List Call → Call
+abbrev pub first_or : Call → List Call → Call
 first_or d [] = d
 first_or d (c ∷ cs) = c
 
 -- the others
-abbrev others : List Call → List Call
+abbrev pub others : List Call → List Call
 others [] = []
 others (c ∷ cs) = cs
 

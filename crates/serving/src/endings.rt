@@ -19,6 +19,12 @@ pub enum ServeFault {
     /// No memory was left.
     #[error("out of memory")]
     Memory,
+    /// A read failed.
+    #[error("the input can't be read")]
+    Read,
+    /// A write failed.
+    #[error("the output can't be written")]
+    Write,
     /// A call got no reply.
     #[error("a call got no reply")]
     Call,

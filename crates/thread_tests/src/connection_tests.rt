@@ -38,22 +38,6 @@ fn any_pace_writes_the_same(rt: HostRuntime) -> Result<(), Fail> {
     holds(is_the_same_at_each(rt.alloc(), 9))
 }
 
-static ENDS: Served = Served {
-    requests: b"get a\r\nget b",
-    reads: 64,
-    writes: 64,
-    items: usize::MAX,
-    end: End::Input,
-    replies: b"END\r\n",
-    calls: 1,
-    refused: 0,
-};
-
-#[test]
-fn an_input_that_ends_in_a_request(rt: HostRuntime) -> Result<(), Fail> {
-    holds(is_served(rt.alloc(), ENDS))
-}
-
 // Without room a set is refused, and isn't made; silently, if it is silent.
 static REFUSED: Served = Served {
     requests: b"set a 5 0 3\r\nxyz\r\nset a 5 0 3 noreply\r\nxyz\r\nget a\r\nincr a 1\r\nquit\r\n",

@@ -11,8 +11,22 @@ mod ending;
 #[cfg(test)]
 mod faces_tests;
 #[cfg(test)]
+mod incoming_link_tests;
+#[cfg(test)]
+mod link_stream_tests;
+#[cfg(test)]
+mod peer_link_tests;
+#[cfg(test)]
+mod peer_port_tests;
+#[cfg(test)]
 mod peers_tests;
 #[cfg(test)]
 mod rail_tests;
 #[cfg(test)]
+mod seat_caller_tests;
+#[cfg(test)]
+mod seat_thread_tests;
+#[cfg(test)]
 mod serving_tests;
+#[cfg(test)]
+mod stream_tests;

@@ -290,22 +290,6 @@ fn has_made(left: &Left, calls: usize, refused: usize) -> bool {
     left.counts.calls == calls && left.counts.refused == refused
 }
 
-static CUT: Served = Served {
-    requests: b"get a\r\nget b",
-    reads: FEW,
-    writes: FEW,
-    items: usize::MAX,
-    end: End::Input,
-    replies: b"END\r\n",
-    calls: 1,
-    refused: 0,
-};
-
-#[test]
-fn a_request_that_is_cut_has_no_reply(rt: HostRuntime) -> Result<(), Fail> {
-    holds(is_served(rt.alloc(), CUT))
-}
-
 // A table with room for one item: until that is deleted, what would store is refused, silently if it is silent, and
 // changes nothing. All else goes on.
 static WITHOUT_ROOM: Served = Served {

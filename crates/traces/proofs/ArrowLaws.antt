@@ -23,14 +23,13 @@ laid_puts : (row : ℕ) (takes : List Crossing) (place : ℕ) (puts : List Cross
     → map stands_for (laid row takes place puts) ≡ puts
 laid_puts row takes place [] = refl
 laid_puts row takes place (p ∷ ps) =
-    ap (λ q. q ∷ map stands_for (laid (row_laid row (slice_get takes place)) takes (place + 1) ps))
-    (one_put row p (slice_get takes place))
-    ∙ ap (λ qs. p ∷ qs) (laid_puts (row_laid row (slice_get takes place)) takes (place + 1) ps)
+    let after = row_laid row (arrow_of row p (slice_get takes place)) in
+    ap (λ q. q ∷ map stands_for (laid after takes (place + 1) ps)) (one_put row p (slice_get takes place))
+    ∙ ap (λ qs. p ∷ qs) (laid_puts after takes (place + 1) ps)
 
 -- those of all ways
 pub laid_from_puts : (puts takes : List Crossing) (row : ℕ) (ways : List Way)
     → map stands_for (laid_from puts takes row ways) ≡ flat_map (λ w. only_on w puts) ways
-unfolding laid_on
 laid_from_puts puts takes row [] = refl
 laid_from_puts puts takes row (w ∷ ws) =
     map-append stands_for (laid_on puts takes row w) (laid_from puts takes (row_laid_on puts takes row w) ws)

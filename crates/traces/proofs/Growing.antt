@@ -21,6 +21,9 @@ one_mapped_more front f n =
     ap (λ xs. front ++ xs) (map-range_with_len_more f 0 n n (omega arith))
     ∙ sym (append_assoc front (map f (first_numbers n)) (f n ∷ []))
 
+-- what loops over numbers add
+pub ruleset ways_more = (one_more, one_mapped_more)
+
 -- what a further element adds
 pub first_more : {X : Type 0} (front : List ℕ) (f : X → List ℕ) (xs : List X) (k : ℕ) (x : X)
     → slice_get xs k ≡ Some x

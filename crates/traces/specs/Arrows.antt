@@ -1,6 +1,6 @@
 -- The arrows of a picture: one for each thing that was put, from where it was put to where it was taken.
 use Rattle.std.specs.Prelude.{◌≡◌, ℕ, ◌+◌, ◌<◌, true, false, List, [], ◌∷◌, ◌++◌, length, map, flat_map, slice_get}
-use Rattle.std.specs.Prelude.{Option, None, Some}
+use Rattle.std.specs.Prelude.{Option, None, Some, if◌then◌else◌}
 use Rattle.world.specs.declared.events.Event.{Event}
 use Rattle.world.specs.declared.event_effects.EventEffect.{EventEffect}
 use Rattle.world.specs.EventEffects.{TraceShown}
@@ -17,29 +17,30 @@ unfoldable pub arrow_of : ℕ → Crossing → Option Crossing → Arrow
 arrow_of row put None = record { put = put; row = row; came = false }
 arrow_of row put (Some taken) = record { put = put; row = taken.row; came = true }
 
--- an arrow in flight has a row of its own
-unfoldable pub row_laid : ℕ → Option Crossing → ℕ
-row_laid row None = next row
-row_laid row (Some taken) = row
+-- the row after an arrow that was laid at this one: an arrow in flight has a row of its own
+unfoldable pub row_laid : ℕ → Arrow → ℕ
+row_laid row arrow = if arrow.came then row else next row
 
 -- The arrows of one way: what is put on it first is taken first. The first of these puts is the one of this place among
 -- all on the way.
 abbrev pub laid : ℕ → List Crossing → ℕ → List Crossing → List Arrow
 laid row takes place [] = []
 laid row takes place (p ∷ ps) =
-    arrow_of row p (slice_get takes place) ∷ laid (row_laid row (slice_get takes place)) takes (place + 1) ps
+    let arrow = arrow_of row p (slice_get takes place) in
+    arrow ∷ laid (row_laid row arrow) takes (place + 1) ps
 
 -- the row after them
 abbrev pub row_laid_all : ℕ → List Crossing → ℕ → List Crossing → ℕ
 row_laid_all row takes place [] = row
-row_laid_all row takes place (p ∷ ps) = row_laid_all (row_laid row (slice_get takes place)) takes (place + 1) ps
+row_laid_all row takes place (p ∷ ps) =
+    row_laid_all (row_laid row (arrow_of row p (slice_get takes place))) takes (place + 1) ps
 
 -- the arrows of a way, of what was put and what was taken
-unfoldable pub laid_on : List Crossing → List Crossing → ℕ → Way → List Arrow
+abbrev pub laid_on : List Crossing → List Crossing → ℕ → Way → List Arrow
 laid_on puts takes row w = laid row (only_on w takes) 0 (only_on w puts)
 
 -- the row after them
-unfoldable pub row_laid_on : List Crossing → List Crossing → ℕ → Way → ℕ
+abbrev pub row_laid_on : List Crossing → List Crossing → ℕ → Way → ℕ
 row_laid_on puts takes row w = row_laid_all row (only_on w takes) 0 (only_on w puts)
 
 -- the arrows of ways, one way after another
@@ -63,11 +64,11 @@ abbrev pub link_way : ℕ → ℕ → Way
 link_way i j = from_to (Server i) (Server j)
 
 -- those from server i to the servers below a count
-unfoldable pub links_from : ℕ → ℕ → List Way
+abbrev pub links_from : ℕ → ℕ → List Way
 links_from count i = map (link_way i) (first_numbers count)
 
 -- those from each server of a chain of n to each
-unfoldable pub links_of : ℕ → List Way
+abbrev pub links_of : ℕ → List Way
 links_of count = flat_map (links_from count) (first_numbers count)
 
 -- all ways between the lanes of a picture

@@ -5,7 +5,6 @@ pub mod Ends
 pub mod Printing
 pub mod Crossings
 pub mod Arrows
-pub mod Points
 pub mod Glyphs
 pub mod Columns
 pub mod Pictures

@@ -1,21 +1,19 @@
-//! The glyphs of a picture: all that stands in it beside its arrows.
+//! The glyphs of a picture, in SVG 1.1: all that stands in it beside its arrows.
 ghost use Rattle.std.specs.Prelude.{◌≡◌, ◌++◌, OnOk, flat_map};
-ghost use Rattle.traces.specs.Glyphs.{
-  circle_text,
-  diamond_text,
-  label_text,
-  lane_name,
-  line_text,
-  glyph_text,
-  name_text,
-};
-ghost use Rattle.traces.specs.Glyphs.{paint_text, painted, points_text, text_paint, words_text};
+ghost use Rattle.std.specs.String.{string_bytes};
+ghost use Rattle.traces.specs.Glyphs.{circle_text, diamond_text, glyph_text, line_text, marked_up, name_text};
+ghost use Rattle.traces.specs.Glyphs.{paint_text, shown_text, words_text};
 
 use crate::crossings::Lane;
-use crate::points::{Point, put_anchor, put_ends, put_point, put_shown};
+use crate::points::Point;
 use crate::texts::Text;
-use std::alloc::{AllocError, Global};
-use std::marker::Model;
+use std::alloc::AllocError;
+
+/// The most bytes of an event's line that are shown.
+const LINE_BYTES: usize = 44;
+
+/// The most bytes of a label at a lane.
+const LABEL_BYTES: usize = 21;
 
 /// The colors of a glyph.
 #[derive(Clone, Copy)]
@@ -55,61 +53,19 @@ pub enum Glyph {
     Line(Point, Point, Paint),
     /// A circle of this radius round a point.
     Circle(Point, usize, Paint),
-    /// A diamond of these points: the top, the right, the bottom and the left.
-    Diamond(Point, Point, Point, Point, Paint),
-    /// Words that begin at a point: at most n bytes of them.
-    Words(Point, Paint, Text, usize),
-    /// The same over a white edge.
-    Label(Point, Paint, Text, usize),
+    /// A diamond round a point.
+    Diamond(Point, Paint),
+    /// Words that begin at a point: at most 44 bytes of them.
+    Words(Point, Paint, Text),
+    /// At most 21 bytes of them, over a white edge.
+    Label(Point, Paint, Text),
     /// The name of a lane.
     Name(Point, Lane),
 }
 
-/// Glyphs, in the order in which they are drawn. Contracts see a list.
-#[derive(Drop)]
-pub struct Glyphs {
-    glyphs: Vec<Glyph>,
-}
-
-impl Model for Glyphs {
-    ghost use Rattle.std.specs.Prelude.{List};
-    ghost use Rattle.traces.specs.declared.glyphs.Glyph.{Glyph};
-
-    ghost Value = { List Glyph };
-
-    ghost view = { λ m. m.glyphs.items };
-}
-
-impl Glyphs {
-    ghost use Rattle.std.specs.Prelude.{◌≡◌, [], ◌∷◌, ◌++◌, OnOk};
-
-    /// No glyph.
-    pub fn new(alloc: Global) -> Glyphs
-        ensures { result ≡ [] }
-    {
-        Glyphs {
-            glyphs: Vec::new(alloc),
-        }
-    }
-
-    /// Adds a glyph.
-    pub fn push(&mut self, glyph: Glyph) -> Result<(), AllocError>
-        ensures { OnOk result (self.new ≡ self.old ++ glyph ∷ []) }
-    {
-        Ok(self.glyphs.push(glyph)?)
-    }
-
-    /// All of them.
-    pub fn as_slice(&self) -> &[Glyph]
-        ensures { result.now ≡ self.now }
-    {
-        self.glyphs.as_slice()
-    }
-}
-
 /// Adds glyphs, one after another.
-pub fn put_glyphs(out: &mut Text, glyphs: &[Glyph]) -> Result<(), AllocError>
-    ensures { OnOk result (out.new ≡ out.old ++ flat_map glyph_text glyphs.now) }
+pub fn put_glyphs(out: &mut String, glyphs: &[Glyph]) -> Result<(), AllocError>
+    ensures { OnOk result (string_bytes out.new ≡ string_bytes out.old ++ flat_map glyph_text glyphs.now) }
 {
     for glyph in glyphs {
         put_glyph(out, glyph)?;
@@ -118,160 +74,142 @@ pub fn put_glyphs(out: &mut Text, glyphs: &[Glyph]) -> Result<(), AllocError>
 }
 
 #[tactic(auto, unfolding(crate::specs::Glyphs::glyph_text))]
-fn put_glyph(out: &mut Text, glyph: &Glyph) -> Result<(), AllocError>
-    ensures { OnOk result (out.new ≡ out.old ++ glyph_text glyph.now) }
+fn put_glyph(out: &mut String, glyph: &Glyph) -> Result<(), AllocError>
+    ensures { OnOk result (string_bytes out.new ≡ string_bytes out.old ++ glyph_text glyph.now) }
 {
     match glyph {
-        Glyph::Line(from, to, paint) => put_line(out, *from, *to, *paint),
-        Glyph::Circle(at, radius, paint) => put_circle(out, *at, *radius, *paint),
-        Glyph::Diamond(top, right, bottom, left, paint) => {
-            put_diamond(out, *top, *right, *bottom, *left, *paint)
+        Glyph::Line(from, to, paint) => put_line(out, *from, *to, attributes(*paint)),
+        Glyph::Circle(at, radius, paint) => put_circle(out, *at, *radius, attributes(*paint)),
+        Glyph::Diamond(at, paint) => put_diamond(out, *at, attributes(*paint)),
+        Glyph::Words(at, paint, words) => put_words(out, *at, *paint, words, LINE_BYTES),
+        Glyph::Label(at, paint, words) => {
+            put_words(out, *at, Paint::Edge, words, LABEL_BYTES)?;
+            put_words(out, *at, *paint, words, LABEL_BYTES)
         }
-        Glyph::Words(at, paint, words, most) => put_words(out, *at, *paint, words, *most),
-        Glyph::Label(at, paint, words, most) => put_label(out, *at, *paint, words, *most),
-        Glyph::Name(at, lane) => put_name(out, *at, *lane),
+        Glyph::Name(at, Lane::Server(i)) => put_name(out, *at, "server", *i),
+        Glyph::Name(at, Lane::Connection(c)) => put_name(out, *at, "connection", *c),
     }
 }
 
+// Colors, as attributes.
 #[tactic(auto, unfolding(crate::specs::Glyphs::paint_text))]
-fn paint_text(paint: Paint) -> &'static [u8]
+fn attributes(paint: Paint) -> &'static str
     ensures { result.now ≡ paint_text paint }
 {
     match paint {
-        Paint::Lane => b"stroke=\"#bbbbbb\"",
-        Paint::ServerLane => b"stroke=\"#777777\" stroke-width=\"2\"",
-        Paint::FailedLane => b"stroke=\"#cccccc\" stroke-dasharray=\"2 5\"",
-        Paint::Failure => b"stroke=\"#c62828\" stroke-width=\"3\"",
-        Paint::Notice => b"fill=\"#c62828\"",
-        Paint::Begun => b"fill=\"white\" stroke=\"black\"",
-        Paint::Came => b"fill=\"#777777\"",
-        Paint::Answered => b"fill=\"#2e7d32\"",
-        Paint::Committed => b"fill=\"#ef6c00\"",
-        Paint::Plain => b"fill=\"black\"",
-        Paint::Pale => b"fill=\"#999999\"",
-        Paint::Value => b"fill=\"#2e7d32\" font-weight=\"bold\"",
-        Paint::Edge => {
-            b"fill=\"white\" stroke=\"white\" stroke-width=\"4\" stroke-linejoin=\"round\""
-        }
+        Paint::Lane => r##"stroke="#bbbbbb""##,
+        Paint::ServerLane => r##"stroke="#777777" stroke-width="2""##,
+        Paint::FailedLane => r##"stroke="#cccccc" stroke-dasharray="2 5""##,
+        Paint::Failure => r##"stroke="#c62828" stroke-width="3""##,
+        Paint::Notice => r##"fill="#c62828""##,
+        Paint::Begun => r#"fill="white" stroke="black""#,
+        Paint::Came => r##"fill="#777777""##,
+        Paint::Answered => r##"fill="#2e7d32""##,
+        Paint::Committed => r##"fill="#ef6c00""##,
+        Paint::Plain => r#"fill="black""#,
+        Paint::Pale => r##"fill="#999999""##,
+        Paint::Value => r##"fill="#2e7d32" font-weight="bold""##,
+        Paint::Edge => r#"fill="white" stroke="white" stroke-width="4" stroke-linejoin="round""#,
     }
 }
 
-fn put_colors(out: &mut Text, paint: Paint) -> Result<(), AllocError>
-    ensures { OnOk result (out.new ≡ out.old ++ paint_text paint) }
-{
-    out.put(paint_text(paint))
-}
-
-// The colors with which an element ends.
-fn put_painted(out: &mut Text, paint: Paint) -> Result<(), AllocError>
-    ensures { OnOk result (out.new ≡ out.old ++ painted paint) }
-{
-    out.put(b"\" ")?;
-    put_colors(out, paint)?;
-    out.put(b"/>\n")
-}
-
+/// Adds a line with these attributes.
 #[tactic(auto, unfolding(crate::specs::Glyphs::line_text))]
-fn put_line(out: &mut Text, from: Point, to: Point, paint: Paint) -> Result<(), AllocError>
-    ensures { OnOk result (out.new ≡ out.old ++ line_text from to paint) }
+pub fn put_line(out: &mut String, from: Point, to: Point, style: &str) -> Result<(), AllocError>
+    ensures { OnOk result (string_bytes out.new ≡ string_bytes out.old ++ line_text from to style.now) }
 {
-    put_ends(out, from, to)?;
-    put_painted(out, paint)
+    writeln!(
+        out,
+        r#"<line x1="{}" y1="{}" x2="{}" y2="{}" {style}/>"#,
+        from.x, from.y, to.x, to.y
+    )
 }
 
-fn put_circle(out: &mut Text, at: Point, radius: usize, paint: Paint) -> Result<(), AllocError>
-    ensures { OnOk result (out.new ≡ out.old ++ circle_text at radius paint) }
+#[tactic(auto, unfolding(crate::specs::Glyphs::circle_text))]
+fn put_circle(out: &mut String, at: Point, radius: usize, style: &str) -> Result<(), AllocError>
+    ensures { OnOk result (string_bytes out.new ≡ string_bytes out.old ++ circle_text at radius style.now) }
 {
-    out.numbered(b"<circle cx=\"", at.x)?;
-    out.numbered(b"\" cy=\"", at.y)?;
-    out.numbered(b"\" r=\"", radius)?;
-    put_painted(out, paint)
+    let Point { x, y } = at;
+    writeln!(out, r#"<circle cx="{x}" cy="{y}" r="{radius}" {style}/>"#)
 }
 
-fn put_diamond(
-    out: &mut Text,
-    top: Point,
-    right: Point,
-    bottom: Point,
-    left: Point,
-    paint: Paint,
-) -> Result<(), AllocError>
-    ensures { OnOk result (out.new ≡ out.old ++ diamond_text top right bottom left paint) }
+#[tactic(auto, unfolding(crate::specs::Glyphs::diamond_text))]
+fn put_diamond(out: &mut String, at: Point, style: &str) -> Result<(), AllocError>
+    ensures { OnOk result (string_bytes out.new ≡ string_bytes out.old ++ diamond_text at style.now) }
 {
-    out.put(b"<polygon points=\"")?;
-    put_points(out, top, right, bottom, left)?;
-    put_painted(out, paint)
+    let Point { x, y } = at;
+    let (top, bottom) = (y.saturating_sub(6), y.saturating_add(6));
+    let (left, right) = (x.saturating_sub(6), x.saturating_add(6));
+    writeln!(
+        out,
+        r#"<polygon points=" {x},{top} {right},{y} {x},{bottom} {left},{y}" {style}/>"#
+    )
 }
 
-#[tactic(auto, unfolding(crate::specs::Glyphs::points_text))]
-fn put_points(
-    out: &mut Text,
-    top: Point,
-    right: Point,
-    bottom: Point,
-    left: Point,
-) -> Result<(), AllocError>
-    ensures { OnOk result (out.new ≡ out.old ++ points_text top right bottom left) }
-{
-    put_point(out, top)?;
-    put_point(out, right)?;
-    put_point(out, bottom)?;
-    put_point(out, left)
-}
-
+// Words that begin at a point: at most n bytes of them.
+#[tactic(auto, unfolding(crate::specs::Glyphs::words_text))]
 fn put_words(
-    out: &mut Text,
+    out: &mut String,
     at: Point,
     paint: Paint,
     words: &Text,
     most: usize,
 ) -> Result<(), AllocError>
-    ensures { OnOk result (out.new ≡ out.old ++ words_text at paint words.now most) }
+    ensures { OnOk result
+        (string_bytes out.new ≡ string_bytes out.old ++ words_text at (paint_text paint) words.now most) }
 {
-    put_anchor(out, at)?;
-    put_text_paint(out, paint)?;
-    put_shown(out, words, most)?;
-    out.put(b"</text>\n")
+    let (Point { x, y }, style) = (at, attributes(paint));
+    write!(out, r#"<text x="{x}" y="{y}" {style}>"#)?;
+    put_shown(out, words.as_slice(), most)?;
+    out.push_str("</text>\n")
 }
 
-// The colors of a text.
-fn put_text_paint(out: &mut Text, paint: Paint) -> Result<(), AllocError>
-    ensures { OnOk result (out.new ≡ out.old ++ text_paint paint) }
+// A text: at most n of its bytes, and two dots if there are more.
+#[tactic(auto, unfolding(crate::specs::Glyphs::shown_text))]
+fn put_shown(out: &mut String, words: &[u8], most: usize) -> Result<(), AllocError>
+    ensures { OnOk result (string_bytes out.new ≡ string_bytes out.old ++ shown_text words.now most) }
 {
-    out.put(b"\" ")?;
-    put_colors(out, paint)?;
-    out.put(b">")
-}
-
-#[tactic(auto, unfolding(crate::specs::Glyphs::label_text))]
-fn put_label(
-    out: &mut Text,
-    at: Point,
-    paint: Paint,
-    words: &Text,
-    most: usize,
-) -> Result<(), AllocError>
-    ensures { OnOk result (out.new ≡ out.old ++ label_text at paint words.now most) }
-{
-    put_words(out, at, Paint::Edge, words, most)?;
-    put_words(out, at, paint, words, most)
-}
-
-fn put_name(out: &mut Text, at: Point, lane: Lane) -> Result<(), AllocError>
-    ensures { OnOk result (out.new ≡ out.old ++ name_text at lane) }
-{
-    put_anchor(out, at)?;
-    out.put(b"\" font-weight=\"bold\">")?;
-    put_lane_name(out, lane)?;
-    out.put(b"</text>\n")
-}
-
-#[tactic(auto, unfolding(crate::specs::Glyphs::lane_name))]
-fn put_lane_name(out: &mut Text, lane: Lane) -> Result<(), AllocError>
-    ensures { OnOk result (out.new ≡ out.old ++ lane_name lane) }
-{
-    match lane {
-        Lane::Server(i) => out.numbered(b"server ", i),
-        Lane::Connection(c) => out.numbered(b"connection ", c),
+    if words.len() <= most {
+        return put_marked_up(out, words);
     }
+    put_marked_up(out, &words[..most])?;
+    out.push_str("..")
+}
+
+// Bytes as the text of an element: what XML gives a meaning is spelled by its entity, and what XML 1.0 has no character
+// for, or no single byte in UTF-8, is a question mark. Texts in the escapes of transcripts have none of these.
+fn put_marked_up(out: &mut String, words: &[u8]) -> Result<(), AllocError>
+    ensures { OnOk result (string_bytes out.new ≡ string_bytes out.old ++ flat_map marked_up words.now) }
+{
+    for b in words {
+        put_byte(out, *b)?;
+    }
+    Ok(())
+}
+
+#[tactic(auto, unfolding(crate::specs::Glyphs::marked_up))]
+fn put_byte(out: &mut String, b: u8) -> Result<(), AllocError>
+    ensures { OnOk result (string_bytes out.new ≡ string_bytes out.old ++ marked_up b) }
+{
+    match b {
+        b'&' => out.push_str("&amp;"),
+        b'<' => out.push_str("&lt;"),
+        b'>' => out.push_str("&gt;"),
+        b'"' => out.push_str("&quot;"),
+        b'\'' => out.push_str("&apos;"),
+        b' '..=b'~' => out.push(char::from(b)),
+        _ => out.push_str("?"),
+    }
+}
+
+// The name of a lane.
+#[tactic(auto, unfolding(crate::specs::Glyphs::name_text))]
+fn put_name(out: &mut String, at: Point, word: &str, number: usize) -> Result<(), AllocError>
+    ensures { OnOk result (string_bytes out.new ≡ string_bytes out.old ++ name_text at word.now number) }
+{
+    let Point { x, y } = at;
+    writeln!(
+        out,
+        r#"<text x="{x}" y="{y}" font-weight="bold">{word} {number}</text>"#
+    )
 }

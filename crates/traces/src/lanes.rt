@@ -1,6 +1,6 @@
 //! Where the lanes of a picture stand, and its rows.
 ghost use Rattle.std.specs.Prelude.{◌≡◌};
-ghost use Rattle.traces.specs.Columns.{number_at, row_height};
+ghost use Rattle.traces.specs.Columns.{point_at, row_height};
 
 use crate::crossings::Lane;
 use crate::points::Point;
@@ -40,53 +40,37 @@ impl Model for Lanes {
 
 impl Lanes {
     ghost use Rattle.std.specs.Prelude.{◌≡◌};
-    ghost use Rattle.traces.specs.Columns.{column, point};
+    ghost use Rattle.traces.specs.Columns.{point};
 
     /// The lanes of a chain of `count` servers, with a connection at each of these homes.
     pub fn new(alloc: Global, count: usize, homes: &[usize]) -> Result<Lanes, AllocError> {
-        let mut lanes = Lanes {
-            servers: Vec::new(alloc),
-            connections: vec![in alloc; MARGIN; homes.len()]?,
-            width: MARGIN,
-        };
+        let mut servers = Vec::new(alloc);
+        let mut connections = vec![in alloc; MARGIN; homes.len()]?;
+        let mut width = MARGIN;
         for i in 0..count {
-            lanes.place_connections(i, homes);
-            lanes.servers.push(lanes.width)?;
-            lanes.width = lanes.width.saturating_add(SERVER_WIDTH);
-        }
-        Ok(lanes)
-    }
-
-    // The connections at server i stand next.
-    fn place_connections(&mut self, i: usize, homes: &[usize]) {
-        for (c, home) in homes.iter().enumerate() {
-            if *home == i
-                && let Some(x) = self.connections.get_mut(c)
-            {
-                *x = self.width;
-                self.width = self.width.saturating_add(CONNECTION_WIDTH);
+            for (x, home) in connections.iter_mut().zip(homes) {
+                if *home == i {
+                    *x = width;
+                    width = width.saturating_add(CONNECTION_WIDTH);
+                }
             }
+            servers.push(width)?;
+            width = width.saturating_add(SERVER_WIDTH);
         }
+        Ok(Lanes {
+            servers,
+            connections,
+            width,
+        })
     }
 
     /// A lane at the row of an event.
     pub fn point(&self, lane: Lane, row: usize) -> Point
         ensures { result ≡ point self.now lane row }
     {
-        Point {
-            x: self.column(lane),
-            y: row_height(row),
-        }
-    }
-
-    // From the left edge to a lane.
-    #[tactic(auto, unfolding(crate::specs::Columns::column))]
-    fn column(&self, lane: Lane) -> usize
-        ensures { result ≡ column self.now lane }
-    {
         match lane {
-            Lane::Server(i) => number_at(self.servers.as_slice(), i),
-            Lane::Connection(c) => number_at(self.connections.as_slice(), c),
+            Lane::Server(i) => point_at(self.servers.as_slice(), i, row),
+            Lane::Connection(c) => point_at(self.connections.as_slice(), c, row),
         }
     }
 
@@ -98,12 +82,13 @@ impl Lanes {
     }
 }
 
-fn number_at(numbers: &[usize], place: usize) -> usize
-    ensures { result ≡ number_at numbers.now place }
+// The lane that has this place among some, at a row.
+fn point_at(columns: &[usize], place: usize, row: usize) -> Point
+    ensures { result ≡ point_at columns.now place row }
 {
-    match numbers.get(place) {
-        Some(x) => *x,
-        None => MARGIN,
+    Point {
+        x: columns.get(place).copied().unwrap_or(MARGIN),
+        y: row_height(row),
     }
 }
 

@@ -30,8 +30,8 @@ pub fn print_trace(alloc: Global, events: &[Event], trace: Trace) -> Result<Vec<
     Ok(text.into_bytes())
 }
 
-// How many servers a chain has, at most 16.
-fn chain_count(servers: usize) -> u8
+/// How many servers a chain has, at most 16.
+pub fn chain_count(servers: usize) -> u8
     ensures count { result ≡ chain_count servers }
     ensures most { result ≤ 16 }
 {

@@ -19,6 +19,7 @@ use Rattle.node.specs.declared.messages.Body.TheVariants as bodies
 use Rattle.wire.specs.declared.fields.Stop.TheVariants.{Malformed}
 use Rattle.wire.specs.declared.frames.Frame.{Frame}
 use Rattle.wire.specs.declared.frames.Frame.TheVariants.{Hello, Peer, Gone, Accepted, Refused, Noted, Reign}
+use Rattle.wire.specs.declared.frames.Frame.TheVariants.{Confirmed, Stalled}
 use Rattle.wire.specs.declared.frames.Frame.TheVariants as frames
 use Rattle.wire.specs.declared.greetings.Reason.TheVariants as reasons
 use Rattle.wire.specs.Parts.{Part, followed, makes, refused, either, byte, number, bytes_of, text_of}
@@ -28,7 +29,7 @@ use Rattle.wire.specs.Fronts.{Read, ◌>>=◌, byte_at, number_at, bytes_at, tex
 use Rattle.wire.specs.Fronts.{flagged_at, key_operation_at, op_at, key_reply_at, reply_at, key_change_at, change_at}
 use Rattle.wire.specs.Fronts.{op_body_at, forward_body_at, ack_body_at, query_body_at, answer_body_at, body_at}
 use Rattle.wire.specs.Fronts.{message_at, introduction_at, acceptance_at, refusal_of_at, refusal_at, beat_at, alive_at}
-use Rattle.wire.specs.Fronts.{silence_at, watching_at, greeting_at, of_kind_at}
+use Rattle.wire.specs.Fronts.{silence_at, link_at, watching_at, greeting_at, of_kind_at}
 use Rattle.wire.proofs.Readers.{IsReader, in_turn, made, refusing, chosen}
 use Rattle.wire.proofs.FieldReaders.{byte_reader, number_reader, bytes_reader, text_reader, wide16, wide32, wide64}
 
@@ -276,13 +277,20 @@ silence_reader = in_turn (number_at w64 any) (number w64 any) _ _ any64_reader
     (λ epoch. mapped (byte_at (below 16)) (byte (below 16)) (λ id. frames.Silent (record { epoch = epoch; id = id }))
     (byte_reader (below 16)))
 
+link_reader : (kind : ℕ) → IsReader (link_at kind) (format.link kind)
+unfolding link_at
+link_reader kind =
+    chosen (kind == 15) _ _ _ _ (amount_reader Confirmed)
+    (chosen (kind == 16) _ _ _ _ (mapped (number_at w16 any) (number w16 any) Stalled any16_reader) refusing)
+
 watching_reader : (kind : ℕ) → IsReader (watching_at kind) (format.watching kind)
 unfolding watching_at
 watching_reader kind =
     chosen (kind == 11) _ _ _ _ (amount_reader Reign)
     (chosen (kind == 12) beat_at _ format.beat _ beat_reader
     (chosen (kind == 13) alive_at _ format.alive _ alive_reader
-    (chosen (kind == 14) silence_at _ format.silence _ silence_reader refusing)))
+    (chosen (kind == 14) silence_at (link_at kind) format.silence (format.link kind) silence_reader
+    (link_reader kind))))
 
 greeting_reader : (kind : ℕ) → IsReader (greeting_at kind) (format.greeting kind)
 unfolding greeting_at

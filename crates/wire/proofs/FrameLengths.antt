@@ -22,6 +22,7 @@ use Rattle.node.specs.declared.messages.Body.TheVariants as bodies
 use Rattle.wire.specs.declared.fields.Stop.TheVariants.{Short, Malformed, Old}
 use Rattle.wire.specs.declared.frames.Frame.{Frame}
 use Rattle.wire.specs.declared.frames.Frame.TheVariants.{Hello, Peer, Gone, Accepted, Refused, Noted, Reign}
+use Rattle.wire.specs.declared.frames.Frame.TheVariants.{Confirmed, Stalled}
 use Rattle.wire.specs.declared.frames.Frame.TheVariants as frames
 use Rattle.wire.specs.declared.greetings.Reason.TheVariants as reasons
 use Rattle.wire.specs.Spellings.{IsFrame, spelling}
@@ -31,7 +32,7 @@ use Rattle.wire.specs.Fronts.{Read, ◌>>=◌, byte_at, number_at, bytes_at, tex
 use Rattle.wire.specs.Fronts.{flagged_at, key_operation_at, op_at, key_reply_at, reply_at, key_change_at, change_at}
 use Rattle.wire.specs.Fronts.{op_body_at, forward_body_at, ack_body_at, query_body_at, answer_body_at, body_at}
 use Rattle.wire.specs.Fronts.{message_at, introduction_at, acceptance_at, refusal_of_at, refusal_at, beat_at, alive_at}
-use Rattle.wire.specs.Fronts.{silence_at, watching_at, greeting_at, of_kind_at, front}
+use Rattle.wire.specs.Fronts.{silence_at, link_at, watching_at, greeting_at, of_kind_at, front}
 use Rattle.wire.proofs.Readers.{IsBytes}
 use Rattle.wire.proofs.FieldReaders.{byte_takes, judged, counted_ok, within_ok}
 use Rattle.wire.proofs.FormatReaders.{plain_front, plain_reader}
@@ -276,14 +277,22 @@ within_silence = within_turn 8 1 (number_at w64 any) _ (within_number w64 any)
     (λ epoch bytes rest e. within_mapped 1 (byte_at (below 16))
     (λ id. frames.Silent (record { epoch = epoch; id = id })) (within_byte (below 16)))
 
+within_link : (kind : ℕ) → IsWithin 8 (link_at kind)
+unfolding link_at
+within_link kind =
+    within_chosen 8 (kind == 15) _ _ (within_amount Confirmed)
+    (within_chosen 8 (kind == 16) _ _
+    (wider 2 8 _ (omega arith) (within_mapped 2 (number_at w16 any) Stalled (within_number w16 any)))
+    (within_refusing 8))
+
 within_watching : (kind : ℕ) → IsWithin 36 (watching_at kind)
 unfolding watching_at
 within_watching kind =
     within_chosen 36 (kind == 11) _ _ (wider 8 36 _ (omega arith) (within_amount Reign))
     (within_chosen 36 (kind == 12) beat_at _ (wider 16 36 beat_at (omega arith) within_beat)
     (within_chosen 36 (kind == 13) alive_at _ within_alive
-    (within_chosen 36 (kind == 14) silence_at _ (wider 9 36 silence_at (omega arith) within_silence)
-    (within_refusing 36))))
+    (within_chosen 36 (kind == 14) silence_at (link_at kind) (wider 9 36 silence_at (omega arith) within_silence)
+    (wider 8 36 (link_at kind) (omega arith) (within_link kind)))))
 
 within_greeting : (kind : ℕ) → IsWithin 260 (greeting_at kind)
 unfolding greeting_at

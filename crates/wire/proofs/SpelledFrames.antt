@@ -15,11 +15,12 @@ use Rattle.node.specs.declared.messages.Body.{Body}
 use Rattle.node.specs.declared.messages.Body.TheVariants as bodies
 use Rattle.wire.specs.declared.frames.Frame.{Frame}
 use Rattle.wire.specs.declared.frames.Frame.TheVariants.{Hello, Peer, Gone, Accepted, Refused, Noted, Reign}
+use Rattle.wire.specs.declared.frames.Frame.TheVariants.{Confirmed, Stalled}
 use Rattle.wire.specs.declared.frames.Frame.TheVariants as frames
 use Rattle.wire.specs.Spellings.{four_bytes, eight_bytes, key_spelling, target_spelling, block_spelling, op_spelling}
 use Rattle.wire.specs.Spellings.{reply_spelling, change_spelling, body_spelling, kind_of, spelling, HasReplyWidth}
 use Rattle.wire.specs.Spellings.{HasChangeWidth, IsBody, IsFrame, introduction_spelling, acceptance_spelling, code_of}
-use Rattle.wire.specs.Spellings.{beat_spelling, alive_spelling, silent_spelling}
+use Rattle.wire.specs.Spellings.{beat_spelling, alive_spelling, silent_spelling, two_bytes}
 use Rattle.wire.specs.Parts.{followed, makes, byte, number}
 use Rattle.wire.specs.Grammar as format
 use Rattle.wire.specs.Grammar.{any, positive, at_most, below}
@@ -457,6 +458,9 @@ of_kind_to (Reign epoch) h = (11, eight_bytes epoch, amount_to Reign epoch h, re
 of_kind_to (frames.Beat beat) h = (12, beat_spelling beat, beat_to beat h, refl)
 of_kind_to (frames.Alive alive) h = (13, alive_spelling alive, alive_to alive h, refl)
 of_kind_to (frames.Silent silent) h = (14, silent_spelling silent, silence_to silent h, refl)
+of_kind_to (Confirmed count) h = (15, eight_bytes count, amount_to Confirmed count h, refl)
+of_kind_to (Stalled servers) h =
+    (16, two_bytes servers, to_made (number w16 any) Stalled servers (two_bytes servers) (h, refl, refl), refl)
 of_kind_to (Peer peer) h =
     let s : (format.message (kind_of peer.body)).Spells (Peer peer)
     (to_be_bytes w16 peer.view ++ body_spelling peer.body) = (

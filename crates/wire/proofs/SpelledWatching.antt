@@ -1,10 +1,10 @@
--- The same of the frames of watching.
+-- The same of the frames of watching, and of those of links.
 use Rattle.std.proofs.Common.{◌≡◌, ℕ, true, List, [], ◌∷◌, refl, sym, ap, subst, ◌++◌, inl, inr}
 use Rattle.std.specs.Prelude.{◌==◌}
 use Rattle.std.specs.Int.{w16, w64, to_be_bytes}
 use Rattle.std.proofs.lemmas.Bool.{lt-ltb, eqb-true}
 use Rattle.wire.specs.declared.frames.Frame.{Frame}
-use Rattle.wire.specs.declared.frames.Frame.TheVariants.{Reign}
+use Rattle.wire.specs.declared.frames.Frame.TheVariants.{Reign, Confirmed, Stalled}
 use Rattle.wire.specs.declared.frames.Frame.TheVariants as frames
 use Rattle.wire.specs.declared.watching.Beat.{Beat}
 use Rattle.wire.specs.declared.watching.Alive.{Alive}
@@ -152,7 +152,34 @@ alive_to alive h = (
   refl,
 )
 
+-- ---- what is told of links
+
+count_from : (f : Frame) (text : List ℕ)
+    → (followed (number w64 any) (λ count. makes (Confirmed count))).Spells f text
+    → SentFrame 15 f text
+count_from f text s =
+    let m = from_made (number w64 any) Confirmed f text s in
+    subst (λ f. SentFrame 15 f text) (sym m.2) (m.1.0, ap (λ (t : List ℕ). 2 ∷ 15 ∷ t) m.1.2)
+
+stalled_from : (f : Frame) (text : List ℕ)
+    → (followed (number w16 any) (λ servers. makes (Stalled servers))).Spells f text
+    → SentFrame 16 f text
+stalled_from f text s =
+    let m = from_made (number w16 any) Stalled f text s in
+    subst (λ f. SentFrame 16 f text) (sym m.2) (m.1.0, ap (λ (t : List ℕ). 2 ∷ 16 ∷ t) m.1.2)
+
 -- ---- by kinds
+
+-- what stands after a kind from 15 on is sent by it
+link_from : (kind : ℕ) (f : Frame) (text : List ℕ) → (format.link kind).Spells f text → SentFrame kind f text
+link_from kind f text s0 =
+    elim (by_test (kind == 15) _ _ f text s0) [
+      | inl h ↦ at_kind 15 kind f text h.0 (count_from f text h.1)
+      | inr s1 ↦ elim (by_test (kind == 16) _ _ f text s1.1) [
+        | inl h ↦ at_kind 16 kind f text h.0 (stalled_from f text h.1)
+        | inr s2 ↦ absurd s2.1
+      ]
+    ]
 
 -- what stands after a kind from 11 on is sent by it
 pub watching_from : (kind : ℕ) (f : Frame) (text : List ℕ)
@@ -165,9 +192,9 @@ watching_from kind f text s0 =
         | inl h ↦ at_kind 12 kind f text h.0 (beat_from f text h.1)
         | inr s2 ↦ elim (by_test (kind == 13) format.alive _ f text s2.1) [
           | inl h ↦ at_kind 13 kind f text h.0 (alive_from f text h.1)
-          | inr s3 ↦ elim (by_test (kind == 14) format.silence _ f text s3.1) [
+          | inr s3 ↦ elim (by_test (kind == 14) format.silence (format.link kind) f text s3.1) [
             | inl h ↦ at_kind 14 kind f text h.0 (silence_from f text h.1)
-            | inr s4 ↦ absurd s4.1
+            | inr s4 ↦ link_from kind f text s4.1
           ]
         ]
       ]

@@ -24,6 +24,7 @@ use Rattle.wire.specs.declared.reading.ReadFault.{ReadFault}
 use Rattle.wire.specs.declared.reading.ReadFault.TheVariants as faults
 use Rattle.wire.specs.declared.frames.Frame.{Frame}
 use Rattle.wire.specs.declared.frames.Frame.TheVariants.{Hello, Peer, Gone, Accepted, Refused, Noted, Reign}
+use Rattle.wire.specs.declared.frames.Frame.TheVariants.{Confirmed, Stalled}
 use Rattle.wire.specs.declared.frames.Frame.TheVariants as frames
 use Rattle.wire.specs.declared.greetings.Reason.TheVariants as reasons
 use Rattle.wire.specs.Grammar.{any, positive, at_most, below, is_key_length, is_server_count}
@@ -299,6 +300,13 @@ silence_at bytes = do
   id ← byte_at (below 16) epoch.1
   Ok (frames.Silent (record { epoch = epoch.0; id = id.0 }), id.1)
 
+-- what is read after a kind from 15 on
+unfoldable pub link_at : ℕ → List ℕ → Read Frame
+link_at kind bytes =
+    if kind == 15 then (number_at w64 any bytes >>= λ count. Ok (Confirmed count.0, count.1))
+    else if kind == 16 then (number_at w16 any bytes >>= λ servers. Ok (Stalled servers.0, servers.1))
+    else Err Malformed
+
 -- what is read after a kind from 11 on
 unfoldable pub watching_at : ℕ → List ℕ → Read Frame
 watching_at kind bytes =
@@ -306,7 +314,7 @@ watching_at kind bytes =
     else if kind == 12 then beat_at bytes
     else if kind == 13 then alive_at bytes
     else if kind == 14 then silence_at bytes
-    else Err Malformed
+    else link_at kind bytes
 
 -- what is read after a kind from 7 on
 unfoldable pub greeting_at : ℕ → List ℕ → Read Frame

@@ -18,6 +18,7 @@ use Rattle.node.specs.declared.messages.Body.{Body}
 use Rattle.node.specs.declared.messages.Body.TheVariants as bodies
 use Rattle.wire.specs.declared.frames.Frame.{Frame}
 use Rattle.wire.specs.declared.frames.Frame.TheVariants.{Hello, Peer, Gone, Accepted, Refused, Noted, Reign}
+use Rattle.wire.specs.declared.frames.Frame.TheVariants.{Confirmed, Stalled}
 use Rattle.wire.specs.declared.frames.Frame.TheVariants as frames
 use Rattle.wire.specs.declared.greetings.Reason.TheVariants as reasons
 use Rattle.wire.specs.Spellings.{IsFrame, spelling}
@@ -229,13 +230,20 @@ silence = do
   id ← byte (below 16)
   makes (frames.Silent (record { epoch = epoch; id = id }))
 
--- what stands after a kind from 11 on: 11 greets in an epoch, 12 is a beat, 13 answers both, 14 is a notice of silence
+-- what stands after a kind from 15 on: 15 counts what was handed on of a link, 16 tells which links stand still
+abbrev pub link : ℕ → Part Frame
+link kind =
+    either (kind == 15) (number w64 any >>= λ count. makes (Confirmed count))
+    (either (kind == 16) (number w16 any >>= λ servers. makes (Stalled servers)) refused)
+
+-- what stands after a kind from 11 on: 11 greets in an epoch, 12 is a beat, 13 answers both, 14 is a notice of silence,
+-- and the others are of links
 abbrev pub watching : ℕ → Part Frame
 watching kind =
     either (kind == 11) (number w64 any >>= λ epoch. makes (Reign epoch))
     (either (kind == 12) beat
     (either (kind == 13) alive
-    (either (kind == 14) silence refused)))
+    (either (kind == 14) silence (link kind))))
 
 -- what stands after a kind from 7 on: 7 introduces, 8 and 9 answer that, 10 answers a notice, and the others watch
 abbrev pub greeting : ℕ → Part Frame
@@ -245,7 +253,8 @@ greeting kind =
     (either (kind == 9) refusal
     (either (kind == 10) (byte (below 16) >>= λ id. makes (Noted id)) (watching kind))))
 
--- what stands after a kind: 0 greets, 1 to 5 are messages, 6 is a notice, and the others belong to greetings or watch
+-- what stands after a kind: 0 greets, 1 to 5 are messages, 6 is a notice, and the others belong to greetings, watch or
+-- are of links
 abbrev pub of_kind : ℕ → Part Frame
 of_kind kind =
     either (kind == 0) (byte (at_most 16) >>= λ id. makes (Hello id))

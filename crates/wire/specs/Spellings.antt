@@ -19,6 +19,7 @@ use Rattle.node.specs.declared.messages.Body.{Body}
 use Rattle.node.specs.declared.messages.Body.TheVariants as bodies
 use Rattle.wire.specs.declared.frames.Frame.{Frame}
 use Rattle.wire.specs.declared.frames.Frame.TheVariants.{Hello, Peer, Gone, Accepted, Refused, Noted, Reign}
+use Rattle.wire.specs.declared.frames.Frame.TheVariants.{Confirmed, Stalled}
 use Rattle.wire.specs.declared.frames.Frame.TheVariants as frames
 use Rattle.wire.specs.declared.greetings.Introduction.{Introduction}
 use Rattle.wire.specs.declared.greetings.Acceptance.{Acceptance}
@@ -35,6 +36,10 @@ eight_bytes n = to_be_bytes w64 n
 -- a number of four bytes
 abbrev pub four_bytes : ℕ → List ℕ
 four_bytes n = to_be_bytes w32 n
+
+-- a number of two bytes
+abbrev pub two_bytes : ℕ → List ℕ
+two_bytes n = to_be_bytes w16 n
 
 -- a key: a byte of length, and its bytes
 abbrev pub key_spelling : List ℕ → List ℕ
@@ -151,6 +156,8 @@ spelling (Reign epoch) = 2 ∷ 11 ∷ eight_bytes epoch
 spelling (frames.Beat beat) = 2 ∷ 12 ∷ beat_spelling beat
 spelling (frames.Alive alive) = 2 ∷ 13 ∷ alive_spelling alive
 spelling (frames.Silent silent) = 2 ∷ 14 ∷ silent_spelling silent
+spelling (Confirmed count) = 2 ∷ 15 ∷ eight_bytes count
+spelling (Stalled servers) = 2 ∷ 16 ∷ two_bytes servers
 
 -- A frame whose fields are in the ranges that no type keeps: a server has an id below 16, and 16 is the master, who may
 -- greet and is never gone; a message is one that may be sent; a chain has 1 to 16 servers.
@@ -166,6 +173,8 @@ IsInRange (Reign epoch) = Unit {0}
 IsInRange (frames.Beat beat) = Unit {0}
 IsInRange (frames.Alive alive) = Unit {0}
 IsInRange (frames.Silent silent) = silent.id < 16
+IsInRange (Confirmed count) = Unit {0}
+IsInRange (Stalled servers) = Unit {0}
 
 -- a target, if a frame is seen as plain data: its key is one, as the type of keys keeps it
 abbrev pub IsTarget : Target → Type 0
@@ -250,3 +259,5 @@ IsFrame (Reign epoch) = epoch < 2 ^ 64
 IsFrame (frames.Beat beat) = IsBeat beat
 IsFrame (frames.Alive alive) = IsAlive alive
 IsFrame (frames.Silent silent) = IsSilent silent
+IsFrame (Confirmed count) = count < 2 ^ 64
+IsFrame (Stalled servers) = servers < 2 ^ 16

@@ -35,10 +35,14 @@ pub enum Frame {
     Reign(u64),
     /// A master's beat.
     Beat(Beat),
-    /// How a server is: the answer to the two before.
+    /// How a server is: the answer to a greeting, a beat, or a notice of silence.
     Alive(Alive),
     /// A master's notice that a server was silent.
     Silent(Silent),
+    /// The receiver of a link has handed on so many bytes of it, in whole frames: any.
+    Confirmed(u64),
+    /// The servers to which a server's link stands still: server i is the bit of value 2^i. Any.
+    Stalled(u16),
 }
 
 impl Frame {
@@ -54,6 +58,7 @@ impl Frame {
             Frame::Accepted(_) | Frame::Refused(_) => true,
             Frame::Reign(_) | Frame::Beat(_) | Frame::Alive(_) => true,
             Frame::Silent(silent) => silent.id < SERVERS,
+            Frame::Confirmed(_) | Frame::Stalled(_) => true,
         }
     }
 }

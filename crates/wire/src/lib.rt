@@ -10,6 +10,7 @@ mod frames;
 mod greeting_fronts;
 mod greetings;
 mod laws;
+mod link_fronts;
 mod operations;
 mod ranges;
 mod reading;
@@ -29,6 +30,7 @@ pub use laws::{
     any_cutting, bad_front_is_final, bad_front_stays, beginning_waits, format_is_spelling,
     longest_frame, one_frame_at_a_front, partial_front_is_short, written_is_read,
 };
+pub use sizes::size;
 pub use spelling::{encode, encode_onto};
 pub use stream_laws::{
     bad_front_ends, frame_takes_bytes, frames_behind_frames, link_is_read_in_order, one_frame_more,

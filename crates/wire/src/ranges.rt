@@ -36,6 +36,8 @@ pub fn hold_ranges(frame: &Frame)
         }
         Frame::Alive(alive) => hold_alive(alive),
         Frame::Silent(silent) => hold_number(silent.epoch),
+        Frame::Confirmed(count) => hold_number(*count),
+        Frame::Stalled(servers) => hold_view(*servers),
     }
 }
 

@@ -25,6 +25,8 @@ pub fn size(frame: &Frame) -> usize
         Frame::Beat(_) => 18,
         Frame::Alive(_) => 38,
         Frame::Silent(_) => 11,
+        Frame::Confirmed(_) => 10,
+        Frame::Stalled(_) => 4,
     }
 }
 

@@ -8,6 +8,7 @@ ghost use Rattle.wire.specs.Spellings.{IsFrame, IsInRange, acceptance_spelling, 
 ghost use Rattle.wire.specs.Spellings.{block_spelling, body_spelling, change_spelling, code_of, eight_bytes};
 ghost use Rattle.wire.specs.Spellings.{entry_spelling, four_bytes, introduction_spelling, key_spelling, kind_of};
 ghost use Rattle.wire.specs.Spellings.{op_spelling, reply_spelling, silent_spelling, spelling, target_spelling};
+ghost use Rattle.wire.specs.Spellings.{two_bytes};
 
 use crate::frames::FORMAT;
 use crate::ranges::hold_ranges;
@@ -87,6 +88,14 @@ fn put(out: &mut BytesMut, frame: &Frame)
             put_head(out, 14);
             put_silent(out, silent);
         }
+        Frame::Confirmed(count) => {
+            put_head(out, 15);
+            put_count(out, *count);
+        }
+        Frame::Stalled(servers) => {
+            put_head(out, 16);
+            put_servers(out, *servers);
+        }
     }
 }
 
@@ -157,6 +166,20 @@ fn put_silent(out: &mut BytesMut, silent: &Silent)
 {
     out.extend_reserved(&silent.epoch.to_be_bytes());
     out.extend_reserved(&[silent.id]);
+}
+
+fn put_count(out: &mut BytesMut, count: u64)
+    requires room { 8 ≤ out.old.spare }
+    ensures { out.new.items ≡ out.old.items ++ eight_bytes count }
+{
+    out.extend_reserved(&count.to_be_bytes());
+}
+
+fn put_servers(out: &mut BytesMut, servers: u16)
+    requires room { 2 ≤ out.old.spare }
+    ensures { out.new.items ≡ out.old.items ++ two_bytes servers }
+{
+    out.extend_reserved(&servers.to_be_bytes());
 }
 
 fn code_of(reason: Reason) -> u8

@@ -2,6 +2,7 @@
 ghost use Rattle.wire.specs.Fronts.{Gives, alive_at, beat_at, silence_at, watching_at};
 
 use crate::fields::{Stop, server_at, u16_at, u64_at};
+use crate::link_fronts::link_at;
 use crate::{Alive, Beat, Frame, Silent};
 
 /// What is read after a kind from 11 on.
@@ -17,7 +18,7 @@ pub fn watching_at(kind: u8, bytes: &[u8]) -> Result<(Frame, &[u8]), Stop>
         12 => beat_at(bytes),
         13 => alive_at(bytes),
         14 => silence_at(bytes),
-        _ => Err(Stop::Malformed),
+        _ => link_at(kind, bytes),
     }
 }
 

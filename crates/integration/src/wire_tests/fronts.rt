@@ -135,7 +135,7 @@ static FRONTS: [Row; 16] = [
     (None, b"\x00", Found::Malformed),
     (None, b"\x03", Found::Malformed),
     (None, b"\xff", Found::Malformed),
-    (None, b"\x02\x0f", Found::Malformed),
+    (None, b"\x02\x11", Found::Malformed),
     (None, b"\x02\x00\x10", Found::Frame),
     (None, b"\x02\x00\x11", Found::Malformed),
     (None, b"\x02\x06\x0f", Found::Frame),

@@ -105,8 +105,8 @@ fn entries_out_of_range(rt: HostRuntime) -> Result<(), Fail> {
     all_hold(other_front(rt.alloc(), &ENTRIES))
 }
 
-// A greeting, or what masters send and are sent.
-static GREETINGS: [Row; 14] = [
+// A greeting, what masters send and are sent, or what is told of links.
+static GREETINGS: [Row; 18] = [
     (None, b"\x02\x07\x00", Found::Malformed),
     (None, b"\x02\x07\x11", Found::Malformed),
     (
@@ -149,6 +149,18 @@ static GREETINGS: [Row; 14] = [
         b"\x02\x0b\xff\xff\xff\xff\xff\xff\xff\xff",
         Found::Frame,
     ),
+    (
+        None,
+        b"\x02\x0f\xff\xff\xff\xff\xff\xff\xff\xff",
+        Found::Frame,
+    ),
+    (
+        None,
+        b"\x02\x0f\x00\x00\x00\x00\x00\x00\x00\x00",
+        Found::Frame,
+    ),
+    (None, b"\x02\x10\xff", Found::Nothing),
+    (None, b"\x02\x10\xff\xff", Found::Frame),
 ];
 
 #[test]

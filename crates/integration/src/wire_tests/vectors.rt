@@ -1,4 +1,4 @@
-//! The seventeen vectors, both ways.
+//! The nineteen vectors, both ways.
 
 use crate::making::{Fault, all_hold, holds, key, on};
 use bytes::BytesMut;
@@ -28,7 +28,7 @@ pub(super) fn spelled(alloc: Global, frame: &Frame) -> Result<Vec<u8>, Fault> {
 }
 
 /// The vectors.
-pub(super) static VECTORS: [&[u8]; 17] = [
+pub(super) static VECTORS: [&[u8]; 19] = [
     b"\x02\x00\x03",
     b"\x02\x03\x00\x00\x00\x00\x00\x00\x00\x00\x00\x01",
     b"\x02\x04\x00\x00\x00\x00\x00\x00\x00\x00\x00\x01\x01a",
@@ -46,6 +46,8 @@ pub(super) static VECTORS: [&[u8]; 17] = [
     b"\x02\x0c\x00\x00\x00\x00\x00\x00\x01\x02\x00\x00\x00\x00\x00\x00\x02\x03",
     b"\x02\x0d\x00\x00\x00\x00\x00\x00\x01\x02\x00\x00\x00\x00\x00\x00\x02\x03\x00\x00\x00\x00\x00\x00\x03\x04\x00\x00\x00\x00\x00\x00\x04\x05\x02\x01\x02\x00",
     b"\x02\x0e\x00\x00\x00\x00\x00\x00\x01\x02\x05",
+    b"\x02\x0f\x00\x00\x00\x00\x00\x00\x00\x07",
+    b"\x02\x10\x00\x05",
 ];
 
 /// The bytes of the vector at this place.
@@ -72,6 +74,8 @@ fn frame_at(alloc: Global, place: usize) -> Result<Frame, Fault> {
         10 => Ok(accepted()),
         11 => Ok(Frame::Refused(Reason::Taken)),
         12 => Ok(Frame::Noted(5)),
+        17 => Ok(Frame::Confirmed(7)),
+        18 => Ok(Frame::Stalled(5)),
         _ => Ok(watching_at(place)),
     }
 }

@@ -6,14 +6,10 @@ use Rattle.world.specs.Orders.{OrderedCall}
 use Rattle.interleavings.specs.Chains.{Chain, opening_chain}
 use Rattle.interleavings.specs.Moves.{Move, done, moved_from, moved}
 use Rattle.interleavings.specs.Orders.{begun_call, reply_to, Precedes, IsLinearization}
+pub use Rattle.interleavings.proofs.lists.TwoParts.{moved_from-append}
 use Rattle.interleavings.specs.OtherMoves.{Doing, moved_from_by, moved_by, PrecedesBy, IsLinearizationBy}
 
--- one part after the other
-pub moved_from-append : (l : Chain) (ms ns : List Move) → moved_from l (ms ++ ns) ≡ moved_from (moved_from l ms) ns
-moved_from-append l [] ns = refl
-moved_from-append l (m ∷ ms) ns = moved_from-append (done l m) ms ns
-
--- the same of moves that do something else
+-- one part after the other, of moves that do something else
 pub moved_from_by-append : (does : Doing) (l : Chain) (ms ns : List Move)
     → moved_from_by does l (ms ++ ns) ≡ moved_from_by does (moved_from_by does l ms) ns
 moved_from_by-append does l [] ns = refl

@@ -2,6 +2,7 @@
 use Rattle.std.proofs.Common.{◌≡◌, ℕ, zero, suc, ◌*◌, ◌≤◌, List, [], ◌∷◌, ◌++◌, length, take, Option, None, Some, refl}
 use Rattle.std.proofs.Common.{arith, ap, sym, ◌∙◌, append-nil, append_assoc, subst, length-append}
 use Rattle.std.specs.Prelude.{slice_get}
+use Rattle.std.proofs.lemmas.List.{take_all}
 use Rattle.table.specs.declared.operations.Call.{Call}
 use Rattle.table.specs.declared.operations.Reply.{Reply}
 use Rattle.node.proofs.Lists.{get_front}
@@ -9,7 +10,6 @@ use Rattle.world.specs.declared.events.Event.{Event}
 use Rattle.world.specs.Connections.{Connection}
 use Rattle.world.specs.Worlds.{World, run_of}
 use Rattle.world.specs.Orders.{OrderedCall}
-use Rattle.world.proofs.order.OneOrder.{one_order}
 use Rattle.interleavings.specs.Chains.{Seat, Chain, opening_chain}
 use Rattle.interleavings.specs.Moves.{Move, done, moved_from}
 use Rattle.interleavings.specs.Asked.{IsAskedBy, AreAsked}
@@ -18,6 +18,7 @@ use Rattle.interleavings.proofs.relation.Given.{shows_call}
 use Rattle.interleavings.proofs.relation.Transfer.{Follows, Seen, transfer, in_turn}
 use Rattle.interleavings.proofs.relation.StandsFor.{Sits, StandsFor}
 use Rattle.interleavings.proofs.relation.Opening.{opens}
+use Rattle.interleavings.proofs.relation.CommittedOrder.{committed_order, is_committed_order}
 
 -- ---- what stands for a chain shows its calls
 
@@ -107,21 +108,37 @@ module _ (count : ℕ) (homes : List ℕ) where
       standing zero at f = h
       standing (suc k) at f = f k
 
-  -- so an order of the last schedule's calls is one of the run's, and is in turn
-  pub linearizable : Simulates count homes
-      → (moves : List Move)
-      → count ≤ 16
+  -- so the order of some schedule's calls, whose world stands for the chain in the end, is one of the run's, and is in
+  -- turn
+  pub ordered : Simulates count homes
+      → (moves : List Move) (few : count ≤ 16)
       → AreAsked moves
-      → (h : List OrderedCall) × IsLinearization count homes moves h × IsInTurn count homes moves h
-  linearizable sim moves few asked =
+      → (es : List Event) × StandsFor (moved_from (opening_chain count homes) moves) (run_of count homes es)
+      × IsLinearization count homes moves (committed_order count homes es few)
+      × IsInTurn count homes moves (committed_order count homes es few)
+  ordered sim moves few asked =
       let b = behind sim moves (opening_chain count homes) [] (opens count homes) asked in
       let f : Follows count homes moves = record {
         at = b.at;
         goes = b.goes;
         seen = λ k. sees _ _ (b.stands k);
       } in
-      let o = one_order count homes (b.at (length moves)) few in
-      (o.0, transfer count homes moves f o.0 o.1, in_turn count homes moves f few o.0 o.1)
+      let o = committed_order count homes (b.at (length moves)) few in
+      let lin = is_committed_order count homes (b.at (length moves)) few in (
+        b.at (length moves),
+        subst (λ ms. StandsFor (moved_from (opening_chain count homes) ms) (run_of count homes (b.at (length moves))))
+            (take_all (length moves) moves (omega arith)) (b.stands (length moves)),
+        transfer count homes moves f o lin,
+        in_turn count homes moves f few o lin,
+      )
+
+  pub linearizable : Simulates count homes
+      → (moves : List Move)
+      → count ≤ 16
+      → AreAsked moves
+      → (h : List OrderedCall) × IsLinearization count homes moves h × IsInTurn count homes moves h
+  linearizable sim moves few asked =
+      let o = ordered sim moves few asked in (committed_order count homes o.0 few, o.2, o.3)
 
   -- and there are at most four events a move
   pub follows : Simulates count homes

@@ -8,8 +8,7 @@ use Rattle.std.proofs.lemmas.Option.{same_Some, slice_get-map}
 use Rattle.table.specs.Decisions.{decision}
 use Rattle.table.specs.Histories.{IsLegalFrom}
 use Rattle.table.specs.Operations.{Fits, is_update, is_value}
-use Rattle.table.specs.Plain.{PlainTable, apply, item_of}
-use Rattle.table.specs.Plain as plain
+use Rattle.table.specs.Plain.{PlainTable, opening as empty_table, apply, item_of}
 use Rattle.table.specs.Items.{Item}
 use Rattle.table.specs.declared.operations.Call.{Call}
 use Rattle.table.specs.declared.operations.Op.{Op}
@@ -23,11 +22,13 @@ use Rattle.proto.specs.Sessions.{shows}
 use Rattle.world.specs.Calls.{CallId}
 use Rattle.world.specs.Orders.{OrderedCall}
 use Rattle.interleavings.specs.Chains.{Seat}
-use Rattle.interleavings.specs.Moves.{Move, Receives, done, moved}
+use Rattle.interleavings.specs.Moves.{Move, Receives, done, moved_from}
+use Rattle.interleavings.specs.Asked.{AreAsked}
 use Rattle.interleavings.specs.Orders.{begun_call, reply_to}
 use Rattle.interleavings.specs.Connections.{Connection, waits, may_have}
-use Rattle.interleavings.specs.ServingMoves.{ServingChain, ServingMove, served_at, opening_serving, served}
-use Rattle.interleavings.proofs.examples.InTwoParts.{moved_from-append}
+use Rattle.interleavings.specs.OrdersFrom.{IsLinearizationFrom}
+use Rattle.interleavings.specs.ServingMoves.{ServingChain, ServingMove, served_at, opening_serving, served_from, served}
+use Rattle.interleavings.proofs.lists.TwoParts.{moved_from-append}
 use Rattle.interleavings.proofs.lists.ChangedFunctions.{at_same}
 use Rattle.interleavings.proofs.relation.Following.{linearizable}
 use Rattle.interleavings.proofs.runs.Simulating.{simulates}
@@ -40,6 +41,7 @@ use Rattle.interleavings.proofs.served.Steps.{calls_at, IsInOrder}
 use Rattle.interleavings.proofs.served.Along.{opening_order, made_along, order_along, chain_along, asked_along}
 use Rattle.interleavings.proofs.served.Along.{both_asked}
 use Rattle.interleavings.proofs.served.Names.{begun_there}
+use Rattle.interleavings.proofs.served.OrderFromStart.{from_opening}
 
 -- ---- a table's replies
 
@@ -87,25 +89,28 @@ by_kind asked form reply e same = rw e (both (is_value reply) (shows form) same)
 
 -- ---- what stands first in a queue
 
-module _ (count : ℕ) (homes : List ℕ) (moves : List ServingMove) (few : count ≤ 16) (c : ℕ) (reply : Reply)
-    (more : List Reply) where
+-- from a start on, at which connections and seats agree, and from which each run has an order
+module _ (first : ServingChain) (opened : IsInOrder first) (t : PlainTable)
+    (orders : (ms : List Move) → AreAsked ms
+    → (h : List OrderedCall) × IsLinearizationFrom t first.chain ms h)
+    (moves : List ServingMove) (c : ℕ) (reply : Reply) (more : List Reply) where
   abbrev last : ServingChain
-  last = served done count homes moves
+  last = served_from done first moves
 
   abbrev k : Connection
   k = served_at last c
 
   ordered : IsInOrder last
-  ordered = order_along moves (opening_serving count homes) (opening_order count homes)
+  ordered = order_along moves first opened
 
   abbrev run : List Move
-  run = made_along moves (opening_serving count homes) (opening_order count homes) ++ Receives c ∷ []
+  run = made_along moves first opened ++ Receives c ∷ []
 
-  run_is : done last.chain (Receives c) ≡ moved count homes run
+  run_is : done last.chain (Receives c) ≡ moved_from first.chain run
   run_is =
-      ap (λ l. done l (Receives c)) (chain_along moves (opening_serving count homes) (opening_order count homes))
-      ∙ sym (moved_from-append (opening_serving count homes).chain
-      (made_along moves (opening_serving count homes) (opening_order count homes)) (Receives c ∷ []))
+      ap (λ l. done l (Receives c)) (chain_along moves first opened)
+      ∙ sym (moved_from-append first.chain
+      (made_along moves first opened) (Receives c ∷ []))
 
   -- the call's id among those of its seat
   abbrev ordinal : CallId
@@ -134,14 +139,14 @@ module _ (count : ℕ) (homes : List ℕ) (moves : List ServingMove) (few : coun
         ∙ at_same last.chain.seats c
         (record (last.chain.seats c) { got = (last.chain.seats c).got ++ reply ∷ []; queued = more })
 
-    replied : reply_to (moved count homes run) ordinal ≡ Some reply
+    replied : reply_to (moved_from first.chain run) ordinal ≡ Some reply
     replied =
         ap (λ l. reply_to l ordinal) (sym run_is)
         ∙ ap (λ (x : Seat). slice_get x.got ordinal.ordinal) seats_then
         ∙ ap (slice_get ((last.chain.seats c).got ++ reply ∷ [])) (sym got_is)
         ∙ get_last (last.chain.seats c).got reply
 
-    begun : begun_call (moved count homes run) ordinal ≡ Some w.call
+    begun : begun_call (moved_from first.chain run) ordinal ≡ Some w.call
     begun =
         ap (λ l. begun_call l ordinal) (sym run_is)
         ∙ ap (λ (x : Seat). slice_get x.calls ordinal.ordinal) seats_then
@@ -152,15 +157,14 @@ module _ (count : ℕ) (homes : List ℕ) (moves : List ServingMove) (few : coun
     fits = (made_asked k (ordered.connected c (last.ended c)) (length k.replies) w.call w.made).fits
 
     -- so it is of the kind that the call can have
-    pub first_fits : may_have (served_at (served done count homes moves) c).session.asked reply ≡ true
-    first_fits =
-        let o = linearizable count homes (simulates count homes few) run few
-        (both_asked (made_along moves (opening_serving count homes) (opening_order count homes)) (Receives c ∷ [])
-        (asked_along moves (opening_serving count homes) (opening_order count homes)) (tt, tt)) in
+    pub first_fits_from : may_have (served_at (served_from done first moves) c).session.asked reply ≡ true
+    first_fits_from =
+        let o = orders run (both_asked (made_along moves first opened) (Receives c ∷ [])
+        (asked_along moves first opened) (tt, tt)) in
         let a = o.1.answered ordinal reply replied in
         let call : a.1.entry.call ≡ w.call =
         same_Some a.1.entry.call w.call
-        (sym (o.1.begun a.0 a.1.entry a.1.here) ∙ ap (begun_call (moved count homes run)) a.1.same ∙ begun) in
+        (sym (o.1.begun a.0 a.1.entry a.1.here) ∙ ap (begun_call (moved_from first.chain run)) a.1.same ∙ begun) in
         let here : slice_get (map {B = Call × Reply} (λ (e : OrderedCall). (e.call, e.reply)) o.0) a.0 ≡ Some
         (w.call, reply) =
         slice_get-map (λ (e : OrderedCall). (e.call, e.reply)) o.0 a.0
@@ -168,6 +172,19 @@ module _ (count : ℕ) (homes : List ℕ) (moves : List ServingMove) (few : coun
         ∙ ap (λ (x : Call). Some (x, a.1.entry.reply)) call
         ∙ ap (λ (r : Reply). Some (w.call, r)) a.2 in
         by_kind k.session.asked w.form reply w.asked
-        (legal_kind plain.opening (map (λ (e : OrderedCall). (e.call, e.reply)) o.0) a.0 (w.call, reply) o.1.legal here
+        (legal_kind t (map (λ (e : OrderedCall). (e.call, e.reply)) o.0) a.0 (w.call, reply) o.1.legal here
         fits
         ∙ sym w.fits)
+
+-- from the opening on
+pub first_fits : (count : ℕ) (homes : List ℕ) (moves : List ServingMove)
+    → count ≤ 16
+    → (c : ℕ) (reply : Reply) (more : List Reply)
+    → ((served done count homes moves).chain.seats c).queued ≡ reply ∷ more
+    → waits (served_at (served done count homes moves) c) ≡ true
+    → may_have (served_at (served done count homes moves) c).session.asked reply ≡ true
+first_fits count homes moves few c reply more queued wait =
+    first_fits_from (opening_serving count homes) (opening_order count homes) empty_table
+    (λ ms asked. (let o = linearizable count homes (simulates count homes few) ms few asked in
+    (o.0, from_opening count homes ms o.0 o.1)))
+    moves c reply more queued wait

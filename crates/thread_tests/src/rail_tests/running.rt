@@ -1,6 +1,7 @@
 //! A running server that takes one step after another, each of which has to go as it says.
-ghost use Rattle.std.specs.Prelude.{◌≡◌, ◌≤◌, true, IfOk};
+ghost use Rattle.std.specs.Prelude.{◌≡◌, ◌≤◌, true, All, IfOk};
 ghost use Rattle.node.specs.Nodes.{is_idle};
+ghost use Rattle.seats.specs.Replies.{HasAllReplies};
 
 use faces::FaceFault;
 use node::{Body, Look, Node, Peer, View};
@@ -138,11 +139,13 @@ pub(crate) fn first_of<R: Wait + Drop + Copy>(
     readers: usize,
 ) -> Result<Server<R>, RailFault>
     requires { (1 ≤ readers) × (readers ≤ 16) }
+    ensures { IfOk result (λ server. All (λ handle. HasAllReplies handle.seat) server.thread_handles.items) }
 {
     first_with(rt, alloc, count, readers, Room::of_chain(16, 16))
 }
 
 /// The same, with this room in its inbox.
+#[tactic(auto, using(crate::proofs::Opened::opened_replied))]
 pub(crate) fn first_with<R: Wait + Drop + Copy>(
     rt: R,
     alloc: Global,
@@ -151,9 +154,22 @@ pub(crate) fn first_with<R: Wait + Drop + Copy>(
     room: Room,
 ) -> Result<Server<R>, RailFault>
     requires { (1 ≤ readers) × (readers ≤ 16) }
+    ensures { IfOk result (λ server. All (λ handle. HasAllReplies handle.seat) server.thread_handles.items) }
 {
     let node = idle_node(alloc, count)?;
-    open(rt, alloc, node, readers, 0, 1, room)
+    let server = open(rt, alloc, node, readers, 0, 1, room)?;
+    Ok(server)
+}
+
+/// The first of n servers, with two inlets.
+pub(crate) fn first_with_two_inlets<R: Wait + Drop + Copy>(
+    rt: R,
+    alloc: Global,
+    count: u8,
+) -> Result<Server<R>, RailFault> {
+    let node = idle_node(alloc, count)?;
+    let server = open(rt, alloc, node, 1, 0, 2, Room::of_chain(16, 16))?;
+    Ok(server)
 }
 
 // --- the worker

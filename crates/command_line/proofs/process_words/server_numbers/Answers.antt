@@ -42,3 +42,8 @@ pub returns-in_err-lease-clause-none : goal.returns-in_err-lease-clause-none
 returns-in_err-lease-clause-none c = λ none numbers n.
     rows_none (GivesNumberIfAny 1 3600 (codes "lease")) _ _ _ _ c.in_ok-given.ensures.given n.named
     (c.in_err-lease.ensures.none refl) _ n.lease
+
+pub returns-in_err-link_timeout-clause-none : goal.returns-in_err-link_timeout-clause-none
+returns-in_err-link_timeout-clause-none c = λ none numbers n.
+    given_none _ _ _ _ _ _ _ c.in_ok-given.ensures.given n.named (c.in_err-link_timeout.ensures.none refl) _
+    n.link_timeout

@@ -4,6 +4,7 @@ use Rattle.wire.specs.Ends.{IsEnd}
 use Rattle.wire.specs.Grammar.{IsFirst}
 use Rattle.wire.proofs.EndLaws.{malformed_ends, old_ends, one_more}
 use Rattle.peers.proofs.Hearing.{heard_one}
+use Rattle.peers.proofs.Taking.{none_more}
 use Rattle.peers.proofs.receiving.hand_on.Goals as goal
 
 pub returns-in-Err-Malformed-clause-stops : goal.returns-in-Err-Malformed-clause-stops
@@ -17,6 +18,12 @@ returns-in-Err-OldFormat-clause-stops g c =
     let next = c.in-Err-OldFormat.ensures in
     subst (λ unread. IsEnd unread ends.Old) (sym next.stays)
     (old_ends _ (next.old_format.0 (ap Err c.in-Err-OldFormat.field-0-is)))
+
+pub returns-in_err-take-in-Ok-Some-clause-cut : goal.returns-in_err-take-in-Ok-Some-clause-cut
+returns-in_err-take-in-Ok-Some-clause-cut g c =
+    none_more c.from_residual.result c.args.frames.now.unread c.frames.frames.unread
+    (g.T.Taker.taken c.args.taker.now) (g.T.Taker.taken c.frames.taker) (g.T.Taker.taken c.take.new.self)
+    c.frames.invariant.stands c.in_err-take-in-Ok-Some.ensures.refused
 
 pub frames-preserved : goal.frames-preserved
 frames-preserved g c =

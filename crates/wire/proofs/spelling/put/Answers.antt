@@ -1,6 +1,6 @@
 use Rattle.std.proofs.Common.{◌++◌, ◌∷◌, [], ap, sym, ◌∙◌}
 use Rattle.wire.specs.Spellings.{acceptance_spelling, alive_spelling, beat_spelling, eight_bytes}
-use Rattle.wire.specs.Spellings.{introduction_spelling, silent_spelling, spelling}
+use Rattle.wire.specs.Spellings.{introduction_spelling, silent_spelling, spelling, two_bytes}
 use Rattle.wire.proofs.Appends.{then_more}
 use Rattle.wire.proofs.spelling.put.Goals as goal
 
@@ -63,3 +63,23 @@ returns-in-Silent c =
     then_more old marked done (2 ∷ 14 ∷ []) (silent_spelling c.in-Silent.silent)
     c.put_head-in-Silent.ensures.text c.put_silent.ensures
     ∙ ap (λ frame. old ++ spelling frame) (sym c.in-Silent.is)
+
+-- how far a link has come is written by its spelling
+pub returns-in-Confirmed : goal.returns-in-Confirmed
+returns-in-Confirmed c =
+    let old = c.args.out.now.items in
+    let marked = c.put_head-in-Confirmed.new.out.items in
+    let done = c.put_count.new.out.items in
+    then_more old marked done (2 ∷ 15 ∷ []) (eight_bytes c.in-Confirmed.count)
+    c.put_head-in-Confirmed.ensures.text c.put_count.ensures
+    ∙ ap (λ frame. old ++ spelling frame) (sym c.in-Confirmed.is)
+
+-- which links stand still is written by its spelling
+pub returns-in-Stalled : goal.returns-in-Stalled
+returns-in-Stalled c =
+    let old = c.args.out.now.items in
+    let marked = c.put_head-in-Stalled.new.out.items in
+    let done = c.put_servers.new.out.items in
+    then_more old marked done (2 ∷ 16 ∷ []) (two_bytes c.in-Stalled.servers)
+    c.put_head-in-Stalled.ensures.text c.put_servers.ensures
+    ∙ ap (λ frame. old ++ spelling frame) (sym c.in-Stalled.is)

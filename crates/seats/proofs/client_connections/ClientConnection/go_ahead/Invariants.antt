@@ -1,7 +1,7 @@
 use Rattle.faces.specs.Histories.{IsLater}
-use Rattle.seats.specs.ClientConnections.{HasGone, HasSentOn, IsSameBut}
-use Rattle.seats.specs.SeatPools.{HasSameReader}
-use Rattle.seats.specs.declared.client_connections.Went.TheVariants.{Reply}
+use Rattle.seats.specs.ClientConnections.{HasGone, HasSentInTurn, IsSameBut}
+use Rattle.seats.specs.SeatPools.{HasNoFault, HasSameReader}
+use Rattle.seats.specs.declared.client_connections.Pause.TheVariants.{Reply}
 use Rattle.seats.proofs.client_connections.ClientConnection.go_ahead.Given as goal
 
 abbrev pub invariant-loop : goal.invariant-loop
@@ -11,5 +11,6 @@ invariant-loop g l =
       known : IsLater l.self.seen l.pool.seen;
       same : IsSameBut l.fn.self l.self;
       pool : HasSameReader l.fn.pool l.pool;
-      on : HasSentOn l.fn.self l.self l.fn.pool l.pool;
+      on : HasSentInTurn l.fn.self l.self l.fn.pool l.pool;
+      unfailed : HasNoFault l.fn.pool l.pool;
     }

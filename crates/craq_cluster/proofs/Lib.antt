@@ -1,0 +1,4 @@
+-- Lemmas of this crate.
+pub mod Dealt
+pub mod Standing
+pub mod Wired

@@ -1,0 +1,2 @@
+-- What contracts of this crate speak of.
+pub mod Wiring

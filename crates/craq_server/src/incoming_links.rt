@@ -1,0 +1,183 @@
+//! The links from the other servers: who reads them, and what is confirmed to their senders.
+
+use crate::link_bells::LinkBell;
+use bytes::BytesMut;
+use std::alloc::{AllocError, Global};
+use std::io::Write;
+use std::net::{Shutdown, TcpStream};
+use std::sync::atomic::{AtomicBool, AtomicU64, Ordering};
+use std::sync::{Arc, Mutex, Wait};
+use wire::{Frame, encode_onto};
+
+/// A connection from another server that stands.
+#[derive(Drop)]
+struct Incoming {
+    // Which one it is: no other one has this number.
+    number: u64,
+    stream: Arc<TcpStream, Global>,
+    // How many bytes were handed on.
+    handed: Arc<AtomicU64, Global>,
+    confirmed: u64,
+}
+
+/// A link from this start of another server, with its connection, if one stands.
+#[derive(Drop)]
+struct IncomingLink {
+    start: u64,
+    connection: Option<Incoming>,
+}
+
+/// Whether there is room for a connection of a link.
+#[derive(Clone, Copy, PartialEq, Eq)]
+pub(crate) enum Room {
+    /// As soon as the one before isn't read any more.
+    Soon,
+    /// No: a later one stands.
+    Later,
+    /// No: the link isn't from this start of the server.
+    OtherStart,
+}
+
+/// The links from the other servers, by their ids.
+#[derive(Drop)]
+pub(crate) struct IncomingLinks {
+    alloc: Global,
+    links: Mutex<Vec<Option<IncomingLink>>>,
+    // Whether something was handed on that wasn't confirmed.
+    is_dirty: AtomicBool,
+    // Wakes the thread that confirms.
+    bell: LinkBell,
+}
+
+impl IncomingLinks {
+    /// None yet, in a chain of n servers.
+    pub(crate) fn new(
+        alloc: Global,
+        servers: u8,
+        bell: LinkBell,
+    ) -> Result<IncomingLinks, AllocError> {
+        let mut links = Vec::new(alloc);
+        for _ in 0..servers {
+            links.push(None)?;
+        }
+        Ok(IncomingLinks {
+            alloc,
+            links: Mutex::new(links),
+            is_dirty: AtomicBool::new(false),
+            bell,
+        })
+    }
+
+    /// Connection `number`, from server `j` at this start of it, stands. Over it so many bytes are confirmed. It gives
+    /// what counts the bytes that are handed on.
+    pub(crate) fn open<W: Wait>(
+        &self,
+        rt: &W,
+        j: u8,
+        start: u64,
+        number: u64,
+        stream: &Arc<TcpStream, Global>,
+        confirmed: u64,
+    ) -> Result<Arc<AtomicU64, Global>, AllocError> {
+        let handed = Arc::new(self.alloc, AtomicU64::new(confirmed))?;
+        let connection = Incoming {
+            number,
+            stream: Arc::try_clone(stream)?,
+            handed: Arc::try_clone(&handed)?,
+            confirmed,
+        };
+        let link = IncomingLink {
+            start,
+            connection: Some(connection),
+        };
+        let mut guard = self.links.lock(rt);
+        let links = &mut *guard;
+        match links.get_mut(usize::from(j)) {
+            Some(place) => drop(place.replace(link)),
+            None => drop(link),
+        }
+        Ok(handed)
+    }
+
+    /// Makes room for connection `number` from server `j`, at this start of it: an earlier connection is ended.
+    pub(crate) fn make_room<W: Wait>(&self, rt: &W, j: u8, start: u64, number: u64) -> Room {
+        let guard = self.links.lock(rt);
+        match guard.get(usize::from(j)) {
+            Some(Some(link)) if link.start == start => link.make_room(number),
+            _ => Room::OtherStart,
+        }
+    }
+
+    /// Connection `number`, from server `j`, isn't read any more.
+    pub(crate) fn close<W: Wait>(&self, rt: &W, j: u8, number: u64) {
+        let mut guard = self.links.lock(rt);
+        let links = &mut *guard;
+        if let Some(Some(link)) = links.get_mut(usize::from(j)) {
+            if matches!(&link.connection, Some(connection) if connection.number == number) {
+                drop(link.connection.take());
+            }
+        }
+    }
+
+    /// Something was handed on, which is to be confirmed soon.
+    pub(crate) fn note(&self) {
+        if !self.is_dirty.load(Ordering::Relaxed) && !self.is_dirty.swap(true, Ordering::SeqCst) {
+            self.bell.ring();
+        }
+    }
+
+    /// Whether something is to be confirmed.
+    pub(crate) fn is_dirty(&self) -> bool {
+        self.is_dirty.load(Ordering::SeqCst)
+    }
+
+    /// Confirms what was handed on. A connection that doesn't take a confirmation at once is ended.
+    pub(crate) fn confirm<W: Wait>(&self, rt: &W) {
+        self.is_dirty.store(false, Ordering::SeqCst);
+        let mut guard = self.links.lock(rt);
+        let links = &mut *guard;
+        for place in links.iter_mut() {
+            if let Some(link) = place {
+                if let Some(connection) = &mut link.connection {
+                    connection.confirm(self.alloc);
+                }
+            }
+        }
+    }
+}
+
+impl IncomingLink {
+    fn make_room(&self, number: u64) -> Room {
+        match &self.connection {
+            Some(connection) if connection.number > number => Room::Later,
+            Some(connection) => {
+                let _ = connection.stream.shutdown(Shutdown::Both);
+                Room::Soon
+            }
+            None => Room::Soon,
+        }
+    }
+}
+
+impl Incoming {
+    // Confirms what was handed on. If that isn't taken at once the connection is ended.
+    fn confirm(&mut self, alloc: Global) {
+        let handed = self.handed.load(Ordering::SeqCst);
+        if handed != self.confirmed {
+            self.confirmed = handed;
+            if !put(alloc, &self.stream, handed) {
+                let _ = self.stream.shutdown(Shutdown::Both);
+            }
+        }
+    }
+}
+
+// Writes a confirmation.
+fn put(alloc: Global, stream: &TcpStream, count: u64) -> bool {
+    let mut out = BytesMut::new(alloc);
+    let frame = Frame::Confirmed(count);
+    let is_made = encode_onto(&mut out, &frame).is_ok();
+    drop(frame);
+    let mut stream = stream;
+    is_made && matches!(stream.write(out.as_slice()), Ok(n) if n == out.len())
+}

@@ -1,0 +1,5 @@
+pub mod PlaceLaws
+pub mod EntryLaws
+pub mod SplitLaws
+pub mod RowLaws
+pub mod IndexLaws

@@ -1,0 +1,5 @@
+pub mod Places
+pub mod Rows
+pub mod Entries
+pub mod Tables
+pub mod Indexes

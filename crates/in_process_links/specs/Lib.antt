@@ -1,0 +1,3 @@
+pub mod InProcessLinks
+pub mod Reached
+pub mod ServerSets

@@ -1,0 +1,21 @@
+use Rattle.std.proofs.Common.{rules, ◌≡◌, ◌∙◌, ◌<◌, ◌≤◌, ap, length, slice_index_or}
+use Rattle.links.specs.PeerLinks.{kept_at, kept_by}
+use Rattle.links.proofs.PeerLinked.{kept_there, kept_beyond}
+use Rattle.links.proofs.peer_links.kept_of.Goals as goal
+
+pub returns-then-place-links : goal.returns-then-place-links
+returns-then-place-links g c =
+    let links = c.args.links.now in
+    let link = c.index-links-place.result in
+    let same : c.from-place.result ≡ c.args.to = search rules in
+    let within : c.from-place.result < length links = search rules in
+    let at : link ≡ slice_index_or links c.from-place.result link = search rules in
+    c.kept.ensures
+    ∙ ap (λ l. length (kept_by l)) at
+    ∙ kept_there c.from-place.result links link within
+    ∙ ap (λ k. kept_at links k) same
+
+pub returns-else-place-links : goal.returns-else-place-links
+returns-else-place-links g c =
+    let out : length c.args.links.now ≤ c.args.to = search rules in
+    kept_beyond c.args.to c.args.links.now out

@@ -1,6 +1,0 @@
-use Rattle.std.proofs.Common.{◌≡◌, replicate}
-use Rattle.masters.specs.Hosts.{texts}
-use Rattle.masters.proofs.settings.repeated.Given as goal
-
-abbrev pub invariant-loop : goal.invariant-loop
-invariant-loop l = texts l.hosts.items ≡ replicate l.counter l.address

@@ -1,0 +1,8 @@
+pub mod Sums
+pub mod Rows
+pub mod Snapshots
+pub mod Progress
+pub mod Fed
+pub mod Readings
+pub mod Histories
+pub mod Tables

@@ -1,0 +1,10 @@
+pub mod Basics
+pub mod Soundness
+pub mod Looks
+pub mod Steps
+pub mod Changes
+pub mod NewReports
+pub mod Moves
+pub mod Followers
+pub mod Sames
+pub mod Rules

@@ -1,0 +1,4 @@
+pub mod Lists
+pub mod Successions
+pub mod Decisions
+pub mod Lives
