@@ -8,6 +8,7 @@ use crate::controls::StopFault;
 use command_line::{ClusterNumbers, DONE, FAILED, MEMORY};
 use craq_process::{Concurrency, warn_of_files};
 use ends::{Sink, Source, write_all};
+use io_threads::SeatDeal;
 use lines::{Answers, LineSender, LineSink, empty_line, next_line, server_named};
 use std::alloc::Global;
 use std::net::{Net, TcpListener, TcpStream};
@@ -79,7 +80,7 @@ fn run_commands<
 ) -> Result<(), ClusterFault> {
     let mut line = empty_line(alloc)?;
     let mut answers = Answers::new(alloc)?;
-    let concurrency = Concurrency::new(&rt, numbers.threads, numbers.seats);
+    let concurrency = Concurrency::new(&rt, numbers.threads, numbers.seats, SeatDeal::InTurn);
     let cluster = Cluster::open(rt, alloc, numbers, concurrency, line_sender)?;
     let mut errors = LineSink::new(rt, line_sender);
     tell_cluster(numbers, concurrency, machine, &mut errors);

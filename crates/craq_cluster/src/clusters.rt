@@ -160,7 +160,7 @@ fn open_chain<R: Wait + Copy + Drop + Net>(
 {
     let mut servers = all_servers(rt, alloc, count, concurrency, allowance)?;
     let links = all_links(rt, alloc, count, &mut servers)?;
-    let (loop_handles, polls) = open_loop_handles(&rt, alloc, concurrency.threads)?;
+    let (loop_handles, polls) = open_loop_handles(&rt, alloc, concurrency.shares())?;
     let loop_handles = Arc::new(alloc, loop_handles)?;
     let (scheduler, all_server_parts) = all_parts(alloc, &loop_handles, servers, links)?;
     Ok(Chain {

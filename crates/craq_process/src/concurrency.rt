@@ -1,7 +1,7 @@
 //! How many threads serve, and how many calls a server works on at a time.
 ghost use Rattle.std.specs.Prelude.{◌≡◌, ◌≤◌, IfSome};
 
-use io_threads::usual_threads;
+use io_threads::{SeatDeal, SeatShares, usual_threads};
 use std::thread::Threads;
 
 /// How many threads serve connections, and how many seats each server has, which are dealt out to these threads. The
@@ -12,6 +12,8 @@ pub struct Concurrency {
     pub threads: usize,
     /// How many calls a server works on at a time.
     pub seats: usize,
+    /// How they are dealt out.
+    pub deal: SeatDeal,
     pub ghost some: { 1 ≤ threads },
     pub ghost dealt: { threads ≤ seats },
     pub ghost few: { threads ≤ 16 },
@@ -19,10 +21,12 @@ pub struct Concurrency {
 }
 
 impl Concurrency {
-    /// This many threads, or as many as usual; and this many seats, but one for each thread at least.
-    pub fn new<R: Threads>(rt: &R, threads: Option<u32>, seats: u8) -> Concurrency
+    /// This many threads, or as many as usual; and this many seats, but one for each thread at least, which are dealt
+    /// out so.
+    pub fn new<R: Threads>(rt: &R, threads: Option<u32>, seats: u8, deal: SeatDeal) -> Concurrency
         ensures threads { IfSome threads (λ wanted. (1 ≤ wanted) → (wanted ≤ 16) → result.threads ≡ wanted) }
         ensures seats { (seats ≤ 64) → (result.threads ≤ seats) → result.seats ≡ seats }
+        ensures deal { result.deal ≡ deal }
     {
         let threads = match threads {
             Some(threads) => one_to_sixteen(threads),
@@ -33,9 +37,25 @@ impl Concurrency {
             return Concurrency {
                 threads,
                 seats: threads,
+                deal,
             };
         }
-        Concurrency { threads, seats }
+        Concurrency {
+            threads,
+            seats,
+            deal,
+        }
+    }
+
+    /// Which thread each seat is for.
+    pub fn shares(self) -> SeatShares
+        ensures threads { result.threads ≡ self.threads }
+        ensures deal { result.deal ≡ self.deal }
+    {
+        SeatShares {
+            threads: self.threads,
+            deal: self.deal,
+        }
     }
 }
 

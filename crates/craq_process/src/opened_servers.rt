@@ -45,10 +45,18 @@ pub fn open_server<R: Wait + Copy + Drop>(
             return Err(OpenFault::Memory);
         }
     };
-    let Concurrency { threads, seats } = concurrency;
+    let shares = concurrency.shares();
     let inlets = usize::from(count);
     let Ok(pooled) = open_pools(
-        rt, alloc, node, seats, threads, inlets, AHEAD, &failed, &gauge,
+        rt,
+        alloc,
+        node,
+        concurrency.seats,
+        shares,
+        inlets,
+        AHEAD,
+        &failed,
+        &gauge,
     ) else {
         return Err(OpenFault::Memory);
     };

@@ -2,3 +2,4 @@
 pub mod Held
 pub mod Wiring
 pub mod Healing
+pub mod Confirmations

@@ -23,7 +23,7 @@ use std::time::Clock;
 
 /// The most frames of a guest that are handed on before turns are taken: the inbox has room for these, and who takes
 /// turns mustn't wait for room that only turns make.
-const FRAMES: usize = 32;
+const FRAMES: usize = 64;
 
 /// Who speaks at the peer port.
 pub(crate) type Speaks<R> = ReportedConnection<
@@ -59,9 +59,10 @@ impl<R: Clock + Drop> Guest<R> {
     ) -> (Option<Result<PeerEnd, LinkFault>>, bool) {
         let heard = self.read(rt, piece);
         if let Some(handed) = self.speaks.taker.handed() {
-            if self.handed.load(Ordering::Relaxed) != handed {
+            let before = self.handed.load(Ordering::Relaxed);
+            if before != handed {
                 self.handed.store(handed, Ordering::SeqCst);
-                incoming.note();
+                incoming.note(handed.saturating_sub(before));
             }
         }
         heard

@@ -1,11 +1,12 @@
 //! The links from the other servers: who reads them, and what is confirmed to their senders.
 
+use crate::confirmations::is_much;
 use crate::link_bells::LinkBell;
 use bytes::BytesMut;
 use std::alloc::{AllocError, Global};
 use std::io::Write;
 use std::net::{Shutdown, TcpStream};
-use std::sync::atomic::{AtomicBool, AtomicU64, Ordering};
+use std::sync::atomic::{AtomicU64, Ordering};
 use std::sync::{Arc, Mutex, Wait};
 use wire::{Frame, encode_onto};
 
@@ -43,8 +44,8 @@ pub(crate) enum Room {
 pub(crate) struct IncomingLinks {
     alloc: Global,
     links: Mutex<Vec<Option<IncomingLink>>>,
-    // Whether something was handed on that wasn't confirmed.
-    is_dirty: AtomicBool,
+    // How many bytes were handed on since the last confirmations.
+    unconfirmed: AtomicU64,
     // Wakes the thread that confirms.
     bell: LinkBell,
 }
@@ -63,7 +64,7 @@ impl IncomingLinks {
         Ok(IncomingLinks {
             alloc,
             links: Mutex::new(links),
-            is_dirty: AtomicBool::new(false),
+            unconfirmed: AtomicU64::new(0),
             bell,
         })
     }
@@ -119,21 +120,23 @@ impl IncomingLinks {
         }
     }
 
-    /// Something was handed on, which is to be confirmed soon.
-    pub(crate) fn note(&self) {
-        if !self.is_dirty.load(Ordering::Relaxed) && !self.is_dirty.swap(true, Ordering::SeqCst) {
+    /// So many bytes more were handed on, which are to be confirmed. The thread that does so is woken for the first of
+    /// them, and once they are many.
+    pub(crate) fn note(&self, count: u64) {
+        let before = self.unconfirmed.fetch_add(count, Ordering::SeqCst);
+        if before == 0 || (!is_much(before) && is_much(before.wrapping_add(count))) {
             self.bell.ring();
         }
     }
 
-    /// Whether something is to be confirmed.
-    pub(crate) fn is_dirty(&self) -> bool {
-        self.is_dirty.load(Ordering::SeqCst)
+    /// How many bytes were handed on since the last confirmations.
+    pub(crate) fn unconfirmed(&self) -> u64 {
+        self.unconfirmed.load(Ordering::SeqCst)
     }
 
     /// Confirms what was handed on. A connection that doesn't take a confirmation at once is ended.
     pub(crate) fn confirm<W: Wait>(&self, rt: &W) {
-        self.is_dirty.store(false, Ordering::SeqCst);
+        self.unconfirmed.store(0, Ordering::SeqCst);
         let mut guard = self.links.lock(rt);
         let links = &mut *guard;
         for place in links.iter_mut() {

@@ -5,6 +5,7 @@
 mod answered_masters;
 mod arrivals;
 mod banners;
+mod confirmations;
 mod dealing;
 mod greeters;
 mod guests;

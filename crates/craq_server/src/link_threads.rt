@@ -1,6 +1,7 @@
 //! The thread that looks after a server's links: it hears confirmations, opens connections anew, tells of links that
 //! stand still, and confirms what was handed on.
 
+use crate::confirmations::{ConfirmationDue, confirmation_delay, confirmation_due};
 use crate::link_connections::{Came, LinkConnection};
 use crate::link_keepers::{LinkKeeper, Stage};
 use crate::link_lines::{tell_given_up, tell_goes, tell_other_start, tell_still};
@@ -33,14 +34,11 @@ const HERE: u8 = 0;
 /// The most events of one wait.
 const EVENTS: usize = 64;
 
-/// How long what was handed on may go unconfirmed, in milliseconds.
-const PACE: u64 = 50;
+/// How often a link is looked at that is under way, in nanoseconds.
+const TICK: u64 = 10_000_000;
 
-/// How often a link is looked at that is under way, in milliseconds.
-const TICK: u64 = 10;
-
-/// How often a link is looked at on which bytes aren't confirmed, in milliseconds.
-const WATCH: u64 = 100;
+/// How often a link is looked at on which bytes aren't confirmed, in nanoseconds.
+const WATCH: u64 = 100_000_000;
 
 /// The thread.
 #[derive(Drop)]
@@ -122,17 +120,20 @@ impl<R: Wait + Clock + Net + Copy + Drop> LinkThread<R> {
 
     // How long it may sleep.
     fn limit(&self) -> Option<Duration> {
-        let mut limit = self.confirms_at.map(|_| PACE);
+        let mut limit = match self.confirms_at {
+            Some(_) => Some(confirmation_delay(self.timeout)),
+            None => None,
+        };
         for keeper in self.keepers.iter() {
             if keeper.is_under_way() {
-                return Some(Duration::from_millis(TICK));
+                return Some(Duration::from_nanos(TICK));
             }
-            if limit.is_none() && keeper.is_awaited() {
-                limit = Some(WATCH);
+            if keeper.is_awaited() {
+                limit = Some(limit.unwrap_or(WATCH).min(WATCH));
             }
         }
         match limit {
-            Some(limit) => Some(Duration::from_millis(limit)),
+            Some(limit) => Some(Duration::from_nanos(limit)),
             None => None,
         }
     }
@@ -153,18 +154,17 @@ impl<R: Wait + Clock + Net + Copy + Drop> LinkThread<R> {
         (ready, is_rung)
     }
 
-    // Confirms what was handed on, if it is time.
+    // Confirms what was handed on, if it is due.
     fn confirm(&mut self, now: u64) {
         let incoming = self.shared_port.link_control().incoming();
-        match self.confirms_at {
-            Some(at) if now >= at => {
+        let delay = confirmation_delay(self.timeout);
+        match confirmation_due(self.confirms_at, incoming.unconfirmed(), delay, now) {
+            ConfirmationDue::Nothing => {}
+            ConfirmationDue::At(at) => self.confirms_at = Some(at),
+            ConfirmationDue::Now => {
                 self.confirms_at = None;
                 incoming.confirm(&self.rt);
             }
-            None if incoming.is_dirty() => {
-                self.confirms_at = Some(now.saturating_add(PACE * 1_000_000));
-            }
-            _ => {}
         }
     }
 

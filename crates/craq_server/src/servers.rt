@@ -20,8 +20,8 @@ use craq_process::{Concurrency, Ending, Opened, Scheduler, idle_node, open_serve
 use craq_settings::{ServerSettings, port_of};
 use ends::{Sink, write_all};
 use io_threads::{
-    FrontEndServer, FrontEndSettings, Guests, LoopHandles, Pooled, TurnScheduler, open_front_end,
-    open_loop_handles,
+    FrontEndServer, FrontEndSettings, Guests, LoopHandles, Pooled, SeatDeal, TurnScheduler,
+    open_front_end, open_loop_handles,
 };
 use lines::{LineSender, LineSink};
 use links::{PeerLinks, PeerPort};
@@ -139,7 +139,12 @@ impl<R: Wait + Clock + Copy + Drop + Send + 'static> Running<R> {
         ensures lease { IfOk result (λ running. running.serving.output_permit ≡ is_timed settings.now.term) }
     {
         let Ports { clients, peers } = Ports::open(&rt, settings)?;
-        let concurrency = Concurrency::new(&rt, settings.numbers.threads, settings.numbers.seats);
+        let concurrency = Concurrency::new(
+            &rt,
+            settings.numbers.threads,
+            settings.numbers.seats,
+            SeatDeal::HalfToFirst,
+        );
         let connections = settings.numbers.connections;
         let mut errors = LineSink::new(rt, line_sender);
         warn(&peers, &mut errors);
@@ -171,7 +176,7 @@ impl<R: Wait + Clock + Copy + Drop + Send + 'static> Running<R> {
             &failed,
             LinkBell::new(alloc, waker)?,
         )?;
-        let (loop_handles, polls) = open_loop_handles(&rt, alloc, concurrency.threads)?;
+        let (loop_handles, polls) = open_loop_handles(&rt, alloc, concurrency.shares())?;
         let loop_handles = Arc::new(alloc, loop_handles)?;
         let guest_room = GuestRoom::new(alloc, Arc::try_clone(&loop_handles)?);
         let guest_room = Arc::new(alloc, guest_room)?;

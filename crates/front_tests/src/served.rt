@@ -3,8 +3,8 @@
 use super::servers::pooled;
 use in_process_links::{InProcessLinks, ServerSet};
 use io_threads::{
-    FrontEnd, FrontEndServer, FrontEndSettings, Guests, LoopHandles, NoGuests, Pooled,
-    TurnScheduler, Visit, open_front_end, open_loop_handles,
+    FrontEnd, FrontEndServer, FrontEndSettings, Guests, LoopHandles, NoGuests, Pooled, SeatDeal,
+    SeatShares, TurnScheduler, Visit, open_front_end, open_loop_handles,
 };
 use mio::Poll;
 use rail::{Turn, Worker};
@@ -205,7 +205,11 @@ fn find_place<R: Net<Listener = TcpListener, Stream = TcpStream>>(
     let listener = TcpListener::bind(rt, (Ipv4Addr::LOCALHOST, 0)).ok()?;
     let port = listener.local_addr().ok()?.port();
     let mark = Mark::new(alloc).ok()?;
-    let (loop_handles, polls) = open_loop_handles(rt, alloc, threads).ok()?;
+    let shares = SeatShares {
+        threads,
+        deal: SeatDeal::InTurn,
+    };
+    let (loop_handles, polls) = open_loop_handles(rt, alloc, shares).ok()?;
     Some(Place {
         port,
         listener,

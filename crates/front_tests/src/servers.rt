@@ -1,6 +1,6 @@
 //! The parts of a server.
 
-use io_threads::{Pooled, open_pools};
+use io_threads::{Pooled, SeatDeal, SeatShares, open_pools};
 use node::Node;
 use server_guards::{Allowance, Gauge, Mark};
 use std::alloc::Global;
@@ -35,7 +35,11 @@ pub fn pooled_with<R: Wait + Drop>(
         drop(node);
         return None;
     }
-    let pooled = open_pools(rt, alloc, node, seats, threads, 1, 0, mark, &gauge).ok()?;
+    let shares = SeatShares {
+        threads,
+        deal: SeatDeal::InTurn,
+    };
+    let pooled = open_pools(rt, alloc, node, seats, shares, 1, 0, mark, &gauge).ok()?;
     gauge.note(pooled.worker.weight());
     Some(pooled)
 }

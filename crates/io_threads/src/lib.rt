@@ -17,6 +17,7 @@ mod loop_handles;
 mod loops;
 mod permitted_streams;
 mod pools;
+mod seat_shares;
 mod turn_schedulers;
 mod wait_queues;
 
@@ -26,5 +27,6 @@ pub use guests::{Guests, NoGuests};
 pub use limits::{most_files, open_files, usual_threads};
 pub use loop_handles::{LoopHandles, open_loop_handles};
 pub use pools::{Pooled, open_pools};
+pub use seat_shares::{SeatDeal, SeatShares};
 pub use turn_schedulers::{TurnScheduler, Visit};
 pub use wait_queues::WaitQueue;

@@ -1,6 +1,7 @@
 //! The serving threads, as others see them: who hands them connections, and who wakes them.
 
 use crate::permitted_streams::PermittedStream;
+use crate::seat_shares::SeatShares;
 use mio::{Poll, Token, Waker};
 use rail::PortSet;
 use std::alloc::{AllocError, Global};
@@ -34,7 +35,7 @@ struct LoopHandle {
     asleep_at: AtomicU32,
 }
 
-/// All serving threads. A server's ports are dealt out to them in turn: port 0 is the first thread's.
+/// All serving threads, and which of them each port of a server is for.
 ///
 /// Nobody sleeps on a reply. A thread that is about to sleep says which servers' replies it waits for (`sleeps_at`),
 /// then looks once more for turns and replies, and sleeps only if it finds none. Who has taken turns puts the replies
@@ -43,20 +44,21 @@ struct LoopHandle {
 #[derive(Drop)]
 pub struct LoopHandles {
     loop_handles: Vec<LoopHandle>,
+    seat_shares: SeatShares,
     // Whether no more connections come.
     finished: AtomicBool,
 }
 
-/// The loop handles of this many serving threads, and what each of these waits at. Refused if the system or memory
-/// refuses.
+/// The loop handles of the serving threads, for whom seats are as these shares say, and what each of these waits at.
+/// Refused if the system or memory refuses.
 pub fn open_loop_handles<R: Net>(
     rt: &R,
     alloc: Global,
-    threads: usize,
+    seat_shares: SeatShares,
 ) -> Result<(LoopHandles, Vec<Poll>), AllocError> {
     let mut loop_handles = Vec::new(alloc);
     let mut polls = Vec::new(alloc);
-    for _ in 0..threads {
+    for _ in 0..seat_shares.threads {
         let Ok(poll) = Poll::new(rt) else {
             return Err(AllocError);
         };
@@ -70,6 +72,7 @@ pub fn open_loop_handles<R: Net>(
     Ok((
         LoopHandles {
             loop_handles,
+            seat_shares,
             finished,
         },
         polls,
@@ -133,17 +136,20 @@ impl LoopHandles {
 
     /// The same, by this thread, which looks for its own replies itself.
     pub(crate) fn wake_others(&self, me: usize, id: u8, ports: PortSet) {
-        let mut thread = 0usize;
         for port in 0..PORTS {
-            if thread != me && ports.has(port) {
-                if let Some(loop_handle) = self.loop_handles.get(thread) {
-                    loop_handle.wake_at(id);
+            if ports.has(port) {
+                let thread = self.seat_shares.thread_of(port);
+                if thread != me {
+                    self.wake_thread(thread, id);
                 }
             }
-            thread = thread.wrapping_add(1);
-            if thread >= self.loop_handles.len() {
-                thread = 0;
-            }
+        }
+    }
+
+    // Wakes a thread, if it sleeps and waits for a reply of this server.
+    fn wake_thread(&self, thread: usize, id: u8) {
+        if let Some(loop_handle) = self.loop_handles.get(thread) {
+            loop_handle.wake_at(id);
         }
     }
 

@@ -1,5 +1,5 @@
 //! A serving thread: it waits for its sockets, serves what is ready, takes turns, and hands on the replies.
-ghost use Rattle.std.specs.Prelude.{◌≡◌, ◌%◌, [], true};
+ghost use Rattle.std.specs.Prelude.{◌≡◌, ◌%◌, [], true, false};
 ghost use Rattle.mio.specs.Events.{items};
 ghost use Rattle.in_process_links.specs.ServerSets.{has_server};
 
@@ -30,9 +30,12 @@ const EVENTS: usize = 256;
 /// How often a thread takes turns and replies before it looks at its sockets again.
 const ROUNDS: usize = 16;
 
-/// The most turns of one visit. After it the thread goes on with the next server and with its own replies, and others
-/// take turns here: with more, those who wait for a reply all wait for the last turn.
-const TURNS: usize = 8;
+/// The most turns of one visit where calls are answered soon. After it the thread goes on with the next server and with
+/// its own replies, and others take turns here: with more, those who wait for a reply all wait for the last turn.
+const FEW_TURNS: usize = 8;
+
+/// The most turns of one visit where they aren't: what a visit puts into the links goes out in one write.
+const MANY_TURNS: usize = 64;
 
 /// How often a thread looks for a reply, after pauses that grow, before it looks at its sockets.
 const FIRST_LOOKS: usize = 7;
@@ -359,13 +362,14 @@ impl<R: Wait + Clock + Copy + Drop, T: TurnScheduler + Drop, G: Guests + Drop> I
 
     // Visits each server that is due once, and wakes those who wait for the replies. Whether a turn was taken.
     fn take_turns(&mut self) -> bool {
+        let most = turns_of_visit(self.turn_scheduler.answers_soon());
         let mut any = false;
         for _ in 0..SERVERS {
             let Some(at) = self.due.take_after(self.last) else {
                 return any;
             };
             self.last = at;
-            let visit = self.turn_scheduler.take_turns(at, TURNS);
+            let visit = self.turn_scheduler.take_turns(at, most);
             self.due.merge(visit.due);
             if !visit.replied.is_empty() {
                 self.loop_handles.wake_others(self.me, at, visit.replied);
@@ -395,6 +399,14 @@ impl<R: Wait + Clock + Copy + Drop, T: TurnScheduler + Drop, G: Guests + Drop> I
             .iter()
             .all(|connection_table| connection_table.is_empty())
     }
+}
+
+// The most turns of one visit, by whether calls are answered soon there.
+fn turns_of_visit(answers_soon: bool) -> usize
+    ensures soon { answers_soon ≡ true → result ≡ 8 }
+    ensures later { answers_soon ≡ false → result ≡ 64 }
+{
+    if answers_soon { FEW_TURNS } else { MANY_TURNS }
 }
 
 // The socket of the guest of this place is ready.

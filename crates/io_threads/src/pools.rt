@@ -8,6 +8,7 @@ ghost use Rattle.seats.specs.SeatPools.{with_free};
 ghost use Rattle.seats.specs.Submitters.{unused};
 ghost use Rattle.io_threads.specs.Pools.{AreAllAt, AreOf, BeginsAs, handles_senders, pools_senders, senders_from};
 
+use crate::seat_shares::SeatShares;
 use node::Node;
 use rail::{Inlet, RailFault, Room, Seat, Server, ThreadHandle, Worker, open};
 use seats::SeatPool;
@@ -26,32 +27,31 @@ pub struct Pooled<R: Wait + Drop> {
     pub inlets: Vec<Inlet>,
 }
 
-/// Opens a server that begins as this node, with this many seats, which are dealt out to the threads in turn: that of
-/// port 0 to the first thread, that of port 1 to the second, and so on. All are seats of the worker's server. Each
-/// thread has one reader, and the face has room for no more. Each has one sender for the calls of its seats, to the
-/// worker's inbox, where the inlets lead too. This many updates of a connection may be sent ahead of the first one's
-/// reply. The mark is set as soon as the server answers no more calls, and the gauge tells whether its items may take
-/// more memory. Refused if memory is out, or no reader could be made.
+/// Opens a server that begins as this node, with this many seats, each for the thread that these shares say of its
+/// port. All are seats of the worker's server. Each thread has one reader, and the face has room for no more. Each has
+/// one sender for the calls of its seats, to the worker's inbox, where the inlets lead too. This many updates of a
+/// connection may be sent ahead of the first one's reply. The mark is set as soon as the server answers no more calls,
+/// and the gauge tells whether its items may take more memory. Refused if memory is out, or no reader could be made.
 pub fn open_pools<R: Wait + Drop>(
     rt: R,
     alloc: Global,
     node: Node,
     seats: usize,
-    threads: usize,
+    shares: SeatShares,
     inlets: usize,
     most_ahead: usize,
     mark: &Mark,
     gauge: &Gauge,
 ) -> Result<Pooled<R>, RailFault>
-    requires threads { (1 ≤ threads) × (threads ≤ seats) }
-    requires seats { (threads ≤ 16) × (seats ≤ 64) }
+    requires threads { (1 ≤ shares.threads) × (shares.threads ≤ seats) }
+    requires seats { (shares.threads ≤ 16) × (seats ≤ 64) }
     requires inlets { (1 ≤ inlets) × (inlets ≤ 16) }
     requires idle { is_idle node ≡ true }
     ensures worker { IfOk result (λ pooled. BeginsAs node pooled.worker) }
     ensures pools { IfOk result (λ pooled. AreAllAt pooled.worker.published.instance pooled.pools.items) }
-    ensures threads { IfOk result (λ pooled. vec_len pooled.pools ≡ threads) }
+    ensures threads { IfOk result (λ pooled. vec_len pooled.pools ≡ shares.threads) }
     ensures senders { IfOk result (λ pooled. pools_senders pooled.pools.items ≡
-        senders_from pooled.worker.published.instance pooled.worker.inbox 0 threads) }
+        senders_from pooled.worker.published.instance pooled.worker.inbox 0 shares.threads) }
     ensures inlets { IfOk result (λ pooled. LeadTo pooled.worker.inbox pooled.inlets.items) }
 {
     let Server {
@@ -63,12 +63,20 @@ pub fn open_pools<R: Wait + Drop>(
         rt,
         alloc,
         node,
-        threads,
-        seats - threads,
+        shares.threads,
+        seats - shares.threads,
         inlets,
         Room::of_chain(inlets, seats),
     )?;
-    match deal(alloc, thread_handles, others, most_ahead, mark, gauge) {
+    match deal(
+        alloc,
+        thread_handles,
+        others,
+        shares,
+        most_ahead,
+        mark,
+        gauge,
+    ) {
         Ok(pools) => Ok(Pooled {
             worker,
             pools,
@@ -82,12 +90,13 @@ pub fn open_pools<R: Wait + Drop>(
     }
 }
 
-// Makes a pool of each of these thread handles of one server, and deals its other seats out to them, in turn. Whatever
-// server that is, the pools are all of it.
+// Makes a pool of each of these thread handles of one server, and deals its other seats out to them. Whatever server
+// that is, the pools are all of it.
 fn deal(
     alloc: Global,
     thread_handles: Vec<ThreadHandle>,
     others: Vec<Seat>,
+    shares: SeatShares,
     most_ahead: usize,
     mark: &Mark,
     gauge: &Gauge,
@@ -102,18 +111,12 @@ fn deal(
     for thread_handle in thread_handles {
         add_pool(alloc, &mut pools, thread_handle, most_ahead, mark, gauge)?;
     }
-    let mut next = 0usize;
+    let mut port = pools.len();
     for seat in others {
-        give(&mut pools, next, seat)?;
-        next = place_after(next, pools.len());
+        give(&mut pools, shares.thread_of(port), seat)?;
+        port = port.wrapping_add(1);
     }
     Ok(pools)
-}
-
-// The place after this one of n; after the last one the first.
-fn place_after(place: usize, count: usize) -> usize {
-    let next = place.wrapping_add(1);
-    if next < count { next } else { 0 }
 }
 
 // One more pool, of this thread handle.

@@ -4,8 +4,8 @@ use craq_cluster::{ClusterFault, ServerParts, all_links, all_parts, all_servers}
 use craq_process::{Concurrency, Scheduler};
 use in_process_links::InProcessLinks;
 use io_threads::{
-    FrontEnd, FrontEndServer, FrontEndSettings, LoopHandles, NoGuests, open_front_end,
-    open_loop_handles,
+    FrontEnd, FrontEndServer, FrontEndSettings, LoopHandles, NoGuests, SeatDeal, SeatShares,
+    open_front_end, open_loop_handles,
 };
 use server_guards::{Allowance, OutputPermit};
 use std::alloc::Global;
@@ -59,7 +59,11 @@ fn helped_chain<
         + Send
         + 'static,
 >(rt: R, alloc: Global) -> Option<HelpedChain> {
-    let (loop_handles, polls) = open_loop_handles(&rt, alloc, 1).ok()?;
+    let shares = SeatShares {
+        threads: 1,
+        deal: SeatDeal::InTurn,
+    };
+    let (loop_handles, polls) = open_loop_handles(&rt, alloc, shares).ok()?;
     let loop_handles = Arc::new(alloc, loop_handles).ok()?;
     let (scheduler, all_server_parts) = three_parts(rt, alloc, &loop_handles)?;
     let scheduler = Arc::new(alloc, scheduler).ok()?;
@@ -89,7 +93,7 @@ pub fn three_parts<R: Wait + Threads + Copy + Drop>(
     alloc: Global,
     loop_handles: &Arc<LoopHandles, Global>,
 ) -> Option<(Scheduler<R, InProcessLinks<R>>, Vec<ServerParts>)> {
-    let concurrency = Concurrency::new(&rt, Some(1), 1);
+    let concurrency = Concurrency::new(&rt, Some(1), 1, SeatDeal::InTurn);
     scheduler_of_three(rt, alloc, loop_handles, concurrency).ok()
 }
 

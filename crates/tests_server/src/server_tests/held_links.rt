@@ -10,8 +10,8 @@ use craq_process::{
 use crossbeam_channel::{Receiver, Sender, unbounded};
 use in_process_links::ServerSet;
 use io_threads::{
-    FrontEnd, FrontEndServer, FrontEndSettings, LoopHandles, NoGuests, Pooled, TurnScheduler,
-    open_front_end, open_loop_handles,
+    FrontEnd, FrontEndServer, FrontEndSettings, LoopHandles, NoGuests, Pooled, SeatDeal,
+    SeatShares, TurnScheduler, open_front_end, open_loop_handles,
 };
 use mio::Poll;
 use node::Peer;
@@ -277,7 +277,11 @@ fn shared_loop_handles<R: Net>(
     rt: &R,
     alloc: Global,
 ) -> Option<(Arc<LoopHandles, Global>, Vec<Poll>)> {
-    let (loop_handles, polls) = open_loop_handles(rt, alloc, 1).ok()?;
+    let shares = SeatShares {
+        threads: 1,
+        deal: SeatDeal::InTurn,
+    };
+    let (loop_handles, polls) = open_loop_handles(rt, alloc, shares).ok()?;
     let loop_handles = Arc::new(alloc, loop_handles).ok()?;
     Some((loop_handles, polls))
 }
@@ -286,7 +290,7 @@ fn shared_loop_handles<R: Net>(
 fn opened_server<R: Wait + Threads + Copy + Drop>(rt: R, alloc: Global, id: u8) -> Option<Opened<R>>
     ensures { IfSome result (λ opened. BeginsAs (fresh id 2) opened.pooled.worker) }
 {
-    let concurrency = Concurrency::new(&rt, Some(1), 1);
+    let concurrency = Concurrency::new(&rt, Some(1), 1, SeatDeal::InTurn);
     let node = idle_node(alloc, id, 2).ok()?;
     match open_server(rt, alloc, node, 2, concurrency, Allowance::new(None, 2)) {
         Ok(opened) => Some(opened),
